@@ -1,0 +1,44 @@
+//! Rows.
+ghost use Rattle.std.specs.Prelude.{◌≡◌, ◌<◌, length, slice_index_or, slice_get, Some, IfOk};
+
+use crate::values::Value;
+use std::marker::Model;
+
+/// A row: its values from left to right.
+#[derive(Debug, Drop)]
+pub struct Row {
+    values: Vec<Value>,
+}
+
+impl Model for Row {
+    ghost use Rattle.std.specs.Prelude.{List};
+    ghost use Rattle.mm_value.specs.declared.values.Value.{Value as Val};
+
+    ghost Value = { List Val };
+
+    ghost view = { λ r. r.values.items };
+}
+
+impl Row {
+    /// A row of these values.
+    pub fn new(values: Vec<Value>) -> Row
+        ensures { result ≡ values.items }
+    {
+        Row { values }
+    }
+
+    /// How many values it has.
+    pub fn len(&self) -> usize
+        ensures { result ≡ length self.now }
+    {
+        self.values.len()
+    }
+
+    /// The value at a position, counted from 0.
+    pub fn value(&self, i: usize) -> &Value
+        requires { i < length self.now }
+        ensures { slice_get self.now i ≡ Some result.now }
+    {
+        &self.values[i]
+    }
+}
