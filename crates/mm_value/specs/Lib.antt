@@ -1,2 +1,11 @@
+pub mod Device
+pub mod Hash
+pub mod Literal
 pub mod Order
+pub mod Reading
+pub mod Refusals
+pub mod Storable
 pub mod Text
+pub mod Types
+pub mod Watched
+pub mod Written

@@ -1,5 +1,5 @@
 -- What a text is.
-use Rattle.std.specs.Prelude.{◌≡◌, ◌≢◌, ℕ, ◌≤◌, List, length, All}
+use Rattle.std.specs.Prelude.{◌≢◌, ℕ, ◌≤◌, List, length, All}
 
 -- at most 64 bytes, none of them a line feed
 pub record IsText (bytes : List ℕ) : Type 0 where

@@ -2,13 +2,21 @@
 #![tactic(auto)]
 
 mod col_type;
+mod device;
+mod literals;
+mod printed;
+mod refusal;
 mod row_ref;
 mod short_text;
 mod tuple;
 mod values;
 
 pub use col_type::ColType;
+pub use device::{Watched, WriteFault, put_all};
+pub use literals::{literals_are_exact, read_literal};
+pub use printed::write_row;
+pub use refusal::Refusal;
 pub use row_ref::RowRef;
-pub use short_text::Text;
+pub use short_text::{MAX_TEXT_BYTES, Text};
 pub use tuple::Row;
-pub use values::{Value, compare};
+pub use values::{Value, compare, hash64, orders_are_total};

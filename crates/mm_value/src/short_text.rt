@@ -1,8 +1,11 @@
 //! Texts.
-ghost use Rattle.std.specs.Prelude.{◌≡◌, ◌≤◌, length, IfOk};
+ghost use Rattle.std.specs.Prelude.{◌≡◌, ◌≢◌, ◌⊎◌, ◌<◌, ◌≤◌, ◌↔◌, length, All, Any, IfOk, IfErr, IsErrOf, IsOk};
+ghost use Rattle.mm_value.specs.Text.{IsText};
+ghost use Rattle.mm_value.specs.declared.refusal.Refusal.TheVariants.{Syntax, TextTooLong, Memory};
 
+use crate::refusal::Refusal;
 use smallvec::SmallVec;
-use std::alloc::{AllocError, Global};
+use std::alloc::Global;
 use std::marker::Model;
 
 /// A text: 0 to 64 bytes, any but a line feed. Up to 16 bytes lie in the value itself.
@@ -22,11 +25,46 @@ impl Model for Text {
     ghost invariant = { λ t. IsText t.bytes.items };
 }
 
+/// The most bytes that a text has.
+pub const MAX_TEXT_BYTES: usize = 64;
+
 impl Text {
+    /// A text of these bytes. `TextTooLong` where there are more than 64, else `Syntax` where one is a line feed;
+    /// `Memory` is answered only for more than 16.
+    pub fn new(alloc: Global, bytes: &[u8]) -> Result<Text, Refusal>
+        ensures ok { IfOk result (λ text. text ≡ bytes.now) }
+        ensures too_long { IsErrOf result Refusal.TextTooLong ↔ (64 < length bytes.now) }
+        ensures line_feed { IsErrOf result Refusal.Syntax
+            ↔ ((length bytes.now ≤ 64) × Any (λ b. b ≡ 10) bytes.now) }
+        ensures refusals { IfErr result (λ e. (e ≡ TextTooLong) ⊎ ((e ≡ Syntax) ⊎ (e ≡ Memory))) }
+        ensures short { length bytes.now ≤ 16 → All (λ b. b ≢ 10) bytes.now → IsOk result }
+    {
+        if bytes.len() > MAX_TEXT_BYTES {
+            return Err(Refusal::TextTooLong);
+        }
+        if bytes.contains(&b'\n') {
+            return Err(Refusal::Syntax);
+        }
+        Ok(Text {
+            bytes: SmallVec::from_slice(alloc, bytes)?,
+        })
+    }
+
     /// The bytes.
     pub fn bytes(&self) -> &[u8]
-        ensures { result.now ≡ self.now }
+        ensures value { result.now ≡ self.now }
+        ensures is_text { IsText self.now }
     {
         self.bytes.as_slice()
+    }
+
+    /// A copy. `Memory` is answered only for more than 16 bytes.
+    pub fn copy(&self, alloc: Global) -> Result<Text, Refusal>
+        ensures ok { IfOk result (λ text. text ≡ self.now) }
+        ensures memory { IfErr result (λ e. e ≡ Memory) }
+    {
+        Ok(Text {
+            bytes: SmallVec::from_slice(alloc, self.bytes.as_slice())?,
+        })
     }
 }

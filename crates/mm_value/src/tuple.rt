@@ -1,7 +1,10 @@
 //! Rows.
-ghost use Rattle.std.specs.Prelude.{◌≡◌, ◌<◌, length, slice_index_or, slice_get, Some, IfOk};
+ghost use Rattle.std.specs.Prelude.{◌≡◌, ◌<◌, length, slice_get, Some, IfOk, IfErr};
+ghost use Rattle.mm_value.specs.declared.refusal.Refusal.TheVariants.{Memory};
 
+use crate::refusal::Refusal;
 use crate::values::Value;
+use std::alloc::Global;
 use std::marker::Model;
 
 /// A row: its values from left to right.
@@ -40,5 +43,24 @@ impl Row {
         ensures { slice_get self.now i ≡ Some result.now }
     {
         &self.values[i]
+    }
+
+    /// The values, from left to right.
+    pub fn values(&self) -> &[Value]
+        ensures { result.now ≡ self.now }
+    {
+        &self.values
+    }
+
+    /// A copy. `Memory` is the only refusal.
+    pub fn copy(&self, alloc: Global) -> Result<Row, Refusal>
+        ensures ok { IfOk result (λ row. row ≡ self.now) }
+        ensures memory { IfErr result (λ e. e ≡ Memory) }
+    {
+        let mut values = Vec::with_capacity(alloc, self.values.len())?;
+        for value in &self.values {
+            values.push(value.copy(alloc)?)?;
+        }
+        Ok(Row { values })
     }
 }

@@ -1,0 +1,12 @@
+mod AddressLemmas
+mod BagLemmas
+mod ChainLemmas
+mod CollectLemmas
+mod CopyLemmas
+mod DealLemmas
+mod FindLemmas
+mod MatchLemmas
+mod NewLemmas
+mod SplitLemmas
+mod TableLemmas
+mod TakeLemmas

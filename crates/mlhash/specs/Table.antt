@@ -1,0 +1,39 @@
+-- How a `HashRefs` is laid out. No public clause cites this module.
+use Rattle.std.specs.Prelude.{◌≡◌, ◌≢◌, ℕ, ◌+◌, ◌*◌, ◌^◌, ◌<◌, ◌≤◌, true, false, List, [], ◌∷◌, ◌++◌, length, map, filter, count_by, slice_index}
+use Rattle.mm_value.specs.declared.row_ref.RowRef.{RowRef}
+use Rattle.mlhash.specs.declared.node.Node.{Node}
+use Rattle.mlhash.specs.declared.node.TheConstants.{NIL}
+use Rattle.mlhash.specs.declared.place.Place.{Place}
+use Rattle.mlhash.specs.Address.{bucket_of}
+use Rattle.mlhash.specs.Chain.{Among, chain, IsLinked}
+use Rattle.mlhash.specs.Pairs.{free_node, node_at, pair_of}
+
+-- the pairs in the nodes that hold one
+abbrev pub entries : List Node → List (ℕ × RowRef)
+entries ns = map pair_of (filter (λ n. n.live) ns)
+
+-- a bucket's chain has just the entries whose hash has this bucket
+pub record IsBucket (ns : List Node) (place : Place) (head bucket : ℕ) : Type 0 where
+  pub linked : IsLinked ns head
+  pub here : (i : ℕ) → Among i (chain ns head) → ((node_at ns i).live ≡ true) × (bucket_of place (node_at ns i).hash ≡ bucket)
+  pub every : (i : ℕ) → i < length ns → (node_at ns i).live ≡ true → bucket_of place (node_at ns i).hash ≡ bucket → Among i (chain ns head)
+
+-- a chain of free nodes, as many as there are beside the entries
+pub record IsFree (ns : List Node) (len free : ℕ) : Type 0 where
+  pub linked : IsLinked ns free
+  pub dead : (i : ℕ) → Among i (chain ns free) → (node_at ns i).live ≡ false
+  pub rest : length (chain ns free) + len ≡ length ns
+
+-- each entry is in the chain of its bucket, and each other node in the chain of free ones
+pub record IsTable (heads : List ℕ) (ns : List Node) (len : ℕ) (place : Place) (free : ℕ) : Type 0 where
+  pub counted : count_by (λ n. n.live) ns ≡ len
+  pub size : length heads ≡ 4 * 2 ^ place.level + place.split
+  pub split : place.split < 4 * 2 ^ place.level
+  pub limit : length heads ≤ 2 ^ 31
+  pub pool : IsFree ns len free
+  pub buckets : (b : ℕ) → b < length heads → IsBucket ns place (slice_index heads b) b
+
+-- a free node is there: the old head of the chain of free nodes, or else one that is new
+pub record Stocks (ns : List Node) (free : ℕ) (ms : List Node) (new : ℕ) : Type 0 where
+  pub kept : free ≢ NIL → (ms ≡ ns) × (new ≡ free)
+  pub added : free ≡ NIL → (ms ≡ ns ++ free_node ∷ []) × (new ≡ length ns)

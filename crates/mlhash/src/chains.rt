@@ -1,0 +1,73 @@
+//! Chains: walks along the links of the nodes.
+ghost use Rattle.std.specs.Prelude.{◌≡◌, ◌≢◌, ℕ, ◌++◌, OnOk, OnErr};
+ghost use Rattle.mlhash.specs.Chain.{IsLinked, Finds, refs_along, Deals, chain, AreApart};
+
+use crate::node::{NIL, Node};
+use mm_value::RowRef;
+use std::alloc::AllocError;
+
+/// A node of the chain with this hash and reference, `NIL` where it has none.
+pub(crate) fn find(nodes: &[Node], head: u32, hash: u64, reference: RowRef) -> u32
+    requires { IsLinked nodes.now head }
+    ensures found { Finds nodes.now head hash reference result }
+{
+    let mut at = head;
+    while at != NIL {
+        let node = &nodes[at as usize];
+        if node.hash == hash && node.row() == reference {
+            return at;
+        }
+        at = node.next;
+    }
+    NIL
+}
+
+/// Appends the references of this hash along the chain.
+pub(crate) fn collect(
+    nodes: &[Node],
+    head: u32,
+    hash: u64,
+    out: &mut Vec<RowRef>,
+) -> Result<(), AllocError>
+    requires { IsLinked nodes.now head }
+    ensures ok { OnOk result (out.new.items ≡ out.old.items ++ refs_along nodes.now head hash) }
+    ensures err { OnErr result (out.new.items ≡ out.old.items) }
+{
+    let kept = out.len();
+    let mut at = head;
+    while at != NIL {
+        let node = &nodes[at as usize];
+        if node.hash == hash && out.push(node.row()).is_err() {
+            out.truncate(kept);
+            return Err(AllocError);
+        }
+        at = node.next;
+    }
+    Ok(())
+}
+
+/// Deals the nodes of the chain `from` out: those whose hash under `mask` is `stay` go in front of the
+/// chain `onto`, the others onto a chain of their own. Answers the heads of both.
+pub(crate) fn deal(nodes: &mut [Node], from: u32, mask: u64, stay: u64, onto: u32) -> (u32, u32)
+    requires from { IsLinked nodes.old from }
+    requires onto { IsLinked nodes.old onto }
+    requires apart { AreApart (chain nodes.old from) (chain nodes.old onto) }
+    ensures { Deals nodes.old from mask stay onto nodes.new result.0 result.1 }
+{
+    let mut staying = onto;
+    let mut leaving = NIL;
+    let mut at = from;
+    while at != NIL {
+        let node = &mut nodes[at as usize];
+        let next = node.next;
+        if node.hash & mask == stay {
+            node.next = staying;
+            staying = at;
+        } else {
+            node.next = leaving;
+            leaving = at;
+        }
+        at = next;
+    }
+    (staying, leaving)
+}

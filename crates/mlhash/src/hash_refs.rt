@@ -1,0 +1,259 @@
+//! The bag.
+ghost use Rattle.std.specs.Prelude.{◌≡◌, ◌+◌, ◌<◌, ◌≤◌, ◌↔◌, vec_len, vec_capacity, [], ◌∷◌, ◌++◌, length, Contains, IsPermutation, IsTrue, IsOk, OnOk, OnErr};
+ghost use Rattle.std.specs.Bool.{OnTrue, OnFalse};
+ghost use Rattle.mlhash.specs.Bag.{refs_of, all_refs, AppendsInSomeOrder};
+ghost use Rattle.mlhash.specs.Table.{Stocks};
+
+use crate::chains::{collect, deal, find};
+use crate::heads::Heads;
+use crate::node::{NIL, Node};
+use crate::place::{Place, bucket_of, place_after, place_before};
+use mm_value::RowRef;
+use std::alloc::{AllocError, Global};
+use std::marker::Model;
+
+/// The most nodes that links can tell apart.
+const MAX_NODES: usize = NIL as usize;
+
+/// A bag of pairs of a hash and a reference, with room for more.
+///
+/// It is a table of modified linear hashing (Lehman and Carey, VLDB 1986, on the address rule of
+/// Litwin, VLDB 1980): each bucket has a chain of nodes, each node one entry. A look-up walks one
+/// chain; an insert splits at most one bucket, where there are more than two entries a bucket, a remove
+/// merges at most one, where there is less than half an entry a bucket. Nodes of removed entries stay
+/// in the table's own pool. A table holds at most 2^32 - 1 entries.
+#[derive(Drop)]
+pub struct HashRefs {
+    heads: Heads,
+    nodes: Vec<Node>,
+    len: usize,
+    place: Place,
+    free: u32,
+}
+
+impl Model for HashRefs {
+    ghost use Rattle.mlhash.specs.Bag.{Bag};
+    ghost use Rattle.std.specs.Prelude.{◌-◌, min, vec_capacity};
+
+    ghost Value = { Bag };
+
+    ghost use Rattle.mlhash.specs.Table.{entries, IsTable};
+
+    ghost view = { λ t. record {
+      entries = entries t.nodes.items;
+      spare = min (vec_capacity t.nodes) 4294967295 - t.len;
+    } };
+
+    ghost invariant = { λ t. IsTable t.heads t.nodes.items t.len t.place t.free };
+}
+
+/// The head of a chain of free nodes that isn't empty: the one that is given, or else of one new node.
+fn stock(nodes: &mut Vec<Node>, free: u32) -> u32
+    requires { free ≡ NIL → (vec_len nodes.old < vec_capacity nodes.old) × (vec_len nodes.old < NIL) }
+    ensures capacity { vec_capacity nodes.new ≡ vec_capacity nodes.old }
+    ensures nodes { Stocks nodes.old.items free nodes.new.items result }
+{
+    if free != NIL {
+        return free;
+    }
+    let fresh = nodes.len() as u32;
+    nodes.push_reserved(Node {
+        hash: 0,
+        part: 0,
+        next: NIL,
+        slot: 0,
+        live: false,
+    });
+    fresh
+}
+
+impl HashRefs {
+    /// An empty bag. It takes no memory.
+    pub fn new(alloc: Global) -> HashRefs
+        ensures entries { result.entries ≡ [] }
+        ensures spare { result.spare ≡ 0 }
+    {
+        HashRefs {
+            heads: Heads::new(alloc),
+            nodes: Vec::new(alloc),
+            len: 0,
+            place: Place { level: 0, split: 0 },
+            free: NIL,
+        }
+    }
+
+    /// How many pairs it holds, each counted as often as held.
+    pub fn len(&self) -> usize
+        ensures { result ≡ length self.now.entries }
+    {
+        self.len
+    }
+
+    /// How many inserts are sure to find room.
+    pub fn spare(&self) -> usize
+        ensures { result ≡ self.now.spare }
+    {
+        self.nodes.capacity().min(MAX_NODES) - self.len
+    }
+
+    /// Makes room for `n` more pairs. It is refused where there is no memory for that many nodes, or
+    /// where there would be more than 2^32 - 1 of them. A bucket head that it can't get is no refusal:
+    /// inserts then skip splits.
+    pub fn reserve(&mut self, n: usize) -> Result<(), AllocError>
+        ensures ok { OnOk result (n ≤ self.new.spare) }
+        ensures met { n ≤ self.old.spare → IsOk result }
+        ensures entries { self.new.entries ≡ self.old.entries }
+        ensures spare { self.old.spare ≤ self.new.spare }
+    {
+        if n > MAX_NODES - self.len {
+            return Err(AllocError);
+        }
+        let entries = self.len + n;
+        self.nodes
+            .reserve(entries.saturating_sub(self.nodes.len()))?;
+        self.heads.reserve(entries.div_ceil(2));
+        Ok(())
+    }
+
+    /// Puts a pair in, in room that is there.
+    pub fn insert(&mut self, hash: u64, reference: RowRef)
+        requires { 0 < self.old.spare }
+        ensures entries { IsPermutation self.new.entries ((hash, reference) ∷ self.old.entries) }
+        ensures spare { self.new.spare + 1 ≡ self.old.spare }
+    {
+        self.put(hash, reference);
+        self.split_if_crowded();
+    }
+
+    /// Takes one such pair out. False where it holds none, and then all is as before.
+    pub fn remove(&mut self, hash: u64, reference: RowRef) -> bool
+        ensures found { IsTrue result ↔ Contains self.old.entries (hash, reference) }
+        ensures entries { OnTrue result (IsPermutation self.old.entries ((hash, reference) ∷ self.new.entries)) }
+        ensures spare { OnTrue result (self.new.spare ≡ self.old.spare + 1) }
+        ensures none { OnFalse result (self.new ≡ self.old) }
+    {
+        if !self.take(hash, reference) {
+            return false;
+        }
+        self.merge_if_sparse();
+        true
+    }
+
+    /// Appends the references of a hash, each as often as held, in no promised order. After an error
+    /// the vector is as before.
+    pub fn matches(&self, hash: u64, out: &mut Vec<RowRef>) -> Result<(), AllocError>
+        ensures ok { OnOk result (AppendsInSomeOrder out.old.items out.new.items (refs_of hash self.now.entries)) }
+        ensures err { OnErr result (out.new.items ≡ out.old.items) }
+    {
+        let head = self.heads.get(bucket_of(self.place, hash));
+        collect(&self.nodes, head, hash, out)
+    }
+
+    /// Appends all references, each as often as held, in no promised order. After an error the vector
+    /// is as before.
+    pub fn copy_all(&self, out: &mut Vec<RowRef>) -> Result<(), AllocError>
+        ensures ok { OnOk result (AppendsInSomeOrder out.old.items out.new.items (all_refs self.now.entries)) }
+        ensures err { OnErr result (out.new.items ≡ out.old.items) }
+    {
+        out.reserve(self.len)?;
+        for node in &self.nodes {
+            if node.live {
+                out.push_reserved(node.row());
+            }
+        }
+        Ok(())
+    }
+
+    /// Puts a pair in front of its bucket's chain.
+    fn put(&mut self, hash: u64, reference: RowRef)
+        requires { 0 < self.old.spare }
+        ensures entries { IsPermutation self.new.entries ((hash, reference) ∷ self.old.entries) }
+        ensures spare { self.new.spare + 1 ≡ self.old.spare }
+    {
+        let at = stock(&mut self.nodes, self.free);
+        let bucket = bucket_of(self.place, hash);
+        let node = &mut self.nodes[at as usize];
+        self.free = node.next;
+        *node = Node {
+            hash,
+            part: reference.part,
+            next: self.heads.get(bucket),
+            slot: reference.slot,
+            live: true,
+        };
+        self.heads.set(bucket, at);
+        self.len += 1;
+    }
+
+    /// Takes a pair out of its bucket's chain: the pair of the chain's first node takes its place, and
+    /// the first node is freed.
+    fn take(&mut self, hash: u64, reference: RowRef) -> bool
+        ensures found { IsTrue result ↔ Contains self.old.entries (hash, reference) }
+        ensures entries { OnTrue result (IsPermutation self.old.entries ((hash, reference) ∷ self.new.entries)) }
+        ensures spare { OnTrue result (self.new.spare ≡ self.old.spare + 1) }
+        ensures none { OnFalse result (self.new ≡ self.old) }
+    {
+        let bucket = bucket_of(self.place, hash);
+        let head = self.heads.get(bucket);
+        let at = find(&self.nodes, head, hash, reference);
+        if at == NIL {
+            return false;
+        }
+        let first = self.nodes[head as usize];
+        let next = self.nodes[at as usize].next;
+        self.nodes[at as usize] = Node {
+            hash: first.hash,
+            part: first.part,
+            next,
+            slot: first.slot,
+            live: true,
+        };
+        self.nodes[head as usize] = Node {
+            hash: 0,
+            part: 0,
+            next: self.free,
+            slot: 0,
+            live: false,
+        };
+        self.heads.set(bucket, first.next);
+        self.free = head;
+        self.len -= 1;
+        true
+    }
+
+    /// Splits the next bucket where there are more than two entries a bucket and a place for another
+    /// bucket stands ready.
+    fn split_if_crowded(&mut self)
+        ensures { self.new ≡ self.old }
+    {
+        if self.len <= 2 * self.heads.len() || !self.heads.grow() {
+            return;
+        }
+        let split = self.place.split;
+        let mask = (8 << self.place.level) - 1;
+        let from = self.heads.get(split);
+        let (staying, leaving) = deal(self.nodes.as_mut_slice(), from, mask, split as u64, NIL);
+        let last = self.heads.len() - 1;
+        self.heads.set(split, staying);
+        self.heads.set(last, leaving);
+        self.place = place_after(self.place);
+    }
+
+    /// Merges the last bucket into the one that it was split from where there is less than half an
+    /// entry a bucket and there are more than four buckets.
+    fn merge_if_sparse(&mut self)
+        ensures { self.new ≡ self.old }
+    {
+        let buckets = self.heads.len();
+        if 2 * self.len >= buckets || buckets == 4 {
+            return;
+        }
+        let place = place_before(self.place);
+        let from = self.heads.get(buckets - 1);
+        let onto = self.heads.get(place.split);
+        let (staying, _) = deal(self.nodes.as_mut_slice(), from, 0, 0, onto);
+        self.heads.shrink();
+        self.heads.set(place.split, staying);
+        self.place = place;
+    }
+}

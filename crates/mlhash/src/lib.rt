@@ -1,0 +1,15 @@
+//! References by hash: a bag of pairs of a hash and a reference, kept by modified linear hashing.
+//!
+//! The table grows and shrinks by one bucket at a time (linear hashing, Litwin, VLDB 1980), and each
+//! chain node holds one entry (modified linear hashing, Lehman and Carey, VLDB 1986).
+#![tactic(auto)]
+
+mod chains;
+mod hash_refs;
+mod heads;
+mod node;
+mod place;
+#[cfg(test)]
+mod tests;
+
+pub use hash_refs::HashRefs;

@@ -1,0 +1,5 @@
+pub mod Filtered
+pub mod Pairs
+mod Places
+pub mod Ordered
+mod Same

@@ -1,0 +1,4 @@
+pub mod Order
+pub mod Probe
+pub mod Refs
+pub mod Sought

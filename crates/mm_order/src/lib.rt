@@ -1,0 +1,18 @@
+//! Ordered lists of row references, under any lawful order.
+#![tactic(auto)]
+
+mod ordered_refs;
+mod probes;
+mod ref_order;
+mod search;
+mod seeks;
+mod sorted_refs;
+
+pub use ordered_refs::OrderedRefs;
+pub use probes::Probe;
+pub use ref_order::RefOrder;
+pub use seeks::Seek;
+pub use sorted_refs::SortedRefs;
+
+#[cfg(test)]
+mod tests;

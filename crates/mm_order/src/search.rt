@@ -1,0 +1,68 @@
+//! Binary search by a probe.
+ghost use Rattle.std.specs.Prelude.{◌≡◌, ◌≢◌, ◌≤◌, length, take, drop, All};
+ghost use Rattle.std.specs.List.Sorted.{IsNonDecreasingBy};
+ghost use Rattle.std.specs.Ordering.{ordering_index};
+
+use crate::probes::Probe;
+use crate::ref_order::RefOrder;
+use mm_value::RowRef;
+use std::cmp::Ordering;
+
+/// A probe for the place of one reference in an order.
+#[derive(Drop)]
+pub struct AtRef<'a, O> {
+    pub order: &'a O,
+    pub sought: RowRef,
+}
+
+impl<'a, O: RefOrder> Probe for AtRef<'a, O> {
+    ghost covers = { λ p at. O.covers p.order.now at × O.covers p.order.now p.sought };
+
+    ghost place_of = { λ p at. O.cmp p.order.now at p.sought };
+
+    fn place(&self, at: RowRef) -> Ordering {
+        self.order.compare(at, self.sought)
+    }
+}
+
+/// How many entries lie before the place of the probe.
+pub fn lower_bound<P: Probe>(probe: &P, refs: &[RowRef]) -> usize
+    requires covered { All (P.covers probe.now) refs.now }
+    requires rising { IsNonDecreasingBy (λ a. ordering_index (P.place_of probe.now a)) refs.now }
+    ensures bound { result ≤ length refs.now }
+    ensures before { All (λ a. P.place_of probe.now a ≡ Ordering.Less) (take result refs.now) }
+    ensures rest { All (λ a. P.place_of probe.now a ≢ Ordering.Less) (drop result refs.now) }
+{
+    let mut low = 0;
+    let mut high = refs.len();
+    while low < high {
+        let mid = low + (high - low) / 2;
+        if probe.place(refs[mid]).is_lt() {
+            low = mid + 1;
+        } else {
+            high = mid;
+        }
+    }
+    low
+}
+
+/// How many entries do not lie after the place of the probe.
+pub fn upper_bound<P: Probe>(probe: &P, refs: &[RowRef]) -> usize
+    requires covered { All (P.covers probe.now) refs.now }
+    requires rising { IsNonDecreasingBy (λ a. ordering_index (P.place_of probe.now a)) refs.now }
+    ensures bound { result ≤ length refs.now }
+    ensures before { All (λ a. P.place_of probe.now a ≢ Ordering.Greater) (take result refs.now) }
+    ensures rest { All (λ a. P.place_of probe.now a ≡ Ordering.Greater) (drop result refs.now) }
+{
+    let mut low = 0;
+    let mut high = refs.len();
+    while low < high {
+        let mid = low + (high - low) / 2;
+        if probe.place(refs[mid]).is_le() {
+            low = mid + 1;
+        } else {
+            high = mid;
+        }
+    }
+    low
+}

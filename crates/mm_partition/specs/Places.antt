@@ -1,0 +1,32 @@
+-- What the slots of the partitions hold, reference by reference.
+use Rattle.std.specs.Prelude.{◌≡◌, ◌≢◌, ℕ, ◌+◌, ◌*◌, List, slice_index_or, nat_lt, if◌then◌else◌}
+use Rattle.mm_value.specs.declared.row_ref.RowRef.{RowRef}
+use Rattle.mm_value.specs.declared.values.Value.{Value}
+use Rattle.mm_partition.specs.declared.slots.Slot.{Slot}
+use Rattle.mm_partition.specs.declared.slots.Slot.TheVariants.{Free, Live, Hidden}
+
+-- Partitions: their slots, 64 to a partition, and how many more rows they take without growing.
+pub record Places : Type 0 where
+  pub slots : List Slot
+  pub room : ℕ
+
+-- what stands where a reference points: nothing where no partition has such a slot
+abbrev pub slot_at : Places → RowRef → Slot
+slot_at places at = (if nat_lt at.slot 64 then slice_index_or places.slots (64 * at.part + at.slot) Free else Free)
+
+-- the reference gives a row
+abbrev pub IsLive : Places → RowRef → Type 0
+IsLive places at = (row : List Value) × (slot_at places at ≡ Live row)
+
+-- the reference is out of use, and its row is kept
+abbrev pub IsHidden : Places → RowRef → Type 0
+IsHidden places at = (row : List Value) × (slot_at places at ≡ Hidden row)
+
+-- every reference has what it had
+abbrev pub IsUnchanged : Places → Places → Type 0
+IsUnchanged old new = (at : RowRef) → slot_at new at ≡ slot_at old at
+
+-- this reference has this slot now, and every other one has what it had
+pub record ChangesOnly (old new : Places) (at : RowRef) (slot : Slot) : Type 0 where
+  pub changed : slot_at new at ≡ slot
+  pub others : (other : RowRef) → other ≢ at → slot_at new other ≡ slot_at old other

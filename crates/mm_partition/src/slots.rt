@@ -1,0 +1,37 @@
+//! The slots of a partition.
+ghost use Rattle.std.specs.Prelude.{◌≡◌, ◌+◌, ◌*◌, ◌<◌, ◌^◌};
+
+use mm_value::{Row, RowRef};
+
+/// How many slots a partition has.
+pub const SLOTS: usize = 64;
+
+/// What a slot holds.
+#[derive(Drop)]
+pub enum Slot {
+    /// Nothing: the slot may be given out.
+    Free,
+    /// A row that its reference gives.
+    Live(Row),
+    /// A row out of use, which keeps its slot until it is released.
+    Hidden(Row),
+}
+
+/// Where the slot of a reference lies among all slots.
+pub fn index_of(at: RowRef) -> usize
+    requires { 64 * at.part + at.slot < 2 ^ 64 }
+    ensures { result ≡ 64 * at.part + at.slot }
+{
+    SLOTS * at.part + at.slot as usize
+}
+
+/// The reference to the slot at an index among all slots.
+pub fn reference_to(index: usize) -> RowRef
+    ensures place { 64 * result.part + result.slot ≡ index }
+    ensures slot { result.slot < 64 }
+{
+    RowRef {
+        part: index / SLOTS,
+        slot: (index % SLOTS) as u8,
+    }
+}

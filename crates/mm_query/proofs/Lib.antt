@@ -1,0 +1,4 @@
+pub mod Bound
+pub mod ChangeDues
+pub mod Tables
+mod Tuples

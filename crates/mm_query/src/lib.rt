@@ -1,0 +1,12 @@
+//! What commands and replies are, and the machine of row lists that gives them their meaning.
+#![tactic(auto)]
+
+mod bind;
+mod command;
+mod reply;
+mod row_list;
+
+pub use bind::{BoundChange, bind_change};
+pub use command::{Command, Definition, Mutation};
+pub use reply::Reply;
+pub use row_list::RowList;

@@ -1,0 +1,16 @@
+//! Replies.
+use crate::row_list::RowList;
+use mm_value::Refusal;
+
+/// What a command answers.
+#[derive(Debug, Drop)]
+pub enum Reply {
+    /// It is done.
+    Done,
+    /// It is done, and concerned this many rows.
+    Count(usize),
+    /// These rows, in this order.
+    Rows(RowList),
+    /// It was refused, and changed nothing.
+    Refused(Refusal),
+}

@@ -1,0 +1,31 @@
+-- The place of the key column.
+use Rattle.std.proofs.Common.{◌≡◌, ℕ, ◌+◌, ◌<◌, ◌≤◌, Bool, true, false, cond, not, List, [], ◌∷◌, Some, None, length, position, refl, ◌∙◌, ⊎_elim, arith}
+use Rattle.std.specs.List.{position_or_len}
+use Rattle.std.proofs.lemmas.Bool.{cases_lt}
+use Rattle.std.proofs.lemmas.List.Sums.{sum_by-cons}
+use Rattle.mm_schema.proofs.Places.{past_from_none, place_from_some}
+use Rattle.mm_schema.specs.Columns.{is_key, key_count, key_place}
+use Rattle.mm_schema.specs.declared.column.Column.{Column}
+
+-- a first column that is no key leaves the count
+one_less : (b : Bool) (len at count : ℕ) → len + 1 ≤ cond (not b) (1 + at) 0 → (len ≤ at → count ≡ 0) → cond b 1 0 + count ≡ 0
+one_less true len at count h rest = absurd (omega arith)
+one_less false len at count h rest = omega (arith, rest (omega arith))
+
+-- where no column before the end is the key, none is
+no_key : (columns : List Column) → length columns ≤ position_or_len is_key columns → key_count columns ≡ 0
+no_key [] h = refl
+no_key (c ∷ cs) h = sum_by-cons (λ column. cond (is_key column) 1 0) c cs
+    ∙ one_less (is_key c) (length cs) (position_or_len is_key cs) (key_count cs) (omega arith) (no_key cs)
+
+-- Where one column is the key, one is found.
+pub key_is_there : (columns : List Column) → position is_key columns ≡ None → key_count columns ≡ 0
+key_is_there columns h = no_key columns (past_from_none is_key columns h)
+
+-- The place that is found is the key's.
+pub place_of_key : (columns : List Column) (i : ℕ) → position is_key columns ≡ Some i → i ≡ key_place columns
+place_of_key columns i h = place_from_some is_key columns i h
+
+-- The key's place lies within the columns.
+pub key_within : (columns : List Column) → key_count columns ≡ 1 → key_place columns < length columns
+key_within columns one = ⊎_elim (λ within. within) (λ past. absurd (omega (arith, no_key columns past, one))) (cases_lt (key_place columns) (length columns))

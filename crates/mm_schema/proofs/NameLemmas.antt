@@ -1,0 +1,19 @@
+-- Names by their first byte and the others, and names that are one.
+use Rattle.std.proofs.Common.{◌≡◌, ℕ, ◌≤◌, ◌&&◌, List, [], ◌∷◌, true, length, drop, get_or, refl, arith}
+use Rattle.std.specs.List.{list_all}
+use lib.Pointwise.{bytes_decides}
+use Rattle.mm_schema.specs.Name.{is_lower, is_name_byte, is_name_text, same_name}
+
+-- A name is a letter and then letters, digits and _.
+pub text_of_parts : (bytes : List ℕ) → 1 ≤ length bytes
+    → is_name_text bytes ≡ (is_lower (get_or bytes 0 0) && list_all is_name_byte (drop 1 bytes))
+text_of_parts [] h = absurd (omega arith)
+text_of_parts (b ∷ bs) h = refl
+
+-- Two names that are one have the same bytes, ..
+pub same_bytes : (a b : List ℕ) → same_name a b ≡ true → a ≡ b
+same_bytes a b h = (bytes_decides a b).0 h
+
+-- .. and a name is one with itself.
+pub same_name_refl : (a : List ℕ) → same_name a a ≡ true
+same_name_refl a = (bytes_decides a a).1 refl

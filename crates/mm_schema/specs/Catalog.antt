@@ -1,0 +1,17 @@
+-- How the catalog keeps its tables.
+use Rattle.std.specs.Prelude.{◌≡◌, ℕ, List, map, All}
+use Rattle.std.specs.declared.hash.FoldHasher.{FoldHasher}
+use Rattle.std.specs.declared.hash.BuildHasherDefault.{BuildHasherDefault}
+use Rattle.indexmap.specs.IndexMap.{IndexMap}
+use Rattle.mm_schema.specs.declared.table.Table.{Table}
+
+abbrev pub Tables : Type 0
+Tables = IndexMap (List ℕ) Table (BuildHasherDefault FoldHasher)
+
+-- the tables, in order of creation
+abbrev pub tables_of : Tables → List Table
+tables_of tables = map (λ entry. entry.1) tables.entries
+
+-- each table stands under its own name
+abbrev pub IsKeyedByName : Tables → Type 0
+IsKeyedByName tables = All (λ entry. entry.0 ≡ entry.1.definition.name) tables.entries

@@ -1,0 +1,126 @@
+//! Columns.
+ghost use Rattle.std.specs.Prelude.{◌≡◌, ◌↔◌, ◌<◌, IsSome, IfSome, length, position};
+ghost use Rattle.std.specs.List.{list_any};
+ghost use Rattle.mm_schema.specs.Name.{same_name};
+ghost use Rattle.mm_schema.specs.Columns.{has_twin_columns, is_key, key_count, key_place};
+
+use crate::name::Name;
+use mm_value::ColType;
+use std::marker::Model;
+
+/// What a column is for.
+#[derive(Clone, Copy, Debug, PartialEq, Eq)]
+pub enum Role {
+    /// Its value is the row's key: no two rows of the table have the same.
+    Key,
+    /// Nothing beside its value.
+    Plain,
+}
+
+/// A column of a table.
+#[derive(Debug, Drop)]
+pub struct Column {
+    /// Its name, which no other column of the table has.
+    pub name: Name,
+    /// What its values are.
+    pub col_type: ColType,
+    /// What it is for.
+    pub role: Role,
+}
+
+impl Column {
+    /// Whether it is the key.
+    pub fn is_key(&self) -> bool
+        ensures { result ≡ is_key self.now }
+    {
+        match self.role {
+            Role::Key => true,
+            Role::Plain => false,
+        }
+    }
+}
+
+/// The columns of a table from left to right: just one of them is the key.
+#[derive(Debug, Drop)]
+pub struct Columns {
+    items: Vec<Column>,
+    key: usize,
+}
+
+impl Model for Columns {
+    ghost use Rattle.std.specs.Prelude.{◌≡◌, List};
+    ghost use Rattle.mm_schema.specs.declared.column.Column.{Column as Col};
+    ghost use Rattle.mm_schema.specs.Columns.{key_count, key_place};
+
+    ghost Value = { List Col };
+
+    ghost view = { λ c. c.items.items };
+
+    ghost invariant = { λ c. (key_count c.items.items ≡ 1) × (c.key ≡ key_place c.items.items) };
+}
+
+impl Columns {
+    /// These columns, or none unless just one of them is the key.
+    #[tactic(auto, using(crate::proofs::Keys::key_is_there, crate::proofs::Keys::place_of_key))]
+    pub fn new(items: Vec<Column>) -> Option<Columns>
+        ensures variant { IsSome result ↔ (key_count items.items ≡ 1) }
+        ensures value { IfSome result (λ columns. columns ≡ items.items) }
+    {
+        if count_keys(&items) != 1 {
+            return None;
+        }
+        let key = find_key(&items)?;
+        Some(Columns { items, key })
+    }
+
+    /// The columns.
+    pub fn as_slice(&self) -> &[Column]
+        ensures value { result.now ≡ self.now }
+        ensures one_key { key_count self.now ≡ 1 }
+    {
+        &self.items
+    }
+
+    /// Whether some name stands twice among them.
+    pub fn has_twins(&self) -> bool
+        ensures { result ≡ has_twin_columns self.now }
+    {
+        let columns = self.items.as_slice();
+        for (i, column) in columns.iter().enumerate() {
+            if has_name(&columns[i + 1..], &column.name) {
+                return true;
+            }
+        }
+        false
+    }
+
+    /// The place of the key column, counted from 0.
+    #[tactic(auto, using(crate::proofs::Keys::key_within))]
+    pub fn key(&self) -> usize
+        ensures place { result ≡ key_place self.now }
+        ensures within { result < length self.now }
+    {
+        self.key
+    }
+}
+
+/// How many of the columns are the key.
+fn count_keys(columns: &[Column]) -> usize
+    ensures { result ≡ key_count columns.now }
+{
+    columns.iter().filter(|column| column.is_key()).count()
+}
+
+/// The place of the first column that is the key.
+fn find_key(columns: &[Column]) -> Option<usize>
+    ensures { result ≡ position is_key columns.now }
+{
+    columns.iter().position(|column| column.is_key())
+}
+
+/// Whether some column has the name.
+fn has_name(columns: &[Column], name: &Name) -> bool
+    ensures { result ≡ list_any (λ column. same_name name.now column.name) columns.now }
+{
+    columns.iter().any(|column| *name == column.name)
+}

@@ -1,0 +1,27 @@
+-- Reading decimal digits.
+use Rattle.std.proofs.Common.{◌≡◌, ◌<◌, ◌-◌, ◌+◌, ◌*◌, ◌^◌, ℕ, min, List, length, get_or, take, arith, sym, ap, ◌∙◌}
+use Rattle.std.specs.Char.{digit_value, IsAsciiDigit, IsNotAsciiDigit}
+use Rattle.std.specs.Str.Parse.{AllDigits, digits_value}
+use Rattle.std.proofs.lemmas.Int.Digits.{digits_value_more, digits_more}
+use Rattle.std.proofs.lemmas.Str.{digit_value_digit}
+use Rattle.std.proofs.lemmas.Str.Parse.{digit_at}
+
+-- a byte that is no digit stands in no numeral
+pub AllDigits-other : (ds : List ℕ) (i : ℕ) → i < length ds → IsNotAsciiDigit (get_or ds i 0) → AllDigits 10 ds → ⊥
+AllDigits-other ds i lt other all = let digit = digit_at ds i all lt in omega (arith, digit, other)
+
+-- the greatest number takes the place of any above it, one digit on
+capped : (v d m n : ℕ) → m ≡ min v (2 ^ 64 - 1) → n ≡ min (min (m * 10) (2 ^ 64 - 1) + d) (2 ^ 64 - 1) → n ≡ min (v * 10 + d) (2 ^ 64 - 1)
+capped v d m n is next = omega arith
+
+pub capped_more : (ds : List ℕ) (i m p n : ℕ) → i < length ds → IsAsciiDigit (get_or ds i 0) → AllDigits 10 (take i ds)
+    → m ≡ min (digits_value 10 (take i ds)) (2 ^ 64 - 1) → p ≡ min (m * 10) (2 ^ 64 - 1) → n ≡ min (p + (get_or ds i 0 - 48)) (2 ^ 64 - 1)
+    → AllDigits 10 (take (i + 1) ds) × (n ≡ min (digits_value 10 (take (i + 1) ds)) (2 ^ 64 - 1))
+capped_more ds i m p n lt digit all is times next =
+    let worth : get_or ds i 0 - 48 ≡ digit_value (get_or ds i 0) = let w = digit_value_digit (get_or ds i 0) digit in omega (arith, w) in
+    let small : digit_value (get_or ds i 0) < 10 = let w = digit_value_digit (get_or ds i 0) digit in omega (arith, w, digit) in
+    let value : digits_value 10 (take i ds) * 10 + (get_or ds i 0 - 48) ≡ digits_value 10 (take (i + 1) ds) =
+    ap (λ d. digits_value 10 (take i ds) * 10 + d) worth ∙ sym (digits_value_more 10 ds i lt) in (
+      digits_more 10 ds i lt all small,
+      capped (digits_value 10 (take i ds)) (get_or ds i 0 - 48) m n is (next ∙ ap (λ q. min (q + (get_or ds i 0 - 48)) (2 ^ 64 - 1)) times) ∙ ap (λ v. min v (2 ^ 64 - 1)) value,
+    )

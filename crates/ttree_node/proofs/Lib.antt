@@ -1,0 +1,2 @@
+pub mod OwnerSteps
+pub mod SlideLemmas

@@ -1,0 +1,17 @@
+-- What an owner of a block owns, and what a shared one lends.
+use mir.Syntax.{Ty}
+use mir.Raw.{raw}
+use base.Fml.{Fml, Lft, fsep}
+use base.Fraction.{full_share}
+use denote.RattleType.{RattleType}
+use denote.Memory.{lone}
+use denote.RawPtr.{Ptr, lies_at}
+use denote.Struct.Lending.{lent_at}
+
+-- the value x of type R at p, and the right to free its block
+abbrev pub block_owns : (Ty → Ptr → Fml) → (R : RattleType) → Ptr → R.Denot → Fml
+block_owns may_free R p x = fsep (lies_at R full_share p x) (may_free (raw (lone R.mir)) p)
+
+-- a `&` to the value x of type R at p
+abbrev pub block_lends : (R : RattleType) → Ptr → R.Denot → Lft → Fml
+block_lends R p x κ = lent_at R p x κ

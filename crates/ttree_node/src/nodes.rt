@@ -1,0 +1,246 @@
+//! Subtrees and what can be done at their root.
+ghost use Rattle.std.specs.Prelude.{◌≡◌, ◌+◌, ◌^◌, ◌<◌, ◌≤◌, [], ◌∷◌, ◌++◌, length, take, drop, insert, remove, slice_get, Some, IfOk};
+ghost use Rattle.std.specs.Option.{option_copied};
+ghost use Rattle.ttree_node.specs.Tree.{Empty, fork, tree_of, height_of, node_count};
+
+use crate::owned::Owned;
+use crate::pool::Spares;
+use arrayvec::ArrayVec;
+use mm_value::RowRef;
+use std::alloc::{AllocError, Global};
+use std::marker::Model;
+
+/// A T-tree that is not empty: a node of at most 16 entries, between what stands left and
+/// what stands right of it (Lehman and Carey, VLDB 1986).
+#[cycle(subtree)]
+#[derive(Drop)]
+pub struct Subtree {
+    root: Owned<Node, Global>,
+}
+
+/// One block of memory.
+#[cycle(subtree)]
+#[derive(Drop)]
+struct Node {
+    entries: ArrayVec<RowRef, 16>,
+    height: usize,
+    left: Option<Subtree>,
+    right: Option<Subtree>,
+}
+
+impl Model for Subtree {
+    ghost use Rattle.ttree_node.specs.Tree.{Root};
+    ghost use Rattle.ttree_node.specs.TreeCode.{root_code};
+
+    ghost Value = { Root };
+
+    ghost coded = { root_code };
+
+    ghost use Rattle.ttree_node.specs.Nodes.{root_of, IsHeightExact};
+
+    ghost view = { λ s. root_of s.root.value };
+
+    ghost invariant = { λ s. IsHeightExact s.root.value };
+
+    ghost use Rattle.ttree_node.specs.Tree.{fork, node_count};
+
+    ghost size = { λ r. node_count (fork r) };
+
+    ghost use Rattle.std.proofs.Common.{arith};
+
+    ghost size_decreases = { λ a h. Prim.grind arith };
+}
+
+/// The height of what hangs on a link.
+fn link_height(link: &Option<Subtree>) -> usize
+    ensures { result ≡ height_of (tree_of link.now) }
+{
+    match link {
+        None => 0,
+        Some(subtree) => subtree.height(),
+    }
+}
+
+impl Subtree {
+    /// A node with no entries, in a block of its own.
+    pub(crate) fn blank(alloc: Global) -> Result<Subtree, AllocError>
+        ensures { IfOk result (λ s. s ≡ record { left = Empty; entries = []; right = Empty }) }
+    {
+        let root = Owned::new(
+            alloc,
+            Node {
+                entries: ArrayVec::new(),
+                height: 1,
+                left: None,
+                right: None,
+            },
+        )?;
+        Ok(Subtree { root })
+    }
+
+    /// A node with this one entry, made from a free node.
+    pub fn leaf(spares: &mut Spares, entry: RowRef) -> Subtree
+        requires { 0 < spares.old }
+        ensures one_entry { result ≡ record { left = Empty; entries = entry ∷ []; right = Empty } }
+        ensures one_spare { spares.new + 1 ≡ spares.old }
+    {
+        let mut leaf = spares.take();
+        let node = leaf.root.as_mut();
+        node.entries.clear();
+        node.entries.push(entry);
+        leaf
+    }
+
+    /// Gives each node back to the pool.
+    pub fn free_into(mut self, spares: &mut Spares)
+        requires { spares.old + node_count (fork self) < 2 ^ 64 }
+        ensures { spares.new ≡ spares.old + node_count (fork self) }
+    {
+        if let Some(left) = self.take_left() {
+            left.free_into(spares);
+        }
+        if let Some(right) = self.take_right() {
+            right.free_into(spares);
+        }
+        spares.put(self);
+    }
+
+    /// The entries of the root, in order.
+    pub fn entries(&self) -> &[RowRef]
+        ensures value { result.now ≡ self.now.entries }
+        ensures at_most_16 { length result.now ≤ 16 }
+    {
+        self.root.as_ref().entries.as_slice()
+    }
+
+    /// What stands left of the root.
+    pub fn left(&self) -> Option<&Subtree>
+        ensures { tree_of (option_copied result) ≡ self.now.left }
+    {
+        self.root.as_ref().left.as_ref()
+    }
+
+    /// What stands right of the root.
+    pub fn right(&self) -> Option<&Subtree>
+        ensures { tree_of (option_copied result) ≡ self.now.right }
+    {
+        self.root.as_ref().right.as_ref()
+    }
+
+    /// The number of nodes on a longest path from the root downwards.
+    pub fn height(&self) -> usize
+        ensures { result ≡ height_of (fork self.now) }
+    {
+        self.root.as_ref().height
+    }
+
+    /// Puts an entry before the one at place `i` of the root.
+    pub fn put_entry(&mut self, i: usize, entry: RowRef)
+        requires room { length self.old.entries < 16 }
+        requires in_bounds { i ≤ length self.old.entries }
+        ensures { self.new ≡ record self.old { entries = insert self.old.entries i entry } }
+    {
+        let node = self.root.as_mut();
+        node.entries.insert(i, entry);
+    }
+
+    /// Takes out the entry at place `i` of the root, which may be its last one.
+    pub fn take_entry(&mut self, i: usize) -> RowRef
+        requires { i < length self.old.entries }
+        ensures taken { slice_get self.old.entries i ≡ Some result }
+        ensures rest { self.new ≡ record self.old { entries = remove self.old.entries i } }
+    {
+        let node = self.root.as_mut();
+        node.entries.remove(i)
+    }
+
+    /// Takes away what stands left of the root.
+    pub fn take_left(&mut self) -> Option<Subtree>
+        ensures taken { tree_of result ≡ self.old.left }
+        ensures rest { self.new ≡ record self.old { left = Empty } }
+    {
+        let node = self.root.as_mut();
+        let _height = node.height;
+        let left = node.left.take();
+        node.height = link_height(&node.right) + 1;
+        left
+    }
+
+    /// Takes away what stands right of the root.
+    pub fn take_right(&mut self) -> Option<Subtree>
+        ensures taken { tree_of result ≡ self.old.right }
+        ensures rest { self.new ≡ record self.old { right = Empty } }
+    {
+        let node = self.root.as_mut();
+        let _height = node.height;
+        let right = node.right.take();
+        node.height = link_height(&node.left) + 1;
+        right
+    }
+
+    /// Puts a tree left of the root, where there is none.
+    pub fn set_left(&mut self, left: Option<Subtree>)
+        requires vacant { self.old.left ≡ Empty }
+        requires height_fits { height_of (tree_of left) + 1 < 2 ^ 64 }
+        ensures { self.new ≡ record self.old { left = tree_of left } }
+    {
+        let node = self.root.as_mut();
+        node.height = node.height.max(link_height(&left) + 1);
+        node.left = left;
+    }
+
+    /// Puts a tree right of the root, where there is none.
+    pub fn set_right(&mut self, right: Option<Subtree>)
+        requires vacant { self.old.right ≡ Empty }
+        requires height_fits { height_of (tree_of right) + 1 < 2 ^ 64 }
+        ensures { self.new ≡ record self.old { right = tree_of right } }
+    {
+        let node = self.root.as_mut();
+        node.height = node.height.max(link_height(&right) + 1);
+        node.right = right;
+    }
+
+    /// Puts entries before those of the root.
+    pub(crate) fn put_in_front(&mut self, front: &[RowRef])
+        requires { length front.now + length self.old.entries ≤ 16 }
+        ensures { self.new ≡ record self.old { entries = front.now ++ self.old.entries } }
+    {
+        let node = self.root.as_mut();
+        let mut entries = ArrayVec::new();
+        entries.try_extend_from_slice(front).unwrap();
+        entries
+            .try_extend_from_slice(node.entries.as_slice())
+            .unwrap();
+        node.entries = entries;
+    }
+
+    /// Puts entries behind those of the root.
+    pub(crate) fn put_behind(&mut self, behind: &[RowRef])
+        requires { length self.old.entries + length behind.now ≤ 16 }
+        ensures { self.new ≡ record self.old { entries = self.old.entries ++ behind.now } }
+    {
+        let node = self.root.as_mut();
+        node.entries.try_extend_from_slice(behind).unwrap();
+    }
+
+    /// Keeps the first `n` entries of the root alone.
+    pub(crate) fn keep_first(&mut self, n: usize)
+        ensures { self.new ≡ record self.old { entries = take n self.old.entries } }
+    {
+        let node = self.root.as_mut();
+        node.entries.truncate(n);
+    }
+
+    /// Takes the first `n` entries of the root out.
+    pub(crate) fn drop_first(&mut self, n: usize)
+        requires { n ≤ length self.old.entries }
+        ensures { self.new ≡ record self.old { entries = drop n self.old.entries } }
+    {
+        let node = self.root.as_mut();
+        let mut entries = ArrayVec::new();
+        entries
+            .try_extend_from_slice(&node.entries.as_slice()[n..])
+            .unwrap();
+        node.entries = entries;
+    }
+}

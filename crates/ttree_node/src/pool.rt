@@ -1,0 +1,100 @@
+//! A pool of free nodes.
+ghost use Rattle.std.specs.Prelude.{◌≡◌, ◌+◌, ◌^◌, ◌<◌, ◌≤◌, min, max, OnOk, OnErr};
+ghost use Rattle.ttree_node.specs.Tree.{Empty};
+
+use crate::nodes::Subtree;
+use std::alloc::{AllocError, Global};
+use std::marker::Model;
+
+/// Free nodes, so that an insertion that follows cannot meet want of memory.
+/// Seen as how many there are.
+pub struct Spares {
+    chain: Option<Subtree>,
+    alloc: Global,
+}
+
+impl Model for Spares {
+    ghost use Rattle.std.specs.Prelude.{ℕ};
+    ghost use Rattle.ttree_node.specs.Tree.{tree_of, height_of};
+    ghost use Rattle.ttree_node.specs.Spares.{IsChain};
+
+    ghost Value = { ℕ };
+
+    ghost view = { λ s. height_of (tree_of s.chain) };
+
+    ghost invariant = { λ s. IsChain (tree_of s.chain) };
+}
+
+impl Drop for Spares {
+    /// Frees node by node, since the chain may be long.
+    fn drop(mut self) {
+        self.trim(0);
+        let Spares { chain: _, alloc: _ } = self;
+    }
+}
+
+impl Spares {
+    /// An empty pool.
+    pub fn new(alloc: Global) -> Spares
+        ensures { result ≡ 0 }
+    {
+        Spares { chain: None, alloc }
+    }
+
+    /// The number of free nodes.
+    pub fn len(&self) -> usize
+        ensures { result ≡ self.now }
+    {
+        match &self.chain {
+            None => 0,
+            Some(chain) => chain.height(),
+        }
+    }
+
+    /// Allocates nodes until there are at least `n`. After an error there may be more than before.
+    pub fn reserve(&mut self, n: usize) -> Result<(), AllocError>
+        ensures ok { OnOk result (self.new ≡ max self.old n) }
+        ensures not_fewer { self.old ≤ self.new }
+        ensures not_more { self.new ≤ max self.old n }
+    {
+        for _ in self.len()..n {
+            let node = Subtree::blank(self.alloc)?;
+            self.put(node);
+        }
+        Ok(())
+    }
+
+    /// Frees nodes until there are at most `n`.
+    pub fn trim(&mut self, n: usize)
+        ensures { self.new ≡ min self.old n }
+    {
+        while self.len() > n {
+            drop(self.take());
+        }
+    }
+
+    /// Adds a node without links.
+    pub(crate) fn put(&mut self, mut node: Subtree)
+        requires no_left { node.left ≡ Empty }
+        requires no_right { node.right ≡ Empty }
+        requires fits { self.old + 1 < 2 ^ 64 }
+        ensures { self.new ≡ self.old + 1 }
+    {
+        node.set_left(self.chain.take());
+        self.chain = Some(node);
+    }
+
+    /// Takes out a node, which has no links.
+    pub(crate) fn take(&mut self) -> Subtree
+        requires { 0 < self.old }
+        ensures no_left { result.left ≡ Empty }
+        ensures no_right { result.right ≡ Empty }
+        ensures one_less { self.new + 1 ≡ self.old }
+    {
+        let Some(mut node) = self.chain.take() else {
+            unreachable!()
+        };
+        self.chain = node.take_left();
+        node
+    }
+}

@@ -1,0 +1,40 @@
+//! Rotations.
+ghost use Rattle.std.specs.Prelude.{◌≡◌, ◌+◌, ◌^◌, ◌<◌};
+ghost use Rattle.ttree_node.specs.Tree.{IsFork, fork, in_order, height_of};
+ghost use Rattle.ttree_node.specs.Turn.{rotated_left, rotated_right};
+
+use crate::nodes::Subtree;
+
+impl Subtree {
+    /// Its right child on top, and the old root left below it.
+    pub fn rotate_left(mut self) -> Subtree
+        requires has_right { IsFork self.right }
+        requires height_fits { height_of (fork self) + 1 < 2 ^ 64 }
+        ensures shape { result ≡ rotated_left self }
+        ensures same_entries { in_order (fork result) ≡ in_order (fork self) }
+    {
+        let Some(mut top) = self.take_right() else {
+            unreachable!()
+        };
+        let middle = top.take_left();
+        self.set_right(middle);
+        top.set_left(Some(self));
+        top
+    }
+
+    /// Its left child on top, and the old root right below it.
+    pub fn rotate_right(mut self) -> Subtree
+        requires has_left { IsFork self.left }
+        requires height_fits { height_of (fork self) + 1 < 2 ^ 64 }
+        ensures shape { result ≡ rotated_right self }
+        ensures same_entries { in_order (fork result) ≡ in_order (fork self) }
+    {
+        let Some(mut top) = self.take_left() else {
+            unreachable!()
+        };
+        let middle = top.take_right();
+        self.set_left(middle);
+        top.set_right(Some(self));
+        top
+    }
+}
