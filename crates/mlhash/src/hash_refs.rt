@@ -4,6 +4,9 @@ ghost use Rattle.std.specs.Bool.{OnTrue, OnFalse};
 ghost use Rattle.mlhash.specs.Bag.{refs_of, all_refs, AppendsInSomeOrder};
 ghost use Rattle.mlhash.specs.Table.{Stocks};
 
+#[cfg(test)]
+mod tests;
+
 use crate::chains::{collect, deal, find};
 use crate::heads::Heads;
 use crate::node::{NIL, Node};
@@ -89,16 +92,18 @@ impl HashRefs {
         self.len
     }
 
-    /// How many inserts are sure to find room.
+    /// How many more pairs there is room for.
     pub fn spare(&self) -> usize
         ensures { result ≡ self.now.spare }
     {
         self.nodes.capacity().min(MAX_NODES) - self.len
     }
 
-    /// Makes room for `n` more pairs. It is refused where there is no memory for that many nodes, or
-    /// where there would be more than 2^32 - 1 of them. A bucket head that it can't get is no refusal:
-    /// inserts then skip splits.
+    /// Makes room for `n` more pairs, and looks for the bucket heads that inserts into all the room may
+    /// split into.
+    ///
+    /// It is refused where there is no memory for that many nodes, or where there would be more than
+    /// 2^32 - 1 of them. Bucket heads that it can't get are no refusal: inserts then skip splits.
     pub fn reserve(&mut self, n: usize) -> Result<(), AllocError>
         ensures ok { OnOk result (n ≤ self.new.spare) }
         ensures met { n ≤ self.old.spare → IsOk result }
@@ -111,7 +116,8 @@ impl HashRefs {
         let entries = self.len + n;
         self.nodes
             .reserve(entries.saturating_sub(self.nodes.len()))?;
-        self.heads.reserve(entries.div_ceil(2));
+        let room = self.nodes.capacity().min(MAX_NODES);
+        self.heads.reserve(room.div_ceil(2));
         Ok(())
     }
 
@@ -150,7 +156,7 @@ impl HashRefs {
     }
 
     /// Appends all references, each as often as held, in no promised order. After an error the vector
-    /// is as before.
+    /// is as before. It is one pass over the table's nodes in memory, free ones too.
     pub fn copy_all(&self, out: &mut Vec<RowRef>) -> Result<(), AllocError>
         ensures ok { OnOk result (AppendsInSomeOrder out.old.items out.new.items (all_refs self.now.entries)) }
         ensures err { OnErr result (out.new.items ≡ out.old.items) }

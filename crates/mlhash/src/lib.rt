@@ -9,7 +9,5 @@ mod hash_refs;
 mod heads;
 mod node;
 mod place;
-#[cfg(test)]
-mod tests;
 
 pub use hash_refs::HashRefs;

@@ -2,4 +2,5 @@ pub mod Filtered
 pub mod Pairs
 mod Places
 pub mod Ordered
+pub mod Unique
 mod Same

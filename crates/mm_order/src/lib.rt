@@ -1,4 +1,6 @@
 //! Ordered lists of row references, under any lawful order.
+//!
+//! A call that may take memory is handed the allocator; no other call takes any.
 #![tactic(auto)]
 
 mod ordered_refs;

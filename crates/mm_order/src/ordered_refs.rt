@@ -51,7 +51,8 @@ pub trait OrderedRefs {
         requires ordered { IsOrdered (O.covers order.now) (O.cmp order.now) (refs self.old) }
         requires covered { O.covers order.now gone }
         ensures held { IsTrue result ↔ Contains (refs self.old) gone }
-        ensures taken { OnTrue result (AddsInOrder (O.cmp order.now) (refs self.new) gone (refs self.old)) }
+        ensures taken { OnTrue result
+            (AddsInOrder (O.cmp order.now) (refs self.new) gone (refs self.old)) }
         ensures absent { OnFalse result (refs self.new ≡ refs self.old) }
         ensures ordered { IsOrdered (O.covers order.now) (O.cmp order.now) (refs self.new) }
         ensures spare { spare self.old ≤ spare self.new };
@@ -67,8 +68,11 @@ pub trait OrderedRefs {
         out: &mut Vec<RowRef>,
     ) -> Result<(), AllocError>
         requires ordered { IsOrdered (O.covers order.now) (O.cmp order.now) (refs self.now) }
-        requires low { IsMonotone (O.covers order.now) (O.cmp order.now) (L.covers low.now) (L.place_of low.now) }
-        requires high { IsMonotone (O.covers order.now) (O.cmp order.now) (H.covers high.now) (H.place_of high.now) }
-        ensures ok { OnOk result (out.new.items ≡ out.old.items ++ entries_between (L.place_of low.now) (H.place_of high.now) (refs self.now)) }
+        requires low { IsMonotone (O.covers order.now) (O.cmp order.now)
+            (L.covers low.now) (L.place_of low.now) }
+        requires high { IsMonotone (O.covers order.now) (O.cmp order.now)
+            (H.covers high.now) (H.place_of high.now) }
+        ensures ok { OnOk result (out.new.items ≡ out.old.items
+            ++ entries_between (L.place_of low.now) (H.place_of high.now) (refs self.now)) }
         ensures err { OnErr result (out.new.items ≡ out.old.items) };
 }

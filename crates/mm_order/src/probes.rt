@@ -12,7 +12,8 @@ pub trait Probe {
 
     ghost place_of: { Self → RowRef → Ordering };
 
-    /// Where the entry `at` lies: `Less` before the sought place, `Greater` after it, `Equal` where it fits.
+    /// Where the entry `at` lies: `Less` before the sought place, `Greater` after it, `Equal`
+    /// where it fits.
     fn place(&self, at: RowRef) -> Ordering
         requires { covers self.now at }
         ensures { result ≡ place_of self.now at };

@@ -1,4 +1,4 @@
-//! Binary search by a probe.
+//! Binary search by a probe (Knuth, The Art of Computer Programming, volume 3, section 6.2.1).
 ghost use Rattle.std.specs.Prelude.{◌≡◌, ◌≢◌, ◌≤◌, length, take, drop, All};
 ghost use Rattle.std.specs.List.Sorted.{IsNonDecreasingBy};
 ghost use Rattle.std.specs.Ordering.{ordering_index};

@@ -39,7 +39,8 @@ impl<'a, P> Seek<'a, P> {
 }
 
 impl<'a, P: Probe> Seek<'a, P> {
-    /// Asks the probe where `at` lies. The probe stays, and the count rises by one, up to `u64::MAX`.
+    /// Asks the probe where `at` lies. The probe stays, and the count rises by one, up to
+    /// `u64::MAX`.
     pub fn place(&mut self, at: RowRef) -> Ordering
         requires { P.covers self.old.probe at }
         ensures answer { result ≡ P.place_of self.old.probe at }

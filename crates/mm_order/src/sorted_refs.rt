@@ -10,7 +10,8 @@ use mm_value::RowRef;
 use std::alloc::{AllocError, Global};
 use std::marker::Model;
 
-/// The vector form of [`OrderedRefs`]: found by binary search, moved up and down by edits.
+/// The vector form of [`OrderedRefs`]: a search halves the list, an edit moves the entries behind
+/// its place.
 #[derive(Drop)]
 pub struct SortedRefs {
     refs: Vec<RowRef>,

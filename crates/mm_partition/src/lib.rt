@@ -1,7 +1,12 @@
-//! Rows in partitions, which keep their references while they live.
+//! Rows in partitions, found by references that stay as long as the rows live.
+//!
+//! A call that may take memory is handed the allocator; no other call takes any.
 #![tactic(auto)]
 
 mod rows;
 mod slots;
 
 pub use rows::Partitions;
+
+#[cfg(test)]
+mod tests;

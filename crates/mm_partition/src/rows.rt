@@ -12,8 +12,9 @@ use std::marker::Model;
 use std::mem;
 
 /// The rows of one table, 64 to a partition (partitions and tuple pointers of Lehman and Carey,
-/// SIGMOD 1986). A row is found by its reference, which stays the same while the row lives. No call
-/// but `reserve` takes memory, and each of the others takes the same time however many rows there are.
+/// SIGMOD 1986). A row is found by its reference, which stays the same while the row lives. No
+/// call but `reserve` takes memory, and each of the others takes the same time however many rows
+/// there are, since the free slots stand on a stack.
 #[derive(Drop)]
 pub struct Partitions {
     slots: Vec<Slot>,
@@ -30,7 +31,8 @@ impl Model for Partitions {
 
     ghost view = { λ p. record { slots = p.slots.items; room = vec_len p.vacant } };
 
-    ghost invariant = { λ p. ListsFree p.slots.items p.vacant.items × (vec_len p.slots ≤ vec_capacity p.vacant) };
+    ghost invariant = { λ p. ListsFree p.slots.items p.vacant.items
+        × (vec_len p.slots ≤ vec_capacity p.vacant) };
 }
 
 impl Partitions {
@@ -56,8 +58,8 @@ impl Partitions {
         }
     }
 
-    /// Makes room for at least `n` rows more. Every row stays as it is, and so does the room that was
-    /// there; `AllocError` where memory is refused.
+    /// Makes room for at least `n` rows more, in whole partitions. Every row stays as it is, and so
+    /// does the room that was there; `AllocError` where memory is refused.
     pub fn reserve(&mut self, _alloc: Global, n: usize) -> Result<(), AllocError>
         ensures ok { OnOk result (n ≤ self.new.room) }
         ensures rows { IsUnchanged self.old self.new }
@@ -76,7 +78,7 @@ impl Partitions {
         Ok(())
     }
 
-    /// Puts a row into a free slot and gives its reference.
+    /// Puts a row into a free slot and gives its reference, whose slot is below 64.
     pub fn place(&mut self, row: Row) -> RowRef
         requires { 1 ≤ self.old.room }
         ensures fresh { slot_at self.old result ≡ Free }
@@ -105,7 +107,8 @@ impl Partitions {
     /// Takes a row out of use. It keeps its slot, so that it can come back.
     pub fn hide(&mut self, at: RowRef)
         requires { IsLive self.old at }
-        ensures hidden { (row : List Value) → slot_at self.old at ≡ Live row → ChangesOnly self.old self.new at (Hidden row) }
+        ensures hidden { (row : List Value) → slot_at self.old at ≡ Live row
+            → ChangesOnly self.old self.new at (Hidden row) }
         ensures room { self.new.room ≡ self.old.room }
     {
         let slot = &mut self.slots[index_of(at)];
@@ -118,7 +121,8 @@ impl Partitions {
     /// Brings a hidden row back into use.
     pub fn unhide(&mut self, at: RowRef)
         requires { IsHidden self.old at }
-        ensures back { (row : List Value) → slot_at self.old at ≡ Hidden row → ChangesOnly self.old self.new at (Live row) }
+        ensures back { (row : List Value) → slot_at self.old at ≡ Hidden row
+            → ChangesOnly self.old self.new at (Live row) }
         ensures room { self.new.room ≡ self.old.room }
     {
         let slot = &mut self.slots[index_of(at)];
@@ -161,8 +165,10 @@ fn add_vacant(vacant: &mut Vec<usize>, start: usize, end: usize)
     requires order { start ≤ end }
     requires room { vec_len vacant.old + (end - start) ≤ vec_capacity vacant.old }
     ensures len { vec_len vacant.new ≡ vec_len vacant.old + (end - start) }
-    ensures kept { (k : ℕ) → k < vec_len vacant.old → slice_index vacant.new.items k ≡ slice_index vacant.old.items k }
-    ensures added { (k : ℕ) → k < end - start → slice_index vacant.new.items (vec_len vacant.old + k) + k + 1 ≡ end }
+    ensures kept { (k : ℕ) → k < vec_len vacant.old
+        → slice_index vacant.new.items k ≡ slice_index vacant.old.items k }
+    ensures added { (k : ℕ) → k < end - start
+        → slice_index vacant.new.items (vec_len vacant.old + k) + k + 1 ≡ end }
     ensures capacity { vec_capacity vacant.old ≤ vec_capacity vacant.new }
 {
     for index in (start..end).rev() {

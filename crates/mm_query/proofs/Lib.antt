@@ -1,4 +1,4 @@
 pub mod Bound
-pub mod ChangeDues
+pub mod Changes
 pub mod Tables
 mod Tuples

@@ -1,13 +1,14 @@
 -- Stored tables by their places in the catalog's order.
-use Rattle.std.proofs.Common.{◌≡◌, ℕ, suc, ◌+◌, Bool, true, false, cond, not, if◌then◌else◌, List, [], ◌∷◌, Option, Some, None, find, map, position, ltb, slice_get, slice_set, refl, sym, ap, subst, ◌∙◌, arith}
+use Rattle.std.proofs.Common.{◌≡◌, ℕ, zero, suc, ◌<◌, option_map, ◌+◌, Bool, true, false, cond, not, if◌then◌else◌, List, [], ◌∷◌, Option, Some, None, find, map, position, length, ltb, slice_get, slice_set, refl, sym, ap, subst, ◌∙◌, arith}
 use Rattle.std.specs.List.{AllByRecursion, IsDistinct, position_or_len}
 use Rattle.std.proofs.lemmas.List.{length-map, map-append}
+use Rattle.std.proofs.lemmas.Option.{slice_get-map}
 use Rattle.std.proofs.lemmas.Map.Keys.{IsDistinct-head, IsDistinct-tail}
 use Rattle.mm_schema.specs.Name.{same_name}
 use Rattle.mm_schema.specs.Schema.{HasDistinctNames, table_place, with_table}
 use Rattle.mm_schema.specs.declared.table.TableDef.{TableDef}
 use Rattle.mm_schema.proofs.NameLemmas.{same_bytes}
-use Rattle.mm_schema.proofs.Places.{find_at_place, find_nowhere, place_from_some}
+use Rattle.mm_schema.proofs.Places.{find_at_place, find_nowhere, place_from_some, within_from_some}
 use Rattle.mm_value.specs.declared.values.Value.{Value}
 use Rattle.mm_query.specs.State.{Stored, State, schema_of, stored_named, with_new_table, with_rows}
 
@@ -40,6 +41,22 @@ stored_at_place name state place h = find_at_place _ state.tables place (sym (pl
 -- A name without a place has no stored table.
 pub stored_nowhere : (name : List ℕ) (state : State) → table_place name (schema_of state) ≡ None → stored_named name state ≡ None
 stored_nowhere name state h = find_nowhere _ state.tables (sym (place_in_state name state) ∙ h)
+
+-- A stored table stands at its table's place.
+pub table_of_stored : (state : State) (place : ℕ) (stored : Stored) → slice_get state.tables place ≡ Some stored
+    → slice_get (schema_of state).tables place ≡ Some stored.table
+table_of_stored state place stored there =
+    slice_get-map (λ s. s.table) state.tables place ∙ ap (option_map (λ s. s.table)) there
+
+some_at : {X : Type 0} (xs : List X) (place : ℕ) → place < length xs → (x : X) × (slice_get xs place ≡ Some x)
+some_at [] place h = absurd (omega arith)
+some_at (x ∷ xs) zero h = (x, refl)
+some_at (x ∷ xs) (suc place) h = some_at xs place (omega arith)
+
+-- There is a stored table at the place of a name.
+pub stored_there : (name : List ℕ) (state : State) (place : ℕ) → table_place name (schema_of state) ≡ Some place
+    → (stored : Stored) × (slice_get state.tables place ≡ Some stored)
+stored_there name state place h = some_at state.tables place (within_from_some _ state.tables place (sym (place_in_state name state) ∙ h))
 
 module _ (name : List ℕ) (change : Edit) where
   abbrev put : Stored → Stored

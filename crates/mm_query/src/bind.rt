@@ -109,3 +109,110 @@ fn has_unequal_pair(columns: &[Column], values: &[Value]) -> bool
         .zip(values)
         .any(|(column, value)| column.col_type != value.col_type())
 }
+
+#[cfg(test)]
+mod tests {
+    use super::*;
+    use mm_schema::{Columns, Role, TableDef};
+    use mm_value::{ColType, Text, Value};
+    use std::process::Abort;
+
+    fn name(rt: &impl Abort, bytes: &[u8]) -> Name {
+        Name::new(bytes).expect(rt, "a name")
+    }
+
+    /// Puts an item at the end, and again where memory was refused.
+    fn put<T: Drop>(rt: &impl Abort, items: &mut Vec<T>, item: T) {
+        if let Err(refused) = items.push(item) {
+            let _ = items.push(refused.value).ok().expect(rt, "memory");
+        }
+    }
+
+    /// A table of two columns of whole numbers, of which the second is the key.
+    fn table(rt: &(impl Abort + AllocGlobal), bytes: &[u8]) -> TableDef {
+        let mut columns = Vec::new(rt.alloc());
+        for (bytes, role) in [(b"a", Role::Plain), (b"b", Role::Key)] {
+            let column = Column {
+                name: name(rt, bytes),
+                col_type: ColType::Int,
+                role,
+            };
+            put(rt, &mut columns, column);
+        }
+        TableDef {
+            name: name(rt, bytes),
+            columns: Columns::new(columns).expect(rt, "a key"),
+        }
+    }
+
+    /// A catalog of the tables t and u.
+    fn catalog(rt: &(impl Abort + AllocGlobal)) -> Catalog {
+        let mut catalog = Catalog::new(rt.alloc());
+        for bytes in [b"t", b"u"] {
+            if catalog.add_table(table(rt, bytes)).is_err() {
+                catalog.add_table(table(rt, bytes)).expect(rt, "memory");
+            }
+        }
+        catalog
+    }
+
+    /// Tuples of whole numbers, and of the text x for each None.
+    fn tuples(rt: &(impl Abort + AllocGlobal), tuples: &[&[Option<i64>]]) -> RowList {
+        let mut rows = Vec::new(rt.alloc());
+        for tuple in tuples {
+            let mut values = Vec::new(rt.alloc());
+            for value in *tuple {
+                let value = match value {
+                    Some(number) => Value::Int(*number),
+                    None => Value::Text(Text::new(rt.alloc(), b"x").expect(rt, "a text")),
+                };
+                put(rt, &mut values, value);
+            }
+            put(rt, &mut rows, Row::new(values));
+        }
+        RowList::new(rows)
+    }
+
+    /// What refuses an INSERT of tuples.
+    fn refusal(
+        rt: &(impl Abort + AllocGlobal),
+        bytes: &[u8],
+        rows: &[&[Option<i64>]],
+    ) -> Option<Refusal> {
+        let mutation = Mutation::Insert {
+            table: name(rt, bytes),
+            tuples: tuples(rt, rows),
+        };
+        bind_change(&catalog(rt), mutation).err()
+    }
+
+    #[test]
+    fn refuses_the_first_that_is_due(rt: HostRuntime) {
+        let int = Some(1);
+        let (missing, mismatch) = (Some(Refusal::NoSuchTable), Some(Refusal::TypeMismatch));
+        let number = Some(Refusal::WrongNumberOfValues);
+        assert_eq!(rt; refusal(&rt, b"v", &[&[None]]), missing);
+        assert_eq!(rt; refusal(&rt, b"t", &[&[int, None]]), mismatch);
+        assert_eq!(rt; refusal(&rt, b"t", &[&[int]]), number);
+        assert_eq!(rt; refusal(&rt, b"t", &[&[int, int], &[]]), number);
+        assert_eq!(rt; refusal(&rt, b"t", &[&[int], &[None, int]]), mismatch);
+        assert_eq!(rt; refusal(&rt, b"t", &[&[int, int, None]]), number);
+        assert_eq!(rt; refusal(&rt, b"t", &[&[None, int, int]]), mismatch);
+        assert_eq!(rt; refusal(&rt, b"t", &[&[int, int]]), None);
+    }
+
+    #[test]
+    fn binds_places(rt: HostRuntime) {
+        let mutation = Mutation::Insert {
+            table: name(&rt, b"u"),
+            tuples: tuples(&rt, &[&[Some(1), Some(2)], &[Some(3), Some(4)]]),
+        };
+        let BoundChange::Insert { table, key, tuples } = bind_change(
+            &catalog(&rt),
+            mutation,
+        ).expect(&rt, "a change");
+        assert_eq!(rt; (table, key), (1, 1));
+        assert_eq!(rt; tuples.as_slice().len(), 2);
+        assert_eq!(rt; tuples.into_vec().len(), 2);
+    }
+}

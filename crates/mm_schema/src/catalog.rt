@@ -98,3 +98,98 @@ impl Catalog {
         self.tables.get_index_of(name)
     }
 }
+
+#[cfg(test)]
+mod tests {
+    use super::*;
+    use crate::column::{Column, Columns, Role};
+    use mm_value::ColType;
+    use std::process::Abort;
+
+    /// A name of two letters, another for each number below 676.
+    fn name_of(rt: &impl Abort, number: u16) -> Name {
+        let bytes = [b'a' + (number / 26 % 26) as u8, b'a' + (number % 26) as u8];
+        Name::new(&bytes).expect(rt, "a name")
+    }
+
+    /// A table with so many columns, of which the first is the key.
+    fn table(rt: &(impl Abort + AllocGlobal), name: u16, columns: u16) -> TableDef {
+        let mut items = Vec::new(rt.alloc());
+        for i in 0..columns {
+            let column = Column {
+                name: name_of(rt, i),
+                col_type: ColType::Int,
+                role: if i == 0 { Role::Key } else { Role::Plain },
+            };
+            // Memory may be refused once.
+            if let Err(refused) = items.push(column) {
+                items.push(refused.value).expect(rt, "memory");
+            }
+        }
+        TableDef {
+            name: name_of(rt, name),
+            columns: Columns::new(items).expect(rt, "a key"),
+        }
+    }
+
+    /// Adds a table, and again where memory was refused.
+    fn add(
+        rt: &(impl Abort + AllocGlobal),
+        catalog: &mut Catalog,
+        name: u16,
+        columns: u16,
+    ) -> Result<(), Refusal> {
+        let first = catalog.add_table(table(rt, name, columns));
+        if first == Err(Refusal::Memory) {
+            return catalog.add_table(table(rt, name, columns));
+        }
+        first
+    }
+
+    #[test]
+    fn keeps_the_limits(rt: HostRuntime) {
+        let mut catalog = Catalog::new(rt.alloc());
+        assert_eq!(rt; add(&rt, &mut catalog, 0, 17), Err(Refusal::TooMany));
+        for i in 0..64 {
+            assert_eq!(rt; add(&rt, &mut catalog, i, 16), Ok(()));
+        }
+        assert_eq!(rt; add(&rt, &mut catalog, 64, 1), Err(Refusal::TooMany));
+        assert_eq!(rt; add(&rt, &mut catalog, 63, 17), Err(Refusal::NameTaken));
+        assert_eq!(rt; catalog.place_of(&name_of(&rt, 63)), Some(63));
+        assert_eq!(rt; catalog.place_of(&name_of(&rt, 64)), None);
+    }
+
+    #[test]
+    fn refuses_columns_of_one_name(rt: HostRuntime) {
+        let mut twins = Vec::new(rt.alloc());
+        for role in [Role::Key, Role::Plain] {
+            let column = Column {
+                name: name_of(&rt, 1),
+                col_type: ColType::Text,
+                role,
+            };
+            if let Err(refused) = twins.push(column) {
+                twins.push(refused.value).expect(&rt, "memory");
+            }
+        }
+        let definition = TableDef {
+            name: name_of(&rt, 0),
+            columns: Columns::new(twins).expect(&rt, "a key"),
+        };
+        let mut catalog = Catalog::new(rt.alloc());
+        assert_eq!(rt; catalog.add_table(definition), Err(Refusal::NameTaken));
+    }
+
+    #[test]
+    fn finds_tables_by_name_and_place(rt: HostRuntime) {
+        let mut catalog = Catalog::new(rt.alloc());
+        assert_eq!(rt; add(&rt, &mut catalog, 7, 1), Ok(()));
+        assert_eq!(rt; add(&rt, &mut catalog, 5, 2), Ok(()));
+        assert_eq!(rt; catalog.place_of(&name_of(&rt, 5)), Some(1));
+        let found = catalog.find_table(&name_of(&rt, 5)).expect(&rt, "a table");
+        assert_eq!(rt; found.definition.columns.as_slice().len(), 2);
+        assert!(rt; catalog.find_table(&name_of(&rt, 6)).is_none());
+        let first = catalog.place_of(&name_of(&rt, 7)).expect(&rt, "a table");
+        assert_eq!(rt; catalog.table_at(first).definition.name, name_of(&rt, 7));
+    }
+}

@@ -124,3 +124,41 @@ fn has_name(columns: &[Column], name: &Name) -> bool
 {
     columns.iter().any(|column| *name == column.name)
 }
+
+#[cfg(test)]
+mod tests {
+    use super::*;
+    use std::process::Abort;
+
+    fn columns(rt: &(impl Abort + AllocGlobal), items: &[(&[u8], Role)]) -> Option<Columns> {
+        let mut columns = Vec::new(rt.alloc());
+        for (name, role) in items {
+            let column = Column {
+                name: Name::new(name).expect(rt, "a name"),
+                col_type: ColType::Int,
+                role: *role,
+            };
+            // Memory may be refused once.
+            if let Err(refused) = columns.push(column) {
+                columns.push(refused.value).expect(rt, "memory");
+            }
+        }
+        Columns::new(columns)
+    }
+
+    #[test]
+    fn has_one_key(rt: HostRuntime) {
+        let plain = (b"a".as_slice(), Role::Plain);
+        let key = (b"b".as_slice(), Role::Key);
+        assert!(rt; columns(&rt, &[]).is_none());
+        assert!(rt; columns(&rt, &[plain]).is_none());
+        assert!(rt; columns(&rt, &[key, plain, key]).is_none());
+        let found = columns(&rt, &[plain, key]).expect(&rt, "one key");
+        assert_eq!(rt; found.key(), 1);
+        assert_eq!(rt; found.as_slice().len(), 2);
+        assert!(rt; !found.as_slice()[0].is_key());
+        assert!(rt; !found.has_twins());
+        let twins = columns(&rt, &[key, plain, plain]).expect(&rt, "one key");
+        assert!(rt; twins.has_twins());
+    }
+}

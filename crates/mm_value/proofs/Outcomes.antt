@@ -21,7 +21,7 @@ Outcome bytes (Err e) =
     ((e ≡ Syntax) × ((v : Value) → Spells bytes v → ⊥))
     ⊎ (((e ≡ NumberOutOfRange) × ((z : ℤ) × SpellsInt bytes z × ¬ FitsSigned w64 z))
     ⊎ (((e ≡ TextTooLong) × ((text : List ℕ) × SpellsText bytes text × (64 < length text)))
-    ⊎ ((e ≡ Memory) × ((text : List ℕ) × SpellsText bytes text × (length text ≤ 64)))))
+    ⊎ ((e ≡ Memory) × ((text : List ℕ) × SpellsText bytes text × (16 < length text) × (length text ≤ 64)))))
 
 -- a number past 64 bits is no value within its limit
 range_no_value : (bytes : List ℕ) (z : ℤ) (v : Value) → SpellsInt bytes z → ¬ FitsSigned w64 z → Spells bytes v → IsWithinLimit v → ⊥
@@ -65,7 +65,7 @@ too_long_iff bytes (Err e) (inl h) = (λ f. cc (f, h.0), λ w. absurd (h.1 (Text
 too_long_iff bytes (Err e) (inr (inl h)) = (λ f. cc (f, h.0), λ w. absurd (SpellsInt-no_text bytes h.1.0 w.0 h.1.1 w.1))
 too_long_iff bytes (Err e) (inr (inr (inl h))) = (λ _. h.1, λ _. ap Err h.0)
 too_long_iff bytes (Err e) (inr (inr (inr h))) =
-    (λ f. cc (f, h.0), λ w. absurd (omega (arith, w.2, h.1.2, ap length (SpellsText-unique bytes w.0 h.1.0 w.1 h.1.1))))
+    (λ f. cc (f, h.0), λ w. absurd (omega (arith, w.2, h.1.3, ap length (SpellsText-unique bytes w.0 h.1.0 w.1 h.1.1))))
 
 refusals : (bytes : List ℕ) (r : Result Value Refusal) → Outcome bytes r → IfErr r (λ e. (e ≡ Syntax) ⊎ ((e ≡ NumberOutOfRange) ⊎ ((e ≡ TextTooLong) ⊎ (e ≡ Memory))))
 refusals bytes (Ok v) h = tt
@@ -74,12 +74,12 @@ refusals bytes (Err e) (inr (inl h)) = inr (inl h.0)
 refusals bytes (Err e) (inr (inr (inl h))) = inr (inr (inl h.0))
 refusals bytes (Err e) (inr (inr (inr h))) = inr (inr (inr h.0))
 
-memory : (bytes : List ℕ) (r : Result Value Refusal) → Outcome bytes r → IsErrOf r Memory → (z : ℤ) → SpellsInt bytes z → ⊥
-memory bytes (Ok v) h e z spells = cc (e)
-memory bytes (Err e) (inl h) f z spells = cc (f, h.0)
-memory bytes (Err e) (inr (inl h)) f z spells = cc (f, h.0)
-memory bytes (Err e) (inr (inr (inl h))) f z spells = cc (f, h.0)
-memory bytes (Err e) (inr (inr (inr h))) f z spells = SpellsInt-no_text bytes z h.1.0 spells h.1.1
+memory : (bytes : List ℕ) (r : Result Value Refusal) → Outcome bytes r → IsErrOf r Memory → (text : List ℕ) × SpellsText bytes text × (16 < length text)
+memory bytes (Ok v) h e = cc (e)
+memory bytes (Err e) (inl h) f = cc (f, h.0)
+memory bytes (Err e) (inr (inl h)) f = cc (f, h.0)
+memory bytes (Err e) (inr (inr (inl h))) f = cc (f, h.0)
+memory bytes (Err e) (inr (inr (inr h))) f = (h.1.0, h.1.1, h.1.2)
 
 -- the clauses of a reading
 abbrev pub Clauses : List ℕ → Result Value Refusal → Type 0
@@ -90,7 +90,8 @@ Clauses bytes r = record {
   range : IsErrOf r NumberOutOfRange ↔ ((z : ℤ) × SpellsInt bytes z × ¬ FitsSigned w64 z);
   too_long : IsErrOf r TextTooLong ↔ ((text : List ℕ) × SpellsText bytes text × (64 < length text));
   refusals : IfErr r (λ e. (e ≡ Syntax) ⊎ ((e ≡ NumberOutOfRange) ⊎ ((e ≡ TextTooLong) ⊎ (e ≡ Memory))));
-  memory : IsErrOf r Memory → (z : ℤ) → SpellsInt bytes z → ⊥;
+  memory : IsErrOf r Memory → (text : List ℕ) × SpellsText bytes text × (16 < length text);
+  number : IsErrOf r Memory → (z : ℤ) → SpellsInt bytes z → ⊥;
 }
 
 pub clauses : (bytes : List ℕ) (r : Result Value Refusal) → Outcome bytes r → Clauses bytes r
@@ -102,6 +103,7 @@ clauses bytes r h = record {
   too_long = too_long_iff bytes r h;
   refusals = refusals bytes r h;
   memory = memory bytes r h;
+  number = λ e z spells. let t = memory bytes r h e in SpellsInt-no_text bytes z t.0 spells t.1;
 }
 
 -- after an opening quote
@@ -122,7 +124,7 @@ unclosed bytes body e none (Text text) h = none text (closed bytes body text e h
 pub text_refused : (bytes body : List ℕ) (e : Refusal) → bytes ≡ 39 ∷ body → ReadsText body (Err e) → Outcome bytes (Err e)
 text_refused bytes body e is (inl h) = inl (h.0, unclosed bytes body is h.1)
 text_refused bytes body e is (inr (inl h)) = inr (inr (inl (h.0, (h.1.0, spelled bytes body h.1.0 is h.1.1, h.1.2))))
-text_refused bytes body e is (inr (inr h)) = inr (inr (inr (h.0, (h.1.0, spelled bytes body h.1.0 is h.1.1, h.1.2))))
+text_refused bytes body e is (inr (inr h)) = inr (inr (inr (h.0, (h.1.0, spelled bytes body h.1.0 is h.1.1, h.1.2, h.1.3))))
 
 -- the digits are what stands after a minus, or the bytes, which begin with neither a minus nor a quote
 abbrev pub IsSigned : Bool → List ℕ → List ℕ → Type 0

@@ -8,7 +8,7 @@ use Rattle.mm_value.specs.Watched.{inner_of, has_failed}
 abbrev pub AppendsPrefix : Option (List ℕ) → Option (List ℕ) → List ℕ → Type 0
 AppendsPrefix old new text = (n : ℕ) × (n ≤ length text) × Appends old new (take n text)
 
--- A call writes the text: `contents` gives the bytes that a writer holds, where they are known
+-- What a call does that writes the text; `contents` gives the bytes that a writer holds, where they are known.
 pub record Writes {W T E : Type 0} (contents : W → Option (List ℕ)) (old new : Watched W) (result : Result T E) (text : List ℕ) : Type 0 where
   -- at `Ok` they grow by the text, at an error by some front of it
   pub written : MatchResult result (λ _. Appends (contents (inner_of old)) (contents (inner_of new)) text)

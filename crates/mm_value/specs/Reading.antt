@@ -44,4 +44,4 @@ ReadsText body result = MatchResult result
     (λ text. Closes body text × (length text ≤ 64))
     (λ e. ((e ≡ Syntax) × ((text : List ℕ) → Closes body text → ⊥))
     ⊎ (((e ≡ TextTooLong) × ((text : List ℕ) × Closes body text × (64 < length text)))
-    ⊎ ((e ≡ Memory) × ((text : List ℕ) × Closes body text × (length text ≤ 64)))))
+    ⊎ ((e ≡ Memory) × ((text : List ℕ) × Closes body text × (16 < length text) × (length text ≤ 64)))))

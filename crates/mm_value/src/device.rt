@@ -45,9 +45,9 @@ impl<R: Read> Read for Watched<R> {
         ensures bytes { ReadConsumes (R.remaining (inner_of self.old)) (R.remaining (inner_of self.new)) result buf.new }
         ensures failed { (has_failed self.new ≡ true) ↔ IsErr result }
     {
-        let outcome = self.inner.read(buf);
-        self.failed = outcome.is_err();
-        outcome
+        let given = self.inner.read(buf);
+        self.failed = given.is_err();
+        given
     }
 }
 
@@ -72,9 +72,9 @@ impl<W: Write> Write for Watched<W> {
         ensures bytes { Keeps (W.contents (inner_of self.old)) (W.contents (inner_of self.new)) }
         ensures failed { (has_failed self.new ≡ true) ↔ IsErr result }
     {
-        let outcome = self.inner.flush();
-        self.failed = outcome.is_err();
-        outcome
+        let flushed = self.inner.flush();
+        self.failed = flushed.is_err();
+        flushed
     }
 }
 

@@ -17,7 +17,8 @@ use std::alloc::Global;
 /// Reads the bytes as one literal with nothing beside it: decimal digits, a minus directly before digits,
 /// or a text in quotes with each quote in it doubled.
 /// `Syntax` where they are none, else `NumberOutOfRange` where the number doesn't fit 64 bits and `TextTooLong` where
-/// the text has more than 64 bytes. `Memory` is answered only for texts.
+/// the text has more than 64 bytes. `Memory` is answered
+/// only for texts of more than 16 bytes.
 pub fn read_literal(alloc: Global, bytes: &[u8]) -> Result<Value, Refusal>
     ensures ok { IfOk result (λ value. Spells bytes.now value × IsWithinLimit value) }
     ensures found { (value : Val) → Spells bytes.now value → IsWithinLimit value
@@ -30,8 +31,9 @@ pub fn read_literal(alloc: Global, bytes: &[u8]) -> Result<Value, Refusal>
         ↔ ((text : List ℕ) × SpellsText bytes.now text × (64 < length text)) }
     ensures refusals { IfErr result
         (λ e. (e ≡ Syntax) ⊎ ((e ≡ NumberOutOfRange) ⊎ ((e ≡ TextTooLong) ⊎ (e ≡ Memory)))) }
-    // A number takes no memory.
-    ensures memory { IsErrOf result Refusal.Memory → (z : ℤ) → SpellsInt bytes.now z → ⊥ }
+    ensures memory { IsErrOf result Refusal.Memory
+        → (text : List ℕ) × SpellsText bytes.now text × (16 < length text) }
+    ensures number { IsErrOf result Refusal.Memory → (z : ℤ) → SpellsInt bytes.now z → ⊥ }
 {
     let Some((first, rest)) = bytes.split_first() else {
         return Err(Refusal::Syntax);

@@ -62,9 +62,10 @@ impl Text {
     pub fn copy(&self, alloc: Global) -> Result<Text, Refusal>
         ensures ok { IfOk result (λ text. text ≡ self.now) }
         ensures memory { IfErr result (λ e. e ≡ Memory) }
+        ensures short { length self.now ≤ 16 → IsOk result }
     {
         Ok(Text {
-            bytes: SmallVec::from_slice(alloc, self.bytes.as_slice())?,
+            bytes: SmallVec::from_slice(alloc, self.bytes())?,
         })
     }
 }

@@ -27,7 +27,7 @@ impl Row {
     pub fn new(values: Vec<Value>) -> Row
         ensures { result ≡ values.items }
     {
-        Row { values }
+        Self { values }
     }
 
     /// How many values it has.
@@ -49,7 +49,7 @@ impl Row {
     pub fn values(&self) -> &[Value]
         ensures { result.now ≡ self.now }
     {
-        &self.values
+        self.values.as_slice()
     }
 
     /// A copy. `Memory` is the only refusal.
@@ -57,7 +57,7 @@ impl Row {
         ensures ok { IfOk result (λ row. row ≡ self.now) }
         ensures memory { IfErr result (λ e. e ≡ Memory) }
     {
-        let mut values = Vec::with_capacity(alloc, self.values.len())?;
+        let mut values = Vec::with_capacity(alloc, self.len())?;
         for value in &self.values {
             values.push(value.copy(alloc)?)?;
         }

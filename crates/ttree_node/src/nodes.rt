@@ -200,8 +200,8 @@ impl Subtree {
         node.right = right;
     }
 
-    /// Puts entries before those of the root.
-    pub(crate) fn put_in_front(&mut self, front: &[RowRef])
+    /// Puts entries before those of the root, which has room for them.
+    pub fn put_in_front(&mut self, front: &[RowRef])
         requires { length front.now + length self.old.entries ≤ 16 }
         ensures { self.new ≡ record self.old { entries = front.now ++ self.old.entries } }
     {
@@ -214,8 +214,8 @@ impl Subtree {
         node.entries = entries;
     }
 
-    /// Puts entries behind those of the root.
-    pub(crate) fn put_behind(&mut self, behind: &[RowRef])
+    /// Puts entries behind those of the root, which has room for them.
+    pub fn put_behind(&mut self, behind: &[RowRef])
         requires { length self.old.entries + length behind.now ≤ 16 }
         ensures { self.new ≡ record self.old { entries = self.old.entries ++ behind.now } }
     {

@@ -1,0 +1,138 @@
+//! Tests of what no contract says: that calls succeed where there is memory, what they leave where one
+//! growth is refused, and in which buckets entries stand.
+
+use crate::chains::find;
+use crate::hash_refs::HashRefs;
+use crate::node::NIL;
+use mm_value::RowRef;
+use std::process::Abort;
+use std::test::Fail;
+
+/// A reference into the first partition.
+fn slot(slot: u8) -> RowRef {
+    RowRef { part: 0, slot }
+}
+
+/// Whether the pair stands in this bucket.
+fn stands_in(refs: &HashRefs, bucket: usize, hash: u64, reference: RowRef) -> bool {
+    bucket < refs.heads.len() && find(&refs.nodes, refs.heads.get(bucket), hash, reference) != NIL
+}
+
+/// Inserts where there is room, and fails the test where there is none.
+fn insert(rt: &impl Abort, refs: &mut HashRefs, hash: u64, reference: RowRef) {
+    assert!(rt; refs.spare() > 0, "no room for {hash}");
+    refs.insert(hash, reference);
+}
+
+#[test]
+fn finds_and_removes(rt: HostRuntime) -> Result<(), Fail> {
+    let mut refs = HashRefs::new(rt.alloc());
+    assert_eq!(rt; (refs.len(), refs.spare()), (0, 0));
+    refs.reserve(3)?;
+    insert(&rt, &mut refs, 4, slot(1));
+    insert(&rt, &mut refs, 4, slot(2));
+    insert(&rt, &mut refs, 8, slot(3));
+    assert_eq!(rt; refs.len(), 3);
+
+    let mut found = Vec::new(rt.alloc());
+    refs.matches(4, &mut found)?;
+    assert_eq!(rt; found.len(), 2);
+    assert!(rt; found.contains(&slot(1)) && found.contains(&slot(2)));
+
+    assert!(rt; refs.remove(4, slot(1)));
+    assert!(rt; !refs.remove(4, slot(1)));
+    found.clear();
+    refs.matches(4, &mut found)?;
+    assert_eq!(rt; found.as_slice(), [slot(2)].as_slice());
+
+    found.clear();
+    refs.copy_all(&mut found)?;
+    assert_eq!(rt; found.len(), 2);
+    assert!(rt; found.contains(&slot(2)) && found.contains(&slot(3)));
+    Ok(())
+}
+
+#[test]
+fn splits_and_merges_one_bucket_at_a_time(rt: HostRuntime) -> Result<(), Fail> {
+    let mut refs = HashRefs::new(rt.alloc());
+    refs.reserve(9)?;
+    for hash in 0..9u8 {
+        assert_eq!(rt; refs.heads.len(), 4, "before {hash}");
+        insert(&rt, &mut refs, u64::from(hash), slot(hash));
+    }
+    assert_eq!(rt; refs.heads.len(), 5);
+    for (hash, bucket) in [(8, 0), (0, 0), (4, 4), (5, 1), (1, 1), (7, 3)] {
+        assert!(rt;
+            stands_in(&refs, bucket, u64::from(hash), slot(hash)),
+            "{hash}"
+        );
+    }
+    for hash in 0..6u8 {
+        assert!(rt; refs.remove(u64::from(hash), slot(hash)), "{hash}");
+    }
+    assert_eq!(rt; (refs.len(), refs.heads.len()), (3, 5));
+    assert!(rt; refs.remove(8, slot(8)));
+    assert_eq!(rt; (refs.len(), refs.heads.len()), (2, 4));
+    Ok(())
+}
+
+#[test]
+fn keeps_two_entries_a_bucket_over_many_levels(rt: HostRuntime) -> Result<(), Fail> {
+    let mut refs = HashRefs::new(rt.alloc());
+    refs.reserve(1000)?;
+    for i in 0..1000u64 {
+        insert(
+            &rt,
+            &mut refs,
+            i.wrapping_mul(0x9e37_79b9_7f4a_7c15),
+            slot(7),
+        );
+    }
+    assert_eq!(rt; (refs.len(), refs.heads.len()), (1000, 500));
+    let room = refs.spare();
+    for i in 0..1000u64 {
+        assert!(rt;
+            refs.remove(i.wrapping_mul(0x9e37_79b9_7f4a_7c15), slot(7)),
+            "{i}"
+        );
+    }
+    // From 249 entries on each remove merged one bucket.
+    assert_eq!(rt; (refs.len(), refs.heads.len()), (0, 250));
+    assert_eq!(rt; refs.spare(), room + 1000);
+    Ok(())
+}
+
+// Where the run refuses one allocation, the refused call has changed nothing, and the next one answers.
+#[test]
+fn a_refused_call_can_be_given_again(rt: HostRuntime) -> Result<(), Fail> {
+    let mut refs = HashRefs::new(rt.alloc());
+    for hash in 0..20u8 {
+        if refs.reserve(1).is_err() {
+            assert_eq!(rt; (refs.len(), refs.spare()), (usize::from(hash), 0));
+            refs.reserve(1)?;
+        }
+        insert(&rt, &mut refs, u64::from(hash % 4), slot(hash));
+    }
+    let mut found = Vec::new(rt.alloc());
+    for hash in 0..4u8 {
+        let before = found.len();
+        if refs.matches(u64::from(hash), &mut found).is_err() {
+            assert_eq!(rt; found.len(), before);
+            refs.matches(u64::from(hash), &mut found)?;
+        }
+        assert_eq!(rt; found.len(), usize::from(hash) * 5 + 5);
+    }
+    if refs.copy_all(&mut found).is_err() {
+        assert_eq!(rt; found.len(), 20);
+        refs.copy_all(&mut found)?;
+    }
+    assert_eq!(rt; found.len(), 40);
+    for hash in 0..20u8 {
+        assert_eq!(rt;
+            found.iter().filter(|r| **r == slot(hash)).count(),
+            2,
+            "{hash}"
+        );
+    }
+    Ok(())
+}

@@ -1,0 +1,73 @@
+-- What a line reads as.
+use Rattle.std.specs.Prelude.{◌≡◌, ◌⊎◌, ℕ, ◌==◌, ◌^◌, Bool, not, false, ◌||◌, ◌&&◌, if◌then◌else◌, List, [], ◌∷◌, Option, Some, None, Result, Ok, Err, length, nat_lt, IsTrue}
+use Rattle.std.specs.List.{list_all, flat_map}
+use Rattle.std.proofs.Math.IntN.{ℤ, pos, negsuc}
+use Rattle.mm_value.specs.declared.refusal.Refusal.{Refusal}
+use Rattle.mm_value.specs.declared.refusal.Refusal.TheVariants.{LineTooLong, Syntax, NumberOutOfRange, TextTooLong, Memory}
+use Rattle.mm_value.specs.declared.values.Value.{Value}
+use Rattle.mm_value.specs.declared.values.Value.TheVariants.{Int, Text}
+use Rattle.mm_query.specs.declared.command.Command.{Command}
+use Rattle.mm_query.specs.declared.command.Command.TheVariants.{Nothing, Define, Change, Scan}
+use Rattle.mm_query.specs.declared.command.Mutation.TheVariants.{Insert}
+use Rattle.mm_lang.specs.Grammar.{command_of}
+use Rattle.mm_lang.specs.Tokens.{tokens, is_blank}
+
+-- a whole number of 64 bits
+abbrev pub fits_64_bits : ℤ → Bool
+fits_64_bits (pos n) = nat_lt n (2 ^ 63)
+fits_64_bits (negsuc n) = nat_lt n (2 ^ 63)
+
+-- the refusal of a literal past its limit
+abbrev pub literal_fault : Value → Option Refusal
+literal_fault (Int z) = if fits_64_bits z then None else Some NumberOutOfRange
+literal_fault (Text text) = if nat_lt 64 (length text) then Some TextTooLong else None
+
+-- the first of them
+abbrev pub or_else : Option Refusal → Option Refusal → Option Refusal
+or_else (Some refusal) other = Some refusal
+or_else None other = other
+
+abbrev pub first_fault : List Value → Option Refusal
+first_fault [] = None
+first_fault (v ∷ vs) = or_else (literal_fault v) (first_fault vs)
+
+-- the literals of a command, from left to right
+abbrev pub literals_of : Command → List Value
+literals_of Nothing = []
+literals_of (Define definition) = []
+literals_of (Change (Insert table tuples)) = flat_map (λ tuple. tuple) tuples
+literals_of (Scan table) = []
+
+-- whether there is a reading comes first, and then the first number or text past its limit
+abbrev pub within_limits : Command → Option Refusal → Result Command Refusal
+within_limits command (Some refusal) = Err refusal
+within_limits command None = Ok command
+
+abbrev pub read_as : Option Command → Result Command Refusal
+read_as None = Err Syntax
+read_as (Some command) = within_limits command (first_fault (literals_of command))
+
+-- two minus signs
+abbrev pub is_comment : List ℕ → Bool
+is_comment [] = false
+is_comment (a ∷ []) = false
+is_comment (a ∷ b ∷ bs) = (a == 45) && (b == 45)
+
+-- an empty line or a comment
+abbrev pub is_nothing : List ℕ → Bool
+is_nothing line = list_all is_blank line || is_comment line
+
+-- What a line reads as, without its line feed and carriage return.
+unfoldable pub reading : List ℕ → Result Command Refusal
+reading line =
+    if nat_lt 4096 (length line) then Err LineTooLong
+    else (if is_nothing line then Ok Nothing else read_as (command_of (tokens line)))
+
+-- A line takes memory unless it is too long, empty or a comment.
+abbrev pub takes_memory : List ℕ → Bool
+takes_memory line = not (nat_lt 4096 (length line)) && not (is_nothing line)
+
+-- A call answers the reading of a line, or want of memory in its place where the line takes memory.
+abbrev pub Reads : List ℕ → Result Command Refusal → Type 0
+Reads line (Ok command) = reading line ≡ Ok command
+Reads line (Err refusal) = (reading line ≡ Err refusal) ⊎ ((refusal ≡ Memory) × IsTrue (takes_memory line))

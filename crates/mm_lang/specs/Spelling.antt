@@ -1,0 +1,71 @@
+-- The grammar: how commands are spelled.
+use Rattle.std.specs.Prelude.{◌≡◌, List, [], ◌∷◌, ◌++◌, pos}
+use Rattle.std.specs.Str.Parse.{digits_value}
+use Rattle.std.proofs.Math.IntN.{neg_ℤ}
+use Rattle.mm_schema.specs.Columns.{key_count}
+use Rattle.mm_schema.specs.Name.{IsName}
+use Rattle.mm_schema.specs.declared.column.Column.{Column}
+use Rattle.mm_schema.specs.declared.column.Role.{Role}
+use Rattle.mm_schema.specs.declared.column.Role.TheVariants as role
+use Rattle.mm_value.specs.Literal.{IsNumeral}
+use Rattle.mm_value.specs.declared.col_type.ColType.{ColType}
+use Rattle.mm_value.specs.declared.col_type.ColType.TheVariants as type
+use Rattle.mm_value.specs.declared.values.Value.{Value}
+use Rattle.mm_value.specs.declared.values.Value.TheVariants as value
+use Rattle.mm_query.specs.declared.command.Command.{Command}
+use Rattle.mm_query.specs.declared.command.Command.TheVariants as command
+use Rattle.mm_query.specs.declared.command.Definition.TheVariants as define
+use Rattle.mm_query.specs.declared.command.Mutation.TheVariants as change
+use Rattle.mm_lang.specs.declared.keyword.Keyword.{Keyword}
+use Rattle.mm_lang.specs.declared.keyword.Keyword.TheVariants as keyword
+use Rattle.mm_lang.specs.declared.token.Symbol.TheVariants.{Open, Close, Comma}
+use Rattle.mm_lang.specs.Tokens.{Token, Word, Signed, Quoted, Mark}
+use Rattle.mm_lang.specs.Words.{keyword_text}
+
+abbrev pub word : Keyword → Token
+word keyword = Word (keyword_text keyword)
+
+-- A literal: digits, digits directly behind a minus, or a text in quotes.
+abbrev pub SpellsLiteral : Token → Value → Type 0
+SpellsLiteral (Word digits) (value.Int z) = IsNumeral digits × (z ≡ pos (digits_value 10 digits))
+SpellsLiteral (Signed digits) (value.Int z) = IsNumeral digits × (z ≡ neg_ℤ (pos (digits_value 10 digits)))
+SpellsLiteral (Quoted said) (value.Text text) = text ≡ said
+SpellsLiteral token literal = ⊥
+
+-- x, .. : one or more, a comma between each two
+abbrev pub SpellsList : {A : Type 0} → (List Token → A → Type 0) → List Token → List A → Type 0
+SpellsList Spells ts [] = ⊥
+SpellsList Spells ts (x ∷ []) = Spells ts x
+SpellsList Spells ts (x ∷ y ∷ xs) =
+    (first others : List Token) × Spells first x × SpellsList Spells others (y ∷ xs) × (ts ≡ first ++ Mark Comma ∷ others)
+
+-- tuple = ( literal, .. )
+abbrev pub SpellsTuple : List Token → List Value → Type 0
+SpellsTuple ts values =
+    (inner : List Token) × SpellsList (λ us v. (t : Token) × SpellsLiteral t v × (us ≡ t ∷ [])) inner values × (ts ≡ Mark Open ∷ inner ++ Mark Close ∷ [])
+
+-- type = INT | TEXT
+abbrev pub type_word : ColType → Keyword
+type_word type.Int = keyword.Int
+type_word type.Text = keyword.Text
+
+-- coldef = name type [KEY]
+abbrev pub role_tokens : Role → List Token
+role_tokens role.Key = word keyword.Key ∷ []
+role_tokens role.Plain = []
+
+abbrev pub SpellsColumn : List Token → Column → Type 0
+SpellsColumn ts column =
+    IsName column.name × (ts ≡ Word column.name ∷ word (type_word column.col_type) ∷ role_tokens column.role)
+
+-- command = TABLE name ( coldef, .. ) with exactly one KEY
+--         | INSERT name tuple, ..
+--         | SCAN name
+abbrev pub SpellsCommand : List Token → Command → Type 0
+SpellsCommand ts command.Nothing = ⊥
+SpellsCommand ts (command.Define (define.Table definition)) =
+    (inner : List Token) × IsName definition.name × (key_count definition.columns ≡ 1) × SpellsList SpellsColumn inner definition.columns
+    × (ts ≡ word keyword.Table ∷ Word definition.name ∷ Mark Open ∷ inner ++ Mark Close ∷ [])
+SpellsCommand ts (command.Change (change.Insert table tuples)) =
+    (inner : List Token) × IsName table × SpellsList SpellsTuple inner tuples × (ts ≡ word keyword.Insert ∷ Word table ∷ inner)
+SpellsCommand ts (command.Scan table) = IsName table × (ts ≡ word keyword.Scan ∷ Word table ∷ [])

@@ -1,0 +1,83 @@
+//! The keywords.
+ghost use Rattle.std.specs.Prelude.{◌≡◌};
+ghost use Rattle.mm_lang.specs.Words.{is_word, keyword_text};
+
+/// A word in upper case that is no name.
+#[derive(Clone, Copy, Debug, PartialEq, Eq)]
+pub enum Keyword {
+    And,
+    Begin,
+    Commit,
+    Delete,
+    Distinct,
+    Drop,
+    Explain,
+    From,
+    Hash,
+    Index,
+    Insert,
+    Int,
+    Key,
+    On,
+    Order,
+    Ref,
+    Rollback,
+    Scan,
+    Select,
+    Set,
+    Show,
+    Table,
+    Tables,
+    Text,
+    Tree,
+    Unwatch,
+    Update,
+    Watch,
+    Where,
+}
+
+impl Keyword {
+    /// How it is written.
+    pub fn text(self) -> &'static [u8]
+        ensures { result.now ≡ keyword_text self }
+    {
+        match self {
+            Keyword::And => b"AND",
+            Keyword::Begin => b"BEGIN",
+            Keyword::Commit => b"COMMIT",
+            Keyword::Delete => b"DELETE",
+            Keyword::Distinct => b"DISTINCT",
+            Keyword::Drop => b"DROP",
+            Keyword::Explain => b"EXPLAIN",
+            Keyword::From => b"FROM",
+            Keyword::Hash => b"HASH",
+            Keyword::Index => b"INDEX",
+            Keyword::Insert => b"INSERT",
+            Keyword::Int => b"INT",
+            Keyword::Key => b"KEY",
+            Keyword::On => b"ON",
+            Keyword::Order => b"ORDER",
+            Keyword::Ref => b"REF",
+            Keyword::Rollback => b"ROLLBACK",
+            Keyword::Scan => b"SCAN",
+            Keyword::Select => b"SELECT",
+            Keyword::Set => b"SET",
+            Keyword::Show => b"SHOW",
+            Keyword::Table => b"TABLE",
+            Keyword::Tables => b"TABLES",
+            Keyword::Text => b"TEXT",
+            Keyword::Tree => b"TREE",
+            Keyword::Unwatch => b"UNWATCH",
+            Keyword::Update => b"UPDATE",
+            Keyword::Watch => b"WATCH",
+            Keyword::Where => b"WHERE",
+        }
+    }
+
+    /// Whether a word is this keyword.
+    pub(crate) fn is_word(self, word: &[u8]) -> bool
+        ensures { result ≡ is_word self word.now }
+    {
+        word == self.text()
+    }
+}

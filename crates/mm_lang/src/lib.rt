@@ -1,0 +1,20 @@
+//! The command language: what a line reads as, and the text of a reply.
+#![tactic(auto)]
+
+mod grammar;
+mod keyword;
+mod phrase;
+mod reading;
+mod reply_text;
+mod token;
+mod tuples;
+
+pub use grammar::grammar_is_exact;
+pub use keyword::Keyword;
+pub use mm_query::{Command, Reply};
+pub use reading::{MAX_LINE_BYTES, parse};
+pub use reply_text::{replies_are_told_apart, write_reply, write_rows};
+pub use token::Symbol;
+
+#[cfg(test)]
+mod tests;

@@ -1,0 +1,10 @@
+-- No rows are in order.
+use Rattle.std.proofs.Common.{sym, subst}
+use Rattle.mmdb_core.specs.KeyedRows.{IsInKeyOrder}
+use Rattle.mmdb_core.proofs.StrictOrder.{IsStrictlySortedBy-nil}
+use Rattle.mmdb_core.proofs.Twins.{column_cmp_total}
+use Rattle.mmdb_core.proofs.keyed_rows.KeyedRows.new.Goals as goal
+
+pub invariant_of-result : goal.invariant_of-result
+invariant_of-result c =
+    subst (IsInKeyOrder c.args.key) (sym c.new.ensures.items) (IsStrictlySortedBy-nil (column_cmp_total c.args.key))

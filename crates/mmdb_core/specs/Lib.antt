@@ -1,0 +1,10 @@
+pub mod Database
+pub mod Feeds
+pub mod Input
+pub mod KeyedRows
+pub mod Respond
+pub mod Run
+pub mod Scanned
+pub mod Status
+pub mod Taken
+pub mod Window

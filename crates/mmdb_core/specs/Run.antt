@@ -1,0 +1,77 @@
+-- A run of the machine of row lists over the lines of an input.
+use Rattle.std.specs.Prelude.{◌≡◌, ◌↔◌, ℕ, ◌+◌, ◌<◌, ◌≤◌, Bool, true, false, ◌&&◌, if◌then◌else◌, List, [], ◌∷◌, ◌++◌, length, Option, Some, None, Result, Ok, Err}
+use Rattle.std.specs.Io.KnownBytes.{Appends, Consumes}
+use Rattle.mm_lang.specs.Lines.{lines_of}
+use Rattle.mm_lang.specs.Reading.{reading, takes_memory}
+use Rattle.mm_lang.specs.ReplyText.{reply_text}
+use Rattle.mm_value.specs.Watched.{inner_of}
+use Rattle.mm_value.specs.declared.device.Watched.{Watched}
+use Rattle.mm_value.specs.declared.refusal.Refusal.{Refusal}
+use Rattle.mm_value.specs.declared.refusal.Refusal.TheVariants.{Memory}
+use Rattle.mm_query.specs.Machine.{Outcome, step}
+use Rattle.mm_query.specs.State.{State, first_state}
+use Rattle.mm_query.specs.declared.command.Command.{Command}
+use Rattle.mm_query.specs.declared.reply.Reply.{Reply}
+use Rattle.mm_query.specs.declared.reply.Reply.TheVariants.{Done, Count, Rows, Refused}
+use Rattle.mmdb_core.specs.declared.limits.Totals.{Totals}
+
+-- A refusal is the reply, and the state stays.
+abbrev pub refused_outcome : Refusal → State → Outcome
+refused_outcome refusal state = record { reply = Some (Refused refusal); state = state }
+
+-- What a reading leads to: a step, or its refusal.
+abbrev pub outcome_of : Result Command Refusal → State → Outcome
+outcome_of (Ok command) state = step command state
+outcome_of (Err refusal) state = refused_outcome refusal state
+
+-- What a line leads to. Where memory is refused to it and it takes memory, that is the reply, and the state stays.
+abbrev pub answer : Bool → List ℕ → State → Outcome
+answer is_refused line state =
+    if is_refused && takes_memory line then refused_outcome Memory state else outcome_of (reading line) state
+
+-- The text of a reply, if there is one.
+abbrev pub text_of : Option Reply → List ℕ
+text_of None = []
+text_of (Some reply) = reply_text reply
+
+-- The reply is an `error`.
+abbrev pub is_error : Option Reply → Bool
+is_error None = false
+is_error (Some Done) = false
+is_error (Some (Count n)) = false
+is_error (Some (Rows rows)) = false
+is_error (Some (Refused refusal)) = true
+
+-- What a run writes, and how many of its replies are an `error`.
+pub record Transcript : Type 0 where
+  pub text : List ℕ
+  pub refused : ℕ
+
+-- One reply, and then the others.
+abbrev pub before_others : Option Reply → Transcript → Transcript
+before_others reply others =
+    record { text = text_of reply ++ others.text; refused = (if is_error reply then 1 else 0) + others.refused }
+
+-- The run over some lines. To each line a choice says whether memory is refused to it; without one it isn't.
+unfoldable pub transcript : List Bool → State → List (List ℕ) → Transcript
+transcript choices state [] = record { text = []; refused = 0 }
+transcript [] state (line ∷ lines) =
+    before_others (answer false line state).reply (transcript [] (answer false line state).state lines)
+transcript (choice ∷ choices) state (line ∷ lines) =
+    before_others (answer choice line state).reply (transcript choices (answer choice line state).state lines)
+
+-- What was appended are the replies of a run of the machine on the input's lines, in order, and nothing else; the
+-- totals count the lines and the `error` replies.
+pub record Answers (input : List ℕ) (old new : Option (List ℕ)) (totals : Totals) : Type 0 where
+  pub choices : List Bool
+  pub written : Appends old new (transcript choices first_state (lines_of input)).text
+  pub lines : totals.lines ≡ length (lines_of input)
+  pub refused : totals.refused ≡ (transcript choices first_state (lines_of input)).refused
+
+-- At most one byte more than the limit was taken, and the input was too long exactly where more than the limit was taken
+-- and the writer did not fail.
+pub record TakesWithin {R : Type 0} (remaining : R → Option (List ℕ)) (old new : Watched R) (limit : ℕ) (IsTooLong IsUnfailed : Type 0) : Type 0 where
+  pub bytes : List ℕ
+  pub consumed : Consumes (remaining (inner_of old)) (remaining (inner_of new)) bytes
+  pub within : length bytes ≤ limit + 1
+  pub too_long : IsTooLong ↔ ((limit < length bytes) × IsUnfailed)

@@ -1,0 +1,13 @@
+-- What was taken from the reader.
+use Rattle.std.specs.Prelude.{◌≡◌, ℕ, List, ◌++◌, length, Option}
+use Rattle.std.specs.Io.KnownBytes.{Consumes, IsAtEnd}
+use Rattle.mm_value.specs.Watched.{inner_of}
+use Rattle.mm_value.specs.declared.device.Watched.{Watched}
+
+-- So many bytes were taken from the reader and put behind those that were there. None were only at the end.
+pub record Takes {R : Type 0} (remaining : R → Option (List ℕ)) (reader after : Watched R) (old new : List ℕ) (n : ℕ) : Type 0 where
+  pub bytes : List ℕ
+  pub count : length bytes ≡ n
+  pub behind : new ≡ old ++ bytes
+  pub consumed : Consumes (remaining (inner_of reader)) (remaining (inner_of after)) bytes
+  pub at_end : n ≡ 0 → IsAtEnd (remaining (inner_of after))

@@ -1,0 +1,129 @@
+//! One line and its reply.
+ghost use Rattle.std.specs.Prelude.{◌≡◌, Some, None, Ok, false, true, IfOk, OnOk, is_err, IsErr};
+ghost use Rattle.std.specs.Io.KnownBytes.{Keeps};
+ghost use Rattle.mm_lang.specs.ReplyText.{reply_text};
+ghost use Rattle.mm_lang.specs.Lines.{without_return};
+ghost use Rattle.mm_value.specs.Device.{Writes};
+ghost use Rattle.mm_value.specs.Watched.{inner_of, has_failed};
+ghost use Rattle.mm_query.specs.declared.command.Command.TheVariants.{Define, Change, Scan};
+ghost use Rattle.mmdb_core.specs.Respond.{AnswersLine, IsStep, RespondsTo};
+ghost use Rattle.mmdb_core.specs.Run.{is_error};
+
+use crate::database::Database;
+use mm_lang::{Command, Reply, parse, write_reply, write_rows};
+use mm_query::{Definition, Mutation};
+use mm_schema::Name;
+use mm_value::{Refusal, Watched, WriteFault};
+use std::alloc::Global;
+use std::io::Write;
+
+/// A line without the carriage return at its end.
+pub(crate) fn without_return(line: &[u8]) -> &[u8]
+    ensures { result.now ≡ without_return line.now }
+{
+    let Some((last, front)) = line.split_last() else {
+        return line;
+    };
+    if *last == b'\r' { front } else { line }
+}
+
+/// Answers a line, and tells whether the reply is an `error`.
+pub(crate) fn answer_line<W: Write>(
+    alloc: Global,
+    database: &mut Database,
+    line: &[u8],
+    writer: &mut Watched<W>,
+) -> Result<bool, WriteFault>
+    requires { has_failed writer.old ≡ false }
+    ensures ok { IfOk result (AnswersLine W.contents writer.old writer.new line.now database.old database.new) }
+    ensures failed { has_failed writer.new ≡ is_err result }
+{
+    let command = parse(alloc, line);
+    respond(alloc, database, command, writer)
+}
+
+/// Does what was read, if it is a command, and answers it.
+fn respond<W: Write>(
+    alloc: Global,
+    database: &mut Database,
+    command: Result<Command, Refusal>,
+    writer: &mut Watched<W>,
+) -> Result<bool, WriteFault>
+    requires { has_failed writer.old ≡ false }
+    ensures ok { IfOk result (RespondsTo W.contents writer.old writer.new command database.old database.new) }
+    ensures failed { has_failed writer.new ≡ is_err result }
+{
+    let reply = match command {
+        Ok(Command::Nothing) => return Ok(false),
+        Ok(Command::Scan(table)) => return answer_scan(database, &table, writer),
+        Ok(Command::Define(definition)) => define(alloc, database, definition),
+        Ok(Command::Change(mutation)) => change(database, mutation),
+        Err(refusal) => Reply::Refused(refusal),
+    };
+    send(&reply, writer)
+}
+
+/// Changes the catalog.
+fn define(alloc: Global, database: &mut Database, definition: Definition) -> Reply
+    ensures { IsStep (Define definition) database.old (record { reply = Some result; state = database.new }) }
+{
+    let added = match definition {
+        Definition::Table(definition) => database.add_table(alloc, definition),
+    };
+    match added {
+        Ok(()) => Reply::Done,
+        Err(refusal) => Reply::Refused(refusal),
+    }
+}
+
+/// Changes rows.
+fn change(database: &mut Database, mutation: Mutation) -> Reply
+    ensures { IsStep (Change mutation) database.old (record { reply = Some result; state = database.new }) }
+{
+    match database.change(mutation) {
+        Ok(count) => Reply::Count(count),
+        Err(refusal) => Reply::Refused(refusal),
+    }
+}
+
+/// Answers the rows of a table, which are written from where they lie.
+fn answer_scan<W: Write>(
+    database: &Database,
+    table: &Name,
+    writer: &mut Watched<W>,
+) -> Result<bool, WriteFault>
+    requires { has_failed writer.old ≡ false }
+    ensures ok { IfOk result (RespondsTo W.contents writer.old writer.new (Ok (Scan table.now)) database.now database.now) }
+    ensures failed { has_failed writer.new ≡ is_err result }
+{
+    match database.scan(table) {
+        Ok(rows) => {
+            write_rows(rows, writer)?;
+            flush(writer)?;
+            Ok(false)
+        }
+        Err(refusal) => send(&Reply::Refused(refusal), writer),
+    }
+}
+
+/// Writes a reply and flushes it, and tells whether it is an `error`.
+pub(crate) fn send<W: Write>(reply: &Reply, writer: &mut Watched<W>) -> Result<bool, WriteFault>
+    requires { has_failed writer.old ≡ false }
+    ensures written { Writes W.contents writer.old writer.new result (reply_text reply.now) }
+    ensures refused { IfOk result (λ refused. refused ≡ is_error (Some reply.now)) }
+{
+    write_reply(reply, writer)?;
+    flush(writer)?;
+    Ok(matches!(reply, Reply::Refused(_)))
+}
+
+/// Flushes what was written.
+fn flush<W: Write>(writer: &mut Watched<W>) -> Result<(), WriteFault>
+    ensures kept { Keeps (W.contents (inner_of writer.old)) (W.contents (inner_of writer.new)) }
+    ensures failed { has_failed writer.new ≡ is_err result }
+{
+    match writer.flush() {
+        Ok(()) => Ok(()),
+        Err(_) => Err(WriteFault),
+    }
+}

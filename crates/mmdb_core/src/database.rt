@@ -1,0 +1,86 @@
+//! The database: its calls are steps of the machine of row lists.
+ghost use Rattle.std.specs.Prelude.{◌≡◌, Some, None, IfOk, OnOk, OnErr, MatchResult, length};
+ghost use Rattle.mm_schema.specs.Refused.{AnswersDue, first_refusal};
+ghost use Rattle.mm_schema.specs.Schema.{table_conditions};
+ghost use Rattle.mm_value.specs.declared.refusal.Refusal.TheVariants.{NoSuchTable};
+ghost use Rattle.mm_query.specs.Edits.{edits};
+ghost use Rattle.mm_query.specs.Machine.{after_change, change_conditions};
+ghost use Rattle.mm_query.specs.State.{first_state, schema_of, stored_named, with_new_table};
+ghost use Rattle.mmdb_core.specs.Scanned.{IsScan};
+
+use crate::keyed_rows::KeyedRows;
+use mm_query::{BoundChange, Mutation, bind_change};
+use mm_schema::{Catalog, Name, TableDef};
+use mm_value::{Refusal, Row};
+use std::alloc::Global;
+use std::marker::Model;
+
+/// The tables and their rows. A refused call changes nothing.
+#[derive(Drop)]
+pub(crate) struct Database {
+    catalog: Catalog,
+    rows: Vec<KeyedRows>,
+}
+
+impl Model for Database {
+    ghost use Rattle.mm_query.specs.State.{State};
+    ghost use Rattle.mmdb_core.specs.Database.{AreRowsOf, stored};
+
+    ghost Value = { State };
+
+    ghost view = { λ d. record { tables = stored d.catalog.tables d.rows.items } };
+
+    ghost invariant = { λ d. AreRowsOf d.catalog.tables d.rows.items };
+}
+
+impl Database {
+    /// A database with nothing in it. It takes no memory.
+    pub(crate) fn new(alloc: Global) -> Database
+        ensures { result ≡ first_state }
+    {
+        Database {
+            catalog: Catalog::new(alloc),
+            rows: Vec::new(alloc),
+        }
+    }
+
+    /// Adds a table with no rows, which comes last. The refusals are those of the catalog.
+    pub(crate) fn add_table(&mut self, alloc: Global, definition: TableDef) -> Result<(), Refusal>
+        ensures due { AnswersDue (first_refusal (table_conditions definition (schema_of self.old))) result }
+        ensures ok { OnOk result (self.new ≡ with_new_table definition self.old) }
+        ensures err { OnErr result (self.new ≡ self.old) }
+    {
+        self.rows.reserve(1)?;
+        let key = definition.columns.key();
+        self.catalog.add_table(definition)?;
+        self.rows.push(KeyedRows::new(alloc, key)).unwrap();
+        Ok(())
+    }
+
+    /// Changes the rows of a table, and tells how many rows that concerned. The first refusal that is due is answered:
+    /// those of `bind_change`, `DuplicateKey`, `TableFull`; or `Memory` in its place or in that of success.
+    pub(crate) fn change(&mut self, mutation: Mutation) -> Result<usize, Refusal>
+        ensures due { AnswersDue (first_refusal (change_conditions mutation self.old)) result }
+        ensures ok { OnOk result (self.new ≡ after_change mutation self.old) }
+        ensures count { IfOk result (λ count. count ≡ length (edits mutation)) }
+        ensures err { OnErr result (self.new ≡ self.old) }
+    {
+        match bind_change(&self.catalog, mutation)? {
+            BoundChange::Insert { table, tuples, .. } => {
+                let fresh = tuples.into_vec();
+                let count = fresh.len();
+                self.rows[table].add_all(fresh)?;
+                Ok(count)
+            }
+        }
+    }
+
+    /// The rows of a table in key order. `NoSuchTable` where the catalog has no table of the name.
+    pub(crate) fn scan(&self, table: &Name) -> Result<&[Row], Refusal>
+        ensures { IsScan result (stored_named table.now self.now) }
+    {
+        let place = self.catalog.place_of(table).ok_or(Refusal::NoSuchTable)?;
+        let rows = &self.rows[place];
+        Ok(rows.as_slice())
+    }
+}

@@ -1,0 +1,17 @@
+//! The database behind its command language: a script is read line by line, and each line gets its reply.
+#![tactic(auto)]
+
+mod answer;
+mod database;
+mod fault;
+mod input;
+mod key_order;
+mod keyed_rows;
+mod limits;
+mod merge;
+mod run_script;
+mod window;
+
+pub use fault::{RunFault, exit_status};
+pub use limits::{Limits, MAX_MAX_INPUT, Totals};
+pub use run_script::run;

@@ -1,0 +1,91 @@
+//! A run of the database over an input.
+ghost use Rattle.std.specs.Prelude.{◌≡◌, ◌+◌, ◌<◌, ◌↔◌, false, true, IfOk, IfErr, IfSome, OnOk, IsErrOf, MatchOption};
+ghost use Rattle.mm_value.specs.Watched.{inner_of, has_failed};
+ghost use Rattle.mmdb_core.specs.Input.{TakesAllowed, bytes_to_come, left_of};
+ghost use Rattle.mmdb_core.specs.Respond.{AnswersNext, BreaksOff, EndsAll};
+ghost use Rattle.mmdb_core.specs.Run.{Answers, TakesWithin};
+
+use crate::answer::{answer_line, send, without_return};
+use crate::database::Database;
+use crate::fault::RunFault;
+use crate::input::{Input, Next};
+use crate::limits::{Limits, Totals};
+use mm_lang::Reply;
+use mm_value::{Refusal, Watched};
+use std::alloc::Global;
+use std::io::{Read, Write};
+
+/// Reads commands from the reader, one a line, and writes their replies, each flushed as soon as it is written.
+///
+/// What is written are the replies of the machine that keeps only lists of rows, whatever the input is, where
+/// a line that takes memory may be answered `error 90 memory` instead and then changes nothing. At most one byte more
+/// than the limit is taken.
+///
+/// `Read` where the reader answered an error, `Write` where the writer answered one or took 0 of some bytes, `TooLong`
+/// where the reader gave more bytes than the limit.
+pub fn run<R: Read, W: Write>(
+    alloc: Global,
+    reader: &mut Watched<R>,
+    writer: &mut Watched<W>,
+    limits: Limits,
+) -> Result<Totals, RunFault>
+    requires reader { has_failed reader.old ≡ false }
+    requires writer { has_failed writer.old ≡ false }
+
+    // The row-list theorem.
+    ensures answers { IfOk result (λ totals. IfSome (R.remaining (inner_of reader.old)) (λ input.
+        Answers input (W.contents (inner_of writer.old)) (W.contents (inner_of writer.new)) totals)) }
+
+    // What was taken, and when that was too much.
+    ensures taken { TakesWithin R.remaining reader.old reader.new limits
+        (IsErrOf result RunFault.TooLong) (has_failed writer.new ≡ false) }
+
+    ensures read { IsErrOf result RunFault.Read → has_failed reader.new ≡ true }
+    ensures write { IsErrOf result RunFault.Write ↔ (has_failed writer.new ≡ true) }
+{
+    let mut database = Database::new(alloc);
+    let mut input = Input::new(limits);
+    let mut totals = Totals {
+        lines: 0,
+        refused: 0,
+    };
+    while let Some(is_refused) = answer_next(alloc, &mut input, reader, &mut database, writer)? {
+        totals.lines += 1;
+        totals.refused += u64::from(is_refused);
+    }
+    Ok(totals)
+}
+
+/// Answers the next line, and tells whether the reply is an `error`; none where the input has ended.
+fn answer_next<R: Read, W: Write>(
+    alloc: Global,
+    input: &mut Input,
+    reader: &mut Watched<R>,
+    database: &mut Database,
+    writer: &mut Watched<W>,
+) -> Result<Option<bool>, RunFault>
+    requires { has_failed writer.old ≡ false }
+    ensures line { IfOk result (λ answered. IfSome answered (AnswersNext W.contents writer.old writer.new database.old database.new
+        (left_of input.old (R.remaining (inner_of reader.old))) (left_of input.new (R.remaining (inner_of reader.new))))) }
+    ensures end { IfOk result (λ answered. MatchOption answered
+        (EndsAll R.remaining W.contents input.old input.new reader.old reader.new database.old database.new writer.old writer.new) (λ _. Unit {0})) }
+    ensures nearer { IfOk result (λ answered. IfSome answered (λ _. bytes_to_come input.new < bytes_to_come input.old)) }
+    ensures taken { TakesAllowed R.remaining reader.old reader.new input.old input.new }
+    ensures unfailed { OnOk result (has_failed writer.new ≡ false) }
+    ensures fault { IfErr result (BreaksOff input.new reader.new writer.new) }
+{
+    let answered = match input.next(reader)? {
+        Next::End => return Ok(None),
+        Next::Long => send(&Reply::Refused(Refusal::LineTooLong), writer),
+        Next::Line { len, step } => {
+            let line = without_return(&input.taken()[..len]);
+            let answered = answer_line(alloc, database, line, writer);
+            input.skip(step);
+            answered
+        }
+    };
+    match answered {
+        Ok(is_refused) => Ok(Some(is_refused)),
+        Err(_) => Err(RunFault::Write),
+    }
+}

@@ -1,0 +1,117 @@
+//! Bytes of the input that were taken from the reader and not yet answered.
+ghost use Rattle.std.specs.Prelude.{◌≡◌, ◌-◌, ◌<◌, ◌≤◌, [], length, take, drop, false, true, IfOk, OnOk, OnErr};
+ghost use Rattle.std.specs.Io.KnownBytes.{Keeps};
+ghost use Rattle.mm_value.specs.Watched.{inner_of, has_failed};
+ghost use Rattle.mmdb_core.specs.Taken.{Takes};
+
+use mm_value::Watched;
+use std::io;
+use std::io::Read;
+use std::marker::Model;
+
+/// How many bytes a window holds.
+const WINDOW_BYTES: usize = 16384;
+
+/// The least room for which the reader is asked.
+const CHUNK_BYTES: usize = 4096;
+
+/// Bytes that were taken from the reader and not yet answered, in a fixed array.
+#[derive(Drop)]
+pub(crate) struct Window {
+    bytes: [u8; WINDOW_BYTES],
+    start: usize,
+    end: usize,
+}
+
+impl Model for Window {
+    ghost use Rattle.std.specs.Prelude.{slice_range, ◌-◌, ◌≤◌};
+    ghost use Rattle.mmdb_core.specs.Window.{Held};
+
+    ghost Value = { Held };
+
+    ghost view = { λ w. record { bytes = slice_range w.bytes w.start w.end; room = 16384 - w.end } };
+
+    ghost invariant = { λ w. (w.start ≤ w.end) × (w.end ≤ 16384) };
+}
+
+impl Window {
+    /// A window with nothing in it.
+    pub(crate) fn new() -> Window
+        ensures { result.bytes ≡ [] }
+    {
+        Window {
+            bytes: [0; WINDOW_BYTES],
+            start: 0,
+            end: 0,
+        }
+    }
+
+    /// The bytes.
+    pub(crate) fn as_slice(&self) -> &[u8]
+        ensures { result.now ≡ self.now.bytes }
+    {
+        &self.bytes[self.start..self.end]
+    }
+
+    /// Drops the first n bytes.
+    pub(crate) fn skip(&mut self, n: usize)
+        requires { n ≤ length self.old.bytes }
+        ensures { self.new.bytes ≡ drop n self.old.bytes }
+    {
+        self.start += n;
+    }
+
+    /// Drops the last byte.
+    pub(crate) fn drop_last(&mut self)
+        requires { 0 < length self.old.bytes }
+        ensures { self.new.bytes ≡ take (length self.old.bytes - 1) self.old.bytes }
+    {
+        self.end -= 1;
+    }
+
+    /// Takes at most so many bytes more from the reader. It takes none only at the end of the input.
+    pub(crate) fn fill<R: Read>(&mut self, reader: &mut Watched<R>, most: usize) -> io::Result<usize>
+        requires short { length self.old.bytes < 8192 }
+        requires some { 0 < most }
+        ensures ok { IfOk result (λ n. Takes R.remaining reader.old reader.new self.old.bytes self.new.bytes n) }
+        ensures most { IfOk result (λ n. n ≤ most) }
+        ensures unfailed { OnOk result (has_failed reader.new ≡ false) }
+        ensures err { OnErr result (self.new.bytes ≡ self.old.bytes) }
+        ensures kept { OnErr result (Keeps (R.remaining (inner_of reader.old)) (R.remaining (inner_of reader.new))) }
+        ensures failed { OnErr result (has_failed reader.new ≡ true) }
+    {
+        self.make_room();
+        self.take_into_room(reader, most)
+    }
+
+    /// Moves the bytes to the front of the array where less than a chunk fits behind them.
+    fn make_room(&mut self)
+        requires { length self.old.bytes < 8192 }
+        ensures same { self.new.bytes ≡ self.old.bytes }
+        ensures room { 4096 ≤ self.new.room }
+    {
+        if WINDOW_BYTES - self.end < CHUNK_BYTES {
+            self.bytes.copy_within(self.start..self.end, 0);
+            self.end -= self.start;
+            self.start = 0;
+        }
+    }
+
+    /// Takes at most so many bytes, as far as there is room.
+    fn take_into_room<R: Read>(&mut self, reader: &mut Watched<R>, most: usize) -> io::Result<usize>
+        requires room { 0 < self.old.room }
+        requires some { 0 < most }
+        ensures ok { IfOk result (λ n. Takes R.remaining reader.old reader.new self.old.bytes self.new.bytes n) }
+        ensures most { IfOk result (λ n. n ≤ most) }
+        ensures unfailed { OnOk result (has_failed reader.new ≡ false) }
+        ensures err { OnErr result (self.new.bytes ≡ self.old.bytes) }
+        ensures kept { OnErr result (Keeps (R.remaining (inner_of reader.old)) (R.remaining (inner_of reader.new))) }
+        ensures failed { OnErr result (has_failed reader.new ≡ true) }
+    {
+        let end = self.end;
+        let to = end + most.min(WINDOW_BYTES - end);
+        let n = reader.read(&mut self.bytes[end..to])?;
+        self.end += n;
+        Ok(n)
+    }
+}
