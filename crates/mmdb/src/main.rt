@@ -19,5 +19,10 @@ fn main(rt: HostRuntime) -> ExitCode {
 fn serve(rt: &HostRuntime) -> Result<Totals, RunFault> {
     let limits = Limits::new(MAX_INPUT).ok_or(RunFault::TooLong)?;
     let output = BufWriter::new(rt.alloc(), io::writer(rt)).map_err(|_| RunFault::Write)?;
-    run(rt.alloc(), &mut Watched::new(rt.reader()), &mut Watched::new(output), limits)
+    run(
+        rt.alloc(),
+        &mut Watched::new(rt.reader()),
+        &mut Watched::new(output),
+        limits,
+    )
 }

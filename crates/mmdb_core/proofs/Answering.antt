@@ -102,16 +102,16 @@ module _ {W : Type 0} (contents : W → Option (List ℕ)) (old new : Watched W)
   by_step : (command : Command) → command ≢ Nothing → reading line ≡ Ok command → (outcome : Outcome) → IsStep command before outcome → Responds contents old new after outcome is_refused → AnswersLine contents old new line before after is_refused
   by_step command some read outcome leads responds =
       ⊎_elim
-        (λ (h : outcome ≡ step command before). chosen false outcome (h ∙ ap (λ r. outcome_of r before) (sym read)) responds)
-        (λ (h : outcome ≡ refused_outcome Memory before). chosen true outcome (h ∙ sym (refused_memory line before (command_takes line command read some))) responds)
-        leads
+      (λ (h : outcome ≡ step command before). chosen false outcome (h ∙ ap (λ r. outcome_of r before) (sym read)) responds)
+      (λ (h : outcome ≡ refused_outcome Memory before). chosen true outcome (h ∙ sym (refused_memory line before (command_takes line command read some))) responds)
+      leads
 
   by_refusal : (refusal : Refusal) → Reads line (Err refusal) → (outcome : Outcome) → outcome ≡ refused_outcome refusal before → Responds contents old new after outcome is_refused → AnswersLine contents old new line before after is_refused
   by_refusal refusal reads outcome leads responds =
       ⊎_elim
-        (λ (h : reading line ≡ Err refusal). chosen false outcome (leads ∙ ap (λ r. outcome_of r before) (sym h)) responds)
-        (λ (h : (refusal ≡ Memory) × IsTrue (takes_memory line)). chosen true outcome (leads ∙ (ap (λ r. refused_outcome r before) h.0 ∙ sym (refused_memory line before h.1))) responds)
-        reads
+      (λ (h : reading line ≡ Err refusal). chosen false outcome (leads ∙ ap (λ r. outcome_of r before) (sym h)) responds)
+      (λ (h : (refusal ≡ Memory) × IsTrue (takes_memory line)). chosen true outcome (leads ∙ (ap (λ r. refused_outcome r before) h.0 ∙ sym (refused_memory line before h.1))) responds)
+      reads
 
   -- what was read of a line answers the line
   answers_read : (read : Result Command Refusal) → Reads line read → (outcome : Outcome) → MayLeadTo read before outcome → Responds contents old new after outcome is_refused → AnswersLine contents old new line before after is_refused

@@ -71,7 +71,7 @@ last_known input len (Some left) lies no_feed some is =
 pub finds_last : (input : Input) (next : Next) (left : Option (List ℕ)) → LiesInWindow input left → HasNoFeed input.window.bytes → EndsWith input.window.bytes next → 0 < input.still → Finds input next left
 finds_last input (Line len step) left lies no_feed ends still =
     subst (λ n. Finds input (Line len n) left) (sym ends.2)
-      (record { within = omega (arith, ends.1); some = ends.0; shorter = omega arith }, last_known input len left lies no_feed ends.0 ends.1)
+    (record { within = omega (arith, ends.1); some = ends.0; shorter = omega arith }, last_known input len left lies no_feed ends.0 ends.1)
 finds_last input Long left lies no_feed ends still = absurd ends
 finds_last input End None lies no_feed ends still = (tt, still)
 finds_last input End (Some left) lies no_feed ends still = (lies ∙ ends, still)

@@ -34,4 +34,4 @@ consumes_front window kept n s (Some xs) h =
 pub left_skipped : (input after : Input) (n : ℕ) (remaining : Option (List ℕ)) → after.window.bytes ≡ drop n input.window.bytes → after.still ≡ input.still → Consumes (left_of input remaining) (left_of after remaining) (take n input.window.bytes)
 left_skipped input after n remaining is still =
     subst (λ m. Consumes (left_of input remaining) (option_map (λ xs. after.window.bytes ++ take (m - 1) xs) remaining) (take n input.window.bytes)) (sym still)
-      (consumes_front input.window.bytes after.window.bytes n (input.still - 1) remaining is)
+    (consumes_front input.window.bytes after.window.bytes n (input.still - 1) remaining is)

@@ -42,7 +42,7 @@ goes_on_line : (all : List (List ℕ)) (line : List ℕ) (left : List (List ℕ)
 unfolding transcript
 goes_on_line all line left state written lines refused choice so_far = record {
   each = λ rest. let run = so_far.each (choice ∷ rest) in
-    (run.0, run.1 ∙ one_more written (text_of (answer choice line state).reply) (transcript rest (answer choice line state).state left).text refused (one_if (is_error (answer choice line state).reply)) (transcript rest (answer choice line state).state left).refused);
+      (run.0, run.1 ∙ one_more written (text_of (answer choice line state).reply) (transcript rest (answer choice line state).state left).text refused (one_if (is_error (answer choice line state).reply)) (transcript rest (answer choice line state).state left).refused);
   count = omega (arith, so_far.count);
 }
 
@@ -72,11 +72,12 @@ goes_on_known contents w x y input limit left rest state after lines refused is_
     let outcome = answer choice line state in
     let responds = answers.answers.responds in
     let more = goes_on_line (lines_of (take limit input)) line (lines_of rest) state so_far.0 lines refused choice
-      (subst (λ ls. Continues (lines_of (take limit input)) (map without_return ls) state so_far.0 lines refused) answers.first so_far.2) in
-    (so_far.0 ++ text_of outcome.reply,
+    (subst (λ ls. Continues (lines_of (take limit input)) (map without_return ls) state so_far.0 lines refused) answers.first so_far.2) in (
+      so_far.0 ++ text_of outcome.reply,
       appends_more (contents (inner_of w)) (contents (inner_of x)) (contents (inner_of y)) so_far.0 (text_of outcome.reply) so_far.1 responds.written,
       subst (λ r. Continues (lines_of (take limit input)) (lines_of rest) after (so_far.0 ++ text_of outcome.reply) (lines + 1) (refused + one_if r)) (sym responds.refused)
-      (subst (λ s. Continues (lines_of (take limit input)) (lines_of rest) s (so_far.0 ++ text_of outcome.reply) (lines + 1) (refused + one_if (is_error outcome.reply))) (sym responds.state) more))
+          (subst (λ s. Continues (lines_of (take limit input)) (lines_of rest) s (so_far.0 ++ text_of outcome.reply) (lines + 1) (refused + one_if (is_error outcome.reply))) (sym responds.state) more),
+    )
 
 pub goes_on_more : {W : Type 0} (contents : W → Option (List ℕ)) (w x y : Watched W) (known : Option (List ℕ)) (limit : ℕ) (left rest : Option (List ℕ)) (state after : State) (lines refused : ℕ) (is_refused : Bool) → GoesOn known limit left (contents (inner_of w)) (contents (inner_of x)) state lines refused → AnswersNext contents x y state after left rest is_refused → GoesOn known limit rest (contents (inner_of w)) (contents (inner_of y)) after (lines + 1) (refused + one_if is_refused)
 goes_on_more contents w x y None limit left rest state after lines refused is_refused so_far answers = tt
@@ -105,7 +106,7 @@ running_first remaining contents limit reader writer input state unfailed empty 
   bound = omega (arith, small, ap length empty);
   fewer = omega arith;
   goes_on = subst (λ s. GoesOn (remaining (inner_of reader)) limit (left_of input (remaining (inner_of reader))) (contents (inner_of writer)) (contents (inner_of writer)) s 0 0) (sym first)
-    (goes_on_first (remaining (inner_of reader)) limit input (contents (inner_of writer)) empty still);
+      (goes_on_first (remaining (inner_of reader)) limit input (contents (inner_of writer)) empty still);
 }
 
 one_if-le : (is_refused : Bool) → one_if is_refused ≤ 1
@@ -126,20 +127,23 @@ running_more remaining contents limit reader now later writer written more first
       bound = omega (arith, so_far.bound, nearer);
       fewer = omega (arith, so_far.fewer, one, one_if-le is_refused);
       goes_on = subst (λ n. GoesOn (remaining (inner_of reader)) limit (left_of next (remaining (inner_of later))) (contents (inner_of writer)) (contents (inner_of more)) after (totals.lines + 1) (totals.refused + n)) (sym one)
-        (goes_on_more contents writer written more (remaining (inner_of reader)) limit (left_of input (remaining (inner_of now))) (left_of next (remaining (inner_of later))) state after totals.lines totals.refused is_refused so_far.goes_on answers);
+          (goes_on_more contents writer written more (remaining (inner_of reader)) limit (left_of input (remaining (inner_of now))) (left_of next (remaining (inner_of later))) state after totals.lines totals.refused is_refused so_far.goes_on answers);
     }
 
 -- what was taken, where a run breaks off
 too_long_iff : {R W : Type 0} (input : Input) (reader : Watched R) (writer : Watched W) (fault : RunFault) (limit taken : ℕ) → BreaksOff input reader writer fault → taken + input.still ≡ limit + 1 → (fault ≡ TooLong) ↔ ((limit < taken) × (has_failed writer ≡ false))
-too_long_iff input reader writer Read limit taken breaks counted =
-    (λ e. absurd (let clash : ◌≡◌ {A = RunFault} Read TooLong = e in cc),
-     λ h. ⊎_elim (λ (b : ((has_failed reader ≡ true) × (0 < input.still)) × (has_failed writer ≡ false)). absurd (omega (arith, b.0.1, h.0, counted))) (λ (b : (◌≡◌ {A = RunFault} Read Write) × (has_failed writer ≡ true)). absurd (let clash = b.0 in cc)) breaks)
-too_long_iff input reader writer Write limit taken breaks counted =
-    (λ e. absurd (let clash : ◌≡◌ {A = RunFault} Write TooLong = e in cc),
-     λ h. ⊎_elim (λ (b : ⊥ × (has_failed writer ≡ false)). absurd b.0) (λ (b : (◌≡◌ {A = RunFault} Write Write) × (has_failed writer ≡ true)). absurd (let clash : false ≡ true = sym h.1 ∙ b.1 in cc)) breaks)
-too_long_iff input reader writer TooLong limit taken breaks counted =
-    (λ e. ⊎_elim (λ (b : (input.still ≡ 0) × (has_failed writer ≡ false)). (omega (arith, b.0, counted), b.1)) (λ (b : (◌≡◌ {A = RunFault} TooLong Write) × (has_failed writer ≡ true)). absurd (let clash = b.0 in cc)) breaks,
-     λ h. refl)
+too_long_iff input reader writer Read limit taken breaks counted = (
+  λ e. absurd (let clash : ◌≡◌ {A = RunFault} Read TooLong = e in cc),
+  λ h. ⊎_elim (λ (b : ((has_failed reader ≡ true) × (0 < input.still)) × (has_failed writer ≡ false)). absurd (omega (arith, b.0.1, h.0, counted))) (λ (b : (◌≡◌ {A = RunFault} Read Write) × (has_failed writer ≡ true)). absurd (let clash = b.0 in cc)) breaks,
+)
+too_long_iff input reader writer Write limit taken breaks counted = (
+  λ e. absurd (let clash : ◌≡◌ {A = RunFault} Write TooLong = e in cc),
+  λ h. ⊎_elim (λ (b : ⊥ × (has_failed writer ≡ false)). absurd b.0) (λ (b : (◌≡◌ {A = RunFault} Write Write) × (has_failed writer ≡ true)). absurd (let clash : false ≡ true = sym h.1 ∙ b.1 in cc)) breaks,
+)
+too_long_iff input reader writer TooLong limit taken breaks counted = (
+  λ e. ⊎_elim (λ (b : (input.still ≡ 0) × (has_failed writer ≡ false)). (omega (arith, b.0, counted), b.1)) (λ (b : (◌≡◌ {A = RunFault} TooLong Write) × (has_failed writer ≡ true)). absurd (let clash = b.0 in cc)) breaks,
+  λ h. refl,
+)
 
 -- No line was answered, so this is the end.
 pub at_end : {E : Type 0} (answered : Option Bool) → ((is_refused : Bool) → (◌≡◌ {A = Option Bool} answered (Some is_refused)) → ⊥) → MatchOption answered E (λ _. Unit {0}) → E
@@ -166,7 +170,7 @@ ends_run (Some all) later None limit bytes still old mid new state totals goes n
 ends_run (Some all) None (Some l) limit bytes still old mid new state totals goes none consumed at_end counted some kept = absurd consumed
 ends_run (Some all) (Some rest) (Some l) limit bytes still old mid new state totals goes none consumed at_end counted some kept =
     ends_known all l limit old new state totals goes.0 (omega (arith, ap length consumed, length-append bytes rest, ap length at_end, counted, some)) none
-      (appends_keeps old mid new goes.0 goes.1 kept) goes.2
+    (appends_keeps old mid new goes.0 goes.1 kept) goes.2
 
 module _ {R W : Type 0} (remaining : R → Option (List ℕ)) (contents : W → Option (List ℕ)) (limit : ℕ) (reader now later : Watched R) (writer written more : Watched W) (first input next : Input) (state : State) (totals : Totals) (so_far : Running remaining contents limit reader now writer written first input state totals) (still : first.still ≡ limit + 1) (takes : TakesAllowed remaining now later input next) where
   all_taken : TakesAllowed remaining reader later first next

@@ -49,10 +49,12 @@ long_at_end input None now line no_feed long gone lies empty = tt
 long_at_end input (Some xs) None line no_feed long gone lies empty = absurd gone
 long_at_end input (Some xs) (Some ys) [] no_feed long gone lies empty = absurd (omega arith)
 long_at_end input (Some xs) (Some ys) (b ∷ bs) no_feed long gone lies empty =
-    let none : ys ≡ [] = lies ∙ empty in
-    (b ∷ bs, stays_long (b ∷ bs) long,
+    let none : ys ≡ [] = lies ∙ empty in (
+      b ∷ bs,
+      stays_long (b ∷ bs) long,
       ap pieces_of (gone ∙ (ap (λ t. (b ∷ bs) ++ t) none ∙ append-nil (b ∷ bs)))
-      ∙ (pieces-last b bs no_feed ∙ ap (λ t. (b ∷ bs) ∷ pieces_of t) (sym none)))
+          ∙ (pieces-last b bs no_feed ∙ ap (λ t. (b ∷ bs) ∷ pieces_of t) (sym none)),
+    )
 
 -- a line that ends with a line feed
 pub long_at_feed : (input : Input) (before now : Option (List ℕ)) (line : List ℕ) → HasNoFeed line → 4097 < length line → Consumes before now (line ++ 10 ∷ []) → Comes input Long before now
@@ -83,7 +85,7 @@ module _ {R : Type 0} (remaining : R → Option (List ℕ)) (r s t : Watched R) 
   left_skipped d n is still =
       consumes_trans (left_of a (remaining (inner_of r))) (left_of c (remaining (inner_of t))) (left_of d (remaining (inner_of t))) skips.line (take n c.window.bytes) left_after
       (subst (λ m. Consumes (left_of c (remaining (inner_of t))) (option_map (λ xs. d.window.bytes ++ take (m - 1) xs) (remaining (inner_of t))) (take n c.window.bytes)) (sym still)
-        (consumes_front c.window.bytes d.window.bytes n (c.still - 1) (remaining (inner_of t)) is))
+      (consumes_front c.window.bytes d.window.bytes n (c.still - 1) (remaining (inner_of t)) is))
 
   pub skips_feed : (d : Input) (len : ℕ) → EndsLine c.window.bytes len → d.window.bytes ≡ drop (len + 1) c.window.bytes → d.still ≡ c.still → Comes d Long (left_of a (remaining (inner_of r))) (left_of d (remaining (inner_of t)))
   skips_feed d len ends is still =
@@ -91,8 +93,8 @@ module _ {R : Type 0} (remaining : R → Option (List ℕ)) (r s t : Watched R) 
       (no_feed-append skips.line (take len c.window.bytes) skips.no_feed ends.no_feed)
       (omega (arith, skips.long, length-append skips.line (take len c.window.bytes)))
       (subst (λ front. Consumes (left_of a (remaining (inner_of r))) (left_of d (remaining (inner_of t))) front)
-        (ap (λ front. skips.line ++ front) (take-line c.window.bytes len ends) ∙ sym (append_assoc skips.line (take len c.window.bytes) (10 ∷ [])))
-        (left_skipped d (len + 1) is still))
+      (ap (λ front. skips.line ++ front) (take-line c.window.bytes len ends) ∙ sym (append_assoc skips.line (take len c.window.bytes) (10 ∷ [])))
+      (left_skipped d (len + 1) is still))
 
   pub skips_more : (d : Input) → HasNoFeed c.window.bytes → d.window.bytes ≡ [] → d.still ≡ c.still → Skips remaining r t a d
   skips_more d no_feed is still =

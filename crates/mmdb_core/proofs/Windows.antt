@@ -12,8 +12,8 @@ window_grown xs ys s e k n s_e e_x n_y =
     let front : length (take e xs) ≡ e = length-take-le e xs e_x in
     let s_front : s ≤ length (take e xs) = omega arith in
     let taken : take (e + n) (take e xs ++ (ys ++ post_of e k xs)) ≡ take e xs ++ take n ys =
-        ap (λ m. take (m + n) (take e xs ++ (ys ++ post_of e k xs))) (sym front)
-        ∙ (take-append-add (take e xs) (ys ++ post_of e k xs) n ∙ ap (λ t. take e xs ++ t) (take-front ys (post_of e k xs) n n_y)) in
+    ap (λ m. take (m + n) (take e xs ++ (ys ++ post_of e k xs))) (sym front)
+    ∙ (take-append-add (take e xs) (ys ++ post_of e k xs) n ∙ ap (λ t. take e xs ++ t) (take-front ys (post_of e k xs) n n_y)) in
     between_is (put_mid e k xs ys) s (e + n) ∙ (ap (λ t. drop s t) taken ∙ (drop-append-le s (take e xs) (take n ys) s_front ∙ ap (λ t. t ++ take n ys) (sym (between_is xs s e))))
   where
     take-front : (p q : List ℕ) (m : ℕ) → m ≤ length p → take m (p ++ q) ≡ take m p
@@ -31,7 +31,6 @@ window_shortened xs s e s_e e_x =
   where
     sub_order : (a b : ℕ) → a - b - 1 ≡ a - 1 - b
     sub_order a b = omega arith
-
 
 -- the same bytes, whatever was written behind them
 pub window_written : (xs ys : List ℕ) (s e k : ℕ) → s ≤ e → e ≤ length xs → slice_range (put_mid e k xs ys) s e ≡ slice_range xs s e

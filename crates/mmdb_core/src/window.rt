@@ -70,7 +70,11 @@ impl Window {
     }
 
     /// Takes at most so many bytes more from the reader. It takes none only at the end of the input.
-    pub(crate) fn fill<R: Read>(&mut self, reader: &mut Watched<R>, most: usize) -> io::Result<usize>
+    pub(crate) fn fill<R: Read>(
+        &mut self,
+        reader: &mut Watched<R>,
+        most: usize,
+    ) -> io::Result<usize>
         requires short { length self.old.bytes < 8192 }
         requires some { 0 < most }
         ensures ok { IfOk result (λ n. Takes R.remaining reader.old reader.new self.old.bytes self.new.bytes n) }

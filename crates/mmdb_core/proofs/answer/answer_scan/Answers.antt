@@ -17,7 +17,7 @@ returns-in_ok-flush-in-Ok-clause-ok g c = record {
   responds = record {
     state = refl;
     written = appends_keeps (g.W.Write.contents (inner_of c.args.writer.now)) (g.W.Write.contents (inner_of c.write_rows.new.writer)) (g.W.Write.contents (inner_of c.flush.new.writer)) (rows_text c.in-Ok.rows.now)
-      (subst (λ r. MatchResult r (λ _. Appends (g.W.Write.contents (inner_of c.args.writer.now)) (g.W.Write.contents (inner_of c.write_rows.new.writer)) (rows_text c.in-Ok.rows.now)) (λ _. AppendsPrefix (g.W.Write.contents (inner_of c.args.writer.now)) (g.W.Write.contents (inner_of c.write_rows.new.writer)) (rows_text c.in-Ok.rows.now))) c.in_ok-write_rows-in-Ok.was c.write_rows.ensures.written) c.flush.ensures.kept;
+        (subst (λ r. MatchResult r (λ _. Appends (g.W.Write.contents (inner_of c.args.writer.now)) (g.W.Write.contents (inner_of c.write_rows.new.writer)) (rows_text c.in-Ok.rows.now)) (λ _. AppendsPrefix (g.W.Write.contents (inner_of c.args.writer.now)) (g.W.Write.contents (inner_of c.write_rows.new.writer)) (rows_text c.in-Ok.rows.now))) c.in_ok-write_rows-in-Ok.was c.write_rows.ensures.written) c.flush.ensures.kept;
     refused = refl;
   };
 }

@@ -22,8 +22,8 @@ pub returns-clause-ok : goal.returns-clause-ok
 returns-clause-ok g c =
     let reply_and : Reply → State → Outcome = λ reply state. record { reply = Some reply; state = state } in
     let leads : MayLeadTo c.args.command c.args.database.now (reply_and c.match-command.reply c.match-command.database) =
-      elim c.match-command.branch [
-        in-Ok-Define w ↦
+    elim c.match-command.branch [
+      | in-Ok-Define w ↦
           leads_step (Define w.in-Ok-Define.definition) (λ e. cc) c.args.command (w.in-Ok-Define.is ∙ ap (λ (command : Command). Ok command) w.in-Ok-Define.field-0-is) c.args.database.now
           (reply_and c.match-command.reply c.match-command.database) (reply_and w.define-reply.result w.define-reply.new.database)
           (ap (λ r. reply_and r c.match-command.database) w.reply-is ∙ ap (reply_and w.define-reply.result) w.database-is) w.define-reply.ensures
@@ -34,5 +34,5 @@ returns-clause-ok g c =
       | in-Err w ↦
           subst (λ read. MayLeadTo read c.args.database.now (reply_and c.match-command.reply c.match-command.database)) (sym w.in-Err.is)
           (ap (λ r. reply_and r c.match-command.database) w.reply-is ∙ ap (reply_and (Refused w.in-Err.refusal)) w.database-is)
-      ] in
+    ] in
     sent g.W.Write.contents c.args.writer.now c.send.new.writer c.send.result c.match-command.reply c.args.command c.args.database.now c.match-command.database c.send.ensures.written c.send.ensures.refused leads

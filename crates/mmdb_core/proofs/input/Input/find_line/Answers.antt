@@ -21,7 +21,7 @@ returns-then-not-branch-clause-finds g c =
     let none = subst (λ b. OnFalse b (LiesInWindow c.fill.new.self (left_of c.fill.new.self (g.R.Read.remaining (inner_of c.fill.new.reader))))) c.if-not-branch.true c.in_ok-fill.ensures.none in
     let same = subst (λ b. OnFalse b ((c.fill.new.self.window.bytes ≡ c.loop-next.self.window.bytes) × (c.fill.new.self.still ≡ c.loop-next.self.still))) c.if-not-branch.true c.in_ok-fill.ensures.same in
     finds_last c.fill.new.self c.last_line.result (left_of c.fill.new.self (g.R.Read.remaining (inner_of c.fill.new.reader))) none
-      (subst HasNoFeed (sym (same.0 ∙ sym c.taken.ensures)) c.in_default.ensures.0) c.last_line.ensures (omega (arith, same.1, c.if-self-eq0.false))
+    (subst HasNoFeed (sym (same.0 ∙ sym c.taken.ensures)) c.in_default.ensures.0) c.last_line.ensures (omega (arith, same.1, c.if-self-eq0.false))
 
 pub loop-next-preserved : goal.loop-next-preserved
 loop-next-preserved g c = fills_trans g.R.Read.remaining c.args.reader.now c.loop-next.reader c.fill.new.reader c.args.self.now c.loop-next.self c.fill.new.self c.loop-next.invariant c.fill.ensures.fills

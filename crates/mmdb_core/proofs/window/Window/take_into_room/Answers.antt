@@ -16,7 +16,7 @@ returns-clause-ok g c =
       bytes = take c.in_ok-n.n c.read.new.buf;
       count = sym h.bound.1;
       behind = window_grown c.self.inside.bytes c.read.new.buf c.self.inside.start c.self.inside.end (c.self.inside.end + c.min.result - c.self.inside.end) c.in_ok-n.n c.self.invariant.0 (omega (arith, c.self.told)) h.bound.0
-        ∙ ap (λ (held : Held). held.bytes ++ take c.in_ok-n.n c.read.new.buf) c.self.view_is;
+          ∙ ap (λ (held : Held). held.bytes ++ take c.in_ok-n.n c.read.new.buf) c.self.view_is;
       consumed = h.bytes.0;
       at_end = λ none. h.bytes.1 none (omega (arith, c.self.told, ap (λ (held : Held). held.room) c.self.view_is));
     }
