@@ -160,6 +160,7 @@ impl Subtree {
         ensures rest { self.new ≡ record self.old { left = Empty } }
     {
         let node = self.root.as_mut();
+        // It fits, and so does one level more than the right side has.
         let _height = node.height;
         let left = node.left.take();
         node.height = link_height(&node.right) + 1;
@@ -172,6 +173,7 @@ impl Subtree {
         ensures rest { self.new ≡ record self.old { right = Empty } }
     {
         let node = self.root.as_mut();
+        // It fits, and so does one level more than the left side has.
         let _height = node.height;
         let right = node.right.take();
         node.height = link_height(&node.left) + 1;

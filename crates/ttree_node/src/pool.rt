@@ -51,9 +51,11 @@ impl Spares {
         }
     }
 
-    /// Allocates nodes until there are at least `n`. After an error there may be more than before.
+    /// Allocates nodes until there are at least `n`. Where memory is refused before, it answers
+    /// `AllocError`, and there may be more than before, but fewer than `n`.
     pub fn reserve(&mut self, n: usize) -> Result<(), AllocError>
         ensures ok { OnOk result (self.new ≡ max self.old n) }
+        ensures err { OnErr result (self.new < n) }
         ensures not_fewer { self.old ≤ self.new }
         ensures not_more { self.new ≤ max self.old n }
     {

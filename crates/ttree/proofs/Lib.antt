@@ -1,0 +1,8 @@
+mod Halving
+pub mod Rising
+pub mod Parts
+pub mod Leaves
+pub mod Taken
+pub mod Sizes
+pub mod Between
+pub mod Sought

@@ -1,0 +1,153 @@
+-- A reference taken out of an ordered list, or not found in it.
+use Rattle.std.proofs.Common.{◌≡◌, ◌≢◌, Bool, true, false, ◌&&◌, eqb, eq-eqb, ℕ, suc, ◌+◌, ◌-◌, ◌<◌, ◌≤◌, List, [], ◌∷◌, ◌++◌, length, get_or, take, drop, ◌⊎◌, refl, sym, ap, ◌∙◌, subst, ⊎_elim, arith, append_assoc, length-take, length-drop}
+use Rattle.std.specs.Prelude.{Some, slice_get, Contains}
+use Rattle.std.proofs.lemmas.Bool.{cases_lt, cases_order}
+use Rattle.std.proofs.lemmas.List.{take-append-drop, append-nil, get_or-take, get_or-drop}
+use Rattle.std.proofs.lemmas.Option.{get_or_from_slice_get}
+use Rattle.std.proofs.Math.ListN.{drop_of_length-le}
+use Rattle.std.proofs.Math.Seq.{drop-cons}
+use Rattle.std.specs.List.{All, AllPairs, remove}
+use Rattle.std.specs.Ordering.{ordering_reverse}
+use Rattle.std.specs.declared.cmp.Ordering.{Ordering}
+use Rattle.std.specs.declared.cmp.Ordering.TheVariants.{Less, Equal, Greater}
+use Rattle.mm_value.specs.declared.row_ref.RowRef.{RowRef}
+use Rattle.mm_order.specs.Order.{IsTotalOrderOn, IsOrdered}
+use Rattle.mm_order.specs.Refs.{AddsInOrder}
+use Rattle.std.specs.Bool.{OnTrue}
+use Rattle.std.proofs.lemmas.List.{get_or_append_left}
+use Rattle.std.proofs.lemmas.List.Elements.{Contains-append_cases}
+use Rattle.ttree.proofs.Parts.{IsOrdered-front, IsOrdered-middle, IsOrdered-back, below_all, above_all, less_from_greater, last_of}
+use Rattle.mm_order.proofs.Pairs.{AllPairs-append_right, AllPairs-append_across}
+
+-- the last entry, taken out and put back
+pub remove_last-append : (xs : List RowRef) (last : RowRef) → 1 ≤ length xs → slice_get xs (length xs - 1) ≡ Some last → remove xs (length xs - 1) ++ last ∷ [] ≡ xs
+remove_last-append xs last some is =
+    let n : ℕ = length xs - 1 in
+    let none : drop (suc n) xs ≡ [] = drop_of_length-le xs {i = suc n} (omega arith) in
+    let end : drop n xs ≡ last ∷ [] = drop-cons xs n last (omega arith) ∙ (λ i. get_or_from_slice_get xs n last last is i ∷ none i) in
+    ap (λ ys. take n xs ++ ys ++ last ∷ []) none ∙ ap (λ ys. ys ++ last ∷ []) (append-nil (take n xs)) ∙ sym (ap (λ ys. take n xs ++ ys) end) ∙ take-append-drop n xs
+
+self_equal : (o : Ordering) → o ≡ ordering_reverse o → o ≡ Equal
+self_equal Less e = (cc)
+self_equal Equal e = refl
+self_equal Greater e = (cc)
+
+module _ (Covers : RowRef → Type 0) (cmp : RowRef → RowRef → Ordering) (total : IsTotalOrderOn Covers cmp) (gone : RowRef) (covered : Covers gone) where
+  equal_to_itself : cmp gone gone ≡ Equal
+  equal_to_itself = self_equal (cmp gone gone) (total.antisymm gone gone covered covered)
+
+  -- between entries that lie before it and entries that lie after it a reference isn't held
+  pub absent_between : (xs : List RowRef) (at : ℕ) → All (λ a. cmp a gone ≡ Less) (take at xs) → All (λ a. cmp a gone ≡ Greater) (drop at xs) → Contains xs gone → ⊥
+  absent_between xs at before after (k, within, is) =
+      let here : cmp (get_or xs k gone) gone ≡ Equal = ap (λ a. cmp a gone) is ∙ equal_to_itself in
+      ⊎_elim
+      (λ (early : k < at).
+      let less : cmp (get_or xs k gone) gone ≡ Less = ap (λ a. cmp a gone) (sym (get_or-take at xs k gone early)) ∙ before k gone (omega (arith, length-take at xs)) in
+      cc)
+      (λ (late : at ≤ k).
+      let place : at + (k - at) ≡ k = omega arith in
+      let greater : cmp (get_or xs k gone) gone ≡ Greater = ap (λ a. cmp a gone) (ap (λ n. get_or xs n gone) (sym place) ∙ sym (get_or-drop at xs (k - at) gone)) ∙ after (k - at) gone (omega (arith, length-drop at xs)) in
+      cc)
+      (cases_lt k at)
+
+  -- an entry that compares equal to a held reference is that reference
+  pub equal_is_held : (xs : List RowRef) → IsOrdered Covers cmp xs → (i : ℕ) → i < length xs → cmp (get_or xs i gone) gone ≡ Equal → Contains xs gone → get_or xs i gone ≡ gone
+  equal_is_held xs was i inside equal (k, within, is) =
+      ⊎_elim
+      (λ (same : i ≡ k). ap (λ n. get_or xs n gone) same ∙ is)
+      (λ (apart : (i < k) ⊎ (k < i)).
+      absurd (⊎_elim
+      (λ (early : i < k). let less : cmp (get_or xs i gone) gone ≡ Less = ap (cmp (get_or xs i gone)) (sym is) ∙ was.ascending i k gone early within in cc)
+      (λ (late : k < i).
+      let less : cmp gone (get_or xs i gone) ≡ Less = ap (λ a. cmp a (get_or xs i gone)) (sym is) ∙ was.ascending k i gone late inside in
+      let greater : cmp (get_or xs i gone) gone ≡ Greater = total.antisymm (get_or xs i gone) gone (was.covered i gone inside) covered ∙ ap ordering_reverse less in
+      cc)
+      apart))
+      (cases_order i k)
+
+-- a reference in a list of three parts stands in the part on whose side it lies
+module _ (Covers : RowRef → Type 0) (cmp : RowRef → RowRef → Ordering) (total : IsTotalOrderOn Covers cmp) (gone : RowRef) (covered : Covers gone) (left middle right : List RowRef) (was : IsOrdered Covers cmp (left ++ middle ++ right)) (some : 1 ≤ length middle) where
+  rest_was : IsOrdered Covers cmp (middle ++ right)
+  rest_was = IsOrdered-back Covers cmp left (middle ++ right) (subst (IsOrdered Covers cmp) (append_assoc left middle right) was)
+
+  front_was : IsOrdered Covers cmp (left ++ middle)
+  front_was = IsOrdered-front Covers cmp (left ++ middle) right was
+
+  pub contains_left : cmp gone (get_or middle 0 gone) ≡ Less → Contains (left ++ middle ++ right) gone → Contains left gone
+  contains_left before held =
+      let first : cmp gone (get_or (middle ++ right) 0 gone) ≡ Less = ap (cmp gone) (get_or_append_left middle right gone 0 (omega arith)) ∙ before in
+      ⊎_elim
+      (λ (h : Contains left gone). h)
+      (λ (h : Contains (middle ++ right) gone).
+      let less : cmp gone gone ≡ Less = ap (cmp gone) (sym h.2) ∙ below_all Covers cmp total gone covered (middle ++ right) rest_was first h.0 gone h.1 in
+      let equal : cmp gone gone ≡ Equal = equal_to_itself Covers cmp total gone covered in
+      absurd (cc))
+      (Contains-append_cases left (middle ++ right) gone (subst (λ xs. Contains xs gone) (append_assoc left middle right) held))
+
+  pub contains_right : cmp gone (get_or middle (length middle - 1) gone) ≡ Greater → Contains (left ++ middle ++ right) gone → Contains right gone
+  contains_right after held =
+      let greatest : RowRef = get_or middle (length middle - 1) gone in
+      let greatest_covered : Covers greatest = (IsOrdered-middle Covers cmp left middle right was).covered (length middle - 1) gone (omega arith) in
+      let last : cmp (get_or (left ++ middle) (length (left ++ middle) - 1) gone) gone ≡ Less = ap (λ a. cmp a gone) (last_of Covers cmp total left middle gone some) ∙ less_from_greater Covers cmp total gone greatest covered greatest_covered after in
+      ⊎_elim
+      (λ (h : Contains (left ++ middle) gone).
+      let less : cmp gone gone ≡ Less = ap (λ a. cmp a gone) (sym h.2) ∙ above_all Covers cmp total gone covered (left ++ middle) front_was last h.0 gone h.1 in
+      let equal : cmp gone gone ≡ Equal = equal_to_itself Covers cmp total gone covered in
+      absurd (cc))
+      (λ (h : Contains right gone). h)
+      (Contains-append_cases (left ++ middle) right gone held)
+
+  in_left : Contains left gone → cmp gone (get_or middle 0 gone) ≡ Less
+  in_left h =
+      let across : All (λ a. All (λ b. cmp a b ≡ Less) middle) left = AllPairs-append_across (λ a b. cmp a b ≡ Less) left middle front_was.ascending in
+      ap (λ a. cmp a (get_or middle 0 gone)) (sym h.2) ∙ across h.0 gone h.1 0 gone (omega arith)
+
+  in_right : Contains right gone → cmp gone (get_or middle (length middle - 1) gone) ≡ Greater
+  in_right h =
+      let across : All (λ a. All (λ b. cmp a b ≡ Less) right) middle = AllPairs-append_across (λ a b. cmp a b ≡ Less) middle right rest_was.ascending in
+      let greatest : RowRef = get_or middle (length middle - 1) gone in
+      let less : cmp greatest gone ≡ Less = ap (cmp greatest) (sym h.2) ∙ across (length middle - 1) gone (omega arith) h.0 gone h.1 in
+      total.antisymm gone greatest covered ((IsOrdered-middle Covers cmp left middle right was).covered (length middle - 1) gone (omega arith)) ∙ ap ordering_reverse less
+
+  pub contains_middle : cmp gone (get_or middle 0 gone) ≢ Less → cmp gone (get_or middle (length middle - 1) gone) ≢ Greater → Contains (left ++ middle ++ right) gone → Contains middle gone
+  contains_middle not_before not_after held =
+      ⊎_elim
+      (λ (h : Contains (left ++ middle) gone).
+      ⊎_elim (λ (l : Contains left gone). absurd (not_before (in_left l))) (λ (m : Contains middle gone). m) (Contains-append_cases left middle gone h))
+      (λ (h : Contains right gone). absurd (not_after (in_right h)))
+      (Contains-append_cases (left ++ middle) right gone held)
+
+-- what follows where a test holds
+pub OnTrue-weaker : (b : Bool) (P Q : Type 0) → (P → Q) → OnTrue b P → OnTrue b Q
+OnTrue-weaker true P Q f h = f h
+OnTrue-weaker false P Q f h = h
+
+-- equal references pass the test that the code makes
+pub same_refs : (a b : RowRef) → a ≡ b → (eqb a.part b.part && eqb a.slot b.slot) ≡ true
+same_refs a b e =
+    let part : eqb a.part b.part ≡ true = eq-eqb a.part b.part (ap (λ (r : RowRef). r.part) e) in
+    let slot : eqb a.slot b.slot ≡ true = eq-eqb a.slot b.slot (ap (λ (r : RowRef). r.slot) e) in
+    rw (part, slot)
+
+-- an ordered list without one of its references, which stands in the middle of three parts
+pub adds_taken : (Covers : RowRef → Type 0) (cmp : RowRef → RowRef → Ordering) (left middle right : List RowRef) (i : ℕ) (gone : RowRef) → IsOrdered Covers cmp (left ++ middle ++ right) → i < length middle → slice_get middle i ≡ Some gone → AddsInOrder cmp (left ++ remove middle i ++ right) gone (left ++ middle ++ right)
+adds_taken Covers cmp left middle right i gone was inside is =
+    let front : List RowRef = left ++ take i middle in
+    let back : List RowRef = drop (suc i) middle ++ right in
+    let rest : drop i middle ≡ gone ∷ drop (suc i) middle = drop-cons middle i gone inside ∙ ap (λ a. a ∷ drop (suc i) middle) (get_or_from_slice_get middle i gone gone is) in
+    let parts : take i middle ++ gone ∷ drop (suc i) middle ≡ middle = ap (λ ys. take i middle ++ ys) (sym rest) ∙ take-append-drop i middle in
+    let whole : front ++ gone ∷ back ≡ left ++ middle ++ right = regrouped left (take i middle) gone (drop (suc i) middle) right ∙ ap (λ ys. left ++ ys ++ right) parts in
+    let ascend : AllPairs (λ a b. cmp a b ≡ Less) (front ++ gone ∷ back) = subst (AllPairs (λ a b. cmp a b ≡ Less)) (sym whole) was.ascending in
+    let across : All (λ a. All (λ b. cmp a b ≡ Less) (gone ∷ back)) front = AllPairs-append_across (λ a b. cmp a b ≡ Less) front (gone ∷ back) ascend in
+    let tail : AllPairs (λ a b. cmp a b ≡ Less) (gone ∷ back) = AllPairs-append_right (λ a b. cmp a b ≡ Less) front (gone ∷ back) ascend in
+    record {
+      front = front;
+      back = back;
+      refs_are = simp append_assoc;
+      more_are = sym whole;
+      above_front = λ k d within. across k d within 0 d (omega arith);
+      below_back = λ k d within. tail 0 (suc k) d (omega arith) (omega arith);
+    }
+  where
+    regrouped : (a b : List RowRef) (x : RowRef) (c d : List RowRef) → (a ++ b) ++ x ∷ (c ++ d) ≡ a ++ (b ++ x ∷ c) ++ d
+    regrouped a b x c d = simp append_assoc

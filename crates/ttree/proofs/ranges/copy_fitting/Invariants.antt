@@ -1,0 +1,7 @@
+use Rattle.std.proofs.Common.{◌≡◌, ◌++◌, take}
+use Rattle.mm_order.specs.Probe.{entries_between}
+use Rattle.ttree.proofs.ranges.copy_fitting.Given as goal
+
+abbrev pub invariant-loop-entry : goal.invariant-loop-entry
+invariant-loop-entry g l =
+    l.out.items ≡ l.initial.out.items ++ entries_between (g.L.Probe.place_of l.low) (g.H.Probe.place_of l.high) (take l.entry-index l.entries)

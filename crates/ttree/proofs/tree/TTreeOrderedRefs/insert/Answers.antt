@@ -1,0 +1,10 @@
+use Rattle.std.proofs.Common.{rules}
+use Rattle.mm_order.specs.Refs.{AddsInOrder}
+use Rattle.mm_order.proofs.Ordered.{IsOrdered-added}
+use Rattle.ttree_node.specs.Tree.{fork, in_order}
+use Rattle.ttree.proofs.tree.TTreeOrderedRefs.insert.Goals as goal
+
+pub returns-clause-ordered : goal.returns-clause-ordered
+returns-clause-ordered g c =
+    let adds : AddsInOrder (g.O.RefOrder.cmp c.args.order.now) c.args.self.now.refs c.args.added (in_order (fork c.insert_into-root.result)) = search rules in
+    IsOrdered-added _ _ c.args.self.now.refs c.args.added (in_order (fork c.insert_into-root.result)) c.requires.ordered c.requires.covered adds

@@ -1,0 +1,14 @@
+//! T-trees: ordered references in a balanced tree of nodes of up to 16.
+#![tactic(auto)]
+
+mod balance;
+mod inserts;
+mod lookup;
+mod ranges;
+mod removes;
+mod search;
+#[cfg(test)]
+mod tests;
+mod tree;
+
+pub use tree::TTree;

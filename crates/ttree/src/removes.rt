@@ -1,0 +1,239 @@
+//! Removal from a T-tree.
+ghost use Rattle.std.specs.Prelude.{◌≡◌, ◌+◌, ◌-◌, ◌^◌, ◌<◌, ◌≤◌, ◌↔◌, ◌⊎◌, max, [], ◌∷◌, ◌++◌, length, Contains, IsTrue, IfSome, IfNone, Some, slice_get};
+ghost use Rattle.std.specs.Bool.{OnTrue, OnFalse};
+ghost use Rattle.ttree_node.specs.Tree.{Empty, fork, tree_of, in_order, height_of, node_count};
+ghost use Rattle.ttree_node.specs.Slide.{IsLeaf};
+ghost use Rattle.mm_order.specs.Order.{IsOrdered};
+ghost use Rattle.mm_order.specs.Refs.{AddsInOrder};
+ghost use Rattle.ttree.specs.Balanced.{IsTTree, IsRootOver, IsMended};
+
+use crate::balance::{balance, is_leaf};
+use crate::search::{AtRef, search, side_of};
+use mm_order::{RefOrder, Seek};
+use mm_value::RowRef;
+use std::cmp::Ordering;
+use ttree_node::{Spares, Subtree};
+
+/// Merges a half-leaf with its left leaf where both fit into one node.
+fn absorb_left(mut node: Subtree, spares: &mut Spares) -> Subtree
+    requires left { IsTTree node.left }
+    requires left_leaf { IsLeaf node.left }
+    requires no_right { node.right ≡ Empty }
+    requires at_most_16 { length node.entries ≤ 16 }
+    requires pool_fits { node_count (fork node) + spares.old < 2 ^ 64 }
+    ensures tree { IsTTree (fork result) }
+    ensures same_entries { in_order (fork result) ≡ in_order (fork node) }
+    ensures nodes { node_count (fork result) + spares.new ≡ node_count (fork node) + spares.old }
+    ensures spares { spares.old ≤ spares.new }
+    ensures height { height_of (fork result) ≤ 2 }
+{
+    let Some(leaf) = node.take_left() else {
+        unreachable!()
+    };
+    if leaf.entries().len() + node.entries().len() > 16 {
+        node.set_left(Some(leaf));
+        return node;
+    }
+    node.put_in_front(leaf.entries());
+    leaf.free_into(spares);
+    node
+}
+
+/// Merges a half-leaf with its right leaf where both fit into one node.
+fn absorb_right(mut node: Subtree, spares: &mut Spares) -> Subtree
+    requires right { IsTTree node.right }
+    requires right_leaf { IsLeaf node.right }
+    requires no_left { node.left ≡ Empty }
+    requires at_most_16 { length node.entries ≤ 16 }
+    requires pool_fits { node_count (fork node) + spares.old < 2 ^ 64 }
+    ensures tree { IsTTree (fork result) }
+    ensures same_entries { in_order (fork result) ≡ in_order (fork node) }
+    ensures nodes { node_count (fork result) + spares.new ≡ node_count (fork node) + spares.old }
+    ensures spares { spares.old ≤ spares.new }
+    ensures height { height_of (fork result) ≤ 2 }
+{
+    let Some(leaf) = node.take_right() else {
+        unreachable!()
+    };
+    if leaf.entries().len() + node.entries().len() > 16 {
+        node.set_right(Some(leaf));
+        return node;
+    }
+    node.put_behind(leaf.entries());
+    leaf.free_into(spares);
+    node
+}
+
+/// Mends a root after one of its sides has lost a level: a half-leaf and its leaf are merged where
+/// they fit, another root is balanced.
+fn mend(node: Subtree, spares: &mut Spares) -> Subtree
+    requires root { IsRootOver 2 node }
+    requires height_fits { height_of (fork node) + 1 < 2 ^ 64 }
+    requires pool_fits { node_count (fork node) + spares.old < 2 ^ 64 }
+    ensures tree { IsTTree (fork result) }
+    ensures same_entries { in_order (fork result) ≡ in_order (fork node) }
+    ensures nodes { node_count (fork result) + spares.new ≡ node_count (fork node) + spares.old }
+    ensures spares { spares.old ≤ spares.new }
+    ensures height { IsMended (height_of node.left) (height_of node.right) (height_of (fork result)) }
+{
+    if node.right().is_none() && is_leaf(node.left()) {
+        absorb_left(node, spares)
+    } else if node.left().is_none() && is_leaf(node.right()) {
+        absorb_right(node, spares)
+    } else {
+        balance(node)
+    }
+}
+
+/// A root with at most one child, from which an entry was taken: freed where it is an empty leaf,
+/// merged with its leaf where both fit.
+#[tactic(auto, using(crate::proofs::Leaves::leaf_from_height))]
+fn settle(node: Subtree, spares: &mut Spares) -> Option<Subtree>
+    requires left { IsTTree node.left }
+    requires right { IsTTree node.right }
+    requires one_child { node.left ≡ Empty ⊎ node.right ≡ Empty }
+    requires left_low { height_of node.left ≤ 1 }
+    requires right_low { height_of node.right ≤ 1 }
+    requires at_most_16 { length node.entries ≤ 16 }
+    requires pool_fits { node_count (fork node) + spares.old < 2 ^ 64 }
+    ensures tree { IsTTree (tree_of result) }
+    ensures same_entries { in_order (tree_of result) ≡ in_order (fork node) }
+    ensures nodes { node_count (tree_of result) + spares.new ≡ node_count (fork node) + spares.old }
+    ensures spares { spares.old ≤ spares.new }
+    ensures not_lower { max (height_of node.left) (height_of node.right) ≤ height_of (tree_of result) }
+    ensures at_most_one_higher { height_of (tree_of result) ≤ max (height_of node.left) (height_of node.right) + 1 }
+{
+    if node.left().is_some() {
+        Some(absorb_left(node, spares))
+    } else if node.right().is_some() {
+        Some(absorb_right(node, spares))
+    } else if node.entries().is_empty() {
+        node.free_into(spares);
+        None
+    } else {
+        Some(node)
+    }
+}
+
+/// Takes the greatest entry out of a tree.
+fn take_last(mut node: Subtree, spares: &mut Spares) -> (Option<Subtree>, RowRef)
+    requires tree { IsTTree (fork node) }
+    requires height_fits { height_of (fork node) + 1 < 2 ^ 64 }
+    requires pool_fits { node_count (fork node) + spares.old < 2 ^ 64 }
+    ensures tree { IsTTree (tree_of result.0) }
+    ensures entries { in_order (tree_of result.0) ++ result.1 ∷ [] ≡ in_order (fork node) }
+    ensures nodes { node_count (tree_of result.0) + spares.new ≡ node_count (fork node) + spares.old }
+    ensures spares { spares.old ≤ spares.new }
+    ensures not_higher { height_of (tree_of result.0) ≤ height_of (fork node) }
+    ensures at_most_one_lower { height_of (fork node) ≤ height_of (tree_of result.0) + 1 }
+{
+    match node.take_right() {
+        None => {
+            let last = node.take_entry(node.entries().len() - 1);
+            (settle(node, spares), last)
+        }
+        Some(right) => {
+            let (right, last) = take_last(right, spares);
+            node.set_right(right);
+            (Some(mend(node, spares)), last)
+        }
+    }
+}
+
+/// A root from which an entry was taken. An internal node that has fewer than 14 entries borrows
+/// the greatest of its left side.
+fn refill(mut node: Subtree, spares: &mut Spares) -> Option<Subtree>
+    requires left { IsTTree node.left }
+    requires right { IsTTree node.right }
+    requires left_low { height_of node.left ≤ height_of node.right + 1 }
+    requires right_low { height_of node.right ≤ height_of node.left + 1 }
+    requires at_most_16 { length node.entries ≤ 16 }
+    requires height_fits { height_of (fork node) + 1 < 2 ^ 64 }
+    requires pool_fits { node_count (fork node) + spares.old < 2 ^ 64 }
+    ensures tree { IsTTree (tree_of result) }
+    ensures same_entries { in_order (tree_of result) ≡ in_order (fork node) }
+    ensures nodes { node_count (tree_of result) + spares.new ≡ node_count (fork node) + spares.old }
+    ensures spares { spares.old ≤ spares.new }
+    ensures not_higher { height_of (tree_of result) ≤ height_of (fork node) }
+    ensures at_most_one_lower { height_of (fork node) ≤ height_of (tree_of result) + 1 }
+{
+    if node.left().is_none() || node.right().is_none() {
+        return settle(node, spares);
+    }
+    if node.entries().len() < 14 {
+        let Some(left) = node.take_left() else {
+            unreachable!()
+        };
+        let (left, last) = take_last(left, spares);
+        node.set_left(left);
+        node.put_entry(0, last);
+    }
+    Some(mend(node, spares))
+}
+
+/// The place of a reference among entries.
+fn find_among<O: RefOrder>(entries: &[RowRef], order: &O, gone: RowRef) -> Option<usize>
+    requires ordered { IsOrdered (O.covers order.now) (O.cmp order.now) entries.now }
+    requires covered { O.covers order.now gone }
+    requires at_most_16 { length entries.now ≤ 16 }
+    ensures in_bounds { IfSome result (λ i. i < length entries.now) }
+    ensures found { IfSome result (λ i. slice_get entries.now i ≡ Some gone) }
+    ensures absent { IfNone result (Contains entries.now gone → ⊥) }
+{
+    let probe = AtRef {
+        order,
+        sought: gone,
+    };
+    let mut seek = Seek::new(&probe);
+    match search(&mut seek, entries) {
+        Ok(i) if entries[i] == gone => Some(i),
+        _ => None,
+    }
+}
+
+/// Takes a reference out of a tree, and says whether it was there.
+pub(crate) fn remove_from<O: RefOrder>(
+    tree: Option<Subtree>,
+    order: &O,
+    gone: RowRef,
+    spares: &mut Spares,
+) -> (Option<Subtree>, bool)
+    requires tree { IsTTree (tree_of tree) }
+    requires ordered { IsOrdered (O.covers order.now) (O.cmp order.now) (in_order (tree_of tree)) }
+    requires covered { O.covers order.now gone }
+    requires height_fits { height_of (tree_of tree) + 1 < 2 ^ 64 }
+    requires pool_fits { node_count (tree_of tree) + spares.old < 2 ^ 64 }
+    ensures tree { IsTTree (tree_of result.0) }
+    ensures held { IsTrue result.1 ↔ Contains (in_order (tree_of tree)) gone }
+    ensures taken { OnTrue result.1 (AddsInOrder (O.cmp order.now) (in_order (tree_of result.0)) gone (in_order (tree_of tree))) }
+    ensures absent { OnFalse result.1 (in_order (tree_of result.0) ≡ in_order (tree_of tree)) }
+    ensures nodes { node_count (tree_of result.0) + spares.new ≡ node_count (tree_of tree) + spares.old }
+    ensures spares { spares.old ≤ spares.new }
+    ensures not_higher { height_of (tree_of result.0) ≤ height_of (tree_of tree) }
+    ensures at_most_one_lower { height_of (tree_of tree) ≤ height_of (tree_of result.0) + 1 }
+{
+    let Some(mut node) = tree else {
+        return (None, false);
+    };
+    match side_of(&node, order, gone) {
+        Ordering::Less => {
+            let left = node.take_left();
+            let (left, found) = remove_from(left, order, gone, spares);
+            node.set_left(left);
+            (Some(mend(node, spares)), found)
+        }
+        Ordering::Greater => {
+            let right = node.take_right();
+            let (right, found) = remove_from(right, order, gone, spares);
+            node.set_right(right);
+            (Some(mend(node, spares)), found)
+        }
+        Ordering::Equal => match find_among(node.entries(), order, gone) {
+            Some(i) => {
+                node.take_entry(i);
+                (refill(node, spares), true)
+            }
+            None => (Some(node), false),
+        },
+    }
+}

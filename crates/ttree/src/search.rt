@@ -1,0 +1,75 @@
+//! Search inside a node.
+ghost use Rattle.std.specs.Prelude.{◌≡◌, ◌+◌, ◌≢◌, ◌-◌, ◌<◌, ◌≤◌, ◌↔◌, length, take, drop, slice_index_or, All, IfOk, IfErr};
+ghost use Rattle.std.specs.List.{HoldsAt};
+ghost use Rattle.std.specs.List.Sorted.{IsNonDecreasingBy};
+ghost use Rattle.std.specs.Ordering.{ordering_index};
+
+use mm_order::{Probe, RefOrder, Seek};
+use mm_value::RowRef;
+use std::cmp::Ordering;
+use ttree_node::Subtree;
+
+/// A probe for the place of one reference in an order.
+#[derive(Drop)]
+pub(crate) struct AtRef<'a, O> {
+    pub(crate) order: &'a O,
+    pub(crate) sought: RowRef,
+}
+
+impl<'a, O: RefOrder> Probe for AtRef<'a, O> {
+    ghost covers = { λ p at. O.covers p.order.now at × O.covers p.order.now p.sought };
+
+    ghost place_of = { λ p at. O.cmp p.order.now at p.sought };
+
+    fn place(&self, at: RowRef) -> Ordering {
+        self.order.compare(at, self.sought)
+    }
+}
+
+/// Where an entry fits the probe, or else where one would stand, by at most five questions.
+pub(crate) fn search<P: Probe>(seek: &mut Seek<P>, entries: &[RowRef]) -> Result<usize, usize>
+    requires covered { All (P.covers seek.old.probe) entries.now }
+    requires rising { IsNonDecreasingBy (λ a. ordering_index (P.place_of seek.old.probe a)) entries.now }
+    requires at_most_16 { length entries.now ≤ 16 }
+    ensures probe { seek.new.probe ≡ seek.old.probe }
+    ensures five { seek.new.count ≤ seek.old.count + 5 }
+    ensures found { IfOk result (HoldsAt (λ a. P.place_of seek.old.probe a ≡ Ordering.Equal) entries.now) }
+    ensures found_in_bounds { IfOk result (λ i. i < length entries.now) }
+    ensures in_bounds { IfErr result (λ i. i ≤ length entries.now) }
+    ensures before { IfErr result (λ i. All (λ a. P.place_of seek.old.probe a ≡ Ordering.Less) (take i entries.now)) }
+    ensures after { IfErr result (λ i. All (λ a. P.place_of seek.old.probe a ≡ Ordering.Greater) (drop i entries.now)) }
+{
+    let mut low = 0;
+    let mut high = entries.len();
+    while low < high {
+        let middle = low + (high - low) / 2;
+        match seek.place(entries[middle]) {
+            Ordering::Less => low = middle + 1,
+            Ordering::Equal => return Ok(middle),
+            Ordering::Greater => high = middle,
+        }
+    }
+    Err(low)
+}
+
+/// On which side of a root's entries a reference lies: `Less` before them all, `Greater` after
+/// them all, else `Equal`.
+pub(crate) fn side_of<O: RefOrder>(node: &Subtree, order: &O, sought: RowRef) -> Ordering
+    requires some { 1 ≤ length node.now.entries }
+    requires covered_entries { All (O.covers order.now) node.now.entries }
+    requires covered { O.covers order.now sought }
+    ensures before { (result ≡ Ordering.Less) ↔ (O.cmp order.now sought (slice_index_or node.now.entries 0 sought) ≡ Ordering.Less) }
+    ensures after { result ≡ Ordering.Greater → O.cmp order.now sought (slice_index_or node.now.entries (length node.now.entries - 1) sought) ≡ Ordering.Greater }
+    ensures not_after { result ≡ Ordering.Equal → O.cmp order.now sought (slice_index_or node.now.entries (length node.now.entries - 1) sought) ≢ Ordering.Greater }
+{
+    let entries = node.entries();
+    let least = entries[0];
+    let greatest = entries[entries.len() - 1];
+    if order.compare(sought, least).is_lt() {
+        Ordering::Less
+    } else if order.compare(sought, greatest).is_gt() {
+        Ordering::Greater
+    } else {
+        Ordering::Equal
+    }
+}

@@ -1,0 +1,142 @@
+//! The T-tree.
+ghost use Rattle.std.specs.Prelude.{◌≡◌, ◌≢◌, ◌+◌, ◌*◌, ◌≤◌, min, [], length, All, Contains, IfSome, IfNone};
+ghost use Rattle.std.specs.declared.cmp.Ordering.TheVariants.{Equal};
+ghost use Rattle.mm_order.specs.Order.{IsOrdered};
+ghost use Rattle.mm_order.specs.Probe.{IsMonotone};
+
+use crate::inserts::insert_into;
+use crate::lookup::find_in;
+use crate::ranges::copy_between;
+use crate::removes::remove_from;
+use mm_order::{OrderedRefs, Probe, RefOrder, Seek};
+use mm_value::RowRef;
+use std::alloc::{AllocError, Global};
+use std::marker::Model;
+use ttree_node::{Spares, Subtree};
+
+/// No memory holds this many nodes.
+const MAX_NODES: usize = 576_460_752_303_423_488;
+
+/// Ordered references in a T-tree: a balanced binary tree whose nodes hold up to 16 references in
+/// order (Lehman and Carey, VLDB 1986). It keeps free nodes, so that an insertion takes no memory.
+#[derive(Drop)]
+pub struct TTree {
+    root: Option<Subtree>,
+    spares: Spares,
+    len: usize,
+}
+
+impl Model for TTree {
+    ghost use Rattle.ttree_node.specs.Tree.{tree_of, in_order, height_of};
+    ghost use Rattle.ttree.specs.Held.{Held};
+    ghost use Rattle.ttree.specs.Whole.{IsWhole};
+
+    ghost Value = { Held };
+
+    ghost view = { λ t. record { refs = in_order (tree_of t.root); height = height_of (tree_of t.root); spare = t.spares } };
+
+    ghost invariant = { λ t. IsWhole (tree_of t.root) t.len t.spares };
+}
+
+impl TTree {
+    /// No references. It takes no memory.
+    pub fn new(alloc: Global) -> TTree
+        ensures { result ≡ record { refs = []; height = 0; spare = 0 } }
+    {
+        TTree {
+            root: None,
+            spares: Spares::new(alloc),
+            len: 0,
+        }
+    }
+
+    /// The number of nodes on a longest path from the root.
+    #[tactic(auto, using(crate::proofs::Sizes::height_at_most_28))]
+    pub fn height(&self) -> usize
+        ensures height { result ≡ self.now.height }
+        ensures at_most_28 { length self.now.refs ≤ 1048576 → result ≤ 28 }
+    {
+        match &self.root {
+            None => 0,
+            Some(root) => root.height(),
+        }
+    }
+
+    /// An entry that fits the probe of the search, none where none does. It asks two questions a
+    /// node and five inside one, so at most 61 where the tree has at most 1,048,576 references.
+    #[tactic(auto, using(crate::proofs::Sizes::height_at_most_28))]
+    pub fn find<O: RefOrder, P: Probe>(&self, order: &O, seek: &mut Seek<P>) -> Option<RowRef>
+        requires ordered { IsOrdered (O.covers order.now) (O.cmp order.now) self.now.refs }
+        requires monotone { IsMonotone (O.covers order.now) (O.cmp order.now) (P.covers seek.old.probe) (P.place_of seek.old.probe) }
+        ensures held { IfSome result (Contains self.now.refs) }
+        ensures fits { IfSome result (λ r. P.place_of seek.old.probe r ≡ Equal) }
+        ensures none { IfNone result (All (λ a. P.place_of seek.old.probe a ≢ Equal) self.now.refs) }
+        ensures probe { seek.new.probe ≡ seek.old.probe }
+        ensures steps { seek.new.count ≤ seek.old.count + 2 * self.now.height + 5 }
+        ensures at_most_61 { length self.now.refs ≤ 1048576 → seek.new.count ≤ seek.old.count + 61 }
+    {
+        find_in(self.root.as_ref(), order, seek)
+    }
+
+    /// Frees spare nodes until there are at most `n`.
+    pub fn trim_spares(&mut self, n: usize)
+        ensures { self.new ≡ record self.old { spare = min self.old.spare n } }
+    {
+        self.spares.trim(n);
+    }
+}
+
+impl OrderedRefs for TTree {
+    ghost refs = { λ t. t.refs };
+
+    ghost spare = { λ t. t.spare };
+
+    fn len(&self) -> usize {
+        self.len
+    }
+
+    fn spare(&self) -> usize {
+        self.spares.len()
+    }
+
+    #[tactic(auto, using(crate::proofs::Sizes::nodes_at_most))]
+    fn reserve(&mut self, _alloc: Global, n: usize) -> Result<(), AllocError> {
+        if self.len.saturating_add(n) > MAX_NODES {
+            return Err(AllocError);
+        }
+        self.spares.reserve(n)
+    }
+
+    #[tactic(auto, using(crate::proofs::Sizes::height_at_most_nodes, crate::proofs::Sizes::entries_at_most))]
+    fn insert<O: RefOrder>(&mut self, order: &O, added: RowRef) {
+        let root = insert_into(self.root.take(), order, added, &mut self.spares);
+        self.root = Some(root);
+        self.len += 1;
+    }
+
+    #[tactic(auto, using(crate::proofs::Sizes::height_at_most_nodes))]
+    fn remove<O: RefOrder>(&mut self, order: &O, gone: RowRef) -> bool {
+        let (root, found) = remove_from(self.root.take(), order, gone, &mut self.spares);
+        self.root = root;
+        if found {
+            self.len -= 1;
+        }
+        found
+    }
+
+    fn copy_range<O: RefOrder, L: Probe, H: Probe>(
+        &self,
+        _alloc: Global,
+        order: &O,
+        low: &L,
+        high: &H,
+        out: &mut Vec<RowRef>,
+    ) -> Result<(), AllocError> {
+        let before = out.len();
+        let copied = copy_between(self.root.as_ref(), order, low, high, out);
+        if copied.is_err() {
+            out.truncate(before);
+        }
+        copied
+    }
+}
