@@ -2,7 +2,6 @@ mod ColumnLists
 mod Commands
 mod Fronts
 mod Lexing
-pub mod LineLemmas
 mod Literals
 mod ReplyLemmas
 mod SpelledColumns

@@ -1,5 +1,4 @@
 mod CatalogLemmas
-mod ColumnLemmas
 pub mod Dues
 pub mod Keys
 pub mod NameLemmas
