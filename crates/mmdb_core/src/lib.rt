@@ -15,3 +15,6 @@ mod window;
 pub use fault::{RunFault, exit_status};
 pub use limits::{Limits, MAX_MAX_INPUT, Totals};
 pub use run_script::run;
+
+#[cfg(test)]
+mod tests;

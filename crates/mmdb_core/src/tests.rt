@@ -1,0 +1,226 @@
+//! What no clause says: worked runs with their replies, devices that fail or take little, and that ample memory is
+//! never refused.
+use crate::{Limits, MAX_MAX_INPUT, RunFault, Totals, exit_status, run};
+use mm_value::Watched;
+use std::alloc::Global;
+use std::io;
+use std::io::{Read, Write};
+use std::test::Fail;
+
+// Gives at most `step` bytes a call, and after the last one an error where it `breaks`.
+#[derive(Drop)]
+struct Source<'a> {
+    left: &'a [u8],
+    step: usize,
+    breaks: bool,
+}
+
+impl Read for Source<'_> {
+    fn read(&mut self, buf: &mut [u8]) -> io::Result<usize> {
+        if self.left.is_empty() && self.breaks {
+            return Err(io::Error::from(io::ErrorKind::BrokenPipe));
+        }
+        let most = buf.len().min(self.step).min(self.left.len());
+        let (given, left) = self.left.split_at(most);
+        buf[..most].copy_from_slice(given);
+        self.left = left;
+        Ok(most)
+    }
+}
+
+// Takes at most `step` bytes a call and `room` in all, and then answers an error.
+#[derive(Drop)]
+struct Sink {
+    taken: Vec<u8>,
+    step: usize,
+    room: usize,
+    flushed: usize,
+    flushes: usize,
+}
+
+impl Write for Sink {
+    fn write(&mut self, buf: &[u8]) -> io::Result<usize> {
+        let room = self.room.saturating_sub(self.taken.len());
+        let most = buf.len().min(self.step).min(room);
+        if most == 0 {
+            return Err(io::Error::from(io::ErrorKind::BrokenPipe));
+        }
+        self.taken.extend_from_slice(&buf[..most])?;
+        Ok(most)
+    }
+
+    fn flush(&mut self) -> io::Result<()> {
+        self.flushed = self.taken.len();
+        self.flushes = self.flushes.saturating_add(1);
+        Ok(())
+    }
+}
+
+// A step within which each script of these tests is taken at once.
+const WHOLE: usize = 1_000_000;
+
+const NO_RUN: &str = "no such limit";
+
+// How a run ended, and what its writer had then.
+#[derive(Drop)]
+struct Ran {
+    ended: Result<Totals, RunFault>,
+    sink: Sink,
+}
+
+impl Ran {
+    fn wrote(&self, replies: &[u8]) -> bool {
+        self.sink.taken.as_slice() == replies
+    }
+
+    fn flushed_each_of(&self, replies: usize) -> bool {
+        self.sink.flushes == replies && self.sink.flushed == self.sink.taken.len()
+    }
+
+    fn counted(&self, lines: u64, refused: u64) -> bool {
+        match self.ended {
+            Ok(totals) => totals == Totals { lines, refused },
+            Err(_) => false,
+        }
+    }
+}
+
+// A run whose writer takes as many bytes a call as its reader gives.
+fn run_source(alloc: Global, source: Source, room: usize, max_input: u64) -> Option<Ran> {
+    let limits = Limits::new(max_input)?;
+    let mut sink = Sink {
+        taken: Vec::new(alloc),
+        step: source.step,
+        room,
+        flushed: 0,
+        flushes: 0,
+    };
+    let mut reader = Watched::new(source);
+    let mut writer = Watched::new(&mut sink);
+    let ended = run(alloc, &mut reader, &mut writer, limits);
+    Some(Ran { ended, sink })
+}
+
+fn run_input(alloc: Global, left: &[u8], step: usize, max_input: u64) -> Option<Ran> {
+    let breaks = false;
+    run_source(alloc, Source { left, step, breaks }, WHOLE, max_input)
+}
+
+#[test]
+fn each_line_is_answered(rt: HostRuntime) -> Result<(), Fail> {
+    for (input, replies, lines, refused) in [
+        (b"".as_slice(), b"".as_slice(), 0, 0),
+        (
+            b"TABLE t (id INT KEY, k INT)\nINSERT t (2, 5), (1, 5)\nSCAN t\n",
+            b"ok\nok 2\n(1, 5)\n(2, 5)\nrows 2\n",
+            3,
+            0,
+        ),
+        (
+            b"TABLE t (id INT KEY)\nINSERT t (2)\nINSERT t (1), (2)\nSCAN t\n",
+            b"ok\nok 1\nerror 40 duplicate key\n(2)\nrows 1\n",
+            4,
+            1,
+        ),
+        (
+            b"TABLE t (id INT KEY)\r\nSCAN t\x00\n\n-- x\nSCAN t",
+            b"ok\nerror 11 syntax\nrows 0\n",
+            5,
+            1,
+        ),
+    ] {
+        for step in [1, WHOLE] {
+            let ran = run_input(rt.alloc(), input, step, MAX_MAX_INPUT).ok_or(NO_RUN)?;
+            assert!(rt; ran.wrote(replies), "at {input:?}");
+            assert!(rt; ran.counted(lines, refused), "at {input:?}");
+            assert_eq!(rt; exit_status(&ran.ended), 0);
+        }
+    }
+    Ok(())
+}
+
+#[test]
+fn each_reply_is_flushed(rt: HostRuntime) -> Result<(), Fail> {
+    let input = b"TABLE t (id INT KEY)\nINSERT t (2), (1)\n\nSCAN t\nSCAN u\n";
+    for step in [1, WHOLE] {
+        let ran = run_input(rt.alloc(), input, step, 1_000).ok_or(NO_RUN)?;
+        assert!(rt; ran.flushed_each_of(4));
+    }
+    Ok(())
+}
+
+#[test]
+fn long_lines_are_refused(rt: HostRuntime) -> Result<(), Fail> {
+    let alloc = rt.alloc();
+    for (blanks, end, refused, replies) in [
+        (4096, b"\r\n".as_slice(), 0, b"ok\n".as_slice()),
+        (4097, b"\n", 1, b"error 10 line too long\nok\n"),
+        (20_000, b"SCAN t\r\n", 1, b"error 10 line too long\nok\n"),
+    ] {
+        let mut input = Vec::new(alloc);
+        input.resize(blanks, b' ')?;
+        input.extend_from_slice(end)?;
+        input.extend_from_slice(b"TABLE t (id INT KEY)\n")?;
+        for step in [1, WHOLE] {
+            let ran = run_input(alloc, &input, step, 30_000).ok_or(NO_RUN)?;
+            assert!(rt; ran.wrote(replies), "at {blanks}");
+            assert!(rt; ran.counted(2, refused), "at {blanks}");
+        }
+    }
+    Ok(())
+}
+
+#[test]
+fn a_failed_writer_ends_a_run(rt: HostRuntime) -> Result<(), Fail> {
+    for step in [1, WHOLE] {
+        let source = Source {
+            left: b"TABLE t (id INT KEY, k INT)\nINSERT t (2, 5), (1, 5)\n",
+            step,
+            breaks: false,
+        };
+        let ran = run_source(rt.alloc(), source, 4, 1_000).ok_or(NO_RUN)?;
+        assert!(rt; ran.wrote(b"ok\no"));
+        assert!(rt; matches!(ran.ended, Err(RunFault::Write)));
+        assert_eq!(rt; exit_status(&ran.ended), 2);
+    }
+    Ok(())
+}
+
+#[test]
+fn a_failed_reader_ends_a_run(rt: HostRuntime) -> Result<(), Fail> {
+    for step in [1, WHOLE] {
+        let source = Source {
+            left: b"SCAN nope\nSCA",
+            step,
+            breaks: true,
+        };
+        let ran = run_source(rt.alloc(), source, WHOLE, 1_000).ok_or(NO_RUN)?;
+        assert!(rt; ran.wrote(b"error 20 no such table\n"));
+        assert!(rt; matches!(ran.ended, Err(RunFault::Read)));
+        assert_eq!(rt; exit_status(&ran.ended), 2);
+    }
+    Ok(())
+}
+
+#[test]
+fn a_limit_ends_a_run(rt: HostRuntime) -> Result<(), Fail> {
+    let input = b"SCAN t\nSCAN t\n";
+    for step in [1, WHOLE] {
+        let cut = run_input(rt.alloc(), input, step, 10).ok_or(NO_RUN)?;
+        assert!(rt; cut.wrote(b"error 20 no such table\n"));
+        assert!(rt; matches!(cut.ended, Err(RunFault::TooLong)));
+        assert_eq!(rt; exit_status(&cut.ended), 3);
+        let whole = run_input(rt.alloc(), input, step, 14).ok_or(NO_RUN)?;
+        assert!(rt; whole.wrote(b"error 20 no such table\nerror 20 no such table\n"));
+        assert!(rt; whole.counted(2, 2));
+    }
+    Ok(())
+}
+
+#[test]
+fn limits_have_a_bound(rt: HostRuntime) -> Result<(), Fail> {
+    let most = Limits::new(1_099_511_627_776).ok_or(NO_RUN)?;
+    assert_eq!(rt; most.max_input(), MAX_MAX_INPUT);
+    assert!(rt; Limits::new(1_099_511_627_777).is_none());
+    Ok(())
+}
