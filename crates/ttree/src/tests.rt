@@ -201,6 +201,11 @@ fn assert_same(
     sorted.copy_range(alloc, &ByPlace, &Anywhere, &Anywhere, &mut want)?;
     assert_eq!(rt; held.as_slice(), want.as_slice());
     assert_eq!(rt; tree.len(), want.len());
+    assert!(rt; tree.len() <= 1_048_576);
+    assert_eq!(rt; tree.iter().count(), want.len());
+    for (held, want) in tree.iter().zip(want.iter()) {
+        assert_eq!(rt; held, *want);
+    }
     Ok(())
 }
 
