@@ -123,6 +123,12 @@ fn each_line_is_answered(rt: HostRuntime) -> Result<(), Fail> {
             1,
         ),
         (
+            b"TABLE t (id INT KEY)\nTABLE u (k INT, id INT KEY)\nINSERT u (1, 9), (2, 8)\nSCAN u\nSCAN t\n",
+            b"ok\nok\nok 2\n(2, 8)\n(1, 9)\nrows 2\nrows 0\n",
+            5,
+            0,
+        ),
+        (
             b"TABLE t (id INT KEY)\r\nSCAN t\x00\n\n-- x\nSCAN t",
             b"ok\nerror 11 syntax\nrows 0\n",
             5,

@@ -6,3 +6,4 @@ pub mod Taken
 pub mod Sizes
 pub mod Between
 pub mod Sought
+pub mod Path

@@ -1,3 +1,4 @@
 pub mod Balanced
 pub mod Held
+pub mod Path
 pub mod Whole

@@ -3,6 +3,7 @@
 
 mod balance;
 mod inserts;
+mod iters;
 mod lookup;
 mod ranges;
 mod removes;
@@ -11,4 +12,5 @@ mod search;
 mod tests;
 mod tree;
 
+pub use iters::Iter;
 pub use tree::TTree;

@@ -1,13 +1,14 @@
-//! What no clause says: that ample memory is never refused. And each call once at concrete types.
+//! What no clause says: that ample memory is never refused, and where entries stand in the nodes.
+//! And each call once at concrete types.
 ghost use Rattle.std.specs.Prelude.{◌≡◌, ◌≤◌, OnOk};
-ghost use Rattle.std.specs.Ordering.{nat_cmp};
-ghost use Rattle.std.specs.Cmp.{on_total, nat_cmp_total};
+ghost use Rattle.std.specs.Ordering.{nat_cmp, ordering_then};
+ghost use Rattle.std.specs.Cmp.{then_total, on_total, nat_cmp_total};
 ghost use Rattle.std.specs.declared.cmp.Ordering.TheVariants.{Equal};
 ghost use Rattle.mm_value.specs.declared.row_ref.RowRef.{RowRef};
-ghost use Rattle.mm_order.specs.Order.{IsTotalOrderOn-from_total};
+ghost use Rattle.mm_order.specs.Order.{IsOrdered, IsTotalOrderOn-from_total};
 
 use crate::TTree;
-use mm_order::{OrderedRefs, Probe, RefOrder, Seek};
+use mm_order::{OrderedRefs, Probe, RefOrder, Seek, SortedRefs};
 use mm_value::RowRef;
 use std::alloc::{AllocError, Global};
 use std::cmp::Ordering;
@@ -130,5 +131,146 @@ fn grows_and_shrinks(rt: HostRuntime) -> Result<(), Fail> {
     for (i, held) in out.iter().enumerate() {
         assert_eq!(rt; held.part, 1900 + i);
     }
+    Ok(())
+}
+
+/// References by partition, then by slot.
+#[derive(Drop)]
+struct ByPlace;
+
+impl RefOrder for ByPlace {
+    ghost covers = { λ _ _. Unit {0} };
+
+    ghost cmp = { λ _ a b. ordering_then (nat_cmp a.part b.part) (nat_cmp a.slot b.slot) };
+
+    ghost total = { λ o. IsTotalOrderOn-from_total _ _ (then_total (on_total (λ (r : RowRef). r.part) nat_cmp_total) (on_total (λ (r : RowRef). r.slot) nat_cmp_total)) };
+
+    fn compare(&self, a: RowRef, b: RowRef) -> Ordering {
+        a.part.cmp(&b.part).then(a.slot.cmp(&b.slot))
+    }
+}
+
+/// Every reference.
+#[derive(Drop)]
+struct Anywhere;
+
+impl Probe for Anywhere {
+    ghost covers = { λ _ _. Unit {0} };
+
+    ghost place_of = { λ _ _. Equal };
+
+    fn place(&self, _at: RowRef) -> Ordering {
+        Ordering::Equal
+    }
+}
+
+/// Takes a reference out where it is in, and puts it in where it is not.
+fn toggle<R: OrderedRefs>(refs: &mut R, alloc: Global, toggled: RowRef) -> Result<(), AllocError>
+    requires { IsOrdered (λ _. Unit {0}) (λ a b. ordering_then (nat_cmp a.part b.part) (nat_cmp a.slot b.slot)) (R.refs refs.old) }
+    ensures { IsOrdered (λ _. Unit {0}) (λ a b. ordering_then (nat_cmp a.part b.part) (nat_cmp a.slot b.slot)) (R.refs refs.new) }
+{
+    if refs.remove(&ByPlace, toggled) {
+        return Ok(());
+    }
+    refs.reserve(alloc, 1)?;
+    refs.insert(&ByPlace, toggled);
+    Ok(())
+}
+
+/// Asserts that the entries are of these partitions.
+fn assert_parts(rt: &impl Abort, entries: &[RowRef], want: &[usize]) {
+    assert_eq!(rt; entries.len(), want.len());
+    for (held, part) in entries.iter().zip(want.iter()) {
+        assert_eq!(rt; held.part, *part);
+    }
+}
+
+/// Asserts that both hold the same references in the same order.
+fn assert_same(
+    rt: &impl Abort,
+    alloc: Global,
+    tree: &TTree,
+    sorted: &SortedRefs,
+) -> Result<(), AllocError>
+    requires tree { IsOrdered (λ _. Unit {0}) (λ a b. ordering_then (nat_cmp a.part b.part) (nat_cmp a.slot b.slot)) tree.now.refs }
+    requires sorted { IsOrdered (λ _. Unit {0}) (λ a b. ordering_then (nat_cmp a.part b.part) (nat_cmp a.slot b.slot)) sorted.now.refs }
+{
+    let mut held = Vec::new(alloc);
+    tree.copy_range(alloc, &ByPlace, &Anywhere, &Anywhere, &mut held)?;
+    let mut want = Vec::new(alloc);
+    sorted.copy_range(alloc, &ByPlace, &Anywhere, &Anywhere, &mut want)?;
+    assert_eq!(rt; held.as_slice(), want.as_slice());
+    assert_eq!(rt; tree.len(), want.len());
+    assert!(rt; tree.len() <= 1_048_576);
+    assert_eq!(rt; tree.iter().count(), want.len());
+    for (held, want) in tree.iter().zip(want.iter()) {
+        assert_eq!(rt; held, *want);
+    }
+    Ok(())
+}
+
+#[test]
+fn ascending_references_fill_the_nodes(rt: HostRuntime) -> Result<(), Fail> {
+    let alloc = rt.alloc();
+    let mut tree = TTree::new(alloc);
+    for part in 0..1_048_576 {
+        reserve(&rt, &mut tree, alloc, 1)?;
+        tree.insert(&ByPart, entry(part));
+        match tree.len() {
+            33 | 48 => assert_eq!(rt; tree.height(), 2),
+            49 => assert_eq!(rt; tree.height(), 3),
+            _ => {}
+        }
+    }
+    assert_eq!(rt; tree.len(), 1_048_576);
+    assert!(rt; tree.height() <= 28);
+    Ok(())
+}
+
+#[test]
+fn double_rotation_fills_the_new_root(rt: HostRuntime) -> Result<(), Fail> {
+    let alloc = rt.alloc();
+    let mut tree = TTree::new(alloc);
+    for part in 101..117 {
+        toggle(&mut tree, alloc, entry(part))?;
+    }
+    toggle(&mut tree, alloc, entry(50))?;
+    'low: for part in 1..16 {
+        toggle(&mut tree, alloc, entry(part))?;
+    }
+    toggle(&mut tree, alloc, entry(60))?;
+    assert_eq!(rt; tree.height(), 2);
+    let root = tree.root().expect(&rt, "the tree has a root");
+    let want = [4, 5, 6, 7, 8, 9, 10, 11, 12, 13, 14, 15, 50, 60];
+    assert_parts(&rt, root.entries(), want.as_slice());
+    let left = root.left().expect(&rt, "the root has a left leaf");
+    assert_parts(&rt, left.entries(), [1, 2, 3].as_slice());
+    let right = root.right().expect(&rt, "the root has a right leaf");
+    assert_eq!(rt; right.entries().len(), 16);
+    for (i, held) in right.entries().iter().enumerate() {
+        assert_eq!(rt; held.part, 101 + i);
+    }
+    Ok(())
+}
+
+#[test]
+fn holds_what_the_sorted_list_holds(rt: HostRuntime) -> Result<(), Fail> {
+    let alloc = rt.alloc();
+    let mut tree = TTree::new(alloc);
+    let mut sorted = SortedRefs::new(alloc);
+    let mut seed: u32 = 1;
+    for step in 0..100_000 {
+        seed = seed.wrapping_mul(1_664_525).wrapping_add(1_013_904_223);
+        let toggled = RowRef {
+            part: (seed >> 16) as usize % 1000,
+            slot: (seed >> 28) as u8,
+        };
+        toggle(&mut tree, alloc, toggled)?;
+        toggle(&mut sorted, alloc, toggled)?;
+        if step % 5000 == 0 {
+            assert_same(&rt, alloc, &tree, &sorted)?;
+        }
+    }
+    assert_same(&rt, alloc, &tree, &sorted)?;
     Ok(())
 }

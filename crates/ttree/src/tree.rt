@@ -5,6 +5,7 @@ ghost use Rattle.mm_order.specs.Order.{IsOrdered};
 ghost use Rattle.mm_order.specs.Probe.{IsMonotone};
 
 use crate::inserts::insert_into;
+use crate::iters::Iter;
 use crate::lookup::find_in;
 use crate::ranges::copy_between;
 use crate::removes::remove_from;
@@ -76,6 +77,21 @@ impl TTree {
         ensures at_most_61 { length self.now.refs ≤ 1048576 → seek.new.count ≤ seek.old.count + 61 }
     {
         find_in(self.root.as_ref(), order, seek)
+    }
+
+    /// The references in order, without a copy, of a tree that has at most 1,048,576.
+    #[tactic(auto, using(crate::proofs::Sizes::height_at_most_28))]
+    pub fn iter(&self) -> Iter<'_>
+        requires { length self.now.refs ≤ 1048576 }
+        ensures { result ≡ self.now.refs }
+    {
+        Iter::new(self.root.as_ref())
+    }
+
+    /// The tree itself.
+    #[cfg(test)]
+    pub(crate) fn root(&self) -> Option<&Subtree> {
+        self.root.as_ref()
     }
 
     /// Frees spare nodes until there are at most `n`.

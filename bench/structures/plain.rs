@@ -1,0 +1,651 @@
+//! Times plain Rust structures of the same rules beside those of the program `structures`.
+use std::cmp::Ordering;
+use std::collections::{BTreeSet, HashMap};
+use std::hint::black_box;
+use std::mem::replace;
+use std::ptr::null_mut;
+use std::time::{Duration, Instant};
+
+#[derive(Clone, Copy, Debug, Default, PartialEq, Eq)]
+struct RowRef {
+    part: usize,
+    slot: u8,
+}
+
+#[derive(Clone, Copy)]
+struct Entry {
+    key: u64,
+    reference: RowRef,
+}
+
+/// The key of a number (the finalizer of SplitMix64).
+fn key_of(n: usize) -> u64 {
+    let a = (n as u64).wrapping_add(0x9E37_79B9_7F4A_7C15);
+    let b = (a ^ (a >> 30)).wrapping_mul(0xBF58_476D_1CE4_E5B9);
+    let c = (b ^ (b >> 27)).wrapping_mul(0x94D0_49BB_1331_11EB);
+    c ^ (c >> 31)
+}
+
+fn reference_of(n: usize) -> RowRef {
+    RowRef { part: n, slot: 0 }
+}
+
+/// The number below `n` that follows in the shuffle, which meets each once where `n` is a power of 10 or 2.
+fn after(number: usize, n: usize) -> usize {
+    (number * 1_664_521 + 1_013_904_223) % n
+}
+
+fn shuffled(n: usize) -> Vec<Entry> {
+    let mut entries = Vec::with_capacity(n);
+    let mut number = 0;
+    for _ in 0..n {
+        entries.push(Entry { key: key_of(number), reference: reference_of(number) });
+        number = after(number, n);
+    }
+    entries
+}
+
+// ---- modified linear hashing
+
+const NIL: u32 = u32::MAX;
+
+#[derive(Clone, Copy)]
+struct Node {
+    hash: u64,
+    part: usize,
+    next: u32,
+    slot: u8,
+}
+
+/// Linear hashing with a chain of single entries a bucket, split above two entries a bucket and
+/// merged below half an entry.
+struct LinearHash {
+    heads: Vec<u32>,
+    nodes: Vec<Node>,
+    len: usize,
+    level: u32,
+    split: usize,
+    free: u32,
+}
+
+impl LinearHash {
+    fn new() -> Self {
+        LinearHash { heads: vec![NIL; 4], nodes: Vec::new(), len: 0, level: 0, split: 0, free: NIL }
+    }
+
+    fn bucket_of(&self, hash: u64) -> usize {
+        let low = (hash & ((4 << self.level) - 1)) as usize;
+        if low < self.split { (hash & ((8 << self.level) - 1)) as usize } else { low }
+    }
+
+    fn insert(&mut self, hash: u64, reference: RowRef) {
+        let bucket = self.bucket_of(hash);
+        let node = Node { hash, part: reference.part, next: self.heads[bucket], slot: reference.slot };
+        if self.free == NIL {
+            self.heads[bucket] = self.nodes.len() as u32;
+            self.nodes.push(node);
+        } else {
+            self.heads[bucket] = self.free;
+            self.free = replace(&mut self.nodes[self.free as usize], node).next;
+        }
+        self.len += 1;
+        if self.len > 2 * self.heads.len() {
+            self.split();
+        }
+    }
+
+    fn split(&mut self) {
+        let mask = (8 << self.level) - 1;
+        let (mut staying, mut leaving, mut at) = (NIL, NIL, self.heads[self.split]);
+        while at != NIL {
+            let node = &mut self.nodes[at as usize];
+            let onto = if node.hash & mask == self.split as u64 { &mut staying } else { &mut leaving };
+            let next = replace(&mut node.next, *onto);
+            *onto = replace(&mut at, next);
+        }
+        self.heads[self.split] = staying;
+        self.heads.push(leaving);
+        self.split += 1;
+        if self.split == 4 << self.level {
+            self.level += 1;
+            self.split = 0;
+        }
+    }
+
+    fn matches(&self, hash: u64, out: &mut Vec<RowRef>) {
+        let mut at = self.heads[self.bucket_of(hash)];
+        while at != NIL {
+            let node = &self.nodes[at as usize];
+            if node.hash == hash {
+                out.push(RowRef { part: node.part, slot: node.slot });
+            }
+            at = node.next;
+        }
+    }
+
+    fn remove(&mut self, hash: u64, reference: RowRef) -> bool {
+        let bucket = self.bucket_of(hash);
+        let (mut before, mut at) = (NIL, self.heads[bucket]);
+        while at != NIL {
+            let node = self.nodes[at as usize];
+            if node.hash == hash && node.part == reference.part && node.slot == reference.slot {
+                match before {
+                    NIL => self.heads[bucket] = node.next,
+                    _ => self.nodes[before as usize].next = node.next,
+                }
+                self.nodes[at as usize].next = self.free;
+                self.free = at;
+                self.len -= 1;
+                if 2 * self.len < self.heads.len() && self.heads.len() > 4 {
+                    self.merge();
+                }
+                return true;
+            }
+            before = replace(&mut at, node.next);
+        }
+        false
+    }
+
+    fn merge(&mut self) {
+        if self.split == 0 {
+            self.level -= 1;
+            self.split = 4 << self.level;
+        }
+        self.split -= 1;
+        let mut at = self.heads.pop().unwrap();
+        let mut onto = self.heads[self.split];
+        while at != NIL {
+            let next = replace(&mut self.nodes[at as usize].next, onto);
+            onto = replace(&mut at, next);
+        }
+        self.heads[self.split] = onto;
+    }
+}
+
+// ---- references in the order of a table of keys
+
+/// The keys by partition, set once before any reference is compared.
+static mut KEYS: Vec<u64> = Vec::new();
+
+fn key(at: RowRef) -> u64 {
+    let keys = &raw const KEYS;
+    unsafe { (&(*keys))[at.part] }
+}
+
+fn compare(a: RowRef, b: RowRef) -> Ordering {
+    key(a).cmp(&key(b)).then(a.part.cmp(&b.part))
+}
+
+#[derive(Clone, Copy, PartialEq, Eq)]
+struct ByKey(RowRef);
+
+impl Ord for ByKey {
+    fn cmp(&self, other: &Self) -> Ordering {
+        compare(self.0, other.0)
+    }
+}
+
+impl PartialOrd for ByKey {
+    fn partial_cmp(&self, other: &Self) -> Option<Ordering> {
+        Some(self.cmp(other))
+    }
+}
+
+// ---- T-tree
+
+const MOST: usize = 16;
+const LEAST: usize = 14;
+
+type Link = *mut TNode;
+
+struct TNode {
+    left: Link,
+    right: Link,
+    height: usize,
+    len: usize,
+    entries: [RowRef; MOST],
+}
+
+fn height(link: Link) -> usize {
+    if link.is_null() { 0 } else { unsafe { (*link).height } }
+}
+
+impl TNode {
+    fn leaf(entry: RowRef) -> Link {
+        let mut entries = [RowRef::default(); MOST];
+        entries[0] = entry;
+        Box::into_raw(Box::new(TNode { left: null_mut(), right: null_mut(), height: 1, len: 1, entries }))
+    }
+
+    fn held(&self) -> &[RowRef] {
+        &self.entries[..self.len]
+    }
+
+    fn put(&mut self, at: usize, entry: RowRef) {
+        self.entries.copy_within(at..self.len, at + 1);
+        self.entries[at] = entry;
+        self.len += 1;
+    }
+
+    fn take(&mut self, at: usize) -> RowRef {
+        let taken = self.entries[at];
+        self.entries.copy_within(at + 1..self.len, at);
+        self.len -= 1;
+        taken
+    }
+
+    fn measure(&mut self) {
+        self.height = height(self.left).max(height(self.right)) + 1;
+    }
+
+    fn place(&self, sought: RowRef) -> Result<usize, usize> {
+        self.held().binary_search_by(|&at| compare(at, sought))
+    }
+
+    fn side(&self, sought: RowRef) -> Ordering {
+        if compare(sought, self.entries[0]).is_lt() {
+            Ordering::Less
+        } else if compare(sought, self.entries[self.len - 1]).is_gt() {
+            Ordering::Greater
+        } else {
+            Ordering::Equal
+        }
+    }
+}
+
+unsafe fn insert_into(link: Link, added: RowRef) -> Link {
+    unsafe {
+        if link.is_null() {
+            return TNode::leaf(added);
+        }
+        let node = &mut *link;
+        match node.side(added) {
+            Ordering::Less if node.left.is_null() && node.len < MOST => node.put(0, added),
+            Ordering::Greater if node.right.is_null() && node.len < MOST => node.put(node.len, added),
+            Ordering::Less => {
+                node.left = insert_into(node.left, added);
+                return balance(link);
+            }
+            Ordering::Greater => {
+                node.right = insert_into(node.right, added);
+                return balance(link);
+            }
+            Ordering::Equal => {
+                let at = node.place(added).unwrap_err();
+                if node.len == MOST {
+                    let least = node.take(0);
+                    node.put(at - 1, added);
+                    node.left = push_last(node.left, least);
+                    return balance(link);
+                }
+                node.put(at, added);
+            }
+        }
+        link
+    }
+}
+
+unsafe fn push_last(link: Link, entry: RowRef) -> Link {
+    unsafe {
+        if link.is_null() {
+            return TNode::leaf(entry);
+        }
+        let node = &mut *link;
+        if node.right.is_null() && node.len < MOST {
+            node.put(node.len, entry);
+            return link;
+        }
+        node.right = push_last(node.right, entry);
+        balance(link)
+    }
+}
+
+unsafe fn balance(link: Link) -> Link {
+    unsafe {
+        let node = &mut *link;
+        let (left, right) = (height(node.left), height(node.right));
+        if left > right + 1 {
+            let child = node.left;
+            if height((*child).left) < height((*child).right) {
+                if is_leaf((*child).right) {
+                    slide_right(child);
+                }
+                node.left = rotate_left(child);
+            }
+            rotate_right(link)
+        } else if right > left + 1 {
+            let child = node.right;
+            if height((*child).right) < height((*child).left) {
+                if is_leaf((*child).left) {
+                    slide_left(child);
+                }
+                node.right = rotate_right(child);
+            }
+            rotate_left(link)
+        } else {
+            node.height = left.max(right) + 1;
+            link
+        }
+    }
+}
+
+unsafe fn is_leaf(link: Link) -> bool {
+    unsafe { !link.is_null() && (*link).left.is_null() && (*link).right.is_null() }
+}
+
+unsafe fn rotate_left(link: Link) -> Link {
+    unsafe {
+        let top = (*link).right;
+        (*link).right = (*top).left;
+        (*link).measure();
+        (*top).left = link;
+        (*top).measure();
+        top
+    }
+}
+
+unsafe fn rotate_right(link: Link) -> Link {
+    unsafe {
+        let top = (*link).left;
+        (*link).left = (*top).right;
+        (*link).measure();
+        (*top).right = link;
+        (*top).measure();
+        top
+    }
+}
+
+fn count_to_hand_on(from: &TNode, to: &TNode) -> usize {
+    (from.len - 1).min(LEAST.saturating_sub(to.len))
+}
+
+/// Hands the last entries of a node on to its right leaf, which is to become an internal node.
+unsafe fn slide_right(link: Link) {
+    unsafe {
+        let (node, leaf) = (&mut *link, &mut *(*link).right);
+        let n = count_to_hand_on(node, leaf);
+        leaf.entries.copy_within(..leaf.len, n);
+        leaf.entries[..n].copy_from_slice(&node.entries[node.len - n..node.len]);
+        leaf.len += n;
+        node.len -= n;
+    }
+}
+
+/// Hands the first entries of a node on to its left leaf, which is to become an internal node.
+unsafe fn slide_left(link: Link) {
+    unsafe {
+        let (node, leaf) = (&mut *link, &mut *(*link).left);
+        let n = count_to_hand_on(node, leaf);
+        leaf.entries[leaf.len..leaf.len + n].copy_from_slice(&node.entries[..n]);
+        node.entries.copy_within(n..node.len, 0);
+        leaf.len += n;
+        node.len -= n;
+    }
+}
+
+unsafe fn remove_from(link: Link, gone: RowRef) -> (Link, bool) {
+    unsafe {
+        if link.is_null() {
+            return (link, false);
+        }
+        let node = &mut *link;
+        let found;
+        match node.side(gone) {
+            Ordering::Less => (node.left, found) = remove_from(node.left, gone),
+            Ordering::Greater => (node.right, found) = remove_from(node.right, gone),
+            Ordering::Equal => {
+                let Ok(at) = node.place(gone) else { return (link, false) };
+                node.take(at);
+                return (refill(link), true);
+            }
+        }
+        (mend(link), found)
+    }
+}
+
+/// An internal node of fewer than 14 entries borrows the greatest of its left side.
+unsafe fn refill(link: Link) -> Link {
+    unsafe {
+        let node = &mut *link;
+        if node.left.is_null() || node.right.is_null() {
+            return settle(link);
+        }
+        if node.len < LEAST {
+            let (left, last) = take_last(node.left);
+            node.left = left;
+            node.put(0, last);
+        }
+        mend(link)
+    }
+}
+
+unsafe fn take_last(link: Link) -> (Link, RowRef) {
+    unsafe {
+        let node = &mut *link;
+        if node.right.is_null() {
+            let last = node.take(node.len - 1);
+            return (settle(link), last);
+        }
+        let (right, last) = take_last(node.right);
+        node.right = right;
+        (mend(link), last)
+    }
+}
+
+/// A node with at most one child, from which an entry was taken: freed where it is an empty leaf.
+unsafe fn settle(link: Link) -> Link {
+    unsafe {
+        let node = &mut *link;
+        if !node.left.is_null() || !node.right.is_null() {
+            return absorb(link);
+        }
+        if node.len == 0 {
+            drop(Box::from_raw(link));
+            return null_mut();
+        }
+        link
+    }
+}
+
+unsafe fn mend(link: Link) -> Link {
+    unsafe {
+        let node = &mut *link;
+        if node.right.is_null() && is_leaf(node.left) || node.left.is_null() && is_leaf(node.right) {
+            absorb(link)
+        } else {
+            balance(link)
+        }
+    }
+}
+
+/// Merges a half-leaf with its leaf where both fit into one node.
+unsafe fn absorb(link: Link) -> Link {
+    unsafe {
+        let node = &mut *link;
+        let leaf = if node.left.is_null() { node.right } else { node.left };
+        let n = (*leaf).len;
+        if n + node.len > MOST {
+            node.height = 2;
+            return link;
+        }
+        if node.left.is_null() {
+            node.entries[node.len..node.len + n].copy_from_slice((*leaf).held());
+        } else {
+            node.entries.copy_within(..node.len, n);
+            node.entries[..n].copy_from_slice((*leaf).held());
+        }
+        node.len += n;
+        (node.left, node.right, node.height) = (null_mut(), null_mut(), 1);
+        drop(Box::from_raw(leaf));
+        link
+    }
+}
+
+unsafe fn find_in(mut link: Link, sought: RowRef) -> Option<RowRef> {
+    unsafe {
+        while !link.is_null() {
+            let node = &*link;
+            match node.side(sought) {
+                Ordering::Less => link = node.left,
+                Ordering::Greater => link = node.right,
+                Ordering::Equal => return node.place(sought).ok().map(|at| node.entries[at]),
+            }
+        }
+        None
+    }
+}
+
+// ---- the passes
+
+/// Times a pass over all entries, and adds to a sum what it answers.
+fn timed(sum: &mut usize, pass: impl FnOnce() -> usize) -> Duration {
+    let start = Instant::now();
+    let answer = black_box(pass());
+    let spent = start.elapsed();
+    *sum += answer;
+    spent
+}
+
+/// Times `insert` of each number, then `find` (the partition that is found) and `remove` (whether it was there) of
+/// each shuffled entry, and prints the nanoseconds of each pass and the sum of what they answer.
+fn measure<T>(
+    name: &str,
+    n: usize,
+    mut structure: T,
+    insert: impl Fn(&mut T, Entry),
+    find: impl Fn(&T, Entry, &mut Vec<RowRef>) -> usize,
+    remove: impl Fn(&mut T, Entry) -> bool,
+) {
+    let sought = shuffled(n);
+    let mut sum = 0;
+    let inserts = timed(&mut sum, || {
+        for number in 0..n {
+            insert(&mut structure, Entry { key: key_of(number), reference: reference_of(number) });
+        }
+        0
+    });
+    let mut found = Vec::new();
+    let finds = timed(&mut sum, || sought.iter().map(|&entry| find(&structure, entry, &mut found)).sum());
+    let removes =
+        timed(&mut sum, || sought.iter().filter(|&&entry| remove(&mut structure, entry)).count());
+    println!("{name} {n} {} {} {} {sum}", inserts.as_nanos(), finds.as_nanos(), removes.as_nanos());
+}
+
+fn by_hash(n: usize) {
+    measure(
+        "LinearHash",
+        n,
+        LinearHash::new(),
+        |table, entry| table.insert(entry.key, entry.reference),
+        |table, entry, found| {
+            found.clear();
+            table.matches(entry.key, found);
+            found[0].part
+        },
+        |table, entry| table.remove(entry.key, entry.reference),
+    );
+    measure(
+        "HashMap",
+        n,
+        HashMap::<u64, (usize, u8)>::new(),
+        |map, entry| {
+            map.insert(entry.key, (entry.reference.part, entry.reference.slot));
+        },
+        |map, entry, _| map[&entry.key].0,
+        |map, entry| map.remove(&entry.key).is_some(),
+    );
+}
+
+fn in_order(n: usize) {
+    unsafe { KEYS = (0..n).map(key_of).collect() };
+    measure(
+        "unsafe_TTree",
+        n,
+        null_mut(),
+        |root, entry| *root = unsafe { insert_into(*root, entry.reference) },
+        |root, entry, _| unsafe { find_in(*root, entry.reference) }.unwrap().part,
+        |root, entry| {
+            let (left, found) = unsafe { remove_from(*root, entry.reference) };
+            *root = left;
+            found
+        },
+    );
+    measure(
+        "BTreeSet",
+        n,
+        BTreeSet::new(),
+        |set, entry| {
+            set.insert(ByKey(entry.reference));
+        },
+        |set, entry, _| set.get(&ByKey(entry.reference)).unwrap().0.part,
+        |set, entry| set.remove(&ByKey(entry.reference)),
+    );
+}
+
+/// Rows of no values, 64 free slots at a time, and a stack of the free ones.
+fn in_rows(n: usize) {
+    let mut slots: Vec<Option<Vec<u64>>> = Vec::new();
+    let mut vacant = Vec::new();
+    let mut refs = Vec::with_capacity(n);
+    let mut sum = 0;
+    let inserts = timed(&mut sum, || {
+        for _ in 0..n {
+            if vacant.is_empty() {
+                vacant.extend((slots.len()..slots.len() + 64).rev());
+                slots.resize(slots.len() + 64, None);
+            }
+            let at = vacant.pop().unwrap();
+            slots[at] = Some(Vec::new());
+            refs.push(RowRef { part: at / 64, slot: (at % 64) as u8 });
+        }
+        0
+    });
+    let finds = timed(&mut sum, || {
+        let (mut found, mut number) = (0, 0);
+        for _ in 0..n {
+            let at: RowRef = refs[number];
+            found += slots[at.part * 64 + usize::from(at.slot)].as_ref().unwrap().len() + number;
+            number = after(number, n);
+        }
+        found
+    });
+    println!("slots {n} {} {} 0 {sum}", inserts.as_nanos(), finds.as_nanos());
+}
+
+/// A sorted vector: an edit moves half of it.
+fn in_a_vector(n: usize) {
+    measure(
+        "sorted_Vec",
+        n,
+        Vec::new(),
+        |list: &mut Vec<RowRef>, entry| {
+            let at = list.partition_point(|&held| compare(held, entry.reference).is_lt());
+            list.insert(at, entry.reference);
+        },
+        |list, entry, found| {
+            found.clear();
+            let rest = &list[list.partition_point(|&held| compare(held, entry.reference).is_lt())..];
+            found.extend(&rest[..rest.partition_point(|&held| compare(held, entry.reference).is_le())]);
+            found[0].part
+        },
+        |list, entry| {
+            let at = list.partition_point(|&held| compare(held, entry.reference).is_lt());
+            let held = list.get(at) == Some(&entry.reference);
+            if held {
+                list.remove(at);
+            }
+            held
+        },
+    );
+}
+
+fn main() {
+    for n in [10_000, 100_000, 1_048_576] {
+        by_hash(n);
+        in_order(n);
+        in_rows(n);
+        if n <= 100_000 {
+            in_a_vector(n);
+        }
+    }
+}

@@ -1,0 +1,57 @@
+//! The order by key.
+ghost use Rattle.std.specs.Prelude.{◌≡◌};
+ghost use Rattle.std.specs.Ordering.{nat_cmp};
+ghost use Rattle.std.specs.Cmp.{then_total, on_total, nat_cmp_total};
+ghost use Rattle.mm_value.specs.declared.row_ref.RowRef.{RowRef};
+ghost use Rattle.mm_order.specs.Order.{IsTotalOrderOn-from_total};
+ghost use Rattle.bench_structures.specs.Keys.{key_in, by_key};
+
+use mm_order::{Probe, RefOrder};
+use mm_value::RowRef;
+use std::cmp::Ordering;
+
+/// References by the keys of their partitions, those of one key by partition.
+#[derive(Drop)]
+pub(crate) struct ByKey<'a> {
+    pub(crate) keys: &'a [u64],
+}
+
+impl<'a> ByKey<'a> {
+    fn key(&self, at: RowRef) -> u64
+        ensures { result ≡ key_in self.now.keys.now at }
+    {
+        match self.keys.get(at.part) {
+            Some(key) => *key,
+            None => 0,
+        }
+    }
+}
+
+impl<'a> RefOrder for ByKey<'a> {
+    ghost covers = { λ _ _. Unit {0} };
+
+    ghost cmp = { λ o. by_key o.keys.now };
+
+    ghost total = { λ o. IsTotalOrderOn-from_total _ _ (then_total (on_total (key_in o.keys.now) nat_cmp_total) (on_total (λ (r : RowRef). r.part) nat_cmp_total)) };
+
+    fn compare(&self, a: RowRef, b: RowRef) -> Ordering {
+        self.key(a).cmp(&self.key(b)).then(a.part.cmp(&b.part))
+    }
+}
+
+/// The place of a reference in that order.
+#[derive(Drop)]
+pub(crate) struct AtRef<'a> {
+    pub(crate) order: &'a ByKey<'a>,
+    pub(crate) sought: RowRef,
+}
+
+impl<'a> Probe for AtRef<'a> {
+    ghost covers = { λ _ _. Unit {0} };
+
+    ghost place_of = { λ p at. by_key p.order.now.keys.now at p.sought };
+
+    fn place(&self, at: RowRef) -> Ordering {
+        self.order.compare(at, self.sought)
+    }
+}

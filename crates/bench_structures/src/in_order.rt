@@ -1,0 +1,157 @@
+//! The ordered lists of references.
+ghost use Rattle.std.specs.Prelude.{◌≡◌, [], OnOk};
+ghost use Rattle.mm_order.specs.Order.{IsOrdered};
+ghost use Rattle.bench_structures.specs.Keys.{by_key};
+
+use crate::by_key::{AtRef, ByKey};
+use crate::entries::{Entry, key_of, reference_of, shuffled};
+use crate::report::{Spent, print};
+use mm_order::{OrderedRefs, Seek, SortedRefs};
+use std::alloc::{AllocError, Global};
+use std::time::Instant;
+use ttree::TTree;
+
+/// Fills, asks and empties a T-tree of `n` references.
+pub(crate) fn measure_tree(rt: &HostRuntime, n: usize) -> anyhow::Result<()> {
+    let alloc = rt.alloc();
+    let sought = shuffled(alloc, n)?;
+    let keys = keys_below(alloc, n)?;
+    let order = ByKey {
+        keys: keys.as_slice(),
+    };
+    let mut tree = TTree::new(alloc);
+    let start = Instant::now(rt)?;
+    fill(alloc, &mut tree, &order, n)?;
+    let insert = start.elapsed(rt)?;
+    let start = Instant::now(rt)?;
+    let found = ask_tree(&tree, &order, sought.as_slice());
+    let find = start.elapsed(rt)?;
+    let start = Instant::now(rt)?;
+    let gone = empty(&mut tree, &order, sought.as_slice());
+    let remove = start.elapsed(rt)?;
+    let sum = found.wrapping_add(gone);
+    print(
+        rt,
+        "TTree",
+        n,
+        &Spent {
+            insert,
+            find,
+            remove,
+            sum,
+        },
+    )?;
+    Ok(())
+}
+
+/// Fills, asks and empties a sorted vector of `n` references.
+pub(crate) fn measure_vector(rt: &HostRuntime, n: usize) -> anyhow::Result<()> {
+    let alloc = rt.alloc();
+    let sought = shuffled(alloc, n)?;
+    let keys = keys_below(alloc, n)?;
+    let order = ByKey {
+        keys: keys.as_slice(),
+    };
+    let mut list = SortedRefs::new(alloc);
+    let start = Instant::now(rt)?;
+    fill(alloc, &mut list, &order, n)?;
+    let insert = start.elapsed(rt)?;
+    let start = Instant::now(rt)?;
+    let found = ask_vector(alloc, &list, &order, sought.as_slice())?;
+    let find = start.elapsed(rt)?;
+    let start = Instant::now(rt)?;
+    let gone = empty(&mut list, &order, sought.as_slice());
+    let remove = start.elapsed(rt)?;
+    let sum = found.wrapping_add(gone);
+    print(
+        rt,
+        "SortedRefs",
+        n,
+        &Spent {
+            insert,
+            find,
+            remove,
+            sum,
+        },
+    )?;
+    Ok(())
+}
+
+fn keys_below(alloc: Global, n: usize) -> Result<Vec<u64>, AllocError> {
+    let mut keys = Vec::with_capacity(alloc, n)?;
+    for number in 0..n {
+        keys.push(key_of(number))?;
+    }
+    Ok(keys)
+}
+
+#[tactic(auto, using(crate::proofs::Orders::apart_from_earlier))]
+fn fill<L: OrderedRefs>(
+    alloc: Global,
+    list: &mut L,
+    order: &ByKey,
+    n: usize,
+) -> Result<(), AllocError>
+    requires { L.refs list.old ≡ [] }
+    ensures { OnOk result (IsOrdered (λ _. Unit {0}) (by_key order.now.keys.now) (L.refs list.new)) }
+{
+    for number in 0..n {
+        list.reserve(alloc, 1)?;
+        list.insert(order, reference_of(number));
+    }
+    Ok(())
+}
+
+#[tactic(auto, using(crate::proofs::Orders::monotone_by_key))]
+fn ask_tree(tree: &TTree, order: &ByKey, sought: &[Entry]) -> usize
+    requires { IsOrdered (λ _. Unit {0}) (by_key order.now.keys.now) tree.now.refs }
+{
+    let mut sum = 0usize;
+    for entry in sought {
+        let probe = AtRef {
+            order: &*order,
+            sought: entry.reference,
+        };
+        if let Some(reference) = tree.find(order, &mut Seek::new(&probe)) {
+            sum = sum.wrapping_add(reference.part);
+        }
+    }
+    sum
+}
+
+#[tactic(auto, using(crate::proofs::Orders::monotone_by_key))]
+fn ask_vector(
+    alloc: Global,
+    list: &SortedRefs,
+    order: &ByKey,
+    sought: &[Entry],
+) -> Result<usize, AllocError>
+    requires { IsOrdered (λ _. Unit {0}) (by_key order.now.keys.now) list.now.refs }
+{
+    let mut found = Vec::new(alloc);
+    let mut sum = 0usize;
+    for entry in sought {
+        let probe = AtRef {
+            order: &*order,
+            sought: entry.reference,
+        };
+        found.clear();
+        list.copy_range(alloc, order, &probe, &probe, &mut found)?;
+        if let Some(reference) = found.first() {
+            sum = sum.wrapping_add(reference.part);
+        }
+    }
+    Ok(sum)
+}
+
+fn empty<L: OrderedRefs>(list: &mut L, order: &ByKey, sought: &[Entry]) -> usize
+    requires { IsOrdered (λ _. Unit {0}) (by_key order.now.keys.now) (L.refs list.old) }
+{
+    let mut sum = 0usize;
+    for entry in sought {
+        if list.remove(order, entry.reference) {
+            sum = sum.wrapping_add(1);
+        }
+    }
+    sum
+}

@@ -1,0 +1,60 @@
+//! The rows by reference.
+ghost use Rattle.std.specs.Prelude.{IfOk, All};
+ghost use Rattle.mm_partition.specs.Places.{IsLive};
+
+use crate::entries::after;
+use crate::report::{Spent, print};
+use mm_partition::Partitions;
+use mm_value::{Row, RowRef};
+use std::alloc::{AllocError, Global};
+use std::time::{Duration, Instant};
+
+/// Fills partitions with `n` rows of no values, and asks for each in shuffled order.
+pub(crate) fn measure(rt: &HostRuntime, n: usize) -> anyhow::Result<()> {
+    let alloc = rt.alloc();
+    let mut rows = Partitions::new(alloc);
+    let start = Instant::now(rt)?;
+    let refs = fill(alloc, &mut rows, n)?;
+    let insert = start.elapsed(rt)?;
+    let start = Instant::now(rt)?;
+    let sum = ask(&rows, refs.as_slice());
+    let find = start.elapsed(rt)?;
+    print(
+        rt,
+        "Partitions",
+        n,
+        &Spent {
+            insert,
+            find,
+            remove: Duration::ZERO,
+            sum,
+        },
+    )?;
+    Ok(())
+}
+
+#[tactic(auto, using(crate::proofs::Rows::live_after))]
+fn fill(alloc: Global, rows: &mut Partitions, n: usize) -> Result<Vec<RowRef>, AllocError>
+    ensures { IfOk result (λ refs. All (IsLive rows.new) refs.items) }
+{
+    let mut refs = Vec::with_capacity(alloc, n)?;
+    for _ in 0..n {
+        rows.reserve(alloc, 1)?;
+        let at = rows.place(Row::new(Vec::new(alloc)));
+        refs.push(at)?;
+    }
+    Ok(refs)
+}
+
+fn ask(rows: &Partitions, refs: &[RowRef]) -> usize
+    requires { All (IsLive rows.now) refs.now }
+{
+    let mut sum = 0usize;
+    let mut number = 0usize;
+    for _ in 0..refs.len() {
+        let row = rows.get(refs[number]);
+        sum = sum.wrapping_add(row.len()).wrapping_add(number);
+        number = after(number, refs.len());
+    }
+    sum
+}

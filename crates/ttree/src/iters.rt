@@ -1,0 +1,102 @@
+//! The references of a tree, one after the other.
+ghost use Rattle.std.specs.Prelude.{◌≡◌, ◌+◌, ◌≤◌, [], ◌++◌, length, IfSome, IfNone};
+ghost use Rattle.std.specs.Option.{option_copied};
+ghost use Rattle.std.specs.Iterator.{YieldsFirst, item_count};
+ghost use Rattle.arrayvec.specs.ArrayVec.{array_vec_len};
+ghost use Rattle.ttree_node.specs.Tree.{tree_of, in_order, height_of};
+ghost use Rattle.ttree.specs.Balanced.{IsTTree};
+ghost use Rattle.ttree.specs.Path.{IsPath, to_come};
+
+use arrayvec::ArrayVec;
+use mm_value::RowRef;
+use std::iter::FusedIterator;
+use std::marker::Model;
+use ttree_node::Subtree;
+
+/// The nodes, from the root downwards, whose entries are to come, each with its right side.
+/// A tree of at most 1,048,576 references has at most 28 levels.
+type Path<'a> = ArrayVec<Option<&'a Subtree>, 28>;
+
+/// The references of a tree in order, seen as the list of those that are left.
+#[derive(Drop)]
+pub struct Iter<'a> {
+    // Those that are left of a node, whose right side is on the path already.
+    entries: &'a [RowRef],
+    path: Path<'a>,
+}
+
+impl<'a> Model for Iter<'a> {
+    ghost use Rattle.std.specs.Prelude.{List, ◌++◌};
+    ghost use Rattle.mm_value.specs.declared.row_ref.RowRef.{RowRef as Ref};
+    ghost use Rattle.ttree.specs.Path.{IsPath, to_come};
+
+    ghost Value = { List Ref };
+
+    ghost view = { λ it. it.entries.now ++ to_come it.path.items };
+
+    ghost invariant = { λ it. IsPath 28 it.path.items };
+}
+
+impl<'a> Iter<'a> {
+    /// All references of a tree of at most 28 levels.
+    pub(crate) fn new(tree: Option<&'a Subtree>) -> Self
+        requires tree { IsTTree (tree_of (option_copied tree)) }
+        requires low { height_of (tree_of (option_copied tree)) ≤ 28 }
+        ensures { result ≡ in_order (tree_of (option_copied tree.entry)) }
+    {
+        let mut path = ArrayVec::new();
+        descend(&mut path, tree);
+        Iter { entries: &[], path }
+    }
+}
+
+impl<'a> Iterator for Iter<'a> {
+    type Item = RowRef;
+
+    ghost next_gives = { YieldsFirst (λ rest. rest) };
+
+    ghost remaining = { item_count (λ rest. rest) };
+
+    fn next(&mut self) -> Option<RowRef> {
+        let entries = if self.entries.is_empty() {
+            next_entries(&mut self.path)?
+        } else {
+            self.entries
+        };
+        let (first, rest) = entries.split_first()?;
+        self.entries = rest;
+        Some(*first)
+    }
+}
+
+impl<'a> FusedIterator for Iter<'a> {}
+
+/// Takes the deepest node off the path, puts the left edge of its right side on it, and gives its
+/// entries.
+fn next_entries<'a>(path: &mut Path<'a>) -> Option<&'a [RowRef]>
+    requires { IsPath 28 path.old.items }
+    ensures path { IsPath 28 path.new.items }
+    ensures some { IfSome result (λ entries. 1 ≤ length entries.now) }
+    ensures entries { IfSome result (λ entries. to_come path.old.items ≡ entries.now ++ to_come path.new.items) }
+    ensures none_before { IfNone result (to_come path.old.items ≡ []) }
+    ensures none { IfNone result (to_come path.new.items ≡ []) }
+{
+    let node = path.pop()??;
+    descend(path, node.right());
+    Some(node.entries())
+}
+
+/// Puts the left edge of a tree on the path, its root first.
+fn descend<'a>(path: &mut Path<'a>, tree: Option<&'a Subtree>)
+    requires path { IsPath 28 path.old.items }
+    requires tree { IsTTree (tree_of (option_copied tree)) }
+    requires low { array_vec_len path.old + height_of (tree_of (option_copied tree)) ≤ 28 }
+    ensures path { IsPath 28 path.new.items }
+    ensures entries { to_come path.new.items ≡ in_order (tree_of (option_copied tree.entry)) ++ to_come path.old.items }
+{
+    let mut edge = tree;
+    while let Some(node) = edge {
+        path.push(Some(node));
+        edge = node.left();
+    }
+}
