@@ -6,4 +6,5 @@ pub mod Taken
 pub mod Sizes
 pub mod Between
 pub mod Sought
+pub mod Decides
 pub mod Path

@@ -1,4 +1,5 @@
 pub mod Balanced
+pub mod Decides
 pub mod Held
 pub mod Path
 pub mod Whole

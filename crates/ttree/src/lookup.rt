@@ -6,6 +6,7 @@ ghost use Rattle.ttree_node.specs.Tree.{fork, tree_of, in_order, height_of};
 ghost use Rattle.mm_order.specs.Order.{IsOrdered};
 ghost use Rattle.mm_order.specs.Probe.{IsMonotone};
 ghost use Rattle.ttree.specs.Balanced.{IsTTree};
+ghost use Rattle.ttree.specs.Decides.{Decides};
 
 use crate::search::search;
 use mm_order::{Probe, RefOrder, Seek};
@@ -28,12 +29,36 @@ pub(crate) fn find_in<O: RefOrder, P: Probe>(
     ensures probe { seek.new.probe ≡ seek.old.probe }
     ensures steps { seek.new.count ≤ seek.old.count + 2 * height_of (tree_of (option_copied tree.entry)) + 5 }
 {
-    let node = tree?;
-    match side_sought(node, order, seek) {
-        Ordering::Less => find_in(node.left(), order, seek),
-        Ordering::Greater => find_in(node.right(), order, seek),
-        Ordering::Equal => find_among(node, order, seek),
+    let node = bounding_node(tree, order, seek)?;
+    find_among(node, order, seek)
+}
+
+/// The node among whose entries the sought place lies, by two questions a node on the way down;
+/// none where it lies among no node's.
+fn bounding_node<'a, O: RefOrder, P: Probe>(
+    tree: Option<&'a Subtree>,
+    order: &O,
+    seek: &mut Seek<P>,
+) -> Option<&'a Subtree>
+    requires tree { IsTTree (tree_of (option_copied tree)) }
+    requires ordered { IsOrdered (O.covers order.now) (O.cmp order.now) (in_order (tree_of (option_copied tree))) }
+    requires monotone { IsMonotone (O.covers order.now) (O.cmp order.now) (P.covers seek.old.probe) (P.place_of seek.old.probe) }
+    ensures probe { seek.new.probe ≡ seek.old.probe }
+    ensures steps { seek.new.count ≤ seek.old.count + 2 * height_of (tree_of (option_copied tree.entry)) }
+    ensures part { IfSome result (λ node. Decides (O.covers order.now) (O.cmp order.now) (P.place_of seek.old.probe) (tree_of (option_copied tree.entry)) (fork node.now)) }
+    ensures not_before { IfSome result (λ node. P.place_of seek.old.probe (slice_index_or node.now.entries 0 (record { part = 0; slot = 0 })) ≢ Greater) }
+    ensures not_after { IfSome result (λ node. P.place_of seek.old.probe (slice_index_or node.now.entries (length node.now.entries - 1) (record { part = 0; slot = 0 })) ≢ Less) }
+    ensures none { IfNone result (All (λ a. P.place_of seek.old.probe a ≢ Equal) (in_order (tree_of (option_copied tree.entry)))) }
+{
+    let mut at = tree;
+    while let Some(node) = at {
+        match side_sought(node, order, seek) {
+            Ordering::Less => at = node.left(),
+            Ordering::Greater => at = node.right(),
+            Ordering::Equal => return Some(node),
+        }
     }
+    None
 }
 
 /// On which side of a root's entries the sought place lies: `Less` before them all, `Greater`
