@@ -1,15 +1,9 @@
--- How often a range can be halved.
-use Rattle.std.proofs.Common.{◌≡◌, ℕ, zero, suc, ◌+◌, ◌^◌, ◌<◌, ◌≤◌, arith}
+-- How far a range is halved.
+use Rattle.std.proofs.Common.{◌≡◌, ℕ, suc, ◌+◌, ◌-◌, ◌^◌, ◌<◌, ◌≤◌, ap, ◌∙◌, arith}
 use Rattle.std.proofs.Math.Nat.{pow-suc}
 
--- a range of k halvings has one less than before
-pub record IsHalved (k half : ℕ) : Type 0 where
-  pub left : ℕ
-  pub one_less : k ≡ left + 1
-  pub below : half < 2 ^ left
-
--- where something is in it, a part of at most half its size is below the next lower power
-pub halved : (k size half : ℕ) → size < 2 ^ k → 0 < size → half + half ≤ size → IsHalved k half
-halved zero size half below some halves = absurd (omega arith)
-halved (suc k) size half below some halves =
-    record { left = k; one_less = omega arith; below = omega (arith, pow-suc 2 k) }
+-- the larger half of a range within a power of two is within the next lower one
+pub halved : (n turn size half : ℕ) → turn < n → size ≤ 2 ^ (n - turn) → half + half ≤ size + 1 → half ≤ 2 ^ (n - (turn + 1))
+halved n turn size half below within halves =
+    let less : n - turn ≡ suc (n - (turn + 1)) = omega arith in
+    omega (arith, ap (λ k. 2 ^ k) less ∙ pow-suc 2 (n - (turn + 1)))

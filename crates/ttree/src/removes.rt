@@ -175,6 +175,7 @@ fn refill(mut node: Subtree, spares: &mut Spares) -> Option<Subtree>
 fn find_among<O: RefOrder>(entries: &[RowRef], order: &O, gone: RowRef) -> Option<usize>
     requires ordered { IsOrdered (O.covers order.now) (O.cmp order.now) entries.now }
     requires covered { O.covers order.now gone }
+    requires some { 1 ≤ length entries.now }
     requires at_most_16 { length entries.now ≤ 16 }
     ensures in_bounds { IfSome result (λ i. i < length entries.now) }
     ensures found { IfSome result (λ i. slice_get entries.now i ≡ Some gone) }

@@ -9,6 +9,9 @@ use mm_value::RowRef;
 use std::cmp::Ordering;
 use ttree_node::Subtree;
 
+/// So many halvings leave one of the 16 entries of a full node.
+const HALVINGS: usize = 4;
+
 /// A probe for the place of one reference in an order.
 #[derive(Drop)]
 pub(crate) struct AtRef<'a, O> {
@@ -28,6 +31,7 @@ impl<'a, O: RefOrder> Probe for AtRef<'a, O> {
 
 /// Where an entry fits the probe, or else where one would stand, by at most five questions.
 pub(crate) fn search<P: Probe>(seek: &mut Seek<P>, entries: &[RowRef]) -> Result<usize, usize>
+    requires some { 1 ≤ length entries.now }
     requires covered { All (P.covers seek.old.probe) entries.now }
     requires rising { IsNonDecreasingBy (λ a. ordering_index (P.place_of seek.old.probe a)) entries.now }
     requires at_most_16 { length entries.now ≤ 16 }
@@ -40,16 +44,20 @@ pub(crate) fn search<P: Probe>(seek: &mut Seek<P>, entries: &[RowRef]) -> Result
     ensures after { IfErr result (λ i. All (λ a. P.place_of seek.old.probe a ≡ Ordering.Greater) (drop i entries.now)) }
 {
     let mut low = 0;
-    let mut high = entries.len();
-    while low < high {
-        let middle = low + (high - low) / 2;
-        match seek.place(entries[middle]) {
-            Ordering::Less => low = middle + 1,
-            Ordering::Equal => return Ok(middle),
-            Ordering::Greater => high = middle,
+    let mut size = entries.len();
+    // The number of turns is fixed, so that they are unrolled: then none has a branch to be guessed.
+    for _ in 0..HALVINGS {
+        let half = size / 2;
+        if seek.place(entries[low + half]).is_le() {
+            low += half;
         }
+        size -= half;
     }
-    Err(low)
+    match seek.place(entries[low]) {
+        Ordering::Less => Err(low + 1),
+        Ordering::Equal => Ok(low),
+        Ordering::Greater => Err(low),
+    }
 }
 
 /// On which side of a root's entries a reference lies: `Less` before them all, `Greater` after
