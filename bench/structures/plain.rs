@@ -1,10 +1,10 @@
-//! Times plain Rust structures of the same rules beside those of the program `structures`.
+//! Times plain Rust structures of the same rules beside those of the program `bench_structures`.
 use std::cmp::Ordering;
 use std::collections::{BTreeSet, HashMap};
 use std::hint::black_box;
 use std::mem::replace;
 use std::ptr::null_mut;
-use std::time::{Duration, Instant};
+use std::time::Instant;
 
 #[derive(Clone, Copy, Debug, Default, PartialEq, Eq)]
 struct RowRef {
@@ -68,11 +68,13 @@ struct LinearHash {
     free: u32,
 }
 
-impl LinearHash {
-    fn new() -> Self {
+impl Default for LinearHash {
+    fn default() -> Self {
         LinearHash { heads: vec![NIL; 4], nodes: Vec::new(), len: 0, level: 0, split: 0, free: NIL }
     }
+}
 
+impl LinearHash {
     fn bucket_of(&self, hash: u64) -> usize {
         let low = (hash & ((4 << self.level) - 1)) as usize;
         if low < self.split { (hash & ((8 << self.level) - 1)) as usize } else { low }
@@ -497,89 +499,196 @@ unsafe fn find_in(mut link: Link, sought: RowRef) -> Option<RowRef> {
 
 // ---- the passes
 
-/// Times a pass over all entries, and adds to a sum what it answers.
-fn timed(sum: &mut usize, pass: impl FnOnce() -> usize) -> Duration {
+/// Times a pass over all entries, and prints the structure, the pass, the number of entries, how many nanoseconds the
+/// pass took, and the sum of what it found.
+fn timed(structure: &str, name: &str, n: usize, pass: impl FnOnce() -> usize) {
     let start = Instant::now();
-    let answer = black_box(pass());
-    let spent = start.elapsed();
-    *sum += answer;
-    spent
+    let sum = black_box(pass());
+    println!("{structure} {name} {n} {} {sum}", start.elapsed().as_nanos());
 }
 
-/// Times `insert` of each number, then `find` (the partition that is found) and `remove` (whether it was there) of
-/// each shuffled entry, and prints the nanoseconds of each pass and the sum of what they answer.
-fn measure<T>(
-    name: &str,
-    n: usize,
-    mut structure: T,
-    insert: impl Fn(&mut T, Entry),
-    find: impl Fn(&T, Entry, &mut Vec<RowRef>) -> usize,
-    remove: impl Fn(&mut T, Entry) -> bool,
-) {
+/// What is timed.
+trait Structure: Default {
+    fn insert(&mut self, entry: Entry);
+    /// The partition of the reference that is found.
+    fn find(&self, entry: Entry, found: &mut Vec<RowRef>) -> usize;
+    /// The sum of the partitions of all references in order.
+    fn walk(&self) -> usize;
+    fn remove(&mut self, entry: Entry) -> bool;
+}
+
+fn fill(filled: &mut impl Structure, n: usize) -> usize {
+    for number in 0..n {
+        filled.insert(Entry { key: key_of(number), reference: reference_of(number) });
+    }
+    0
+}
+
+/// Times the insert of each number, the look-up and the removal of each shuffled entry, and a walk over all where
+/// the structure is in order.
+fn measure<S: Structure>(structure: &str, n: usize, is_ordered: bool) {
     let sought = shuffled(n);
-    let mut sum = 0;
-    let inserts = timed(&mut sum, || {
-        for number in 0..n {
-            insert(&mut structure, Entry { key: key_of(number), reference: reference_of(number) });
-        }
-        0
-    });
+    let mut filled = S::default();
+    timed(structure, "insert", n, || fill(&mut filled, n));
     let mut found = Vec::new();
-    let finds = timed(&mut sum, || sought.iter().map(|&entry| find(&structure, entry, &mut found)).sum());
-    let removes =
-        timed(&mut sum, || sought.iter().filter(|&&entry| remove(&mut structure, entry)).count());
-    println!("{name} {n} {} {} {} {sum}", inserts.as_nanos(), finds.as_nanos(), removes.as_nanos());
+    timed(structure, "look-up", n, || sought.iter().map(|&entry| filled.find(entry, &mut found)).sum());
+    if is_ordered {
+        timed(structure, "walk", n, || filled.walk());
+    }
+    timed(structure, "remove", n, || sought.iter().filter(|&&entry| filled.remove(entry)).count());
 }
 
-fn by_hash(n: usize) {
-    measure(
-        "LinearHash",
-        n,
-        LinearHash::new(),
-        |table, entry| table.insert(entry.key, entry.reference),
-        |table, entry, found| {
-            found.clear();
-            table.matches(entry.key, found);
-            found[0].part
-        },
-        |table, entry| table.remove(entry.key, entry.reference),
-    );
-    measure(
-        "HashMap",
-        n,
-        HashMap::<u64, (usize, u8)>::new(),
-        |map, entry| {
-            map.insert(entry.key, (entry.reference.part, entry.reference.slot));
-        },
-        |map, entry, _| map[&entry.key].0,
-        |map, entry| map.remove(&entry.key).is_some(),
-    );
-}
-
-fn in_order(n: usize) {
+/// The same of a structure in order, and the insert of each number in ascending order.
+fn measure_ordered<S: Structure>(structure: &str, n: usize) {
+    unsafe { KEYS = (0..n as u64).collect() };
+    let mut filled = S::default();
+    timed(structure, "ascending", n, || fill(&mut filled, n));
+    drop(filled);
     unsafe { KEYS = (0..n).map(key_of).collect() };
-    measure(
-        "unsafe_TTree",
-        n,
-        null_mut(),
-        |root, entry| *root = unsafe { insert_into(*root, entry.reference) },
-        |root, entry, _| unsafe { find_in(*root, entry.reference) }.unwrap().part,
-        |root, entry| {
-            let (left, found) = unsafe { remove_from(*root, entry.reference) };
-            *root = left;
-            found
-        },
-    );
-    measure(
-        "BTreeSet",
-        n,
-        BTreeSet::new(),
-        |set, entry| {
-            set.insert(ByKey(entry.reference));
-        },
-        |set, entry, _| set.get(&ByKey(entry.reference)).unwrap().0.part,
-        |set, entry| set.remove(&ByKey(entry.reference)),
-    );
+    measure::<S>(structure, n, true);
+}
+
+impl Structure for LinearHash {
+    fn insert(&mut self, entry: Entry) {
+        self.insert(entry.key, entry.reference);
+    }
+
+    fn find(&self, entry: Entry, found: &mut Vec<RowRef>) -> usize {
+        found.clear();
+        self.matches(entry.key, found);
+        found[0].part
+    }
+
+    fn walk(&self) -> usize {
+        0
+    }
+
+    fn remove(&mut self, entry: Entry) -> bool {
+        self.remove(entry.key, entry.reference)
+    }
+}
+
+impl Structure for HashMap<u64, (usize, u8)> {
+    fn insert(&mut self, entry: Entry) {
+        self.insert(entry.key, (entry.reference.part, entry.reference.slot));
+    }
+
+    fn find(&self, entry: Entry, _: &mut Vec<RowRef>) -> usize {
+        self[&entry.key].0
+    }
+
+    fn walk(&self) -> usize {
+        0
+    }
+
+    fn remove(&mut self, entry: Entry) -> bool {
+        self.remove(&entry.key).is_some()
+    }
+}
+
+/// A T-tree, which is given back when it is dropped.
+struct TTree(Link);
+
+impl Default for TTree {
+    fn default() -> Self {
+        TTree(null_mut())
+    }
+}
+
+impl Drop for TTree {
+    fn drop(&mut self) {
+        unsafe { free(self.0) }
+    }
+}
+
+unsafe fn free(link: Link) {
+    unsafe {
+        if !link.is_null() {
+            free((*link).left);
+            free((*link).right);
+            drop(Box::from_raw(link));
+        }
+    }
+}
+
+unsafe fn sum_of(link: Link) -> usize {
+    unsafe {
+        if link.is_null() {
+            return 0;
+        }
+        let node = &*link;
+        let here: usize = node.held().iter().map(|entry| entry.part).sum();
+        sum_of(node.left) + here + sum_of(node.right)
+    }
+}
+
+impl Structure for TTree {
+    fn insert(&mut self, entry: Entry) {
+        self.0 = unsafe { insert_into(self.0, entry.reference) };
+    }
+
+    fn find(&self, entry: Entry, _: &mut Vec<RowRef>) -> usize {
+        unsafe { find_in(self.0, entry.reference) }.unwrap().part
+    }
+
+    fn walk(&self) -> usize {
+        unsafe { sum_of(self.0) }
+    }
+
+    fn remove(&mut self, entry: Entry) -> bool {
+        let found;
+        (self.0, found) = unsafe { remove_from(self.0, entry.reference) };
+        found
+    }
+}
+
+impl Structure for BTreeSet<ByKey> {
+    fn insert(&mut self, entry: Entry) {
+        self.insert(ByKey(entry.reference));
+    }
+
+    fn find(&self, entry: Entry, _: &mut Vec<RowRef>) -> usize {
+        self.get(&ByKey(entry.reference)).unwrap().0.part
+    }
+
+    fn walk(&self) -> usize {
+        self.iter().map(|held| held.0.part).sum()
+    }
+
+    fn remove(&mut self, entry: Entry) -> bool {
+        self.remove(&ByKey(entry.reference))
+    }
+}
+
+fn bound(list: &[RowRef], sought: RowRef) -> usize {
+    list.partition_point(|&held| compare(held, sought).is_lt())
+}
+
+/// A sorted vector: an edit moves half of it.
+impl Structure for Vec<RowRef> {
+    fn insert(&mut self, entry: Entry) {
+        self.insert(bound(self, entry.reference), entry.reference);
+    }
+
+    fn find(&self, entry: Entry, found: &mut Vec<RowRef>) -> usize {
+        found.clear();
+        let rest = &self[bound(self, entry.reference)..];
+        found.extend(&rest[..rest.partition_point(|&held| compare(held, entry.reference).is_le())]);
+        found[0].part
+    }
+
+    fn walk(&self) -> usize {
+        self.iter().map(|held| held.part).sum()
+    }
+
+    fn remove(&mut self, entry: Entry) -> bool {
+        let at = bound(self, entry.reference);
+        let held = self.get(at) == Some(&entry.reference);
+        if held {
+            self.remove(at);
+        }
+        held
+    }
 }
 
 /// Rows of no values, 64 free slots at a time, and a stack of the free ones.
@@ -587,8 +696,7 @@ fn in_rows(n: usize) {
     let mut slots: Vec<Option<Vec<u64>>> = Vec::new();
     let mut vacant = Vec::new();
     let mut refs = Vec::with_capacity(n);
-    let mut sum = 0;
-    let inserts = timed(&mut sum, || {
+    timed("slots", "insert", n, || {
         for _ in 0..n {
             if vacant.is_empty() {
                 vacant.extend((slots.len()..slots.len() + 64).rev());
@@ -600,7 +708,7 @@ fn in_rows(n: usize) {
         }
         0
     });
-    let finds = timed(&mut sum, || {
+    timed("slots", "look-up", n, || {
         let (mut found, mut number) = (0, 0);
         for _ in 0..n {
             let at: RowRef = refs[number];
@@ -609,43 +717,17 @@ fn in_rows(n: usize) {
         }
         found
     });
-    println!("slots {n} {} {} 0 {sum}", inserts.as_nanos(), finds.as_nanos());
-}
-
-/// A sorted vector: an edit moves half of it.
-fn in_a_vector(n: usize) {
-    measure(
-        "sorted_Vec",
-        n,
-        Vec::new(),
-        |list: &mut Vec<RowRef>, entry| {
-            let at = list.partition_point(|&held| compare(held, entry.reference).is_lt());
-            list.insert(at, entry.reference);
-        },
-        |list, entry, found| {
-            found.clear();
-            let rest = &list[list.partition_point(|&held| compare(held, entry.reference).is_lt())..];
-            found.extend(&rest[..rest.partition_point(|&held| compare(held, entry.reference).is_le())]);
-            found[0].part
-        },
-        |list, entry| {
-            let at = list.partition_point(|&held| compare(held, entry.reference).is_lt());
-            let held = list.get(at) == Some(&entry.reference);
-            if held {
-                list.remove(at);
-            }
-            held
-        },
-    );
 }
 
 fn main() {
     for n in [10_000, 100_000, 1_048_576] {
-        by_hash(n);
-        in_order(n);
+        measure::<LinearHash>("LinearHash", n, false);
+        measure::<HashMap<u64, (usize, u8)>>("HashMap", n, false);
+        measure_ordered::<TTree>("unsafe_TTree", n);
+        measure_ordered::<BTreeSet<ByKey>>("BTreeSet", n);
         in_rows(n);
         if n <= 100_000 {
-            in_a_vector(n);
+            measure_ordered::<Vec<RowRef>>("sorted_Vec", n);
         }
     }
 }

@@ -1,6 +1,6 @@
 //! The bag of references by hash.
 use crate::entries::{Entry, key_of, reference_of, shuffled};
-use crate::report::{Spent, print};
+use crate::report::{Pass, print};
 use mlhash::HashRefs;
 use std::alloc::{AllocError, Global};
 use std::time::Instant;
@@ -12,24 +12,27 @@ pub(crate) fn measure(rt: &HostRuntime, n: usize) -> anyhow::Result<()> {
     let mut bag = HashRefs::new(alloc);
     let start = Instant::now(rt)?;
     fill(&mut bag, n)?;
-    let insert = start.elapsed(rt)?;
-    let start = Instant::now(rt)?;
-    let found = ask(alloc, &bag, sought.as_slice())?;
-    let find = start.elapsed(rt)?;
-    let start = Instant::now(rt)?;
-    let gone = empty(&mut bag, sought.as_slice());
-    let remove = start.elapsed(rt)?;
-    let sum = found.wrapping_add(gone);
     print(
         rt,
-        "HashRefs",
-        n,
-        &Spent {
-            insert,
-            find,
-            remove,
-            sum,
-        },
+        &Pass::new("HashRefs", "insert", n),
+        start.elapsed(rt)?,
+        0,
+    )?;
+    let start = Instant::now(rt)?;
+    let found = ask(alloc, &bag, sought.as_slice())?;
+    print(
+        rt,
+        &Pass::new("HashRefs", "look-up", n),
+        start.elapsed(rt)?,
+        found,
+    )?;
+    let start = Instant::now(rt)?;
+    let gone = empty(&mut bag, sought.as_slice());
+    print(
+        rt,
+        &Pass::new("HashRefs", "remove", n),
+        start.elapsed(rt)?,
+        gone,
     )?;
     Ok(())
 }

@@ -5,15 +5,19 @@ ghost use Rattle.bench_structures.specs.Keys.{by_key};
 
 use crate::by_key::{AtRef, ByKey};
 use crate::entries::{Entry, key_of, reference_of, shuffled};
-use crate::report::{Spent, print};
+use crate::report::{Pass, print};
 use mm_order::{OrderedRefs, Seek, SortedRefs};
 use std::alloc::{AllocError, Global};
 use std::time::Instant;
 use ttree::TTree;
 
-/// Fills, asks and empties a T-tree of `n` references.
+/// The most references that a tree gives one after the other.
+const MAX_WALKED: usize = 1_048_576;
+
+/// Fills a T-tree with `n` references, asks for each, walks them and takes them out.
 pub(crate) fn measure_tree(rt: &HostRuntime, n: usize) -> anyhow::Result<()> {
     let alloc = rt.alloc();
+    measure_ascending(rt, "TTree", &mut TTree::new(alloc), n)?;
     let sought = shuffled(alloc, n)?;
     let keys = keys_below(alloc, n)?;
     let order = ByKey {
@@ -22,31 +26,38 @@ pub(crate) fn measure_tree(rt: &HostRuntime, n: usize) -> anyhow::Result<()> {
     let mut tree = TTree::new(alloc);
     let start = Instant::now(rt)?;
     fill(alloc, &mut tree, &order, n)?;
-    let insert = start.elapsed(rt)?;
+    print(rt, &Pass::new("TTree", "insert", n), start.elapsed(rt)?, 0)?;
     let start = Instant::now(rt)?;
     let found = ask_tree(&tree, &order, sought.as_slice());
-    let find = start.elapsed(rt)?;
-    let start = Instant::now(rt)?;
-    let gone = empty(&mut tree, &order, sought.as_slice());
-    let remove = start.elapsed(rt)?;
-    let sum = found.wrapping_add(gone);
     print(
         rt,
-        "TTree",
-        n,
-        &Spent {
-            insert,
-            find,
-            remove,
-            sum,
-        },
+        &Pass::new("TTree", "look-up", n),
+        start.elapsed(rt)?,
+        found,
+    )?;
+    let start = Instant::now(rt)?;
+    let walked = walk(&tree);
+    print(
+        rt,
+        &Pass::new("TTree", "walk", n),
+        start.elapsed(rt)?,
+        walked,
+    )?;
+    let start = Instant::now(rt)?;
+    let gone = empty(&mut tree, &order, sought.as_slice());
+    print(
+        rt,
+        &Pass::new("TTree", "remove", n),
+        start.elapsed(rt)?,
+        gone,
     )?;
     Ok(())
 }
 
-/// Fills, asks and empties a sorted vector of `n` references.
+/// Fills a sorted vector with `n` references, asks for each and takes them out.
 pub(crate) fn measure_vector(rt: &HostRuntime, n: usize) -> anyhow::Result<()> {
     let alloc = rt.alloc();
+    measure_ascending(rt, "SortedRefs", &mut SortedRefs::new(alloc), n)?;
     let sought = shuffled(alloc, n)?;
     let keys = keys_below(alloc, n)?;
     let order = ByKey {
@@ -55,26 +66,69 @@ pub(crate) fn measure_vector(rt: &HostRuntime, n: usize) -> anyhow::Result<()> {
     let mut list = SortedRefs::new(alloc);
     let start = Instant::now(rt)?;
     fill(alloc, &mut list, &order, n)?;
-    let insert = start.elapsed(rt)?;
-    let start = Instant::now(rt)?;
-    let found = ask_vector(alloc, &list, &order, sought.as_slice())?;
-    let find = start.elapsed(rt)?;
-    let start = Instant::now(rt)?;
-    let gone = empty(&mut list, &order, sought.as_slice());
-    let remove = start.elapsed(rt)?;
-    let sum = found.wrapping_add(gone);
     print(
         rt,
-        "SortedRefs",
-        n,
-        &Spent {
-            insert,
-            find,
-            remove,
-            sum,
-        },
+        &Pass::new("SortedRefs", "insert", n),
+        start.elapsed(rt)?,
+        0,
+    )?;
+    let start = Instant::now(rt)?;
+    let found = ask_vector(alloc, &list, &order, sought.as_slice())?;
+    print(
+        rt,
+        &Pass::new("SortedRefs", "look-up", n),
+        start.elapsed(rt)?,
+        found,
+    )?;
+    let start = Instant::now(rt)?;
+    let gone = empty(&mut list, &order, sought.as_slice());
+    print(
+        rt,
+        &Pass::new("SortedRefs", "remove", n),
+        start.elapsed(rt)?,
+        gone,
     )?;
     Ok(())
+}
+
+/// Fills an empty list with references in ascending order.
+fn measure_ascending<L: OrderedRefs>(
+    rt: &HostRuntime,
+    structure: &str,
+    list: &mut L,
+    n: usize,
+) -> anyhow::Result<()>
+    requires { L.refs list.old ≡ [] }
+{
+    let alloc = rt.alloc();
+    let mut keys = Vec::with_capacity(alloc, n)?;
+    for number in 0..n {
+        keys.push(number as u64)?;
+    }
+    let order = ByKey {
+        keys: keys.as_slice(),
+    };
+    let start = Instant::now(rt)?;
+    fill(alloc, list, &order, n)?;
+    print(
+        rt,
+        &Pass::new(structure, "ascending", n),
+        start.elapsed(rt)?,
+        0,
+    )?;
+    Ok(())
+}
+
+/// The sum of the partitions of a tree's references, which are asked for in order; 0 where a tree has too many.
+fn walk(tree: &TTree) -> usize {
+    if tree.len() > MAX_WALKED {
+        return 0;
+    }
+    let mut sum = 0usize;
+    for reference in tree.iter() {
+        sum = sum.wrapping_add(reference.part);
+    }
+    sum
 }
 
 fn keys_below(alloc: Global, n: usize) -> Result<Vec<u64>, AllocError> {

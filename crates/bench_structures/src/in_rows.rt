@@ -3,11 +3,11 @@ ghost use Rattle.std.specs.Prelude.{IfOk, All};
 ghost use Rattle.mm_partition.specs.Places.{IsLive};
 
 use crate::entries::after;
-use crate::report::{Spent, print};
+use crate::report::{Pass, print};
 use mm_partition::Partitions;
 use mm_value::{Row, RowRef};
 use std::alloc::{AllocError, Global};
-use std::time::{Duration, Instant};
+use std::time::Instant;
 
 /// Fills partitions with `n` rows of no values, and asks for each in shuffled order.
 pub(crate) fn measure(rt: &HostRuntime, n: usize) -> anyhow::Result<()> {
@@ -18,18 +18,9 @@ pub(crate) fn measure(rt: &HostRuntime, n: usize) -> anyhow::Result<()> {
     let insert = start.elapsed(rt)?;
     let start = Instant::now(rt)?;
     let sum = ask(&rows, refs.as_slice());
-    let find = start.elapsed(rt)?;
-    print(
-        rt,
-        "Partitions",
-        n,
-        &Spent {
-            insert,
-            find,
-            remove: Duration::ZERO,
-            sum,
-        },
-    )?;
+    let look_up = start.elapsed(rt)?;
+    print(rt, &Pass::new("Partitions", "insert", n), insert, 0)?;
+    print(rt, &Pass::new("Partitions", "look-up", n), look_up, sum)?;
     Ok(())
 }
 

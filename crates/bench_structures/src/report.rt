@@ -2,20 +2,30 @@
 use std::io;
 use std::time::Duration;
 
-/// How long the passes over all entries took, and a sum of what they found.
+/// One pass over all entries of a structure.
 #[derive(Drop)]
-pub(crate) struct Spent {
-    pub(crate) insert: Duration,
-    pub(crate) find: Duration,
-    pub(crate) remove: Duration,
-    pub(crate) sum: usize,
+pub(crate) struct Pass<'a> {
+    structure: &'a str,
+    name: &'a str,
+    entries: usize,
 }
 
-/// Prints a structure, the number of entries, nanoseconds an insert, a look-up and a remove, and the sum.
-pub(crate) fn print(rt: &HostRuntime, name: &str, n: usize, spent: &Spent) -> io::Result<()> {
-    let insert = spent.insert.as_nanos();
-    let find = spent.find.as_nanos();
-    let remove = spent.remove.as_nanos();
-    let sum = spent.sum;
-    println!(rt; "{name} {n} {insert} {find} {remove} {sum}")
+impl<'a> Pass<'a> {
+    pub(crate) fn new(structure: &'a str, name: &'a str, entries: usize) -> Self {
+        Pass {
+            structure,
+            name,
+            entries,
+        }
+    }
+}
+
+/// Prints the structure, the pass, the number of entries, how many nanoseconds the pass took, and the sum of what it
+/// found.
+pub(crate) fn print(rt: &HostRuntime, pass: &Pass, spent: Duration, sum: usize) -> io::Result<()> {
+    let structure = pass.structure;
+    let name = pass.name;
+    let entries = pass.entries;
+    let nanoseconds = spent.as_nanos();
+    println!(rt; "{structure} {name} {entries} {nanoseconds} {sum}")
 }
