@@ -1,1 +1,2 @@
-mod Stack
+mod LinkLemmas
+mod PlaceLemmas

@@ -2,16 +2,20 @@
 use Rattle.std.specs.Prelude.{◌≡◌, ◌≢◌, ℕ, ◌+◌, ◌*◌, List, slice_index_or, nat_lt, if◌then◌else◌}
 use Rattle.mm_value.specs.declared.row_ref.RowRef.{RowRef}
 use Rattle.mm_value.specs.declared.values.Value.{Value}
-use Rattle.mm_partition.specs.declared.slots.Slot.{Slot}
-use Rattle.mm_partition.specs.declared.slots.Slot.TheVariants.{Free, Live, Hidden}
 
--- Partitions: their slots, 64 to a partition, and how many more rows they take without growing.
+-- what a slot holds: nothing, a row that its reference gives, or a row out of use that keeps its slot
+pub data Content : Type 0 where
+  Free : Content
+  Live : (row : List Value) → Content
+  Hidden : (row : List Value) → Content
+
+-- Partitions: what their slots hold, 64 to a partition, and how many more rows they take without growing.
 pub record Places : Type 0 where
-  pub slots : List Slot
+  pub slots : List Content
   pub room : ℕ
 
 -- what stands where a reference points: nothing where no partition has such a slot
-abbrev pub slot_at : Places → RowRef → Slot
+abbrev pub slot_at : Places → RowRef → Content
 slot_at places at = (if nat_lt at.slot 64 then slice_index_or places.slots (64 * at.part + at.slot) Free else Free)
 
 -- the reference gives a row
@@ -27,6 +31,6 @@ abbrev pub IsUnchanged : Places → Places → Type 0
 IsUnchanged old new = (at : RowRef) → slot_at new at ≡ slot_at old at
 
 -- this reference has this slot now, and every other one has what it had
-pub record ChangesOnly (old new : Places) (at : RowRef) (slot : Slot) : Type 0 where
+pub record ChangesOnly (old new : Places) (at : RowRef) (slot : Content) : Type 0 where
   pub changed : slot_at new at ≡ slot
   pub others : (other : RowRef) → other ≢ at → slot_at new other ≡ slot_at old other

@@ -1,9 +1,7 @@
 //! Rows by reference.
-ghost use Rattle.std.specs.Prelude.{◌≡◌, ℕ, ◌+◌, ◌-◌, ◌<◌, ◌≤◌, List, ◌++◌, OnOk, vec_len, slice_index, replicate};
-ghost use Rattle.std.specs.Vec.{vec_capacity};
+ghost use Rattle.std.specs.Prelude.{◌≡◌, ◌+◌, ◌<◌, ◌≤◌, List, OnOk};
 ghost use Rattle.mm_value.specs.declared.values.Value.{Value};
-ghost use Rattle.mm_partition.specs.declared.slots.Slot.TheVariants.{Free, Live, Hidden};
-ghost use Rattle.mm_partition.specs.Places.{slot_at, IsLive, IsHidden, IsUnchanged, ChangesOnly};
+ghost use Rattle.mm_partition.specs.Places.{Free, Live, Hidden, slot_at, IsLive, IsHidden, IsUnchanged, ChangesOnly};
 
 use crate::slots::{SLOTS, Slot, index_of, reference_to};
 use mm_value::{Row, RowRef};
@@ -14,25 +12,35 @@ use std::mem;
 /// The rows of one table, 64 to a partition (partitions and tuple pointers of Lehman and Carey,
 /// SIGMOD 1986). A row is found by its reference, which stays the same while the row lives. No
 /// call but `reserve` takes memory, and each of the others takes the same time however many rows
-/// there are, since the free slots stand on a stack.
+/// there are: the freed slots are a linked list, and the last one freed is the first given out.
+///
+/// The links stand in the freed slots themselves, so that `release` needs no room for one: a stack
+/// of indices beside the slots would have to grow with them, for the case that all are freed. Room
+/// that no row has had yet is capacity behind the last slot, and nothing is written there.
 #[derive(Drop)]
 pub struct Partitions {
     slots: Vec<Slot>,
-    vacant: Vec<usize>,
+    /// The freed slot that is given out next, if there is one.
+    first_free: Option<usize>,
+    /// How many freed slots there are.
+    free_count: usize,
 }
 
 impl Model for Partitions {
-    ghost use Rattle.std.specs.Prelude.{◌≤◌, vec_len};
+    ghost use Rattle.std.specs.Prelude.{◌+◌, ◌-◌, map, vec_len};
     ghost use Rattle.std.specs.Vec.{vec_capacity};
     ghost use Rattle.mm_partition.specs.Places.{Places};
-    ghost use Rattle.mm_partition.specs.Vacant.{ListsFree};
 
     ghost Value = { Places };
 
-    ghost view = { λ p. record { slots = p.slots.items; room = vec_len p.vacant } };
+    ghost use Rattle.mm_partition.specs.Links.{content_of, LinksFree};
 
-    ghost invariant = { λ p. ListsFree p.slots.items p.vacant.items
-        × (vec_len p.slots ≤ vec_capacity p.vacant) };
+    ghost view = { λ p. record {
+      slots = map content_of p.slots.items;
+      room = p.free_count + (vec_capacity p.slots - vec_len p.slots);
+    } };
+
+    ghost invariant = { λ p. LinksFree p.slots.items p.first_free p.free_count };
 }
 
 impl Partitions {
@@ -43,7 +51,8 @@ impl Partitions {
     {
         Partitions {
             slots: Vec::new(alloc),
-            vacant: Vec::new(alloc),
+            first_free: None,
+            free_count: 0,
         }
     }
 
@@ -65,17 +74,14 @@ impl Partitions {
         ensures rows { IsUnchanged self.old self.new }
         ensures room { self.old.room ≤ self.new.room }
     {
-        if n <= self.vacant.len() {
+        let spare = self.slots.capacity() - self.slots.len();
+        let room = self.free_count + spare;
+        if n <= room {
             return Ok(());
         }
-        let partitions = (n - self.vacant.len()).div_ceil(SLOTS);
+        let partitions = (n - room).div_ceil(SLOTS);
         let more = partitions.checked_mul(SLOTS).ok_or(AllocError)?;
-        self.slots.reserve(more)?;
-        let end = self.slots.len() + more;
-        self.vacant.reserve(end - self.vacant.len())?;
-        add_vacant(&mut self.vacant, self.slots.len(), end);
-        add_free(&mut self.slots, more);
-        Ok(())
+        self.slots.reserve(spare.saturating_add(more))
     }
 
     /// Puts a row into a free slot and gives its reference, whose slot is below 64.
@@ -86,8 +92,16 @@ impl Partitions {
         ensures slot { result.slot < 64 }
         ensures room { self.new.room + 1 ≡ self.old.room }
     {
-        let index = self.vacant.pop().unwrap();
-        self.slots[index] = Slot::Live(row);
+        let Some(index) = self.first_free else {
+            let index = self.slots.len();
+            self.slots.push_reserved(Slot::Live(row));
+            return reference_to(index);
+        };
+        let Slot::Free(next) = mem::replace(&mut self.slots[index], Slot::Live(row)) else {
+            unreachable!()
+        };
+        self.first_free = next;
+        self.free_count -= 1;
         reference_to(index)
     }
 
@@ -112,7 +126,7 @@ impl Partitions {
         ensures room { self.new.room ≡ self.old.room }
     {
         let slot = &mut self.slots[index_of(at)];
-        let Slot::Live(row) = mem::replace(slot, Slot::Free) else {
+        let Slot::Live(row) = mem::replace(slot, Slot::Free(None)) else {
             unreachable!()
         };
         *slot = Slot::Hidden(row);
@@ -126,7 +140,7 @@ impl Partitions {
         ensures room { self.new.room ≡ self.old.room }
     {
         let slot = &mut self.slots[index_of(at)];
-        let Slot::Hidden(row) = mem::replace(slot, Slot::Free) else {
+        let Slot::Hidden(row) = mem::replace(slot, Slot::Free(None)) else {
             unreachable!()
         };
         *slot = Slot::Live(row);
@@ -139,39 +153,13 @@ impl Partitions {
         ensures freed { ChangesOnly self.old self.new at Free }
         ensures room { self.new.room ≡ self.old.room + 1 }
     {
-        let slots = &mut self.slots;
+        let freed = Slot::Free(self.first_free);
         let index = index_of(at);
-        let Slot::Hidden(row) = mem::replace(&mut slots[index], Slot::Free) else {
+        let Slot::Hidden(row) = mem::replace(&mut self.slots[index], freed) else {
             unreachable!()
         };
-        self.vacant.push(index).unwrap();
+        self.first_free = Some(index);
+        self.free_count += 1;
         row
-    }
-}
-
-/// Appends free slots, for which there is room.
-fn add_free(slots: &mut Vec<Slot>, count: usize)
-    requires { vec_len slots.old + count ≤ vec_capacity slots.old }
-    ensures { slots.new.items ≡ slots.old.items ++ replicate count Free }
-{
-    for _ in 0..count {
-        slots.push(Slot::Free).unwrap();
-    }
-}
-
-/// Appends the indices from `start` up to `end`, for which there is room. The lowest comes last,
-/// so that it is given out first.
-fn add_vacant(vacant: &mut Vec<usize>, start: usize, end: usize)
-    requires order { start ≤ end }
-    requires room { vec_len vacant.old + (end - start) ≤ vec_capacity vacant.old }
-    ensures len { vec_len vacant.new ≡ vec_len vacant.old + (end - start) }
-    ensures kept { (k : ℕ) → k < vec_len vacant.old
-        → slice_index vacant.new.items k ≡ slice_index vacant.old.items k }
-    ensures added { (k : ℕ) → k < end - start
-        → slice_index vacant.new.items (vec_len vacant.old + k) + k + 1 ≡ end }
-    ensures capacity { vec_capacity vacant.old ≤ vec_capacity vacant.new }
-{
-    for index in (start..end).rev() {
-        vacant.push(index).unwrap();
     }
 }

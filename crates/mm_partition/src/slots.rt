@@ -9,8 +9,8 @@ pub const SLOTS: usize = 64;
 /// What a slot holds.
 #[derive(Drop)]
 pub enum Slot {
-    /// Nothing: the slot may be given out.
-    Free,
+    /// No row: the slot may be given out. It has the index of the next such slot, if there is one.
+    Free(Option<usize>),
     /// A row that its reference gives.
     Live(Row),
     /// A row out of use, which keeps its slot until it is released.

@@ -72,3 +72,63 @@ fn gives_each_row_its_own_place(rt: HostRuntime) -> Result<(), Fail> {
     assert_eq!(rt; number_in(rows.get(two)), Some(2));
     Ok(())
 }
+
+#[test]
+fn gives_freed_slots_again_before_new_ones(rt: HostRuntime) -> Result<(), Fail> {
+    let alloc = rt.alloc();
+    let mut rows = Partitions::new(alloc);
+    if rows.reserve(alloc, 2).is_err() {
+        rows.reserve(alloc, 2)?;
+    }
+    let one = rows.place(row_of(alloc, 1)?);
+    let two = rows.place(row_of(alloc, 2)?);
+    rows.hide(one);
+    rows.release(one);
+    rows.hide(two);
+    rows.release(two);
+
+    // The last one freed comes first.
+    assert_eq!(rt; rows.place(row_of(alloc, 3)?), two);
+    assert_eq!(rt; rows.place(row_of(alloc, 4)?), one);
+    Ok(())
+}
+
+#[test]
+fn leaves_a_hidden_slot_alone(rt: HostRuntime) -> Result<(), Fail> {
+    let alloc = rt.alloc();
+    let mut rows = Partitions::new(alloc);
+    if rows.reserve(alloc, 2).is_err() {
+        rows.reserve(alloc, 2)?;
+    }
+    let one = rows.place(row_of(alloc, 1)?);
+    rows.hide(one);
+    let two = rows.place(row_of(alloc, 2)?);
+    assert_ne!(rt; one, two);
+
+    rows.unhide(one);
+    assert_eq!(rt; number_in(rows.get(one)), Some(1));
+    assert_eq!(rt; number_in(rows.get(two)), Some(2));
+
+    // Once it is released it is the next.
+    rows.hide(one);
+    rows.release(one);
+    assert_eq!(rt; rows.place(row_of(alloc, 3)?), one);
+    Ok(())
+}
+
+#[test]
+fn finds_each_row_of_several_partitions(rt: HostRuntime) -> Result<(), Fail> {
+    let alloc = rt.alloc();
+    let mut rows = Partitions::new(alloc);
+    if rows.reserve(alloc, 130).is_err() {
+        rows.reserve(alloc, 130)?;
+    }
+    let first = rows.place(row_of(alloc, 0)?);
+    for k in 1..130usize {
+        let at = rows.place(row_of(alloc, k as i64)?);
+        assert_ne!(rt; at, first);
+        assert_eq!(rt; number_in(rows.get(at)), Some(k as i64));
+    }
+    assert_eq!(rt; number_in(rows.get(first)), Some(0));
+    Ok(())
+}

@@ -1,11 +1,21 @@
-use Rattle.std.proofs.Common.{◌++◌, ap, ◌∙◌, arith}
-use Rattle.std.specs.Option.{option_to_list}
-use Rattle.mm_partition.proofs.Stack.{ListsFree-popped}
+use Rattle.std.proofs.Common.{◌≡◌, List, ℕ, ◌-◌, set, Some, sym, ap, subst}
+use Rattle.std.specs.Prelude.{map}
+use Rattle.mm_partition.specs.declared.slots.Slot.{Slot}
+use Rattle.mm_partition.specs.Links.{content_of, LinksFree}
+use Rattle.mm_partition.proofs.LinkLemmas.{first_within, LinksFree-given}
+use Rattle.mm_partition.proofs.PlaceLemmas.{ChangesOnly-set}
 use Rattle.mm_partition.proofs.rows.Partitions.place.Goals as goal
 
-pub invariant_of-self : goal.invariant_of-self
-invariant_of-self c = (
-  ListsFree-popped c.self.inside.slots.items c.self.inside.vacant.items c.pop.new.self.items c.unwrap-index.result c.args.row
-      (c.pop.ensures.items ∙ ap (λ o. c.pop.new.self.items ++ option_to_list o) c.unwrap-index.ensures) c.self.invariant.0,
-  omega (arith, c.self.invariant.1, c.pop.ensures.capacity),
-)
+pub invariant_of-self-2 : goal.invariant_of-self-2
+invariant_of-self-2 c =
+    let slots : List Slot = c.self.inside.slots.items in
+    let i : ℕ = c.in-Some.index in
+    let free : LinksFree slots (Some i) c.self.inside.free_count = subst (λ h. LinksFree slots h c.self.inside.free_count) c.in-Some.is c.self.invariant in
+    subst (λ x. LinksFree (set slots i x) c.in-Free.next (c.self.inside.free_count - 1)) (sym c.replace.ensures.after)
+    (LinksFree-given slots _ i _ _ c.args.row c.index_mut.ensures.value c.in-Free.ensures.value free)
+
+pub returns-clause-placed : goal.returns-clause-placed
+returns-clause-placed c =
+    let free : LinksFree c.self.inside.slots.items (Some c.in-Some.index) c.self.inside.free_count = subst (λ h. LinksFree c.self.inside.slots.items h c.self.inside.free_count) c.in-Some.is c.self.invariant in
+    let view : map content_of c.self.inside.slots.items ≡ c.args.self.now.slots = ap (λ p. p.slots) c.self.view_is in
+    ChangesOnly-set _ _ _ _ _ _ _ (ap content_of c.replace.ensures.after) view (record { place = sym c.reference_to-2.ensures.place; small = c.reference_to-2.ensures.slot; within = first_within _ _ _ free })
