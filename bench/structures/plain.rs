@@ -717,6 +717,15 @@ fn in_rows(n: usize) {
         }
         found
     });
+    timed("slots", "remove", n, || {
+        let mut gone = 0;
+        while let Some(at) = refs.pop() {
+            let index = at.part * 64 + usize::from(at.slot);
+            gone += usize::from(slots[index].take().is_some());
+            vacant.push(index);
+        }
+        gone
+    });
 }
 
 fn main() {

@@ -1,7 +1,11 @@
 use Rattle.std.proofs.Common.{All}
 use Rattle.mm_partition.specs.Places.{IsLive}
+use Rattle.bench_structures.specs.Apart.{AreApart}
 use Rattle.bench_structures.proofs.in_rows.fill.Given as goal
 
--- each row so far lives
+-- each row so far lives, at a place of its own
 abbrev pub invariant-loop : goal.invariant-loop
-invariant-loop l = All (IsLive l.rows) l.refs.items
+invariant-loop l = record {
+  live : All (IsLive l.rows) l.refs.items;
+  apart : AreApart l.refs.items;
+}
