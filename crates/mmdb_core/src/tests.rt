@@ -196,12 +196,14 @@ fn a_failed_writer_ends_a_run(rt: HostRuntime) -> Result<(), Fail> {
 fn a_failed_reader_ends_a_run(rt: HostRuntime) -> Result<(), Fail> {
     for step in [1, WHOLE] {
         let source = Source {
-            left: b"SCAN nope\nSCA",
+            left: b"SCAN nope\nSCAN\nSCA",
             step,
             breaks: true,
         };
         let ran = run_source(rt.alloc(), source, WHOLE, 1_000).ok_or(NO_RUN)?;
-        assert!(rt; ran.wrote(b"error 20 no such table\n"));
+        assert!(rt; ran.wrote(b"error 20 no such table\nerror 11 syntax\n"));
+        // So both were answered and flushed before the call that failed.
+        assert!(rt; ran.flushed_each_of(2));
         assert!(rt; matches!(ran.ended, Err(RunFault::Read)));
         assert_eq!(rt; exit_status(&ran.ended), 2);
     }
