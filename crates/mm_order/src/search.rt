@@ -1,4 +1,6 @@
 //! Binary search by a probe (Knuth, The Art of Computer Programming, volume 3, section 6.2.1).
+//! The slice's own `partition_point` asks for a test that answers for every reference; a probe answers only for those
+//! that it covers.
 ghost use Rattle.std.specs.Prelude.{◌≡◌, ◌≢◌, ◌≤◌, length, take, drop, All};
 ghost use Rattle.std.specs.List.Sorted.{IsNonDecreasingBy};
 ghost use Rattle.std.specs.Ordering.{ordering_index};
