@@ -6,7 +6,7 @@ ghost use Rattle.mm_value.specs.declared.row_ref.RowRef.{RowRef};
 ghost use Rattle.mm_order.specs.Order.{IsTotalOrderOn-from_total};
 ghost use Rattle.bench_structures.specs.Keys.{key_in, by_key};
 
-use mm_order::{Probe, RefOrder};
+use mm_order::RefOrder;
 use mm_value::RowRef;
 use std::cmp::Ordering;
 
@@ -36,22 +36,5 @@ impl<'a> RefOrder for ByKey<'a> {
 
     fn compare(&self, a: RowRef, b: RowRef) -> Ordering {
         self.key(a).cmp(&self.key(b)).then(a.part.cmp(&b.part))
-    }
-}
-
-/// The place of a reference in that order.
-#[derive(Drop)]
-pub(crate) struct AtRef<'a> {
-    pub(crate) order: &'a ByKey<'a>,
-    pub(crate) sought: RowRef,
-}
-
-impl<'a> Probe for AtRef<'a> {
-    ghost covers = { λ _ _. Unit {0} };
-
-    ghost place_of = { λ p at. by_key p.order.now.keys.now at p.sought };
-
-    fn place(&self, at: RowRef) -> Ordering {
-        self.order.compare(at, self.sought)
     }
 }

@@ -3,10 +3,10 @@ ghost use Rattle.std.specs.Prelude.{◌≡◌, [], OnOk};
 ghost use Rattle.mm_order.specs.Order.{IsOrdered};
 ghost use Rattle.bench_structures.specs.Keys.{by_key};
 
-use crate::by_key::{AtRef, ByKey};
+use crate::by_key::ByKey;
 use crate::entries::{Entry, key_of, reference_of, shuffled};
 use crate::report::{Pass, print};
-use mm_order::{OrderedRefs, Seek, SortedRefs};
+use mm_order::{AtReference, OrderedRefs, Seek, SortedRefs};
 use std::alloc::{AllocError, Global};
 use std::time::Instant;
 use ttree::TTree;
@@ -162,7 +162,7 @@ fn ask_tree(tree: &TTree, order: &ByKey, sought: &[Entry]) -> usize
 {
     let mut sum = 0usize;
     for entry in sought {
-        let probe = AtRef {
+        let probe = AtReference {
             order: &*order,
             sought: entry.reference,
         };
@@ -185,7 +185,7 @@ fn ask_vector(
     let mut found = Vec::new(alloc);
     let mut sum = 0usize;
     for entry in sought {
-        let probe = AtRef {
+        let probe = AtReference {
             order: &*order,
             sought: entry.reference,
         };

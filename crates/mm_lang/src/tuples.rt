@@ -1,5 +1,5 @@
 //! The tuples of an INSERT.
-ghost use Rattle.std.specs.Prelude.{◌≡◌, ◌⊎◌, None, Err, is_some, MatchOption, MatchResult};
+ghost use Rattle.std.specs.Prelude.{◌≡◌, ◌⊎◌, [], None, Err, is_some, IfOk, OnOk, OnErr, MatchOption, MatchResult};
 ghost use Rattle.mm_lang.specs.Grammar.{tuples_of};
 ghost use Rattle.mm_lang.specs.Parsing.{AnswersOrMemory, BeginsAnyTuples, BeginsTuples, checked, tuples_fault};
 ghost use Rattle.mm_lang.specs.Tokens.{tokens};
@@ -9,8 +9,7 @@ use crate::phrase::{Delimiter, is_literal, literal, split_delimiter};
 use crate::token::split_token;
 use mm_query::RowList;
 use mm_value::{Refusal, Row, Value};
-use std::alloc::Global;
-use std::mem;
+use std::alloc::{AllocError, Global};
 
 /// The tuples behind the first parenthesis, to the end of the line. `Syntax` where these are none, else
 /// `NumberOutOfRange` or `TextTooLong` for the first literal past its limit; `Memory` may come in place of any answer.
@@ -26,17 +25,27 @@ pub(crate) fn read_tuples(alloc: Global, bytes: &[u8]) -> Result<RowList, Refusa
         match delimiter {
             Delimiter::Comma(behind) => rest = behind,
             Delimiter::Tuple(behind) => {
-                // The next tuple most likely has as many values.
-                let next = Vec::with_capacity(alloc, values.len())?;
-                tuples.push(Row::new(mem::replace(&mut values, next)))?;
+                tuples.push(take_row(alloc, &mut values)?)?;
                 rest = behind;
             }
             Delimiter::End => {
-                tuples.push(Row::new(values))?;
+                tuples.push(take_row(alloc, &mut values)?)?;
                 return Ok(RowList::new(tuples));
             }
         }
     }
+}
+
+// A row of these values, which are none afterwards. A row is kept, so it gets a block of just their size: one that
+// shrank where it lies would leave a gap behind it.
+fn take_row(alloc: Global, values: &mut Vec<Value>) -> Result<Row, AllocError>
+    ensures row { IfOk result (λ r. r ≡ values.old.items) }
+    ensures taken { OnOk result (values.new.items ≡ []) }
+    ensures err { OnErr result (values.new.items ≡ values.old.items) }
+{
+    let mut row = Vec::with_capacity(alloc, values.len())?;
+    row.append(values)?;
+    Ok(Row::new(row))
 }
 
 // The first value, and what follows it.

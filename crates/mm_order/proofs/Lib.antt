@@ -1,6 +1,7 @@
 pub mod Filtered
 pub mod Pairs
-mod Places
+pub mod Places
+pub mod Monotone
 pub mod Ordered
 pub mod Unique
-mod Same
+pub mod Same

@@ -7,55 +7,68 @@ use Rattle.std.specs.Ordering.{ordering_index, is_lt, is_le}
 use Rattle.std.specs.declared.cmp.Ordering.{Ordering}
 use Rattle.std.specs.declared.cmp.Ordering.TheVariants.{Less, Equal, Greater}
 
-less_below : (o p : Ordering) → ordering_index o ≤ ordering_index p → is_lt p ≡ true → o ≡ Less
-less_below Less p h e = refl
-less_below Equal Less h e = absurd (omega arith)
-less_below Equal Equal h e = (cc)
-less_below Equal Greater h e = (cc)
-less_below Greater Less h e = absurd (omega arith)
-less_below Greater Equal h e = (cc)
-less_below Greater Greater h e = (cc)
+-- ---- one answer
 
-not_less_above : (o p : Ordering) → ordering_index o ≤ ordering_index p → is_lt o ≡ false → p ≢ Less
-not_less_above Less p h e = absurd (cc)
-not_less_above Equal Less h e = λ _. omega arith
-not_less_above Equal Equal h e = λ f. cc
-not_less_above Equal Greater h e = λ f. cc
-not_less_above Greater Less h e = λ _. omega arith
-not_less_above Greater Equal h e = λ f. cc
-not_less_above Greater Greater h e = λ f. cc
+-- what is not after Less is Less
+pub less_below : (o : Ordering) → ordering_index o ≤ ordering_index Less → o ≡ Less
+less_below Less h = refl
+less_below Equal h = absurd (omega arith)
+less_below Greater h = absurd (omega arith)
 
-not_greater_below : (o p : Ordering) → ordering_index o ≤ ordering_index p → is_le p ≡ true → o ≢ Greater
-not_greater_below Less p h e = λ f. cc
-not_greater_below Equal p h e = λ f. cc
-not_greater_below Greater Less h e = λ _. omega arith
-not_greater_below Greater Equal h e = λ _. omega arith
-not_greater_below Greater Greater h e = absurd (cc)
+-- what is not before Greater is Greater
+pub greater_above : (o : Ordering) → ordering_index Greater ≤ ordering_index o → o ≡ Greater
+greater_above Less h = absurd (omega arith)
+greater_above Equal h = absurd (omega arith)
+greater_above Greater h = refl
 
-greater_above : (o p : Ordering) → ordering_index o ≤ ordering_index p → is_le o ≡ false → p ≡ Greater
-greater_above Less p h e = absurd (cc)
-greater_above Equal p h e = absurd (cc)
-greater_above Greater Less h e = absurd (omega arith)
-greater_above Greater Equal h e = absurd (omega arith)
-greater_above Greater Greater h e = refl
+-- the tests `is_lt` and `is_le`
+pub less_from_is_lt : (o : Ordering) → is_lt o ≡ true → o ≡ Less
+less_from_is_lt Less e = refl
+less_from_is_lt Equal e = (cc)
+less_from_is_lt Greater e = (cc)
 
-module _ {X : Type 0} (place : X → Ordering) (xs : List X) (mid : ℕ) (d : X) (rise : IsNonDecreasingBy (λ x. ordering_index (place x)) xs) (within : mid < length xs) where
-  up_to : (k : ℕ) (e : X) → k ≤ mid → ordering_index (place (get_or xs k e)) ≤ ordering_index (place (get_or xs mid d))
+pub not_less_from_is_lt : (o : Ordering) → is_lt o ≡ false → o ≢ Less
+not_less_from_is_lt Less e = absurd (cc)
+not_less_from_is_lt Equal e = λ f. cc
+not_less_from_is_lt Greater e = λ f. cc
+
+pub not_greater_from_is_le : (o : Ordering) → is_le o ≡ true → o ≢ Greater
+not_greater_from_is_le Less e = λ f. cc
+not_greater_from_is_le Equal e = λ f. cc
+not_greater_from_is_le Greater e = absurd (cc)
+
+pub greater_from_is_le : (o : Ordering) → is_le o ≡ false → o ≡ Greater
+greater_from_is_le Less e = absurd (cc)
+greater_from_is_le Equal e = absurd (cc)
+greater_from_is_le Greater e = refl
+
+-- ---- the entries before and after
+
+module _ {X : Type 0} (place : X → Ordering) (xs : List X) (at : ℕ) (d : X) (rise : IsNonDecreasingBy (λ x. ordering_index (place x)) xs) (within : at < length xs) where
+  up_to : (k : ℕ) (e : X) → k ≤ at → ordering_index (place (get_or xs k e)) ≤ ordering_index (place (get_or xs at d))
   up_to k e below =
-      subst (λ y. ordering_index (place (get_or xs k e)) ≤ ordering_index (place y)) (get_or_default xs mid e d within) (rise k mid e below within)
+      subst (λ y. ordering_index (place (get_or xs k e)) ≤ ordering_index (place y)) (get_or_default xs at e d within) (rise k at e below within)
 
-  from_on : (k : ℕ) (e : X) → mid ≤ k → k < length xs → ordering_index (place (get_or xs mid d)) ≤ ordering_index (place (get_or xs k e))
+  from_on : (k : ℕ) (e : X) → at ≤ k → k < length xs → ordering_index (place (get_or xs at d)) ≤ ordering_index (place (get_or xs k e))
   from_on k e above inside =
-      subst (λ y. ordering_index (place y) ≤ ordering_index (place (get_or xs k e))) (get_or_default xs mid e d within) (rise mid k e above inside)
+      subst (λ y. ordering_index (place y) ≤ ordering_index (place (get_or xs k e))) (get_or_default xs at e d within) (rise at k e above inside)
 
-  pub less_up_to : is_lt (place (get_or xs mid d)) ≡ true → AllWithin (λ x. place x ≡ Less) xs 0 (mid + 1)
-  less_up_to is k e _ below = less_below _ _ (up_to k e (omega arith)) is
+  -- up to an entry that lies before the sought place all do
+  pub less_up_to : place (get_or xs at d) ≡ Less → AllWithin (λ x. place x ≡ Less) xs 0 (at + 1)
+  less_up_to is k e _ below =
+      less_below (place (get_or xs k e)) (subst (λ o. ordering_index (place (get_or xs k e)) ≤ ordering_index o) is (up_to k e (omega arith)))
 
-  pub not_less_from : is_lt (place (get_or xs mid d)) ≡ false → AllWithin (λ x. place x ≢ Less) xs mid (length xs)
-  not_less_from is k e above inside = not_less_above _ _ (from_on k e above inside) is
+  -- from an entry on that does not lie before the sought place none does
+  pub not_less_from : place (get_or xs at d) ≢ Less → AllWithin (λ x. place x ≢ Less) xs at (length xs)
+  not_less_from is k e above inside less =
+      is (less_below (place (get_or xs at d)) (subst (λ o. ordering_index (place (get_or xs at d)) ≤ ordering_index o) less (from_on k e above inside)))
 
-  pub not_greater_up_to : is_le (place (get_or xs mid d)) ≡ true → AllWithin (λ x. place x ≢ Greater) xs 0 (mid + 1)
-  not_greater_up_to is k e _ below = not_greater_below _ _ (up_to k e (omega arith)) is
+  -- up to an entry that does not lie after the sought place none does
+  pub not_greater_up_to : place (get_or xs at d) ≢ Greater → AllWithin (λ x. place x ≢ Greater) xs 0 (at + 1)
+  not_greater_up_to is k e _ below greater =
+      is (greater_above (place (get_or xs at d)) (subst (λ o. ordering_index o ≤ ordering_index (place (get_or xs at d))) greater (up_to k e (omega arith))))
 
-  pub greater_from : is_le (place (get_or xs mid d)) ≡ false → AllWithin (λ x. place x ≡ Greater) xs mid (length xs)
-  greater_from is k e above inside = greater_above _ _ (from_on k e above inside) is
+  -- from an entry on that lies after the sought place all do
+  pub greater_from : place (get_or xs at d) ≡ Greater → AllWithin (λ x. place x ≡ Greater) xs at (length xs)
+  greater_from is k e above inside =
+      greater_above (place (get_or xs k e)) (subst (λ o. ordering_index o ≤ ordering_index (place (get_or xs k e))) is (from_on k e above inside))

@@ -16,8 +16,12 @@ same_from_differ a b e =
     let parts = and_parts (eqb a.part b.part) (eqb a.slot b.slot) (not_false _ e) in
     λ i. record { part = eqb-true a.part b.part parts.0 i; slot = eqb-true a.slot b.slot parts.1 i }
 
-pub differ-same : (a b : RowRef) → a ≡ b → differ a b ≡ false
-differ-same a b e =
+-- equal references pass the test that `==` makes
+pub same_refs : (a b : RowRef) → a ≡ b → (eqb a.part b.part && eqb a.slot b.slot) ≡ true
+same_refs a b e =
     let part : eqb a.part b.part ≡ true = eq-eqb a.part b.part (ap (λ (r : RowRef). r.part) e) in
     let slot : eqb a.slot b.slot ≡ true = eq-eqb a.slot b.slot (ap (λ (r : RowRef). r.slot) e) in
     rw (part, slot)
+
+pub differ-same : (a b : RowRef) → a ≡ b → differ a b ≡ false
+differ-same a b e = ap not (same_refs a b e)

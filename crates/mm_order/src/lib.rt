@@ -11,7 +11,7 @@ mod seeks;
 mod sorted_refs;
 
 pub use ordered_refs::OrderedRefs;
-pub use probes::Probe;
+pub use probes::{AtReference, Probe};
 pub use ref_order::RefOrder;
 pub use seeks::Seek;
 pub use sorted_refs::SortedRefs;

@@ -3,6 +3,7 @@ ghost use Rattle.std.specs.Prelude.{◌≡◌};
 ghost use Rattle.std.specs.declared.cmp.Ordering.{Ordering};
 ghost use Rattle.mm_value.specs.declared.row_ref.RowRef.{RowRef};
 
+use crate::ref_order::RefOrder;
 use mm_value::RowRef;
 use std::cmp::Ordering;
 
@@ -17,4 +18,22 @@ pub trait Probe {
     fn place(&self, at: RowRef) -> Ordering
         requires { covers self.now at }
         ensures { result ≡ place_of self.now at };
+}
+
+/// The place of one reference along an order: `Equal` at an entry that compares equal to it, as
+/// it does itself. The order has to cover it.
+#[derive(Drop)]
+pub struct AtReference<'a, O> {
+    pub order: &'a O,
+    pub sought: RowRef,
+}
+
+impl<'a, O: RefOrder> Probe for AtReference<'a, O> {
+    ghost covers = { λ p at. O.covers p.order.now at × O.covers p.order.now p.sought };
+
+    ghost place_of = { λ p at. O.cmp p.order.now at p.sought };
+
+    fn place(&self, at: RowRef) -> Ordering {
+        self.order.compare(at, self.sought)
+    }
 }

@@ -1,29 +1,13 @@
 //! Binary search by a probe (Knuth, The Art of Computer Programming, volume 3, section 6.2.1).
+//! The slice's own `partition_point` asks for a test that answers for every reference; a probe answers only for those
+//! that it covers.
 ghost use Rattle.std.specs.Prelude.{◌≡◌, ◌≢◌, ◌≤◌, length, take, drop, All};
 ghost use Rattle.std.specs.List.Sorted.{IsNonDecreasingBy};
 ghost use Rattle.std.specs.Ordering.{ordering_index};
 
 use crate::probes::Probe;
-use crate::ref_order::RefOrder;
 use mm_value::RowRef;
 use std::cmp::Ordering;
-
-/// A probe for the place of one reference in an order.
-#[derive(Drop)]
-pub struct AtRef<'a, O> {
-    pub order: &'a O,
-    pub sought: RowRef,
-}
-
-impl<'a, O: RefOrder> Probe for AtRef<'a, O> {
-    ghost covers = { λ p at. O.covers p.order.now at × O.covers p.order.now p.sought };
-
-    ghost place_of = { λ p at. O.cmp p.order.now at p.sought };
-
-    fn place(&self, at: RowRef) -> Ordering {
-        self.order.compare(at, self.sought)
-    }
-}
 
 /// How many entries lie before the place of the probe.
 pub fn lower_bound<P: Probe>(probe: &P, refs: &[RowRef]) -> usize

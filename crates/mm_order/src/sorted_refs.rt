@@ -3,9 +3,9 @@ ghost use Rattle.std.specs.Prelude.{◌≡◌, ◌-◌, [], vec_len};
 ghost use Rattle.std.specs.Vec.{vec_capacity};
 
 use crate::ordered_refs::OrderedRefs;
-use crate::probes::Probe;
+use crate::probes::{AtReference, Probe};
 use crate::ref_order::RefOrder;
-use crate::search::{AtRef, lower_bound, upper_bound};
+use crate::search::{lower_bound, upper_bound};
 use mm_value::RowRef;
 use std::alloc::{AllocError, Global};
 use std::marker::Model;
@@ -56,7 +56,7 @@ impl OrderedRefs for SortedRefs {
     }
 
     fn insert<O: RefOrder>(&mut self, order: &O, added: RowRef) {
-        let probe = AtRef {
+        let probe = AtReference {
             order,
             sought: added,
         };
@@ -65,7 +65,7 @@ impl OrderedRefs for SortedRefs {
     }
 
     fn remove<O: RefOrder>(&mut self, order: &O, gone: RowRef) -> bool {
-        let probe = AtRef {
+        let probe = AtReference {
             order,
             sought: gone,
         };

@@ -6,7 +6,7 @@ ghost use Rattle.std.specs.declared.cmp.Ordering.TheVariants.{Equal};
 ghost use Rattle.mm_value.specs.declared.row_ref.RowRef.{RowRef};
 ghost use Rattle.mm_order.specs.Order.{IsTotalOrderOn-from_total};
 
-use crate::{OrderedRefs, Probe, RefOrder, Seek, SortedRefs};
+use crate::{AtReference, OrderedRefs, Probe, RefOrder, Seek, SortedRefs};
 use mm_value::RowRef;
 use std::cmp::Ordering;
 use std::test::Fail;
@@ -141,4 +141,15 @@ fn counts_each_question(rt: HostRuntime) {
     assert_eq!(rt; seek.place(numbered(4)), Ordering::Equal);
     assert_eq!(rt; seek.place(numbered(8)), Ordering::Greater);
     assert_eq!(rt; seek.count(), 3);
+}
+
+#[test]
+fn tells_where_a_reference_lies(rt: HostRuntime) {
+    let probe = AtReference {
+        order: &ByPlace,
+        sought: numbered(6),
+    };
+    assert_eq!(rt; probe.place(numbered(5)), Ordering::Less);
+    assert_eq!(rt; probe.place(numbered(6)), Ordering::Equal);
+    assert_eq!(rt; probe.place(numbered(8)), Ordering::Greater);
 }

@@ -10,8 +10,8 @@ use Rattle.mm_order.specs.Order.{IsOrdered}
 use Rattle.mm_order.specs.Probe.{IsMonotone, is_between, entries_between}
 use Rattle.mm_order.proofs.Filtered.{filter-none}
 use Rattle.mm_order.proofs.Pairs.{AllPairs-append_across}
+use Rattle.mm_order.proofs.Places.{less_below, greater_above}
 use Rattle.ttree.proofs.Parts.{IsOrdered-front, IsOrdered-middle, IsOrdered-back, rest_ordered}
-use Rattle.ttree.proofs.Rising.{less_below, greater_above}
 
 -- part by part
 pub entries_between-parts : (low high : RowRef → Ordering) (left middle right : List RowRef) → entries_between low high (left ++ middle ++ right) ≡ entries_between low high left ++ entries_between low high middle ++ entries_between low high right

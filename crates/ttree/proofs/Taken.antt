@@ -1,5 +1,5 @@
 -- A reference taken out of an ordered list, or not found in it.
-use Rattle.std.proofs.Common.{◌≡◌, ◌≢◌, Bool, true, false, ◌&&◌, eqb, eq-eqb, ℕ, suc, ◌+◌, ◌-◌, ◌<◌, ◌≤◌, List, [], ◌∷◌, ◌++◌, length, get_or, take, drop, ◌⊎◌, refl, sym, ap, ◌∙◌, subst, ⊎_elim, arith, append_assoc, length-take, length-drop}
+use Rattle.std.proofs.Common.{◌≡◌, ◌≢◌, Bool, true, false, ℕ, suc, ◌+◌, ◌-◌, ◌<◌, ◌≤◌, List, [], ◌∷◌, ◌++◌, length, get_or, take, drop, ◌⊎◌, refl, sym, ap, ◌∙◌, subst, ⊎_elim, arith, append_assoc, length-take, length-drop}
 use Rattle.std.specs.Prelude.{Some, slice_get, Contains}
 use Rattle.std.proofs.lemmas.Bool.{cases_lt, cases_order}
 use Rattle.std.proofs.lemmas.List.{take-append-drop, append-nil, get_or-take, get_or-drop}
@@ -121,13 +121,6 @@ module _ (Covers : RowRef → Type 0) (cmp : RowRef → RowRef → Ordering) (to
 pub OnTrue-weaker : (b : Bool) (P Q : Type 0) → (P → Q) → OnTrue b P → OnTrue b Q
 OnTrue-weaker true P Q f h = f h
 OnTrue-weaker false P Q f h = h
-
--- equal references pass the test that the code makes
-pub same_refs : (a b : RowRef) → a ≡ b → (eqb a.part b.part && eqb a.slot b.slot) ≡ true
-same_refs a b e =
-    let part : eqb a.part b.part ≡ true = eq-eqb a.part b.part (ap (λ (r : RowRef). r.part) e) in
-    let slot : eqb a.slot b.slot ≡ true = eq-eqb a.slot b.slot (ap (λ (r : RowRef). r.slot) e) in
-    rw (part, slot)
 
 -- an ordered list without one of its references, which stands in the middle of three parts
 pub adds_taken : (Covers : RowRef → Type 0) (cmp : RowRef → RowRef → Ordering) (left middle right : List RowRef) (i : ℕ) (gone : RowRef) → IsOrdered Covers cmp (left ++ middle ++ right) → i < length middle → slice_get middle i ≡ Some gone → AddsInOrder cmp (left ++ remove middle i ++ right) gone (left ++ middle ++ right)

@@ -7,8 +7,8 @@ ghost use Rattle.mm_order.specs.Refs.{AddsInOrder};
 ghost use Rattle.ttree.specs.Balanced.{IsTTree};
 
 use crate::balance::balance;
-use crate::search::{AtRef, search, side_of};
-use mm_order::{RefOrder, Seek};
+use crate::search::{search, side_of};
+use mm_order::{AtReference, RefOrder, Seek};
 use mm_value::RowRef;
 use std::cmp::Ordering;
 use ttree_node::{Spares, Subtree};
@@ -88,7 +88,7 @@ fn place_among<O: RefOrder>(entries: &[RowRef], order: &O, added: RowRef) -> usi
     ensures before { All (λ a. O.cmp order.now a added ≡ Less) (take result entries.now) }
     ensures after { All (λ a. O.cmp order.now a added ≡ Greater) (drop result entries.now) }
 {
-    let probe = AtRef {
+    let probe = AtReference {
         order,
         sought: added,
     };

@@ -8,8 +8,8 @@ ghost use Rattle.mm_order.specs.Refs.{AddsInOrder};
 ghost use Rattle.ttree.specs.Balanced.{IsTTree, IsRootOver, IsMended};
 
 use crate::balance::{balance, is_leaf};
-use crate::search::{AtRef, search, side_of};
-use mm_order::{RefOrder, Seek};
+use crate::search::{search, side_of};
+use mm_order::{AtReference, RefOrder, Seek};
 use mm_value::RowRef;
 use std::cmp::Ordering;
 use ttree_node::{Spares, Subtree};
@@ -181,7 +181,7 @@ fn find_among<O: RefOrder>(entries: &[RowRef], order: &O, gone: RowRef) -> Optio
     ensures found { IfSome result (λ i. slice_get entries.now i ≡ Some gone) }
     ensures absent { IfNone result (Contains entries.now gone → ⊥) }
 {
-    let probe = AtRef {
+    let probe = AtReference {
         order,
         sought: gone,
     };

@@ -12,23 +12,6 @@ use ttree_node::Subtree;
 /// So many halvings leave one of the 16 entries of a full node.
 const HALVINGS: usize = 4;
 
-/// A probe for the place of one reference in an order.
-#[derive(Drop)]
-pub(crate) struct AtRef<'a, O> {
-    pub(crate) order: &'a O,
-    pub(crate) sought: RowRef,
-}
-
-impl<'a, O: RefOrder> Probe for AtRef<'a, O> {
-    ghost covers = { λ p at. O.covers p.order.now at × O.covers p.order.now p.sought };
-
-    ghost place_of = { λ p at. O.cmp p.order.now at p.sought };
-
-    fn place(&self, at: RowRef) -> Ordering {
-        self.order.compare(at, self.sought)
-    }
-}
-
 /// Where an entry fits the probe, or else where one would stand, by at most five questions.
 pub(crate) fn search<P: Probe>(seek: &mut Seek<P>, entries: &[RowRef]) -> Result<usize, usize>
     requires some { 1 ≤ length entries.now }

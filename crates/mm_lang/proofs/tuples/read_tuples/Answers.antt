@@ -1,4 +1,4 @@
-use Rattle.std.proofs.Common.{[], ◌∷◌, ◌++◌, Ok, sym, ap, ◌∙◌, subst}
+use Rattle.std.proofs.Common.{◌≡◌, [], ◌∷◌, ◌++◌, Ok, sym, ap, ◌∙◌, subst}
 use Rattle.std.proofs.lemmas.Result.{err_from_is_err_and}
 use Rattle.mm_lang.specs.Parsing.{BeginsTuples}
 use Rattle.mm_lang.proofs.TupleLists.{InTuples, in_tuples_comma, in_tuples_tuple, in_tuples_end, in_tuples_fault}
@@ -18,16 +18,15 @@ loop-values-preserved-in-Comma c =
 pub loop-values-preserved : goal.loop-values-preserved
 loop-values-preserved c =
     let begins = subst (BeginsTuples c.loop-values.rest.now c.in_ok-value.value) c.in-Tuple.is c.in_ok-value.ensures in
-    let tuple = c.new.ensures ∙ ap (λ v. v.items) c.replace.ensures.value ∙ c.in_ok-push.ensures.items in
-    let tuples = c.in_ok-push-in-Tuple.ensures.items ∙ ap (λ t. c.loop-values.tuples.items ++ t ∷ []) tuple in
-    let values = ap (λ v. v.items) c.replace.ensures.after ∙ c.in_ok-next-in-Tuple.ensures.items in
-    subst (λ l. InTuples c.args.bytes.now l c.replace.new.dest.items c.in-Tuple.behind.now) (sym tuples)
-    (subst (λ l. InTuples c.args.bytes.now (c.loop-values.tuples.items ++ (c.loop-values.values.items ++ c.in_ok-value.value ∷ []) ∷ []) l c.in-Tuple.behind.now) (sym values)
+    let tuple = c.in_ok-take_row-in-Tuple.ensures.row ∙ c.in_ok-push.ensures.items in
+    let tuples : c.push-in-Tuple.new.self.items ≡ c.loop-values.tuples.items ++ (c.loop-values.values.items ++ c.in_ok-value.value ∷ []) ∷ [] = c.in_ok-push-in-Tuple.ensures.items ∙ ap (λ t. c.loop-values.tuples.items ++ t ∷ []) tuple in
+    subst (λ l. InTuples c.args.bytes.now l c.take_row.new.values.items c.in-Tuple.behind.now) (sym tuples)
+    (subst (λ l. InTuples c.args.bytes.now (c.loop-values.tuples.items ++ (c.loop-values.values.items ++ c.in_ok-value.value ∷ []) ∷ []) l c.in-Tuple.behind.now) (sym c.in_ok-take_row-in-Tuple.ensures.taken)
     (in_tuples_tuple c.args.bytes.now c.loop-values.tuples.items c.loop-values.values.items c.loop-values.rest.now c.loop-values.invariant c.in_ok-value.value c.in-Tuple.behind.now begins.goes_on begins.no_fault))
 
 pub returns-in-End : goal.returns-in-End
 returns-in-End c =
     let begins = subst (BeginsTuples c.loop-values.rest.now c.in_ok-value.value) c.in-End.is c.in_ok-value.ensures in
-    let tuple = c.new-in-End.ensures ∙ c.in_ok-push.ensures.items in
-    let all = c.new-in-End-2.ensures ∙ c.in_ok-push-in-End.ensures.items ∙ ap (λ t. c.loop-values.tuples.items ++ t ∷ []) tuple in
-    in_tuples_end c.args.bytes.now c.loop-values.tuples.items c.loop-values.values.items c.loop-values.rest.now c.loop-values.invariant c.in_ok-value.value begins.goes_on begins.no_fault ∙ ap Ok (sym all)
+    let tuple = c.in_ok-take_row-in-End.ensures.row ∙ c.in_ok-push.ensures.items in
+    let tuples : c.push-in-End.new.self.items ≡ c.loop-values.tuples.items ++ (c.loop-values.values.items ++ c.in_ok-value.value ∷ []) ∷ [] = c.in_ok-push-in-End.ensures.items ∙ ap (λ t. c.loop-values.tuples.items ++ t ∷ []) tuple in
+    in_tuples_end c.args.bytes.now c.loop-values.tuples.items c.loop-values.values.items c.loop-values.rest.now c.loop-values.invariant c.in_ok-value.value begins.goes_on begins.no_fault ∙ ap Ok (sym (c.new.ensures ∙ tuples))

@@ -2,7 +2,8 @@ use Rattle.std.proofs.Common.{◌≡◌, get_or, take, drop, ◌∙◌, rules}
 use Rattle.std.proofs.lemmas.List.{get_or_default}
 use Rattle.std.specs.List.{All}
 use Rattle.std.specs.declared.cmp.Ordering.TheVariants.{Less, Equal, Greater}
-use Rattle.ttree.proofs.Taken.{absent_between, equal_is_held, same_refs}
+use Rattle.mm_order.proofs.Same.{same_refs}
+use Rattle.ttree.proofs.Taken.{absent_between, equal_is_held}
 use Rattle.ttree.proofs.removes.find_among.Goals as goal
 
 pub returns-in_default-clause-absent : goal.returns-in_default-clause-absent
