@@ -3,6 +3,7 @@ mod Commands
 mod Fronts
 mod Lexing
 mod Literals
+pub mod Pieces
 mod ReplyLemmas
 mod SpelledColumns
 mod SpelledCommands

@@ -1,5 +1,5 @@
 -- The lines of an input.
-use Rattle.std.specs.Prelude.{ℕ, ◌==◌, if◌then◌else◌, List, [], ◌∷◌, map}
+use Rattle.std.specs.Prelude.{◌≡◌, ℕ, ◌==◌, if◌then◌else◌, false, List, [], ◌∷◌, map}
 
 -- a byte joins the first line of what follows it
 abbrev pub onto_line : ℕ → List (List ℕ) → List (List ℕ)
@@ -20,3 +20,8 @@ without_return (b ∷ c ∷ bs) = b ∷ without_return (c ∷ bs)
 -- the lines of an input
 abbrev pub lines_of : List ℕ → List (List ℕ)
 lines_of input = map without_return (pieces_of input)
+
+-- no byte is a line feed
+abbrev pub HasNoFeed : List ℕ → Type 0
+HasNoFeed [] = Unit {0}
+HasNoFeed (b ∷ bs) = ((b == 10) ≡ false) × HasNoFeed bs

@@ -3,8 +3,8 @@ use Rattle.std.proofs.Common.{◌≡◌, ℕ, suc, zero, ◌+◌, ◌<◌, Bool,
 use Rattle.bstr.specs.Find.{Nowhere, NoneBefore, Passes, IsFirstByte, is_byte}
 use Rattle.std.proofs.lemmas.List.{take_all, drop_more, take-append-drop}
 use Rattle.std.proofs.lemmas.Bool.{eqb-true}
-use Rattle.mm_lang.specs.Lines.{pieces_of, onto_line}
-use Rattle.mmdb_core.specs.Feeds.{HasNoFeed, EndsLine}
+use Rattle.mm_lang.specs.Lines.{HasNoFeed}
+use Rattle.mmdb_core.specs.Feeds.{EndsLine}
 
 -- what is not true is false
 pub is_false : (b : Bool) → (b ≡ true → ⊥) → b ≡ false
@@ -30,18 +30,6 @@ ends_at_first bytes k first feed = record {
   no_feed = no_feed_before bytes k (λ i i_k. first.before i (omega arith) i_k);
   feed = sym (take-append-drop k bytes) ∙ ap (λ rest. take k bytes ++ rest) (drop_more bytes k 0 first.high ∙ ap (λ b. b ∷ drop (k + 1) bytes) (eqb-true (get_or bytes k 0) 10 feed));
 }
-
--- a line before its line feed is the first piece
-pub pieces-line : (line rest : List ℕ) → HasNoFeed line → pieces_of (line ++ 10 ∷ rest) ≡ line ∷ pieces_of rest
-unfolding pieces_of
-pieces-line [] rest h = refl
-pieces-line (b ∷ bs) rest h = rw h.0 (ap (onto_line b) (pieces-line bs rest h.1))
-
--- what has no line feed is a line of its own, unless it is empty
-pub pieces-last : (b : ℕ) (bs : List ℕ) → HasNoFeed (b ∷ bs) → pieces_of (b ∷ bs) ≡ (b ∷ bs) ∷ []
-unfolding pieces_of
-pieces-last b [] h = rw h.0 refl
-pieces-last b (c ∷ cs) h = rw h.0 (ap (onto_line b) (pieces-last c cs h.1))
 
 -- what a search for a line feed tells
 pub line_end_is : (bytes : List ℕ) (result : Option ℕ) → IsFirstByte (is_byte 10) bytes result → MatchOption result (HasNoFeed bytes) (EndsLine bytes)

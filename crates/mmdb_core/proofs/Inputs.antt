@@ -2,15 +2,15 @@
 use Rattle.std.proofs.Common.{◌≡◌, ℕ, ◌+◌, ◌-◌, ◌<◌, Option, Some, None, List, [], ◌∷◌, ◌++◌, length, take, drop, sym, ap, subst, ◌∙◌, arith, append_assoc, length-append}
 use Rattle.std.proofs.lemmas.List.{take_all, drop_all, drop-append-le}
 use Rattle.std.specs.Prelude.{IfSome}
-use Rattle.mm_lang.specs.Lines.{pieces_of}
+use Rattle.mm_lang.specs.Lines.{pieces_of, HasNoFeed}
+use Rattle.mm_lang.proofs.Pieces.{pieces-line, pieces-last}
 use Rattle.mm_value.specs.Watched.{inner_of}
 use Rattle.mm_value.specs.declared.device.Watched.{Watched}
-use Rattle.mmdb_core.specs.Feeds.{HasNoFeed, EndsLine, EndsWith, LooksLike}
+use Rattle.mmdb_core.specs.Feeds.{EndsLine, EndsWith, LooksLike}
 use Rattle.mmdb_core.specs.Input.{left_of, Fills, Finds, IsFirstLine, LiesInFront, LiesInWindow, TakesAllowed}
 use Rattle.mmdb_core.specs.declared.input.Input.{Input}
 use Rattle.mmdb_core.specs.declared.input.Next.{Next}
 use Rattle.mmdb_core.specs.declared.input.Next.TheVariants.{Line, Long, End}
-use Rattle.mmdb_core.proofs.FeedLemmas.{pieces-line, pieces-last}
 use Rattle.mmdb_core.proofs.Known.{keeps_trans, consumes_trans}
 
 module _ {R : Type 0} (remaining : R → Option (List ℕ)) where
@@ -56,11 +56,10 @@ finds_look input End remaining looks = absurd looks
 
 -- a last line
 is_last : (window : List ℕ) (len : ℕ) → HasNoFeed window → 0 < len → len ≡ length window → IsFirstLine window len len window
-unfolding pieces_of
 is_last [] len no_feed some is = absurd (omega (arith, is))
 is_last (b ∷ bs) len no_feed some is =
     pieces-last b bs no_feed
-    ∙ (ap (λ w. w ∷ []) (sym (take_all len (b ∷ bs) (omega (arith, is))))
+    ∙ (ap (λ w. w ∷ pieces_of []) (sym (take_all len (b ∷ bs) (omega (arith, is))))
     ∙ ap (λ rest. take len (b ∷ bs) ∷ pieces_of rest) (sym (drop_all len (b ∷ bs) (omega (arith, is)))))
 
 last_known : (input : Input) (len : ℕ) (left : Option (List ℕ)) → LiesInWindow input left → HasNoFeed input.window.bytes → 0 < len → len ≡ length input.window.bytes → IfSome left (IsFirstLine input.window.bytes len len)

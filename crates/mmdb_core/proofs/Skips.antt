@@ -4,14 +4,14 @@ use Rattle.std.proofs.lemmas.List.{append-nil, length-take-le, take_all, drop_al
 use Rattle.std.proofs.Math.Seq.{take-append-add}
 use Rattle.std.specs.Io.KnownBytes.{Consumes}
 use Rattle.std.specs.Option.{option_map}
-use Rattle.mm_lang.specs.Lines.{pieces_of, without_return}
+use Rattle.mm_lang.specs.Lines.{pieces_of, without_return, HasNoFeed}
+use Rattle.mm_lang.proofs.Pieces.{pieces-line, pieces-last}
 use Rattle.mm_value.specs.Watched.{inner_of}
 use Rattle.mm_value.specs.declared.device.Watched.{Watched}
-use Rattle.mmdb_core.specs.Feeds.{HasNoFeed, EndsLine}
+use Rattle.mmdb_core.specs.Feeds.{EndsLine}
 use Rattle.mmdb_core.specs.Input.{left_of, bytes_to_come, Comes, Fills, LiesInWindow, TakesAllowed}
 use Rattle.mmdb_core.specs.declared.input.Input.{Input}
 use Rattle.mmdb_core.specs.declared.input.Next.TheVariants.{Long}
-use Rattle.mmdb_core.proofs.FeedLemmas.{pieces-line, pieces-last}
 use Rattle.mmdb_core.proofs.Inputs.{taken_trans, taken_same}
 use Rattle.mmdb_core.proofs.Known.{consumes_front, consumes_keeps, consumes_trans}
 
@@ -44,7 +44,6 @@ stays_long line long = omega (arith, without_return-longer line)
 
 -- a line that ends with the input
 pub long_at_end : (input : Input) (before now : Option (List ℕ)) (line : List ℕ) → HasNoFeed line → 4097 < length line → Consumes before now line → LiesInWindow input now → input.window.bytes ≡ [] → Comes input Long before now
-unfolding pieces_of
 long_at_end input None now line no_feed long gone lies empty = tt
 long_at_end input (Some xs) None line no_feed long gone lies empty = absurd gone
 long_at_end input (Some xs) (Some ys) [] no_feed long gone lies empty = absurd (omega arith)

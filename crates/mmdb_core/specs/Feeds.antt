@@ -1,12 +1,8 @@
 -- Where a line ends.
-use Rattle.std.specs.Prelude.{◌≡◌, ℕ, ◌+◌, ◌<◌, ◌≤◌, ◌==◌, false, List, [], ◌∷◌, ◌++◌, length, take, drop, Option, Some, None}
+use Rattle.std.specs.Prelude.{◌≡◌, ℕ, ◌+◌, ◌<◌, ◌≤◌, List, [], ◌∷◌, ◌++◌, length, take, drop, Option, Some, None}
+use Rattle.mm_lang.specs.Lines.{HasNoFeed}
 use Rattle.mmdb_core.specs.declared.input.Next.{Next}
 use Rattle.mmdb_core.specs.declared.input.Next.TheVariants.{Line, Long, End}
-
--- No byte is a line feed.
-abbrev pub HasNoFeed : List ℕ → Type 0
-HasNoFeed [] = Unit {0}
-HasNoFeed (b ∷ bs) = ((b == 10) ≡ false) × HasNoFeed bs
 
 -- The bytes begin with a line of this length and its line feed.
 pub record EndsLine (bytes : List ℕ) (len : ℕ) : Type 0 where

@@ -2,9 +2,10 @@
 ghost use Rattle.std.specs.Prelude.{◌≡◌, ◌+◌, ◌^◌, ◌<◌, ◌≤◌, [], drop, length, true, IfOk, OnOk, IfErr, MatchOption};
 ghost use Rattle.std.specs.Bool.{OnTrue, OnFalse};
 ghost use Rattle.std.specs.Io.KnownBytes.{IsAtEnd};
+ghost use Rattle.mm_lang.specs.Lines.{HasNoFeed};
 ghost use Rattle.mm_value.specs.Watched.{inner_of, has_failed};
 ghost use Rattle.mmdb_core.specs.Input.{left_of, bytes_to_come, Comes, Fills, Finds, IsFault, LiesInWindow, TakesAllowed};
-ghost use Rattle.mmdb_core.specs.Feeds.{EndsLine, EndsWith, HasNoFeed, LooksLike};
+ghost use Rattle.mmdb_core.specs.Feeds.{EndsLine, EndsWith, LooksLike};
 ghost use Rattle.mmdb_core.specs.declared.fault.RunFault.TheVariants.{Read as ReadFault};
 
 use crate::fault::RunFault;

@@ -1,7 +1,8 @@
 use Rattle.std.proofs.Common.{◌≡◌, Some, sym, subst, ◌∙◌, arith}
 use Rattle.std.specs.Bool.{OnFalse}
+use Rattle.mm_lang.specs.Lines.{HasNoFeed}
 use Rattle.mm_value.specs.Watched.{inner_of}
-use Rattle.mmdb_core.specs.Feeds.{HasNoFeed, LooksLike}
+use Rattle.mmdb_core.specs.Feeds.{LooksLike}
 use Rattle.mmdb_core.specs.Input.{LiesInWindow, left_of}
 use Rattle.mmdb_core.proofs.Inputs.{finds_look, finds_last, fills_trans}
 use Rattle.mmdb_core.proofs.input.Input.find_line.Goals as goal

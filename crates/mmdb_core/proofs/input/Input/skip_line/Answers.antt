@@ -1,7 +1,8 @@
 use Rattle.std.proofs.Common.{◌≡◌, subst}
 use Rattle.std.specs.Bool.{OnFalse}
+use Rattle.mm_lang.specs.Lines.{HasNoFeed}
 use Rattle.mm_value.specs.Watched.{inner_of}
-use Rattle.mmdb_core.specs.Feeds.{EndsLine, HasNoFeed}
+use Rattle.mmdb_core.specs.Feeds.{EndsLine}
 use Rattle.mmdb_core.specs.Input.{LiesInWindow, left_of}
 use Rattle.mmdb_core.proofs.Inputs.{taken_same}
 use Rattle.mmdb_core.proofs.Skips.{skips_taken, skips_end, skips_feed, skips_more}
