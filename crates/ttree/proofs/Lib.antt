@@ -1,5 +1,4 @@
 mod Halving
-pub mod Rising
 pub mod Parts
 pub mod Leaves
 pub mod Taken

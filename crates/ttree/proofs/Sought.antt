@@ -13,7 +13,7 @@ use Rattle.mm_value.specs.declared.row_ref.RowRef.{RowRef}
 use Rattle.mm_order.specs.Order.{IsOrdered}
 use Rattle.mm_order.specs.Probe.{IsMonotone}
 use Rattle.mm_order.proofs.Ordered.{IsNonDecreasingBy-places}
-use Rattle.ttree.proofs.Rising.{less_up_to, greater_from}
+use Rattle.mm_order.proofs.Places.{less_up_to, greater_from}
 
 module _ (Covers : RowRef → Type 0) (cmp : RowRef → RowRef → Ordering) (Reaches : RowRef → Type 0) (place : RowRef → Ordering) (monotone : IsMonotone Covers cmp Reaches place) (left middle right : List RowRef) (was : IsOrdered Covers cmp (left ++ middle ++ right)) (d : RowRef) where
   rise : IsNonDecreasingBy (λ a. ordering_index (place a)) (left ++ middle ++ right)

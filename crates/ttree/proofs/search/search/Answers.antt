@@ -5,7 +5,7 @@ use Rattle.std.specs.declared.cmp.Ordering.{Ordering}
 use Rattle.std.specs.declared.cmp.Ordering.TheVariants.{Less, Equal, Greater}
 use Rattle.mm_value.specs.declared.row_ref.RowRef.{RowRef}
 use Rattle.ttree.proofs.Halving.{halved}
-use Rattle.ttree.proofs.Rising.{less_up_to, greater_from}
+use Rattle.mm_order.proofs.Places.{less_up_to, greater_from}
 use Rattle.ttree.proofs.search.search.Goals as goal
 use Rattle.ttree.proofs.search.search.Goals.{then-is_le, else-is_le}
 
