@@ -35,6 +35,11 @@ impl<'a> RefOrder for ByKey<'a> {
     ghost total = { λ o. IsTotalOrderOn-from_total _ _ (then_total (on_total (key_in o.keys.now) nat_cmp_total) (on_total (λ (r : RowRef). r.part) nat_cmp_total)) };
 
     fn compare(&self, a: RowRef, b: RowRef) -> Ordering {
-        self.key(a).cmp(&self.key(b)).then(a.part.cmp(&b.part))
+        let (one, other) = (self.key(a), self.key(b));
+        if one == other {
+            a.part.cmp(&b.part)
+        } else {
+            one.cmp(&other)
+        }
     }
 }
