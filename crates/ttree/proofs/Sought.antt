@@ -1,6 +1,6 @@
 -- Where nothing fits a probe along an ordered list of three parts.
 use Rattle.std.proofs.Common.{◌≡◌, ◌≢◌, ℕ, ◌+◌, ◌-◌, ◌<◌, ◌≤◌, List, ◌++◌, length, get_or, take, drop, ⊎_elim, sym, ap, ◌∙◌, subst, arith, length-append, length-take, length-drop}
-use Rattle.std.specs.Prelude.{Option, Some, None, IfSome, IfNone}
+use Rattle.std.specs.Prelude.{Option, Some, None, IfNone}
 use Rattle.std.proofs.lemmas.Bool.{cases_lt}
 use Rattle.std.proofs.lemmas.List.{get_or_append_left, get_or-append-add, get_or-take, get_or-drop}
 use Rattle.std.proofs.lemmas.List.Elements.{All-append}
@@ -69,11 +69,7 @@ module _ (Covers : RowRef → Type 0) (cmp : RowRef → RowRef → Ordering) (Re
       (λ (high : length left + at ≤ k). none_after at greatest greater k e high within)
       (cases_lt k (length left + at))
 
--- what follows of an option
-pub IfSome-weaker : {X : Type 0} (o : Option X) (P Q : X → Type 0) → ((x : X) → P x → Q x) → IfSome o P → IfSome o Q
-IfSome-weaker None P Q f h = h
-IfSome-weaker (Some x) P Q f h = f x h
-
-pub IfNone-weaker : {X : Type 0} (o : Option X) (P Q : Type 0) → (P → Q) → IfNone o P → IfNone o Q
-IfNone-weaker None P Q f h = f h
-IfNone-weaker (Some x) P Q f h = h
+-- what always holds holds where there is nothing
+pub IfNone-always : {X : Type 0} (o : Option X) (P : Type 0) → P → IfNone o P
+IfNone-always None P p = p
+IfNone-always (Some x) P p = tt

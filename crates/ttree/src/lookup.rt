@@ -50,15 +50,14 @@ fn bounding_node<'a, O: RefOrder, P: Probe>(
     ensures not_after { IfSome result (λ node. P.place_of seek.old.probe (slice_index_or node.now.entries (length node.now.entries - 1) (record { part = 0; slot = 0 })) ≢ Less) }
     ensures none { IfNone result (All (λ a. P.place_of seek.old.probe a ≢ Equal) (in_order (tree_of (option_copied tree.entry)))) }
 {
-    let mut at = tree;
-    while let Some(node) = at {
+    let mut node = tree?;
+    loop {
         match side_sought(node, order, seek) {
-            Ordering::Less => at = node.left(),
-            Ordering::Greater => at = node.right(),
+            Ordering::Less => node = node.left()?,
+            Ordering::Greater => node = node.right()?,
             Ordering::Equal => return Some(node),
         }
     }
-    None
 }
 
 /// On which side of a root's entries the sought place lies: `Less` before them all, `Greater`
