@@ -1,5 +1,10 @@
 mod CatalogLemmas
+pub mod ChangedRows
 pub mod Dues
+pub mod InOrder
 pub mod Keys
 pub mod NameLemmas
+pub mod Orderings
 pub mod Places
+pub mod StrictOrder
+pub mod Twins

@@ -23,6 +23,6 @@ abbrev pub key_place : List Column → ℕ
 key_place columns = position_or_len is_key columns
 
 -- Some column stands twice.
-abbrev pub has_twin_columns : List Column → Bool
-has_twin_columns [] = false
-has_twin_columns (c ∷ cs) = list_any (λ d. same_name c.name d.name) cs || has_twin_columns cs
+abbrev pub has_twin_names : List Column → Bool
+has_twin_names [] = false
+has_twin_names (c ∷ cs) = list_any (λ d. same_name c.name d.name) cs || has_twin_names cs

@@ -1,8 +1,10 @@
 pub mod Catalog
 pub mod Columns
+pub mod Instance
 pub mod Name
 pub mod Refused
 pub mod Rows
 pub mod Schema
+pub mod Sorting
 pub use Rattle.mm_value.specs.Order
 pub use Rattle.mm_value.specs.Types

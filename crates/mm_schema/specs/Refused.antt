@@ -1,7 +1,7 @@
 -- Which refusal is answered.
-use Rattle.std.specs.Prelude.{◌≡◌, ◌⊎◌, Bool, if◌then◌else◌, List, [], ◌∷◌, Option, Some, None, Result, Ok, Err}
+use Rattle.std.specs.Prelude.{◌≡◌, ◌⊎◌, ℕ, Bool, true, ◌&&◌, if◌then◌else◌, List, [], ◌∷◌, Option, Some, None, Result, Ok, Err, nat_lt}
 use Rattle.mm_value.specs.declared.refusal.Refusal.{Refusal}
-use Rattle.mm_value.specs.declared.refusal.Refusal.TheVariants.{Memory}
+use Rattle.mm_value.specs.declared.refusal.Refusal.TheVariants.{LineTooLong, Syntax, NumberOutOfRange, TextTooLong, NoSuchTable, NoSuchColumn, NoSuchIndex, NoSuchStandingQuery, NameTaken, AliasTaken, NoSuchAlias, TypeMismatch, WrongNumberOfValues, ArithmeticOutOfRange, DuplicateKey, NoTargetRow, RowIsReferenced, InUse, TableFull, ResultTooLarge, StandingListTooLarge, TooMany, TransactionOpen, NoTransaction, NotInTransaction, Memory}
 
 -- A refusal, and whether its condition holds.
 pub record Condition : Type 0 where
@@ -17,3 +17,39 @@ first_refusal (c ∷ cs) = if c.holds then Some c.refusal else first_refusal cs
 abbrev pub AnswersDue : {T : Type 0} → Option Refusal → Result T Refusal → Type 0
 AnswersDue due (Ok value) = due ≡ None
 AnswersDue due (Err refusal) = (due ≡ Some refusal) ⊎ (refusal ≡ Memory)
+
+-- The one order of refusals: of two whose conditions hold, the one of lower rank is answered. A number and a text past
+-- their limits have one rank: the first of them in the line is answered. Want of memory may come in place of any.
+abbrev pub rank : Refusal → ℕ
+rank LineTooLong = 1
+rank Syntax = 2
+rank NumberOutOfRange = 3
+rank TextTooLong = 3
+rank TransactionOpen = 4
+rank NoTransaction = 5
+rank NotInTransaction = 6
+rank NoSuchTable = 7
+rank NoSuchColumn = 8
+rank NoSuchIndex = 9
+rank NoSuchStandingQuery = 10
+rank NameTaken = 11
+rank AliasTaken = 12
+rank NoSuchAlias = 13
+rank TypeMismatch = 14
+rank WrongNumberOfValues = 15
+rank TooMany = 16
+rank ArithmeticOutOfRange = 17
+rank DuplicateKey = 18
+rank NoTargetRow = 19
+rank RowIsReferenced = 20
+rank InUse = 21
+rank TableFull = 22
+rank ResultTooLarge = 23
+rank StandingListTooLarge = 24
+rank Memory = 25
+
+-- Each condition's refusal has a lower rank than those behind it.
+abbrev pub ascend : List Condition → Bool
+ascend [] = true
+ascend (c ∷ []) = true
+ascend (c ∷ d ∷ cs) = nat_lt (rank c.refusal) (rank d.refusal) && ascend (d ∷ cs)

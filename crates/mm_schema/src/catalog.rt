@@ -63,7 +63,7 @@ impl Catalog {
     fn table_refusal(&self, definition: &TableDef) -> Option<Refusal>
         ensures { result ≡ first_refusal (table_conditions definition.now self.now) }
     {
-        if self.find_table(&definition.name).is_some() || definition.columns.has_twins() {
+        if self.find_table(&definition.name).is_some() || definition.columns.has_twin_names() {
             return Some(Refusal::NameTaken);
         }
         if self.tables.len() >= MAX_TABLES || definition.columns.as_slice().len() > MAX_COLUMNS {

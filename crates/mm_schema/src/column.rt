@@ -2,7 +2,7 @@
 ghost use Rattle.std.specs.Prelude.{◌≡◌, ◌↔◌, ◌<◌, IsSome, IfSome, length, position};
 ghost use Rattle.std.specs.List.{list_any};
 ghost use Rattle.mm_schema.specs.Name.{same_name};
-ghost use Rattle.mm_schema.specs.Columns.{has_twin_columns, is_key, key_count, key_place};
+ghost use Rattle.mm_schema.specs.Columns.{has_twin_names, is_key, key_count, key_place};
 
 use crate::name::Name;
 use mm_value::ColType;
@@ -82,8 +82,8 @@ impl Columns {
     }
 
     /// Whether some name stands twice among them.
-    pub fn has_twins(&self) -> bool
-        ensures { result ≡ has_twin_columns self.now }
+    pub fn has_twin_names(&self) -> bool
+        ensures { result ≡ has_twin_names self.now }
     {
         let columns = self.items.as_slice();
         for (i, column) in columns.iter().enumerate() {
@@ -157,8 +157,8 @@ mod tests {
         assert_eq!(rt; found.key(), 1);
         assert_eq!(rt; found.as_slice().len(), 2);
         assert!(rt; !found.as_slice()[0].is_key());
-        assert!(rt; !found.has_twins());
+        assert!(rt; !found.has_twin_names());
         let twins = columns(&rt, &[key, plain, plain]).expect(&rt, "one key");
-        assert!(rt; twins.has_twins());
+        assert!(rt; twins.has_twin_names());
     }
 }

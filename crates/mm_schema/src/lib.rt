@@ -3,10 +3,12 @@
 
 mod catalog;
 mod column;
+mod laws;
 mod name;
 mod table;
 
 pub use catalog::{Catalog, MAX_COLUMNS, MAX_TABLES};
 pub use column::{Column, Columns, Role};
-pub use name::{MAX_NAME_BYTES, Name};
+pub use laws::{changes_are_exact, in_order_sorts};
+pub use name::Name;
 pub use table::{Table, TableDef};

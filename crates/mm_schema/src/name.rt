@@ -6,9 +6,6 @@ ghost use Rattle.mm_schema.specs.Name.{IsName, is_name_byte, is_name_text};
 use arrayvec::ArrayVec;
 use std::marker::Model;
 
-/// The most bytes that a name has.
-pub const MAX_NAME_BYTES: usize = 32;
-
 /// A name: `a` to `z`, then `a` to `z`, `0` to `9` and `_`, at most 32 bytes in all. It lies in the value itself.
 #[derive(Debug, PartialEq, Eq, Hash, Drop)]
 pub struct Name {

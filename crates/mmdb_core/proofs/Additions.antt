@@ -7,26 +7,26 @@ use Rattle.std.proofs.lemmas.Bool.{true_from_ne_false, or_right, cond-true, cond
 use Rattle.std.proofs.lemmas.List.{with_items_is}
 use Rattle.std.proofs.lemmas.List.Sorted.{IsPermutation-append_right, IsPermutation-trans, length_permutation}
 use Rattle.mm_schema.specs.Refused.{first_refusal}
-use Rattle.mm_schema.specs.Rows.{column_cmp, has_twins, same_in_column}
+use Rattle.mm_schema.specs.Rows.{column_cmp, has_twin_keys, same_in_column}
 use Rattle.mm_value.specs.declared.refusal.Refusal.TheVariants.{DuplicateKey, TableFull}
 use Rattle.mmdb_core.specs.KeyedRows.{IsInKeyOrder, KeyedList, new_row_conditions, with_new_rows}
-use Rattle.mmdb_core.proofs.InOrder.{in_order_is}
-use Rattle.mmdb_core.proofs.Twins.{Row, has_twins-IsPermutation, in_order_from_sorted}
+use Rattle.mm_schema.proofs.InOrder.{in_order_is}
+use Rattle.mm_schema.proofs.Twins.{Row, has_twin_keys-IsPermutation, in_order_from_sorted}
 
-twins_behind : (key : ℕ) (old fresh : List Row) → has_twins key fresh ≡ true → has_twins key (old ++ fresh) ≡ true
+twins_behind : (key : ℕ) (old fresh : List Row) → has_twin_keys key fresh ≡ true → has_twin_keys key (old ++ fresh) ≡ true
 twins_behind key [] fresh twins = twins
 twins_behind key (o ∷ old) fresh twins =
-    or_right (list_any (same_in_column key o) (old ++ fresh)) (has_twins key (old ++ fresh)) (twins_behind key old fresh twins)
+    or_right (list_any (same_in_column key o) (old ++ fresh)) (has_twin_keys key (old ++ fresh)) (twins_behind key old fresh twins)
 
 -- sorted rows that aren't strictly in order have twins
-pub twins_from_disorder : (key : ℕ) (old sorted : List Row) → IsSorted (column_cmp key) sorted → (IsInKeyOrder key sorted → ⊥) → has_twins key (old ++ sorted) ≡ true
+pub twins_from_disorder : (key : ℕ) (old sorted : List Row) → IsSorted (column_cmp key) sorted → (IsInKeyOrder key sorted → ⊥) → has_twin_keys key (old ++ sorted) ≡ true
 twins_from_disorder key old sorted order disorder =
-    twins_behind key old sorted (true_from_ne_false (has_twins key sorted) (λ none. disorder (in_order_from_sorted key sorted order none)))
+    twins_behind key old sorted (true_from_ne_false (has_twin_keys key sorted) (λ none. disorder (in_order_from_sorted key sorted order none)))
 
 -- what a test of two slices told of the lists in them
-pub tested_twins : (key : ℕ) (old fresh old_read fresh_read : List Row) (answer : Bool) → old_read ≡ old → fresh_read ≡ fresh → answer ≡ has_twins key (old_read ++ fresh_read) → has_twins key (old ++ fresh) ≡ answer
+pub tested_twins : (key : ℕ) (old fresh old_read fresh_read : List Row) (answer : Bool) → old_read ≡ old → fresh_read ≡ fresh → answer ≡ has_twin_keys key (old_read ++ fresh_read) → has_twin_keys key (old ++ fresh) ≡ answer
 tested_twins key old fresh old_read fresh_read answer old_is fresh_is tested =
-    sym (tested ∙ ap (λ xs. has_twins key (xs ++ fresh_read)) old_is ∙ ap (λ xs. has_twins key (old ++ xs)) fresh_is)
+    sym (tested ∙ ap (λ xs. has_twin_keys key (xs ++ fresh_read)) old_is ∙ ap (λ xs. has_twin_keys key (old ++ xs)) fresh_is)
 
 -- a vector whose items were sorted in place has the sorted list
 pub items_of_sorted : (rows : Vec Row Global) (sorted : List Row) → IsPermutation rows.items sorted → (with_items rows sorted).items ≡ sorted
@@ -37,18 +37,18 @@ module _ (keyed : KeyedList) (fresh sorted : List Row) (moved : IsPermutation fr
   same_rows : IsPermutation (keyed.rows ++ fresh) (keyed.rows ++ sorted)
   same_rows = IsPermutation-append_right keyed.rows fresh sorted moved
 
-  same_twins : has_twins keyed.key (keyed.rows ++ fresh) ≡ has_twins keyed.key (keyed.rows ++ sorted)
-  same_twins = has_twins-IsPermutation keyed.key (keyed.rows ++ fresh) (keyed.rows ++ sorted) same_rows
+  same_twins : has_twin_keys keyed.key (keyed.rows ++ fresh) ≡ has_twin_keys keyed.key (keyed.rows ++ sorted)
+  same_twins = has_twin_keys-IsPermutation keyed.key (keyed.rows ++ fresh) (keyed.rows ++ sorted) same_rows
 
-  pub due-duplicate : has_twins keyed.key (keyed.rows ++ sorted) ≡ true → first_refusal (new_row_conditions keyed fresh) ≡ Some DuplicateKey
+  pub due-duplicate : has_twin_keys keyed.key (keyed.rows ++ sorted) ≡ true → first_refusal (new_row_conditions keyed fresh) ≡ Some DuplicateKey
   due-duplicate twins = cond-true _ _ _ (same_twins ∙ twins)
 
-  pub due-full : has_twins keyed.key (keyed.rows ++ sorted) ≡ false → 1048576 < length keyed.rows + length sorted → first_refusal (new_row_conditions keyed fresh) ≡ Some TableFull
+  pub due-full : has_twin_keys keyed.key (keyed.rows ++ sorted) ≡ false → 1048576 < length keyed.rows + length sorted → first_refusal (new_row_conditions keyed fresh) ≡ Some TableFull
   due-full none many =
       let count : length (keyed.rows ++ fresh) ≡ length keyed.rows + length sorted = omega (arith, length-append keyed.rows fresh, length_permutation fresh sorted moved) in
       cond-false _ _ _ (same_twins ∙ none) ∙ cond-true _ _ _ (lt-ltb 1048576 (length (keyed.rows ++ fresh)) (omega arith))
 
-  pub due-none : has_twins keyed.key (keyed.rows ++ sorted) ≡ false → length keyed.rows + length sorted ≤ 1048576 → first_refusal (new_row_conditions keyed fresh) ≡ None
+  pub due-none : has_twin_keys keyed.key (keyed.rows ++ sorted) ≡ false → length keyed.rows + length sorted ≤ 1048576 → first_refusal (new_row_conditions keyed fresh) ≡ None
   due-none none few =
       let count : length (keyed.rows ++ fresh) ≡ length keyed.rows + length sorted = omega (arith, length-append keyed.rows fresh, length_permutation fresh sorted moved) in
       cond-false _ _ _ (same_twins ∙ none) ∙ cond-false _ _ _ (le-ltb 1048576 (length (keyed.rows ++ fresh)) (omega arith))

@@ -2,8 +2,8 @@
 use Rattle.std.proofs.Common.{◌≡◌, ℕ, false, List, [], ◌∷◌, ◌++◌, length, refl, ap, ◌∙◌}
 use Rattle.std.specs.List.{list_any, filter, filter_map}
 use Rattle.std.specs.Prelude.{Some, None, map, not, nat_lt}
-use Rattle.mm_schema.specs.Rows.{column_cmp, in_order, has_twins, unsorted, changed, makes_duplicate_key, fills_table, goes, Pair}
-use Rattle.mmdb_core.proofs.Twins.{Row}
+use Rattle.mm_schema.specs.Rows.{column_cmp, in_order, has_twin_keys, unsorted, changed, makes_duplicate_key, fills_table, goes, Pair}
+use Rattle.mm_schema.proofs.Twins.{Row}
 
 -- a pair for each new row
 abbrev pub additions : List Row → List Pair
@@ -29,8 +29,8 @@ unsorted-additions key fresh rows =
 pub changed-additions : (key : ℕ) (fresh rows : List Row) → changed key (map (λ (row : Row). (None, Some row)) fresh) rows ≡ in_order (column_cmp key) (rows ++ fresh)
 changed-additions key fresh rows = ap (in_order (column_cmp key)) (unsorted-additions key fresh rows)
 
-pub makes_duplicate_key-additions : (key : ℕ) (fresh rows : List Row) → makes_duplicate_key key (map (λ (row : Row). (None, Some row)) fresh) rows ≡ has_twins key (rows ++ fresh)
-makes_duplicate_key-additions key fresh rows = ap (has_twins key) (unsorted-additions key fresh rows)
+pub makes_duplicate_key-additions : (key : ℕ) (fresh rows : List Row) → makes_duplicate_key key (map (λ (row : Row). (None, Some row)) fresh) rows ≡ has_twin_keys key (rows ++ fresh)
+makes_duplicate_key-additions key fresh rows = ap (has_twin_keys key) (unsorted-additions key fresh rows)
 
 pub fills_table-additions : (key : ℕ) (fresh rows : List Row) → fills_table key (map (λ (row : Row). (None, Some row)) fresh) rows ≡ nat_lt 1048576 (length (rows ++ fresh))
 fills_table-additions key fresh rows = ap (λ xs. nat_lt 1048576 (length xs)) (unsorted-additions key fresh rows)

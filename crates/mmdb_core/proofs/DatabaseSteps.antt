@@ -4,7 +4,7 @@ use Rattle.std.specs.Prelude.{nat_lt}
 use Rattle.std.proofs.lemmas.Option.{slice_get_read}
 use Rattle.mm_schema.specs.Columns.{key_place}
 use Rattle.mm_schema.specs.Refused.{first_refusal}
-use Rattle.mm_schema.specs.Rows.{Pair, changed, column_cmp, has_twins, in_order, unsorted}
+use Rattle.mm_schema.specs.Rows.{Pair, changed, column_cmp, has_twin_keys, in_order, unsorted}
 use Rattle.mm_schema.specs.Schema.{HasDistinctNames, Schema, table_conditions, table_place, with_table}
 use Rattle.mm_schema.specs.declared.table.TableDef.{TableDef}
 use Rattle.mm_schema.proofs.Places.{place_within}
@@ -36,7 +36,7 @@ state_of schema rs = record { tables = stored schema.tables rs }
 -- the refusal of rows that would be too many or have twins
 abbrev refusal_of : ℕ → List Row → Option Refusal
 refusal_of key rows =
-    first_refusal (record { holds = has_twins key rows; refusal = DuplicateKey } ∷ record { holds = nat_lt 1048576 (length rows); refusal = TableFull } ∷ [])
+    first_refusal (record { holds = has_twin_keys key rows; refusal = DuplicateKey } ∷ record { holds = nat_lt 1048576 (length rows); refusal = TableFull } ∷ [])
 
 -- the place of the table of a bound change, and the rows that come
 abbrev pub place_in : BoundChange → ℕ

@@ -3,17 +3,13 @@ pub mod Answering
 pub mod Changes
 pub mod DatabaseSteps
 pub mod FeedLemmas
-pub mod InOrder
 pub mod Inputs
 pub mod Known
 pub mod Left
 pub mod Merging
-pub mod Orderings
 pub mod Outcomes
 pub mod Runs
 pub mod Searching
 pub mod Skips
 pub mod StoredTables
-pub mod StrictOrder
-pub mod Twins
 pub mod Windows

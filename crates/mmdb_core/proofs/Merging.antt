@@ -9,10 +9,10 @@ use Rattle.std.specs.declared.cmp.Ordering.TheVariants.{Less, Greater}
 use Rattle.std.proofs.lemmas.List.{append-nil, take_more, take-set, take-set-le, drop-set, drop-set-lt, drop_all, length-set, take-append-drop, get_or_read, get_or_push, length_push}
 use Rattle.std.proofs.lemmas.List.Edits.{swap_is, length-swap}
 use Rattle.std.proofs.lemmas.List.Sorted.{IsPermutation-refl, IsPermutation-trans, IsPermutation-sym, IsPermutation-middle, IsPermutation-append_right}
-use Rattle.mm_schema.specs.Rows.{column_cmp, has_twins}
-use Rattle.mmdb_core.proofs.StrictOrder.{IsStrictlySortedBy-append_right, IsStrictlySortedBy-between, less_from_greater, split_last}
-use Rattle.mmdb_core.proofs.Orderings.{less_from_neither, not_greater_from_index}
-use Rattle.mmdb_core.proofs.Twins.{Row, column_cmp_total, has_twins-IsPermutation, apart_from_no_twins}
+use Rattle.mm_schema.specs.Rows.{column_cmp, has_twin_keys}
+use Rattle.mm_schema.proofs.StrictOrder.{IsStrictlySortedBy-append_right, IsStrictlySortedBy-between, less_from_greater, split_last}
+use Rattle.mm_schema.proofs.Orderings.{less_from_neither, not_greater_from_index}
+use Rattle.mm_schema.proofs.Twins.{Row, column_cmp_total, has_twin_keys-IsPermutation, apart_from_no_twins}
 
 -- the merged rows are greater than all that is left, and no row was lost
 pub record IsMergeOf (key : ℕ) (whole old fresh merged : List Row) : Type 0 where
@@ -51,9 +51,9 @@ module _ (key : ℕ) (whole : List Row) where
       IsStrictlySortedBy-append_right (column_cmp_total key) fresh (y ∷ merged) (subst (IsStrictlySortedBy (column_cmp key)) (append_assoc fresh (y ∷ []) merged) so_far.fresh_order)
 
   -- .. and where the last of those that are left isn't greater
-  order_behind : has_twins key whole ≡ false → (old : List Row) (x : Row) (fresh : List Row) (y : Row) (merged : List Row) → is_gt (column_cmp key x y) ≡ false → IsMergeOf key whole (old ++ x ∷ []) (fresh ++ y ∷ []) merged → IsStrictlySortedBy (column_cmp key) ((old ++ x ∷ []) ++ y ∷ merged)
+  order_behind : has_twin_keys key whole ≡ false → (old : List Row) (x : Row) (fresh : List Row) (y : Row) (merged : List Row) → is_gt (column_cmp key x y) ≡ false → IsMergeOf key whole (old ++ x ∷ []) (fresh ++ y ∷ []) merged → IsStrictlySortedBy (column_cmp key) ((old ++ x ∷ []) ++ y ∷ merged)
   order_behind none old x fresh y merged not_greater so_far =
-      let none_here : has_twins key ((old ++ x ∷ []) ++ ((fresh ++ y ∷ []) ++ merged)) ≡ false = sym (has_twins-IsPermutation key whole _ so_far.moved) ∙ none in
+      let none_here : has_twin_keys key ((old ++ x ∷ []) ++ ((fresh ++ y ∷ []) ++ merged)) ≡ false = sym (has_twin_keys-IsPermutation key whole _ so_far.moved) ∙ none in
       let less : column_cmp key x y ≡ Less = less_from_neither (column_cmp key x y) (apart_from_no_twins key old x fresh y merged none_here) not_greater in
       let old_order : IsStrictlySortedBy (column_cmp key) (old ++ x ∷ merged) = subst (IsStrictlySortedBy (column_cmp key)) (append_assoc old (x ∷ []) merged) so_far.old_order in
       let behind : IsStrictlySortedBy (column_cmp key) (y ∷ merged) = IsStrictlySortedBy-append_right (column_cmp_total key) fresh (y ∷ merged) (subst (IsStrictlySortedBy (column_cmp key)) (append_assoc fresh (y ∷ []) merged) so_far.fresh_order) in
@@ -118,7 +118,7 @@ module _ (key : ℕ) (whole : List Row) where
         parts = subst (λ xs. IsMergeOf key whole xs still (drop (i + length still) (swap rows i to))) (sym same_take) (subst (IsMergeOf key whole (take i rows) still) (sym same_drop ∙ ap (λ n. drop n (swap rows i to)) (sym at)) is);
       }
 
-  order_of : has_twins key whole ≡ false → (rows fresh : List Row) (y : Row) (merged : List Row) (left : ℕ) → left ≤ length rows → (0 < left → is_gt (column_cmp key (get_or rows (left - 1) y) y) ≡ false) → IsMergeOf key whole (take left rows) (fresh ++ y ∷ []) merged → IsStrictlySortedBy (column_cmp key) (take left rows ++ y ∷ merged)
+  order_of : has_twin_keys key whole ≡ false → (rows fresh : List Row) (y : Row) (merged : List Row) (left : ℕ) → left ≤ length rows → (0 < left → is_gt (column_cmp key (get_or rows (left - 1) y) y) ≡ false) → IsMergeOf key whole (take left rows) (fresh ++ y ∷ []) merged → IsStrictlySortedBy (column_cmp key) (take left rows ++ y ∷ merged)
   order_of none rows fresh y merged zero within not_greater so_far = order_at_none key whole fresh y merged so_far
   order_of none rows fresh y merged (suc i) within not_greater so_far =
       let x : Row = get_or rows i y in
@@ -130,7 +130,7 @@ module _ (key : ℕ) (whole : List Row) where
       subst (λ xs. IsStrictlySortedBy (column_cmp key) (xs ++ y ∷ merged)) (sym split) (order_behind key whole none (take i rows) x fresh y merged last was)
 
   -- no old row is greater than the last fresh one: that takes the last free place
-  pub Merging-fresh : has_twins key whole ≡ false → (rows fresh : List Row) (y : Row) (left to : ℕ) → to ≡ left + length fresh → (0 < left → is_gt (column_cmp key (get_or rows (left - 1) y) y) ≡ false) → Merging key whole rows (fresh ++ y ∷ []) left → Merging key whole (slice_set rows to y) fresh left
+  pub Merging-fresh : has_twin_keys key whole ≡ false → (rows fresh : List Row) (y : Row) (left to : ℕ) → to ≡ left + length fresh → (0 < left → is_gt (column_cmp key (get_or rows (left - 1) y) y) ≡ false) → Merging key whole rows (fresh ++ y ∷ []) left → Merging key whole (slice_set rows to y) fresh left
   Merging-fresh none rows fresh y left to to_is not_greater so_far =
       let still : List Row = fresh ++ y ∷ [] in
       let count : length still ≡ length fresh + 1 = length-append fresh (y ∷ []) ∙ omega arith in
@@ -162,7 +162,7 @@ module _ (key : ℕ) (whole rows fresh : List Row) (left count : ℕ) (counted :
       let is : Merging key whole (swap rows (left - 1) (left + count - 1)) (front ++ y ∷ []) (left - 1) = Merging-old key whole rows front y left (left + count - 1) some (omega arith) greater_at was in
       subst (λ xs. Merging key whole after xs (left - 1)) (sym split) (subst (λ xs. Merging key whole xs (front ++ y ∷ []) (left - 1)) (sym after_is) is)
 
-  pub Merging-place : has_twins key whole ≡ false → (rest : List Row) (y : Row) → fresh ≡ rest ++ y ∷ [] → (0 < left → is_gt (column_cmp key (get_or rows (left - 1) y) y) ≡ false) → Merging key whole (slice_set rows (left + count - 1) y) rest left
+  pub Merging-place : has_twin_keys key whole ≡ false → (rest : List Row) (y : Row) → fresh ≡ rest ++ y ∷ [] → (0 < left → is_gt (column_cmp key (get_or rows (left - 1) y) y) ≡ false) → Merging key whole (slice_set rows (left + count - 1) y) rest left
   Merging-place none rest y split not_greater =
       let same_length : length fresh ≡ length rest + 1 = ap length split ∙ length_push rest y in
       Merging-fresh key whole none rows rest y left (left + count - 1) (omega arith) not_greater (subst (λ xs. Merging key whole rows xs left) split so_far)

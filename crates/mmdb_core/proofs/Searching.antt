@@ -9,10 +9,10 @@ use Rattle.std.specs.declared.cmp.Ordering.TheVariants.{Less, Equal, Greater}
 use Rattle.std.proofs.lemmas.Bool.{cases_lt, false≢true}
 use Rattle.std.proofs.lemmas.List.Folds.{list_any_none, list_any_at}
 use Rattle.std.proofs.lemmas.List.Sorted.{searchable_from_sorted}
-use Rattle.mm_schema.specs.Rows.{column_cmp, same_in_column, has_twins}
-use Rattle.mmdb_core.proofs.StrictOrder.{IsStrictlySortedBy-at, IsStrictlySortedBy-append, IsStrictlySortedBy-from_neighbours, greater_from_less, split_last}
-use Rattle.mmdb_core.proofs.Orderings.{less_from_is_lt}
-use Rattle.mmdb_core.proofs.Twins.{Row, column_cmp_total, same_in_column_comm, no_twins_in_order}
+use Rattle.mm_schema.specs.Rows.{column_cmp, same_in_column, has_twin_keys}
+use Rattle.mm_schema.proofs.StrictOrder.{IsStrictlySortedBy-at, IsStrictlySortedBy-append, IsStrictlySortedBy-from_neighbours, greater_from_less, split_last}
+use Rattle.mm_schema.proofs.Orderings.{less_from_is_lt}
+use Rattle.mm_schema.proofs.Twins.{Row, column_cmp_total, same_in_column_comm, no_twins_in_order}
 
 pub IsSorted-in_order : (key : ℕ) (rows : List Row) → IsStrictlySortedBy (column_cmp key) rows → IsSorted (column_cmp key) rows
 IsSorted-in_order key rows order k d low within =
@@ -47,7 +47,7 @@ order_from_neighbours key rows false (k, within, next) = (
 )
 
 -- the last of one list less than the first of the next: no twins
-pub no_twins_from_ends : (key : ℕ) (old fresh : List Row) (last first : Row) → IsStrictlySortedBy (column_cmp key) old → IsStrictlySortedBy (column_cmp key) fresh → 0 < length old → last ≡ get_or old (length old - 1) last → 0 < length fresh → first ≡ get_or fresh 0 first → column_cmp key last first ≡ Less → has_twins key (old ++ fresh) ≡ false
+pub no_twins_from_ends : (key : ℕ) (old fresh : List Row) (last first : Row) → IsStrictlySortedBy (column_cmp key) old → IsStrictlySortedBy (column_cmp key) fresh → 0 < length old → last ≡ get_or old (length old - 1) last → 0 < length fresh → first ≡ get_or fresh 0 first → column_cmp key last first ≡ Less → has_twin_keys key (old ++ fresh) ≡ false
 no_twins_from_ends key old [] last first old_order fresh_order some_old last_is some_fresh first_is less = absurd (omega arith)
 no_twins_from_ends key old (y ∷ ys) last first old_order fresh_order some_old last_is some_fresh first_is less =
     let front : List Row = take (length old - 1) old in
@@ -55,4 +55,4 @@ no_twins_from_ends key old (y ∷ ys) last first old_order fresh_order some_old 
     let old_parts : IsStrictlySortedBy (column_cmp key) (front ++ last ∷ []) = subst (IsStrictlySortedBy (column_cmp key)) split old_order in
     let less_too : column_cmp key last y ≡ Less = ap (column_cmp key last) (sym first_is) ∙ less in
     let whole : IsStrictlySortedBy (column_cmp key) ((front ++ last ∷ []) ++ (y ∷ ys)) = IsStrictlySortedBy-append (column_cmp_total key) front last y ys less_too old_parts fresh_order in
-    ap (λ xs. has_twins key (xs ++ (y ∷ ys))) split ∙ no_twins_in_order key _ whole
+    ap (λ xs. has_twin_keys key (xs ++ (y ∷ ys))) split ∙ no_twins_in_order key _ whole

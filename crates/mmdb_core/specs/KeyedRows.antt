@@ -2,7 +2,7 @@
 use Rattle.std.specs.Prelude.{ℕ, List, [], ◌∷◌, ◌++◌, length, nat_lt}
 use Rattle.std.specs.List.Sorted.{IsStrictlySortedBy}
 use Rattle.mm_schema.specs.Refused.{Condition}
-use Rattle.mm_schema.specs.Rows.{column_cmp, in_order, has_twins}
+use Rattle.mm_schema.specs.Rows.{column_cmp, in_order, has_twin_keys}
 use Rattle.mm_value.specs.declared.refusal.Refusal.TheVariants.{DuplicateKey, TableFull}
 use Rattle.mm_value.specs.declared.values.Value.{Value}
 
@@ -18,7 +18,7 @@ pub record KeyedList : Type 0 where
 -- What refuses new rows, in the one order.
 abbrev pub new_row_conditions : KeyedList → List (List Value) → List Condition
 new_row_conditions keyed fresh =
-    record { holds = has_twins keyed.key (keyed.rows ++ fresh); refusal = DuplicateKey }
+    record { holds = has_twin_keys keyed.key (keyed.rows ++ fresh); refusal = DuplicateKey }
     ∷ record { holds = nat_lt 1048576 (length (keyed.rows ++ fresh)); refusal = TableFull }
     ∷ []
 

@@ -2,7 +2,7 @@
 ghost use Rattle.std.specs.Prelude.{◌≡◌, ◌↔◌, ◌++◌, IsTrue};
 ghost use Rattle.std.specs.List.{list_any};
 ghost use Rattle.std.specs.List.Sorted.{IsPermutation, IsSorted};
-ghost use Rattle.mm_schema.specs.Rows.{column_cmp, has_twins, same_in_column};
+ghost use Rattle.mm_schema.specs.Rows.{column_cmp, has_twin_keys, same_in_column};
 ghost use Rattle.mmdb_core.specs.KeyedRows.{IsInKeyOrder};
 
 use mm_value::{Row, compare};
@@ -49,7 +49,7 @@ pub(crate) fn contains_key(rows: &[Row], row: &Row, key: usize) -> bool
 pub(crate) fn meets_old_key(old: &[Row], fresh: &[Row], key: usize) -> bool
     requires old_order { IsInKeyOrder key old.now }
     requires fresh_order { IsInKeyOrder key fresh.now }
-    ensures { result ≡ has_twins key (old.now ++ fresh.now) }
+    ensures { result ≡ has_twin_keys key (old.now ++ fresh.now) }
 {
     if let (Some(last), Some(first)) = (old.last(), fresh.first())
         && compare_by_column(last, first, key) == Ordering::Less

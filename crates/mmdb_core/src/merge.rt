@@ -1,7 +1,7 @@
 //! Two lists of rows in key order made one.
 ghost use Rattle.std.specs.Prelude.{◌≡◌, ◌+◌, ◌≤◌, ◌++◌, false, length, take, vec_len, OnOk, OnErr};
 ghost use Rattle.std.specs.List.Sorted.{IsPermutation};
-ghost use Rattle.mm_schema.specs.Rows.{has_twins};
+ghost use Rattle.mm_schema.specs.Rows.{has_twin_keys};
 ghost use Rattle.mmdb_core.specs.KeyedRows.{IsInKeyOrder};
 
 use crate::key_order::compare_by_column;
@@ -27,7 +27,7 @@ pub(crate) fn merge_from_back(rows: &mut [Row], old: usize, mut fresh: Vec<Row>,
     requires places { length rows.old ≡ old + vec_len fresh }
     requires old_order { IsInKeyOrder key (take old rows.old) }
     requires fresh_order { IsInKeyOrder key fresh.items }
-    requires no_twins { has_twins key (take old rows.old ++ fresh.items) ≡ false }
+    requires no_twins { has_twin_keys key (take old rows.old ++ fresh.items) ≡ false }
     ensures permutation { IsPermutation (take old rows.old ++ fresh.items) rows.new }
     ensures order { IsInKeyOrder key rows.new }
 {

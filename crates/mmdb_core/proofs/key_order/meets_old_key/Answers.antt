@@ -4,9 +4,9 @@ use Rattle.std.specs.List.{list_any}
 use Rattle.std.proofs.lemmas.Iterator.{YieldsList-from_slice}
 use Rattle.std.proofs.lemmas.Iterator.Search.{any_from_yields_List}
 use Rattle.mm_schema.specs.Rows.{column_cmp, same_in_column}
-use Rattle.mmdb_core.proofs.Orderings.{less_from_index}
+use Rattle.mm_schema.proofs.Orderings.{less_from_index}
 use Rattle.mmdb_core.proofs.Searching.{no_twins_from_ends}
-use Rattle.mmdb_core.proofs.Twins.{has_twins-append}
+use Rattle.mm_schema.proofs.Twins.{has_twin_keys-append}
 use Rattle.mmdb_core.proofs.key_order.meets_old_key.Goals as goal
 
 pub returns : goal.returns
@@ -19,4 +19,4 @@ returns c =
 pub returns-2 : goal.returns-2
 returns-2 c =
     let by_search : c.any.result ≡ list_any (λ row. list_any (same_in_column c.args.key row) c.args.old.now) c.args.fresh.now = any_from_yields_List (λ row. list_any (same_in_column c.args.key row) c.args.old.now) _ _ c.any.result c.any.ensures.ran (YieldsList-from_slice c.args.fresh.now cc) (λ x b q k. search (rules, tests)) in
-    by_search ∙ sym (has_twins-append c.args.key c.args.old.now c.args.fresh.now c.requires.old_order c.requires.fresh_order)
+    by_search ∙ sym (has_twin_keys-append c.args.key c.args.old.now c.args.fresh.now c.requires.old_order c.requires.fresh_order)

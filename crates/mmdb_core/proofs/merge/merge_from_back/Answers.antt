@@ -3,7 +3,7 @@ use Rattle.std.proofs.Common.{◌≡◌, ◌+◌, ◌-◌, ◌<◌, ◌≤◌, �
 use Rattle.std.specs.Ordering.{is_gt}
 use Rattle.mm_schema.specs.Rows.{column_cmp}
 use Rattle.mmdb_core.proofs.Merging.{Merging-shift, Merging-place, same_last, not_greater_at}
-use Rattle.mmdb_core.proofs.Orderings.{greater_from_index}
+use Rattle.mm_schema.proofs.Orderings.{greater_from_index}
 use Rattle.mmdb_core.proofs.merge.merge_from_back.Goals as goal
 use Rattle.mmdb_core.proofs.merge.merge_from_back.Goals.{else-left-gt0-via-then-left-gt0+else-eq, else-left-gt0-via-else-left-gt0}
 

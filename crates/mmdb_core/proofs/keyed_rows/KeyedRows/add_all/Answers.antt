@@ -5,7 +5,7 @@ use Rattle.std.proofs.lemmas.Bool.{false≢true}
 use Rattle.std.proofs.lemmas.List.{with_items_is}
 use Rattle.std.proofs.lemmas.List.Sorted.{length_permutation}
 use Rattle.mm_schema.specs.Refused.{first_refusal}
-use Rattle.mm_schema.specs.Rows.{has_twins}
+use Rattle.mm_schema.specs.Rows.{has_twin_keys}
 use Rattle.mm_value.specs.declared.refusal.Refusal.TheVariants.{DuplicateKey, TableFull}
 use Rattle.mmdb_core.specs.KeyedRows.{IsInKeyOrder, KeyedList, new_row_conditions, with_new_rows}
 use Rattle.mmdb_core.proofs.Additions.{twins_from_disorder, tested_twins, items_of_sorted, due-duplicate, due-full, due-none, with_new_rows-is}
@@ -18,7 +18,7 @@ returns-then-not-is_in_key_order-clause-due c =
     let sorted = c.sort_by_column.new.rows in
     let moved : IsPermutation c.args.fresh.items sorted = subst (λ xs. IsPermutation xs sorted) c.deref_mut.ensures.value c.sort_by_column.ensures.permutation in
     let same = items_of_sorted c.args.fresh sorted moved in
-    let twins : has_twins keyed.key (keyed.rows ++ sorted) ≡ true = elim c.then-not-is_in_key_order.branch [
+    let twins : has_twin_keys keyed.key (keyed.rows ++ sorted) ≡ true = elim c.then-not-is_in_key_order.branch [
       | then-not-is_in_key_order-via-then-not-is_in_key_order w ↦ twins_from_disorder keyed.key keyed.rows sorted c.sort_by_column.ensures.sorted (λ order. false≢true (w.if-not-is_in_key_order.ensures.1 (subst (IsInKeyOrder keyed.key) (sym (c.deref.ensures.value ∙ same)) order)))
       | then-not-is_in_key_order-via-else-not-is_in_key_order+then-meets_old_key w ↦ tested_twins keyed.key keyed.rows sorted _ _ true w.deref-else-not-is_in_key_order.ensures.value (w.deref-else-not-is_in_key_order-2.ensures.value ∙ same) w.if-meets_old_key.ensures
     ] in
@@ -29,7 +29,7 @@ returns-then-len-gt-MAX_ROWS-clause-due c =
     let keyed : KeyedList = record { key = c.self.inside.key; rows = c.self.inside.rows.items } in
     let sorted = c.sort_by_column.new.rows in
     let moved : IsPermutation c.args.fresh.items sorted = subst (λ xs. IsPermutation xs sorted) c.deref_mut.ensures.value c.sort_by_column.ensures.permutation in
-    let none : has_twins keyed.key (keyed.rows ++ sorted) ≡ false = tested_twins keyed.key keyed.rows sorted _ _ false c.deref-else-not-is_in_key_order.ensures.value (c.deref-else-not-is_in_key_order-2.ensures.value ∙ items_of_sorted c.args.fresh sorted moved) c.if-meets_old_key.ensures in
+    let none : has_twin_keys keyed.key (keyed.rows ++ sorted) ≡ false = tested_twins keyed.key keyed.rows sorted _ _ false c.deref-else-not-is_in_key_order.ensures.value (c.deref-else-not-is_in_key_order-2.ensures.value ∙ items_of_sorted c.args.fresh sorted moved) c.if-meets_old_key.ensures in
     let many : 1048576 < length keyed.rows + length sorted = omega (arith, length_permutation c.args.fresh.items sorted moved, c.args.fresh.ok.0, c.self.inside.rows.ok.0) in
     inl (subst (λ k. first_refusal (new_row_conditions k c.args.fresh.items) ≡ Some TableFull) c.self.view_is (due-full keyed c.args.fresh.items sorted moved none many))
 
@@ -38,7 +38,7 @@ returns-clause-due c =
     let keyed : KeyedList = record { key = c.self.inside.key; rows = c.self.inside.rows.items } in
     let sorted = c.sort_by_column.new.rows in
     let moved : IsPermutation c.args.fresh.items sorted = subst (λ xs. IsPermutation xs sorted) c.deref_mut.ensures.value c.sort_by_column.ensures.permutation in
-    let none : has_twins keyed.key (keyed.rows ++ sorted) ≡ false = tested_twins keyed.key keyed.rows sorted _ _ false c.deref-else-not-is_in_key_order.ensures.value (c.deref-else-not-is_in_key_order-2.ensures.value ∙ items_of_sorted c.args.fresh sorted moved) c.if-meets_old_key.ensures in
+    let none : has_twin_keys keyed.key (keyed.rows ++ sorted) ≡ false = tested_twins keyed.key keyed.rows sorted _ _ false c.deref-else-not-is_in_key_order.ensures.value (c.deref-else-not-is_in_key_order-2.ensures.value ∙ items_of_sorted c.args.fresh sorted moved) c.if-meets_old_key.ensures in
     let few : length keyed.rows + length sorted ≤ 1048576 = omega (arith, length_permutation c.args.fresh.items sorted moved, c.args.fresh.ok.0, c.self.inside.rows.ok.0) in
     subst (λ k. first_refusal (new_row_conditions k c.args.fresh.items) ≡ None) c.self.view_is (due-none keyed c.args.fresh.items sorted moved none few)
 

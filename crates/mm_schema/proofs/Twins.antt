@@ -12,11 +12,11 @@ use Rattle.std.proofs.lemmas.Cmp.{on_total, tied_itself}
 use Rattle.std.proofs.lemmas.List.Folds.{list_any-append}
 use Rattle.std.proofs.lemmas.List.Sums.{sum_by-cons}
 use Rattle.std.proofs.lemmas.List.Sorted.{sum_by-IsPermutation}
-use Rattle.mm_schema.specs.Rows.{column_cmp, same_in_column, has_twins}
+use Rattle.mm_schema.specs.Rows.{column_cmp, same_in_column, has_twin_keys}
 use Rattle.mm_value.specs.declared.values.Value.{Value}
 use Rattle.mm_value.proofs.Orders.{value_cmp_total}
-use Rattle.mmdb_core.proofs.Orderings.{is_eq_reversed, equal_from_is_eq, less_from_no_tie}
-use Rattle.mmdb_core.proofs.StrictOrder.{IsStrictlySortedBy-nil, IsStrictlySortedBy-cons, IsStrictlySortedBy-head, IsStrictlySortedBy-tail, IsStrictlySortedBy-before}
+use Rattle.mm_schema.proofs.Orderings.{is_eq_reversed, equal_from_is_eq, less_from_no_tie}
+use Rattle.mm_schema.proofs.StrictOrder.{IsStrictlySortedBy-nil, IsStrictlySortedBy-cons, IsStrictlySortedBy-head, IsStrictlySortedBy-tail, IsStrictlySortedBy-before}
 
 -- a row as its list of values
 abbrev pub Row : Type 0
@@ -87,10 +87,10 @@ alike_count key a b (r ∷ rs) same =
     omega (arith, here, count_of-cons key a r rs, count_of-cons key b r rs, alike_count key a b rs same)
 
 -- without twins each key stands once at most ..
-counted_once : (key : ℕ) (rows : List Row) → has_twins key rows ≡ false → (row : Row) → count_of key row rows ≤ 1
+counted_once : (key : ℕ) (rows : List Row) → has_twin_keys key rows ≡ false → (row : Row) → count_of key row rows ≤ 1
 counted_once key [] none row = omega (arith, count_of-nil key row)
 counted_once key (r ∷ rs) none row =
-    let parts = or_parts (list_any (same_in_column key r) rs) (has_twins key rs) none in
+    let parts = or_parts (list_any (same_in_column key r) rs) (has_twin_keys key rs) none in
     let rest : count_of key row rs ≤ 1 = counted_once key rs parts.1 row in
     elim (cases_Bool (same_in_column key row r)) [
       | inl same ↦ omega (arith, count_of-yes key row r rs same, alike_count key row r rs same, none_counted key r rs parts.0)
@@ -98,7 +98,7 @@ counted_once key (r ∷ rs) none row =
     ]
 
 -- .. and where each key stands once at most there are no twins
-no_twins_from_counts : (key : ℕ) (rows : List Row) → ((row : Row) → count_of key row rows ≤ 1) → has_twins key rows ≡ false
+no_twins_from_counts : (key : ℕ) (rows : List Row) → ((row : Row) → count_of key row rows ≤ 1) → has_twin_keys key rows ≡ false
 no_twins_from_counts key [] once = refl
 no_twins_from_counts key (r ∷ rs) once =
     let itself : same_in_column key r r ≡ true = ap is_eq (tied_itself (column_cmp_total key) r) in
@@ -110,8 +110,8 @@ unfolding count_of
 count_of-IsPermutation key row xs ys moved = sum_by-IsPermutation (λ x. cond (same_in_column key row x) 1 0) xs ys moved
 
 -- another order changes nothing
-pub has_twins-IsPermutation : (key : ℕ) (xs ys : List Row) → IsPermutation xs ys → has_twins key xs ≡ has_twins key ys
-has_twins-IsPermutation key xs ys moved =
+pub has_twin_keys-IsPermutation : (key : ℕ) (xs ys : List Row) → IsPermutation xs ys → has_twin_keys key xs ≡ has_twin_keys key ys
+has_twin_keys-IsPermutation key xs ys moved =
     same_false _ _
     (λ none. no_twins_from_counts key ys (λ row. omega (arith, counted_once key xs none row, count_of-IsPermutation key row xs ys moved)))
     (λ none. no_twins_from_counts key xs (λ row. omega (arith, counted_once key ys none row, count_of-IsPermutation key row xs ys moved)))
@@ -123,7 +123,7 @@ none_below key row [] below = refl
 none_below key row (r ∷ rs) below = or_from _ _ (ap is_eq below.0) (none_below key row rs below.1)
 
 -- rows in key order have no twins
-pub no_twins_in_order : (key : ℕ) (rows : List Row) → IsStrictlySortedBy (column_cmp key) rows → has_twins key rows ≡ false
+pub no_twins_in_order : (key : ℕ) (rows : List Row) → IsStrictlySortedBy (column_cmp key) rows → has_twin_keys key rows ≡ false
 no_twins_in_order key [] order = refl
 no_twins_in_order key (r ∷ rs) order =
     or_from _ _ (none_below key r rs (IsStrictlySortedBy-head (column_cmp_total key) r rs order)) (no_twins_in_order key rs (IsStrictlySortedBy-tail (column_cmp_total key) r rs order))
@@ -132,20 +132,20 @@ no_twins_in_order key (r ∷ rs) order =
 NoneFalls : ℕ → List Row → Type 0
 NoneFalls key rows = (k : ℕ) (d : Row) → suc k < length rows → is_lt (column_cmp key (get_or rows (suc k) d) (get_or rows k d)) ≡ false
 
-in_order_from_none_falls : (key : ℕ) (rows : List Row) → NoneFalls key rows → has_twins key rows ≡ false → IsStrictlySortedBy (column_cmp key) rows
+in_order_from_none_falls : (key : ℕ) (rows : List Row) → NoneFalls key rows → has_twin_keys key rows ≡ false → IsStrictlySortedBy (column_cmp key) rows
 unfolding NoneFalls
 in_order_from_none_falls key [] sorted none = IsStrictlySortedBy-nil (column_cmp_total key)
 in_order_from_none_falls key (x ∷ []) sorted none =
     IsStrictlySortedBy-cons (column_cmp_total key) x [] tt (IsStrictlySortedBy-nil (column_cmp_total key))
 in_order_from_none_falls key (x ∷ y ∷ ys) sorted none =
-    let parts = or_parts (list_any (same_in_column key x) (y ∷ ys)) (has_twins key (y ∷ ys)) none in
+    let parts = or_parts (list_any (same_in_column key x) (y ∷ ys)) (has_twin_keys key (y ∷ ys)) none in
     let no_tie : same_in_column key x y ≡ false = (or_parts (same_in_column key x y) (list_any (same_in_column key x) ys) parts.0).0 in
     let not_less : is_lt (ordering_reverse (column_cmp key x y)) ≡ false = sym (ap is_lt ((column_cmp_total key).antisymm y x)) ∙ sorted 0 x (omega arith) in
     let less : column_cmp key x y ≡ Less = less_from_no_tie (column_cmp key x y) no_tie not_less in
     IsStrictlySortedBy-before (column_cmp_total key) x y ys less (in_order_from_none_falls key (y ∷ ys) (λ k d within. sorted (suc k) d (omega arith)) parts.1)
 
 -- sorted rows without twins are in key order
-pub in_order_from_sorted : (key : ℕ) (rows : List Row) → IsSorted (column_cmp key) rows → has_twins key rows ≡ false → IsStrictlySortedBy (column_cmp key) rows
+pub in_order_from_sorted : (key : ℕ) (rows : List Row) → IsSorted (column_cmp key) rows → has_twin_keys key rows ≡ false → IsStrictlySortedBy (column_cmp key) rows
 unfolding NoneFalls
 in_order_from_sorted key rows sorted none =
     in_order_from_none_falls key rows (λ k d within. rw (← add-one) (sorted k d (omega arith) (omega arith))) none
@@ -156,9 +156,9 @@ none_of : (key : ℕ) (row : Row) (xs ys : List Row) → list_any (same_in_colum
 none_of key row xs ys none = or_parts _ _ (sym (list_any-append (same_in_column key row) xs ys) ∙ none)
 
 -- without twins no row of a list has the key of one behind the list
-pub apart_from_no_twins : (key : ℕ) (front : List Row) (x : Row) (middle : List Row) (y : Row) (back : List Row) → has_twins key ((front ++ x ∷ []) ++ ((middle ++ y ∷ []) ++ back)) ≡ false → same_in_column key x y ≡ false
+pub apart_from_no_twins : (key : ℕ) (front : List Row) (x : Row) (middle : List Row) (y : Row) (back : List Row) → has_twin_keys key ((front ++ x ∷ []) ++ ((middle ++ y ∷ []) ++ back)) ≡ false → same_in_column key x y ≡ false
 apart_from_no_twins key [] x middle y back none =
-    let here = or_parts (list_any (same_in_column key x) ((middle ++ y ∷ []) ++ back)) (has_twins key ((middle ++ y ∷ []) ++ back)) none in
+    let here = or_parts (list_any (same_in_column key x) ((middle ++ y ∷ []) ++ back)) (has_twin_keys key ((middle ++ y ∷ []) ++ back)) none in
     let inside = none_of key x (middle ++ y ∷ []) back here.0 in
     let last = none_of key x middle (y ∷ []) inside.0 in
     (or_parts (same_in_column key x y) false last.1).0
@@ -184,11 +184,11 @@ list_any-nothing [] = refl
 list_any-nothing (x ∷ xs) = list_any-nothing xs
 
 -- two lists in key order have twins where a row of the second has the key of one of the first
-pub has_twins-append : (key : ℕ) (old fresh : List Row) → IsStrictlySortedBy (column_cmp key) old → IsStrictlySortedBy (column_cmp key) fresh → has_twins key (old ++ fresh) ≡ list_any (λ row. list_any (same_in_column key row) old) fresh
-has_twins-append key [] fresh first second = no_twins_in_order key fresh second ∙ sym (list_any-nothing fresh)
-has_twins-append key (o ∷ old) fresh first second =
+pub has_twin_keys-append : (key : ℕ) (old fresh : List Row) → IsStrictlySortedBy (column_cmp key) old → IsStrictlySortedBy (column_cmp key) fresh → has_twin_keys key (old ++ fresh) ≡ list_any (λ row. list_any (same_in_column key row) old) fresh
+has_twin_keys-append key [] fresh first second = no_twins_in_order key fresh second ∙ sym (list_any-nothing fresh)
+has_twin_keys-append key (o ∷ old) fresh first second =
     let none : list_any (same_in_column key o) old ≡ false = none_below key o old (IsStrictlySortedBy-head (column_cmp_total key) o old first) in
     let here : list_any (same_in_column key o) (old ++ fresh) ≡ list_any (λ row. same_in_column key row o) fresh =
     list_any-append (same_in_column key o) old fresh ∙ ap (λ b. b || list_any (same_in_column key o) fresh) none ∙ list_any-agree (same_in_column key o) (λ row. same_in_column key row o) (λ row. same_in_column_comm key o row) fresh in
-    let later : has_twins key (old ++ fresh) ≡ list_any (λ row. list_any (same_in_column key row) old) fresh = has_twins-append key old fresh (IsStrictlySortedBy-tail (column_cmp_total key) o old first) second in
-    ap (λ b. b || has_twins key (old ++ fresh)) here ∙ ap (λ b. list_any (λ row. same_in_column key row o) fresh || b) later ∙ sym (list_any-or (λ row. same_in_column key row o) (λ row. list_any (same_in_column key row) old) fresh)
+    let later : has_twin_keys key (old ++ fresh) ≡ list_any (λ row. list_any (same_in_column key row) old) fresh = has_twin_keys-append key old fresh (IsStrictlySortedBy-tail (column_cmp_total key) o old first) second in
+    ap (λ b. b || has_twin_keys key (old ++ fresh)) here ∙ ap (λ b. list_any (λ row. same_in_column key row o) fresh || b) later ∙ sym (list_any-or (λ row. same_in_column key row o) (λ row. list_any (same_in_column key row) old) fresh)

@@ -1,0 +1,29 @@
+//! Laws of the definitions of this crate, which the clauses here and in the crates above speak of.
+ghost use Rattle.std.specs.Prelude.{◌≡◌, ◌⊎◌, ℕ, List, Option, Some, Contains};
+ghost use Rattle.std.specs.Cmp.{IsTotalOrder};
+ghost use Rattle.std.specs.List.Sorted.{IsPermutation, IsSorted};
+ghost use Rattle.std.specs.declared.cmp.Ordering.{Ordering};
+ghost use Rattle.std.specs.declared.cmp.Ordering.TheVariants.{Equal};
+ghost use Rattle.mm_value.specs.declared.values.Value.{Value};
+ghost use Rattle.mm_schema.specs.Rows.{Pair, changed, column_cmp};
+ghost use Rattle.mm_schema.specs.Sorting.{in_order};
+
+/// Putting in order sorts: the list has the same elements afterwards, and none is less than the one before it, in any
+/// total order, also where elements compare as equal.
+pub fn in_order_sorts<T>()
+    ensures permutation { (cmp : T → T → Ordering) (xs : List T) → IsPermutation xs (in_order cmp xs) }
+    ensures sorted { (cmp : T → T → Ordering) → IsTotalOrder cmp → (xs : List T) → IsSorted cmp (in_order cmp xs) }
+{}
+
+/// Changed rows are just those that a change leaves and those that it brings: a row that has the key of no row that goes
+/// is still there, each row that comes is there, and no other row is.
+pub fn changes_are_exact()
+    ensures stays { (key : ℕ) (pairs : List Pair) (rows : List (List Value)) (row : List Value) → Contains rows row
+        → ((old : List Value) (new : Option (List Value)) → Contains pairs (Some old, new) → column_cmp key row old ≡ Equal → ⊥)
+        → Contains (changed key pairs rows) row }
+    ensures comes { (key : ℕ) (pairs : List Pair) (rows : List (List Value)) (old : Option (List Value)) (new : List Value)
+        → Contains pairs (old, Some new) → Contains (changed key pairs rows) new }
+    ensures no_other { (key : ℕ) (pairs : List Pair) (rows : List (List Value)) (row : List Value) → Contains (changed key pairs rows) row
+        → ((old : Option (List Value)) × Contains pairs (old, Some row))
+        ⊎ (Contains rows row × ((old : List Value) (new : Option (List Value)) → Contains pairs (Some old, new) → column_cmp key row old ≡ Equal → ⊥)) }
+{}
