@@ -1,4 +1,5 @@
-pub mod Bound
-pub mod Changes
-pub mod Tables
+pub mod Binds
+pub mod Due
+pub mod Instances
+pub mod KeyOrder
 mod Tuples

@@ -1,11 +1,9 @@
--- What refuses a change by the catalog alone.
-use Rattle.std.specs.Prelude.{◌<◌, All, ◌≡◌, ℕ, ◌==◌, Bool, true, false, not, ◌||◌, List, [], ◌∷◌, Option, Some, None, length, slice_get}
+-- What refuses a change by the catalog alone, and what its names stand for.
+use Rattle.std.specs.Prelude.{◌≡◌, ℕ, ◌==◌, Bool, true, false, not, ◌||◌, List, [], ◌∷◌, Some, length}
 use Rattle.std.specs.List.{list_any}
-use Rattle.mm_schema.specs.Columns.{key_place}
 use Rattle.mm_schema.specs.Refused.{Condition}
-use Rattle.mm_schema.specs.Schema.{Schema, table_named, table_place}
+use Rattle.mm_schema.specs.Schema.{Schema, lacks_table, table_passes, table_place}
 use Rattle.mm_schema.specs.declared.column.Column.{Column}
-use Rattle.mm_schema.specs.declared.table.Table.{Table}
 use Rattle.mm_value.specs.Types.{type_of}
 use Rattle.mm_value.specs.declared.col_type.ColType.{ColType}
 use Rattle.mm_value.specs.declared.col_type.ColType.TheVariants as type
@@ -33,29 +31,14 @@ has_type_mismatch (c ∷ cs) (v ∷ vs) = not (same_type c.col_type (type_of v))
 abbrev pub has_other_length : List Column → List Value → Bool
 has_other_length columns values = not (length values == length columns)
 
--- The conditions on the tuples of an INSERT, in the one order.
-abbrev pub tuple_conditions : Option Table → List (List Value) → List Condition
-tuple_conditions None tuples = record { holds = true; refusal = NoSuchTable } ∷ []
-tuple_conditions (Some table) tuples =
-    record { holds = list_any (has_type_mismatch table.definition.columns) tuples; refusal = TypeMismatch }
-    ∷ record { holds = list_any (has_other_length table.definition.columns) tuples; refusal = WrongNumberOfValues }
+-- What refuses a change by the catalog alone, in the one order.
+abbrev pub binding_conditions : Mutation → Schema → List Condition
+binding_conditions (written.Insert table tuples) schema =
+    record { holds = lacks_table table schema; refusal = NoSuchTable }
+    ∷ record { holds = table_passes (λ t. list_any (has_type_mismatch t.definition.columns) tuples) table schema; refusal = TypeMismatch }
+    ∷ record { holds = table_passes (λ t. list_any (has_other_length t.definition.columns) tuples) table schema; refusal = WrongNumberOfValues }
     ∷ []
 
--- The conditions on a change by the catalog alone, in the one order.
-abbrev pub binding_conditions : Mutation → Schema → List Condition
-binding_conditions (written.Insert table tuples) schema = tuple_conditions (table_named table schema) tuples
-
--- An INSERT with the places of its table and of the key column in place of the table's name, and the same tuples.
-abbrev pub BindsInsert : Schema → List ℕ → List (List Value) → BoundChange → Type 0
-BindsInsert schema name tuples (bound.Insert place key rows) =
-    (table_place name schema ≡ Some place)
-    × ((found : Table) × (slice_get schema.tables place ≡ Some found) × (key ≡ key_place found.definition.columns))
-    × (rows ≡ tuples)
-
--- The change with its names resolved.
+-- The change with the place of its table in the catalog in place of the table's name.
 abbrev pub Binds : Schema → Mutation → BoundChange → Type 0
-Binds schema (written.Insert name tuples) bound = BindsInsert schema name tuples bound
-
--- Each row has a value in the key column.
-abbrev pub HasKeys : BoundChange → Type 0
-HasKeys (bound.Insert place key rows) = All (λ row. key < length row) rows
+Binds schema (written.Insert name tuples) (bound.Insert place rows) = (table_place name schema ≡ Some place) × (rows ≡ tuples)

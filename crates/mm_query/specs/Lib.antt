@@ -3,10 +3,12 @@ pub mod Edits
 pub mod Machine
 pub mod State
 pub use Rattle.mm_schema.specs.Columns
+pub use Rattle.mm_schema.specs.Instance
 pub use Rattle.mm_schema.specs.Name
 pub use Rattle.mm_schema.specs.Refused
 pub use Rattle.mm_schema.specs.Rows
 pub use Rattle.mm_schema.specs.Schema
+pub use Rattle.mm_schema.specs.Sorting
 pub use Rattle.mm_value.specs.Literal
 pub use Rattle.mm_value.specs.Order
 pub use Rattle.mm_value.specs.Refusals

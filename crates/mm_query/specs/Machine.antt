@@ -1,20 +1,71 @@
--- The machine that keeps only lists of rows: what each command answers, and the state that it leaves.
-use Rattle.std.specs.Prelude.{List, [], ◌∷◌, ◌++◌, Option, Some, None, length}
-use Rattle.mm_schema.specs.Columns.{key_place}
+-- The machine that keeps only lists of rows: what refuses each command, what it answers, and the state that it leaves.
+use Rattle.std.specs.Prelude.{ℕ, List, [], ◌∷◌, ◌++◌, Option, Some, None, length}
+use Rattle.mm_schema.specs.Instance.{changed_instance, without_rows}
 use Rattle.mm_schema.specs.Refused.{Condition, first_refusal}
-use Rattle.mm_schema.specs.Rows.{changed, makes_duplicate_key, fills_table}
-use Rattle.mm_schema.specs.Schema.{table_conditions}
+use Rattle.mm_schema.specs.Rows.{table_rows_conditions}
+use Rattle.mm_schema.specs.Schema.{key_named, lacks_table, table_conditions, with_table}
 use Rattle.mm_value.specs.declared.refusal.Refusal.{Refusal}
-use Rattle.mm_value.specs.declared.refusal.Refusal.TheVariants.{NoSuchTable, DuplicateKey, TableFull}
+use Rattle.mm_value.specs.declared.refusal.Refusal.TheVariants.{NoSuchTable}
 use Rattle.mm_query.specs.Binding.{binding_conditions}
-use Rattle.mm_query.specs.Edits.{edits, changed_table}
-use Rattle.mm_query.specs.State.{Stored, State, schema_of, stored_named, with_new_table, with_rows}
+use Rattle.mm_query.specs.Edits.{changed_table, edits, own_pairs}
+use Rattle.mm_query.specs.State.{State}
 use Rattle.mm_query.specs.declared.command.Command.{Command}
 use Rattle.mm_query.specs.declared.command.Command.TheVariants.{Nothing, Define, Change, Scan}
+use Rattle.mm_query.specs.declared.command.Definition.{Definition}
 use Rattle.mm_query.specs.declared.command.Definition.TheVariants as define
 use Rattle.mm_query.specs.declared.command.Mutation.{Mutation}
 use Rattle.mm_query.specs.declared.reply.Reply.{Reply}
 use Rattle.mm_query.specs.declared.reply.Reply.TheVariants.{Done, Count, Rows, Refused}
+
+-- ---- changes of the catalog
+
+-- What refuses a change of the catalog, in the one order.
+abbrev pub definition_conditions : Definition → State → List Condition
+definition_conditions (define.Table definition) state = table_conditions definition state.schema
+
+-- The state after a change of the catalog: a new table comes last and has no rows.
+abbrev pub after_definition : Definition → State → State
+after_definition (define.Table definition) state =
+    record state { schema = with_table definition state.schema; rows = without_rows definition.name state.rows }
+
+-- ---- changes of rows
+
+-- The state with the rows that a change makes of those that are there.
+abbrev pub after_change : Mutation → State → State
+after_change mutation state = record state { rows = changed_instance state.schema (edits mutation state) state.rows }
+
+-- What refuses a change by the rows before it and after it, in the one order. The table is the one that it names.
+abbrev pub row_conditions : List ℕ → State → State → List Condition
+row_conditions table before after = table_rows_conditions (key_named table before.schema) (after.rows table)
+
+-- What refuses a change of rows, in the one order: first by the catalog alone.
+abbrev pub change_conditions : Mutation → State → List Condition
+change_conditions mutation state =
+    binding_conditions mutation state.schema ++ row_conditions (changed_table mutation) state (after_change mutation state)
+
+-- ---- the step
+
+-- What refuses a command, in the one order.
+abbrev pub conditions : Command → State → List Condition
+conditions Nothing state = []
+conditions (Define definition) state = definition_conditions definition state
+conditions (Change mutation) state = change_conditions mutation state
+conditions (Scan table) state = record { holds = lacks_table table state.schema; refusal = NoSuchTable } ∷ []
+
+-- What a command answers that nothing refuses; an empty line has no reply. A change tells how many pairs its own table has,
+-- and SCAN gives the rows of its table in key order.
+abbrev pub reply_to : Command → State → Option Reply
+reply_to Nothing state = None
+reply_to (Define definition) state = Some Done
+reply_to (Change mutation) state = Some (Count (length (own_pairs mutation state)))
+reply_to (Scan table) state = Some (Rows (state.rows table))
+
+-- The state that a command leaves that nothing refuses.
+abbrev pub state_after : Command → State → State
+state_after Nothing state = state
+state_after (Define definition) state = after_definition definition state
+state_after (Change mutation) state = after_change mutation state
+state_after (Scan table) state = state
 
 -- What a command answers, if it has a reply, and the state after it.
 pub record Outcome : Type 0 where
@@ -22,42 +73,16 @@ pub record Outcome : Type 0 where
   pub state : State
 
 -- A refusal that is due is the reply, and the state stays. Otherwise the command is done.
-abbrev pub unless_refused : Option Refusal → State → Reply → State → Outcome
-unless_refused (Some refusal) old reply new = record { reply = Some (Refused refusal); state = old }
-unless_refused None old reply new = record { reply = Some reply; state = new }
-
--- The conditions on the changed rows of a table, in the one order.
-abbrev pub row_conditions : Mutation → Option Stored → List Condition
-row_conditions mutation None = []
-row_conditions mutation (Some stored) =
-    record { holds = makes_duplicate_key (key_place stored.table.definition.columns) (edits mutation) stored.rows; refusal = DuplicateKey }
-    ∷ record { holds = fills_table (key_place stored.table.definition.columns) (edits mutation) stored.rows; refusal = TableFull }
-    ∷ []
-
--- All conditions on a change of rows, in the one order.
-abbrev pub change_conditions : Mutation → State → List Condition
-change_conditions mutation state =
-    binding_conditions mutation (schema_of state) ++ row_conditions mutation (stored_named (changed_table mutation) state)
-
--- The state with the changed rows of the table that a change names.
-abbrev pub with_changed_rows : Mutation → State → Option Stored → State
-with_changed_rows mutation state None = state
-with_changed_rows mutation state (Some stored) =
-    with_rows (changed_table mutation) (changed (key_place stored.table.definition.columns) (edits mutation)) state
-
-abbrev pub after_change : Mutation → State → State
-after_change mutation state = with_changed_rows mutation state (stored_named (changed_table mutation) state)
-
--- SCAN answers the rows of its table in key order.
-abbrev pub scanned : Option Stored → State → Outcome
-scanned None state = record { reply = Some (Refused NoSuchTable); state = state }
-scanned (Some stored) state = record { reply = Some (Rows stored.rows); state = state }
+abbrev pub unless_refused : Option Refusal → State → Outcome → Outcome
+unless_refused (Some refusal) state outcome = record { reply = Some (Refused refusal); state = state }
+unless_refused None state outcome = outcome
 
 -- One step of the machine.
 abbrev pub step : Command → State → Outcome
-step Nothing state = record { reply = None; state = state }
-step (Define (define.Table definition)) state =
-    unless_refused (first_refusal (table_conditions definition (schema_of state))) state Done (with_new_table definition state)
-step (Change mutation) state =
-    unless_refused (first_refusal (change_conditions mutation state)) state (Count (length (edits mutation))) (after_change mutation state)
-step (Scan table) state = scanned (stored_named table state) state
+step command state =
+    unless_refused (first_refusal (conditions command state)) state (record { reply = reply_to command state; state = state_after command state })
+
+-- The state that some commands leave, done one after another.
+abbrev pub after_all : List Command → State → State
+after_all [] state = state
+after_all (command ∷ commands) state = after_all commands (step command state).state

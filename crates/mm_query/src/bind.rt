@@ -3,12 +3,13 @@ ghost use Rattle.std.specs.Prelude.{◌≡◌, not, Some, None, IfOk, MatchResul
 ghost use Rattle.std.specs.List.{list_any};
 ghost use Rattle.mm_value.specs.Types.{type_of};
 ghost use Rattle.mm_schema.specs.Refused.{first_refusal};
-ghost use Rattle.mm_schema.specs.Schema.{HasDistinctNames, table_named};
-ghost use Rattle.mm_query.specs.Binding.{Binds, BindsInsert, HasKeys, binding_conditions, has_other_length, has_type_mismatch, same_type, tuple_conditions};
+ghost use Rattle.mm_schema.specs.Schema.{HasDistinctNames};
+ghost use Rattle.mm_query.specs.Binding.{Binds, binding_conditions, has_other_length, has_type_mismatch, same_type};
+ghost use Rattle.mm_query.specs.declared.command.Mutation.TheVariants.{Insert};
 
 use crate::command::Mutation;
 use crate::row_list::RowList;
-use mm_schema::{Catalog, Column, Name, Table};
+use mm_schema::{Catalog, Column, Name};
 use mm_value::{Refusal, Row, Value};
 
 /// A change whose names were resolved against a catalog.
@@ -18,8 +19,6 @@ pub enum BoundChange {
     Insert {
         /// The table's place in the catalog's order of creation.
         table: usize,
-        /// The place of the table's key column.
-        key: usize,
         /// The rows, each of which has a value of the right type for each column.
         tuples: RowList,
     },
@@ -31,7 +30,6 @@ pub fn bind_change(catalog: &Catalog, mutation: Mutation) -> Result<BoundChange,
     ensures due { MatchResult result (λ _. first_refusal (binding_conditions mutation catalog.now) ≡ None)
         (λ refusal. first_refusal (binding_conditions mutation catalog.now) ≡ Some refusal) }
     ensures ok { IfOk result (Binds catalog.now mutation) }
-    ensures keys { IfOk result HasKeys }
     ensures distinct { HasDistinctNames catalog.now }
 {
     match mutation {
@@ -40,40 +38,27 @@ pub fn bind_change(catalog: &Catalog, mutation: Mutation) -> Result<BoundChange,
 }
 
 /// Resolves the table of an INSERT and tests its tuples against the columns.
-#[tactic(auto, using(crate::proofs::Tuples::due_nowhere, crate::proofs::Tuples::due_at_place))]
+#[tactic(auto, using(crate::proofs::Tuples::due_nowhere))]
 fn bind_insert(catalog: &Catalog, name: &Name, tuples: RowList) -> Result<BoundChange, Refusal>
-    ensures due { MatchResult result (λ _. first_refusal (tuple_conditions (table_named name.now catalog.now) tuples) ≡ None)
-        (λ refusal. first_refusal (tuple_conditions (table_named name.now catalog.now) tuples) ≡ Some refusal) }
-    ensures ok { IfOk result (BindsInsert catalog.now name.now tuples) }
-    ensures keys { IfOk result HasKeys }
+    ensures due { MatchResult result (λ _. first_refusal (binding_conditions (Insert name.now tuples) catalog.now) ≡ None)
+        (λ refusal. first_refusal (binding_conditions (Insert name.now tuples) catalog.now) ≡ Some refusal) }
+    ensures ok { IfOk result (Binds catalog.now (Insert name.now tuples)) }
     ensures distinct { HasDistinctNames catalog.now }
 {
     let Some(place) = catalog.place_of(name) else {
         return Err(Refusal::NoSuchTable);
     };
-    let table = catalog.table_at(place);
-    if let Some(refusal) = tuple_refusal(table, tuples.as_slice()) {
-        return Err(refusal);
+    let columns = catalog.table_at(place).definition.columns.as_slice();
+    if have_type_mismatch(columns, tuples.as_slice()) {
+        return Err(Refusal::TypeMismatch);
+    }
+    if have_other_length(columns, tuples.as_slice()) {
+        return Err(Refusal::WrongNumberOfValues);
     }
     Ok(BoundChange::Insert {
         table: place,
-        key: table.definition.columns.key(),
         tuples,
     })
-}
-
-/// What refuses tuples as rows of a table.
-fn tuple_refusal(table: &Table, tuples: &[Row]) -> Option<Refusal>
-    ensures { result ≡ first_refusal (tuple_conditions (Some table.now) tuples.now) }
-{
-    let columns = table.definition.columns.as_slice();
-    if have_type_mismatch(columns, tuples) {
-        return Some(Refusal::TypeMismatch);
-    }
-    if have_other_length(columns, tuples) {
-        return Some(Refusal::WrongNumberOfValues);
-    }
-    None
 }
 
 /// Whether some value of some tuple differs in type from its column.
@@ -207,11 +192,11 @@ mod tests {
             table: name(&rt, b"u"),
             tuples: tuples(&rt, &[&[Some(1), Some(2)], &[Some(3), Some(4)]]),
         };
-        let BoundChange::Insert { table, key, tuples } = bind_change(
+        let BoundChange::Insert { table, tuples } = bind_change(
             &catalog(&rt),
             mutation,
         ).expect(&rt, "a change");
-        assert_eq!(rt; (table, key), (1, 1));
+        assert_eq!(rt; table, 1);
         assert_eq!(rt; tuples.as_slice().len(), 2);
         assert_eq!(rt; tuples.into_vec().len(), 2);
     }

@@ -3,10 +3,12 @@
 
 mod bind;
 mod command;
+mod laws;
 mod reply;
 mod row_list;
 
 pub use bind::{BoundChange, bind_change};
 pub use command::{Command, Definition, Mutation};
+pub use laws::{conditions_ascend, rows_stay_in_key_order};
 pub use reply::Reply;
 pub use row_list::RowList;

@@ -30,3 +30,12 @@ pub neither_due : (a b : Bool) (r s : Refusal) → first_refusal (record { holds
 neither_due true b r s h = cc
 neither_due false true r s h = cc
 neither_due false false r s h = (refl, refl)
+
+none_here : (b : Bool) (refusal : Refusal) (rest : Option Refusal) → cond b (Some refusal) rest ≡ None → rest ≡ None
+none_here true refusal rest h = cc
+none_here false refusal rest h = h
+
+-- Where nothing is refused, nothing is by the conditions behind.
+pub none_due_behind : (cs ds : List Condition) → first_refusal (cs ++ ds) ≡ None → first_refusal ds ≡ None
+none_due_behind [] ds h = h
+none_due_behind (c ∷ cs) ds h = none_due_behind cs ds (none_here c.holds c.refusal (first_refusal (cs ++ ds)) h)

@@ -1,0 +1,57 @@
+-- What refuses a command: by names that are there or are not, and by one list of conditions behind another.
+use Rattle.std.proofs.Common.{◌≡◌, ℕ, Bool, true, false, cond, List, [], ◌∷◌, Option, Some, None, is_none, slice_get, refl, ap, ◌∙◌}
+use Rattle.std.specs.Option.{option_map_or}
+use Rattle.mm_schema.specs.Refused.{first_refusal}
+use Rattle.mm_schema.specs.Schema.{Schema, key_named, lacks_table, table_named, table_passes, table_place}
+use Rattle.mm_schema.specs.Columns.{key_place}
+use Rattle.mm_schema.specs.declared.table.Table.{Table}
+use Rattle.mm_schema.proofs.Dues.{due_behind, due_in_front}
+use Rattle.mm_schema.proofs.Places.{no_table, table_at_place}
+use Rattle.mm_value.specs.declared.refusal.Refusal.{Refusal}
+use Rattle.mm_query.specs.Binding.{binding_conditions}
+use Rattle.mm_query.specs.Edits.{changed_table}
+use Rattle.mm_query.specs.Machine.{Outcome, after_change, change_conditions, conditions, reply_to, row_conditions, state_after, step, unless_refused}
+use Rattle.mm_query.specs.State.{State}
+use Rattle.mm_query.specs.declared.command.Command.{Command}
+use Rattle.mm_query.specs.declared.command.Mutation.{Mutation}
+use Rattle.mm_query.specs.declared.reply.Reply.TheVariants.{Refused}
+
+-- A name without a place is lacking.
+pub lacks_nowhere : (name : List ℕ) (schema : Schema) → table_place name schema ≡ None → lacks_table name schema ≡ true
+lacks_nowhere name schema nowhere = ap is_none (no_table name schema nowhere)
+
+module _ (name : List ℕ) (schema : Schema) (place : ℕ) (table : Table) (placed : table_place name schema ≡ Some place) (there : slice_get schema.tables place ≡ Some table) where
+  named : table_named name schema ≡ Some table
+  named = table_at_place name schema place placed ∙ there
+
+  -- A name with a place is not lacking, ..
+  pub not_lacking : lacks_table name schema ≡ false
+  not_lacking = ap is_none named
+
+  -- .. its table passes a test where the table at the place does, ..
+  pub passes_at_place : (test : Table → Bool) → table_passes test name schema ≡ test table
+  passes_at_place test = ap (λ t. option_map_or test t false) named
+
+  -- .. and its key is that table's.
+  pub key_at_place : key_named name schema ≡ key_place table.definition.columns
+  key_at_place = ap (λ t. option_map_or (λ u. key_place u.definition.columns) t 0) named
+
+-- What the catalog refuses is refused.
+pub due_by_catalog : (mutation : Mutation) (state : State) (refusal : Refusal) → first_refusal (binding_conditions mutation state.schema) ≡ Some refusal
+    → first_refusal (change_conditions mutation state) ≡ Some refusal
+due_by_catalog mutation state refusal h = due_in_front (binding_conditions mutation state.schema) _ refusal h
+
+-- What the catalog doesn't refuse is refused by the rows, if at all.
+pub due_by_rows : (mutation : Mutation) (state : State) → first_refusal (binding_conditions mutation state.schema) ≡ None
+    → first_refusal (change_conditions mutation state) ≡ first_refusal (row_conditions (changed_table mutation) state (after_change mutation state))
+due_by_rows mutation state h = due_behind (binding_conditions mutation state.schema) _ h
+
+-- A command that is refused leaves the state, ..
+pub step-refused : (command : Command) (state : State) (refusal : Refusal) → first_refusal (conditions command state) ≡ Some refusal
+    → step command state ≡ record { reply = Some (Refused refusal); state = state }
+step-refused command state refusal due = ap (λ d. unless_refused d state (record { reply = reply_to command state; state = state_after command state })) due
+
+-- .. and one that nothing refuses is done.
+pub step-done : (command : Command) (state : State) → first_refusal (conditions command state) ≡ None
+    → step command state ≡ record { reply = reply_to command state; state = state_after command state }
+step-done command state due = ap (λ d. unless_refused d state (record { reply = reply_to command state; state = state_after command state })) due
