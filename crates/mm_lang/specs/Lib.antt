@@ -12,10 +12,12 @@ pub use Rattle.mm_query.specs.Edits
 pub use Rattle.mm_query.specs.Machine
 pub use Rattle.mm_query.specs.State
 pub use Rattle.mm_schema.specs.Columns
+pub use Rattle.mm_schema.specs.Instance
 pub use Rattle.mm_schema.specs.Name
 pub use Rattle.mm_schema.specs.Refused
 pub use Rattle.mm_schema.specs.Rows
 pub use Rattle.mm_schema.specs.Schema
+pub use Rattle.mm_schema.specs.Sorting
 pub use Rattle.mm_value.specs.Device
 pub use Rattle.mm_value.specs.Literal
 pub use Rattle.mm_value.specs.Order

@@ -1,6 +1,6 @@
 -- The machine that keeps only lists of rows: what refuses each command, what it answers, and the state that it leaves.
 use Rattle.std.specs.Prelude.{ℕ, List, [], ◌∷◌, ◌++◌, Option, Some, None, length}
-use Rattle.mm_schema.specs.Instance.{changed_instance, without_rows}
+use Rattle.mm_schema.specs.Instance.{changed_instance}
 use Rattle.mm_schema.specs.Refused.{Condition, first_refusal}
 use Rattle.mm_schema.specs.Rows.{table_rows_conditions}
 use Rattle.mm_schema.specs.Schema.{key_named, lacks_table, table_conditions, with_table}
@@ -8,7 +8,7 @@ use Rattle.mm_value.specs.declared.refusal.Refusal.{Refusal}
 use Rattle.mm_value.specs.declared.refusal.Refusal.TheVariants.{NoSuchTable}
 use Rattle.mm_query.specs.Binding.{binding_conditions}
 use Rattle.mm_query.specs.Edits.{changed_table, edits, own_pairs}
-use Rattle.mm_query.specs.State.{State}
+use Rattle.mm_query.specs.State.{State, rows_in}
 use Rattle.mm_query.specs.declared.command.Command.{Command}
 use Rattle.mm_query.specs.declared.command.Command.TheVariants.{Nothing, Define, Change, Scan}
 use Rattle.mm_query.specs.declared.command.Definition.{Definition}
@@ -26,17 +26,17 @@ definition_conditions (define.Table definition) state = table_conditions definit
 -- The state after a change of the catalog: a new table comes last and has no rows.
 abbrev pub after_definition : Definition → State → State
 after_definition (define.Table definition) state =
-    record state { schema = with_table definition state.schema; rows = without_rows definition.name state.rows }
+    record state { schema = with_table definition state.schema; rows = state.rows ++ [] ∷ [] }
 
 -- ---- changes of rows
 
 -- The state with the rows that a change makes of those that are there.
 abbrev pub after_change : Mutation → State → State
-after_change mutation state = record state { rows = changed_instance state.schema (edits mutation state) state.rows }
+after_change mutation state = record state { rows = changed_instance state.schema.tables (edits mutation state) state.rows }
 
 -- What refuses a change by the rows before it and after it, in the one order. The table is the one that it names.
 abbrev pub row_conditions : List ℕ → State → State → List Condition
-row_conditions table before after = table_rows_conditions (key_named table before.schema) (after.rows table)
+row_conditions table before after = table_rows_conditions (key_named table before.schema) (rows_in after table)
 
 -- What refuses a change of rows, in the one order: first by the catalog alone.
 abbrev pub change_conditions : Mutation → State → List Condition
@@ -58,7 +58,7 @@ abbrev pub reply_to : Command → State → Option Reply
 reply_to Nothing state = None
 reply_to (Define definition) state = Some Done
 reply_to (Change mutation) state = Some (Count (length (own_pairs mutation state)))
-reply_to (Scan table) state = Some (Rows (state.rows table))
+reply_to (Scan table) state = Some (Rows (rows_in state table))
 
 -- The state that a command leaves that nothing refuses.
 abbrev pub state_after : Command → State → State

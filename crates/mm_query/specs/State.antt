@@ -1,13 +1,18 @@
 -- The state of the machine: the catalog, and the rows of each table (the relational model of Codd).
-use Rattle.std.specs.Prelude.{[]}
-use Rattle.mm_schema.specs.Instance.{Instance, no_rows}
+use Rattle.std.specs.Prelude.{ℕ, List, []}
+use Rattle.mm_schema.specs.Instance.{Instance, rows_named}
 use Rattle.mm_schema.specs.Schema.{Schema}
+use Rattle.mm_value.specs.declared.values.Value.{Value}
 
--- The tables, and for the name of each its rows in key order.
+-- The tables in order of creation, and beside them their rows in key order.
 pub record State : Type 0 where
   pub schema : Schema
   pub rows : Instance
 
 -- Nothing is there at first.
 abbrev pub first_state : State
-first_state = record { schema = record { tables = [] }; rows = no_rows }
+first_state = record { schema = record { tables = [] }; rows = [] }
+
+-- The rows of the table of a name.
+abbrev pub rows_in : State → List ℕ → List (List Value)
+rows_in state name = rows_named name state.schema.tables state.rows

@@ -15,5 +15,5 @@ pub fn conditions_ascend()
 /// In every state that commands can lead to from the first, whatever they are, each table's rows are strictly in the order
 /// of their keys. So no two rows of a table have one key.
 pub fn rows_stay_in_key_order()
-    ensures { (commands : List Command) → let reached = after_all commands first_state in AreInKeyOrder reached.schema reached.rows }
+    ensures { (commands : List Command) → let reached = after_all commands first_state in AreInKeyOrder reached.schema.tables reached.rows }
 {}

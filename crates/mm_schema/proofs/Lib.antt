@@ -2,6 +2,7 @@ mod CatalogLemmas
 pub mod ChangedRows
 pub mod Dues
 pub mod InOrder
+pub mod Instances
 pub mod Keys
 pub mod NameLemmas
 pub mod Orderings

@@ -1,22 +1,21 @@
 -- The rows of all tables (an instance of the relational model of Codd), and what a change makes of them.
-use Rattle.std.specs.Prelude.{ℕ, if◌then◌else◌, List, [], filter}
+use Rattle.std.specs.Prelude.{ℕ, if◌then◌else◌, List, [], ◌∷◌, filter}
 use Rattle.std.specs.List.{flat_map}
+use Rattle.mm_schema.specs.Columns.{key_place}
 use Rattle.mm_schema.specs.Name.{same_name}
 use Rattle.mm_schema.specs.Rows.{IsInKeyOrder, Pair, changed}
-use Rattle.mm_schema.specs.Schema.{Schema, key_named}
+use Rattle.mm_schema.specs.declared.table.Table.{Table}
 use Rattle.mm_value.specs.declared.values.Value.{Value}
 
--- For the name of each table its rows in key order, and for any other name none.
+-- The rows of each table in key order, table by table in the order of the catalog.
 abbrev pub Instance : Type 0
-Instance = List ℕ → List (List Value)
+Instance = List (List (List Value))
 
--- No table has a row.
-abbrev pub no_rows : Instance
-no_rows name = []
-
--- The table of a name has no row, and the others have theirs.
-abbrev pub without_rows : List ℕ → Instance → Instance
-without_rows table rows name = if same_name name table then [] else rows name
+-- The rows of the table of a name, and none where there is no such table.
+abbrev pub rows_named : List ℕ → List Table → Instance → List (List Value)
+rows_named name (table ∷ tables) (rows ∷ others) = if same_name name table.definition.name then rows else rows_named name tables others
+rows_named name (table ∷ tables) [] = []
+rows_named name [] others = []
 
 -- A table, and the pairs of a change that concern it.
 pub record TableEdits : Type 0 where
@@ -25,12 +24,18 @@ pub record TableEdits : Type 0 where
 
 -- The pairs that concern the table of a name.
 abbrev pub pairs_of : List ℕ → List TableEdits → List Pair
-pairs_of name edits = flat_map (λ (e : TableEdits). e.pairs) (filter (λ (e : TableEdits). same_name name e.table) edits)
+pairs_of name edits = flat_map (λ (e : TableEdits). e.pairs) (filter (λ (e : TableEdits). same_name e.table name) edits)
 
 -- The rows of each table, changed by the pairs that concern it.
-abbrev pub changed_instance : Schema → List TableEdits → Instance → Instance
-changed_instance schema edits rows name = changed (key_named name schema) (pairs_of name edits) (rows name)
+abbrev pub changed_instance : List Table → List TableEdits → Instance → Instance
+changed_instance (table ∷ tables) edits (rows ∷ others) =
+    changed (key_place table.definition.columns) (pairs_of table.definition.name edits) rows ∷ changed_instance tables edits others
+changed_instance (table ∷ tables) edits [] = []
+changed_instance [] edits others = []
 
--- Each table's rows are strictly in the order of their keys.
-abbrev pub AreInKeyOrder : Schema → Instance → Type 0
-AreInKeyOrder schema rows = (name : List ℕ) → IsInKeyOrder (key_named name schema) (rows name)
+-- There are rows for each table and no others, strictly in the order of the table's key.
+abbrev pub AreInKeyOrder : List Table → Instance → Type 0
+AreInKeyOrder [] [] = Unit {0}
+AreInKeyOrder (table ∷ tables) (rows ∷ others) = IsInKeyOrder (key_place table.definition.columns) rows × AreInKeyOrder tables others
+AreInKeyOrder [] (rows ∷ others) = ⊥
+AreInKeyOrder (table ∷ tables) [] = ⊥

@@ -5,12 +5,12 @@ use Rattle.std.specs.List.Sorted.{IsPermutation, IsSorted}
 use Rattle.std.specs.Vec.{with_items}
 use Rattle.std.proofs.lemmas.Bool.{true_from_ne_false, or_right, cond-true, cond-false, lt-ltb, le-ltb}
 use Rattle.std.proofs.lemmas.List.{with_items_is}
-use Rattle.std.proofs.lemmas.List.Sorted.{IsPermutation-append_right, IsPermutation-trans, length_permutation}
+use Rattle.std.proofs.lemmas.List.Sorted.{IsPermutation-append_right, IsPermutation-sym, IsPermutation-trans, length_permutation}
 use Rattle.mm_schema.specs.Refused.{first_refusal}
-use Rattle.mm_schema.specs.Rows.{column_cmp, has_twin_keys, same_in_column}
+use Rattle.mm_schema.specs.Rows.{IsInKeyOrder, column_cmp, has_twin_keys, same_in_column, table_rows_conditions}
 use Rattle.mm_value.specs.declared.refusal.Refusal.TheVariants.{DuplicateKey, TableFull}
-use Rattle.mmdb_core.specs.KeyedRows.{IsInKeyOrder, KeyedList, new_row_conditions, with_new_rows}
-use Rattle.mm_schema.proofs.InOrder.{in_order_is}
+use Rattle.mm_schema.proofs.ChangedRows.{IsPermutation-additions, changed-additions}
+use Rattle.mmdb_core.specs.KeyedRows.{KeyedList, with_new_rows}
 use Rattle.mm_schema.proofs.Twins.{Row, has_twin_keys-IsPermutation, in_order_from_sorted}
 
 twins_behind : (key : ℕ) (old fresh : List Row) → has_twin_keys key fresh ≡ true → has_twin_keys key (old ++ fresh) ≡ true
@@ -34,26 +34,33 @@ items_of_sorted rows sorted moved =
     with_items_is rows sorted (omega (arith, length_permutation rows.items sorted moved, rows.ok.0))
 
 module _ (keyed : KeyedList) (fresh sorted : List Row) (moved : IsPermutation fresh sorted) where
-  same_rows : IsPermutation (keyed.rows ++ fresh) (keyed.rows ++ sorted)
-  same_rows = IsPermutation-append_right keyed.rows fresh sorted moved
+  -- the old rows and the sorted new ones are those after the change, in another order
+  same_rows : IsPermutation (keyed.rows ++ sorted) (with_new_rows fresh keyed).rows
+  same_rows =
+      IsPermutation-trans _ _ _ (IsPermutation-append_right keyed.rows sorted fresh (IsPermutation-sym _ _ moved)) (IsPermutation-additions keyed.key fresh keyed.rows)
 
-  same_twins : has_twin_keys keyed.key (keyed.rows ++ fresh) ≡ has_twin_keys keyed.key (keyed.rows ++ sorted)
-  same_twins = has_twin_keys-IsPermutation keyed.key (keyed.rows ++ fresh) (keyed.rows ++ sorted) same_rows
+  same_twins : has_twin_keys keyed.key (with_new_rows fresh keyed).rows ≡ has_twin_keys keyed.key (keyed.rows ++ sorted)
+  same_twins = sym (has_twin_keys-IsPermutation keyed.key _ _ same_rows)
 
-  pub due-duplicate : has_twin_keys keyed.key (keyed.rows ++ sorted) ≡ true → first_refusal (new_row_conditions keyed fresh) ≡ Some DuplicateKey
+  same_count : length (with_new_rows fresh keyed).rows ≡ length keyed.rows + length sorted
+  same_count = length_permutation _ _ same_rows ∙ length-append keyed.rows sorted
+
+  pub due-duplicate : has_twin_keys keyed.key (keyed.rows ++ sorted) ≡ true → first_refusal (table_rows_conditions keyed.key (with_new_rows fresh keyed).rows) ≡ Some DuplicateKey
   due-duplicate twins = cond-true _ _ _ (same_twins ∙ twins)
 
-  pub due-full : has_twin_keys keyed.key (keyed.rows ++ sorted) ≡ false → 1048576 < length keyed.rows + length sorted → first_refusal (new_row_conditions keyed fresh) ≡ Some TableFull
+  pub due-full : has_twin_keys keyed.key (keyed.rows ++ sorted) ≡ false → 1048576 < length keyed.rows + length sorted
+      → first_refusal (table_rows_conditions keyed.key (with_new_rows fresh keyed).rows) ≡ Some TableFull
   due-full none many =
-      let count : length (keyed.rows ++ fresh) ≡ length keyed.rows + length sorted = omega (arith, length-append keyed.rows fresh, length_permutation fresh sorted moved) in
-      cond-false _ _ _ (same_twins ∙ none) ∙ cond-true _ _ _ (lt-ltb 1048576 (length (keyed.rows ++ fresh)) (omega arith))
+      cond-false _ _ _ (same_twins ∙ none) ∙ cond-true _ _ _ (lt-ltb 1048576 (length (with_new_rows fresh keyed).rows) (omega (arith, same_count)))
 
-  pub due-none : has_twin_keys keyed.key (keyed.rows ++ sorted) ≡ false → length keyed.rows + length sorted ≤ 1048576 → first_refusal (new_row_conditions keyed fresh) ≡ None
+  pub due-none : has_twin_keys keyed.key (keyed.rows ++ sorted) ≡ false → length keyed.rows + length sorted ≤ 1048576
+      → first_refusal (table_rows_conditions keyed.key (with_new_rows fresh keyed).rows) ≡ None
   due-none none few =
-      let count : length (keyed.rows ++ fresh) ≡ length keyed.rows + length sorted = omega (arith, length-append keyed.rows fresh, length_permutation fresh sorted moved) in
-      cond-false _ _ _ (same_twins ∙ none) ∙ cond-false _ _ _ (le-ltb 1048576 (length (keyed.rows ++ fresh)) (omega arith))
+      cond-false _ _ _ (same_twins ∙ none) ∙ cond-false _ _ _ (le-ltb 1048576 (length (with_new_rows fresh keyed).rows) (omega (arith, same_count)))
 
   -- the merged rows are the old and the new ones in key order
-  pub with_new_rows-is : (merged : List Row) → IsPermutation (keyed.rows ++ sorted) merged → IsInKeyOrder keyed.key merged → with_new_rows fresh keyed ≡ record keyed { rows = merged }
-  with_new_rows-is merged merges order =
-      ap (λ rows. record keyed { rows = rows }) (in_order_is keyed.key (keyed.rows ++ fresh) merged (IsPermutation-trans _ _ _ same_rows merges) order)
+  pub with_new_rows-is : (merged : List Row) → IsInKeyOrder keyed.key keyed.rows → IsPermutation (keyed.rows ++ sorted) merged → IsInKeyOrder keyed.key merged
+      → with_new_rows fresh keyed ≡ record keyed { rows = merged }
+  with_new_rows-is merged old_order merges order =
+      ap (λ rows. record keyed { rows = rows })
+      (changed-additions keyed.key fresh keyed.rows merged old_order (IsPermutation-trans _ _ _ (IsPermutation-append_right keyed.rows fresh sorted moved) merges) order)

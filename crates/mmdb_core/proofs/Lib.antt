@@ -1,6 +1,5 @@
 pub mod Additions
 pub mod Answering
-pub mod Changes
 pub mod DatabaseSteps
 pub mod FeedLemmas
 pub mod Inputs
@@ -8,8 +7,8 @@ pub mod Known
 pub mod Left
 pub mod Merging
 pub mod Outcomes
+pub mod RowsBeside
 pub mod Runs
 pub mod Searching
 pub mod Skips
-pub mod StoredTables
 pub mod Windows

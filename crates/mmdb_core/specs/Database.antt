@@ -1,15 +1,13 @@
 -- How the database keeps the machine's state: a catalog, and beside each of its tables the rows.
-use Rattle.std.specs.Prelude.{◌≡◌, List, [], ◌∷◌}
+use Rattle.std.specs.Prelude.{◌≡◌, List, [], ◌∷◌, map}
 use Rattle.mm_schema.specs.Columns.{key_place}
+use Rattle.mm_schema.specs.Instance.{Instance}
 use Rattle.mm_schema.specs.declared.table.Table.{Table}
-use Rattle.mm_query.specs.State.{Stored}
 use Rattle.mmdb_core.specs.KeyedRows.{KeyedList}
 
--- Each table with its rows.
-abbrev pub stored : List Table → List KeyedList → List Stored
-stored (t ∷ ts) (r ∷ rs) = record { table = t; rows = r.rows } ∷ stored ts rs
-stored [] rs = []
-stored (t ∷ ts) [] = []
+-- The rows of each table.
+abbrev pub rows_of : List KeyedList → Instance
+rows_of keyed = map (λ (k : KeyedList). k.rows) keyed
 
 -- There are rows for each table and no others, and their key is the table's.
 abbrev pub AreRowsOf : List Table → List KeyedList → Type 0

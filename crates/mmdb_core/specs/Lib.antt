@@ -4,7 +4,6 @@ pub mod Input
 pub mod KeyedRows
 pub mod Respond
 pub mod Run
-pub mod Scanned
 pub mod Status
 pub mod Taken
 pub mod Window

@@ -2,8 +2,7 @@
 ghost use Rattle.std.specs.Prelude.{◌≡◌, ◌↔◌, ◌++◌, IsTrue};
 ghost use Rattle.std.specs.List.{list_any};
 ghost use Rattle.std.specs.List.Sorted.{IsPermutation, IsSorted};
-ghost use Rattle.mm_schema.specs.Rows.{column_cmp, has_twin_keys, same_in_column};
-ghost use Rattle.mmdb_core.specs.KeyedRows.{IsInKeyOrder};
+ghost use Rattle.mm_schema.specs.Rows.{IsInKeyOrder, column_cmp, has_twin_keys, same_in_column};
 
 use mm_value::{Row, compare};
 use std::cmp::Ordering;

@@ -1,7 +1,8 @@
 //! The rows of a table.
 ghost use Rattle.std.specs.Prelude.{◌≡◌, [], OnOk, OnErr};
 ghost use Rattle.mm_schema.specs.Refused.{AnswersDue, first_refusal};
-ghost use Rattle.mmdb_core.specs.KeyedRows.{IsInKeyOrder, new_row_conditions, with_new_rows};
+ghost use Rattle.mm_schema.specs.Rows.{IsInKeyOrder, table_rows_conditions};
+ghost use Rattle.mmdb_core.specs.KeyedRows.{with_new_rows};
 
 use crate::key_order::{is_in_key_order, meets_old_key, sort_by_column};
 use crate::merge::{add_places, merge_from_back};
@@ -20,7 +21,8 @@ pub(crate) struct KeyedRows {
 }
 
 impl Model for KeyedRows {
-    ghost use Rattle.mmdb_core.specs.KeyedRows.{KeyedList, IsInKeyOrder};
+    ghost use Rattle.mm_schema.specs.Rows.{IsInKeyOrder};
+    ghost use Rattle.mmdb_core.specs.KeyedRows.{KeyedList};
 
     ghost Value = { KeyedList };
 
@@ -54,7 +56,7 @@ impl KeyedRows {
     /// It takes O(m log m + n) moves for m new rows among n, and O(m log n) comparisons more. Rows that come in key
     /// order behind the old ones take O(m) moves, over many calls.
     pub(crate) fn add_all(&mut self, mut fresh: Vec<Row>) -> Result<(), Refusal>
-        ensures due { AnswersDue (first_refusal (new_row_conditions self.old fresh.items)) result }
+        ensures due { AnswersDue (first_refusal (table_rows_conditions self.old.key (with_new_rows fresh.items self.old).rows)) result }
         ensures ok { OnOk result (self.new ≡ with_new_rows fresh.items self.old) }
         ensures err { OnErr result (self.new ≡ self.old) }
     {

@@ -1,8 +1,7 @@
 //! Two lists of rows in key order made one.
 ghost use Rattle.std.specs.Prelude.{◌≡◌, ◌+◌, ◌≤◌, ◌++◌, false, length, take, vec_len, OnOk, OnErr};
 ghost use Rattle.std.specs.List.Sorted.{IsPermutation};
-ghost use Rattle.mm_schema.specs.Rows.{has_twin_keys};
-ghost use Rattle.mmdb_core.specs.KeyedRows.{IsInKeyOrder};
+ghost use Rattle.mm_schema.specs.Rows.{IsInKeyOrder, has_twin_keys};
 
 use crate::key_order::compare_by_column;
 use mm_value::Row;

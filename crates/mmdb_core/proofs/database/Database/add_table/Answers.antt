@@ -3,17 +3,18 @@ use Rattle.std.proofs.Common.{◌≡◌, Err, ◌++◌, [], ◌∷◌, sym, ap, 
 use Rattle.std.proofs.lemmas.Result.{err_from_is_err_and}
 use Rattle.mm_schema.specs.Refused.{AnswersDue, first_refusal}
 use Rattle.mm_schema.specs.Schema.{Schema, table_conditions}
-use Rattle.mm_query.specs.State.{State, schema_of, with_new_table}
+use Rattle.mm_query.specs.Machine.{after_definition}
+use Rattle.mm_query.specs.State.{State}
+use Rattle.mm_query.specs.declared.command.Definition.TheVariants as define
 use Rattle.mmdb_core.specs.Database.{AreRowsOf}
-use Rattle.mmdb_core.proofs.DatabaseSteps.{rows_added, state_of, table_added, table_due}
+use Rattle.mmdb_core.proofs.DatabaseSteps.{rows_added, state_of, table_added}
 use Rattle.mmdb_core.proofs.database.Database.add_table.Goals as goal
 use Rattle.mmdb_core.proofs.database.Database.add_table.Goals.{After-unwrap}
 
 pub returns-in_err-add_table-clause-due : goal.returns-in_err-add_table-clause-due
 returns-in_err-add_table-clause-due c =
     let p = err_from_is_err_and c.from_residual-in_err-add_table.result c.from_residual-in_err-add_table.ensures.1 in
-    let same = table_due c.self.inside.catalog c.self.inside.rows.items c.self.invariant c.args.definition
-    ∙ ap (λ (s : State). first_refusal (table_conditions c.args.definition (schema_of s))) c.self.view_is in
+    let same = ap (λ (s : State). first_refusal (table_conditions c.args.definition s.schema)) c.self.view_is in
     rw (p.1, p.2) (subst (λ due. AnswersDue {T = Unit {0}} due (Err c.in_err-add_table.field-0.0)) same c.in_err-add_table.ensures.due)
 
 -- the new rows come last
@@ -29,13 +30,11 @@ invariant_of-self-2 c =
 
 pub returns-clause-due : goal.returns-clause-due
 returns-clause-due c =
-    let same = table_due c.self.inside.catalog c.self.inside.rows.items c.self.invariant c.args.definition
-    ∙ ap (λ (s : State). first_refusal (table_conditions c.args.definition (schema_of s))) c.self.view_is in
-    sym same ∙ c.in_ok-add_table.ensures.due
+    sym (ap (λ (s : State). first_refusal (table_conditions c.args.definition s.schema)) c.self.view_is) ∙ c.in_ok-add_table.ensures.due
 
 pub returns-clause-ok : goal.returns-clause-ok
 returns-clause-ok c =
     let old = c.self.inside in
     (λ i. state_of (c.in_ok-add_table.ensures.ok i) (items c i))
     ∙ table_added old.catalog old.rows.items c.self.invariant c.args.definition c.new.result c.new.ensures.rows
-    ∙ ap (with_new_table c.args.definition) c.self.view_is
+    ∙ ap (after_definition (define.Table c.args.definition)) c.self.view_is

@@ -1,31 +1,46 @@
--- The rows of the table at the place of a name are those of the stored table of that name.
-use Rattle.std.proofs.Common.{Ok, sym, ap, subst, ◌∙◌, arith}
+-- The rows at the place of a name are those of that name.
+use Rattle.std.proofs.Common.{◌≡◌, true, false, cond, Some, None, sym, ap, ◌∙◌, arith}
 use Rattle.std.proofs.lemmas.Option.{slice_get_read}
 use Rattle.std.proofs.lemmas.Result.{err_from_is_err_and}
-use Rattle.mm_query.specs.State.{stored_named}
-use Rattle.mmdb_core.specs.Scanned.{IsScan}
-use Rattle.mmdb_core.proofs.DatabaseSteps.{none_stored, rows_there, stored_there}
-use Rattle.mmdb_core.proofs.StoredTables.{beside}
+use Rattle.mm_schema.specs.Schema.{lacks_table}
+use Rattle.mm_value.specs.declared.refusal.Refusal.{Refusal}
+use Rattle.mm_value.specs.declared.refusal.Refusal.TheVariants.{NoSuchTable}
+use Rattle.mm_query.specs.State.{State, rows_in}
+use Rattle.mm_query.proofs.Due.{lacks_nowhere, not_lacking}
+use Rattle.mmdb_core.proofs.DatabaseSteps.{rows_of_name, rows_there}
+use Rattle.mmdb_core.proofs.RowsBeside.{beside}
 use Rattle.mmdb_core.proofs.database.Database.scan.Goals as goal
 
-pub returns-in_err-place : goal.returns-in_err-place
-returns-in_err-place c =
+pub returns-in_err-place-clause-due : goal.returns-in_err-place-clause-due
+returns-in_err-place-clause-due c =
     let p = err_from_is_err_and c.from_residual.result c.from_residual.ensures.1 in
-    let none = none_stored c.self.inside.catalog c.self.inside.rows.items c.self.invariant c.args.table.now (sym c.place_of.ensures.place ∙ c.in_err-place.ensures.ok_part) in
-    subst (IsScan c.from_residual.result) (sym none ∙ ap (stored_named c.args.table.now) c.self.view_is) (rw (p.1, p.2) (grind arith))
+    let lacks = lacks_nowhere c.args.table.now c.self.inside.catalog (sym c.place_of.ensures.place ∙ c.in_err-place.ensures.ok_part) in
+    let lacks_now : lacks_table c.args.table.now c.args.self.now.schema ≡ true = sym (ap (λ (s : State). lacks_table c.args.table.now s.schema) c.self.view_is) ∙ lacks in
+    let told : NoSuchTable ≡ c.in_err-place.field-0.0 = grind arith in
+    rw (p.1, p.2) (ap (λ b. cond b (Some NoSuchTable) None) lacks_now ∙ ap (λ (r : Refusal). Some r) told)
 
 pub index-rows-requires : goal.index-rows-requires
 index-rows-requires c =
     let there = rows_there c.self.inside.catalog c.self.inside.rows.items c.self.invariant c.args.table.now c.in_ok-place.place (sym c.place_of.ensures.place ∙ c.in_ok-place.ensures.ok_part) in
     omega (arith, c.self.inside.rows.ok.0)
 
-pub returns : goal.returns
-returns c =
-    let schema = c.self.inside.catalog in
-    let rows = c.self.inside.rows in
-    let place = c.in_ok-place.place in
+pub returns-clause-due : goal.returns-clause-due
+returns-clause-due c =
     let placed = sym c.place_of.ensures.place ∙ c.in_ok-place.ensures.ok_part in
-    let within = rows_there schema rows.items c.self.invariant c.args.table.now place placed in
-    let keyed = c.index-rows.result.now in
-    let at = beside schema.tables rows.items place keyed c.self.invariant (slice_get_read rows.items rows.len place keyed rows.ok.0 (omega (arith, rows.ok.0)) c.index-rows.ensures) in
-    subst (IsScan (Ok c.as_slice.result)) (sym (stored_there schema rows.items c.self.invariant c.args.table.now place placed keyed at) ∙ ap (stored_named c.args.table.now) c.self.view_is) c.as_slice.ensures.rows
+    let rows = c.self.inside.rows in
+    let within = rows_there c.self.inside.catalog rows.items c.self.invariant c.args.table.now c.in_ok-place.place placed in
+    let there = slice_get_read rows.items rows.len c.in_ok-place.place c.index-rows.result.now rows.ok.0 (omega (arith, rows.ok.0)) c.index-rows.ensures in
+    let at = beside c.self.inside.catalog.tables rows.items c.in_ok-place.place c.index-rows.result.now c.self.invariant there in
+    let found = not_lacking c.args.table.now c.self.inside.catalog c.in_ok-place.place at.table placed at.there in
+    let found_now : lacks_table c.args.table.now c.args.self.now.schema ≡ false = sym (ap (λ (s : State). lacks_table c.args.table.now s.schema) c.self.view_is) ∙ found in
+    ap (λ b. cond b (Some NoSuchTable) None) found_now
+
+pub returns-clause-rows : goal.returns-clause-rows
+returns-clause-rows c =
+    let placed = sym c.place_of.ensures.place ∙ c.in_ok-place.ensures.ok_part in
+    let rows = c.self.inside.rows in
+    let within = rows_there c.self.inside.catalog rows.items c.self.invariant c.args.table.now c.in_ok-place.place placed in
+    let there = slice_get_read rows.items rows.len c.in_ok-place.place c.index-rows.result.now rows.ok.0 (omega (arith, rows.ok.0)) c.index-rows.ensures in
+    c.as_slice.ensures.rows
+    ∙ sym (rows_of_name c.self.inside.catalog rows.items c.self.invariant c.args.table.now c.in_ok-place.place placed c.index-rows.result.now there)
+    ∙ ap (λ (s : State). rows_in s c.args.table.now) c.self.view_is

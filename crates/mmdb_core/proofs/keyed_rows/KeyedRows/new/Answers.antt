@@ -1,6 +1,6 @@
 -- No rows are in order.
 use Rattle.std.proofs.Common.{sym, subst}
-use Rattle.mmdb_core.specs.KeyedRows.{IsInKeyOrder}
+use Rattle.mm_schema.specs.Rows.{IsInKeyOrder}
 use Rattle.mm_schema.proofs.StrictOrder.{IsStrictlySortedBy-nil}
 use Rattle.mm_schema.proofs.Twins.{column_cmp_total}
 use Rattle.mmdb_core.proofs.keyed_rows.KeyedRows.new.Goals as goal

@@ -1,0 +1,139 @@
+-- Changes of the rows of one table among those of all.
+use Rattle.std.proofs.Common.{◌≡◌, ℕ, Bool, true, false, cond, List, [], ◌∷◌, ◌++◌, Option, Some, None, find, map, inl, inr, refl, sym, ap, subst, ◌∙◌}
+use Rattle.std.specs.List.{AllByRecursion, IsDistinct, filter, flat_map}
+use Rattle.std.specs.Option.{option_map_or}
+use Rattle.std.proofs.lemmas.Bool.{cases_Bool, false≢true}
+use Rattle.std.proofs.lemmas.List.{append-nil}
+use Rattle.std.proofs.lemmas.Map.Keys.{IsDistinct-cons, IsDistinct-head, IsDistinct-tail}
+use Rattle.mm_schema.specs.Columns.{key_place}
+use Rattle.mm_schema.specs.Instance.{AreInKeyOrder, Instance, TableEdits, changed_instance, pairs_of, rows_named}
+use Rattle.mm_schema.specs.Name.{same_name}
+use Rattle.mm_schema.specs.Rows.{IsInKeyOrder, Pair, changed, has_twin_keys}
+use Rattle.mm_schema.specs.declared.table.Table.{Table}
+use Rattle.mm_schema.proofs.ChangedRows.{IsInKeyOrder-changed}
+use Rattle.mm_schema.proofs.NameLemmas.{same_bytes, same_name_refl}
+use Rattle.mm_schema.proofs.Twins.{Row}
+
+abbrev pub name_of : Table → List ℕ
+name_of table = table.definition.name
+
+-- the edits of one table alone
+abbrev pub edits_of_one : List ℕ → List Pair → List TableEdits
+edits_of_one table pairs = record { table = table; pairs = pairs } ∷ []
+
+pairs_by_test : (table : List ℕ) (pairs : List Pair) (b : Bool) → flat_map (λ (e : TableEdits). e.pairs) (cond b (edits_of_one table pairs) []) ≡ cond b pairs []
+pairs_by_test table pairs true = append-nil pairs
+pairs_by_test table pairs false = refl
+
+-- They concern the table of that name, ..
+pub pairs_of-own : (table : List ℕ) (pairs : List Pair) (name : List ℕ) → same_name table name ≡ true → pairs_of name (edits_of_one table pairs) ≡ pairs
+pairs_of-own table pairs name own = pairs_by_test table pairs (same_name table name) ∙ ap (λ b. cond b pairs []) own
+
+-- .. and no other.
+pub pairs_of-other : (table : List ℕ) (pairs : List Pair) (name : List ℕ) → same_name table name ≡ false → pairs_of name (edits_of_one table pairs) ≡ []
+pairs_of-other table pairs name other = pairs_by_test table pairs (same_name table name) ∙ ap (λ b. cond b pairs []) other
+
+-- none of the tables has the name
+abbrev pub LackName : List ℕ → List Table → Type 0
+LackName name tables = AllByRecursion (λ other. same_name name other ≡ false) (map name_of tables)
+
+-- The tables behind the one of a name have other names.
+pub others_lack : (name : List ℕ) (table : Table) (tables : List Table) → same_name name (name_of table) ≡ true → IsDistinct same_name (map name_of (table ∷ tables)) → LackName name tables
+others_lack name table tables own distinct =
+    subst (λ n. LackName n tables) (sym (same_bytes name (name_of table) own)) (IsDistinct-head same_name (name_of table) (map name_of tables) distinct)
+
+-- as many lists of rows as tables
+abbrev pub AreBeside : List Table → Instance → Type 0
+AreBeside [] [] = Unit {0}
+AreBeside (table ∷ tables) (rows ∷ others) = AreBeside tables others
+AreBeside [] (rows ∷ others) = ⊥
+AreBeside (table ∷ tables) [] = ⊥
+
+module _ (name : List ℕ) (pairs : List Pair) where
+  -- Tables of other names keep their rows.
+  pub changed_instance-others : (tables : List Table) (rows : Instance) → AreBeside tables rows → LackName name tables
+      → changed_instance tables (edits_of_one name pairs) rows ≡ rows
+  changed_instance-others [] [] beside lack = refl
+  changed_instance-others (t ∷ ts) (r ∷ rs) beside lack = λ i.
+      changed (key_place t.definition.columns) (pairs_of-other name pairs (name_of t) lack.0 i) r ∷ changed_instance-others ts rs beside lack.1 i
+  changed_instance-others [] (r ∷ rs) beside lack = absurd beside
+  changed_instance-others (t ∷ ts) [] beside lack = absurd beside
+
+-- ---- in key order
+
+beside_from_order : (tables : List Table) (rows : Instance) → AreInKeyOrder tables rows → AreBeside tables rows
+beside_from_order [] [] order = tt
+beside_from_order (t ∷ ts) (r ∷ rs) order = beside_from_order ts rs order.1
+beside_from_order [] (r ∷ rs) order = absurd order
+beside_from_order (t ∷ ts) [] order = absurd order
+
+-- A new table has no row, so its rows are in order.
+pub AreInKeyOrder-push : (tables : List Table) (rows : Instance) (table : Table) (new : List Row) → AreInKeyOrder tables rows → IsInKeyOrder (key_place table.definition.columns) new
+    → AreInKeyOrder (tables ++ table ∷ []) (rows ++ new ∷ [])
+AreInKeyOrder-push [] [] table new order last = (last, tt)
+AreInKeyOrder-push (t ∷ ts) (r ∷ rs) table new order last = (order.0, AreInKeyOrder-push ts rs table new order.1 last)
+AreInKeyOrder-push [] (r ∷ rs) table new order last = absurd order
+AreInKeyOrder-push (t ∷ ts) [] table new order last = absurd order
+
+abbrev key_of : Option Table → ℕ
+key_of table = option_map_or (λ t. key_place t.definition.columns) table 0
+
+module _ (name : List ℕ) (pairs : List Pair) where
+  -- the rows and the key of the name, where the first table has it or the others are asked
+  abbrev NoTwins : List Table → Instance → Type 0
+  NoTwins tables rows = has_twin_keys (key_of (find (λ t. same_name name (name_of t)) tables)) (rows_named name tables rows) ≡ false
+
+  first_or_others : (t : Table) (ts : List Table) (r : List Row) (rs : Instance) (b : Bool) → same_name name (name_of t) ≡ b
+      → AreInKeyOrder (t ∷ ts) (r ∷ rs) → IsDistinct same_name (map name_of (t ∷ ts))
+      → has_twin_keys (key_of (cond b (Some t) (find (λ u. same_name name (name_of u)) ts)))
+      (cond b (changed (key_place t.definition.columns) (pairs_of (name_of t) (edits_of_one name pairs)) r) (rows_named name ts (changed_instance ts (edits_of_one name pairs) rs))) ≡ false
+      → (NoTwins ts (changed_instance ts (edits_of_one name pairs) rs) → AreInKeyOrder ts (changed_instance ts (edits_of_one name pairs) rs))
+      → AreInKeyOrder (t ∷ ts) (changed_instance (t ∷ ts) (edits_of_one name pairs) (r ∷ rs))
+  first_or_others t ts r rs true own order distinct none rest = (
+    IsInKeyOrder-changed (key_place t.definition.columns) (pairs_of (name_of t) (edits_of_one name pairs)) r order.0 none,
+    subst (AreInKeyOrder ts) (sym (changed_instance-others name pairs ts rs (beside_from_order ts rs order.1) (others_lack name t ts own distinct))) order.1,
+  )
+  first_or_others t ts r rs false other order distinct none rest = (
+    subst (λ ps. IsInKeyOrder (key_place t.definition.columns) (changed (key_place t.definition.columns) ps r)) (sym (pairs_of-other name pairs (name_of t) other)) order.0,
+    rest none,
+  )
+
+  -- Rows in key order are so after a change of one table, unless two of its rows have one key then.
+  pub AreInKeyOrder-changed : (tables : List Table) (rows : Instance) → AreInKeyOrder tables rows → IsDistinct same_name (map name_of tables)
+      → NoTwins tables (changed_instance tables (edits_of_one name pairs) rows) → AreInKeyOrder tables (changed_instance tables (edits_of_one name pairs) rows)
+  AreInKeyOrder-changed [] [] order distinct none = tt
+  AreInKeyOrder-changed (t ∷ ts) (r ∷ rs) order distinct none =
+      first_or_others t ts r rs (same_name name (name_of t)) refl order distinct none
+      (AreInKeyOrder-changed ts rs order.1 (IsDistinct-tail same_name (name_of t) (map name_of ts) distinct))
+  AreInKeyOrder-changed [] (r ∷ rs) order distinct none = absurd order
+  AreInKeyOrder-changed (t ∷ ts) [] order distinct none = absurd order
+
+-- ---- names
+
+not_first : {X : Type 0} (b : Bool) (x : X) (found : Option X) → cond b (Some x) found ≡ None → (b ≡ false) × (found ≡ None)
+not_first true x found none = cc
+not_first false x found none = (refl, none)
+
+other_way_round : (a b : List ℕ) → same_name a b ≡ false → same_name b a ≡ false
+other_way_round a b differs = elim (cases_Bool (same_name b a)) [
+    | inl same ↦
+        let one : b ≡ a = same_bytes b a same in
+        absurd (false≢true (sym differs ∙ ap (λ n. same_name n b) (sym one) ∙ same_name_refl b))
+    | inr other ↦ other
+  ]
+
+module _ (table : Table) where
+  names_before : (name : List ℕ) (tables : List Table) → AllByRecursion (λ other. same_name name other ≡ false) (map name_of tables) → same_name name (name_of table) ≡ false
+      → AllByRecursion (λ other. same_name name other ≡ false) (map name_of (tables ++ table ∷ []))
+  names_before name [] others last = (last, tt)
+  names_before name (t ∷ ts) others last = (others.0, names_before name ts others.1 last)
+
+  -- A new table with a name that is lacking leaves all names distinct.
+  pub IsDistinct-push : (tables : List Table) → find (λ t. same_name (name_of table) (name_of t)) tables ≡ None → IsDistinct same_name (map name_of tables)
+      → IsDistinct same_name (map name_of (tables ++ table ∷ []))
+  IsDistinct-push [] none distinct = IsDistinct-cons same_name (name_of table) [] tt distinct
+  IsDistinct-push (t ∷ ts) none distinct =
+      let others = not_first (same_name (name_of table) (name_of t)) t (find (λ u. same_name (name_of table) (name_of u)) ts) none in
+      IsDistinct-cons same_name (name_of t) (map name_of (ts ++ table ∷ []))
+      (names_before (name_of t) ts (IsDistinct-head same_name (name_of t) (map name_of ts) distinct) (other_way_round (name_of table) (name_of t) others.0))
+      (IsDistinct-push ts others.1 (IsDistinct-tail same_name (name_of t) (map name_of ts) distinct))
