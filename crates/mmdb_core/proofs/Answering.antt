@@ -3,7 +3,6 @@ use Rattle.std.proofs.Common.{◌≡◌, ℕ, Bool, true, false, cond, eqb, List
 use Rattle.std.proofs.lemmas.List.{append-nil, drop_at, length-take-le}
 use Rattle.std.proofs.lemmas.Bool.{lt-ltb}
 use Rattle.std.specs.Prelude.{IfOk, IfSome, MatchResult}
-use Rattle.std.specs.Borrow.{Bor}
 use Rattle.std.specs.Io.KnownBytes.{Appends, Consumes, Keeps}
 use Rattle.mm_lang.specs.Grammar.{command_of}
 use Rattle.mm_lang.specs.Lines.{pieces_of, without_return}
@@ -15,17 +14,15 @@ use Rattle.mm_value.specs.Watched.{inner_of}
 use Rattle.mm_value.specs.declared.device.Watched.{Watched}
 use Rattle.mm_value.specs.declared.refusal.Refusal.{Refusal}
 use Rattle.mm_value.specs.declared.refusal.Refusal.TheVariants.{LineTooLong, Memory}
-use Rattle.mm_value.specs.declared.values.Value.{Value}
-use Rattle.mm_query.specs.Machine.{Outcome, scanned, step}
-use Rattle.mm_query.specs.State.{State, Stored}
+use Rattle.mm_query.specs.Machine.{Outcome, step}
+use Rattle.mm_query.specs.State.{State}
 use Rattle.mm_query.specs.declared.command.Command.{Command}
 use Rattle.mm_query.specs.declared.command.Command.TheVariants.{Nothing}
 use Rattle.mm_query.specs.declared.reply.Reply.{Reply}
-use Rattle.mm_query.specs.declared.reply.Reply.TheVariants.{Rows, Refused}
+use Rattle.mm_query.specs.declared.reply.Reply.TheVariants.{Refused}
 use Rattle.mmdb_core.specs.Input.{DropsLongLine, IsFirstLine, LiesInFront}
 use Rattle.mmdb_core.specs.Respond.{AnswersLine, AnswersNext, IsStep, MayLeadTo, Responds, RespondsTo}
 use Rattle.mmdb_core.specs.Run.{answer, is_error, outcome_of, refused_outcome}
-use Rattle.mmdb_core.specs.Scanned.{IsScan}
 
 pub appends_keeps : (a b c : Option (List ℕ)) (text : List ℕ) → Appends a b text → Keeps b c → Appends a c text
 appends_keeps None b c text h k = tt
@@ -72,16 +69,6 @@ sent contents old new (Ok refused) reply read before after writes is leads = rec
   responds = record { state = refl; written = writes.written; refused = is };
 }
 sent contents old new (Err e) reply read before after writes is leads = tt
-
--- a scan answers the rows of its table
-pub scan_leads : (found : Option Stored) (rows : Bor (List (List Value))) (state : State) → IsScan (Ok rows) found → record { reply = Some (Rows rows.now); state = state } ≡ scanned found state
-scan_leads None rows state h = absurd h
-scan_leads (Some stored) rows state h = ap (λ r. record { reply = Some (Rows r); state = state }) h
-
--- or that it isn't there
-pub scan_refused : (found : Option Stored) (refusal : Refusal) (state : State) → IsScan (Err refusal) found → record { reply = Some (Refused refusal); state = state } ≡ scanned found state
-scan_refused None refusal state h = ap (λ r. record { reply = Some (Refused r); state = state }) h
-scan_refused (Some stored) refusal state h = absurd h
 
 -- memory refused to a line that takes it
 refused_memory : (line : List ℕ) (state : State) → takes_memory line ≡ true → answer true line state ≡ refused_outcome Memory state

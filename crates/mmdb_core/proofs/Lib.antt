@@ -9,6 +9,7 @@ pub mod Merging
 pub mod Outcomes
 pub mod RowsBeside
 pub mod Runs
+pub mod Scanning
 pub mod Searching
 pub mod Skips
 pub mod Windows
