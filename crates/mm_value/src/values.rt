@@ -1,8 +1,9 @@
 //! Values, their order and their hash.
-ghost use Rattle.std.specs.Prelude.{◌≡◌, IfOk, IfErr, fold};
+ghost use Rattle.std.specs.Prelude.{◌≡◌, IfOk, IfErr, IsOk, fold};
 ghost use Rattle.std.specs.Cmp.{IsTotalOrder};
 ghost use Rattle.std.proofs.lemmas.Map.Lookups.{CmpEqualImpliesEq};
 ghost use Rattle.mm_value.specs.Order.{value_cmp, row_cmp};
+ghost use Rattle.mm_value.specs.Storable.{LiesInline};
 ghost use Rattle.mm_value.specs.Types.{type_of};
 ghost use Rattle.mm_value.specs.Hash.{value_hash, bytes_hash};
 ghost use Rattle.mm_value.specs.declared.refusal.Refusal.TheVariants.{Memory};
@@ -33,10 +34,11 @@ impl Value {
         }
     }
 
-    /// A copy. `Memory` is the only refusal.
+    /// A copy. `Memory` is the only refusal, and answered only for a text of more than 16 bytes.
     pub fn copy(&self, alloc: Global) -> Result<Value, Refusal>
         ensures ok { IfOk result (λ value. value ≡ self.now) }
         ensures memory { IfErr result (λ e. e ≡ Memory) }
+        ensures inline { LiesInline self.now → IsOk result }
     {
         match self {
             Value::Int(number) => Ok(Value::Int(*number)),
