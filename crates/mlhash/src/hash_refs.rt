@@ -104,7 +104,7 @@ impl HashRefs {
     ///
     /// It is refused where there is no memory for that many nodes, or where there would be more than
     /// 2^32 - 1 of them. Bucket heads that it can't get are no refusal: inserts then skip splits.
-    pub fn reserve(&mut self, n: usize) -> Result<(), AllocError>
+    pub fn reserve(&mut self, _alloc: Global, n: usize) -> Result<(), AllocError>
         ensures ok { OnOk result (n ≤ self.new.spare) }
         ensures met { n ≤ self.old.spare → IsOk result }
         ensures entries { self.new.entries ≡ self.old.entries }
@@ -147,7 +147,12 @@ impl HashRefs {
 
     /// Appends the references of a hash, each as often as held, in no promised order. After an error
     /// the vector is as before.
-    pub fn matches(&self, hash: u64, out: &mut Vec<RowRef>) -> Result<(), AllocError>
+    pub fn matches(
+        &self,
+        _alloc: Global,
+        hash: u64,
+        out: &mut Vec<RowRef>,
+    ) -> Result<(), AllocError>
         ensures ok { OnOk result (AppendsInSomeOrder out.old.items out.new.items (refs_of hash self.now.entries)) }
         ensures err { OnErr result (out.new.items ≡ out.old.items) }
     {
@@ -157,7 +162,7 @@ impl HashRefs {
 
     /// Appends all references, each as often as held, in no promised order. After an error the vector
     /// is as before. It is one pass over the table's nodes in memory, free ones too.
-    pub fn copy_all(&self, out: &mut Vec<RowRef>) -> Result<(), AllocError>
+    pub fn copy_all(&self, _alloc: Global, out: &mut Vec<RowRef>) -> Result<(), AllocError>
         ensures ok { OnOk result (AppendsInSomeOrder out.old.items out.new.items (all_refs self.now.entries)) }
         ensures err { OnErr result (out.new.items ≡ out.old.items) }
     {

@@ -26,27 +26,28 @@ fn insert(rt: &impl Abort, refs: &mut HashRefs, hash: u64, reference: RowRef) {
 
 #[test]
 fn finds_and_removes(rt: HostRuntime) -> Result<(), Fail> {
-    let mut refs = HashRefs::new(rt.alloc());
+    let alloc = rt.alloc();
+    let mut refs = HashRefs::new(alloc);
     assert_eq!(rt; (refs.len(), refs.spare()), (0, 0));
-    refs.reserve(3)?;
+    refs.reserve(alloc, 3)?;
     insert(&rt, &mut refs, 4, slot(1));
     insert(&rt, &mut refs, 4, slot(2));
     insert(&rt, &mut refs, 8, slot(3));
     assert_eq!(rt; refs.len(), 3);
 
-    let mut found = Vec::new(rt.alloc());
-    refs.matches(4, &mut found)?;
+    let mut found = Vec::new(alloc);
+    refs.matches(alloc, 4, &mut found)?;
     assert_eq!(rt; found.len(), 2);
     assert!(rt; found.contains(&slot(1)) && found.contains(&slot(2)));
 
     assert!(rt; refs.remove(4, slot(1)));
     assert!(rt; !refs.remove(4, slot(1)));
     found.clear();
-    refs.matches(4, &mut found)?;
+    refs.matches(alloc, 4, &mut found)?;
     assert_eq!(rt; found.as_slice(), [slot(2)].as_slice());
 
     found.clear();
-    refs.copy_all(&mut found)?;
+    refs.copy_all(alloc, &mut found)?;
     assert_eq!(rt; found.len(), 2);
     assert!(rt; found.contains(&slot(2)) && found.contains(&slot(3)));
     Ok(())
@@ -54,8 +55,9 @@ fn finds_and_removes(rt: HostRuntime) -> Result<(), Fail> {
 
 #[test]
 fn splits_and_merges_one_bucket_at_a_time(rt: HostRuntime) -> Result<(), Fail> {
-    let mut refs = HashRefs::new(rt.alloc());
-    refs.reserve(9)?;
+    let alloc = rt.alloc();
+    let mut refs = HashRefs::new(alloc);
+    refs.reserve(alloc, 9)?;
     for hash in 0..9u8 {
         assert_eq!(rt; refs.heads.len(), 4, "before {hash}");
         insert(&rt, &mut refs, u64::from(hash), slot(hash));
@@ -78,8 +80,9 @@ fn splits_and_merges_one_bucket_at_a_time(rt: HostRuntime) -> Result<(), Fail> {
 
 #[test]
 fn keeps_two_entries_a_bucket_over_many_levels(rt: HostRuntime) -> Result<(), Fail> {
-    let mut refs = HashRefs::new(rt.alloc());
-    refs.reserve(1000)?;
+    let alloc = rt.alloc();
+    let mut refs = HashRefs::new(alloc);
+    refs.reserve(alloc, 1000)?;
     for i in 0..1000u64 {
         insert(
             &rt,
@@ -105,26 +108,27 @@ fn keeps_two_entries_a_bucket_over_many_levels(rt: HostRuntime) -> Result<(), Fa
 // Where the run refuses one allocation, the refused call has changed nothing, and the next one answers.
 #[test]
 fn a_refused_call_can_be_given_again(rt: HostRuntime) -> Result<(), Fail> {
-    let mut refs = HashRefs::new(rt.alloc());
+    let alloc = rt.alloc();
+    let mut refs = HashRefs::new(alloc);
     for hash in 0..20u8 {
-        if refs.reserve(1).is_err() {
+        if refs.reserve(alloc, 1).is_err() {
             assert_eq!(rt; (refs.len(), refs.spare()), (usize::from(hash), 0));
-            refs.reserve(1)?;
+            refs.reserve(alloc, 1)?;
         }
         insert(&rt, &mut refs, u64::from(hash % 4), slot(hash));
     }
-    let mut found = Vec::new(rt.alloc());
+    let mut found = Vec::new(alloc);
     for hash in 0..4u8 {
         let before = found.len();
-        if refs.matches(u64::from(hash), &mut found).is_err() {
+        if refs.matches(alloc, u64::from(hash), &mut found).is_err() {
             assert_eq!(rt; found.len(), before);
-            refs.matches(u64::from(hash), &mut found)?;
+            refs.matches(alloc, u64::from(hash), &mut found)?;
         }
         assert_eq!(rt; found.len(), usize::from(hash) * 5 + 5);
     }
-    if refs.copy_all(&mut found).is_err() {
+    if refs.copy_all(alloc, &mut found).is_err() {
         assert_eq!(rt; found.len(), 20);
-        refs.copy_all(&mut found)?;
+        refs.copy_all(alloc, &mut found)?;
     }
     assert_eq!(rt; found.len(), 40);
     for hash in 0..20u8 {
