@@ -7,6 +7,7 @@
 #![tactic(auto)]
 
 mod chains;
+mod directory;
 mod hash_refs;
 mod heads;
 mod node;

@@ -13,6 +13,22 @@ fn slot(slot: u8) -> RowRef {
     RowRef { part: 0, slot }
 }
 
+/// The reference of the row that was placed after so many others.
+fn row(number: u16) -> RowRef {
+    RowRef {
+        part: usize::from(number / 64),
+        slot: (number % 64) as u8,
+    }
+}
+
+/// Whether the directory leads to a node with this pair.
+fn is_led_to(refs: &HashRefs, hash: u64, reference: RowRef) -> bool {
+    let hint = refs.directory.hint(reference);
+    refs.nodes
+        .get(hint as usize)
+        .is_some_and(|node| node.live && node.has(hash, reference))
+}
+
 /// Whether the pair stands in this bucket.
 fn stands_in(refs: &HashRefs, bucket: usize, hash: u64, reference: RowRef) -> bool {
     bucket < refs.heads.len() && find(&refs.nodes, refs.heads.get(bucket), hash, reference) != NIL
@@ -105,6 +121,68 @@ fn keeps_two_entries_a_bucket_over_many_levels(rt: HostRuntime) -> Result<(), Fa
     Ok(())
 }
 
+#[test]
+fn is_led_to_each_pair_of_one_hash(rt: HostRuntime) -> Result<(), Fail> {
+    let alloc = rt.alloc();
+    let mut refs = HashRefs::new(alloc);
+    for number in 0..1000u16 {
+        refs.reserve(alloc, 1)?;
+        insert(&rt, &mut refs, 5, row(number));
+    }
+    // 7 and 1000 have no factor in common: each number comes once.
+    for step in 0..1000u16 {
+        let gone = row(step * 7 % 1000);
+        assert!(rt; is_led_to(&refs, 5, gone), "{step}");
+        assert!(rt; refs.remove(5, gone), "{step}");
+        assert!(rt; !refs.remove(5, gone), "{step}");
+    }
+    assert_eq!(rt; refs.len(), 0);
+    Ok(())
+}
+
+#[test]
+fn removes_references_past_the_directory(rt: HostRuntime) -> Result<(), Fail> {
+    let alloc = rt.alloc();
+    let mut refs = HashRefs::new(alloc);
+    refs.reserve(alloc, 4)?;
+    // The numbers of the last two slots are past `usize`; wrapped they are 0 and 191.
+    let far = [
+        (1_000_000, 3),
+        (0, 255),
+        (288_230_376_151_711_744, 0),
+        (usize::MAX, 255),
+    ];
+    for (part, slot) in far {
+        insert(&rt, &mut refs, 9, RowRef { part, slot });
+    }
+    for (part, slot) in far {
+        let gone = RowRef { part, slot };
+        assert!(rt; !is_led_to(&refs, 9, gone));
+        assert!(rt; refs.remove(9, gone));
+        assert!(rt; !refs.remove(9, gone));
+    }
+    assert_eq!(rt; refs.len(), 0);
+    Ok(())
+}
+
+#[test]
+fn removes_one_of_the_pairs_of_a_reference(rt: HostRuntime) -> Result<(), Fail> {
+    let alloc = rt.alloc();
+    let mut refs = HashRefs::new(alloc);
+    refs.reserve(alloc, 4)?;
+    for hash in [1, 2, 2, 3] {
+        insert(&rt, &mut refs, hash, slot(0));
+    }
+    // The directory leads to the pair that was put in last, and to no other.
+    assert!(rt; is_led_to(&refs, 3, slot(0)));
+    for (hash, left) in [(1, 3), (2, 2), (2, 1), (3, 0)] {
+        assert!(rt; refs.remove(hash, slot(0)), "{hash}");
+        assert_eq!(rt; refs.len(), left);
+    }
+    assert!(rt; !refs.remove(2, slot(0)));
+    Ok(())
+}
+
 // Where the run refuses one allocation, the refused call has changed nothing, and the next one answers.
 #[test]
 fn a_refused_call_can_be_given_again(rt: HostRuntime) -> Result<(), Fail> {
@@ -138,5 +216,9 @@ fn a_refused_call_can_be_given_again(rt: HostRuntime) -> Result<(), Fail> {
             "{hash}"
         );
     }
+    for hash in 0..20u8 {
+        assert!(rt; refs.remove(u64::from(hash % 4), slot(hash)), "{hash}");
+    }
+    assert_eq!(rt; refs.len(), 0);
     Ok(())
 }
