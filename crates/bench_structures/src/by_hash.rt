@@ -11,7 +11,7 @@ pub(crate) fn measure(rt: &HostRuntime, n: usize) -> anyhow::Result<()> {
     let sought = shuffled(alloc, n)?;
     let mut bag = HashRefs::new(alloc);
     let start = Instant::now(rt)?;
-    fill(&mut bag, n)?;
+    fill(alloc, &mut bag, n)?;
     print(
         rt,
         &Pass::new("HashRefs", "insert", n),
@@ -37,9 +37,9 @@ pub(crate) fn measure(rt: &HostRuntime, n: usize) -> anyhow::Result<()> {
     Ok(())
 }
 
-fn fill(bag: &mut HashRefs, n: usize) -> Result<(), AllocError> {
+fn fill(alloc: Global, bag: &mut HashRefs, n: usize) -> Result<(), AllocError> {
     for number in 0..n {
-        bag.reserve(1)?;
+        bag.reserve(alloc, 1)?;
         bag.insert(key_of(number), reference_of(number));
     }
     Ok(())
@@ -50,7 +50,7 @@ fn ask(alloc: Global, bag: &HashRefs, sought: &[Entry]) -> Result<usize, AllocEr
     let mut sum = 0usize;
     for entry in sought {
         found.clear();
-        bag.matches(entry.key, &mut found)?;
+        bag.matches(alloc, entry.key, &mut found)?;
         if let Some(reference) = found.first() {
             sum = sum.wrapping_add(reference.part);
         }

@@ -1,10 +1,9 @@
 -- The walk along a chain that looks for a pair.
-use Rattle.std.proofs.lemmas.Bool.{and_parts, and_from, eqb-true, eq-eqb, false≢true}
-use Rattle.std.proofs.Common.{◌≡◌, ◌≢◌, ℕ, Bool, true, false, eqb, ◌&&◌, ◌<◌, inl, inr, List, length, refl, sym, ap, ◌∙◌, subst, arith}
+use Rattle.std.proofs.Common.{◌≡◌, ◌≢◌, ℕ, ◌<◌, inl, inr, List, length, refl, sym, ap, ◌∙◌, subst, arith}
 use Rattle.mm_value.specs.declared.row_ref.RowRef.{RowRef}
 use Rattle.mlhash.specs.declared.node.Node.{Node}
 use Rattle.mlhash.specs.declared.node.TheConstants.{NIL}
-use Rattle.mlhash.specs.Pairs.{node_at, row_of, pair_of}
+use Rattle.mlhash.specs.Pairs.{node_at, pair_of}
 use Rattle.mlhash.specs.Chain.{Among, chain, IsLinked, Finds}
 use Rattle.mlhash.proofs.ChainLemmas.{chain_end, chain_step}
 
@@ -47,23 +46,3 @@ Finds-none ns head hash reference at end s =
       found = λ on. absurd (on refl);
       none = λ _ i a e. subst (λ is. Among i is) (ap (chain ns) end ∙ chain_end ns s.linked.few) (s.passed i a e);
     }
-
--- what the comparison of a node's hash and reference says of its pair
-pub same_pair : (n : Node) (hash : ℕ) (r s : RowRef) (b : Bool) → n.hash ≡ hash → s ≡ row_of n → b ≡ (eqb s.part r.part && eqb s.slot r.slot) → b ≡ true → pair_of n ≡ (hash, r)
-same_pair n hash r s b same is test holds =
-    let both = and_parts _ _ (sym test ∙ holds) in
-    let part : n.part ≡ r.part = sym (ap (λ (x : RowRef). x.part) is) ∙ eqb-true _ _ both.0 in
-    let slot : n.slot ≡ r.slot = sym (ap (λ (x : RowRef). x.slot) is) ∙ eqb-true _ _ both.1 in
-    let p1 : pair_of n ≡ (hash, row_of n) = ap (λ (h : ℕ). let p : ℕ × RowRef = (h, row_of n) in p) same in
-    let p2 : row_of n ≡ record { part = r.part; slot = n.slot } = ap (λ (x : ℕ). let q : RowRef = record { part = x; slot = n.slot } in q) part in
-    let p3 : record { part = r.part; slot = n.slot } ≡ r = ap (λ (x : ℕ). let q : RowRef = record { part = r.part; slot = x } in q) slot in
-    p1 ∙ ap (λ (x : RowRef). let p : ℕ × RowRef = (hash, x) in p) (p2 ∙ p3)
-
-pub other_pair : (n : Node) (hash : ℕ) (r s : RowRef) (b : Bool) → s ≡ row_of n → b ≡ (eqb s.part r.part && eqb s.slot r.slot) → b ≡ false → pair_of n ≡ (hash, r) → ⊥
-other_pair n hash r s b is test fails e =
-    let part : s.part ≡ r.part = ap (λ (x : RowRef). x.part) is ∙ ap (λ (p : ℕ × RowRef). p.1.part) e in
-    let slot : s.slot ≡ r.slot = ap (λ (x : RowRef). x.slot) is ∙ ap (λ (p : ℕ × RowRef). p.1.slot) e in
-    false≢true (sym fails ∙ test ∙ and_from _ _ (eq-eqb _ _ part) (eq-eqb _ _ slot))
-
-pub other_hash : (n : Node) (hash : ℕ) (r : RowRef) → (n.hash ≡ hash → ⊥) → pair_of n ≡ (hash, r) → ⊥
-other_hash n hash r other e = other (ap (λ (p : ℕ × RowRef). p.0) e)

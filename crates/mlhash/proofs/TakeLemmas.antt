@@ -13,7 +13,7 @@ use Rattle.mlhash.specs.declared.node.TheConstants.{NIL}
 use Rattle.mlhash.specs.declared.place.Place.{Place}
 use Rattle.mlhash.specs.Address.{bucket_of}
 use Rattle.mlhash.specs.Pairs.{blank, node_at, pair_of}
-use Rattle.mlhash.specs.Chain.{Among, chain, IsLinked, Finds}
+use Rattle.mlhash.specs.Chain.{Among, chain, IsLinked, HasAll, Finds}
 use Rattle.mlhash.specs.Table.{entries, IsBucket, IsTable}
 use Rattle.mlhash.proofs.BagLemmas.{is_live, entries-set_out, not_held}
 use Rattle.mlhash.proofs.ChainLemmas.{chain_end, below_linked, IsStep, chain_step, Keeps, keeps_frame, keeps_set, Fronts, fronts_set}
@@ -192,6 +192,11 @@ module _ (heads : List ℕ) (ns : List Node) (len : ℕ) (p : Place) (free b hea
 pub bucket_at : (heads : List ℕ) (ns : List Node) (len : ℕ) (p : Place) (free hash b head : ℕ) → b ≡ bucket_of p hash → head ≡ get_or heads b 0 → IsTable heads ns len p free → IsBucket ns p head b
 bucket_at heads ns len p free hash b head b_is head_is t =
     subst (λ h. IsBucket ns p h b) (sym head_is) (t.buckets b (omega (arith, b_is, bucket_in heads ns len p free t hash)))
+
+-- it has all entries of this hash
+pub bucket_has_all : (heads : List ℕ) (ns : List Node) (len : ℕ) (p : Place) (free hash b head : ℕ) → b ≡ bucket_of p hash → head ≡ get_or heads b 0 → IsTable heads ns len p free → HasAll ns head hash
+bucket_has_all heads ns len p free hash b head b_is head_is t i below live same =
+    (bucket_at heads ns len p free hash b head b_is head_is t).every i below live (ap (bucket_of p) same ∙ sym b_is)
 
 -- a pair that its bucket's chain doesn't have is not held
 pub not_found : (heads : List ℕ) (ns : List Node) (len : ℕ) (p : Place) (free hash b head : ℕ) (r : RowRef) (at : ℕ) → b ≡ bucket_of p hash → head ≡ get_or heads b 0 → IsTable heads ns len p free → Finds ns head hash r at → at ≡ NIL → Contains (entries ns) (hash, r) → ⊥

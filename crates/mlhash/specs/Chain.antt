@@ -29,6 +29,10 @@ pub record IsLinked (ns : List Node) (head : ℕ) : Type 0 where
   pub few : length ns ≤ NIL
   pub links : IsChain ns head (chain ns head)
 
+-- each node with an entry of this hash is on the chain
+abbrev pub HasAll : List Node → ℕ → ℕ → Type 0
+HasAll ns head hash = (i : ℕ) → i < length ns → (node_at ns i).live ≡ true → (node_at ns i).hash ≡ hash → Among i (chain ns head)
+
 -- no node is of both
 abbrev pub AreApart : List ℕ → List ℕ → Type 0
 AreApart is js = (i : ℕ) → Among i is → Among i js → ⊥

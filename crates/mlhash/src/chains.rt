@@ -1,6 +1,6 @@
 //! Chains: walks along the links of the nodes.
 ghost use Rattle.std.specs.Prelude.{◌≡◌, ◌≢◌, ℕ, ◌++◌, OnOk, OnErr};
-ghost use Rattle.mlhash.specs.Chain.{IsLinked, Finds, refs_along, Deals, chain, AreApart};
+ghost use Rattle.mlhash.specs.Chain.{IsLinked, HasAll, Finds, refs_along, Deals, chain, AreApart};
 
 use crate::node::{NIL, Node};
 use mm_value::RowRef;
@@ -14,12 +14,34 @@ pub(crate) fn find(nodes: &[Node], head: u32, hash: u64, reference: RowRef) -> u
     let mut at = head;
     while at != NIL {
         let node = &nodes[at as usize];
-        if node.hash == hash && node.row() == reference {
+        if node.has(hash, reference) {
             return at;
         }
         at = node.next;
     }
     NIL
+}
+
+/// The same of a chain that has all entries of this hash. It looks at the node of the hint first, and
+/// walks the chain only where that has another entry or none.
+pub(crate) fn find_by_hint(
+    nodes: &[Node],
+    head: u32,
+    hint: u32,
+    hash: u64,
+    reference: RowRef,
+) -> u32
+    requires linked { IsLinked nodes.now head }
+    requires all { HasAll nodes.now head hash }
+    ensures found { Finds nodes.now head hash reference result }
+{
+    if (hint as usize) < nodes.len() {
+        let node = &nodes[hint as usize];
+        if node.live && node.has(hash, reference) {
+            return hint;
+        }
+    }
+    find(nodes, head, hash, reference)
 }
 
 /// Appends the references of this hash along the chain.

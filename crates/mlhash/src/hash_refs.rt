@@ -7,7 +7,8 @@ ghost use Rattle.mlhash.specs.Table.{Stocks};
 #[cfg(test)]
 mod tests;
 
-use crate::chains::{collect, deal, find};
+use crate::chains::{collect, deal, find_by_hint};
+use crate::directory::Directory;
 use crate::heads::Heads;
 use crate::node::{NIL, Node};
 use crate::place::{Place, bucket_of, place_after, place_before};
@@ -25,10 +26,14 @@ const MAX_NODES: usize = NIL as usize;
 /// chain; an insert splits at most one bucket, where there are more than two entries a bucket, a remove
 /// merges at most one, where there is less than half an entry a bucket. Nodes of removed entries stay
 /// in the table's own pool. A table holds at most 2^32 - 1 entries.
+///
+/// A chain gets as long as there are entries of one hash. A remove need not walk it: a directory tells
+/// by the slot of a reference which node last took an entry of it.
 #[derive(Drop)]
 pub struct HashRefs {
     heads: Heads,
     nodes: Vec<Node>,
+    directory: Directory,
     len: usize,
     place: Place,
     free: u32,
@@ -79,6 +84,7 @@ impl HashRefs {
         HashRefs {
             heads: Heads::new(alloc),
             nodes: Vec::new(alloc),
+            directory: Directory::new(alloc),
             len: 0,
             place: Place { level: 0, split: 0 },
             free: NIL,
@@ -100,11 +106,12 @@ impl HashRefs {
     }
 
     /// Makes room for `n` more pairs, and looks for the bucket heads that inserts into all the room may
-    /// split into.
+    /// split into, and for as many places of the directory as pairs fit into the room.
     ///
     /// It is refused where there is no memory for that many nodes, or where there would be more than
-    /// 2^32 - 1 of them. Bucket heads that it can't get are no refusal: inserts then skip splits.
-    pub fn reserve(&mut self, n: usize) -> Result<(), AllocError>
+    /// 2^32 - 1 of them. Bucket heads that it can't get are no refusal: inserts then skip splits. Nor
+    /// are places of the directory: removes then walk chains.
+    pub fn reserve(&mut self, _alloc: Global, n: usize) -> Result<(), AllocError>
         ensures ok { OnOk result (n ≤ self.new.spare) }
         ensures met { n ≤ self.old.spare → IsOk result }
         ensures entries { self.new.entries ≡ self.old.entries }
@@ -118,6 +125,7 @@ impl HashRefs {
             .reserve(entries.saturating_sub(self.nodes.len()))?;
         let room = self.nodes.capacity().min(MAX_NODES);
         self.heads.reserve(room.div_ceil(2));
+        self.directory.reserve(room);
         Ok(())
     }
 
@@ -132,6 +140,10 @@ impl HashRefs {
     }
 
     /// Takes one such pair out. False where it holds none, and then all is as before.
+    ///
+    /// It takes the same time however many pairs have this hash, where the reference's slot is among
+    /// as many first ones as there was room for pairs at the last `reserve`, and where of the pairs of
+    /// this reference this one was put in last. Else it walks the chain of the hash.
     pub fn remove(&mut self, hash: u64, reference: RowRef) -> bool
         ensures found { IsTrue result ↔ Contains self.old.entries (hash, reference) }
         ensures entries { OnTrue result (IsPermutation self.old.entries ((hash, reference) ∷ self.new.entries)) }
@@ -147,7 +159,12 @@ impl HashRefs {
 
     /// Appends the references of a hash, each as often as held, in no promised order. After an error
     /// the vector is as before.
-    pub fn matches(&self, hash: u64, out: &mut Vec<RowRef>) -> Result<(), AllocError>
+    pub fn matches(
+        &self,
+        _alloc: Global,
+        hash: u64,
+        out: &mut Vec<RowRef>,
+    ) -> Result<(), AllocError>
         ensures ok { OnOk result (AppendsInSomeOrder out.old.items out.new.items (refs_of hash self.now.entries)) }
         ensures err { OnErr result (out.new.items ≡ out.old.items) }
     {
@@ -157,7 +174,7 @@ impl HashRefs {
 
     /// Appends all references, each as often as held, in no promised order. After an error the vector
     /// is as before. It is one pass over the table's nodes in memory, free ones too.
-    pub fn copy_all(&self, out: &mut Vec<RowRef>) -> Result<(), AllocError>
+    pub fn copy_all(&self, _alloc: Global, out: &mut Vec<RowRef>) -> Result<(), AllocError>
         ensures ok { OnOk result (AppendsInSomeOrder out.old.items out.new.items (all_refs self.now.entries)) }
         ensures err { OnErr result (out.new.items ≡ out.old.items) }
     {
@@ -188,6 +205,7 @@ impl HashRefs {
             live: true,
         };
         self.heads.set(bucket, at);
+        self.directory.note(reference, at);
         self.len += 1;
     }
 
@@ -201,7 +219,8 @@ impl HashRefs {
     {
         let bucket = bucket_of(self.place, hash);
         let head = self.heads.get(bucket);
-        let at = find(&self.nodes, head, hash, reference);
+        let hint = self.directory.hint(reference);
+        let at = find_by_hint(&self.nodes, head, hint, hash, reference);
         if at == NIL {
             return false;
         }
@@ -222,6 +241,7 @@ impl HashRefs {
             live: false,
         };
         self.heads.set(bucket, first.next);
+        self.directory.note(first.row(), at);
         self.free = head;
         self.len -= 1;
         true

@@ -1,5 +1,5 @@
 -- What the slots of the partitions hold, reference by reference.
-use Rattle.std.specs.Prelude.{◌≡◌, ◌≢◌, ℕ, ◌+◌, ◌*◌, List, slice_index_or, nat_lt, if◌then◌else◌}
+use Rattle.std.specs.Prelude.{◌≡◌, ◌≢◌, ℕ, ◌+◌, ◌*◌, List, length, slice_index_or, nat_lt, if◌then◌else◌}
 use Rattle.mm_value.specs.declared.row_ref.RowRef.{RowRef}
 use Rattle.mm_value.specs.declared.values.Value.{Value}
 
@@ -14,9 +14,17 @@ pub record Places : Type 0 where
   pub slots : List Content
   pub room : ℕ
 
+-- where the slot of a reference lies among all slots
+abbrev pub slot_index_of : RowRef → ℕ
+slot_index_of at = 64 * at.part + at.slot
+
+-- how many slots have been in use so far, each now with a row or free
+abbrev pub extent_of : Places → ℕ
+extent_of places = length places.slots
+
 -- what stands where a reference points: nothing where no partition has such a slot
 abbrev pub slot_at : Places → RowRef → Content
-slot_at places at = (if nat_lt at.slot 64 then slice_index_or places.slots (64 * at.part + at.slot) Free else Free)
+slot_at places at = (if nat_lt at.slot 64 then slice_index_or places.slots (slot_index_of at) Free else Free)
 
 -- the reference gives a row
 abbrev pub IsLive : Places → RowRef → Type 0

@@ -1,7 +1,7 @@
 //! Rows by reference.
-ghost use Rattle.std.specs.Prelude.{◌≡◌, ◌+◌, ◌<◌, ◌≤◌, List, OnOk};
+ghost use Rattle.std.specs.Prelude.{◌≡◌, ◌+◌, ◌<◌, ◌≤◌, max, List, OnOk};
 ghost use Rattle.mm_value.specs.declared.values.Value.{Value};
-ghost use Rattle.mm_partition.specs.Places.{Free, Live, Hidden, slot_at, IsLive, IsHidden, IsUnchanged, ChangesOnly};
+ghost use Rattle.mm_partition.specs.Places.{Free, Live, Hidden, slot_index_of, extent_of, slot_at, IsLive, IsHidden, IsUnchanged, ChangesOnly};
 
 use crate::slots::{SLOTS, Slot, index_of, reference_to};
 use mm_value::{Row, RowRef};
@@ -13,6 +13,11 @@ use std::mem;
 /// SIGMOD 1986). A row is found by its reference, which stays the same while the row lives. No
 /// call but `reserve` takes memory, and each of the others takes the same time however many rows
 /// there are: the freed slots are a linked list, and the last one freed is the first given out.
+///
+/// The slot of a reference has an index, `64 * part + slot`. The *extent* is how many slots have been
+/// in use so far: the index of each reference that was given out is below it. A caller that keeps a
+/// vector beside the rows, an entry for each slot, needs one of that length. Only `place` makes the
+/// extent greater, by at most 1, and nothing makes it less.
 ///
 /// The links stand in the freed slots themselves, so that `release` needs no room for one: a stack
 /// of indices beside the slots would have to grow with them, for the case that all are freed. Room
@@ -44,10 +49,11 @@ impl Model for Partitions {
 }
 
 impl Partitions {
-    /// No rows. It takes no memory.
+    /// No rows, and an extent of 0. It takes no memory.
     pub fn new(alloc: Global) -> Self
         ensures empty { (at : RowRef) → slot_at result at ≡ Free }
         ensures room { result.room ≡ 0 }
+        ensures extent { extent_of result ≡ 0 }
     {
         Partitions {
             slots: Vec::new(alloc),
@@ -68,11 +74,12 @@ impl Partitions {
     }
 
     /// Makes room for at least `n` rows more, in whole partitions. Every row stays as it is, and so
-    /// does the room that was there; `AllocError` where memory is refused.
+    /// does the room that was there; `AllocError` where memory is refused. The extent stays.
     pub fn reserve(&mut self, _alloc: Global, n: usize) -> Result<(), AllocError>
         ensures ok { OnOk result (n ≤ self.new.room) }
         ensures rows { IsUnchanged self.old self.new }
         ensures room { self.old.room ≤ self.new.room }
+        ensures extent { extent_of self.new ≡ extent_of self.old }
     {
         let spare = self.slots.capacity() - self.slots.len();
         let room = self.free_count + spare;
@@ -84,13 +91,16 @@ impl Partitions {
         self.slots.reserve(spare.saturating_add(more))
     }
 
-    /// Puts a row into a free slot and gives its reference, whose slot is below 64.
+    /// Puts a row into a free slot and gives its reference, whose slot is below 64. The index of that
+    /// slot is at most the extent that there was, and the extent grows to have it within.
     pub fn place(&mut self, row: Row) -> RowRef
         requires { 1 ≤ self.old.room }
         ensures fresh { slot_at self.old result ≡ Free }
         ensures placed { ChangesOnly self.old self.new result (Live row) }
         ensures slot { result.slot < 64 }
         ensures room { self.new.room + 1 ≡ self.old.room }
+        ensures within { slot_index_of result ≤ extent_of self.old }
+        ensures extent { extent_of self.new ≡ max (extent_of self.old) (slot_index_of result + 1) }
     {
         let Some(index) = self.first_free else {
             let index = self.slots.len();
@@ -111,6 +121,7 @@ impl Partitions {
         ensures was { slot_at self.old at ≡ Live result }
         ensures replaced { ChangesOnly self.old self.new at (Live row) }
         ensures room { self.new.room ≡ self.old.room }
+        ensures extent { extent_of self.new ≡ extent_of self.old }
     {
         match mem::replace(&mut self.slots[index_of(at)], Slot::Live(row)) {
             Slot::Live(old) => old,
@@ -124,6 +135,7 @@ impl Partitions {
         ensures hidden { (row : List Value) → slot_at self.old at ≡ Live row
             → ChangesOnly self.old self.new at (Hidden row) }
         ensures room { self.new.room ≡ self.old.room }
+        ensures extent { extent_of self.new ≡ extent_of self.old }
     {
         let slot = &mut self.slots[index_of(at)];
         let Slot::Live(row) = mem::replace(slot, Slot::Free(None)) else {
@@ -138,6 +150,7 @@ impl Partitions {
         ensures back { (row : List Value) → slot_at self.old at ≡ Hidden row
             → ChangesOnly self.old self.new at (Live row) }
         ensures room { self.new.room ≡ self.old.room }
+        ensures extent { extent_of self.new ≡ extent_of self.old }
     {
         let slot = &mut self.slots[index_of(at)];
         let Slot::Hidden(row) = mem::replace(slot, Slot::Free(None)) else {
@@ -152,6 +165,7 @@ impl Partitions {
         ensures was { slot_at self.old at ≡ Hidden result }
         ensures freed { ChangesOnly self.old self.new at Free }
         ensures room { self.new.room ≡ self.old.room + 1 }
+        ensures extent { extent_of self.new ≡ extent_of self.old }
     {
         let freed = Slot::Free(self.first_free);
         let index = index_of(at);

@@ -13,6 +13,22 @@ fn slot(slot: u8) -> RowRef {
     RowRef { part: 0, slot }
 }
 
+/// The reference of the row that was placed after so many others.
+fn row(number: u16) -> RowRef {
+    RowRef {
+        part: usize::from(number / 64),
+        slot: (number % 64) as u8,
+    }
+}
+
+/// Whether the directory leads to a node with this pair.
+fn is_led_to(refs: &HashRefs, hash: u64, reference: RowRef) -> bool {
+    let hint = refs.directory.hint(reference);
+    refs.nodes
+        .get(hint as usize)
+        .is_some_and(|node| node.live && node.has(hash, reference))
+}
+
 /// Whether the pair stands in this bucket.
 fn stands_in(refs: &HashRefs, bucket: usize, hash: u64, reference: RowRef) -> bool {
     bucket < refs.heads.len() && find(&refs.nodes, refs.heads.get(bucket), hash, reference) != NIL
@@ -26,27 +42,28 @@ fn insert(rt: &impl Abort, refs: &mut HashRefs, hash: u64, reference: RowRef) {
 
 #[test]
 fn finds_and_removes(rt: HostRuntime) -> Result<(), Fail> {
-    let mut refs = HashRefs::new(rt.alloc());
+    let alloc = rt.alloc();
+    let mut refs = HashRefs::new(alloc);
     assert_eq!(rt; (refs.len(), refs.spare()), (0, 0));
-    refs.reserve(3)?;
+    refs.reserve(alloc, 3)?;
     insert(&rt, &mut refs, 4, slot(1));
     insert(&rt, &mut refs, 4, slot(2));
     insert(&rt, &mut refs, 8, slot(3));
     assert_eq!(rt; refs.len(), 3);
 
-    let mut found = Vec::new(rt.alloc());
-    refs.matches(4, &mut found)?;
+    let mut found = Vec::new(alloc);
+    refs.matches(alloc, 4, &mut found)?;
     assert_eq!(rt; found.len(), 2);
     assert!(rt; found.contains(&slot(1)) && found.contains(&slot(2)));
 
     assert!(rt; refs.remove(4, slot(1)));
     assert!(rt; !refs.remove(4, slot(1)));
     found.clear();
-    refs.matches(4, &mut found)?;
+    refs.matches(alloc, 4, &mut found)?;
     assert_eq!(rt; found.as_slice(), [slot(2)].as_slice());
 
     found.clear();
-    refs.copy_all(&mut found)?;
+    refs.copy_all(alloc, &mut found)?;
     assert_eq!(rt; found.len(), 2);
     assert!(rt; found.contains(&slot(2)) && found.contains(&slot(3)));
     Ok(())
@@ -54,8 +71,9 @@ fn finds_and_removes(rt: HostRuntime) -> Result<(), Fail> {
 
 #[test]
 fn splits_and_merges_one_bucket_at_a_time(rt: HostRuntime) -> Result<(), Fail> {
-    let mut refs = HashRefs::new(rt.alloc());
-    refs.reserve(9)?;
+    let alloc = rt.alloc();
+    let mut refs = HashRefs::new(alloc);
+    refs.reserve(alloc, 9)?;
     for hash in 0..9u8 {
         assert_eq!(rt; refs.heads.len(), 4, "before {hash}");
         insert(&rt, &mut refs, u64::from(hash), slot(hash));
@@ -78,8 +96,9 @@ fn splits_and_merges_one_bucket_at_a_time(rt: HostRuntime) -> Result<(), Fail> {
 
 #[test]
 fn keeps_two_entries_a_bucket_over_many_levels(rt: HostRuntime) -> Result<(), Fail> {
-    let mut refs = HashRefs::new(rt.alloc());
-    refs.reserve(1000)?;
+    let alloc = rt.alloc();
+    let mut refs = HashRefs::new(alloc);
+    refs.reserve(alloc, 1000)?;
     for i in 0..1000u64 {
         insert(
             &rt,
@@ -102,29 +121,92 @@ fn keeps_two_entries_a_bucket_over_many_levels(rt: HostRuntime) -> Result<(), Fa
     Ok(())
 }
 
+#[test]
+fn is_led_to_each_pair_of_one_hash(rt: HostRuntime) -> Result<(), Fail> {
+    let alloc = rt.alloc();
+    let mut refs = HashRefs::new(alloc);
+    for number in 0..1000u16 {
+        refs.reserve(alloc, 1)?;
+        insert(&rt, &mut refs, 5, row(number));
+    }
+    // 7 and 1000 have no factor in common: each number comes once.
+    for step in 0..1000u16 {
+        let gone = row(step * 7 % 1000);
+        assert!(rt; is_led_to(&refs, 5, gone), "{step}");
+        assert!(rt; refs.remove(5, gone), "{step}");
+        assert!(rt; !refs.remove(5, gone), "{step}");
+    }
+    assert_eq!(rt; refs.len(), 0);
+    Ok(())
+}
+
+#[test]
+fn removes_references_past_the_directory(rt: HostRuntime) -> Result<(), Fail> {
+    let alloc = rt.alloc();
+    let mut refs = HashRefs::new(alloc);
+    refs.reserve(alloc, 4)?;
+    // The numbers of the last two slots are past `usize`; wrapped they are 0 and 191.
+    let far = [
+        (1_000_000, 3),
+        (0, 255),
+        (288_230_376_151_711_744, 0),
+        (usize::MAX, 255),
+    ];
+    for (part, slot) in far {
+        insert(&rt, &mut refs, 9, RowRef { part, slot });
+    }
+    for (part, slot) in far {
+        let gone = RowRef { part, slot };
+        assert!(rt; !is_led_to(&refs, 9, gone));
+        assert!(rt; refs.remove(9, gone));
+        assert!(rt; !refs.remove(9, gone));
+    }
+    assert_eq!(rt; refs.len(), 0);
+    Ok(())
+}
+
+#[test]
+fn removes_one_of_the_pairs_of_a_reference(rt: HostRuntime) -> Result<(), Fail> {
+    let alloc = rt.alloc();
+    let mut refs = HashRefs::new(alloc);
+    refs.reserve(alloc, 4)?;
+    for hash in [1, 2, 2, 3] {
+        insert(&rt, &mut refs, hash, slot(0));
+    }
+    // The directory leads to the pair that was put in last, and to no other.
+    assert!(rt; is_led_to(&refs, 3, slot(0)));
+    for (hash, left) in [(1, 3), (2, 2), (2, 1), (3, 0)] {
+        assert!(rt; refs.remove(hash, slot(0)), "{hash}");
+        assert_eq!(rt; refs.len(), left);
+    }
+    assert!(rt; !refs.remove(2, slot(0)));
+    Ok(())
+}
+
 // Where the run refuses one allocation, the refused call has changed nothing, and the next one answers.
 #[test]
 fn a_refused_call_can_be_given_again(rt: HostRuntime) -> Result<(), Fail> {
-    let mut refs = HashRefs::new(rt.alloc());
+    let alloc = rt.alloc();
+    let mut refs = HashRefs::new(alloc);
     for hash in 0..20u8 {
-        if refs.reserve(1).is_err() {
+        if refs.reserve(alloc, 1).is_err() {
             assert_eq!(rt; (refs.len(), refs.spare()), (usize::from(hash), 0));
-            refs.reserve(1)?;
+            refs.reserve(alloc, 1)?;
         }
         insert(&rt, &mut refs, u64::from(hash % 4), slot(hash));
     }
-    let mut found = Vec::new(rt.alloc());
+    let mut found = Vec::new(alloc);
     for hash in 0..4u8 {
         let before = found.len();
-        if refs.matches(u64::from(hash), &mut found).is_err() {
+        if refs.matches(alloc, u64::from(hash), &mut found).is_err() {
             assert_eq!(rt; found.len(), before);
-            refs.matches(u64::from(hash), &mut found)?;
+            refs.matches(alloc, u64::from(hash), &mut found)?;
         }
         assert_eq!(rt; found.len(), usize::from(hash) * 5 + 5);
     }
-    if refs.copy_all(&mut found).is_err() {
+    if refs.copy_all(alloc, &mut found).is_err() {
         assert_eq!(rt; found.len(), 20);
-        refs.copy_all(&mut found)?;
+        refs.copy_all(alloc, &mut found)?;
     }
     assert_eq!(rt; found.len(), 40);
     for hash in 0..20u8 {
@@ -134,5 +216,9 @@ fn a_refused_call_can_be_given_again(rt: HostRuntime) -> Result<(), Fail> {
             "{hash}"
         );
     }
+    for hash in 0..20u8 {
+        assert!(rt; refs.remove(u64::from(hash % 4), slot(hash)), "{hash}");
+    }
+    assert_eq!(rt; refs.len(), 0);
     Ok(())
 }
