@@ -1,5 +1,5 @@
 //! What every ordered list of references offers.
-ghost use Rattle.std.specs.Prelude.{◌≡◌, ◌≢◌, ℕ, ◌+◌, ◌≤◌, ◌↔◌, List, ◌++◌, length, All, Contains, IsTrue, OnOk, OnErr};
+ghost use Rattle.std.specs.Prelude.{◌≡◌, ◌≢◌, ℕ, ◌+◌, ◌≤◌, ◌↔◌, List, ◌++◌, length, All, Contains, IsTrue, IsOk, OnOk, OnErr};
 ghost use Rattle.std.specs.Bool.{OnTrue, OnFalse};
 ghost use Rattle.std.specs.declared.cmp.Ordering.TheVariants.{Equal};
 ghost use Rattle.mm_value.specs.declared.row_ref.RowRef.{RowRef};
@@ -28,9 +28,11 @@ pub trait OrderedRefs {
         ensures { result ≡ spare self.now };
 
     /// Makes room for at least `n` more references. The list stays, and so does the room that was
-    /// there; `AllocError` where memory is refused.
+    /// there. Where that is room enough it takes no memory and succeeds; `AllocError` where memory
+    /// is refused.
     fn reserve(&mut self, alloc: Global, n: usize) -> Result<(), AllocError>
         ensures room { OnOk result (n ≤ spare self.new) }
+        ensures met { n ≤ spare self.old → IsOk result }
         ensures refs { refs self.new ≡ refs self.old }
         ensures spare { spare self.old ≤ spare self.new };
 

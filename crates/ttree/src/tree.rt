@@ -116,11 +116,14 @@ impl OrderedRefs for TTree {
     }
 
     #[tactic(auto, using(crate::proofs::Sizes::nodes_at_most))]
-    fn reserve(&mut self, _alloc: Global, n: usize) -> Result<(), AllocError> {
+    fn reserve(&mut self, alloc: Global, n: usize) -> Result<(), AllocError> {
+        if n <= self.spare() {
+            return Ok(());
+        }
         if self.len.saturating_add(n) > MAX_NODES {
             return Err(AllocError);
         }
-        self.spares.reserve(n)
+        self.spares.reserve(alloc, n)
     }
 
     #[tactic(auto, using(crate::proofs::Sizes::height_at_most_nodes, crate::proofs::Sizes::entries_at_most))]

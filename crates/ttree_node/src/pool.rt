@@ -10,7 +10,6 @@ use std::marker::Model;
 /// Seen as how many there are.
 pub struct Spares {
     chain: Option<Subtree>,
-    alloc: Global,
 }
 
 impl Model for Spares {
@@ -29,16 +28,16 @@ impl Drop for Spares {
     /// Frees node by node, since the chain may be long.
     fn drop(mut self) {
         self.trim(0);
-        let Spares { chain: _, alloc: _ } = self;
+        let Spares { chain: _ } = self;
     }
 }
 
 impl Spares {
-    /// An empty pool.
-    pub fn new(alloc: Global) -> Spares
+    /// An empty pool. It takes no memory.
+    pub fn new(_alloc: Global) -> Spares
         ensures { result ≡ 0 }
     {
-        Spares { chain: None, alloc }
+        Spares { chain: None }
     }
 
     /// The number of free nodes.
@@ -53,14 +52,14 @@ impl Spares {
 
     /// Allocates nodes until there are at least `n`. Where memory is refused before, it answers
     /// `AllocError`, and there may be more than before, but fewer than `n`.
-    pub fn reserve(&mut self, n: usize) -> Result<(), AllocError>
+    pub fn reserve(&mut self, alloc: Global, n: usize) -> Result<(), AllocError>
         ensures ok { OnOk result (self.new ≡ max self.old n) }
         ensures err { OnErr result (self.new < n) }
         ensures not_fewer { self.old ≤ self.new }
         ensures not_more { self.new ≤ max self.old n }
     {
         for _ in self.len()..n {
-            let node = Subtree::blank(self.alloc)?;
+            let node = Subtree::blank(alloc)?;
             self.put(node);
         }
         Ok(())

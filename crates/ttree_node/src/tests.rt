@@ -3,7 +3,7 @@ ghost use Rattle.std.specs.Prelude.{◌≡◌, max, OnOk};
 
 use crate::{Side, Spares, Subtree};
 use mm_value::RowRef;
-use std::alloc::AllocError;
+use std::alloc::{AllocError, Global};
 use std::process::Abort;
 use std::test::Fail;
 
@@ -12,14 +12,19 @@ fn entry(part: usize) -> RowRef {
 }
 
 /// A pool of at least `n` nodes. A refused reservation leaves no fewer than before.
-fn reserve(rt: &impl Abort, spares: &mut Spares, n: usize) -> Result<(), AllocError>
+fn reserve(
+    rt: &impl Abort,
+    alloc: Global,
+    spares: &mut Spares,
+    n: usize,
+) -> Result<(), AllocError>
     ensures { OnOk result (spares.new ≡ max spares.old n) }
 {
     let before = spares.len();
-    if spares.reserve(n).is_err() {
+    if spares.reserve(alloc, n).is_err() {
         assert!(rt; spares.len() >= before);
         assert!(rt; spares.len() < n);
-        spares.reserve(n)?;
+        spares.reserve(alloc, n)?;
     }
     Ok(())
 }
@@ -50,8 +55,9 @@ fn write_parts(tree: Option<&Subtree>, parts: &mut Vec<usize>) -> Result<(), All
 
 #[test]
 fn rotations_keep_the_order(rt: HostRuntime) -> Result<(), Fail> {
-    let mut spares = Spares::new(rt.alloc());
-    reserve(&rt, &mut spares, 4)?;
+    let alloc = rt.alloc();
+    let mut spares = Spares::new(alloc);
+    reserve(&rt, alloc, &mut spares, 4)?;
     let mut first = Subtree::leaf(&mut spares, entry(1));
     let mut second = Subtree::leaf(&mut spares, entry(3));
     second.set_left(Some(Subtree::leaf(&mut spares, entry(2))));
@@ -60,7 +66,7 @@ fn rotations_keep_the_order(rt: HostRuntime) -> Result<(), Fail> {
     assert_eq!(rt; first.height(), 3);
     let turned = first.rotate_left();
     assert_eq!(rt; turned.entries()[0].part, 3);
-    let mut parts = Vec::new(rt.alloc());
+    let mut parts = Vec::new(alloc);
     write_parts(Some(&turned), &mut parts)?;
     assert_eq!(rt; parts.as_slice(), [1, 2, 3, 4].as_slice());
     let back = turned.rotate_right();
@@ -76,8 +82,9 @@ fn rotations_keep_the_order(rt: HostRuntime) -> Result<(), Fail> {
 #[test]
 fn entries_move_to_a_leaf(rt: HostRuntime) -> Result<(), Fail> {
     for side in [Side::Left, Side::Right] {
-        let mut spares = Spares::new(rt.alloc());
-        reserve(&rt, &mut spares, 2)?;
+        let alloc = rt.alloc();
+        let mut spares = Spares::new(alloc);
+        reserve(&rt, alloc, &mut spares, 2)?;
         let leaf = Subtree::leaf(&mut spares, entry(100));
         let mut node = Subtree::leaf(&mut spares, entry(15));
         fill(&rt, &mut node);
@@ -87,7 +94,7 @@ fn entries_move_to_a_leaf(rt: HostRuntime) -> Result<(), Fail> {
         }
         node.slide(side);
         assert_eq!(rt; node.entries().len(), 3);
-        let mut parts = Vec::new(rt.alloc());
+        let mut parts = Vec::new(alloc);
         match side {
             Side::Left => write_parts(node.left(), &mut parts)?,
             Side::Right => write_parts(node.right(), &mut parts)?,
@@ -103,13 +110,14 @@ fn entries_move_to_a_leaf(rt: HostRuntime) -> Result<(), Fail> {
 
 #[test]
 fn entries_shift(rt: HostRuntime) -> Result<(), Fail> {
-    let mut spares = Spares::new(rt.alloc());
-    reserve(&rt, &mut spares, 1)?;
+    let alloc = rt.alloc();
+    let mut spares = Spares::new(alloc);
+    reserve(&rt, alloc, &mut spares, 1)?;
     let mut node = Subtree::leaf(&mut spares, entry(2));
     node.put_entry(0, entry(1));
     node.put_entry(2, entry(3));
     assert_eq!(rt; node.take_entry(1).part, 2);
-    let mut parts = Vec::new(rt.alloc());
+    let mut parts = Vec::new(alloc);
     write_parts(Some(&node), &mut parts)?;
     assert_eq!(rt; parts.as_slice(), [1, 3].as_slice());
     Ok(())
@@ -117,8 +125,9 @@ fn entries_shift(rt: HostRuntime) -> Result<(), Fail> {
 
 #[test]
 fn long_pools_are_dropped(rt: HostRuntime) -> Result<(), Fail> {
-    let mut spares = Spares::new(rt.alloc());
-    spares.reserve(200_000)?;
+    let alloc = rt.alloc();
+    let mut spares = Spares::new(alloc);
+    spares.reserve(alloc, 200_000)?;
     spares.trim(100_000);
     assert_eq!(rt; spares.len(), 100_000);
     Ok(())
