@@ -30,16 +30,31 @@ fn reference_of(n: usize) -> RowRef {
     RowRef { part: n, slot: 0 }
 }
 
+/// The entry of a number in a structure in order.
+fn in_order(n: usize) -> Entry {
+    Entry { key: key_of(n), reference: reference_of(n) }
+}
+
+/// The entry of a number by hash: the rows are numbered as they are placed, 64 to a partition.
+fn by_hash(n: usize) -> Entry {
+    Entry { key: key_of(n), reference: RowRef { part: n / 64, slot: (n % 64) as u8 } }
+}
+
+/// The same with as many entries of one hash as of another, of 25 hashes.
+fn by_few_hashes(n: usize) -> Entry {
+    Entry { key: key_of(n % 25), ..by_hash(n) }
+}
+
 /// The number below `n` that follows in the shuffle, which meets each once where `n` is a power of 10 or 2.
 fn after(number: usize, n: usize) -> usize {
     (number * 1_664_521 + 1_013_904_223) % n
 }
 
-fn shuffled(n: usize) -> Vec<Entry> {
+fn shuffled(n: usize, entry_of: impl Fn(usize) -> Entry) -> Vec<Entry> {
     let mut entries = Vec::with_capacity(n);
     let mut number = 0;
     for _ in 0..n {
-        entries.push(Entry { key: key_of(number), reference: reference_of(number) });
+        entries.push(entry_of(number));
         number = after(number, n);
     }
     entries
@@ -55,13 +70,22 @@ struct Node {
     part: usize,
     next: u32,
     slot: u8,
+    live: bool,
+}
+
+impl Node {
+    fn has(&self, hash: u64, reference: RowRef) -> bool {
+        self.hash == hash && self.part == reference.part && self.slot == reference.slot
+    }
 }
 
 /// Linear hashing with a chain of single entries a bucket, split above two entries a bucket and
-/// merged below half an entry.
+/// merged below half an entry. The directory has by the slot of a reference the node that last took
+/// an entry of it.
 struct LinearHash {
     heads: Vec<u32>,
     nodes: Vec<Node>,
+    directory: Vec<u32>,
     len: usize,
     level: u32,
     split: usize,
@@ -70,7 +94,7 @@ struct LinearHash {
 
 impl Default for LinearHash {
     fn default() -> Self {
-        LinearHash { heads: vec![NIL; 4], nodes: Vec::new(), len: 0, level: 0, split: 0, free: NIL }
+        LinearHash { heads: vec![NIL; 4], nodes: Vec::new(), directory: Vec::new(), len: 0, level: 0, split: 0, free: NIL }
     }
 }
 
@@ -80,16 +104,32 @@ impl LinearHash {
         if low < self.split { (hash & ((8 << self.level) - 1)) as usize } else { low }
     }
 
-    fn insert(&mut self, hash: u64, reference: RowRef) {
-        let bucket = self.bucket_of(hash);
-        let node = Node { hash, part: reference.part, next: self.heads[bucket], slot: reference.slot };
-        if self.free == NIL {
-            self.heads[bucket] = self.nodes.len() as u32;
-            self.nodes.push(node);
-        } else {
-            self.heads[bucket] = self.free;
-            self.free = replace(&mut self.nodes[self.free as usize], node).next;
+    fn hint(&self, reference: RowRef) -> u32 {
+        self.directory.get(64 * reference.part + usize::from(reference.slot)).map_or(NIL, |&node| node)
+    }
+
+    fn note(&mut self, part: usize, slot: u8, node: u32) {
+        if let Some(place) = self.directory.get_mut(64 * part + usize::from(slot)) {
+            *place = node;
         }
+    }
+
+    fn insert(&mut self, hash: u64, reference: RowRef) {
+        let RowRef { part, slot } = reference;
+        let bucket = self.bucket_of(hash);
+        let node = Node { hash, part, next: self.heads[bucket], slot, live: true };
+        let mut at = self.free;
+        if at == NIL {
+            at = self.nodes.len() as u32;
+            self.nodes.push(node);
+            if self.directory.len() < self.nodes.capacity() {
+                self.directory.resize(self.nodes.capacity(), NIL);
+            }
+        } else {
+            self.free = replace(&mut self.nodes[at as usize], node).next;
+        }
+        self.heads[bucket] = at;
+        self.note(part, slot, at);
         self.len += 1;
         if self.len > 2 * self.heads.len() {
             self.split();
@@ -125,27 +165,39 @@ impl LinearHash {
         }
     }
 
+    /// The node of an entry, which the directory leads to or else a walk along the chain.
+    fn find(&self, head: u32, hash: u64, reference: RowRef) -> u32 {
+        let hint = self.hint(reference);
+        if self.nodes.get(hint as usize).is_some_and(|node| node.live && node.has(hash, reference)) {
+            return hint;
+        }
+        let mut at = head;
+        while at != NIL && !self.nodes[at as usize].has(hash, reference) {
+            at = self.nodes[at as usize].next;
+        }
+        at
+    }
+
+    /// The entry of the chain's first node takes the place of the one that leaves.
     fn remove(&mut self, hash: u64, reference: RowRef) -> bool {
         let bucket = self.bucket_of(hash);
-        let (mut before, mut at) = (NIL, self.heads[bucket]);
-        while at != NIL {
-            let node = self.nodes[at as usize];
-            if node.hash == hash && node.part == reference.part && node.slot == reference.slot {
-                match before {
-                    NIL => self.heads[bucket] = node.next,
-                    _ => self.nodes[before as usize].next = node.next,
-                }
-                self.nodes[at as usize].next = self.free;
-                self.free = at;
-                self.len -= 1;
-                if 2 * self.len < self.heads.len() && self.heads.len() > 4 {
-                    self.merge();
-                }
-                return true;
-            }
-            before = replace(&mut at, node.next);
+        let head = self.heads[bucket];
+        let at = self.find(head, hash, reference);
+        if at == NIL {
+            return false;
         }
-        false
+        let first = self.nodes[head as usize];
+        let next = self.nodes[at as usize].next;
+        self.nodes[at as usize] = Node { next, ..first };
+        self.nodes[head as usize] = Node { next: self.free, live: false, ..first };
+        self.heads[bucket] = first.next;
+        self.note(first.part, first.slot, at);
+        self.free = head;
+        self.len -= 1;
+        if 2 * self.len < self.heads.len() && self.heads.len() > 4 {
+            self.merge();
+        }
+        true
     }
 
     fn merge(&mut self) {
@@ -517,19 +569,19 @@ trait Structure: Default {
     fn remove(&mut self, entry: Entry) -> bool;
 }
 
-fn fill(filled: &mut impl Structure, n: usize) -> usize {
+fn fill(filled: &mut impl Structure, n: usize, entry_of: impl Fn(usize) -> Entry) -> usize {
     for number in 0..n {
-        filled.insert(Entry { key: key_of(number), reference: reference_of(number) });
+        filled.insert(entry_of(number));
     }
     0
 }
 
 /// Times the insert of each number, the look-up and the removal of each shuffled entry, and a walk over all where
 /// the structure is in order.
-fn measure<S: Structure>(structure: &str, n: usize, is_ordered: bool) {
-    let sought = shuffled(n);
+fn measure<S: Structure>(structure: &str, n: usize, is_ordered: bool, entry_of: impl Fn(usize) -> Entry + Copy) {
+    let sought = shuffled(n, entry_of);
     let mut filled = S::default();
-    timed(structure, "insert", n, || fill(&mut filled, n));
+    timed(structure, "insert", n, || fill(&mut filled, n, entry_of));
     let mut found = Vec::new();
     timed(structure, "look-up", n, || sought.iter().map(|&entry| filled.find(entry, &mut found)).sum());
     if is_ordered {
@@ -542,10 +594,18 @@ fn measure<S: Structure>(structure: &str, n: usize, is_ordered: bool) {
 fn measure_ordered<S: Structure>(structure: &str, n: usize) {
     unsafe { KEYS = (0..n as u64).collect() };
     let mut filled = S::default();
-    timed(structure, "ascending", n, || fill(&mut filled, n));
+    timed(structure, "ascending", n, || fill(&mut filled, n, in_order));
     drop(filled);
     unsafe { KEYS = (0..n).map(key_of).collect() };
-    measure::<S>(structure, n, true);
+    measure::<S>(structure, n, true, in_order);
+}
+
+/// Times the insert of each number and the removal of each shuffled entry where few hashes are shared.
+fn measure_few_hashes<S: Structure>(structure: &str, n: usize) {
+    let sought = shuffled(n, by_few_hashes);
+    let mut filled = S::default();
+    timed(structure, "insert", n, || fill(&mut filled, n, by_few_hashes));
+    timed(structure, "remove", n, || sought.iter().filter(|&&entry| filled.remove(entry)).count());
 }
 
 impl Structure for LinearHash {
@@ -730,8 +790,9 @@ fn in_rows(n: usize) {
 
 fn main() {
     for n in [10_000, 100_000, 1_048_576] {
-        measure::<LinearHash>("LinearHash", n, false);
-        measure::<HashMap<u64, (usize, u8)>>("HashMap", n, false);
+        measure::<LinearHash>("LinearHash", n, false, by_hash);
+        measure_few_hashes::<LinearHash>("LinearHash_of_25", n);
+        measure::<HashMap<u64, (usize, u8)>>("HashMap", n, false, by_hash);
         measure_ordered::<TTree>("unsafe_TTree", n);
         measure_ordered::<BTreeSet<ByKey>>("BTreeSet", n);
         in_rows(n);

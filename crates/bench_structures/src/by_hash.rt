@@ -1,47 +1,90 @@
 //! The bag of references by hash.
-use crate::entries::{Entry, key_of, reference_of, shuffled};
+use crate::entries::{Entry, after, key_of};
 use crate::report::{Pass, print};
 use mlhash::HashRefs;
+use mm_value::RowRef;
 use std::alloc::{AllocError, Global};
 use std::time::Instant;
 
-/// Fills, asks and empties a bag of `n` entries.
-pub(crate) fn measure(rt: &HostRuntime, n: usize) -> anyhow::Result<()> {
-    let alloc = rt.alloc();
-    let sought = shuffled(alloc, n)?;
-    let mut bag = HashRefs::new(alloc);
-    let start = Instant::now(rt)?;
-    fill(alloc, &mut bag, n)?;
-    print(
-        rt,
-        &Pass::new("HashRefs", "insert", n),
-        start.elapsed(rt)?,
-        0,
-    )?;
-    let start = Instant::now(rt)?;
-    let found = ask(alloc, &bag, sought.as_slice())?;
-    print(
-        rt,
-        &Pass::new("HashRefs", "look-up", n),
-        start.elapsed(rt)?,
-        found,
-    )?;
-    let start = Instant::now(rt)?;
-    let gone = empty(&mut bag, sought.as_slice());
-    print(
-        rt,
-        &Pass::new("HashRefs", "remove", n),
-        start.elapsed(rt)?,
-        gone,
-    )?;
-    Ok(())
+/// How many hashes the entries of the second bag share.
+const FEW: usize = 25;
+
+/// The hashes of the entries of a bag.
+#[derive(Clone, Copy, Drop)]
+enum Hashes {
+    /// A hash for each entry.
+    Distinct,
+    /// As many entries of one hash as of another, of few hashes.
+    Few,
 }
 
-fn fill(alloc: Global, bag: &mut HashRefs, n: usize) -> Result<(), AllocError> {
-    for number in 0..n {
-        bag.reserve(alloc, 1)?;
-        bag.insert(key_of(number), reference_of(number));
+/// Fills, asks and empties a bag of `n` entries, and fills and empties one of few hashes.
+pub(crate) fn measure(rt: &HostRuntime, n: usize) -> anyhow::Result<()> {
+    measure_distinct(rt, n)?;
+    measure_few(rt, n)
+}
+
+fn measure_distinct(rt: &HostRuntime, n: usize) -> anyhow::Result<()> {
+    let alloc = rt.alloc();
+    let sought = shuffled(alloc, n, Hashes::Distinct)?;
+    let mut bag = HashRefs::new(alloc);
+    time_fill(rt, "HashRefs", &mut bag, n, Hashes::Distinct)?;
+    let start = Instant::now(rt)?;
+    let found = ask(alloc, &bag, sought.as_slice())?;
+    let pass = Pass::new("HashRefs", "look-up", n);
+    print(rt, &pass, start.elapsed(rt)?, found)?;
+    time_empty(rt, "HashRefs", &mut bag, sought.as_slice())
+}
+
+fn measure_few(rt: &HostRuntime, n: usize) -> anyhow::Result<()> {
+    let alloc = rt.alloc();
+    let sought = shuffled(alloc, n, Hashes::Few)?;
+    let mut bag = HashRefs::new(alloc);
+    time_fill(rt, "HashRefs_of_25", &mut bag, n, Hashes::Few)?;
+    time_empty(rt, "HashRefs_of_25", &mut bag, sought.as_slice())
+}
+
+/// The entry of a number: the rows are numbered as they are placed, 64 to a partition.
+fn entry_of(number: usize, hashes: Hashes) -> Entry {
+    Entry {
+        key: match hashes {
+            Hashes::Distinct => key_of(number),
+            Hashes::Few => key_of(number % FEW),
+        },
+        reference: RowRef {
+            part: number / 64,
+            slot: (number % 64) as u8,
+        },
     }
+}
+
+/// The entries of the numbers below `n`, shuffled.
+fn shuffled(alloc: Global, n: usize, hashes: Hashes) -> Result<Vec<Entry>, AllocError> {
+    let mut entries = Vec::with_capacity(alloc, n)?;
+    let mut number = 0usize;
+    for _ in 0..n {
+        entries.push(entry_of(number, hashes))?;
+        number = after(number, n);
+    }
+    Ok(entries)
+}
+
+fn time_fill(
+    rt: &HostRuntime,
+    structure: &str,
+    bag: &mut HashRefs,
+    n: usize,
+    hashes: Hashes,
+) -> anyhow::Result<()> {
+    let alloc = rt.alloc();
+    let start = Instant::now(rt)?;
+    for number in 0..n {
+        let entry = entry_of(number, hashes);
+        bag.reserve(alloc, 1)?;
+        bag.insert(entry.key, entry.reference);
+    }
+    let pass = Pass::new(structure, "insert", n);
+    print(rt, &pass, start.elapsed(rt)?, 0)?;
     Ok(())
 }
 
@@ -58,12 +101,20 @@ fn ask(alloc: Global, bag: &HashRefs, sought: &[Entry]) -> Result<usize, AllocEr
     Ok(sum)
 }
 
-fn empty(bag: &mut HashRefs, sought: &[Entry]) -> usize {
-    let mut sum = 0usize;
+fn time_empty(
+    rt: &HostRuntime,
+    structure: &str,
+    bag: &mut HashRefs,
+    sought: &[Entry],
+) -> anyhow::Result<()> {
+    let start = Instant::now(rt)?;
+    let mut gone = 0usize;
     for entry in sought {
         if bag.remove(entry.key, entry.reference) {
-            sum = sum.wrapping_add(1);
+            gone = gone.wrapping_add(1);
         }
     }
-    sum
+    let pass = Pass::new(structure, "remove", sought.len());
+    print(rt, &pass, start.elapsed(rt)?, gone)?;
+    Ok(())
 }
