@@ -5,14 +5,12 @@ pub mod DatabaseSteps
 pub mod FeedLemmas
 pub mod InOrder
 pub mod Inputs
-pub mod Known
-pub mod Left
+pub mod LongLines
 pub mod Merging
 pub mod Orderings
 pub mod Outcomes
 pub mod Runs
 pub mod Searching
-pub mod Skips
 pub mod StoredTables
 pub mod StrictOrder
 pub mod Twins
