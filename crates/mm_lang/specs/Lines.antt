@@ -1,27 +1,43 @@
 -- The lines of an input.
-use Rattle.std.specs.Prelude.{◌≡◌, ℕ, ◌==◌, if◌then◌else◌, false, List, [], ◌∷◌, map}
+use Rattle.std.specs.Prelude.{◌≡◌, ℕ, ◌==◌, if◌then◌else◌, false, List, [], ◌∷◌, ◌++◌, map}
 
--- a byte joins the first line of what follows it
-abbrev pub onto_line : ℕ → List (List ℕ) → List (List ℕ)
-onto_line b [] = (b ∷ []) ∷ []
-onto_line b (line ∷ lines) = (b ∷ line) ∷ lines
+-- An input cut at its line feeds: what stands before each of them, and the rest behind the last one.
+pub record Pieces : Type 0 where
+  pub ended : List (List ℕ)
+  pub rest : List ℕ
 
--- a line ends at a line feed or at the end of the input; a last line of no bytes is no line
-unfoldable pub pieces_of : List ℕ → List (List ℕ)
-pieces_of [] = []
-pieces_of (b ∷ bs) = if b == 10 then [] ∷ pieces_of bs else onto_line b (pieces_of bs)
+-- A byte joins the first piece of what follows it.
+abbrev pub with_byte : ℕ → List (List ℕ) → List ℕ → Pieces
+with_byte b [] rest = record { ended = []; rest = b ∷ rest }
+with_byte b (line ∷ lines) rest = record { ended = (b ∷ line) ∷ lines; rest = rest }
 
--- one carriage return at the end of a line is dropped
+-- The pieces of an input.
+unfoldable pub pieces_of : List ℕ → Pieces
+pieces_of [] = record { ended = []; rest = [] }
+pieces_of (b ∷ bs) =
+    if b == 10 then record { ended = [] ∷ (pieces_of bs).ended; rest = (pieces_of bs).rest }
+    else with_byte b (pieces_of bs).ended (pieces_of bs).rest
+
+-- One carriage return at the end of a line is dropped.
 abbrev pub without_return : List ℕ → List ℕ
 without_return [] = []
 without_return (b ∷ []) = if b == 13 then [] else b ∷ []
 without_return (b ∷ c ∷ bs) = b ∷ without_return (c ∷ bs)
 
--- the lines of an input
-abbrev pub lines_of : List ℕ → List (List ℕ)
-lines_of input = map without_return (pieces_of input)
+-- The lines that a line feed ends.
+abbrev pub whole_lines_of : List ℕ → List (List ℕ)
+whole_lines_of input = map without_return (pieces_of input).ended
 
--- no byte is a line feed
+-- Bytes behind the last line feed are a line too; no bytes there are none.
+abbrev pub last_line_of : List ℕ → List (List ℕ)
+last_line_of [] = []
+last_line_of (b ∷ bs) = without_return (b ∷ bs) ∷ []
+
+-- All lines of an input: those that a line feed ends, and the bytes behind the last one.
+abbrev pub lines_of : List ℕ → List (List ℕ)
+lines_of input = whole_lines_of input ++ last_line_of (pieces_of input).rest
+
+-- No byte is a line feed.
 abbrev pub HasNoFeed : List ℕ → Type 0
 HasNoFeed [] = Unit {0}
 HasNoFeed (b ∷ bs) = ((b == 10) ≡ false) × HasNoFeed bs

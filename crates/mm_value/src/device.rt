@@ -1,5 +1,6 @@
-//! Readers and writers that know whether their last call failed.
+//! Readers and writers that try interrupted calls again and know whether their last call failed.
 ghost use Rattle.std.specs.Prelude.{◌≡◌, ◌<◌, ◌↔◌, true, false, length, IsErr, IfOk};
+ghost use Rattle.std.specs.Bool.{OnTrue};
 ghost use Rattle.std.specs.Io.{ReadsAtMost, WritesAtMost};
 ghost use Rattle.std.specs.Io.KnownBytes.{Keeps, ReadConsumes, WriteAppends};
 ghost use Rattle.mm_value.specs.Device.{Writes};
@@ -9,8 +10,37 @@ use std::io;
 use std::io::{Read, Write};
 use thiserror::Error;
 
-/// A reader or a writer that knows whether its last call failed: it answered an error,
-/// or took 0 of some bytes.
+/// How many times in a row an interrupted call of a device is made again.
+pub const MAX_RETRIES: u32 = 16;
+
+/// How many more times one call may be made again.
+#[derive(Drop)]
+struct Retries {
+    left: u32,
+}
+
+impl Retries {
+    fn new() -> Retries {
+        Retries { left: MAX_RETRIES }
+    }
+
+    /// Whether the call is to be made again: it was interrupted, and not too often.
+    fn allow<T>(&mut self, outcome: &io::Result<T>) -> bool
+        ensures interrupted { OnTrue result (IsErr outcome.now) }
+        ensures fewer { OnTrue result (self.new.left < self.old.left) }
+    {
+        match outcome {
+            Err(error) if self.left > 0 && error.kind() == io::ErrorKind::Interrupted => {
+                self.left -= 1;
+                true
+            }
+            _ => false,
+        }
+    }
+}
+
+/// A reader or a writer that makes an interrupted call again, up to [`MAX_RETRIES`] times in a row, and knows whether its
+/// last call failed: it answered an error, or took 0 of some bytes.
 #[derive(Drop)]
 pub struct Watched<T> {
     inner: T,
@@ -45,7 +75,11 @@ impl<R: Read> Read for Watched<R> {
         ensures bytes { ReadConsumes (R.remaining (inner_of self.old)) (R.remaining (inner_of self.new)) result buf.new }
         ensures failed { (has_failed self.new ≡ true) ↔ IsErr result }
     {
-        let given = self.inner.read(buf);
+        let mut retries = Retries::new();
+        let mut given = self.inner.read(buf);
+        while retries.allow(&given) {
+            given = self.inner.read(buf);
+        }
         self.failed = given.is_err();
         given
     }
@@ -60,7 +94,11 @@ impl<W: Write> Write for Watched<W> {
         ensures failed_on_error { IsErr result → has_failed self.new ≡ true }
         ensures failed_on_ok { IfOk result (λ n. (has_failed self.new ≡ true) ↔ ((n ≡ 0) × (0 < length buf.now))) }
     {
-        let outcome = self.inner.write(buf);
+        let mut retries = Retries::new();
+        let mut outcome = self.inner.write(buf);
+        while retries.allow(&outcome) {
+            outcome = self.inner.write(buf);
+        }
         self.failed = match &outcome {
             Ok(taken) => *taken == 0 && !buf.is_empty(),
             Err(_) => true,
@@ -72,7 +110,11 @@ impl<W: Write> Write for Watched<W> {
         ensures bytes { Keeps (W.contents (inner_of self.old)) (W.contents (inner_of self.new)) }
         ensures failed { (has_failed self.new ≡ true) ↔ IsErr result }
     {
-        let flushed = self.inner.flush();
+        let mut retries = Retries::new();
+        let mut flushed = self.inner.flush();
+        while retries.allow(&flushed) {
+            flushed = self.inner.flush();
+        }
         self.failed = flushed.is_err();
         flushed
     }

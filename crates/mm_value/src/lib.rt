@@ -14,7 +14,7 @@ mod tuple;
 mod values;
 
 pub use col_type::ColType;
-pub use device::{Watched, WriteFault, put_all};
+pub use device::{MAX_RETRIES, Watched, WriteFault, put_all};
 pub use literals::{literals_are_exact, read_literal};
 pub use printed::write_row;
 pub use refusal::Refusal;

@@ -1,16 +1,17 @@
 -- What is written is the reply to what was read.
-use Rattle.std.proofs.Common.{◌≡◌, ℕ, Bool, true, false, cond, eqb, List, [], ◌∷◌, ◌++◌, Option, Some, None, Result, Ok, Err, IsTrue, ◌<◌, length, take, drop, sym, refl, ap, subst, ◌∙◌, ⊎_elim, inl, inr}
-use Rattle.std.proofs.lemmas.List.{append-nil, drop_at, length-take-le}
+use Rattle.std.proofs.Common.{◌≡◌, ℕ, ◌+◌, ◌<◌, Bool, true, false, cond, eqb, List, [], ◌∷◌, ◌++◌, Option, Some, None, Result, Ok, Err, IsTrue, length, take, drop, inl, inr, sym, refl, ap, subst, ◌∙◌, ⊎_elim, arith}
+use Rattle.std.proofs.Math.Seq.{take-length}
+use Rattle.std.proofs.lemmas.List.{drop_all, take_all}
 use Rattle.std.proofs.lemmas.Bool.{lt-ltb}
-use Rattle.std.specs.Prelude.{IfOk, IfSome, MatchResult}
-use Rattle.std.specs.Io.KnownBytes.{Appends, Consumes, Keeps}
+use Rattle.std.specs.Prelude.{IfOk, is_err}
+use Rattle.std.specs.Io.KnownBytes.{Appends, Keeps}
 use Rattle.mm_lang.specs.Grammar.{command_of}
-use Rattle.mm_lang.specs.Lines.{pieces_of, without_return}
+use Rattle.mm_lang.specs.Lines.{without_return, HasNoFeed}
 use Rattle.mm_lang.specs.Reading.{Reads, command_takes_memory, is_nothing, read_as, reading, reading_takes_memory, takes_memory}
 use Rattle.mm_lang.specs.ReplyText.{reply_text}
 use Rattle.mm_lang.specs.Tokens.{tokens}
-use Rattle.mm_value.specs.Device.{AppendsPrefix, Writes}
-use Rattle.mm_value.specs.Watched.{inner_of}
+use Rattle.mm_value.specs.Device.{Writes}
+use Rattle.mm_value.specs.Watched.{inner_of, has_failed}
 use Rattle.mm_value.specs.declared.device.Watched.{Watched}
 use Rattle.mm_value.specs.declared.refusal.Refusal.{Refusal}
 use Rattle.mm_value.specs.declared.refusal.Refusal.TheVariants.{LineTooLong, Memory}
@@ -20,19 +21,40 @@ use Rattle.mm_query.specs.declared.command.Command.{Command}
 use Rattle.mm_query.specs.declared.command.Command.TheVariants.{Nothing}
 use Rattle.mm_query.specs.declared.reply.Reply.{Reply}
 use Rattle.mm_query.specs.declared.reply.Reply.TheVariants.{Refused}
-use Rattle.mmdb_core.specs.Input.{DropsLongLine, IsFirstLine, LiesInFront}
-use Rattle.mmdb_core.specs.Respond.{AnswersLine, AnswersNext, IsStep, MayLeadTo, Responds, RespondsTo}
+use Rattle.mmdb_core.specs.Feeds.{EndsLine}
+use Rattle.mmdb_core.specs.Input.{Comes, Finds, IsLastLine, IsLine, PassesLine, StopsInLine}
+use Rattle.mmdb_core.specs.Respond.{AnswersLine, GoesOn, IsStep, MayLeadTo, PassesAnswered, Replies, RespondsTo, WritesNothing}
 use Rattle.mmdb_core.specs.Run.{answer, is_error, outcome_of, refused_outcome}
+use Rattle.mmdb_core.specs.declared.fault.RunFault.{RunFault}
+use Rattle.mmdb_core.specs.declared.fault.RunFault.TheVariants.{Read, Write, TooLong}
+use Rattle.mmdb_core.specs.declared.input.Input.{Input}
+use Rattle.mmdb_core.specs.declared.input.Next.TheVariants.{Line}
+use Rattle.mmdb_core.proofs.Inputs.{Advances-skip, Advances-then}
+use Rattle.mmdb_core.proofs.LongLines.{take-line}
 
+-- a text and then nothing more
 pub appends_keeps : (a b c : Option (List ℕ)) (text : List ℕ) → Appends a b text → Keeps b c → Appends a c text
 appends_keeps None b c text h k = tt
 appends_keeps (Some x) None c text h k = absurd h
 appends_keeps (Some x) (Some y) None text h k = absurd k
 appends_keeps (Some x) (Some y) (Some z) text h k = k ∙ h
 
-pub appends_nothing : (a : Option (List ℕ)) → Appends a a []
-appends_nothing None = tt
-appends_nothing (Some x) = sym (append-nil x)
+-- a text and then a flush, whatever that answers
+pub writes_flushed : {W S T D E : Type 0} {contents : W → Option (List ℕ)} {old mid new : Watched W} {v : S} (result : Result T E) (text : List ℕ)
+    → Writes {E = D} contents old mid (Ok v) text → Keeps (contents (inner_of mid)) (contents (inner_of new)) → has_failed new ≡ is_err result → Writes contents old new result text
+writes_flushed {contents = contents} {old} {mid} {new} (Ok w) text writes kept failed = record {
+  written = appends_keeps (contents (inner_of old)) (contents (inner_of mid)) (contents (inner_of new)) text writes.written kept;
+  failed = failed;
+}
+writes_flushed {contents = contents} {old} {mid} {new} (Err e) text writes kept failed = record {
+  written = (
+    length text,
+    omega arith,
+    subst (Appends (contents (inner_of old)) (contents (inner_of new))) (sym (take-length text))
+        (appends_keeps (contents (inner_of old)) (contents (inner_of mid)) (contents (inner_of new)) text writes.written kept),
+  );
+  failed = failed;
+}
 
 -- a step of a command that takes memory is what its reading leads to
 pub leads_step : (command : Command) → IsTrue (command_takes_memory command) → (read : Result Command Refusal) → read ≡ Ok command
@@ -62,76 +84,143 @@ without_return-last (a ∷ c ∷ front) b = ap (λ rest. a ∷ rest) (without_re
     after_more false = refl
 
 -- a reply that was sent answers what may lead to it
-pub sent : {W E : Type 0} (contents : W → Option (List ℕ)) (old new : Watched W) (result : Result Bool E) (reply : Reply) (read : Result Command Refusal) (before after : State) → Writes contents old new result (reply_text reply) → IfOk result (λ refused. refused ≡ is_error (Some reply)) → MayLeadTo read before (record { reply = Some reply; state = after }) → IfOk result (RespondsTo contents old new read before after)
-sent contents old new (Ok refused) reply read before after writes is leads = record {
+pub sent : {W E : Type 0} {contents : W → Option (List ℕ)} {old new : Watched W} {result : Result Bool E} (reply : Reply) (read : Result Command Refusal) (before after : State)
+    → Writes contents old new result (reply_text reply) → IfOk result (λ refused. refused ≡ is_error (Some reply))
+    → MayLeadTo read before (record { reply = Some reply; state = after }) → RespondsTo contents old new read before after result
+sent reply read before after writes is leads = record {
   outcome = record { reply = Some reply; state = after };
   leads = leads;
-  responds = record { state = refl; written = writes.written; refused = is };
+  replies = record { state = refl; writes = writes; refused = is };
 }
-sent contents old new (Err e) reply read before after writes is leads = tt
 
 -- memory refused to a line that takes it
 refused_memory : (line : List ℕ) (state : State) → takes_memory line ≡ true → answer true line state ≡ refused_outcome Memory state
 refused_memory line state takes = ap (λ b. cond b (refused_outcome Memory state) (outcome_of (reading line) state)) takes
 
-module _ {W : Type 0} (contents : W → Option (List ℕ)) (old new : Watched W) (line : List ℕ) (before after : State) (is_refused : Bool) where
-  chosen : (choice : Bool) (outcome : Outcome) → outcome ≡ answer choice line before → Responds contents old new after outcome is_refused → AnswersLine contents old new line before after is_refused
-  chosen choice outcome is responds = record { choice = choice; responds = subst (λ o. Responds contents old new after o is_refused) is responds }
+module _ {W E : Type 0} {contents : W → Option (List ℕ)} {old new : Watched W} {line : List ℕ} {before after : State} {result : Result Bool E} where
+  chosen : (choice : Bool) (outcome : Outcome) → outcome ≡ answer choice line before → Replies contents old new after outcome result
+      → AnswersLine contents old new line before after result
+  chosen choice outcome is replies = record { choice = choice; replies = subst (λ o. Replies contents old new after o result) is replies }
 
-  by_step : (command : Command) → reading line ≡ Ok command → (outcome : Outcome) → MayLeadTo (Ok command) before outcome → Responds contents old new after outcome is_refused → AnswersLine contents old new line before after is_refused
-  by_step command read outcome leads responds =
+  by_step : (command : Command) → reading line ≡ Ok command → (outcome : Outcome) → MayLeadTo (Ok command) before outcome
+      → Replies contents old new after outcome result → AnswersLine contents old new line before after result
+  by_step command read outcome leads replies =
       ⊎_elim
-      (λ (h : outcome ≡ step command before). chosen false outcome (h ∙ ap (λ r. outcome_of r before) (sym read)) responds)
+      (λ (h : outcome ≡ step command before). chosen false outcome (h ∙ ap (λ r. outcome_of r before) (sym read)) replies)
       (λ (h : (outcome ≡ refused_outcome Memory before) × IsTrue (command_takes_memory command)).
-      chosen true outcome (h.0 ∙ sym (refused_memory line before (ap reading_takes_memory read ∙ h.1))) responds)
+      chosen true outcome (h.0 ∙ sym (refused_memory line before (ap reading_takes_memory read ∙ h.1))) replies)
       leads
 
-  by_refusal : (refusal : Refusal) → Reads line (Err refusal) → (outcome : Outcome) → outcome ≡ refused_outcome refusal before → Responds contents old new after outcome is_refused → AnswersLine contents old new line before after is_refused
-  by_refusal refusal reads outcome leads responds =
+  by_refusal : (refusal : Refusal) → Reads line (Err refusal) → (outcome : Outcome) → outcome ≡ refused_outcome refusal before
+      → Replies contents old new after outcome result → AnswersLine contents old new line before after result
+  by_refusal refusal reads outcome leads replies =
       ⊎_elim
-      (λ (h : reading line ≡ Err refusal). chosen false outcome (leads ∙ ap (λ r. outcome_of r before) (sym h)) responds)
-      (λ (h : (refusal ≡ Memory) × IsTrue (takes_memory line)). chosen true outcome (leads ∙ (ap (λ r. refused_outcome r before) h.0 ∙ sym (refused_memory line before h.1))) responds)
+      (λ (h : reading line ≡ Err refusal). chosen false outcome (leads ∙ ap (λ r. outcome_of r before) (sym h)) replies)
+      (λ (h : (refusal ≡ Memory) × IsTrue (takes_memory line)).
+      chosen true outcome (leads ∙ (ap (λ r. refused_outcome r before) h.0 ∙ sym (refused_memory line before h.1))) replies)
       reads
 
-  -- what was read of a line answers the line
-  answers_read : (read : Result Command Refusal) → Reads line read → (outcome : Outcome) → MayLeadTo read before outcome → Responds contents old new after outcome is_refused → AnswersLine contents old new line before after is_refused
-  answers_read (Ok command) reads outcome leads responds = by_step command reads outcome leads responds
-  answers_read (Err refusal) reads outcome leads responds = by_refusal refusal reads outcome leads responds
+  answers_read : (read : Result Command Refusal) → Reads line read → (outcome : Outcome) → MayLeadTo read before outcome
+      → Replies contents old new after outcome result → AnswersLine contents old new line before after result
+  answers_read (Ok command) reads outcome leads replies = by_step command reads outcome leads replies
+  answers_read (Err refusal) reads outcome leads replies = by_refusal refusal reads outcome leads replies
 
--- the same of a call's result
-pub answers_line : {W E : Type 0} (contents : W → Option (List ℕ)) (old new : Watched W) (line : List ℕ) (before after : State) (read : Result Command Refusal) (result : Result Bool E) → Reads line read → IfOk result (RespondsTo contents old new read before after) → IfOk result (AnswersLine contents old new line before after)
-answers_line contents old new line before after read (Ok refused) reads h = answers_read contents old new line before after refused read reads h.outcome h.leads h.responds
-answers_line contents old new line before after read (Err e) reads h = tt
+  -- what responds to the reading of a line answers the line
+  pub answers_line : (read : Result Command Refusal) → Reads line read → RespondsTo contents old new read before after result
+      → AnswersLine contents old new line before after result
+  answers_line read reads h = answers_read read reads h.outcome h.leads h.replies
 
 -- a line that is too long is refused as that
 long_reading : (line : List ℕ) (state : State) → 4096 < length line → answer false line state ≡ refused_outcome LineTooLong state
 unfolding reading
-long_reading line state long = ap (λ b. outcome_of (cond b (Err LineTooLong) (cond (is_nothing line) (Ok Nothing) (read_as (command_of (tokens line))))) state) (lt-ltb 4096 (length line) long)
+long_reading line state long =
+    ap (λ b. outcome_of (cond b (Err LineTooLong) (cond (is_nothing line) (Ok Nothing) (read_as (command_of (tokens line))))) state)
+    (lt-ltb 4096 (length line) long)
 
-module _ {W E : Type 0} (contents : W → Option (List ℕ)) (old new : Watched W) where
-  pub long_answered : (state : State) (result : Result Bool E) (is_refused : Bool) (before rest : Option (List ℕ)) → Writes contents old new result (reply_text (Refused LineTooLong)) → IfOk result (λ refused. refused ≡ is_error (Some (Refused LineTooLong))) → result ≡ Ok is_refused → DropsLongLine before rest → AnswersNext contents old new state state before rest is_refused
-  long_answered state result is_refused None rest writes refused is drops = tt
-  long_answered state result is_refused (Some before) None writes refused is drops = absurd drops
-  long_answered state result is_refused (Some before) (Some rest) writes refused is drops = record {
-    line = drops.0;
-    first = drops.2;
-    answers = record {
-      choice = false;
-      responds = subst (λ o. Responds contents old new state o is_refused) (sym (long_reading (without_return drops.0) state drops.1)) (record {
-        state = refl;
-        written = subst (λ r. MatchResult r (λ _. Appends (contents (inner_of old)) (contents (inner_of new)) (reply_text (Refused LineTooLong))) (λ _. AppendsPrefix (contents (inner_of old)) (contents (inner_of new)) (reply_text (Refused LineTooLong)))) is writes.written;
-        refused = subst (λ r. IfOk r (λ refused. refused ≡ is_error (Some (Refused LineTooLong)))) is refused;
-      });
+pub answers_long : {W E : Type 0} {contents : W → Option (List ℕ)} {old new : Watched W} (line : List ℕ) (state : State) {result : Result Bool E} → 4096 < length line
+    → Writes contents old new result (reply_text (Refused LineTooLong)) → IfOk result (λ refused. refused ≡ is_error (Some (Refused LineTooLong)))
+    → AnswersLine contents old new line state state result
+answers_long line state long writes is =
+    chosen false (refused_outcome LineTooLong state) (sym (long_reading line state long)) (record { state = refl; writes = writes; refused = is })
+
+-- a line found in front of the window is passed when what leads to the next one is dropped
+first_line : (input after : Input) (len step : ℕ) → Finds input (Line len step) → after.window.bytes ≡ drop step input.window.bytes
+    → after.is_ended ≡ input.is_ended → IsLine (take step input.window.bytes) (take len input.window.bytes) after
+first_line input after len step finds dropped ended =
+    ⊎_elim
+    (λ (h : EndsLine input.window.bytes len × (step ≡ len + 1)). record {
+      no_feed = h.0.no_feed;
+      end = inl (ap (λ n. take n input.window.bytes) h.1 ∙ take-line input.window.bytes len h.0);
+    })
+    (λ (h : IsLastLine input len step).
+    let all : take len input.window.bytes ≡ input.window.bytes = take_all len input.window.bytes (omega (arith, h.all)) in
+    record {
+      no_feed = subst HasNoFeed (sym all) h.no_feed;
+      end = inr (
+        ap (λ n. take n input.window.bytes) h.no_more,
+        omega (arith, ap length all, h.all, h.some),
+        dropped ∙ drop_all step input.window.bytes (omega (arith, h.all, h.no_more)),
+        ended ∙ h.ended,
+      );
+    })
+    finds.2
+
+pub passes_first : {R : Type 0} {remaining : R → Option (List ℕ)} {reader later : Watched R} {input mid after : Input} (len step : ℕ) → Comes remaining reader later input mid (Line len step)
+    → after.window.bytes ≡ drop step mid.window.bytes → after.still ≡ mid.still → after.is_ended ≡ mid.is_ended
+    → PassesLine remaining reader later input after (take len mid.window.bytes)
+passes_first {mid = mid} {after = after} len step comes dropped still ended = record {
+  gone = take step mid.window.bytes;
+  advances = Advances-then refl comes.0 (Advances-skip step dropped still ended);
+  is_line = first_line mid after len step comes.1 dropped ended;
+}
+
+-- the same of other names for what there is afterwards
+pub passed_as : {R W E : Type 0} {remaining : R → Option (List ℕ)} {contents : W → Option (List ℕ)} {reader later : Watched R} {input next next' : Input} {before after after' : State} {old new new' : Watched W} {result result' : Result Bool E}
+    → next' ≡ next → after' ≡ after → new' ≡ new → result' ≡ result → PassesAnswered remaining contents reader later input next before after old new result
+    → PassesAnswered remaining contents reader later input next' before after' old new' result'
+passed_as {remaining = remaining} {contents} {reader} {later} {input} {next} {next'} {before} {after} {after'} {old} {new} {new'} {result} {result'} p q r s h =
+    subst (λ o. PassesAnswered remaining contents reader later input next' before after' old new' o) (sym s)
+    (subst (λ w. PassesAnswered remaining contents reader later input next' before after' old w result) (sym r)
+    (subst (λ a. PassesAnswered remaining contents reader later input next' before a old new result) (sym q)
+    (subst (λ n. PassesAnswered remaining contents reader later input n before after old new result) (sym p) h)))
+
+-- how a run goes on after a line was answered
+abbrev pub goes_on_of : {E : Type 0} → Result Bool E → Result (Option Bool) RunFault
+goes_on_of (Ok is_refused) = Ok (Some is_refused)
+goes_on_of (Err e) = Err Write
+
+pub answered_goes_on : {R W E : Type 0} {remaining : R → Option (List ℕ)} {contents : W → Option (List ℕ)} {reader later : Watched R} {input next : Input} {before after : State} {old new : Watched W}
+    (result : Result Bool E) → PassesAnswered remaining contents reader later input next before after old new result
+    → GoesOn remaining contents reader later input next before after old new (goes_on_of result)
+answered_goes_on (Ok is_refused) h = record {
+  line = h.line;
+  passes = h.passes;
+  answers = record {
+    choice = h.answers.choice;
+    replies = record {
+      state = h.answers.replies.state;
+      writes = record { written = h.answers.replies.writes.written; failed = h.answers.replies.writes.failed };
+      refused = h.answers.replies.refused;
     };
-  }
+  };
+}
+answered_goes_on (Err e) h = record {
+  line = h.line;
+  passes = h.passes;
+  answers = record {
+    choice = h.answers.choice;
+    replies = record {
+      state = h.answers.replies.state;
+      writes = record { written = h.answers.replies.writes.written; failed = h.answers.replies.writes.failed };
+      refused = tt;
+    };
+  };
+}
 
-  -- the first line, and what is left when it and its end are dropped
-  pub line_answered : (state after : State) (result : Result Bool E) (is_refused : Bool) (before mid rest : Option (List ℕ)) (window : List ℕ) (len step : ℕ) → LiesInFront window len step → Keeps before mid → IfSome mid (IsFirstLine window len step) → Consumes mid rest (take step window) → IfOk result (AnswersLine contents old new (without_return (take len window)) state after) → result ≡ Ok is_refused → AnswersNext contents old new state after before rest is_refused
-  line_answered state after result is_refused None mid rest window len step lies keeps first consumes answers is = tt
-  line_answered state after result is_refused (Some before) None rest window len step lies keeps first consumes answers is = absurd keeps
-  line_answered state after result is_refused (Some before) (Some mid) None window len step lies keeps first consumes answers is = absurd consumes
-  line_answered state after result is_refused (Some before) (Some mid) (Some rest) window len step lies keeps first consumes answers is = record {
-    line = take len window;
-    first = ap pieces_of (sym keeps) ∙ (first ∙ ap (λ t. take len window ∷ pieces_of t) (ap (λ t. drop step t) consumes ∙ drop_at (take step window) rest step (length-take-le step window lies.within)));
-    answers = subst (λ r. IfOk r (AnswersLine contents old new (without_return (take len window)) state after)) is answers;
-  }
+-- how a run goes on where its input broke off
+pub stops_goes_on : {R W : Type 0} {remaining : R → Option (List ℕ)} {contents : W → Option (List ℕ)} {reader later : Watched R} {input next : Input} (before after : State) {old new : Watched W}
+    (fault : RunFault) → StopsInLine remaining reader later input next fault → WritesNothing contents old new
+    → GoesOn remaining contents reader later input next before after old new (Err fault)
+stops_goes_on before after Read stops nothing = (stops, nothing)
+stops_goes_on before after Write stops nothing = absurd stops.why
+stops_goes_on before after TooLong stops nothing = (stops, nothing)

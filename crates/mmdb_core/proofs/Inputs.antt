@@ -1,76 +1,144 @@
 -- How an input goes on, one step after another.
-use Rattle.std.proofs.Common.{◌≡◌, ℕ, ◌+◌, ◌-◌, ◌<◌, Option, Some, None, List, [], ◌∷◌, ◌++◌, length, take, drop, sym, ap, subst, ◌∙◌, arith, append_assoc, length-append}
-use Rattle.std.proofs.lemmas.List.{take_all, drop_all, drop-append-le}
-use Rattle.std.specs.Prelude.{IfSome}
-use Rattle.mm_lang.specs.Lines.{pieces_of, HasNoFeed}
-use Rattle.mm_lang.proofs.Pieces.{pieces-line, pieces-last}
+use Rattle.std.proofs.Common.{◌≡◌, ◌⊎◌, inl, inr, ⊎_elim, ℕ, suc, zero, ◌+◌, ◌-◌, ◌<◌, ◌≤◌, true, false, Option, Some, Result, Ok, Err, List, [], ◌∷◌, ◌++◌, length, take, drop, refl, sym, ap, subst, ◌∙◌, arith, append_assoc, length-append}
+use Rattle.std.proofs.KnownBytes.{Consumes-kept, Consumes-nil, Consumes-trans}
+use Rattle.std.proofs.Math.Seq.{take-append-add, take-nil}
+use Rattle.std.proofs.lemmas.List.{append-nil, length-take, take-append-drop, take_all}
+use Rattle.std.specs.Prelude.{IfErr}
+use Rattle.std.specs.Io.KnownBytes.{Keeps}
+use Rattle.mm_lang.specs.Lines.{HasNoFeed}
 use Rattle.mm_value.specs.Watched.{inner_of}
 use Rattle.mm_value.specs.declared.device.Watched.{Watched}
-use Rattle.mmdb_core.specs.Feeds.{EndsLine, EndsWith, LooksLike}
-use Rattle.mmdb_core.specs.Input.{left_of, Fills, Finds, IsFirstLine, LiesInFront, LiesInWindow, TakesAllowed}
+use Rattle.mmdb_core.specs.Feeds.{EndsWith, LooksLike}
+use Rattle.mmdb_core.specs.Input.{Advances, Comes, Finds, StopsInLine, bytes_to_come}
+use Rattle.mmdb_core.specs.Taken.{Takes}
+use Rattle.mmdb_core.specs.declared.fault.RunFault.{RunFault}
 use Rattle.mmdb_core.specs.declared.input.Input.{Input}
 use Rattle.mmdb_core.specs.declared.input.Next.{Next}
 use Rattle.mmdb_core.specs.declared.input.Next.TheVariants.{Line, Long, End}
-use Rattle.mmdb_core.proofs.Known.{keeps_trans, consumes_trans}
 
-module _ {R : Type 0} (remaining : R → Option (List ℕ)) where
-  pub taken_trans : (r s t : Watched R) (a b c : Input) → TakesAllowed remaining r s a b → TakesAllowed remaining s t b c → TakesAllowed remaining r t a c
-  taken_trans r s t a b c h k = record {
-    bytes = h.bytes ++ k.bytes;
-    consumed = consumes_trans (remaining (inner_of r)) (remaining (inner_of s)) (remaining (inner_of t)) h.bytes k.bytes h.consumed k.consumed;
-    counted = omega (arith, length-append h.bytes k.bytes, h.counted, k.counted);
+pub take-append : (n : ℕ) (xs ys : List ℕ) → take n (xs ++ ys) ≡ take n xs ++ take (n - length xs) ys
+take-append n [] ys = sym (ap (λ l. l ++ take (n - 0) ys) (take-nil n) ∙ ap (λ m. take m ys) (let e : n - 0 ≡ n = omega arith in e))
+take-append zero (x ∷ xs) ys = sym (ap (λ m. take m ys) (let e : 0 - length (x ∷ xs) ≡ 0 = omega arith in e))
+take-append (suc n) (x ∷ xs) ys =
+    ap (λ l. x ∷ l) (take-append n xs ys ∙ ap (λ m. take n xs ++ take m ys) (let e : n - length xs ≡ suc n - length (x ∷ xs) = omega arith in e))
+
+-- what is kept of some bytes and then of more
+kept-trans : (x y z given more gone then : List ℕ) (s t : ℕ) → length given + t ≡ s → x ++ take (s - 1) given ≡ gone ++ y → y ++ take (t - 1) more ≡ then ++ z
+    → x ++ take (s - 1) (given ++ more) ≡ (gone ++ then) ++ z
+kept-trans x y z given more gone then s t counted h k =
+    let left : s - 1 - length given ≡ t - 1 = omega arith in
+    ap (λ l. x ++ l) (take-append (s - 1) given more ∙ ap (λ n. take (s - 1) given ++ take n more) left)
+    ∙ (sym (append_assoc x (take (s - 1) given) (take (t - 1) more)) ∙ (ap (λ l. l ++ take (t - 1) more) h
+    ∙ (append_assoc gone y (take (t - 1) more) ∙ (ap (λ l. gone ++ l) k ∙ sym (append_assoc gone then z)))))
+
+-- the bytes kept of those that a reader gave
+abbrev pub IsCut : List ℕ → ℕ → List ℕ → Type 0
+IsCut all still kept = ((0 < still) × (kept ≡ all)) ⊎ ((still ≡ 0) × (kept ≡ take (length all - 1) all))
+
+cut-kept : (window given kept : List ℕ) (still after : ℕ) → 0 < still → length given + after ≡ still → IsCut (window ++ given) after kept → window ++ take (still - 1) given ≡ kept
+cut-kept window given kept still after some counted cut =
+    ⊎_elim
+    (λ (h : (0 < after) × (kept ≡ window ++ given)). ap (λ l. window ++ l) (take_all (still - 1) given (omega arith)) ∙ sym h.1)
+    (λ (h : (after ≡ 0) × (kept ≡ take (length (window ++ given) - 1) (window ++ given))).
+    let long : length (window ++ given) - 1 ≡ length window + (still - 1) = omega (arith, length-append window given) in
+    sym (h.1 ∙ (ap (λ n. take n (window ++ given)) long ∙ take-append-add window given (still - 1))))
+    cut
+
+module _ {R : Type 0} {remaining : R → Option (List ℕ)} where
+  pub Advances-then : {r s t : Watched R} {a b c : Input} {gone more all : List ℕ} → all ≡ gone ++ more
+      → Advances remaining r s a b gone → Advances remaining s t b c more → Advances remaining r t a c all
+  Advances-then {r} {s} {t} {a} {b} {c} {gone} {more} {all} is h k = record {
+    given = h.given ++ k.given;
+    consumed = Consumes-trans (remaining (inner_of r)) (remaining (inner_of s)) (remaining (inner_of t)) h.given k.given h.consumed k.consumed;
+    counted = omega (arith, length-append h.given k.given, h.counted, k.counted);
+    kept = kept-trans a.window.bytes b.window.bytes c.window.bytes h.given k.given gone more a.still b.still h.counted h.kept k.kept ∙ ap (λ l. l ++ c.window.bytes) (sym is);
+    ended = λ e. let first = h.ended e in
+        let second = k.ended first.1 in
+        (ap (λ l. l ++ k.given) first.0 ∙ second.0, second.1);
+    at_end = λ p. k.at_end (h.at_end p);
   }
 
-  -- it depends on what may still be taken alone
-  pub taken_same : (r s : Watched R) (a b c : Input) → TakesAllowed remaining r s a b → c.still ≡ b.still → TakesAllowed remaining r s a c
-  taken_same r s a b c h e = record { bytes = h.bytes; consumed = h.consumed; counted = omega (arith, h.counted, e) }
-
-  pub fills_trans : (r s t : Watched R) (a b c : Input) → Fills remaining r s a b → Fills remaining s t b c → Fills remaining r t a c
-  fills_trans r s t a b c h k = record {
-    left = keeps_trans (left_of a (remaining (inner_of r))) (left_of b (remaining (inner_of s))) (left_of c (remaining (inner_of t))) h.left k.left;
-    taken = taken_trans r s t a b c h.taken k.taken;
-    bound = omega (arith, h.bound, k.bound);
+  -- nothing more was taken
+  Advances-gone : {r : Watched R} {a b : Input} {gone : List ℕ} → a.window.bytes ≡ gone ++ b.window.bytes → b.still ≡ a.still → b.is_ended ≡ a.is_ended → Advances remaining r r a b gone
+  Advances-gone {r} {a} {b} {gone} is still ended = record {
+    given = [];
+    consumed = Consumes-nil (remaining (inner_of r));
+    counted = omega (arith, still);
+    kept = ap (λ l. a.window.bytes ++ l) (take-nil (a.still - 1)) ∙ (append-nil a.window.bytes ∙ is);
+    ended = λ e. (refl, ended ∙ e);
+    at_end = λ p e. let known = p (sym ended ∙ e) in (omega (arith, known.0, still), known.1);
   }
 
--- a whole line lies in front of a window
-lies : (window : List ℕ) (len : ℕ) → EndsLine window len → LiesInFront window len (len + 1)
-lies window len ends = record { within = omega (arith, ends.within); some = omega arith; shorter = omega arith }
+  pub Advances-nil : {r : Watched R} {a : Input} → Advances remaining r r a a []
+  Advances-nil = Advances-gone refl refl refl
 
--- and is the first line of what is left
-is_first : (window more : List ℕ) (len : ℕ) → EndsLine window len → IsFirstLine window len (len + 1) (window ++ more)
-is_first window more len ends =
-    ap (λ w. pieces_of (w ++ more)) ends.feed
-    ∙ (ap pieces_of (append_assoc (take len window) (10 ∷ drop (len + 1) window) more)
-    ∙ (pieces-line (take len window) (drop (len + 1) window ++ more) ends.no_feed
-    ∙ ap (λ rest. take len window ∷ pieces_of rest) (sym (drop-append-le (len + 1) window more (omega (arith, ends.within))))))
+  pub Advances-skip : {r : Watched R} {a b : Input} (n : ℕ) → b.window.bytes ≡ drop n a.window.bytes → b.still ≡ a.still → b.is_ended ≡ a.is_ended
+      → Advances remaining r r a b (take n a.window.bytes)
+  Advances-skip {r} {a} n is still ended =
+      Advances-gone (sym (ap (λ l. take n a.window.bytes ++ l) is ∙ take-append-drop n a.window.bytes)) still ended
 
-first_known : (input : Input) (len : ℕ) (remaining : Option (List ℕ)) → EndsLine input.window.bytes len → IfSome (left_of input remaining) (IsFirstLine input.window.bytes len (len + 1))
-first_known input len None ends = tt
-first_known input len (Some xs) ends = is_first input.window.bytes (take (input.still - 1) xs) len ends
+  pub Advances-clear : {r : Watched R} {a b : Input} → b.window.bytes ≡ [] → b.still ≡ a.still → b.is_ended ≡ a.is_ended
+      → Advances remaining r r a b a.window.bytes
+  Advances-clear {r} {a} is still ended = Advances-gone (sym (ap (λ l. a.window.bytes ++ l) is ∙ append-nil a.window.bytes)) still ended
 
-pub finds_look : (input : Input) (next : Next) (remaining : Option (List ℕ)) → LooksLike input.window.bytes (Some next) → Finds input next (left_of input remaining)
-finds_look input (Line len step) remaining looks =
-    subst (λ n. Finds input (Line len n) (left_of input remaining)) (sym looks.1) (lies input.window.bytes len looks.0, first_known input len remaining looks.0)
-finds_look input Long remaining looks = looks
-finds_look input End remaining looks = absurd looks
+  -- the window was filled by n bytes
+  pub Advances-fill : {r s : Watched R} {a b : Input} {taken : List ℕ} {n : ℕ} → Takes remaining r s a.window.bytes taken n → a.is_ended ≡ false → 0 < a.still → n ≤ a.still
+      → b.still ≡ a.still - n → IsCut taken b.still b.window.bytes → (b.is_ended ≡ true → n ≡ 0) → Advances remaining r s a b []
+  Advances-fill {r} {s} {a} {b} {taken} {n} takes not_ended some most still cut ends =
+      let counted : length takes.given + b.still ≡ a.still = omega (arith, takes.count, still, most) in
+      record {
+        given = takes.given;
+        consumed = takes.consumed;
+        counted = counted;
+        kept = cut-kept a.window.bytes takes.given b.window.bytes a.still b.still some counted (subst (λ t. IsCut t b.still b.window.bytes) takes.behind cut);
+        ended = λ e. absurd (let clash : true ≡ false = sym e ∙ not_ended in cc);
+        at_end = λ _ e. (omega (arith, still, some, ends e), takes.at_end (ends e));
+      }
 
--- a last line
-is_last : (window : List ℕ) (len : ℕ) → HasNoFeed window → 0 < len → len ≡ length window → IsFirstLine window len len window
-is_last [] len no_feed some is = absurd (omega (arith, is))
-is_last (b ∷ bs) len no_feed some is =
-    pieces-last b bs no_feed
-    ∙ (ap (λ w. w ∷ pieces_of []) (sym (take_all len (b ∷ bs) (omega (arith, is))))
-    ∙ ap (λ rest. take len (b ∷ bs) ∷ pieces_of rest) (sym (drop_all len (b ∷ bs) (omega (arith, is)))))
+  -- the reader failed
+  pub Advances-fault : {r s : Watched R} {a b : Input} → Keeps (remaining (inner_of r)) (remaining (inner_of s)) → a.is_ended ≡ false
+      → b.window.bytes ≡ a.window.bytes → b.still ≡ a.still → b.is_ended ≡ a.is_ended → Advances remaining r s a b []
+  Advances-fault {r} {s} {a} {b} kept not_ended same still ended = record {
+    given = [];
+    consumed = Consumes-kept (remaining (inner_of r)) (remaining (inner_of r)) (remaining (inner_of s)) [] (Consumes-nil (remaining (inner_of r))) kept;
+    counted = omega (arith, still);
+    kept = ap (λ l. a.window.bytes ++ l) (take-nil (a.still - 1)) ∙ (append-nil a.window.bytes ∙ sym same);
+    ended = λ e. absurd (let clash : true ≡ false = sym e ∙ not_ended in cc);
+    at_end = λ _ e. absurd (let clash : true ≡ false = sym e ∙ (ended ∙ not_ended) in cc);
+  }
 
-last_known : (input : Input) (len : ℕ) (left : Option (List ℕ)) → LiesInWindow input left → HasNoFeed input.window.bytes → 0 < len → len ≡ length input.window.bytes → IfSome left (IsFirstLine input.window.bytes len len)
-last_known input len None lies no_feed some is = tt
-last_known input len (Some left) lies no_feed some is =
-    subst (IsFirstLine input.window.bytes len len) (sym lies) (is_last input.window.bytes len no_feed some is)
+  -- each byte that is gone comes no more
+  pub Advances-nearer : {r s : Watched R} {a b : Input} {gone : List ℕ} → Advances remaining r s a b gone → bytes_to_come b + length gone ≤ bytes_to_come a
+  Advances-nearer {r} {s} {a} {b} {gone} h =
+      omega (arith, ap length h.kept, length-append a.window.bytes (take (a.still - 1) h.given), length-append gone b.window.bytes, length-take (a.still - 1) h.given, h.counted)
 
-pub finds_last : (input : Input) (next : Next) (left : Option (List ℕ)) → LiesInWindow input left → HasNoFeed input.window.bytes → EndsWith input.window.bytes next → 0 < input.still → Finds input next left
-finds_last input (Line len step) left lies no_feed ends still =
-    subst (λ n. Finds input (Line len n) left) (sym ends.2)
-    (record { within = omega (arith, ends.1); some = ends.0; shorter = omega arith }, last_known input len left lies no_feed ends.0 ends.1)
-finds_last input Long left lies no_feed ends still = absurd ends
-finds_last input End None lies no_feed ends still = (tt, still)
-finds_last input End (Some left) lies no_feed ends still = (lies ∙ ends, still)
+-- an input that breaks off, after it was filled
+pub stops-then : {R : Type 0} {remaining : R → Option (List ℕ)} {r s t : Watched R} {a b c : Input} {fault : RunFault} → Advances remaining r s a b []
+    → StopsInLine remaining s t b c fault → StopsInLine remaining r t a c fault
+stops-then h stops = record { gone = stops.gone; advances = Advances-then refl h stops.advances; no_feed = stops.no_feed; why = stops.why }
+
+-- a line that is too long, after it was found
+pub long-then : {R : Type 0} {remaining : R → Option (List ℕ)} {r s : Watched R} {a b : Input} (t : Watched R) (c : Input) → Advances remaining r s a b []
+    → Comes remaining s t b c Long → Comes remaining r t a c Long
+long-then t c h comes = (
+  comes.0,
+  record { gone = comes.1.gone; advances = Advances-then refl h comes.1.advances; is_line = comes.1.is_line },
+  comes.2,
+)
+
+-- what holds of a fault holds where it is passed on
+pub at-fault : {T : Type 0} (P : RunFault → Type 0) (result : Result T RunFault) (fault passed : RunFault) → result ≡ Err passed → passed ≡ fault → P fault → IfErr result P
+at-fault P result fault passed is same h = subst (λ r. IfErr r P) (sym is) (subst P (sym same) h)
+
+-- what the window begins with
+pub finds-look : (input : Input) (next : Next) → LooksLike input.window.bytes (Some next) → Finds input next
+finds-look input (Line len step) looks = (omega (arith, looks.0.within, looks.1), omega (arith, looks.1), inl looks)
+finds-look input Long looks = looks
+finds-look input End looks = absurd looks
+
+-- or what is left at the end
+pub finds-last : (input : Input) (next : Next) → input.is_ended ≡ true → HasNoFeed input.window.bytes → EndsWith input.window.bytes next → Finds input next
+finds-last input (Line len step) ended no_feed ends =
+    (omega (arith, ends.1, ends.2), omega (arith, ends.2), inr (record { some = ends.0; all = ends.1; no_more = ends.2; no_feed = no_feed; ended = ended }))
+finds-last input Long ended no_feed ends = absurd ends
+finds-last input End ended no_feed ends = (ends, ended)

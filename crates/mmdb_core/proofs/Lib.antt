@@ -3,13 +3,11 @@ pub mod Answering
 pub mod DatabaseSteps
 pub mod FeedLemmas
 pub mod Inputs
-pub mod Known
-pub mod Left
+pub mod LongLines
 pub mod Merging
 pub mod Outcomes
 pub mod RowsBeside
 pub mod Runs
 pub mod Scanning
 pub mod Searching
-pub mod Skips
 pub mod Windows

@@ -1,77 +1,80 @@
--- What is left of the input, and what comes next of it.
-use Rattle.std.specs.Prelude.{◌≡◌, ℕ, ◌+◌, ◌-◌, ◌<◌, ◌≤◌, List, [], ◌∷◌, ◌++◌, length, take, drop, true, Option, Some, None, IfSome}
-use Rattle.std.specs.Io.KnownBytes.{Consumes, Keeps}
-use Rattle.std.specs.Option.{option_map}
-use Rattle.mm_lang.specs.Lines.{pieces_of, without_return, HasNoFeed}
+-- The input, line by line.
+use Rattle.std.specs.Prelude.{◌≡◌, ◌⊎◌, ℕ, ◌+◌, ◌-◌, ◌<◌, ◌≤◌, List, [], ◌∷◌, ◌++◌, length, take, true, false, Option, Some, if◌then◌else◌}
+use Rattle.std.specs.Io.KnownBytes.{Consumes, IsAtEnd}
+use Rattle.mm_lang.specs.Lines.{without_return, HasNoFeed}
 use Rattle.mm_value.specs.Watched.{inner_of, has_failed}
 use Rattle.mm_value.specs.declared.device.Watched.{Watched}
+use Rattle.mmdb_core.specs.Feeds.{EndsLine}
 use Rattle.mmdb_core.specs.declared.fault.RunFault.{RunFault}
 use Rattle.mmdb_core.specs.declared.fault.RunFault.TheVariants.{Read, Write, TooLong}
 use Rattle.mmdb_core.specs.declared.input.Input.{Input}
 use Rattle.mmdb_core.specs.declared.input.Next.{Next}
 use Rattle.mmdb_core.specs.declared.input.Next.TheVariants.{Line, Long, End}
 
--- The bytes that are left, where those that the reader has left are known: what was taken and not answered, and then
--- what the reader has left, as far as the limit goes.
-abbrev pub left_of : Input → Option (List ℕ) → Option (List ℕ)
-left_of input remaining = option_map (λ bytes. input.window.bytes ++ take (input.still - 1) bytes) remaining
-
 -- How many bytes can come at most.
 abbrev pub bytes_to_come : Input → ℕ
 bytes_to_come input = length input.window.bytes + input.still
 
--- What was taken from the reader counts against what may be taken.
-pub record TakesAllowed {R : Type 0} (remaining : R → Option (List ℕ)) (reader after : Watched R) (old new : Input) : Type 0 where
-  pub bytes : List ℕ
-  pub consumed : Consumes (remaining (inner_of reader)) (remaining (inner_of after)) bytes
-  pub counted : length bytes + new.still ≡ old.still
+-- How often the reader can be asked for more: each time it gives a byte that may be taken, and then once its end.
+abbrev pub fills_to_come : Input → ℕ
+fills_to_come input = if input.is_ended then 0 else input.still + 1
 
--- More was taken, or there is nothing more: what is left stays the same.
-pub record Fills {R : Type 0} (remaining : R → Option (List ℕ)) (reader after : Watched R) (old new : Input) : Type 0 where
-  pub left : Keeps (left_of old (remaining (inner_of reader))) (left_of new (remaining (inner_of after)))
-  pub taken : TakesAllowed remaining reader after old new
-  pub bound : bytes_to_come new ≤ bytes_to_come old
+-- Where the input is known to have ended, the reader has nothing left, and not more than the limit was taken.
+abbrev pub KnowsEnd : {R : Type 0} → (R → Option (List ℕ)) → Watched R → Input → Type 0
+KnowsEnd remaining reader input = input.is_ended ≡ true → (0 < input.still) × IsAtEnd (remaining (inner_of reader))
 
--- All that is left lies in the window.
-abbrev pub LiesInWindow : Input → Option (List ℕ) → Type 0
-LiesInWindow input None = Unit {0}
-LiesInWindow input (Some left) = left ≡ input.window.bytes
+-- The reader gave bytes, which but for the one past the limit were put behind those that were there, and some bytes are
+-- gone from the front.
+pub record Advances {R : Type 0} (remaining : R → Option (List ℕ)) (reader after : Watched R) (old new : Input) (gone : List ℕ) : Type 0 where
+  pub given : List ℕ
+  pub consumed : Consumes (remaining (inner_of reader)) (remaining (inner_of after)) given
+  pub counted : length given + new.still ≡ old.still
+  pub kept : old.window.bytes ++ take (old.still - 1) given ≡ gone ++ new.window.bytes
+  -- an input that has ended stays so, and nothing more is taken
+  pub ended : old.is_ended ≡ true → (given ≡ []) × (new.is_ended ≡ true)
+  pub at_end : KnowsEnd remaining reader old → KnowsEnd remaining after new
 
--- A line of this length and what leads to the next one lie in the window.
-pub record LiesInFront (window : List ℕ) (len step : ℕ) : Type 0 where
-  pub within : step ≤ length window
-  pub some : 0 < step
-  pub shorter : len ≤ step
-
--- It is the first line of what is left.
-abbrev pub IsFirstLine : List ℕ → ℕ → ℕ → List ℕ → Type 0
-IsFirstLine window len step left = pieces_of left ≡ take len window ∷ pieces_of (drop step left)
-
--- The first line of what was left was too long, and is gone.
-abbrev pub WasTooLong : List ℕ → List ℕ → Type 0
-WasTooLong before after = (line : List ℕ) × (4096 < length (without_return line)) × (pieces_of before ≡ line ∷ pieces_of after)
-
--- The same of bytes that are known.
-abbrev pub DropsLongLine : Option (List ℕ) → Option (List ℕ) → Type 0
-DropsLongLine None after = Unit {0}
-DropsLongLine (Some before) None = ⊥
-DropsLongLine (Some before) (Some after) = WasTooLong before after
-
--- What comes next.
-abbrev pub Comes : Input → Next → Option (List ℕ) → Option (List ℕ) → Type 0
-Comes input (Line len step) before after =
-    LiesInFront input.window.bytes len step × Keeps before after × IfSome after (IsFirstLine input.window.bytes len step)
-Comes input Long before after = DropsLongLine before after
-Comes input End before after = IfSome before (λ left. left ≡ [])
+-- A last line of this length, with no line feed, is all that is left.
+pub record IsLastLine (input : Input) (len step : ℕ) : Type 0 where
+  pub some : 0 < len
+  pub all : len ≡ length input.window.bytes
+  pub no_more : step ≡ len
+  pub no_feed : HasNoFeed input.window.bytes
+  pub ended : input.is_ended ≡ true
 
 -- What was found in front of what is left.
-abbrev pub Finds : Input → Next → Option (List ℕ) → Type 0
-Finds input (Line len step) left = LiesInFront input.window.bytes len step × IfSome left (IsFirstLine input.window.bytes len step)
-Finds input Long left = HasNoFeed input.window.bytes × (4097 < length input.window.bytes)
-Finds input End left = IfSome left (λ bytes. bytes ≡ []) × (0 < input.still)
+abbrev pub Finds : Input → Next → Type 0
+Finds input (Line len step) =
+    (step ≤ length input.window.bytes) × (len ≤ step) × ((EndsLine input.window.bytes len × (step ≡ len + 1)) ⊎ IsLastLine input len step)
+Finds input Long = HasNoFeed input.window.bytes × (4097 < length input.window.bytes)
+Finds input End = (input.window.bytes ≡ []) × (input.is_ended ≡ true)
 
--- Why an input breaks off: its reader failed, or gave more than the limit.
+-- The bytes are a line with the line feed behind it, or a last line behind which nothing is left.
+pub record IsLine (gone line : List ℕ) (after : Input) : Type 0 where
+  pub no_feed : HasNoFeed line
+  pub end : (gone ≡ line ++ 10 ∷ []) ⊎ ((gone ≡ line) × (0 < length line) × (after.window.bytes ≡ []) × (after.is_ended ≡ true))
+
+-- A line is gone from the front of the input.
+pub record PassesLine {R : Type 0} (remaining : R → Option (List ℕ)) (reader after : Watched R) (old new : Input) (line : List ℕ) : Type 0 where
+  pub gone : List ℕ
+  pub advances : Advances remaining reader after old new gone
+  pub is_line : IsLine gone line new
+
+-- What comes next of an input.
+abbrev pub Comes : {R : Type 0} → (R → Option (List ℕ)) → Watched R → Watched R → Input → Input → Next → Type 0
+Comes remaining reader after old new (Line len step) = Advances remaining reader after old new [] × Finds new (Line len step)
+Comes remaining reader after old new Long = (line : List ℕ) × PassesLine remaining reader after old new line × (4096 < length (without_return line))
+Comes remaining reader after old new End = Advances remaining reader after old new [] × Finds new End
+
+-- Why an input breaks off before its end: its reader failed, or gave more than the limit.
 abbrev pub IsFault : {R : Type 0} → Input → Watched R → RunFault → Type 0
-IsFault input reader Read = (has_failed reader ≡ true) × (0 < input.still)
+IsFault input reader Read = (input.is_ended ≡ false) × (has_failed reader ≡ true) × (0 < input.still)
 IsFault input reader Write = ⊥
-IsFault input reader TooLong = input.still ≡ 0
+IsFault input reader TooLong = (input.is_ended ≡ false) × (input.still ≡ 0)
+
+-- An input breaks off before its next line has ended.
+pub record StopsInLine {R : Type 0} (remaining : R → Option (List ℕ)) (reader after : Watched R) (old new : Input) (fault : RunFault) : Type 0 where
+  pub gone : List ℕ
+  pub advances : Advances remaining reader after old new gone
+  pub no_feed : HasNoFeed (gone ++ new.window.bytes)
+  pub why : IsFault new after fault

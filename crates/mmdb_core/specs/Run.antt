@@ -1,9 +1,10 @@
 -- A run of the machine of row lists over the lines of an input.
-use Rattle.std.specs.Prelude.{◌≡◌, ◌↔◌, ℕ, ◌+◌, ◌<◌, ◌≤◌, Bool, true, false, ◌&&◌, if◌then◌else◌, List, [], ◌∷◌, ◌++◌, length, Option, Some, None, Result, Ok, Err}
+use Rattle.std.specs.Prelude.{◌≡◌, ◌↔◌, ℕ, ◌+◌, ◌<◌, ◌≤◌, Bool, true, false, ◌&&◌, if◌then◌else◌, List, [], ◌∷◌, ◌++◌, length, take, Option, Some, None, Result, Ok, Err}
 use Rattle.std.specs.Io.KnownBytes.{Appends, Consumes}
-use Rattle.mm_lang.specs.Lines.{lines_of}
+use Rattle.mm_lang.specs.Lines.{lines_of, whole_lines_of}
 use Rattle.mm_lang.specs.Reading.{reading, takes_memory}
 use Rattle.mm_lang.specs.ReplyText.{reply_text}
+use Rattle.mm_value.specs.Device.{AppendsPrefix}
 use Rattle.mm_value.specs.Watched.{inner_of}
 use Rattle.mm_value.specs.declared.device.Watched.{Watched}
 use Rattle.mm_value.specs.declared.refusal.Refusal.{Refusal}
@@ -13,6 +14,8 @@ use Rattle.mm_query.specs.State.{State, first_state}
 use Rattle.mm_query.specs.declared.command.Command.{Command}
 use Rattle.mm_query.specs.declared.reply.Reply.{Reply}
 use Rattle.mm_query.specs.declared.reply.Reply.TheVariants.{Done, Count, Rows, Refused}
+use Rattle.mmdb_core.specs.declared.fault.RunFault.{RunFault}
+use Rattle.mmdb_core.specs.declared.fault.RunFault.TheVariants.{Read, Write, TooLong}
 use Rattle.mmdb_core.specs.declared.limits.Totals.{Totals}
 
 -- A refusal is the reply, and the state stays.
@@ -75,3 +78,27 @@ pub record TakesWithin {R : Type 0} (remaining : R → Option (List ℕ)) (old n
   pub consumed : Consumes (remaining (inner_of old)) (remaining (inner_of new)) bytes
   pub within : length bytes ≤ limit + 1
   pub too_long : IsTooLong ↔ ((limit < length bytes) × IsUnfailed)
+
+-- The replies to some lines were written, and nothing else, memory refused to some of them or not.
+pub record AnswersLines (lines : List (List ℕ)) (old new : Option (List ℕ)) : Type 0 where
+  pub choices : List Bool
+  pub written : Appends old new (transcript choices first_state lines).text
+
+-- A front of such replies was written.
+pub record AnswersFront (lines : List (List ℕ)) (old new : Option (List ℕ)) : Type 0 where
+  pub choices : List Bool
+  pub written : AppendsPrefix old new (transcript choices first_state lines).text
+
+-- What was written by a run that broke off, by the bytes within the limit that its reader gave: where the reader failed or
+-- gave too much, the replies to the lines that a line feed ended; where the writer failed, a front of the replies.
+abbrev pub IsWritten : RunFault → List ℕ → Option (List ℕ) → Option (List ℕ) → Type 0
+IsWritten Read input old new = AnswersLines (whole_lines_of input) old new
+IsWritten Write input old new = AnswersFront (lines_of input) old new
+IsWritten TooLong input old new = AnswersLines (whole_lines_of input) old new
+
+-- How a run broke off: its reader gave some bytes, and that much of their replies was written.
+pub record BrokeOff {R : Type 0} (remaining : R → Option (List ℕ)) (reader after : Watched R) (limit : ℕ) (old new : Option (List ℕ)) (fault : RunFault) : Type 0 where
+  pub given : List ℕ
+  pub consumed : Consumes (remaining (inner_of reader)) (remaining (inner_of after)) given
+  pub within : length given ≤ limit + 1
+  pub written : IsWritten fault (take limit given) old new

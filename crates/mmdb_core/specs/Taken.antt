@@ -6,8 +6,8 @@ use Rattle.mm_value.specs.declared.device.Watched.{Watched}
 
 -- So many bytes were taken from the reader and put behind those that were there. None were only at the end.
 pub record Takes {R : Type 0} (remaining : R → Option (List ℕ)) (reader after : Watched R) (old new : List ℕ) (n : ℕ) : Type 0 where
-  pub bytes : List ℕ
-  pub count : length bytes ≡ n
-  pub behind : new ≡ old ++ bytes
-  pub consumed : Consumes (remaining (inner_of reader)) (remaining (inner_of after)) bytes
+  pub given : List ℕ
+  pub count : length given ≡ n
+  pub behind : new ≡ old ++ given
+  pub consumed : Consumes (remaining (inner_of reader)) (remaining (inner_of after)) given
   pub at_end : n ≡ 0 → IsAtEnd (remaining (inner_of after))

@@ -6,6 +6,7 @@ ghost use Rattle.mm_lang.specs.Lines.{without_return};
 ghost use Rattle.mm_value.specs.Device.{Writes};
 ghost use Rattle.mm_value.specs.Watched.{inner_of, has_failed};
 ghost use Rattle.mm_query.specs.declared.command.Command.TheVariants.{Define, Change, Scan};
+ghost use Rattle.mm_query.specs.declared.reply.Reply.TheVariants.{Rows};
 ghost use Rattle.mmdb_core.specs.Respond.{AnswersLine, IsStep, RespondsTo};
 ghost use Rattle.mmdb_core.specs.Run.{is_error};
 
@@ -13,7 +14,7 @@ use crate::database::Database;
 use mm_lang::{Command, Reply, parse, write_reply, write_rows};
 use mm_query::{Definition, Mutation};
 use mm_schema::Name;
-use mm_value::{Refusal, Watched, WriteFault};
+use mm_value::{Refusal, Row, Watched, WriteFault};
 use std::alloc::Global;
 use std::io::Write;
 
@@ -35,8 +36,7 @@ pub(crate) fn answer_line<W: Write>(
     writer: &mut Watched<W>,
 ) -> Result<bool, WriteFault>
     requires { has_failed writer.old ≡ false }
-    ensures ok { IfOk result (AnswersLine W.contents writer.old writer.new line.now database.old database.new) }
-    ensures failed { has_failed writer.new ≡ is_err result }
+    ensures { AnswersLine W.contents writer.old writer.new line.now database.old database.new result }
 {
     let command = parse(alloc, line);
     respond(alloc, database, command, writer)
@@ -50,8 +50,7 @@ fn respond<W: Write>(
     writer: &mut Watched<W>,
 ) -> Result<bool, WriteFault>
     requires { has_failed writer.old ≡ false }
-    ensures ok { IfOk result (RespondsTo W.contents writer.old writer.new command database.old database.new) }
-    ensures failed { has_failed writer.new ≡ is_err result }
+    ensures { RespondsTo W.contents writer.old writer.new command database.old database.new result }
 {
     let reply = match command {
         Ok(Command::Nothing) => return Ok(false),
@@ -93,15 +92,10 @@ fn answer_scan<W: Write>(
     writer: &mut Watched<W>,
 ) -> Result<bool, WriteFault>
     requires { has_failed writer.old ≡ false }
-    ensures ok { IfOk result (RespondsTo W.contents writer.old writer.new (Ok (Scan table.now)) database.now database.now) }
-    ensures failed { has_failed writer.new ≡ is_err result }
+    ensures { RespondsTo W.contents writer.old writer.new (Ok (Scan table.now)) database.now database.now result }
 {
     match database.scan(table) {
-        Ok(rows) => {
-            write_rows(rows, writer)?;
-            flush(writer)?;
-            Ok(false)
-        }
+        Ok(rows) => send_rows(rows, writer),
         Err(refusal) => send(&Reply::Refused(refusal), writer),
     }
 }
@@ -115,6 +109,17 @@ pub(crate) fn send<W: Write>(reply: &Reply, writer: &mut Watched<W>) -> Result<b
     write_reply(reply, writer)?;
     flush(writer)?;
     Ok(matches!(reply, Reply::Refused(_)))
+}
+
+/// Writes the reply of a scan and flushes it. It is no `error`.
+fn send_rows<W: Write>(rows: &[Row], writer: &mut Watched<W>) -> Result<bool, WriteFault>
+    requires { has_failed writer.old ≡ false }
+    ensures written { Writes W.contents writer.old writer.new result (reply_text (Rows rows.now)) }
+    ensures refused { IfOk result (λ refused. refused ≡ false) }
+{
+    write_rows(rows, writer)?;
+    flush(writer)?;
+    Ok(false)
 }
 
 /// Flushes what was written.

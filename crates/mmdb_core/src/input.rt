@@ -1,12 +1,8 @@
 //! The input, line by line.
-ghost use Rattle.std.specs.Prelude.{◌≡◌, ◌+◌, ◌^◌, ◌<◌, ◌≤◌, [], drop, length, true, IfOk, OnOk, IfErr, MatchOption};
-ghost use Rattle.std.specs.Bool.{OnTrue, OnFalse};
-ghost use Rattle.std.specs.Io.KnownBytes.{IsAtEnd};
+ghost use Rattle.std.specs.Prelude.{◌≡◌, ◌+◌, ◌^◌, ◌<◌, ◌≤◌, [], drop, length, true, false, IfOk, OnOk, IfErr, OnErr, MatchOption};
 ghost use Rattle.mm_lang.specs.Lines.{HasNoFeed};
-ghost use Rattle.mm_value.specs.Watched.{inner_of, has_failed};
-ghost use Rattle.mmdb_core.specs.Input.{left_of, bytes_to_come, Comes, Fills, Finds, IsFault, LiesInWindow, TakesAllowed};
+ghost use Rattle.mmdb_core.specs.Input.{fills_to_come, Advances, Comes, Finds, IsFault, StopsInLine};
 ghost use Rattle.mmdb_core.specs.Feeds.{EndsLine, EndsWith, LooksLike};
-ghost use Rattle.mmdb_core.specs.declared.fault.RunFault.TheVariants.{Read as ReadFault};
 
 use crate::fault::RunFault;
 use crate::limits::Limits;
@@ -22,6 +18,8 @@ pub(crate) struct Input {
     window: Window,
     // One more than the limit leaves: the last of them shows that the input is too long, and is dropped.
     still: u64,
+    // The reader gave no more bytes, and is not asked again.
+    is_ended: bool,
 }
 
 /// What comes next of an input.
@@ -61,10 +59,12 @@ impl Input {
         ensures window { result.window.bytes ≡ [] }
         ensures still { result.still ≡ limits + 1 }
         ensures bound { result.still ≤ 2 ^ 40 + 1 }
+        ensures going { result.is_ended ≡ false }
     {
         Input {
             window: Window::new(),
             still: limits.max_input() + 1,
+            is_ended: false,
         }
     }
 
@@ -75,41 +75,33 @@ impl Input {
         self.window.as_slice()
     }
 
-    /// Takes more from the reader, and tells whether there was more.
-    fn fill<R: Read>(&mut self, reader: &mut Watched<R>) -> Result<bool, RunFault>
+    /// Takes more from the reader, or learns that there is no more.
+    fn fill<R: Read>(&mut self, reader: &mut Watched<R>) -> Result<(), RunFault>
         requires short { length self.old.window.bytes < 8192 }
         requires some { 0 < self.old.still }
-        ensures fills { Fills R.remaining reader.old reader.new self.old self.new }
-        ensures more { IfOk result (λ more. OnTrue more (self.new.still < self.old.still)) }
-        ensures none { IfOk result (λ more. OnFalse more
-            (LiesInWindow self.new (left_of self.new (R.remaining (inner_of reader.new))))) }
-        ensures same { IfOk result (λ more. OnFalse more
-            ((self.new.window.bytes ≡ self.old.window.bytes) × (self.new.still ≡ self.old.still))) }
-        ensures ended { IfOk result (λ more. OnFalse more (IsAtEnd (R.remaining (inner_of reader.new)))) }
-        ensures fault { IfErr result (λ e. (e ≡ ReadFault) × (has_failed reader.new ≡ true) × (0 < self.new.still)) }
+        requires going { self.old.is_ended ≡ false }
+        ensures advances { Advances R.remaining reader.old reader.new self.old self.new [] }
+        ensures nearer { OnOk result (fills_to_come self.new < fills_to_come self.old) }
+        ensures fault { IfErr result (IsFault self.new reader.new) }
+        ensures same { OnErr result (self.new.window.bytes ≡ self.old.window.bytes) }
     {
         let Ok(n) = self.window.fill(reader, self.still as usize) else {
             return Err(RunFault::Read);
         };
         self.still -= n as u64;
+        self.is_ended = n == 0;
         if self.still == 0 {
             self.window.drop_last();
         }
-        Ok(n > 0)
+        Ok(())
     }
 
     /// What comes next. After a `Line` the caller answers it, and then drops it by `skip`.
     /// `Read` where the reader answered an error, `TooLong` where it gave more than the limit; neither is told before
     /// each whole line within the limit has come.
     pub(crate) fn next<R: Read>(&mut self, reader: &mut Watched<R>) -> Result<Next, RunFault>
-        ensures comes { IfOk result (λ next. Comes self.new next
-            (left_of self.old (R.remaining (inner_of reader.old))) (left_of self.new (R.remaining (inner_of reader.new)))) }
-        ensures taken { TakesAllowed R.remaining reader.old reader.new self.old self.new }
-        ensures bound { bytes_to_come self.new ≤ bytes_to_come self.old }
-        ensures nearer { IfOk result (λ next. next ≡ Next.Long → bytes_to_come self.new < bytes_to_come self.old) }
-        ensures within { IfOk result (λ next. next ≡ Next.End → 0 < self.new.still) }
-        ensures at_end { IfOk result (λ next. next ≡ Next.End → IsAtEnd (R.remaining (inner_of reader.new))) }
-        ensures fault { IfErr result (IsFault self.new reader.new) }
+        ensures comes { IfOk result (Comes R.remaining reader.old reader.new self.old self.new) }
+        ensures stops { IfErr result (StopsInLine R.remaining reader.old reader.new self.old self.new) }
     {
         let next = self.find_line(reader)?;
         if let Next::Long = next {
@@ -123,27 +115,29 @@ impl Input {
         requires { step ≤ length self.old.window.bytes }
         ensures window { self.new.window.bytes ≡ drop step self.old.window.bytes }
         ensures still { self.new.still ≡ self.old.still }
+        ensures ended { self.new.is_ended ≡ self.old.is_ended }
     {
         self.window.skip(step);
     }
 
     /// Takes from the reader until it can be told what comes next. A line that is too long stays in the window.
     fn find_line<R: Read>(&mut self, reader: &mut Watched<R>) -> Result<Next, RunFault>
-        ensures fills { Fills R.remaining reader.old reader.new self.old self.new }
-        ensures at_end { IfOk result (λ next. next ≡ Next.End → IsAtEnd (R.remaining (inner_of reader.new))) }
-        ensures finds { IfOk result (λ next. Finds self.new next (left_of self.new (R.remaining (inner_of reader.new)))) }
+        ensures advances { Advances R.remaining reader.old reader.new self.old self.new [] }
+        ensures finds { IfOk result (Finds self.new) }
         ensures fault { IfErr result (IsFault self.new reader.new) }
+        ensures no_feed { OnErr result (HasNoFeed self.new.window.bytes) }
     {
         loop {
             if let Some(next) = look(self.taken()) {
                 return Ok(next);
             }
+            if self.is_ended {
+                return Ok(self.last_line());
+            }
             if self.still == 0 {
                 return Err(RunFault::TooLong);
             }
-            if !self.fill(reader)? {
-                return Ok(self.last_line());
-            }
+            self.fill(reader)?;
         }
     }
 
@@ -162,32 +156,29 @@ impl Input {
     fn skip_line<R: Read>(&mut self, reader: &mut Watched<R>) -> Result<(), RunFault>
         requires no_feed { HasNoFeed self.old.window.bytes }
         requires long { 4097 < length self.old.window.bytes }
-        ensures gone { OnOk result (Comes self.new Next.Long
-            (left_of self.old (R.remaining (inner_of reader.old))) (left_of self.new (R.remaining (inner_of reader.new)))) }
-        ensures taken { TakesAllowed R.remaining reader.old reader.new self.old self.new }
-        ensures nearer { bytes_to_come self.new < bytes_to_come self.old }
-        ensures fault { IfErr result (IsFault self.new reader.new) }
+        ensures gone { OnOk result (Comes R.remaining reader.old reader.new self.old self.new Next.Long) }
+        ensures stops { IfErr result (StopsInLine R.remaining reader.old reader.new self.old self.new) }
     {
         self.clear();
-        loop {
+        while !self.is_ended {
             if self.still == 0 {
                 return Err(RunFault::TooLong);
             }
-            if !self.fill(reader)? {
-                return Ok(());
-            }
+            self.fill(reader)?;
             if let Some(len) = line_end(self.taken()) {
                 self.skip(len + 1);
                 return Ok(());
             }
             self.clear();
         }
+        Ok(())
     }
 
     /// Drops all bytes that were taken.
     fn clear(&mut self)
         ensures window { self.new.window.bytes ≡ [] }
         ensures still { self.new.still ≡ self.old.still }
+        ensures ended { self.new.is_ended ≡ self.old.is_ended }
     {
         self.skip(self.taken().len());
     }

@@ -1,9 +1,8 @@
 //! A run of the database over an input.
-ghost use Rattle.std.specs.Prelude.{◌≡◌, ◌+◌, ◌<◌, ◌↔◌, false, true, IfOk, IfErr, IfSome, OnOk, IsErrOf, MatchOption};
+ghost use Rattle.std.specs.Prelude.{◌≡◌, ◌↔◌, false, true, IfOk, IfErr, IfSome, IsErrOf};
 ghost use Rattle.mm_value.specs.Watched.{inner_of, has_failed};
-ghost use Rattle.mmdb_core.specs.Input.{TakesAllowed, bytes_to_come, left_of};
-ghost use Rattle.mmdb_core.specs.Respond.{AnswersNext, BreaksOff, EndsAll};
-ghost use Rattle.mmdb_core.specs.Run.{Answers, TakesWithin};
+ghost use Rattle.mmdb_core.specs.Respond.{GoesOn};
+ghost use Rattle.mmdb_core.specs.Run.{Answers, BrokeOff, TakesWithin};
 
 use crate::answer::{answer_line, send, without_return};
 use crate::database::Database;
@@ -42,6 +41,10 @@ pub fn run<R: Read, W: Write>(
 
     ensures read { IsErrOf result RunFault.Read → has_failed reader.new ≡ true }
     ensures write { IsErrOf result RunFault.Write ↔ (has_failed writer.new ≡ true) }
+
+    // What was written where the run broke off.
+    ensures broke_off { IfErr result (BrokeOff R.remaining reader.old reader.new limits
+        (W.contents (inner_of writer.old)) (W.contents (inner_of writer.new))) }
 {
     let mut database = Database::new(alloc);
     let mut input = Input::new(limits);
@@ -65,14 +68,7 @@ fn answer_next<R: Read, W: Write>(
     writer: &mut Watched<W>,
 ) -> Result<Option<bool>, RunFault>
     requires { has_failed writer.old ≡ false }
-    ensures line { IfOk result (λ answered. IfSome answered (AnswersNext W.contents writer.old writer.new database.old database.new
-        (left_of input.old (R.remaining (inner_of reader.old))) (left_of input.new (R.remaining (inner_of reader.new))))) }
-    ensures end { IfOk result (λ answered. MatchOption answered
-        (EndsAll R.remaining W.contents input.old input.new reader.old reader.new database.old database.new writer.old writer.new) (λ _. Unit {0})) }
-    ensures nearer { IfOk result (λ answered. IfSome answered (λ _. bytes_to_come input.new < bytes_to_come input.old)) }
-    ensures taken { TakesAllowed R.remaining reader.old reader.new input.old input.new }
-    ensures unfailed { OnOk result (has_failed writer.new ≡ false) }
-    ensures fault { IfErr result (BreaksOff input.new reader.new writer.new) }
+    ensures { GoesOn R.remaining W.contents reader.old reader.new input.old input.new database.old database.new writer.old writer.new result }
 {
     let answered = match input.next(reader)? {
         Next::End => return Ok(None),

@@ -1,5 +1,5 @@
-use Rattle.std.proofs.Common.{Some, None, Ok, inl, refl, sym, ap, subst, ◌∙◌}
-use Rattle.mm_value.specs.Watched.{inner_of}
+use Rattle.std.proofs.Common.{Some, None, false, Ok, inl, refl, sym, ap, subst, ◌∙◌}
+use Rattle.mm_value.proofs.Writing.{Writes-nil}
 use Rattle.mm_query.specs.declared.command.Command.{Command}
 use Rattle.mm_query.specs.declared.command.Command.TheVariants.{Define, Change}
 use Rattle.mm_query.specs.Machine.{Outcome}
@@ -7,19 +7,20 @@ use Rattle.mm_query.specs.State.{State}
 use Rattle.mm_query.specs.declared.reply.Reply.{Reply}
 use Rattle.mm_query.specs.declared.reply.Reply.TheVariants.{Refused}
 use Rattle.mmdb_core.specs.Respond.{MayLeadTo}
-use Rattle.mmdb_core.proofs.Answering.{appends_nothing, leads_step, sent}
+use Rattle.mmdb_core.proofs.Answering.{leads_step, sent}
 use Rattle.mmdb_core.proofs.answer.respond.Goals as goal
 use Rattle.mmdb_core.proofs.answer.respond.Goals.{in-Ok-Define, in-Ok-Change, in-Err}
 
-pub returns-in-Ok-Nothing-clause-ok : goal.returns-in-Ok-Nothing-clause-ok
-returns-in-Ok-Nothing-clause-ok g c = record {
+pub returns-in-Ok-Nothing : goal.returns-in-Ok-Nothing
+returns-in-Ok-Nothing g c = record {
   outcome = record { reply = None; state = c.args.database.now };
-  leads = subst (λ read. MayLeadTo read c.args.database.now (record { reply = None; state = c.args.database.now })) (sym (c.in-Ok-Nothing.is ∙ ap (λ (command : Command). Ok command) c.in-Ok-Nothing.field-0-is)) (inl refl);
-  responds = record { state = refl; written = appends_nothing (g.W.Write.contents (inner_of c.args.writer.now)); refused = refl };
+  leads = subst (λ read. MayLeadTo read c.args.database.now (record { reply = None; state = c.args.database.now }))
+      (sym (c.in-Ok-Nothing.is ∙ ap (λ (command : Command). Ok command) c.in-Ok-Nothing.field-0-is)) (inl refl);
+  replies = record { state = refl; writes = Writes-nil false c.requires; refused = refl };
 }
 
-pub returns-clause-ok : goal.returns-clause-ok
-returns-clause-ok g c =
+pub returns : goal.returns
+returns g c =
     let reply_and : Reply → State → Outcome = λ reply state. record { reply = Some reply; state = state } in
     let leads : MayLeadTo c.args.command c.args.database.now (reply_and c.match-command.reply c.match-command.database) =
     elim c.match-command.branch [
@@ -35,4 +36,4 @@ returns-clause-ok g c =
           subst (λ read. MayLeadTo read c.args.database.now (reply_and c.match-command.reply c.match-command.database)) (sym w.in-Err.is)
           (ap (λ r. reply_and r c.match-command.database) w.reply-is ∙ ap (reply_and (Refused w.in-Err.refusal)) w.database-is)
     ] in
-    sent g.W.Write.contents c.args.writer.now c.send.new.writer c.send.result c.match-command.reply c.args.command c.args.database.now c.match-command.database c.send.ensures.written c.send.ensures.refused leads
+    sent c.match-command.reply c.args.command c.args.database.now c.match-command.database c.send.ensures.written c.send.ensures.refused leads

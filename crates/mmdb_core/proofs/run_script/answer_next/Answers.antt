@@ -1,37 +1,63 @@
-use Rattle.std.proofs.Common.{List, ℕ, Option, take, ap, subst, sym, ◌∙◌, ◌≡◌}
-use Rattle.std.specs.Prelude.{IfOk}
+use Rattle.std.proofs.Common.{◌≡◌, take, ap, subst, ◌∙◌}
 use Rattle.mm_lang.specs.Lines.{without_return}
-use Rattle.mm_value.specs.Watched.{inner_of}
-use Rattle.mmdb_core.specs.Input.{Comes, left_of}
-use Rattle.mmdb_core.specs.Respond.{AnswersLine, AnswersNext}
-use Rattle.mmdb_core.specs.declared.input.Input.{Input}
-use Rattle.mmdb_core.proofs.Answering.{long_answered, line_answered}
-use Rattle.mmdb_core.proofs.Known.{left_skipped}
+use Rattle.mmdb_core.specs.Input.{Comes}
+use Rattle.mmdb_core.specs.Respond.{AnswersLine, GoesOn, PassesAnswered}
+use Rattle.mmdb_core.proofs.Answering.{answered_goes_on, answers_long, goes_on_of, passed_as, passes_first}
 use Rattle.mmdb_core.proofs.run_script.answer_next.Goals as goal
 use Rattle.mmdb_core.proofs.run_script.answer_next.Goals.{in-Long, in-Line}
 
-pub returns-in-Ok-clause-line : goal.returns-in-Ok-clause-line
-returns-in-Ok-clause-line g c =
+pub returns-in-Ok : goal.returns-in-Ok
+returns-in-Ok g c =
+    let remaining = g.R.Read.remaining in
     let contents = g.W.Write.contents in
-    let before = left_of c.args.input.now (g.R.Read.remaining (inner_of c.args.reader.now)) in
-    let left : Input → Option (List ℕ) = λ input. left_of input (g.R.Read.remaining (inner_of c.next.new.reader)) in
-    let comes = c.in_ok-next.ensures.comes in
+    let goes_on = GoesOn remaining contents c.args.reader.now c.next.new.reader c.args.input.now c.match-branch-2.input c.args.database.now c.match-branch-2.database c.args.writer.now c.match-branch-2.writer in
+    let comes = Comes remaining c.args.reader.now c.next.new.reader c.args.input.now c.next.new.self in
+    let passed : PassesAnswered remaining contents c.args.reader.now c.next.new.reader c.args.input.now c.match-branch-2.input c.args.database.now c.match-branch-2.database c.args.writer.now c.match-branch-2.writer
+    c.match-branch-2.answered =
     elim c.match-branch-2.branch [
       | in-Long w ↦
-          subst (λ input. AnswersNext contents c.args.writer.now c.match-branch-2.writer c.args.database.now c.match-branch-2.database before (left input) c.in-Ok.is_refused) (sym w.input-is)
-          (subst (λ database. AnswersNext contents c.args.writer.now c.match-branch-2.writer c.args.database.now database before (left c.next.new.self) c.in-Ok.is_refused) (sym w.database-is)
-          (subst (λ writer. AnswersNext contents c.args.writer.now writer c.args.database.now c.args.database.now before (left c.next.new.self) c.in-Ok.is_refused) (sym w.writer-is)
-          (long_answered contents c.args.writer.now w.send-answered.new.writer c.args.database.now w.send-answered.result c.in-Ok.is_refused before (left c.next.new.self) w.send-answered.ensures.written w.send-answered.ensures.refused (sym w.answered-is ∙ c.in-Ok.is)
-          (subst (λ next. Comes c.next.new.self next before (left c.next.new.self)) w.in-Long.is comes))))
+          (let long = subst comes w.in-Long.is c.in_ok-next.ensures.comes in
+          passed_as w.input-is w.database-is w.writer-is w.answered-is (record {
+            line = long.0;
+            passes = long.1;
+            answers = answers_long (without_return long.0) c.args.database.now long.2 w.send-answered.ensures.written w.send-answered.ensures.refused;
+          }))
       | in-Line w ↦
-          (let comes_line = subst (λ next. Comes c.next.new.self next before (left c.next.new.self)) w.in-Line.is comes in
-          let bytes = c.next.new.self.window.bytes in
+          (let bytes = c.next.new.self.window.bytes in
           let line_is : w.without_return-line.result.now ≡ without_return (take w.in-Line.len bytes) = w.without_return-line.ensures ∙ ap (λ b. without_return (take w.in-Line.len b)) w.taken.ensures in
-          subst (λ input. AnswersNext contents c.args.writer.now c.match-branch-2.writer c.args.database.now c.match-branch-2.database before (left input) c.in-Ok.is_refused) (sym w.input-is)
-          (subst (λ database. AnswersNext contents c.args.writer.now c.match-branch-2.writer c.args.database.now database before (left w.skip.new.self) c.in-Ok.is_refused) (sym w.database-is)
-          (subst (λ writer. AnswersNext contents c.args.writer.now writer c.args.database.now w.answer_line-answered.new.database before (left w.skip.new.self) c.in-Ok.is_refused) (sym w.writer-is)
-          (line_answered contents c.args.writer.now w.answer_line-answered.new.writer c.args.database.now w.answer_line-answered.new.database w.answer_line-answered.result c.in-Ok.is_refused before (left c.next.new.self) (left w.skip.new.self) bytes w.in-Line.len w.in-Line.step comes_line.0 comes_line.1 comes_line.2
-          (left_skipped c.next.new.self w.skip.new.self w.in-Line.step (g.R.Read.remaining (inner_of c.next.new.reader)) w.skip.ensures.window w.skip.ensures.still)
-          (subst (λ line. IfOk w.answer_line-answered.result (AnswersLine contents c.args.writer.now w.answer_line-answered.new.writer line c.args.database.now w.answer_line-answered.new.database)) line_is w.answer_line-answered.ensures.ok)
-          (sym w.answered-is ∙ c.in-Ok.is)))))
-    ]
+          passed_as w.input-is w.database-is w.writer-is w.answered-is (record {
+            line = take w.in-Line.len bytes;
+            passes = passes_first w.in-Line.len w.in-Line.step (subst comes w.in-Line.is c.in_ok-next.ensures.comes) w.skip.ensures.window w.skip.ensures.still w.skip.ensures.ended;
+            answers = subst (λ line. AnswersLine contents c.args.writer.now w.answer_line-answered.new.writer line c.args.database.now w.answer_line-answered.new.database w.answer_line-answered.result) line_is
+                w.answer_line-answered.ensures;
+          }))
+    ] in
+    subst (λ result. goes_on (goes_on_of result)) c.in-Ok.is (answered_goes_on c.match-branch-2.answered passed)
+
+pub returns-in-Err : goal.returns-in-Err
+returns-in-Err g c =
+    let remaining = g.R.Read.remaining in
+    let contents = g.W.Write.contents in
+    let goes_on = GoesOn remaining contents c.args.reader.now c.next.new.reader c.args.input.now c.match-branch-2.input c.args.database.now c.match-branch-2.database c.args.writer.now c.match-branch-2.writer in
+    let comes = Comes remaining c.args.reader.now c.next.new.reader c.args.input.now c.next.new.self in
+    let passed : PassesAnswered remaining contents c.args.reader.now c.next.new.reader c.args.input.now c.match-branch-2.input c.args.database.now c.match-branch-2.database c.args.writer.now c.match-branch-2.writer
+    c.match-branch-2.answered =
+    elim c.match-branch-2.branch [
+      | in-Long w ↦
+          (let long = subst comes w.in-Long.is c.in_ok-next.ensures.comes in
+          passed_as w.input-is w.database-is w.writer-is w.answered-is (record {
+            line = long.0;
+            passes = long.1;
+            answers = answers_long (without_return long.0) c.args.database.now long.2 w.send-answered.ensures.written w.send-answered.ensures.refused;
+          }))
+      | in-Line w ↦
+          (let bytes = c.next.new.self.window.bytes in
+          let line_is : w.without_return-line.result.now ≡ without_return (take w.in-Line.len bytes) = w.without_return-line.ensures ∙ ap (λ b. without_return (take w.in-Line.len b)) w.taken.ensures in
+          passed_as w.input-is w.database-is w.writer-is w.answered-is (record {
+            line = take w.in-Line.len bytes;
+            passes = passes_first w.in-Line.len w.in-Line.step (subst comes w.in-Line.is c.in_ok-next.ensures.comes) w.skip.ensures.window w.skip.ensures.still w.skip.ensures.ended;
+            answers = subst (λ line. AnswersLine contents c.args.writer.now w.answer_line-answered.new.writer line c.args.database.now w.answer_line-answered.new.database w.answer_line-answered.result) line_is
+                w.answer_line-answered.ensures;
+          }))
+    ] in
+    subst (λ result. goes_on (goes_on_of result)) c.in-Err.is (answered_goes_on c.match-branch-2.answered passed)

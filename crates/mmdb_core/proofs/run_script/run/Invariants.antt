@@ -3,7 +3,7 @@ use Rattle.mmdb_core.proofs.Runs.{Running}
 use Rattle.mmdb_core.proofs.run_script.run.Given as goal
 
 abbrev pub invariant-loop-database : goal.invariant-loop-database
-invariant-loop-database g l = Running g.R.Read.remaining g.W.Write.contents l.fn.limits l.fn.reader l.reader l.fn.writer l.writer l.initial.input l.input l.database l.totals
+invariant-loop-database g l = Running g.R.Read.remaining g.W.Write.contents l.fn.limits l.fn.reader l.reader l.fn.writer l.writer l.input l.database l.totals
 
 abbrev pub decreases-loop-database : goal.decreases-loop-database
 decreases-loop-database g l = bytes_to_come l.input

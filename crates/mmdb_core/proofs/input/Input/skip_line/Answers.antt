@@ -1,39 +1,29 @@
-use Rattle.std.proofs.Common.{◌≡◌, subst}
-use Rattle.std.specs.Bool.{OnFalse}
+use Rattle.std.proofs.Common.{◌≡◌, true, rules, subst}
+use Rattle.std.proofs.lemmas.Result.{err_from_is_err_and}
 use Rattle.mm_lang.specs.Lines.{HasNoFeed}
-use Rattle.mm_value.specs.Watched.{inner_of}
 use Rattle.mmdb_core.specs.Feeds.{EndsLine}
-use Rattle.mmdb_core.specs.Input.{LiesInWindow, left_of}
-use Rattle.mmdb_core.proofs.Inputs.{taken_same}
-use Rattle.mmdb_core.proofs.Skips.{skips_taken, skips_end, skips_feed, skips_more}
+use Rattle.mmdb_core.specs.Input.{StopsInLine}
+use Rattle.mmdb_core.proofs.Inputs.{at-fault}
+use Rattle.mmdb_core.proofs.LongLines.{Drops-feed, Drops-last, Drops-more, Drops-stops}
 use Rattle.mmdb_core.proofs.input.Input.skip_line.Goals as goal
 
-pub returns-in_err-fill-clause-taken : goal.returns-in_err-fill-clause-taken
-returns-in_err-fill-clause-taken g c =
-    skips_taken g.R.Read.remaining c.args.reader.now c.loop-self.reader c.fill.new.reader c.args.self.now c.loop-self.self c.fill.new.self c.loop-self.invariant c.fill.ensures.fills
+pub returns-in_err-fill-clause-stops : goal.returns-in_err-fill-clause-stops
+returns-in_err-fill-clause-stops g c =
+    let p = err_from_is_err_and c.from_residual.result c.from_residual.ensures.1 in
+    at-fault (StopsInLine g.R.Read.remaining c.args.reader.now c.fill.new.reader c.args.self.now c.fill.new.self) c.from_residual.result c.in_err-fill.field-0.0 p.0 p.1 p.2
+    (Drops-stops c.in_err-fill.field-0.0 c.loop-self.invariant c.fill.ensures.advances c.in_err-fill.ensures.same c.in_err-fill.ensures.fault)
 
-pub returns-then-not-branch-clause-taken : goal.returns-then-not-branch-clause-taken
-returns-then-not-branch-clause-taken g c =
-    skips_taken g.R.Read.remaining c.args.reader.now c.loop-self.reader c.fill.new.reader c.args.self.now c.loop-self.self c.fill.new.self c.loop-self.invariant c.fill.ensures.fills
-
-pub returns-then-not-branch-clause-gone : goal.returns-then-not-branch-clause-gone
-returns-then-not-branch-clause-gone g c =
-    let none = subst (λ b. OnFalse b (LiesInWindow c.fill.new.self (left_of c.fill.new.self (g.R.Read.remaining (inner_of c.fill.new.reader))))) c.if-not-branch.true c.in_ok-fill.ensures.none in
-    let same = subst (λ b. OnFalse b ((c.fill.new.self.window.bytes ≡ c.loop-self.self.window.bytes) × (c.fill.new.self.still ≡ c.loop-self.self.still))) c.if-not-branch.true c.in_ok-fill.ensures.same in
-    skips_end g.R.Read.remaining c.args.reader.now c.loop-self.reader c.fill.new.reader c.args.self.now c.loop-self.self c.fill.new.self c.loop-self.invariant c.fill.ensures.fills none same.0
+pub returns-clause-gone : goal.returns-clause-gone
+returns-clause-gone g c =
+    let ended : c.loop-self.self.is_ended ≡ true = search rules in
+    Drops-last c.loop-self.invariant ended
 
 pub returns-in-Some-clause-gone : goal.returns-in-Some-clause-gone
 returns-in-Some-clause-gone g c =
-    skips_feed g.R.Read.remaining c.args.reader.now c.loop-self.reader c.fill.new.reader c.args.self.now c.loop-self.self c.fill.new.self c.loop-self.invariant c.fill.ensures.fills
-    c.skip.new.self c.in-Some.len (subst (λ bytes. EndsLine bytes c.in-Some.len) c.taken.ensures c.in-Some.ensures) c.skip.ensures.window c.skip.ensures.still
-
-pub returns-in-Some-clause-taken : goal.returns-in-Some-clause-taken
-returns-in-Some-clause-taken g c =
-    taken_same g.R.Read.remaining c.args.reader.now c.fill.new.reader c.args.self.now c.fill.new.self c.skip.new.self
-    (skips_taken g.R.Read.remaining c.args.reader.now c.loop-self.reader c.fill.new.reader c.args.self.now c.loop-self.self c.fill.new.self c.loop-self.invariant c.fill.ensures.fills)
-    c.skip.ensures.still
+    Drops-feed c.loop-self.invariant c.fill.ensures.advances c.in-Some.len (subst (λ bytes. EndsLine bytes c.in-Some.len) c.taken.ensures c.in-Some.ensures)
+    c.skip.ensures.window c.skip.ensures.still c.skip.ensures.ended
 
 pub loop-self-preserved : goal.loop-self-preserved
 loop-self-preserved g c =
-    skips_more g.R.Read.remaining c.args.reader.now c.loop-self.reader c.fill.new.reader c.args.self.now c.loop-self.self c.fill.new.self c.loop-self.invariant c.fill.ensures.fills
-    c.clear-in-loop-self.new.self (subst HasNoFeed c.taken.ensures c.in_default.ensures) c.clear-in-loop-self.ensures.window c.clear-in-loop-self.ensures.still
+    Drops-more c.loop-self.invariant c.fill.ensures.advances (subst HasNoFeed c.taken.ensures c.in_default.ensures)
+    c.clear-in-loop-self.ensures.window c.clear-in-loop-self.ensures.still c.clear-in-loop-self.ensures.ended

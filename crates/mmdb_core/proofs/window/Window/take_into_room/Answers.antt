@@ -13,7 +13,7 @@ pub returns-clause-ok : goal.returns-clause-ok
 returns-clause-ok g c =
     let h = c.in_ok-n.ensures in
     record {
-      bytes = take c.in_ok-n.n c.read.new.buf;
+      given = take c.in_ok-n.n c.read.new.buf;
       count = sym h.bound.1;
       behind = window_grown c.self.inside.bytes c.read.new.buf c.self.inside.start c.self.inside.end (c.self.inside.end + c.min.result - c.self.inside.end) c.in_ok-n.n c.self.invariant.0 (omega (arith, c.self.told)) h.bound.0
           ∙ ap (λ (held : Held). held.bytes ++ take c.in_ok-n.n c.read.new.buf) c.self.view_is;
