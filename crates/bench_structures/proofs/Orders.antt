@@ -24,9 +24,11 @@ second_equal Equal p equal = equal
 second_equal Greater p equal = absurd (cc)
 
 -- a reference lies apart from those of the partitions before
-pub apart_from_earlier : (keys : List ℕ) (refs : List RowRef) (added : RowRef) → All (λ a. a.part < added.part) refs → All (λ a. by_key keys a added ≢ Equal) refs
+pub apart_from_earlier : (keys : List ℕ) (refs : List RowRef) (added : RowRef) → All (λ a. a.part < added.part) refs
+    → All (λ a. by_key keys a added ≢ Equal) refs
 apart_from_earlier keys refs added earlier k d below equal =
     let a : RowRef = get_or refs k d in
     let before : a.part < added.part = earlier k d below in
-    let same : a.part ≡ added.part = exact_unsigned a.part added.part (second_equal (nat_cmp (key_in keys a) (key_in keys added)) (nat_cmp a.part added.part) equal) in
+    let same : a.part ≡ added.part = exact_unsigned a.part added.part
+    (second_equal (nat_cmp (key_in keys a) (key_in keys added)) (nat_cmp a.part added.part) equal) in
     omega (arith, same, before)

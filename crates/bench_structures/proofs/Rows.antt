@@ -12,11 +12,13 @@ pub is_elsewhere : (places : Places) (at other : RowRef) → slot_at places at �
 is_elsewhere places at other free (was, is) same = let both : Free ≡ Live was = sym free ∙ (ap (slot_at places) (sym same) ∙ is) in cc
 
 -- a row lives on when something else changes
-pub lives_on : (old new : Places) (at : RowRef) (slot : Content) → ChangesOnly old new at slot → (other : RowRef) → other ≢ at → IsLive old other → IsLive new other
+pub lives_on : (old new : Places) (at : RowRef) (slot : Content) → ChangesOnly old new at slot → (other : RowRef) → other ≢ at → IsLive old other
+    → IsLive new other
 lives_on old new at slot changes other apart (was, is) = (was, changes.others other apart ∙ is)
 
 -- a row lives on when one is placed in a free slot
-pub live_after : (old new : Places) (at : RowRef) (row : List Value) → slot_at old at ≡ Free → ChangesOnly old new at (Live row) → (other : RowRef) → IsLive old other → IsLive new other
+pub live_after : (old new : Places) (at : RowRef) (row : List Value) → slot_at old at ≡ Free → ChangesOnly old new at (Live row) → (other : RowRef)
+    → IsLive old other → IsLive new other
 live_after old new at row free changes other live = lives_on old new at (Live row) changes other (is_elsewhere old at other free live) live
 
 -- one more that differs from all others
@@ -33,15 +35,18 @@ module _ (refs : List RowRef) (at : RowRef) (apart : AreApart (refs ++ at ∷ []
   -- the others are apart too
   pub AreApart-front : AreApart refs
   AreApart-front j k d earlier within same =
-      apart j k d earlier (omega (arith, length-append refs (at ∷ []))) (get_or_append_left refs (at ∷ []) d j (omega arith) ∙ same ∙ sym (get_or_append_left refs (at ∷ []) d k within))
+      apart j k d earlier (omega (arith, length-append refs (at ∷ [])))
+      (get_or_append_left refs (at ∷ []) d j (omega arith) ∙ same ∙ sym (get_or_append_left refs (at ∷ []) d k within))
 
   -- the last differs from the others
   pub last_apart : All (λ other. other ≢ at) refs
   last_apart k d within same =
-      apart k (length refs) d within (omega (arith, length-append refs (at ∷ []))) (get_or_append_left refs (at ∷ []) d k within ∙ same ∙ sym (get_or_push refs at d (length refs) (omega arith)))
+      apart k (length refs) d within (omega (arith, length-append refs (at ∷ [])))
+      (get_or_append_left refs (at ∷ []) d k within ∙ same ∙ sym (get_or_push refs at d (length refs) (omega arith)))
 
 -- the others live on when the last goes
-pub All-live-front : (old hidden new : Places) (refs : List RowRef) (at : RowRef) (row : List Value) → All (IsLive old) (refs ++ at ∷ []) → AreApart (refs ++ at ∷ []) → ChangesOnly old hidden at (Hidden row) → ChangesOnly hidden new at Free → All (IsLive new) refs
+pub All-live-front : (old hidden new : Places) (refs : List RowRef) (at : RowRef) (row : List Value) → All (IsLive old) (refs ++ at ∷ [])
+    → AreApart (refs ++ at ∷ []) → ChangesOnly old hidden at (Hidden row) → ChangesOnly hidden new at Free → All (IsLive new) refs
 All-live-front old hidden new refs at row live apart hides frees k d within =
     let other : RowRef = get_or refs k d in
     let differs : other ≢ at = last_apart refs at apart k d within in
@@ -50,4 +55,5 @@ All-live-front old hidden new refs at row live apart hides frees k d within =
 
 -- the last lives
 pub last_live : (places : Places) (refs : List RowRef) (at : RowRef) → All (IsLive places) (refs ++ at ∷ []) → IsLive places at
-last_live places refs at live = subst (IsLive places) (get_or_push refs at at (length refs) (omega arith)) (live (length refs) at (omega (arith, length-append refs (at ∷ []))))
+last_live places refs at live =
+    subst (IsLive places) (get_or_push refs at at (length refs) (omega arith)) (live (length refs) at (omega (arith, length-append refs (at ∷ []))))

@@ -17,13 +17,17 @@ use Rattle.mlhash.proofs.ChainLemmas.{IsSet}
 
 module _ (q : Node → Bool) where
   -- a node that fails the test comes in the place of one that passes it
-  pub filter-set_out : (ns : List Node) (i : ℕ) (n : Node) → i < length ns → q (node_at ns i) ≡ true → q n ≡ false → IsPermutation (filter q ns) (node_at ns i ∷ filter q (set ns i n))
+  pub filter-set_out : (ns : List Node) (i : ℕ) (n : Node) → i < length ns → q (node_at ns i) ≡ true → q n ≡ false
+      → IsPermutation (filter q ns) (node_at ns i ∷ filter q (set ns i n))
   filter-set_out [] i n below was is = absurd (omega arith)
   filter-set_out (m ∷ ns) zero n below was is =
       rw (cond-true (q m) (m ∷ filter q ns) (filter q ns) was, cond-false (q n) (n ∷ filter q ns) (filter q ns) is) (IsPermutation-refl (m ∷ filter q ns))
   filter-set_out (m ∷ ns) (suc i) n below was is =
       let rest : IsPermutation (filter q ns) (node_at ns i ∷ filter q (set ns i n)) = filter-set_out ns i n (omega arith) was is in
-      elim (q m) as (λ b. IsPermutation (cond b (m ∷ filter q ns) (filter q ns)) (node_at ns i ∷ cond b (m ∷ filter q (set ns i n)) (filter q (set ns i n)))) [ true ↦ IsPermutation-trans _ _ _ (IsPermutation-cons m _ _ rest) (IsPermutation-sym _ _ (IsPermutation-middle (node_at ns i ∷ []) m (filter q (set ns i n)))) | false ↦ rest ]
+      elim (q m) as (λ b. IsPermutation (cond b (m ∷ filter q ns) (filter q ns))
+      (node_at ns i ∷ cond b (m ∷ filter q (set ns i n)) (filter q (set ns i n))))
+      [ true ↦ IsPermutation-trans _ _ _ (IsPermutation-cons m _ _ rest)
+      (IsPermutation-sym _ _ (IsPermutation-middle (node_at ns i ∷ []) m (filter q (set ns i n)))) | false ↦ rest ]
 
   -- a node that fails the test comes in the place of another
   pub filter-set_none : (ns : List Node) (i : ℕ) (n : Node) → i < length ns → q (node_at ns i) ≡ false → q n ≡ false → filter q (set ns i n) ≡ filter q ns
@@ -41,7 +45,8 @@ module _ (q : Node → Bool) where
   filter_nothing : (ns : List Node) → ((i : ℕ) → i < length ns → q (node_at ns i) ≡ true → ⊥) → filter q ns ≡ []
   filter_nothing [] none = refl
   filter_nothing (n ∷ ns) none =
-      cond-false (q n) (n ∷ filter q ns) (filter q ns) (elim (cases_Bool (q n)) [ inl t ↦ absurd (none 0 (omega arith) t) | inr f ↦ f ]) ∙ filter_nothing ns (λ i below t. none (suc i) (omega arith) t)
+      cond-false (q n) (n ∷ filter q ns) (filter q ns) (elim (cases_Bool (q n)) [ inl t ↦ absurd (none 0 (omega arith) t) | inr f ↦ f ])
+      ∙ filter_nothing ns (λ i below t. none (suc i) (omega arith) t)
 
   map_other : (ns : List Node) (at : ℕ) (n : Node) (is : List ℕ) → (Among at is → ⊥) → map (node_at (set ns at n)) is ≡ map (node_at ns) is
   map_other ns at n [] out = refl
@@ -50,7 +55,8 @@ module _ (q : Node → Bool) where
       ap (λ m. m ∷ map (node_at (set ns at n)) is) e ∙ ap (λ ms. node_at ns i ∷ ms) (map_other ns at n is (λ a. out (inr a)))
 
   -- different places with all nodes that pass have just those nodes
-  pub filter_places : q blank ≡ false → (is : List ℕ) (ns : List Node) → IsSet is → ((i : ℕ) → Among i is → i < length ns) → ((i : ℕ) → i < length ns → q (node_at ns i) ≡ true → Among i is) → IsPermutation (filter q (map (node_at ns) is)) (filter q ns)
+  pub filter_places : q blank ≡ false → (is : List ℕ) (ns : List Node) → IsSet is → ((i : ℕ) → Among i is → i < length ns)
+      → ((i : ℕ) → i < length ns → q (node_at ns i) ≡ true → Among i is) → IsPermutation (filter q (map (node_at ns) is)) (filter q ns)
   filter_places void [] ns distinct below every =
       subst (λ xs. IsPermutation [] xs) (sym (filter_nothing ns every)) (IsPermutation-refl [])
   filter_places void (i ∷ is) ns distinct below every =
@@ -60,9 +66,17 @@ module _ (q : Node → Bool) where
       let inside : i < length ns = below i (inl refl) in
       let at_i : node_at ms i ≡ blank = get_or-set_same ns i blank blank inside in
       let size : length ms ≡ length ns = length-set ns i blank in
-      let step : IsPermutation (filter q (map (node_at ms) is)) (filter q ms) = filter_places void is ms distinct.1 (λ j a. let b : j < length ns = below j (inr a) in omega (arith, size, b)) (λ j lt t. elim (cases_eq j i) [ inl e ↦ absurd (false≢true (sym void ∙ ap q (sym at_i) ∙ ap (λ k. q (node_at ms k)) (sym e) ∙ t)) | inr ne ↦ elim (every j (omega (arith, size, lt)) (ap q (sym (get_or-set_other ns i j blank blank ne)) ∙ t)) [ inl e ↦ absurd (ne e) | inr a ↦ a ] ]) in
+      let step : IsPermutation (filter q (map (node_at ms) is)) (filter q ms) = filter_places void is ms distinct.1
+      (λ j a. let b : j < length ns = below j (inr a) in omega (arith, size, b))
+      (λ j lt t. elim (cases_eq j i)
+      [ inl e ↦ absurd (false≢true (sym void ∙ ap q (sym at_i) ∙ ap (λ k. q (node_at ms k)) (sym e) ∙ t)) |
+      inr ne ↦ elim (every j (omega (arith, size, lt)) (ap q (sym (get_or-set_other ns i j blank blank ne)) ∙ t)) [ inl e ↦ absurd (ne e) | inr a ↦ a ] ]) in
       let kept : IsPermutation rest (filter q ms) = subst (λ xs. IsPermutation (filter q xs) (filter q ms)) (map_other ns i blank is distinct.0) step in
-      elim (cases_Bool (q n)) [ inl t ↦ subst (λ xs. IsPermutation xs (filter q ns)) (sym (cond-true (q n) (n ∷ rest) rest t)) (IsPermutation-trans _ _ _ (IsPermutation-cons n rest (filter q ms) kept) (IsPermutation-sym _ _ (filter-set_out ns i blank inside t void))) | inr f ↦ subst (λ xs. IsPermutation xs (filter q ns)) (sym (cond-false (q n) (n ∷ rest) rest f)) (subst (λ xs. IsPermutation rest xs) (filter-set_none ns i blank inside f void) kept) ]
+      elim (cases_Bool (q n))
+      [ inl t ↦ subst (λ xs. IsPermutation xs (filter q ns)) (sym (cond-true (q n) (n ∷ rest) rest t))
+      (IsPermutation-trans _ _ _ (IsPermutation-cons n rest (filter q ms) kept) (IsPermutation-sym _ _ (filter-set_out ns i blank inside t void))) |
+      inr f ↦ subst (λ xs. IsPermutation xs (filter q ns)) (sym (cond-false (q n) (n ∷ rest) rest f))
+      (subst (λ xs. IsPermutation rest xs) (filter-set_none ns i blank inside f void) kept) ]
 
 -- the tests
 abbrev pub is_live : Node → Bool
@@ -86,36 +100,49 @@ entries_same (n ∷ ns) [] size same = absurd (omega arith)
 entries_same (n ∷ ns) (m ∷ ms) size same =
     let s : SameEntry n m = same 0 in
     let rest : entries ms ≡ entries ns = entries_same ns ms (omega arith) (λ i. same (suc i)) in
-    let live : map pair_of (cond m.live (m ∷ filter is_live ms) (filter is_live ms)) ≡ map pair_of (cond n.live (m ∷ filter is_live ms) (filter is_live ms)) = ap (λ b. map pair_of (cond b (m ∷ filter is_live ms) (filter is_live ms))) s.live in
-    let both : map pair_of (cond n.live (m ∷ filter is_live ms) (filter is_live ms)) ≡ map pair_of (cond n.live (n ∷ filter is_live ns) (filter is_live ns)) = elim n.live as (λ b. map pair_of (cond b (m ∷ filter is_live ms) (filter is_live ms)) ≡ map pair_of (cond b (n ∷ filter is_live ns) (filter is_live ns))) [ true ↦ ap (λ e. e ∷ entries ms) (pair_same n m s) ∙ ap (λ es. pair_of n ∷ es) rest | false ↦ rest ] in
+    let live : map pair_of (cond m.live (m ∷ filter is_live ms) (filter is_live ms)) ≡ map pair_of
+    (cond n.live (m ∷ filter is_live ms) (filter is_live ms)) = ap (λ b. map pair_of (cond b (m ∷ filter is_live ms) (filter is_live ms))) s.live in
+    let both : map pair_of (cond n.live (m ∷ filter is_live ms) (filter is_live ms)) ≡ map pair_of
+    (cond n.live (n ∷ filter is_live ns) (filter is_live ns)) = elim n.live as (λ b. map pair_of
+    (cond b (m ∷ filter is_live ms) (filter is_live ms)) ≡ map pair_of (cond b (n ∷ filter is_live ns) (filter is_live ns)))
+    [ true ↦ ap (λ e. e ∷ entries ms) (pair_same n m s) ∙ ap (λ es. pair_of n ∷ es) rest | false ↦ rest ] in
     live ∙ both
 
 pub length-entries : (ns : List Node) → length (entries ns) ≡ count_by is_live ns
 length-entries ns = length-map (filter is_live ns) pair_of ∙ length-filter is_live ns
 
 -- no live node has this pair
-none_held : (ns : List Node) (e : ℕ × RowRef) → ((i : ℕ) → i < length ns → (node_at ns i).live ≡ true → pair_of (node_at ns i) ≡ e → ⊥) → All (λ x. x ≡ e → ⊥) (entries ns)
+none_held : (ns : List Node) (e : ℕ × RowRef) → ((i : ℕ) → i < length ns → (node_at ns i).live ≡ true → pair_of (node_at ns i) ≡ e → ⊥)
+    → All (λ x. x ≡ e → ⊥) (entries ns)
 none_held [] e none = All-nil (λ x. x ≡ e → ⊥)
 none_held (n ∷ ns) e none =
     let rest = none_held ns e (λ i below. none (suc i) (omega arith)) in
-    elim (cases_Bool n.live) [ inl t ↦ All-same (λ x. x ≡ e → ⊥) _ _ (ap (map pair_of) (cond-true n.live (n ∷ filter is_live ns) (filter is_live ns) t)) (All-cons (λ x. x ≡ e → ⊥) (pair_of n) (entries ns) (none 0 (omega arith) t) rest) | inr f ↦ All-same (λ x. x ≡ e → ⊥) _ _ (ap (map pair_of) (cond-false n.live (n ∷ filter is_live ns) (filter is_live ns) f)) rest ]
+    elim (cases_Bool n.live)
+    [ inl t ↦ All-same (λ x. x ≡ e → ⊥) _ _ (ap (map pair_of) (cond-true n.live (n ∷ filter is_live ns) (filter is_live ns) t))
+    (All-cons (λ x. x ≡ e → ⊥) (pair_of n) (entries ns) (none 0 (omega arith) t) rest) | inr f ↦ All-same (λ x. x ≡ e → ⊥) _ _
+    (ap (map pair_of) (cond-false n.live (n ∷ filter is_live ns) (filter is_live ns) f)) rest ]
 
-pub not_held : (ns : List Node) (e : ℕ × RowRef) → ((i : ℕ) → i < length ns → (node_at ns i).live ≡ true → pair_of (node_at ns i) ≡ e → ⊥) → Contains (entries ns) e → ⊥
+pub not_held : (ns : List Node) (e : ℕ × RowRef) → ((i : ℕ) → i < length ns → (node_at ns i).live ≡ true → pair_of (node_at ns i) ≡ e → ⊥)
+    → Contains (entries ns) e → ⊥
 not_held ns e none c = All-contains (λ x. x ≡ e → ⊥) (entries ns) e (none_held ns e none) c refl
 
 -- a live node's pair comes out
-pub entries-set_out : (ns : List Node) (i : ℕ) (n : Node) → i < length ns → (node_at ns i).live ≡ true → n.live ≡ false → IsPermutation (entries ns) (pair_of (node_at ns i) ∷ entries (set ns i n))
+pub entries-set_out : (ns : List Node) (i : ℕ) (n : Node) → i < length ns → (node_at ns i).live ≡ true → n.live ≡ false
+    → IsPermutation (entries ns) (pair_of (node_at ns i) ∷ entries (set ns i n))
 entries-set_out ns i n below was is =
     IsPermutation-map pair_of _ _ (filter-set_out is_live ns i n below was is)
 
 -- a pair goes into a node that has none
-pub entries-set_in : (ns : List Node) (i : ℕ) (n : Node) → i < length ns → (node_at ns i).live ≡ false → n.live ≡ true → IsPermutation (entries (set ns i n)) (pair_of n ∷ entries ns)
+pub entries-set_in : (ns : List Node) (i : ℕ) (n : Node) → i < length ns → (node_at ns i).live ≡ false → n.live ≡ true
+    → IsPermutation (entries (set ns i n)) (pair_of n ∷ entries ns)
 entries-set_in ns i n below was is =
     let ms = set ns i n in
     let at : node_at ms i ≡ n = get_or-set_same ns i n blank below in
     let back : set ms i (node_at ns i) ≡ ns = set-set ns i n (node_at ns i) ∙ set-get_or ns i blank in
-    let out : IsPermutation (entries ms) (pair_of (node_at ms i) ∷ entries (set ms i (node_at ns i))) = entries-set_out ms i (node_at ns i) (omega (arith, length-set ns i n)) (ap (λ (m : Node). m.live) at ∙ is) was in
-    subst (λ xs. IsPermutation (entries ms) (pair_of n ∷ entries xs)) back (subst (λ m. IsPermutation (entries ms) (pair_of m ∷ entries (set ms i (node_at ns i)))) at out)
+    let out : IsPermutation (entries ms) (pair_of (node_at ms i) ∷ entries (set ms i (node_at ns i))) = entries-set_out ms i (node_at ns i)
+    (omega (arith, length-set ns i n)) (ap (λ (m : Node). m.live) at ∙ is) was in
+    subst (λ xs. IsPermutation (entries ms) (pair_of n ∷ entries xs)) back
+    (subst (λ m. IsPermutation (entries ms) (pair_of m ∷ entries (set ms i (node_at ns i)))) at out)
 
 pub held : (ns : List Node) (i : ℕ) → i < length ns → (node_at ns i).live ≡ true → Contains (entries ns) (pair_of (node_at ns i))
 held ns i below live =
@@ -126,9 +153,14 @@ pub refs_of-entries : (hash : ℕ) (ns : List Node) → refs_of hash (entries ns
 refs_of-entries hash [] = refl
 refs_of-entries hash (n ∷ ns) =
     let rest = refs_of-entries hash ns in
-    elim n.live as (λ b. refs_of hash (map pair_of (cond b (n ∷ filter is_live ns) (filter is_live ns))) ≡ map row_of (cond (b && eqb n.hash hash) (n ∷ filter (is_match hash) ns) (filter (is_match hash) ns))) [ true ↦ elim (eqb n.hash hash) as (λ b. map (λ (e : ℕ × RowRef). e.1) (cond b (pair_of n ∷ filter (λ (e : ℕ × RowRef). eqb e.0 hash) (entries ns)) (filter (λ (e : ℕ × RowRef). eqb e.0 hash) (entries ns))) ≡ map row_of (cond b (n ∷ filter (is_match hash) ns) (filter (is_match hash) ns))) [ true ↦ ap (λ rs. row_of n ∷ rs) rest | false ↦ rest ] | false ↦ rest ]
+    elim n.live as (λ b. refs_of hash (map pair_of (cond b (n ∷ filter is_live ns) (filter is_live ns))) ≡ map row_of
+    (cond (b && eqb n.hash hash) (n ∷ filter (is_match hash) ns) (filter (is_match hash) ns)))
+    [ true ↦ elim (eqb n.hash hash) as (λ b. map (λ (e : ℕ × RowRef). e.1)
+    (cond b (pair_of n ∷ filter (λ (e : ℕ × RowRef). eqb e.0 hash) (entries ns)) (filter (λ (e : ℕ × RowRef). eqb e.0 hash) (entries ns))) ≡ map
+    row_of (cond b (n ∷ filter (is_match hash) ns) (filter (is_match hash) ns))) [ true ↦ ap (λ rs. row_of n ∷ rs) rest | false ↦ rest ] | false ↦ rest ]
 
-pub live_matches : (hash : ℕ) (ns : List Node) (is : List ℕ) → ((i : ℕ) → Among i is → (node_at ns i).live ≡ true) → filter (λ n. eqb n.hash hash) (map (node_at ns) is) ≡ filter (is_match hash) (map (node_at ns) is)
+pub live_matches : (hash : ℕ) (ns : List Node) (is : List ℕ) → ((i : ℕ) → Among i is → (node_at ns i).live ≡ true)
+    → filter (λ n. eqb n.hash hash) (map (node_at ns) is) ≡ filter (is_match hash) (map (node_at ns) is)
 live_matches hash ns [] live = refl
 live_matches hash ns (i ∷ is) live =
     let n = node_at ns i in
@@ -140,4 +172,5 @@ live_matches hash ns (i ∷ is) live =
 pub all_refs-entries : (ns : List Node) → all_refs (entries ns) ≡ map row_of (filter is_live ns)
 all_refs-entries [] = refl
 all_refs-entries (n ∷ ns) =
-    elim n.live as (λ b. all_refs (map pair_of (cond b (n ∷ filter is_live ns) (filter is_live ns))) ≡ map row_of (cond b (n ∷ filter is_live ns) (filter is_live ns))) [ true ↦ ap (λ rs. row_of n ∷ rs) (all_refs-entries ns) | false ↦ all_refs-entries ns ]
+    elim n.live as (λ b. all_refs (map pair_of (cond b (n ∷ filter is_live ns) (filter is_live ns))) ≡ map row_of
+    (cond b (n ∷ filter is_live ns) (filter is_live ns))) [ true ↦ ap (λ rs. row_of n ∷ rs) (all_refs-entries ns) | false ↦ all_refs-entries ns ]

@@ -21,14 +21,18 @@ pub IsCollecting-start : (ns : List Node) (head hash : ℕ) (old : List RowRef) 
 IsCollecting-start ns head hash old linked =
     record { linked = linked; added = []; so_far = sym (append-nil old); whole = refl }
 
-refs_along-step : (ns : List Node) (at hash : ℕ) → IsLinked ns at → at ≢ NIL → refs_along ns at hash ≡ map row_of (cond (eqb (node_at ns at).hash hash) (node_at ns at ∷ filter (λ n. eqb n.hash hash) (map (node_at ns) (chain ns (node_at ns at).next))) (filter (λ n. eqb n.hash hash) (map (node_at ns) (chain ns (node_at ns at).next))))
+refs_along-step : (ns : List Node) (at hash : ℕ) → IsLinked ns at → at ≢ NIL
+    → refs_along ns at hash
+    ≡ map row_of (cond (eqb (node_at ns at).hash hash) (node_at ns at ∷ filter (λ n. eqb n.hash hash) (map (node_at ns) (chain ns (node_at ns at).next))) (filter (λ n. eqb n.hash hash) (map (node_at ns) (chain ns (node_at ns at).next))))
 refs_along-step ns at hash linked on =
     ap (λ is. map row_of (filter (λ n. eqb n.hash hash) (map (node_at ns) is))) ((chain_step ns at linked on).is)
 
-pub IsCollecting-take : (ns : List Node) (head hash : ℕ) (old : List RowRef) (at : ℕ) (out : List RowRef) → at ≢ NIL → (node_at ns at).hash ≡ hash → IsCollecting ns head hash old at out → IsCollecting ns head hash old (node_at ns at).next (out ++ row_of (node_at ns at) ∷ [])
+pub IsCollecting-take : (ns : List Node) (head hash : ℕ) (old : List RowRef) (at : ℕ) (out : List RowRef) → at ≢ NIL → (node_at ns at).hash ≡ hash
+    → IsCollecting ns head hash old at out → IsCollecting ns head hash old (node_at ns at).next (out ++ row_of (node_at ns at) ∷ [])
 IsCollecting-take ns head hash old at out on same s =
     let r = row_of (node_at ns at) in
-    let step : refs_along ns at hash ≡ r ∷ refs_along ns (node_at ns at).next hash = refs_along-step ns at hash s.linked on ∙ ap (map row_of) (cond-true _ _ _ (eq-eqb _ _ same)) in
+    let step : refs_along ns at hash ≡ r ∷ refs_along ns (node_at ns at).next hash = refs_along-step ns at hash s.linked on ∙ ap (map row_of)
+    (cond-true _ _ _ (eq-eqb _ _ same)) in
     record {
       linked = (chain_step ns at s.linked on).next;
       added = s.added ++ r ∷ [];
@@ -36,9 +40,11 @@ IsCollecting-take ns head hash old at out on same s =
       whole = append_assoc s.added (r ∷ []) (refs_along ns (node_at ns at).next hash) ∙ ap (λ xs. s.added ++ xs) (sym step) ∙ s.whole;
     }
 
-pub IsCollecting-skip : (ns : List Node) (head hash : ℕ) (old : List RowRef) (at : ℕ) (out : List RowRef) → at ≢ NIL → ((node_at ns at).hash ≡ hash → ⊥) → IsCollecting ns head hash old at out → IsCollecting ns head hash old (node_at ns at).next out
+pub IsCollecting-skip : (ns : List Node) (head hash : ℕ) (old : List RowRef) (at : ℕ) (out : List RowRef) → at ≢ NIL
+    → ((node_at ns at).hash ≡ hash → ⊥) → IsCollecting ns head hash old at out → IsCollecting ns head hash old (node_at ns at).next out
 IsCollecting-skip ns head hash old at out on other s =
-    let step : refs_along ns at hash ≡ refs_along ns (node_at ns at).next hash = refs_along-step ns at hash s.linked on ∙ ap (map row_of) (cond-false _ _ _ (ne_eqb _ _ other)) in
+    let step : refs_along ns at hash ≡ refs_along ns (node_at ns at).next hash = refs_along-step ns at hash s.linked on ∙ ap (map row_of)
+    (cond-false _ _ _ (ne_eqb _ _ other)) in
     record {
       linked = (chain_step ns at s.linked on).next;
       added = s.added;
@@ -46,7 +52,9 @@ IsCollecting-skip ns head hash old at out on other s =
       whole = ap (λ xs. s.added ++ xs) (sym step) ∙ s.whole;
     }
 
-pub IsCollecting-end : (ns : List Node) (head hash : ℕ) (old : List RowRef) (at : ℕ) (out : List RowRef) → at ≡ NIL → IsCollecting ns head hash old at out → out ≡ old ++ refs_along ns head hash
+pub IsCollecting-end : (ns : List Node) (head hash : ℕ) (old : List RowRef) (at : ℕ) (out : List RowRef) → at ≡ NIL
+    → IsCollecting ns head hash old at out → out ≡ old ++ refs_along ns head hash
 IsCollecting-end ns head hash old at out end s =
-    let none : refs_along ns at hash ≡ [] = ap (λ is. map row_of (filter (λ n. eqb n.hash hash) (map (node_at ns) is))) (ap (chain ns) end ∙ chain_end ns s.linked.few) in
+    let none : refs_along ns at hash ≡ [] = ap (λ is. map row_of (filter (λ n. eqb n.hash hash) (map (node_at ns) is)))
+    (ap (chain ns) end ∙ chain_end ns s.linked.few) in
     s.so_far ∙ ap (λ xs. old ++ xs) (sym (append-nil s.added) ∙ ap (λ xs. s.added ++ xs) (sym none) ∙ s.whole)

@@ -18,29 +18,37 @@ pub record IsCopying (ns : List Node) (i : ℕ) (old out : List RowRef) (len cap
   pub so_far : out ≡ old ++ map row_of (filter is_live (take i ns))
   pub room : len + count_by is_live (drop i ns) ≤ capacity
 
-pub IsCopying-start : (ns xs : List Node) (old out : List RowRef) (n len capacity : ℕ) → ns ≡ xs → count_by is_live xs ≡ n → out ≡ old → len + n ≤ capacity → IsCopying ns 0 old out len capacity
+pub IsCopying-start : (ns xs : List Node) (old out : List RowRef) (n len capacity : ℕ) → ns ≡ xs → count_by is_live xs ≡ n → out ≡ old
+    → len + n ≤ capacity → IsCopying ns 0 old out len capacity
 IsCopying-start ns xs old out n len capacity same counted is fits =
     record { so_far = is ∙ sym (append-nil old); room = omega (arith, ap (count_by is_live) same, counted, fits) }
 
-pub copying_room : (ns : List Node) (i : ℕ) (old out : List RowRef) (len capacity : ℕ) → i < length ns → (node_at ns i).live ≡ true → IsCopying ns i old out len capacity → len < capacity
+pub copying_room : (ns : List Node) (i : ℕ) (old out : List RowRef) (len capacity : ℕ) → i < length ns → (node_at ns i).live ≡ true
+    → IsCopying ns i old out len capacity → len < capacity
 copying_room ns i old out len capacity below live s =
     let e = sum_by-drop_more (λ (n : Node). cond n.live 1 0) ns i blank below in
     let one : cond (node_at ns i).live 1 0 ≡ 1 = ap (λ (b : Bool). let x : ℕ = cond b 1 0 in x) live in
     omega (arith, e, one, s.room)
 
-pub IsCopying-take : (ns : List Node) (i : ℕ) (old out : List RowRef) (len capacity : ℕ) (r : RowRef) → i < length ns → (node_at ns i).live ≡ true → r ≡ row_of (node_at ns i) → IsCopying ns i old out len capacity → IsCopying ns (i + 1) old (out ++ r ∷ []) (len + 1) capacity
+pub IsCopying-take : (ns : List Node) (i : ℕ) (old out : List RowRef) (len capacity : ℕ) (r : RowRef) → i < length ns → (node_at ns i).live ≡ true
+    → r ≡ row_of (node_at ns i) → IsCopying ns i old out len capacity → IsCopying ns (i + 1) old (out ++ r ∷ []) (len + 1) capacity
 IsCopying-take ns i old out len capacity r below live row s =
-    let f : filter is_live (take (i + 1) ns) ≡ filter is_live (take i ns) ++ node_at ns i ∷ [] = filter_more is_live ns i blank below ∙ ap (λ xs. filter is_live (take i ns) ++ xs) (cond-true _ (node_at ns i ∷ []) [] live) in
+    let f : filter is_live (take (i + 1) ns) ≡ filter is_live (take i ns) ++ node_at ns i ∷ [] = filter_more is_live ns i blank below
+    ∙ ap (λ xs. filter is_live (take i ns) ++ xs) (cond-true _ (node_at ns i ∷ []) [] live) in
     let e = sum_by-drop_more (λ (n : Node). cond n.live 1 0) ns i blank below in
     let one : cond (node_at ns i).live 1 0 ≡ 1 = ap (λ (b : Bool). let x : ℕ = cond b 1 0 in x) live in
     record {
-      so_far = ap (λ xs. xs ++ r ∷ []) s.so_far ∙ append_assoc old (map row_of (filter is_live (take i ns))) (r ∷ []) ∙ ap (λ x. old ++ (map row_of (filter is_live (take i ns)) ++ x ∷ [])) row ∙ ap (λ xs. old ++ xs) (sym (ap (map row_of) f ∙ map-append row_of (filter is_live (take i ns)) (node_at ns i ∷ [])));
+      so_far = ap (λ xs. xs ++ r ∷ []) s.so_far ∙ append_assoc old (map row_of (filter is_live (take i ns))) (r ∷ [])
+          ∙ ap (λ x. old ++ (map row_of (filter is_live (take i ns)) ++ x ∷ [])) row ∙ ap (λ xs. old ++ xs)
+          (sym (ap (map row_of) f ∙ map-append row_of (filter is_live (take i ns)) (node_at ns i ∷ [])));
       room = omega (arith, e, one, s.room);
     }
 
-pub IsCopying-skip : (ns : List Node) (i : ℕ) (old out : List RowRef) (len capacity : ℕ) → i < length ns → (node_at ns i).live ≡ false → IsCopying ns i old out len capacity → IsCopying ns (i + 1) old out len capacity
+pub IsCopying-skip : (ns : List Node) (i : ℕ) (old out : List RowRef) (len capacity : ℕ) → i < length ns → (node_at ns i).live ≡ false
+    → IsCopying ns i old out len capacity → IsCopying ns (i + 1) old out len capacity
 IsCopying-skip ns i old out len capacity below dead s =
-    let f : filter is_live (take (i + 1) ns) ≡ filter is_live (take i ns) = filter_more is_live ns i blank below ∙ ap (λ xs. filter is_live (take i ns) ++ xs) (cond-false _ (node_at ns i ∷ []) [] dead) ∙ append-nil (filter is_live (take i ns)) in
+    let f : filter is_live (take (i + 1) ns) ≡ filter is_live (take i ns) = filter_more is_live ns i blank below
+    ∙ ap (λ xs. filter is_live (take i ns) ++ xs) (cond-false _ (node_at ns i ∷ []) [] dead) ∙ append-nil (filter is_live (take i ns)) in
     let e = sum_by-drop_more (λ (n : Node). cond n.live 1 0) ns i blank below in
     let none : cond (node_at ns i).live 1 0 ≡ 0 = ap (λ (b : Bool). let x : ℕ = cond b 1 0 in x) dead in
     record {
@@ -48,13 +56,16 @@ IsCopying-skip ns i old out len capacity below dead s =
       room = omega (arith, e, none, s.room);
     }
 
-pub copied : (ns xs : List Node) (i : ℕ) (old out : List RowRef) (len capacity : ℕ) (es : List (ℕ × RowRef)) → length ns ≤ i → ns ≡ xs → entries xs ≡ es → IsCopying ns i old out len capacity → AppendsInSomeOrder old out (all_refs es)
+pub copied : (ns xs : List Node) (i : ℕ) (old out : List RowRef) (len capacity : ℕ) (es : List (ℕ × RowRef)) → length ns ≤ i → ns ≡ xs
+    → entries xs ≡ es → IsCopying ns i old out len capacity → AppendsInSomeOrder old out (all_refs es)
 copied ns xs i old out len capacity es done same bag s = record {
   behind = all_refs es;
-  appends = s.so_far ∙ ap (λ ys. old ++ map row_of (filter is_live ys)) (take_all i ns done ∙ same) ∙ ap (λ rs. old ++ rs) (sym (all_refs-entries xs) ∙ ap all_refs bag);
+  appends = s.so_far ∙ ap (λ ys. old ++ map row_of (filter is_live ys)) (take_all i ns done ∙ same) ∙ ap (λ rs. old ++ rs)
+      (sym (all_refs-entries xs) ∙ ap all_refs bag);
   same_bag = IsPermutation-refl (all_refs es);
 }
 
-pub copying_along : (ns : List Node) (i : ℕ) (old out out' : List RowRef) (len len' capacity capacity' : ℕ) → out' ≡ out → len' ≡ len → capacity' ≡ capacity → IsCopying ns i old out len capacity → IsCopying ns i old out' len' capacity'
+pub copying_along : (ns : List Node) (i : ℕ) (old out out' : List RowRef) (len len' capacity capacity' : ℕ) → out' ≡ out → len' ≡ len
+    → capacity' ≡ capacity → IsCopying ns i old out len capacity → IsCopying ns i old out' len' capacity'
 copying_along ns i old out out' len len' capacity capacity' e f g s =
     record { so_far = e ∙ s.so_far; room = omega (arith, f, g, s.room) }

@@ -11,9 +11,14 @@ pub among_along : (i : ℕ) (is js : List ℕ) → is ≡ js → Among i is → 
 among_along i is js e a = subst (λ ks. Among i ks) e a
 
 -- a node that keeps its entry
-pub SameEntry-set : (ns : List Node) (at : ℕ) (n : Node) → SameEntry (node_at ns at) n → (i : ℕ) → at < length ns → SameEntry (node_at ns i) (node_at (set ns at n) i)
+pub SameEntry-set : (ns : List Node) (at : ℕ) (n : Node) → SameEntry (node_at ns at) n → (i : ℕ) → at < length ns
+    → SameEntry (node_at ns i) (node_at (set ns at n) i)
 SameEntry-set ns at n same i below =
-    elim (cases_eq i at) [ inl e ↦ subst (λ k. SameEntry (node_at ns k) (node_at (set ns at n) k)) (sym e) (subst (λ m. SameEntry (node_at ns at) m) (sym (get_or-set_same ns at n blank below)) same) | inr ne ↦ subst (λ m. SameEntry (node_at ns i) m) (sym (get_or-set_other ns at i n blank ne)) (record { hash = refl; part = refl; slot = refl; live = refl }) ]
+    elim (cases_eq i at)
+        [ inl e ↦ subst (λ k. SameEntry (node_at ns k) (node_at (set ns at n) k)) (sym e)
+        (subst (λ m. SameEntry (node_at ns at) m) (sym (get_or-set_same ns at n blank below)) same) |
+        inr ne ↦ subst (λ m. SameEntry (node_at ns i) m) (sym (get_or-set_other ns at i n blank ne))
+        (record { hash = refl; part = refl; slot = refl; live = refl }) ]
 
 pub SameEntry-trans : (l m n : Node) → SameEntry l m → SameEntry m n → SameEntry l n
 SameEntry-trans l m n s t = record {
@@ -26,7 +31,8 @@ SameEntry-trans l m n s t = record {
 stays_same : (mask stay : ℕ) (m n : Node) → SameEntry m n → stays mask stay m ≡ stays mask stay n
 stays_same mask stay m n s = ap (λ h. eqb (bit_and h mask) stay) (sym s.hash)
 
-pub IsDealing-start : (ns : List Node) (from mask stay onto : ℕ) → IsLinked ns from → IsLinked ns onto → AreApart (chain ns from) (chain ns onto) → IsDealing ns from mask stay onto ns from onto NIL
+pub IsDealing-start : (ns : List Node) (from mask stay onto : ℕ) → IsLinked ns from → IsLinked ns onto → AreApart (chain ns from) (chain ns onto)
+    → IsDealing ns from mask stay onto ns from onto NIL
 IsDealing-start ns from mask stay onto linked linked' apart =
     let none = chain_end ns linked.few in
     record {
@@ -45,7 +51,9 @@ IsDealing-start ns from mask stay onto linked linked' apart =
       all_onto = λ i a. a;
     }
 
-pub IsDealing-stay : (ns : List Node) (from mask stay onto : ℕ) (ms : List Node) (at staying leaving : ℕ) → at ≢ NIL → stays mask stay (node_at ms at) ≡ true → IsDealing ns from mask stay onto ms at staying leaving → IsDealing ns from mask stay onto (set ms at (record (node_at ms at) { next = staying })) (node_at ms at).next at leaving
+pub IsDealing-stay : (ns : List Node) (from mask stay onto : ℕ) (ms : List Node) (at staying leaving : ℕ) → at ≢ NIL
+    → stays mask stay (node_at ms at) ≡ true → IsDealing ns from mask stay onto ms at staying leaving
+    → IsDealing ns from mask stay onto (set ms at (record (node_at ms at) { next = staying })) (node_at ms at).next at leaving
 IsDealing-stay ns from mask stay onto ms at staying leaving on test s =
     let n : Node = record (node_at ms at) { next = staying } in
     let t = chain_step ms at s.at_linked on in
@@ -57,26 +65,36 @@ IsDealing-stay ns from mask stay onto ms at staying leaving on test s =
     record {
       size = length-set ms at n ∙ s.size;
       entries =
-          λ i. SameEntry-trans (node_at ns i) (node_at ms i) (node_at (set ms at n) i) (s.entries i) (SameEntry-set ms at n (record { hash = refl; part = refl; slot = refl; live = refl }) i t.below);
+          λ i. SameEntry-trans (node_at ns i) (node_at ms i) (node_at (set ms at n) i) (s.entries i)
+          (SameEntry-set ms at n (record { hash = refl; part = refl; slot = refl; live = refl }) i t.below);
       others =
           λ i out. get_or-set_other ms at i n blank (λ e. out (subst (λ k. Among k (chain ns from)) (sym e) (s.at_in at here))) ∙ s.others i out;
       at_linked = kx.linked;
       staying_linked = fs.linked;
       leaving_linked = kl.linked;
       at_staying =
-          λ i a b. elim (among_along i _ _ fs.is b) [ inl e ↦ t.fresh (subst (λ k. Among k (chain ms (node_at ms at).next)) e (among_along i _ _ kx.same a)) | inr c ↦ s.at_staying i (among_along i _ _ (sym t.is) (inr (among_along i _ _ kx.same a))) c ];
+          λ i a b. elim (among_along i _ _ fs.is b)
+          [ inl e ↦ t.fresh (subst (λ k. Among k (chain ms (node_at ms at).next)) e (among_along i _ _ kx.same a)) | inr c ↦ s.at_staying i
+          (among_along i _ _ (sym t.is) (inr (among_along i _ _ kx.same a))) c ];
       at_leaving =
           λ i a b. s.at_leaving i (among_along i _ _ (sym t.is) (inr (among_along i _ _ kx.same a))) (among_along i _ _ kl.same b);
       at_in = λ i a. s.at_in i (among_along i _ _ (sym t.is) (inr (among_along i _ _ kx.same a)));
       staying_in =
-          λ i a. elim (among_along i _ _ fs.is a) [ inl e ↦ inr (subst (λ k. Among k (chain ns from) × (stays mask stay (node_at ns k) ≡ true)) (sym e) (s.at_in at here, test')) | inr b ↦ s.staying_in i b ];
+          λ i a. elim (among_along i _ _ fs.is a)
+          [ inl e ↦ inr (subst (λ k. Among k (chain ns from) × (stays mask stay (node_at ns k) ≡ true)) (sym e) (s.at_in at here, test')) |
+          inr b ↦ s.staying_in i b ];
       leaving_in = λ i a. s.leaving_in i (among_along i _ _ kl.same a);
       all_from =
-          λ i a. elim (s.all_from i a) [ inl b ↦ elim (among_along i _ _ t.is b) [ inl e ↦ inr (inl (among_along i _ _ (sym fs.is) (inl e))) | inr c ↦ inl (among_along i _ _ (sym kx.same) c) ] | inr b ↦ elim b [ inl c ↦ inr (inl (among_along i _ _ (sym fs.is) (inr c))) | inr c ↦ inr (inr (among_along i _ _ (sym kl.same) c)) ] ];
+          λ i a. elim (s.all_from i a)
+          [ inl b ↦ elim (among_along i _ _ t.is b)
+          [ inl e ↦ inr (inl (among_along i _ _ (sym fs.is) (inl e))) | inr c ↦ inl (among_along i _ _ (sym kx.same) c) ] | inr b ↦ elim b
+          [ inl c ↦ inr (inl (among_along i _ _ (sym fs.is) (inr c))) | inr c ↦ inr (inr (among_along i _ _ (sym kl.same) c)) ] ];
       all_onto = λ i a. among_along i _ _ (sym fs.is) (inr (s.all_onto i a));
     }
 
-pub IsDealing-leave : (ns : List Node) (from mask stay onto : ℕ) (ms : List Node) (at staying leaving : ℕ) → at ≢ NIL → stays mask stay (node_at ms at) ≡ false → IsDealing ns from mask stay onto ms at staying leaving → IsDealing ns from mask stay onto (set ms at (record (node_at ms at) { next = leaving })) (node_at ms at).next staying at
+pub IsDealing-leave : (ns : List Node) (from mask stay onto : ℕ) (ms : List Node) (at staying leaving : ℕ) → at ≢ NIL
+    → stays mask stay (node_at ms at) ≡ false → IsDealing ns from mask stay onto ms at staying leaving
+    → IsDealing ns from mask stay onto (set ms at (record (node_at ms at) { next = leaving })) (node_at ms at).next staying at
 IsDealing-leave ns from mask stay onto ms at staying leaving on test s =
     let n : Node = record (node_at ms at) { next = leaving } in
     let t = chain_step ms at s.at_linked on in
@@ -88,7 +106,8 @@ IsDealing-leave ns from mask stay onto ms at staying leaving on test s =
     record {
       size = length-set ms at n ∙ s.size;
       entries =
-          λ i. SameEntry-trans (node_at ns i) (node_at ms i) (node_at (set ms at n) i) (s.entries i) (SameEntry-set ms at n (record { hash = refl; part = refl; slot = refl; live = refl }) i t.below);
+          λ i. SameEntry-trans (node_at ns i) (node_at ms i) (node_at (set ms at n) i) (s.entries i)
+          (SameEntry-set ms at n (record { hash = refl; part = refl; slot = refl; live = refl }) i t.below);
       others =
           λ i out. get_or-set_other ms at i n blank (λ e. out (subst (λ k. Among k (chain ns from)) (sym e) (s.at_in at here))) ∙ s.others i out;
       at_linked = kx.linked;
@@ -97,13 +116,20 @@ IsDealing-leave ns from mask stay onto ms at staying leaving on test s =
       at_staying =
           λ i a b. s.at_staying i (among_along i _ _ (sym t.is) (inr (among_along i _ _ kx.same a))) (among_along i _ _ ks.same b);
       at_leaving =
-          λ i a b. elim (among_along i _ _ fl.is b) [ inl e ↦ t.fresh (subst (λ k. Among k (chain ms (node_at ms at).next)) e (among_along i _ _ kx.same a)) | inr c ↦ s.at_leaving i (among_along i _ _ (sym t.is) (inr (among_along i _ _ kx.same a))) c ];
+          λ i a b. elim (among_along i _ _ fl.is b)
+          [ inl e ↦ t.fresh (subst (λ k. Among k (chain ms (node_at ms at).next)) e (among_along i _ _ kx.same a)) | inr c ↦ s.at_leaving i
+          (among_along i _ _ (sym t.is) (inr (among_along i _ _ kx.same a))) c ];
       at_in = λ i a. s.at_in i (among_along i _ _ (sym t.is) (inr (among_along i _ _ kx.same a)));
       staying_in = λ i a. s.staying_in i (among_along i _ _ ks.same a);
       leaving_in =
-          λ i a. elim (among_along i _ _ fl.is a) [ inl e ↦ subst (λ k. Among k (chain ns from) × (stays mask stay (node_at ns k) ≡ false)) (sym e) (s.at_in at here, test') | inr b ↦ s.leaving_in i b ];
+          λ i a. elim (among_along i _ _ fl.is a)
+          [ inl e ↦ subst (λ k. Among k (chain ns from) × (stays mask stay (node_at ns k) ≡ false)) (sym e) (s.at_in at here, test') |
+          inr b ↦ s.leaving_in i b ];
       all_from =
-          λ i a. elim (s.all_from i a) [ inl b ↦ elim (among_along i _ _ t.is b) [ inl e ↦ inr (inr (among_along i _ _ (sym fl.is) (inl e))) | inr c ↦ inl (among_along i _ _ (sym kx.same) c) ] | inr b ↦ elim b [ inl c ↦ inr (inl (among_along i _ _ (sym ks.same) c)) | inr c ↦ inr (inr (among_along i _ _ (sym fl.is) (inr c))) ] ];
+          λ i a. elim (s.all_from i a)
+          [ inl b ↦ elim (among_along i _ _ t.is b)
+          [ inl e ↦ inr (inr (among_along i _ _ (sym fl.is) (inl e))) | inr c ↦ inl (among_along i _ _ (sym kx.same) c) ] | inr b ↦ elim b
+          [ inl c ↦ inr (inl (among_along i _ _ (sym ks.same) c)) | inr c ↦ inr (inr (among_along i _ _ (sym fl.is) (inr c))) ] ];
       all_onto = λ i a. among_along i _ _ (sym ks.same) (s.all_onto i a);
     }
 

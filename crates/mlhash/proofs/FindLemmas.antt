@@ -17,13 +17,15 @@ pub IsFinding-start : (ns : List Node) (head hash : ℕ) (reference : RowRef) �
 IsFinding-start ns head hash reference linked =
     record { linked = linked; within = λ i a. a; passed = λ i a e. a }
 
-pub IsFinding-more : (ns : List Node) (head hash : ℕ) (reference : RowRef) (at : ℕ) → at ≢ NIL → (pair_of (node_at ns at) ≡ (hash, reference) → ⊥) → IsFinding ns head hash reference at → IsFinding ns head hash reference (node_at ns at).next
+pub IsFinding-more : (ns : List Node) (head hash : ℕ) (reference : RowRef) (at : ℕ) → at ≢ NIL → (pair_of (node_at ns at) ≡ (hash, reference) → ⊥)
+    → IsFinding ns head hash reference at → IsFinding ns head hash reference (node_at ns at).next
 IsFinding-more ns head hash reference at on other s =
     let t = chain_step ns at s.linked on in
     record {
       linked = t.next;
       within = λ i a. s.within i (subst (λ is. Among i is) (sym t.is) (inr a));
-      passed = λ i a e. elim (subst (λ is. Among i is) t.is (s.passed i a e)) [ inl same ↦ absurd (other (subst (λ k. pair_of (node_at ns k) ≡ (hash, reference)) same e)) | inr rest ↦ rest ];
+      passed = λ i a e. elim (subst (λ is. Among i is) t.is (s.passed i a e))
+          [ inl same ↦ absurd (other (subst (λ k. pair_of (node_at ns k) ≡ (hash, reference)) same e)) | inr rest ↦ rest ];
     }
 
 -- the rest of the chain gets shorter
@@ -32,7 +34,8 @@ chain_falls ns at linked on =
     let t = chain_step ns at linked on in
     omega (arith, ap length t.is)
 
-pub Finds-found : (ns : List Node) (head hash : ℕ) (reference : RowRef) (at : ℕ) → at ≢ NIL → pair_of (node_at ns at) ≡ (hash, reference) → IsFinding ns head hash reference at → Finds ns head hash reference at
+pub Finds-found : (ns : List Node) (head hash : ℕ) (reference : RowRef) (at : ℕ) → at ≢ NIL → pair_of (node_at ns at) ≡ (hash, reference)
+    → IsFinding ns head hash reference at → Finds ns head hash reference at
 Finds-found ns head hash reference at on e s =
     let t = chain_step ns at s.linked on in
     record {
@@ -40,7 +43,8 @@ Finds-found ns head hash reference at on e s =
       none = λ nil. absurd (on nil);
     }
 
-pub Finds-none : (ns : List Node) (head hash : ℕ) (reference : RowRef) (at : ℕ) → at ≡ NIL → IsFinding ns head hash reference at → Finds ns head hash reference NIL
+pub Finds-none : (ns : List Node) (head hash : ℕ) (reference : RowRef) (at : ℕ) → at ≡ NIL → IsFinding ns head hash reference at
+    → Finds ns head hash reference NIL
 Finds-none ns head hash reference at end s =
     record {
       found = λ on. absurd (on refl);

@@ -15,14 +15,22 @@ use Rattle.mlhash.specs.Table.{entries, IsBucket}
 use Rattle.mlhash.proofs.BagLemmas.{is_match, filter_places, live_matches, refs_of-entries}
 use Rattle.mlhash.proofs.ChainLemmas.{IsChain-set, below_linked}
 
-pub refs_along-all : (ns : List Node) (p : Place) (head b hash : ℕ) → b ≡ bucket_of p hash → IsBucket ns p head b → IsPermutation (refs_along ns head hash) (refs_of hash (entries ns))
+pub refs_along-all : (ns : List Node) (p : Place) (head b hash : ℕ) → b ≡ bucket_of p hash → IsBucket ns p head b
+    → IsPermutation (refs_along ns head hash) (refs_of hash (entries ns))
 refs_along-all ns p head b hash b_is k =
     let is = chain ns head in
-    let places : IsPermutation (filter (is_match hash) (map (node_at ns) is)) (filter (is_match hash) ns) = filter_places (is_match hash) refl is ns (IsChain-set ns head is k.linked.links) (below_linked ns head k.linked) (λ i below t. let both = and_parts _ _ t in k.every i below both.0 (ap (bucket_of p) (eqb-true _ _ both.1) ∙ sym b_is)) in
-    let along : filter (λ n. eqb n.hash hash) (map (node_at ns) is) ≡ filter (is_match hash) (map (node_at ns) is) = live_matches hash ns is (λ i a. (k.here i a).0) in
-    subst (λ xs. IsPermutation (map row_of xs) (refs_of hash (entries ns))) (sym along) (subst (λ rs. IsPermutation (map row_of (filter (is_match hash) (map (node_at ns) is))) rs) (sym (refs_of-entries hash ns)) (IsPermutation-map row_of _ _ places))
+    let places : IsPermutation (filter (is_match hash) (map (node_at ns) is)) (filter (is_match hash) ns) = filter_places (is_match hash) refl is ns
+    (IsChain-set ns head is k.linked.links) (below_linked ns head k.linked)
+    (λ i below t. let both = and_parts _ _ t in k.every i below both.0 (ap (bucket_of p) (eqb-true _ _ both.1) ∙ sym b_is)) in
+    let along : filter (λ n. eqb n.hash hash) (map (node_at ns) is) ≡ filter (is_match hash) (map (node_at ns) is) = live_matches hash ns is
+    (λ i a. (k.here i a).0) in
+    subst (λ xs. IsPermutation (map row_of xs) (refs_of hash (entries ns))) (sym along)
+    (subst (λ rs. IsPermutation (map row_of (filter (is_match hash) (map (node_at ns) is))) rs) (sym (refs_of-entries hash ns))
+    (IsPermutation-map row_of _ _ places))
 
-pub matches_all : (ns : List Node) (p : Place) (head b hash : ℕ) (old new : List RowRef) (xs : List Node) (es : List (ℕ × RowRef)) → b ≡ bucket_of p hash → IsBucket ns p head b → xs ≡ ns → entries ns ≡ es → new ≡ old ++ refs_along xs head hash → AppendsInSomeOrder old new (refs_of hash es)
+pub matches_all : (ns : List Node) (p : Place) (head b hash : ℕ) (old new : List RowRef) (xs : List Node) (es : List (ℕ × RowRef))
+    → b ≡ bucket_of p hash → IsBucket ns p head b → xs ≡ ns → entries ns ≡ es → new ≡ old ++ refs_along xs head hash
+    → AppendsInSomeOrder old new (refs_of hash es)
 matches_all ns p head b hash old new xs es b_is k same bag e = record {
   behind = refs_along ns head hash;
   appends = e ∙ ap (λ ys. old ++ refs_along ys head hash) same;

@@ -79,7 +79,10 @@ module _ (heads : List ℕ) (ns : List Node) (len : ℕ) (p : Place) (free b hea
 
   keep1 : (h : ℕ) → IsLinked ns h → Keeps ns (set ns at n1) h
   keep1 h linked =
-      keeps_frame ns (set ns at n1) h (omega (arith, size1, linked.few)) (λ i a. (omega (arith, size1, below_linked ns h linked i a), elim (cases_eq i at) [ inl e ↦ ap (λ x. (node_at (set ns at n1) x).next) e ∙ ap (λ (m : Node). m.next) (get_or-set_same ns at n1 blank at_below) ∙ k.link ∙ ap (λ x. (node_at ns x).next) (sym e) | inr ne ↦ ap (λ (m : Node). m.next) (get_or-set_other ns at i n1 blank ne) ])) linked
+      keeps_frame ns (set ns at n1) h (omega (arith, size1, linked.few))
+      (λ i a. (omega (arith, size1, below_linked ns h linked i a), elim (cases_eq i at)
+      [ inl e ↦ ap (λ x. (node_at (set ns at n1) x).next) e ∙ ap (λ (m : Node). m.next) (get_or-set_same ns at n1 blank at_below) ∙ k.link
+      ∙ ap (λ x. (node_at ns x).next) (sym e) | inr ne ↦ ap (λ (m : Node). m.next) (get_or-set_other ns at i n1 blank ne) ])) linked
 
   keep : (h : ℕ) → IsLinked ns h → (Among head (chain ns h) → ⊥) → Keeps ns (set (set ns at n1) head n2) h
   keep h linked apart =
@@ -101,9 +104,18 @@ module _ (heads : List ℕ) (ns : List Node) (len : ℕ) (p : Place) (free b hea
       record {
         linked = tail.linked;
         here =
-            λ i a. let a' = among_along i _ _ tail.same a in let ne : i ≡ head → ⊥ = λ e. step.fresh (subst (λ x. Among x (chain ns (node_at ns head).next)) e a') in elim (cases_eq i at) [ inl e ↦ (let now = ap (node_at ms) e ∙ at_now (λ f. ne (e ∙ f)) in (ap (λ (m : Node). m.live) now ∙ k.live, ap (λ (m : Node). bucket_of p m.hash) now ∙ bucket_n1)) | inr na ↦ (let o = other i ne na in let h = bucket.here i (among_along i _ _ (sym step.is) (inr a')) in (ap (λ (m : Node). m.live) o ∙ h.0, ap (λ (m : Node). bucket_of p m.hash) o ∙ h.1)) ];
+            λ i a. let a' = among_along i _ _ tail.same a in let ne : i ≡ head → ⊥ = λ e. step.fresh
+            (subst (λ x. Among x (chain ns (node_at ns head).next)) e a') in elim (cases_eq i at)
+            [ inl e ↦ (let now = ap (node_at ms) e ∙ at_now
+            (λ f. ne (e ∙ f)) in (ap (λ (m : Node). m.live) now ∙ k.live, ap (λ (m : Node). bucket_of p m.hash) now ∙ bucket_n1)) |
+            inr na ↦ (let o = other i ne na in let h = bucket.here i
+            (among_along i _ _ (sym step.is) (inr a')) in (ap (λ (m : Node). m.live) o ∙ h.0, ap (λ (m : Node). bucket_of p m.hash) o ∙ h.1)) ];
         every =
-            λ i below live is. let ne = not_head i live in let there : Among i (chain ns head) = elim (cases_eq i at) [ inl e ↦ subst (λ x. Among x (chain ns head)) (sym e) k.found | inr na ↦ (let o = other i ne na in bucket.every i (omega (arith, size, below)) (ap (λ (m : Node). m.live) (sym o) ∙ live) (ap (λ (m : Node). bucket_of p m.hash) (sym o) ∙ is)) ] in among_along i _ _ (sym tail.same) (elim (among_along i _ _ step.is there) [ inl e ↦ absurd (ne e) | inr a ↦ a ]);
+            λ i below live is. let ne = not_head i live in let there : Among i (chain ns head) = elim (cases_eq i at)
+            [ inl e ↦ subst (λ x. Among x (chain ns head)) (sym e) k.found |
+            inr na ↦ (let o = other i ne na in bucket.every i (omega (arith, size, below)) (ap (λ (m : Node). m.live) (sym o) ∙ live)
+            (ap (λ (m : Node). bucket_of p m.hash) (sym o) ∙ is)) ] in among_along i _ _ (sym tail.same)
+            (elim (among_along i _ _ step.is there) [ inl e ↦ absurd (ne e) | inr a ↦ a ]);
       }
 
   other_bucket : (c : ℕ) → c < length heads → (c ≡ b → ⊥) → IsBucket (set (set ns at n1) head n2) p (get_or heads c 0) c
@@ -116,9 +128,15 @@ module _ (heads : List ℕ) (ns : List Node) (len : ℕ) (p : Place) (free b hea
       record {
         linked = kept.linked;
         here =
-            λ i a. let a' = among_along i _ _ kept.same a in let o = other i (λ e. no_head (subst (λ x. Among x (chain ns (get_or heads c 0))) e a')) (λ e. no_at (subst (λ x. Among x (chain ns (get_or heads c 0))) e a')) in (ap (λ (m : Node). m.live) o ∙ (old.here i a').0, ap (λ (m : Node). bucket_of p m.hash) o ∙ (old.here i a').1);
+            λ i a. let a' = among_along i _ _ kept.same a in let o = other i (λ e. no_head (subst (λ x. Among x (chain ns (get_or heads c 0))) e a'))
+            (λ e. no_at (subst (λ x. Among x (chain ns (get_or heads c 0))) e a')) in (ap (λ (m : Node). m.live) o ∙ (old.here i a').0,
+            ap (λ (m : Node). bucket_of p m.hash) o ∙ (old.here i a').1);
         every =
-            λ i below live is. let ne = not_head i live in among_along i _ _ (sym kept.same) (elim (cases_eq i at) [ inl e ↦ absurd (nb (sym is ∙ ap (λ (m : Node). bucket_of p m.hash) (ap (node_at ms) e ∙ at_now (λ f. ne (e ∙ f))) ∙ bucket_n1)) | inr na ↦ (let o = other i ne na in old.every i (omega (arith, size, below)) (ap (λ (m : Node). m.live) (sym o) ∙ live) (ap (λ (m : Node). bucket_of p m.hash) (sym o) ∙ is)) ]);
+            λ i below live is. let ne = not_head i live in among_along i _ _ (sym kept.same)
+            (elim (cases_eq i at)
+            [ inl e ↦ absurd (nb (sym is ∙ ap (λ (m : Node). bucket_of p m.hash) (ap (node_at ms) e ∙ at_now (λ f. ne (e ∙ f))) ∙ bucket_n1)) |
+            inr na ↦ (let o = other i ne na in old.every i (omega (arith, size, below)) (ap (λ (m : Node). m.live) (sym o) ∙ live)
+            (ap (λ (m : Node). bucket_of p m.hash) (sym o) ∙ is)) ]);
       }
 
   pool_apart : (i : ℕ) → (node_at ns i).live ≡ true → Among i (chain ns free) → ⊥
@@ -127,7 +145,8 @@ module _ (heads : List ℕ) (ns : List Node) (len : ℕ) (p : Place) (free b hea
   front : Fronts (set ns at n1) (set (set ns at n1) head n2) free head
   front =
       let one = keep1 free k.table.pool.linked in
-      fronts_set (set ns at n1) head n2 free (omega (arith, size1, head_below)) k.link2 (λ a. pool_apart head head_live (among_along head _ _ one.same a)) one.linked
+      fronts_set (set ns at n1) head n2 free (omega (arith, size1, head_below)) k.link2
+      (λ a. pool_apart head head_live (among_along head _ _ one.same a)) one.linked
 
   one_less : count_by is_live (set (set ns at n1) head n2) + 1 ≡ len
   one_less =
@@ -135,7 +154,9 @@ module _ (heads : List ℕ) (ns : List Node) (len : ℕ) (p : Place) (free b hea
       let f' : Bool → ℕ = λ x. cond x 1 0 in
       let e1 = sum_by-set f ns at n1 blank at_below in
       let e2 = sum_by-set f (set ns at n1) head n2 blank (omega (arith, size1, head_below)) in
-      let head1 : (node_at (set ns at n1) head).live ≡ true = elim (cases_eq head at) [ inl e ↦ ap (λ x. (node_at (set ns at n1) x).live) e ∙ ap (λ (m : Node). m.live) (get_or-set_same ns at n1 blank at_below) ∙ k.live | inr ne ↦ ap (λ (m : Node). m.live) (get_or-set_other ns at head n1 blank ne) ∙ head_live ] in
+      let head1 : (node_at (set ns at n1) head).live ≡ true = elim (cases_eq head at)
+      [ inl e ↦ ap (λ x. (node_at (set ns at n1) x).live) e ∙ ap (λ (m : Node). m.live) (get_or-set_same ns at n1 blank at_below) ∙ k.live |
+      inr ne ↦ ap (λ (m : Node). m.live) (get_or-set_other ns at head n1 blank ne) ∙ head_live ] in
       let a1 : f (node_at ns at) ≡ 1 = ap f' at_live in
       let a2 : f n1 ≡ 1 = ap f' k.live in
       let a3 : f (node_at (set ns at n1) head) ≡ 1 = ap f' head1 in
@@ -157,7 +178,11 @@ module _ (heads : List ℕ) (ns : List Node) (len : ℕ) (p : Place) (free b hea
         pool = record {
           linked = front.linked;
           dead =
-              λ i a. elim (among_along i _ _ front.is a) [ inl e ↦ ap (λ x. (node_at ms x).live) e ∙ ap (λ (m : Node). m.live) head_now ∙ k.dead | inr a1 ↦ (let a' = among_along i _ _ one.same a1 in ap (λ (m : Node). m.live) (other i (λ e. pool_apart head head_live (subst (λ x. Among x (chain ns free)) e a')) (λ e. pool_apart at at_live (subst (λ x. Among x (chain ns free)) e a'))) ∙ k.table.pool.dead i a') ];
+              λ i a. elim (among_along i _ _ front.is a)
+              [ inl e ↦ ap (λ x. (node_at ms x).live) e ∙ ap (λ (m : Node). m.live) head_now ∙ k.dead |
+              inr a1 ↦ (let a' = among_along i _ _ one.same a1 in ap (λ (m : Node). m.live)
+              (other i (λ e. pool_apart head head_live (subst (λ x. Among x (chain ns free)) e a'))
+              (λ e. pool_apart at at_live (subst (λ x. Among x (chain ns free)) e a'))) ∙ k.table.pool.dead i a') ];
           rest = omega (arith, ap length front.is, ap length one.same, k.table.pool.rest, size, one_less);
         };
         buckets =
@@ -177,11 +202,15 @@ module _ (heads : List ℕ) (ns : List Node) (len : ℕ) (p : Place) (free b hea
       let rest = set ns0 head n2 in
       let head0 : node_at ns0 head ≡ node_at ns head = get_or-set_other ns at head blank blank ne' in
       let out1 : IsPermutation (entries ns) (pair_of (node_at ns at) ∷ entries ns0) = entries-set_out ns at blank at_below at_live refl in
-      let out2 : IsPermutation (entries ns0) (pair_of (node_at ns0 head) ∷ entries rest) = entries-set_out ns0 head n2 (omega (arith, length-set ns at blank, head_below)) (ap (λ (m : Node). m.live) head0 ∙ head_live) k.dead in
-      let out3 : IsPermutation (entries ms) (pair_of (node_at ms at) ∷ entries (set ms at blank)) = entries-set_out ms at blank (omega (arith, size, at_below)) (ap (λ (m : Node). m.live) (at_now ne) ∙ k.live) refl in
+      let out2 : IsPermutation (entries ns0) (pair_of (node_at ns0 head) ∷ entries rest) = entries-set_out ns0 head n2
+      (omega (arith, length-set ns at blank, head_below)) (ap (λ (m : Node). m.live) head0 ∙ head_live) k.dead in
+      let out3 : IsPermutation (entries ms) (pair_of (node_at ms at) ∷ entries (set ms at blank)) = entries-set_out ms at blank
+      (omega (arith, size, at_below)) (ap (λ (m : Node). m.live) (at_now ne) ∙ k.live) refl in
       let same : set ms at blank ≡ rest = set_comm (set ns at n1) head at n2 blank ne' ∙ ap (λ xs. set xs head n2) (set-set ns at n1 blank) in
       let pairs : pair_of (node_at ms at) ≡ pair_of (node_at ns0 head) = ap pair_of (at_now ne) ∙ k.pair ∙ ap pair_of (sym head0) in
-      let out3' : IsPermutation (entries ms) (pair_of (node_at ns0 head) ∷ entries rest) = subst (λ (e : ℕ × RowRef). IsPermutation (entries ms) (e ∷ entries rest)) pairs (subst (λ xs. IsPermutation (entries ms) (pair_of (node_at ms at) ∷ entries xs)) same out3) in
+      let out3' : IsPermutation (entries ms)
+      (pair_of (node_at ns0 head) ∷ entries rest) = subst (λ (e : ℕ × RowRef). IsPermutation (entries ms) (e ∷ entries rest)) pairs
+      (subst (λ xs. IsPermutation (entries ms) (pair_of (node_at ms at) ∷ entries xs)) same out3) in
       let swap : IsPermutation (entries ns0) (entries ms) = IsPermutation-trans _ _ _ out2 (IsPermutation-sym _ _ out3') in
       IsPermutation-trans _ _ _ out1 (IsPermutation-cons (pair_of (node_at ns at)) _ _ swap)
 
@@ -189,23 +218,29 @@ module _ (heads : List ℕ) (ns : List Node) (len : ℕ) (p : Place) (free b hea
   take_entries = elim (cases_eq at head) [ inl e ↦ same_place e | inr ne ↦ two_places ne ]
 
 -- the bucket of a hash
-pub bucket_at : (heads : List ℕ) (ns : List Node) (len : ℕ) (p : Place) (free hash b head : ℕ) → b ≡ bucket_of p hash → head ≡ get_or heads b 0 → IsTable heads ns len p free → IsBucket ns p head b
+pub bucket_at : (heads : List ℕ) (ns : List Node) (len : ℕ) (p : Place) (free hash b head : ℕ) → b ≡ bucket_of p hash → head ≡ get_or heads b 0
+    → IsTable heads ns len p free → IsBucket ns p head b
 bucket_at heads ns len p free hash b head b_is head_is t =
     subst (λ h. IsBucket ns p h b) (sym head_is) (t.buckets b (omega (arith, b_is, bucket_in heads ns len p free t hash)))
 
 -- it has all entries of this hash
-pub bucket_has_all : (heads : List ℕ) (ns : List Node) (len : ℕ) (p : Place) (free hash b head : ℕ) → b ≡ bucket_of p hash → head ≡ get_or heads b 0 → IsTable heads ns len p free → HasAll ns head hash
+pub bucket_has_all : (heads : List ℕ) (ns : List Node) (len : ℕ) (p : Place) (free hash b head : ℕ) → b ≡ bucket_of p hash → head ≡ get_or heads b 0
+    → IsTable heads ns len p free → HasAll ns head hash
 bucket_has_all heads ns len p free hash b head b_is head_is t i below live same =
     (bucket_at heads ns len p free hash b head b_is head_is t).every i below live (ap (bucket_of p) same ∙ sym b_is)
 
 -- a pair that its bucket's chain doesn't have is not held
-pub not_found : (heads : List ℕ) (ns : List Node) (len : ℕ) (p : Place) (free hash b head : ℕ) (r : RowRef) (at : ℕ) → b ≡ bucket_of p hash → head ≡ get_or heads b 0 → IsTable heads ns len p free → Finds ns head hash r at → at ≡ NIL → Contains (entries ns) (hash, r) → ⊥
+pub not_found : (heads : List ℕ) (ns : List Node) (len : ℕ) (p : Place) (free hash b head : ℕ) (r : RowRef) (at : ℕ) → b ≡ bucket_of p hash
+    → head ≡ get_or heads b 0 → IsTable heads ns len p free → Finds ns head hash r at → at ≡ NIL → Contains (entries ns) (hash, r) → ⊥
 not_found heads ns len p free hash b head r at b_is head_is t s end =
     let k = bucket_at heads ns len p free hash b head b_is head_is t in
     not_held ns (hash, r) (λ i below live e. s.none end i (k.every i below live (ap (λ (x : ℕ × RowRef). bucket_of p x.0) e ∙ sym b_is)) e)
 
 -- what the code writes where the pair was found; m1 is the first node as read, m2 the found one
-pub taking : (heads : List ℕ) (ns : List Node) (len : ℕ) (p : Place) (free hash b head : ℕ) (r : RowRef) (at : ℕ) (m1 m2 : Node) → b ≡ bucket_of p hash → head ≡ get_or heads b 0 → IsTable heads ns len p free → Finds ns head hash r at → at ≢ NIL → m1 ≡ get_or ns head m1 → m2 ≡ get_or ns at m2 → IsTaking heads ns len p free b head at (record { hash = m1.hash; part = m1.part; next = m2.next; slot = m1.slot; live = true }) (record { hash = 0; part = 0; next = free; slot = 0; live = false })
+pub taking : (heads : List ℕ) (ns : List Node) (len : ℕ) (p : Place) (free hash b head : ℕ) (r : RowRef) (at : ℕ) (m1 m2 : Node)
+    → b ≡ bucket_of p hash → head ≡ get_or heads b 0 → IsTable heads ns len p free → Finds ns head hash r at → at ≢ NIL → m1 ≡ get_or ns head m1
+    → m2 ≡ get_or ns at m2
+    → IsTaking heads ns len p free b head at (record { hash = m1.hash; part = m1.part; next = m2.next; slot = m1.slot; live = true }) (record { hash = 0; part = 0; next = free; slot = 0; live = false })
 taking heads ns len p free hash b head r at m1 m2 b_is head_is t s on read1 read2 =
     let k = bucket_at heads ns len p free hash b head b_is head_is t in
     let found = (s.found on).0 in
@@ -226,12 +261,14 @@ taking heads ns len p free hash b head r at m1 m2 b_is head_is t s on read1 read
     }
 
 -- the room after a remove
-pub spare_more : (heads : List ℕ) (ns : List Node) (len : ℕ) (p : Place) (free capacity spare : ℕ) → IsTable heads ns len p free → length ns ≤ capacity → 1 ≤ len → min capacity NIL - len ≡ spare → min capacity NIL - (len - 1) ≡ spare + 1
+pub spare_more : (heads : List ℕ) (ns : List Node) (len : ℕ) (p : Place) (free capacity spare : ℕ) → IsTable heads ns len p free
+    → length ns ≤ capacity → 1 ≤ len → min capacity NIL - len ≡ spare → min capacity NIL - (len - 1) ≡ spare + 1
 spare_more heads ns len p free capacity spare t fits some is =
     omega (arith, t.pool.rest, t.pool.linked.few, fits, some, is)
 
 -- a bucket where a pair was found has a first node
-pub first_below : (heads : List ℕ) (ns : List Node) (len : ℕ) (p : Place) (free hash b head : ℕ) (r : RowRef) (at : ℕ) → b ≡ bucket_of p hash → head ≡ get_or heads b 0 → IsTable heads ns len p free → Finds ns head hash r at → at ≢ NIL → (head < length ns) × (at < length ns)
+pub first_below : (heads : List ℕ) (ns : List Node) (len : ℕ) (p : Place) (free hash b head : ℕ) (r : RowRef) (at : ℕ) → b ≡ bucket_of p hash
+    → head ≡ get_or heads b 0 → IsTable heads ns len p free → Finds ns head hash r at → at ≢ NIL → (head < length ns) × (at < length ns)
 first_below heads ns len p free hash b head r at b_is head_is t s on =
     let k = bucket_at heads ns len p free hash b head b_is head_is t in
     let found = (s.found on).0 in

@@ -36,7 +36,8 @@ get-set_other slots i j slot other apart is =
     ∙ ap Some (get_or-set_other slots i j slot other apart ∙ get_or_from_slice_get slots j other other is)
 
 -- a slot is written that the links do not lead over
-Leads-set : (slots : List Slot) (n : ℕ) (head : Option ℕ) (i : ℕ) (slot : Slot) → ((m : ℕ) → m ≤ n → Leads slots m (Some i) → ⊥) → Leads slots n head → Leads (set slots i slot) n head
+Leads-set : (slots : List Slot) (n : ℕ) (head : Option ℕ) (i : ℕ) (slot : Slot) → ((m : ℕ) → m ≤ n → Leads slots m (Some i) → ⊥)
+    → Leads slots n head → Leads (set slots i slot) n head
 Leads-set slots zero head i slot apart none = none
 Leads-set slots (suc n) head i slot apart (at, next, is, free, rest) =
     let other : at ≢ i = λ same. apart (suc n) (omega arith) (at, next, ap Some (sym same), free, rest) in
@@ -47,27 +48,32 @@ taken : Slot → ℕ
 taken slot = cond (is_taken slot) 1 0
 
 -- a slot with a row has another one now, and the free slots stay
-pub LinksFree-kept : (slots : List Slot) (head : Option ℕ) (count i : ℕ) (was slot : Slot) → i < length slots → was ≡ get_or slots i was → is_taken was ≡ true → is_taken slot ≡ true → LinksFree slots head count → LinksFree (set slots i slot) head count
+pub LinksFree-kept : (slots : List Slot) (head : Option ℕ) (count i : ℕ) (was slot : Slot) → i < length slots → was ≡ get_or slots i was
+    → is_taken was ≡ true → is_taken slot ≡ true → LinksFree slots head count → LinksFree (set slots i slot) head count
 unfolding taken
 LinksFree-kept slots head count i was slot within read row new_row free =
     let there : slice_get slots i ≡ Some was = slice_get-get_or slots i was within ∙ ap Some (sym read) in
     record {
       links = Leads-set slots count head i slot (λ m _. apart_from_taken slots i was there row m) free.links;
-      counted = omega (arith, length-set slots i slot, sum_by-set taken slots i slot was within, ap taken read, ap {B = ℕ} (λ b. cond b 1 0) row, ap {B = ℕ} (λ b. cond b 1 0) new_row, free.counted);
+      counted = omega (arith, length-set slots i slot, sum_by-set taken slots i slot was within, ap taken read, ap {B = ℕ} (λ b. cond b 1 0) row,
+          ap {B = ℕ} (λ b. cond b 1 0) new_row, free.counted);
     }
 
 -- a row is out, and its slot is the first of the free ones
-pub LinksFree-freed : (slots : List Slot) (head : Option ℕ) (count i : ℕ) (was : Slot) → i < length slots → was ≡ get_or slots i was → is_taken was ≡ true → LinksFree slots head count → LinksFree (set slots i (Free head)) (Some i) (count + 1)
+pub LinksFree-freed : (slots : List Slot) (head : Option ℕ) (count i : ℕ) (was : Slot) → i < length slots → was ≡ get_or slots i was
+    → is_taken was ≡ true → LinksFree slots head count → LinksFree (set slots i (Free head)) (Some i) (count + 1)
 unfolding taken
 LinksFree-freed slots head count i was within read row free =
     let there : slice_get slots i ≡ Some was = slice_get-get_or slots i was within ∙ ap Some (sym read) in
     let after : List Slot = set slots i (Free head) in
-    let link : slice_get after i ≡ Some (Free head) = slice_get-get_or after i (Free head) (omega (arith, length-set slots i (Free head))) ∙ ap Some (get_or-set_same slots i (Free head) (Free head) within) in
+    let link : slice_get after i ≡ Some (Free head) = slice_get-get_or after i (Free head) (omega (arith, length-set slots i (Free head))) ∙ ap Some
+    (get_or-set_same slots i (Free head) (Free head) within) in
     let rest : Leads after count head = Leads-set slots count head i (Free head) (λ m _. apart_from_taken slots i was there row m) free.links in
     let links : Leads after (suc count) (Some i) = (i, head, refl, link, rest) in
     record {
       links = subst (λ n. Leads after n (Some i)) (sym (add-one count)) links;
-      counted = omega (arith, length-set slots i (Free head), sum_by-set taken slots i (Free head) was within, ap taken read, ap {B = ℕ} (λ b. cond b 1 0) row, free.counted);
+      counted = omega (arith, length-set slots i (Free head), sum_by-set taken slots i (Free head) was within, ap taken read, ap {B = ℕ}
+          (λ b. cond b 1 0) row, free.counted);
     }
 
 -- the first of the free slots is one of the slots
@@ -79,7 +85,8 @@ first_within slots (suc count) i free =
     omega (arith, same, slice_get_within slots at (Free after) link)
 
 -- the first of the free slots is given a row
-pub LinksFree-given : (slots : List Slot) (count i : ℕ) (was : Slot) (next : Option ℕ) (row : List Value) → was ≡ get_or slots i was → Free next ≡ was → LinksFree slots (Some i) count → LinksFree (set slots i (Live row)) next (count - 1)
+pub LinksFree-given : (slots : List Slot) (count i : ℕ) (was : Slot) (next : Option ℕ) (row : List Value) → was ≡ get_or slots i was
+    → Free next ≡ was → LinksFree slots (Some i) count → LinksFree (set slots i (Live row)) next (count - 1)
 unfolding taken
 LinksFree-given slots zero i was next row read holds free = let none : Some i ≡ None = free.links in cc
 LinksFree-given slots (suc count) i was next row read holds free =
@@ -89,7 +96,8 @@ LinksFree-given slots (suc count) i was next row read holds free =
     let within : i < length slots = first_within slots (suc count) i free in
     let same_slot : Free after ≡ Free next = sym (get_or_from_slice_get slots i (Free after) was there) ∙ (sym read ∙ sym holds) in
     let same_next : after ≡ next = cc in
-    let past : Leads (set slots i (Live row)) count after = Leads-set slots count after i (Live row) (λ m below again. omega (arith, below, same_count slots m (suc count) (Some i) again free.links)) rest in
+    let past : Leads (set slots i (Live row)) count after = Leads-set slots count after i (Live row)
+    (λ m below again. omega (arith, below, same_count slots m (suc count) (Some i) again free.links)) rest in
     let same : suc count - 1 ≡ count = omega arith in
     let was_free : get_or slots i (Live row) ≡ Free after = get_or_from_slice_get slots i (Free after) (Live row) there in
     record {

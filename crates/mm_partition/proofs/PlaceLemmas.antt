@@ -16,7 +16,8 @@ pub record Refers (slots : List Slot) (at : RowRef) (i : ℕ) : Type 0 where
   pub within : i < length slots
 
 -- a reference with a row has a slot
-refers : (places : Places) (slots : List Slot) (at : RowRef) (i : ℕ) → map content_of slots ≡ places.slots → i ≡ 64 * at.part + at.slot → slot_at places at ≢ Free → Refers slots at i
+refers : (places : Places) (slots : List Slot) (at : RowRef) (i : ℕ) → map content_of slots ≡ places.slots → i ≡ 64 * at.part + at.slot
+    → slot_at places at ≢ Free → Refers slots at i
 refers places slots at i view place taken =
     let same_length : length places.slots ≡ length slots = ap length (sym view) ∙ length-map slots content_of in
     record {
@@ -25,10 +26,12 @@ refers places slots at i view place taken =
       within = ⊎_elim (λ (h : i < length slots). h) (λ (h : length slots ≤ i). absurd (taken (grind (arith, common_steps)))) (cases_lt i (length slots));
     }
 
-pub IsLive-refers : (places : Places) (slots : List Slot) (at : RowRef) (i : ℕ) → map content_of slots ≡ places.slots → i ≡ 64 * at.part + at.slot → IsLive places at → Refers slots at i
+pub IsLive-refers : (places : Places) (slots : List Slot) (at : RowRef) (i : ℕ) → map content_of slots ≡ places.slots → i ≡ 64 * at.part + at.slot
+    → IsLive places at → Refers slots at i
 IsLive-refers places slots at i view place (row, is) = refers places slots at i view place (λ free. let both : Live row ≡ Free = sym is ∙ free in cc)
 
-pub IsHidden-refers : (places : Places) (slots : List Slot) (at : RowRef) (i : ℕ) → map content_of slots ≡ places.slots → i ≡ 64 * at.part + at.slot → IsHidden places at → Refers slots at i
+pub IsHidden-refers : (places : Places) (slots : List Slot) (at : RowRef) (i : ℕ) → map content_of slots ≡ places.slots → i ≡ 64 * at.part + at.slot
+    → IsHidden places at → Refers slots at i
 IsHidden-refers places slots at i view place (row, is) = refers places slots at i view place (λ free. let both : Hidden row ≡ Free = sym is ∙ free in cc)
 
 -- where the slot number of a reference is one, its index among the slots is read
@@ -39,7 +42,8 @@ at_large : (places : Places) (at : RowRef) → 64 ≤ at.slot → slot_at places
 at_large places at large = cond-false _ _ _ (le-ltb at.slot 64 large)
 
 -- what stands at a reference is what its slot holds
-pub slot_at-is : (places : Places) (slots : List Slot) (at : RowRef) (i : ℕ) (slot : Slot) → map content_of slots ≡ places.slots → Refers slots at i → slot ≡ get_or slots i slot → slot_at places at ≡ content_of slot
+pub slot_at-is : (places : Places) (slots : List Slot) (at : RowRef) (i : ℕ) (slot : Slot) → map content_of slots ≡ places.slots → Refers slots at i
+    → slot ≡ get_or slots i slot → slot_at places at ≡ content_of slot
 slot_at-is places slots at i slot view here read =
     at_small places at here.small ∙ ap (λ n. get_or places.slots n Free) (sym here.place) ∙ ap (λ xs. get_or xs i Free) (sym view)
     ∙ (get_or-map content_of slots i slot Free here.within ∙ ap content_of (sym read))
@@ -52,20 +56,27 @@ same_reference a b a_small b_small same =
     ap {B = RowRef} (λ p. record { part = p; slot = a.slot }) part ∙ ap {B = RowRef} (λ s. record { part = b.part; slot = s }) slot
 
 -- what stands at the other references stays where what the other slots hold does
-others_stay : (old new : Places) (at : RowRef) → at.slot < 64 → ((k : ℕ) → k ≢ 64 * at.part + at.slot → get_or new.slots k Free ≡ get_or old.slots k Free) → (other : RowRef) → other ≢ at → slot_at new other ≡ slot_at old other
+others_stay : (old new : Places) (at : RowRef) → at.slot < 64
+    → ((k : ℕ) → k ≢ 64 * at.part + at.slot → get_or new.slots k Free ≡ get_or old.slots k Free) → (other : RowRef) → other ≢ at
+    → slot_at new other ≡ slot_at old other
 others_stay old new at small stays other apart =
     ⊎_elim
-    (λ (inside : other.slot < 64). at_small new other inside ∙ (stays (64 * other.part + other.slot) (λ same. apart (same_reference other at inside small same)) ∙ sym (at_small old other inside)))
+    (λ (inside : other.slot < 64). at_small new other inside
+    ∙ (stays (64 * other.part + other.slot) (λ same. apart (same_reference other at inside small same)) ∙ sym (at_small old other inside)))
     (λ (outside : 64 ≤ other.slot). at_large new other outside ∙ sym (at_large old other outside))
     (cases_lt other.slot 64)
 
 -- one slot is written
-pub ChangesOnly-set : (old : Places) (slots : List Slot) (room i : ℕ) (slot : Slot) (at : RowRef) (content : Content) → content_of slot ≡ content → map content_of slots ≡ old.slots → Refers slots at i → ChangesOnly old (record { slots = map content_of (set slots i slot); room = room }) at content
+pub ChangesOnly-set : (old : Places) (slots : List Slot) (room i : ℕ) (slot : Slot) (at : RowRef) (content : Content) → content_of slot ≡ content
+    → map content_of slots ≡ old.slots → Refers slots at i → ChangesOnly old (record { slots = map content_of (set slots i slot); room = room }) at content
 ChangesOnly-set old slots room i slot at content holds view here =
     let new : Places = record { slots = map content_of (set slots i slot); room = room } in
-    let items : map content_of (set slots i slot) ≡ set old.slots i (content_of slot) = map-set content_of slots i slot ∙ ap (λ xs. set xs i (content_of slot)) view in
-    let still : Refers (set slots i slot) at i = record { place = here.place; small = here.small; within = omega (arith, length-set slots i slot, here.within) } in
+    let items : map content_of (set slots i slot) ≡ set old.slots i (content_of slot) = map-set content_of slots i slot
+    ∙ ap (λ xs. set xs i (content_of slot)) view in
+    let still : Refers (set slots i slot) at i = record
+    { place = here.place; small = here.small; within = omega (arith, length-set slots i slot, here.within) } in
     record {
       changed = slot_at-is new (set slots i slot) at i slot refl still (sym (get_or-set_same slots i slot slot here.within)) ∙ holds;
-      others = others_stay old new at here.small (λ k apart. ap (λ xs. get_or xs k Free) items ∙ get_or-set_other old.slots i k (content_of slot) Free (λ same. apart (same ∙ here.place)));
+      others = others_stay old new at here.small
+          (λ k apart. ap (λ xs. get_or xs k Free) items ∙ get_or-set_other old.slots i k (content_of slot) Free (λ same. apart (same ∙ here.place)));
     }

@@ -20,7 +20,8 @@ use Rattle.mm_query.specs.declared.reply.Reply.TheVariants.{Refused}
 pub lacks_nowhere : (name : List ℕ) (schema : Schema) → table_place name schema ≡ None → lacks_table name schema ≡ true
 lacks_nowhere name schema nowhere = ap is_none (no_table name schema nowhere)
 
-module _ (name : List ℕ) (schema : Schema) (place : ℕ) (table : Table) (placed : table_place name schema ≡ Some place) (there : slice_get schema.tables place ≡ Some table) where
+module _ (name : List ℕ) (schema : Schema) (place : ℕ) (table : Table) (placed : table_place name schema ≡ Some place)
+    (there : slice_get schema.tables place ≡ Some table) where
   named : table_named name schema ≡ Some table
   named = table_at_place name schema place placed ∙ there
 

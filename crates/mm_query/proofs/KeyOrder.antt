@@ -48,13 +48,15 @@ kept_by_table definition state due kept =
     (neither_due _ (passes_table_limits definition state.schema) NameTaken TooMany due).0 in
     record {
       distinct = IsDistinct-push (record { definition = definition }) state.schema.tables free kept.distinct;
-      order = AreInKeyOrder-push state.schema.tables state.rows (record { definition = definition }) [] kept.order (IsStrictlySortedBy-nil (column_cmp_total (key_place definition.columns)));
+      order = AreInKeyOrder-push state.schema.tables state.rows (record { definition = definition }) [] kept.order
+          (IsStrictlySortedBy-nil (column_cmp_total (key_place definition.columns)));
     }
 
 no_twins : (key : ℕ) (rows : List Row) → first_refusal (table_rows_conditions key rows) ≡ None → has_twin_keys key rows ≡ false
 no_twins key rows due = (neither_due (has_twin_keys key rows) (nat_lt 1048576 (length rows)) DuplicateKey TableFull due).0
 
-kept_by_change : (mutation : Mutation) (state : State) → first_refusal (conditions (Change mutation) state) ≡ None → IsKept state → IsKept (after_change mutation state)
+kept_by_change : (mutation : Mutation) (state : State) → first_refusal (conditions (Change mutation) state) ≡ None → IsKept state
+    → IsKept (after_change mutation state)
 kept_by_change mutation state due kept = record {
   distinct = kept.distinct;
   order = AreInKeyOrder-changed (changed_table mutation) (own_pairs mutation state) state.schema.tables state.rows kept.order kept.distinct
@@ -70,7 +72,8 @@ kept_by_command (Define (define.Table definition)) state due kept = kept_by_tabl
 kept_by_command (Change mutation) state due kept = kept_by_change mutation state due kept
 kept_by_command (Scan table) state due kept = kept
 
-kept_unless_refused : (due : Option Refusal) (old : State) (done : Outcome) → (due ≡ None → IsKept done.state) → IsKept old → IsKept (unless_refused due old done).state
+kept_unless_refused : (due : Option Refusal) (old : State) (done : Outcome) → (due ≡ None → IsKept done.state) → IsKept old
+    → IsKept (unless_refused due old done).state
 kept_unless_refused (Some refusal) old done new kept = kept
 kept_unless_refused None old done new kept = new refl
 

@@ -41,7 +41,8 @@ module _ (name : List ℕ) (schema : Schema) (tuples : List (List Value)) (place
       (λ i. first_of_three (not_lacking name schema place table placed there i)
       (passes_at_place name schema place table placed there (λ t. list_any (has_type_mismatch t.definition.columns) tuples) i)
       (passes_at_place name schema place table placed there (λ t. list_any (has_other_length t.definition.columns) tuples) i))
-      ∙ sym (λ i. first_of_three false (list_any (has_type_mismatch (columns_are i)) (tuples_are i)) (list_any (has_other_length (columns_are i)) (tuples_are i)))
+      ∙ sym (λ i. first_of_three false (list_any (has_type_mismatch (columns_are i)) (tuples_are i))
+      (list_any (has_other_length (columns_are i)) (tuples_are i)))
 
   pub due_mismatch : true ≡ list_any (has_type_mismatch columns) read → first_refusal (binding_conditions (Insert name tuples) schema) ≡ Some TypeMismatch
   due_mismatch mismatch = due_at_place ∙ ap (λ b. first_of_three false b (list_any (has_other_length columns) read)) (sym mismatch)

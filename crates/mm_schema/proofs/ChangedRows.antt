@@ -95,14 +95,16 @@ not_true true e = (cc)
 not_true false e = refl
 
 -- the rows before they are sorted are those afterwards
-to_changed : (key : ℕ) (pairs : List Pair) (rows : List Row) (row : Row) → Contains (unsorted key pairs rows) row → 0 < length pairs → Contains (changed key pairs rows) row
+to_changed : (key : ℕ) (pairs : List Pair) (rows : List Row) (row : Row) → Contains (unsorted key pairs rows) row → 0 < length pairs
+    → Contains (changed key pairs rows) row
 to_changed key [] rows row here some = absurd (omega arith)
 to_changed key (p ∷ ps) rows row here some = Contains-permutation _ _ row (IsPermutation-in_order (column_cmp key) (unsorted key (p ∷ ps) rows)) here
 
 some_pairs : (pairs : List Pair) (p : Pair) → Contains pairs p → 0 < length pairs
 some_pairs pairs p here = omega (arith, here.1)
 
-staying : (key : ℕ) (pairs : List Pair) (row : Row) → ((old : Row) (new : Option Row) → Contains {X = Pair} pairs (Some old, new) → column_cmp key row old ≡ Equal → ⊥)
+staying : (key : ℕ) (pairs : List Pair) (row : Row)
+    → ((old : Row) (new : Option Row) → Contains {X = Pair} pairs (Some old, new) → column_cmp key row old ≡ Equal → ⊥)
     → StaysIn key row pairs
 staying key pairs row stays old new here same = stays old new (Contains-from_IsIn {X = Pair} pairs (Some old, new) here) same
 
@@ -113,11 +115,14 @@ row_stays key [] rows row here stays = here
 row_stays key (p ∷ ps) rows row here stays =
     let kept : not (list_any (λ (q : Pair). goes key row q.0) (p ∷ ps)) ≡ true = ap not (none_goes key row (p ∷ ps) (staying key (p ∷ ps) row stays)) in
     to_changed key (p ∷ ps) rows row
-    (Contains-append_left _ _ row (Contains-from_IsIn _ row (passes_in_filter (λ r. not (list_any (λ (q : Pair). goes key r q.0) (p ∷ ps))) rows row (IsIn-from_Contains rows row here) kept)))
+    (Contains-append_left _ _ row
+    (Contains-from_IsIn _ row
+    (passes_in_filter (λ r. not (list_any (λ (q : Pair). goes key r q.0) (p ∷ ps))) rows row (IsIn-from_Contains rows row here) kept)))
     (omega arith)
 
 -- A row that comes is there.
-pub row_comes : (key : ℕ) (pairs : List Pair) (rows : List Row) (old : Option Row) (new : Row) → Contains {X = Pair} pairs (old, Some new) → Contains (changed key pairs rows) new
+pub row_comes : (key : ℕ) (pairs : List Pair) (rows : List Row) (old : Option Row) (new : Row) → Contains {X = Pair} pairs (old, Some new)
+    → Contains (changed key pairs rows) new
 row_comes key pairs rows old new here =
     to_changed key pairs rows new
     (Contains-append_right _ _ new (Contains-from_IsIn _ new (comes_in_new new pairs old (IsIn-from_Contains {X = Pair} pairs (old, Some new) here))))
@@ -130,11 +135,13 @@ pub no_other_row : (key : ℕ) (pairs : List Pair) (rows : List Row) (row : Row)
 no_other_row key [] rows row here = inr (here, λ old new none same. absurd (omega (arith, none.1)))
 no_other_row key (p ∷ ps) rows row here =
     let before = Contains-permutation _ _ row (IsPermutation-sym _ _ (IsPermutation-in_order (column_cmp key) (unsorted key (p ∷ ps) rows))) here in
-    elim (Contains-append_cases (filter (λ r. not (list_any (λ (q : Pair). goes key r q.0) (p ∷ ps))) rows) (filter_map (λ (q : Pair). q.1) (p ∷ ps)) row before) [
+    elim (Contains-append_cases (filter (λ r. not (list_any (λ (q : Pair). goes key r q.0) (p ∷ ps))) rows) (filter_map (λ (q : Pair). q.1) (p ∷ ps))
+    row before) [
       | inl old ↦
           let found = from_filter (λ r. not (list_any (λ (q : Pair). goes key r q.0) (p ∷ ps))) rows row (IsIn-from_Contains _ row old) in
           let none = not_true (list_any (λ (q : Pair). goes key row q.0) (p ∷ ps)) found.1 in
-          inr (Contains-from_IsIn rows row found.0, λ gone new there same. stays_from_none key row (p ∷ ps) none gone new (IsIn-from_Contains {X = Pair} (p ∷ ps) (Some gone, new) there) same)
+          inr (Contains-from_IsIn rows row found.0, λ gone new there same. stays_from_none key row (p ∷ ps) none gone new
+              (IsIn-from_Contains {X = Pair} (p ∷ ps) (Some gone, new) there) same)
       | inr come ↦
           let found = new_comes_in row (p ∷ ps) (IsIn-from_Contains _ row come) in
           inl (found.0, Contains-from_IsIn {X = Pair} (p ∷ ps) (found.0, Some row) found.1)

@@ -105,15 +105,22 @@ module _ (key : ℕ) where
         | inr other ↦ rw other (all.0, each_put P row rs here all.1)
       ]
 
-  IsStrictlySortedBy-put_in_order : (row : Row) (rows : List Row) → list_any (same_in_column key row) rows ≡ false → IsStrictlySortedBy (column_cmp key) rows → IsStrictlySortedBy (column_cmp key) (put_in_order (column_cmp key) row rows)
+  IsStrictlySortedBy-put_in_order : (row : Row) (rows : List Row) → list_any (same_in_column key row) rows ≡ false
+      → IsStrictlySortedBy (column_cmp key) rows → IsStrictlySortedBy (column_cmp key) (put_in_order (column_cmp key) row rows)
   IsStrictlySortedBy-put_in_order row [] none order =
       IsStrictlySortedBy-cons (column_cmp_total key) row [] tt (IsStrictlySortedBy-nil (column_cmp_total key))
   IsStrictlySortedBy-put_in_order row (r ∷ rs) none order =
       let parts = or_parts (same_in_column key row r) (list_any (same_in_column key row) rs) none in
       let no_tie : same_in_column key r row ≡ false = same_in_column_comm key r row ∙ parts.0 in
       elim (cases_Bool (is_gt (column_cmp key r row))) [
-        | inl greater ↦ rw greater (IsStrictlySortedBy-before (column_cmp_total key) row r rs (less_from_greater (column_cmp_total key) r row (greater_from_is_gt (column_cmp key r row) greater)) order)
-        | inr other ↦ rw other (IsStrictlySortedBy-cons (column_cmp_total key) r (put_in_order (column_cmp key) row rs) (each_put (λ x. column_cmp key r x ≡ Less) row rs (less_from_neither (column_cmp key r row) no_tie other) (IsStrictlySortedBy-head (column_cmp_total key) r rs order)) (IsStrictlySortedBy-put_in_order row rs parts.1 (IsStrictlySortedBy-tail (column_cmp_total key) r rs order)))
+        | inl greater ↦ rw greater
+            (IsStrictlySortedBy-before (column_cmp_total key) row r rs
+            (less_from_greater (column_cmp_total key) r row (greater_from_is_gt (column_cmp key r row) greater)) order)
+        | inr other ↦ rw other
+            (IsStrictlySortedBy-cons (column_cmp_total key) r (put_in_order (column_cmp key) row rs)
+            (each_put (λ x. column_cmp key r x ≡ Less) row rs (less_from_neither (column_cmp key r row) no_tie other)
+            (IsStrictlySortedBy-head (column_cmp_total key) r rs order))
+            (IsStrictlySortedBy-put_in_order row rs parts.1 (IsStrictlySortedBy-tail (column_cmp_total key) r rs order)))
       ]
 
   -- without twins the sorted rows are in key order
@@ -121,7 +128,9 @@ module _ (key : ℕ) where
   IsStrictlySortedBy-in_order [] none = IsStrictlySortedBy-nil (column_cmp_total key)
   IsStrictlySortedBy-in_order (r ∷ rs) none =
       let parts = or_parts (list_any (same_in_column key r) rs) (has_twin_keys key rs) none in
-      let moved : list_any (same_in_column key r) (in_order (column_cmp key) rs) ≡ false = sym (list_any-IsPermutation (same_in_column key r) rs (in_order (column_cmp key) rs) (IsPermutation-in_order (column_cmp key) rs)) ∙ parts.0 in
+      let moved : list_any (same_in_column key r)
+      (in_order (column_cmp key) rs) ≡ false = sym (list_any-IsPermutation (same_in_column key r) rs (in_order (column_cmp key) rs)
+      (IsPermutation-in_order (column_cmp key) rs)) ∙ parts.0 in
       IsStrictlySortedBy-put_in_order r (in_order (column_cmp key) rs) moved (IsStrictlySortedBy-in_order rs parts.1)
 
   in_from_permutation : (xs ys : List Row) → IsPermutation xs ys → (row : Row) → IsIn row xs → IsIn row ys
@@ -129,8 +138,11 @@ module _ (key : ℕ) where
       IsIn-from_Contains ys row (Contains-permutation xs ys row moved (Contains-from_IsIn xs row here))
 
   -- rows in key order are what any order of them sorts to
-  pub in_order_is : (rows ordered : List Row) → IsPermutation rows ordered → IsStrictlySortedBy (column_cmp key) ordered → in_order (column_cmp key) rows ≡ ordered
+  pub in_order_is : (rows ordered : List Row) → IsPermutation rows ordered → IsStrictlySortedBy (column_cmp key) ordered
+      → in_order (column_cmp key) rows ≡ ordered
   in_order_is rows ordered moved order =
       let none : has_twin_keys key rows ≡ false = has_twin_keys-IsPermutation key rows ordered moved ∙ no_twins_in_order key ordered order in
-      let between : IsPermutation (in_order (column_cmp key) rows) ordered = IsPermutation-trans _ _ _ (IsPermutation-sym _ _ (IsPermutation-in_order (column_cmp key) rows)) moved in
-      same_from_elements (column_cmp_total key) (in_order (column_cmp key) rows) ordered (IsStrictlySortedBy-in_order rows none) order (in_from_permutation _ _ between) (in_from_permutation _ _ (IsPermutation-sym _ _ between))
+      let between : IsPermutation (in_order (column_cmp key) rows) ordered = IsPermutation-trans _ _ _
+      (IsPermutation-sym _ _ (IsPermutation-in_order (column_cmp key) rows)) moved in
+      same_from_elements (column_cmp_total key) (in_order (column_cmp key) rows) ordered (IsStrictlySortedBy-in_order rows none) order
+      (in_from_permutation _ _ between) (in_from_permutation _ _ (IsPermutation-sym _ _ between))

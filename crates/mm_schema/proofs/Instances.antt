@@ -21,7 +21,8 @@ name_of table = table.definition.name
 abbrev pub edits_of_one : List ℕ → List Pair → List TableEdits
 edits_of_one table pairs = record { table = table; pairs = pairs } ∷ []
 
-pairs_by_test : (table : List ℕ) (pairs : List Pair) (b : Bool) → flat_map (λ (e : TableEdits). e.pairs) (cond b (edits_of_one table pairs) []) ≡ cond b pairs []
+pairs_by_test : (table : List ℕ) (pairs : List Pair) (b : Bool)
+    → flat_map (λ (e : TableEdits). e.pairs) (cond b (edits_of_one table pairs) []) ≡ cond b pairs []
 pairs_by_test table pairs true = append-nil pairs
 pairs_by_test table pairs false = refl
 
@@ -38,7 +39,8 @@ abbrev pub LackName : List ℕ → List Table → Type 0
 LackName name tables = AllByRecursion (λ other. same_name name other ≡ false) (map name_of tables)
 
 -- The tables behind the one of a name have other names.
-pub others_lack : (name : List ℕ) (table : Table) (tables : List Table) → same_name name (name_of table) ≡ true → IsDistinct same_name (map name_of (table ∷ tables)) → LackName name tables
+pub others_lack : (name : List ℕ) (table : Table) (tables : List Table) → same_name name (name_of table) ≡ true
+    → IsDistinct same_name (map name_of (table ∷ tables)) → LackName name tables
 others_lack name table tables own distinct =
     subst (λ n. LackName n tables) (sym (same_bytes name (name_of table) own)) (IsDistinct-head same_name (name_of table) (map name_of tables) distinct)
 
@@ -68,7 +70,8 @@ beside_from_order [] (r ∷ rs) order = absurd order
 beside_from_order (t ∷ ts) [] order = absurd order
 
 -- A new table has no row, so its rows are in order.
-pub AreInKeyOrder-push : (tables : List Table) (rows : Instance) (table : Table) (new : List Row) → AreInKeyOrder tables rows → IsInKeyOrder (key_place table.definition.columns) new
+pub AreInKeyOrder-push : (tables : List Table) (rows : Instance) (table : Table) (new : List Row) → AreInKeyOrder tables rows
+    → IsInKeyOrder (key_place table.definition.columns) new
     → AreInKeyOrder (tables ++ table ∷ []) (rows ++ new ∷ [])
 AreInKeyOrder-push [] [] table new order last = (last, tt)
 AreInKeyOrder-push (t ∷ ts) (r ∷ rs) table new order last = (order.0, AreInKeyOrder-push ts rs table new order.1 last)
@@ -86,7 +89,8 @@ module _ (name : List ℕ) (pairs : List Pair) where
   first_or_others : (t : Table) (ts : List Table) (r : List Row) (rs : Instance) (b : Bool) → same_name name (name_of t) ≡ b
       → AreInKeyOrder (t ∷ ts) (r ∷ rs) → IsDistinct same_name (map name_of (t ∷ ts))
       → has_twin_keys (key_of (cond b (Some t) (find (λ u. same_name name (name_of u)) ts)))
-      (cond b (changed (key_place t.definition.columns) (pairs_of (name_of t) (edits_of_one name pairs)) r) (rows_named name ts (changed_instance ts (edits_of_one name pairs) rs))) ≡ false
+      (cond b (changed (key_place t.definition.columns) (pairs_of (name_of t) (edits_of_one name pairs)) r)
+      (rows_named name ts (changed_instance ts (edits_of_one name pairs) rs))) ≡ false
       → (NoTwins ts (changed_instance ts (edits_of_one name pairs) rs) → AreInKeyOrder ts (changed_instance ts (edits_of_one name pairs) rs))
       → AreInKeyOrder (t ∷ ts) (changed_instance (t ∷ ts) (edits_of_one name pairs) (r ∷ rs))
   first_or_others t ts r rs true own order distinct none rest = (
@@ -94,7 +98,8 @@ module _ (name : List ℕ) (pairs : List Pair) where
     subst (AreInKeyOrder ts) (sym (changed_instance-others name pairs ts rs (beside_from_order ts rs order.1) (others_lack name t ts own distinct))) order.1,
   )
   first_or_others t ts r rs false other order distinct none rest = (
-    subst (λ ps. IsInKeyOrder (key_place t.definition.columns) (changed (key_place t.definition.columns) ps r)) (sym (pairs_of-other name pairs (name_of t) other)) order.0,
+    subst (λ ps. IsInKeyOrder (key_place t.definition.columns) (changed (key_place t.definition.columns) ps r))
+    (sym (pairs_of-other name pairs (name_of t) other)) order.0,
     rest none,
   )
 
@@ -123,7 +128,8 @@ other_way_round a b differs = elim (cases_Bool (same_name b a)) [
   ]
 
 module _ (table : Table) where
-  names_before : (name : List ℕ) (tables : List Table) → AllByRecursion (λ other. same_name name other ≡ false) (map name_of tables) → same_name name (name_of table) ≡ false
+  names_before : (name : List ℕ) (tables : List Table) → AllByRecursion (λ other. same_name name other ≡ false) (map name_of tables)
+      → same_name name (name_of table) ≡ false
       → AllByRecursion (λ other. same_name name other ≡ false) (map name_of (tables ++ table ∷ []))
   names_before name [] others last = (last, tt)
   names_before name (t ∷ ts) others last = (others.0, names_before name ts others.1 last)

@@ -34,7 +34,8 @@ module _ {X : Type 0} (p : X → Bool) (xs : List X) where
   find_nowhere h = find_at p xs ∙ slice_get_past xs _ (past_from_none h)
 
 -- The table of a name is the one at the name's place.
-pub table_at_place : (name : List ℕ) (schema : Schema) (place : ℕ) → table_place name schema ≡ Some place → table_named name schema ≡ slice_get schema.tables place
+pub table_at_place : (name : List ℕ) (schema : Schema) (place : ℕ) → table_place name schema ≡ Some place
+    → table_named name schema ≡ slice_get schema.tables place
 table_at_place name schema place h = find_at_place _ schema.tables place h
 
 -- The place of a name lies within the catalog.

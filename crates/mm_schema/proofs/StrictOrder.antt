@@ -110,40 +110,49 @@ module _ {X : Type 0} {cmp : X → X → Ordering} (total : IsTotalOrder cmp) wh
   pub IsStrictlySortedBy-append_left : (xs ys : List X) → IsStrictlySortedBy cmp (xs ++ ys) → IsStrictlySortedBy cmp xs
   IsStrictlySortedBy-append_left [] ys order = IsStrictlySortedBy-nil
   IsStrictlySortedBy-append_left (x ∷ xs) ys order =
-      IsStrictlySortedBy-cons x xs (AllByRecursion-append_left (λ y. cmp x y ≡ Less) xs ys (IsStrictlySortedBy-head x (xs ++ ys) order)) (IsStrictlySortedBy-append_left xs ys (IsStrictlySortedBy-tail x (xs ++ ys) order))
+      IsStrictlySortedBy-cons x xs (AllByRecursion-append_left (λ y. cmp x y ≡ Less) xs ys (IsStrictlySortedBy-head x (xs ++ ys) order))
+      (IsStrictlySortedBy-append_left xs ys (IsStrictlySortedBy-tail x (xs ++ ys) order))
 
   -- an element less than the first puts a list in order behind itself
   pub IsStrictlySortedBy-before : (x y : X) (ys : List X) → cmp x y ≡ Less → IsStrictlySortedBy cmp (y ∷ ys) → IsStrictlySortedBy cmp (x ∷ y ∷ ys)
   IsStrictlySortedBy-before x y ys less order = IsStrictlySortedBy-cons x (y ∷ ys) (below_all x y ys less (IsStrictlySortedBy-head y ys order)) order
 
   -- an element put behind one that is less, before what is greater
-  pub IsStrictlySortedBy-between : (front : List X) (x y : X) (back : List X) → cmp x y ≡ Less → IsStrictlySortedBy cmp (front ++ x ∷ back) → IsStrictlySortedBy cmp (y ∷ back) → IsStrictlySortedBy cmp (front ++ x ∷ y ∷ back)
+  pub IsStrictlySortedBy-between : (front : List X) (x y : X) (back : List X) → cmp x y ≡ Less → IsStrictlySortedBy cmp (front ++ x ∷ back)
+      → IsStrictlySortedBy cmp (y ∷ back) → IsStrictlySortedBy cmp (front ++ x ∷ y ∷ back)
   IsStrictlySortedBy-between [] x y back less order behind = IsStrictlySortedBy-before x y back less behind
   IsStrictlySortedBy-between (z ∷ front) x y back less order behind =
       let below : AllByRecursion (λ w. cmp z w ≡ Less) (front ++ x ∷ back) = IsStrictlySortedBy-head z (front ++ x ∷ back) order in
       let first : cmp z x ≡ Less = (AllByRecursion-append_right (λ w. cmp z w ≡ Less) front (x ∷ back) below).0 in
       let before : AllByRecursion (λ w. cmp z w ≡ Less) front = AllByRecursion-append_left (λ w. cmp z w ≡ Less) front (x ∷ back) below in
       let after : AllByRecursion (λ w. cmp z w ≡ Less) back = (AllByRecursion-append_right (λ w. cmp z w ≡ Less) front (x ∷ back) below).1 in
-      IsStrictlySortedBy-cons z (front ++ x ∷ y ∷ back) (AllByRecursion-append (λ w. cmp z w ≡ Less) front (x ∷ y ∷ back) before (first, (total.trans z x y first less, after))) (IsStrictlySortedBy-between front x y back less (IsStrictlySortedBy-tail z (front ++ x ∷ back) order) behind)
+      IsStrictlySortedBy-cons z (front ++ x ∷ y ∷ back)
+      (AllByRecursion-append (λ w. cmp z w ≡ Less) front (x ∷ y ∷ back) before (first, (total.trans z x y first less, after)))
+      (IsStrictlySortedBy-between front x y back less (IsStrictlySortedBy-tail z (front ++ x ∷ back) order) behind)
 
   -- a list behind one whose last element is less than its first
-  pub IsStrictlySortedBy-append : (xs : List X) (x y : X) (ys : List X) → cmp x y ≡ Less → IsStrictlySortedBy cmp (xs ++ x ∷ []) → IsStrictlySortedBy cmp (y ∷ ys) → IsStrictlySortedBy cmp ((xs ++ x ∷ []) ++ (y ∷ ys))
+  pub IsStrictlySortedBy-append : (xs : List X) (x y : X) (ys : List X) → cmp x y ≡ Less → IsStrictlySortedBy cmp (xs ++ x ∷ [])
+      → IsStrictlySortedBy cmp (y ∷ ys) → IsStrictlySortedBy cmp ((xs ++ x ∷ []) ++ (y ∷ ys))
   IsStrictlySortedBy-append [] x y ys less order behind = IsStrictlySortedBy-before x y ys less behind
   IsStrictlySortedBy-append (z ∷ xs) x y ys less order behind =
       let below : AllByRecursion (λ w. cmp z w ≡ Less) (xs ++ x ∷ []) = IsStrictlySortedBy-head z (xs ++ x ∷ []) order in
       let first : cmp z x ≡ Less = (AllByRecursion-append_right (λ w. cmp z w ≡ Less) xs (x ∷ []) below).0 in
       let after : AllByRecursion (λ w. cmp z w ≡ Less) (y ∷ ys) = below_all z y ys (total.trans z x y first less) (IsStrictlySortedBy-head y ys behind) in
-      IsStrictlySortedBy-cons z ((xs ++ x ∷ []) ++ (y ∷ ys)) (AllByRecursion-append (λ w. cmp z w ≡ Less) (xs ++ x ∷ []) (y ∷ ys) below after) (IsStrictlySortedBy-append xs x y ys less (IsStrictlySortedBy-tail z (xs ++ x ∷ []) order) behind)
+      IsStrictlySortedBy-cons z ((xs ++ x ∷ []) ++ (y ∷ ys)) (AllByRecursion-append (λ w. cmp z w ≡ Less) (xs ++ x ∷ []) (y ∷ ys) below after)
+      (IsStrictlySortedBy-append xs x y ys less (IsStrictlySortedBy-tail z (xs ++ x ∷ []) order) behind)
 
   -- ---- by neighbours
 
   pub IsStrictlySortedBy-at : (xs : List X) (i j : ℕ) (d : X) → i < j → j < length xs → IsStrictlySortedBy cmp xs → cmp (get_or xs i d) (get_or xs j d) ≡ Less
   IsStrictlySortedBy-at [] i j d before within order = absurd (omega arith)
   IsStrictlySortedBy-at (x ∷ xs) i zero d before within order = absurd (omega arith)
-  IsStrictlySortedBy-at (x ∷ xs) zero (suc j) d before within order = AllByRecursion-at (λ y. cmp x y ≡ Less) xs j d (omega arith) (IsStrictlySortedBy-head x xs order)
-  IsStrictlySortedBy-at (x ∷ xs) (suc i) (suc j) d before within order = IsStrictlySortedBy-at xs i j d (omega arith) (omega arith) (IsStrictlySortedBy-tail x xs order)
+  IsStrictlySortedBy-at (x ∷ xs) zero (suc j) d before within order =
+      AllByRecursion-at (λ y. cmp x y ≡ Less) xs j d (omega arith) (IsStrictlySortedBy-head x xs order)
+  IsStrictlySortedBy-at (x ∷ xs) (suc i) (suc j) d before within order =
+      IsStrictlySortedBy-at xs i j d (omega arith) (omega arith) (IsStrictlySortedBy-tail x xs order)
 
-  pub IsStrictlySortedBy-from_neighbours : (xs : List X) → ((k : ℕ) (d : X) → k + 1 < length xs → cmp (get_or xs k d) (get_or xs (suc k) d) ≡ Less) → IsStrictlySortedBy cmp xs
+  pub IsStrictlySortedBy-from_neighbours : (xs : List X) → ((k : ℕ) (d : X) → k + 1 < length xs → cmp (get_or xs k d) (get_or xs (suc k) d) ≡ Less)
+      → IsStrictlySortedBy cmp xs
   IsStrictlySortedBy-from_neighbours [] next = IsStrictlySortedBy-nil
   IsStrictlySortedBy-from_neighbours (x ∷ []) next = IsStrictlySortedBy-cons x [] tt IsStrictlySortedBy-nil
   IsStrictlySortedBy-from_neighbours (x ∷ y ∷ ys) next =
@@ -155,18 +164,21 @@ module _ {X : Type 0} {cmp : X → X → Ordering} (total : IsTotalOrder cmp) wh
   same_heads x y xs ys first second (inl same) there = sym same
   same_heads x y xs ys first second (inr later) (inl same) = same
   same_heads x y xs ys first second (inr later) (inr back) =
-      absurd (not_both x y (AllByRecursion-IsIn (λ z. cmp x z ≡ Less) xs y (IsStrictlySortedBy-head x xs first) back) (AllByRecursion-IsIn (λ z. cmp y z ≡ Less) ys x (IsStrictlySortedBy-head y ys second) later))
+      absurd (not_both x y (AllByRecursion-IsIn (λ z. cmp x z ≡ Less) xs y (IsStrictlySortedBy-head x xs first) back)
+      (AllByRecursion-IsIn (λ z. cmp y z ≡ Less) ys x (IsStrictlySortedBy-head y ys second) later))
 
   in_tail : (x y z : X) (xs ys : List X) → x ≡ y → IsStrictlySortedBy cmp (x ∷ xs) → IsIn z xs → IsIn z (y ∷ ys) → IsIn z ys
   in_tail x y z xs ys same order here (inl first) =
       absurd (not_itself x z (AllByRecursion-IsIn (λ w. cmp x w ≡ Less) xs z (IsStrictlySortedBy-head x xs order) here) (same ∙ first))
   in_tail x y z xs ys same order here (inr later) = later
 
-  pub same_from_elements : (xs ys : List X) → IsStrictlySortedBy cmp xs → IsStrictlySortedBy cmp ys → ((z : X) → IsIn z xs → IsIn z ys) → ((z : X) → IsIn z ys → IsIn z xs) → xs ≡ ys
+  pub same_from_elements : (xs ys : List X) → IsStrictlySortedBy cmp xs → IsStrictlySortedBy cmp ys → ((z : X) → IsIn z xs → IsIn z ys)
+      → ((z : X) → IsIn z ys → IsIn z xs) → xs ≡ ys
   same_from_elements [] [] first second there back = refl
   same_from_elements [] (y ∷ ys) first second there back = absurd (back y (inl refl))
   same_from_elements (x ∷ xs) [] first second there back = absurd (there x (inl refl))
   same_from_elements (x ∷ xs) (y ∷ ys) first second there back =
       let head : x ≡ y = same_heads x y xs ys first second (there x (inl refl)) (back y (inl refl)) in
-      let tail : xs ≡ ys = same_from_elements xs ys (IsStrictlySortedBy-tail x xs first) (IsStrictlySortedBy-tail y ys second) (λ z here. in_tail x y z xs ys head first here (there z (inr here))) (λ z here. in_tail y x z ys xs (sym head) second here (back z (inr here))) in
+      let tail : xs ≡ ys = same_from_elements xs ys (IsStrictlySortedBy-tail x xs first) (IsStrictlySortedBy-tail y ys second)
+      (λ z here. in_tail x y z xs ys head first here (there z (inr here))) (λ z here. in_tail y x z ys xs (sym head) second here (back z (inr here))) in
       cc

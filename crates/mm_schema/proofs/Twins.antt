@@ -126,7 +126,8 @@ none_below key row (r ∷ rs) below = or_from _ _ (ap is_eq below.0) (none_below
 pub no_twins_in_order : (key : ℕ) (rows : List Row) → IsStrictlySortedBy (column_cmp key) rows → has_twin_keys key rows ≡ false
 no_twins_in_order key [] order = refl
 no_twins_in_order key (r ∷ rs) order =
-    or_from _ _ (none_below key r rs (IsStrictlySortedBy-head (column_cmp_total key) r rs order)) (no_twins_in_order key rs (IsStrictlySortedBy-tail (column_cmp_total key) r rs order))
+    or_from _ _ (none_below key r rs (IsStrictlySortedBy-head (column_cmp_total key) r rs order))
+    (no_twins_in_order key rs (IsStrictlySortedBy-tail (column_cmp_total key) r rs order))
 
 -- no row is less than the one before it
 NoneFalls : ℕ → List Row → Type 0
@@ -145,18 +146,21 @@ in_order_from_none_falls key (x ∷ y ∷ ys) sorted none =
     IsStrictlySortedBy-before (column_cmp_total key) x y ys less (in_order_from_none_falls key (y ∷ ys) (λ k d within. sorted (suc k) d (omega arith)) parts.1)
 
 -- sorted rows without twins are in key order
-pub in_order_from_sorted : (key : ℕ) (rows : List Row) → IsSorted (column_cmp key) rows → has_twin_keys key rows ≡ false → IsStrictlySortedBy (column_cmp key) rows
+pub in_order_from_sorted : (key : ℕ) (rows : List Row) → IsSorted (column_cmp key) rows → has_twin_keys key rows ≡ false
+    → IsStrictlySortedBy (column_cmp key) rows
 unfolding NoneFalls
 in_order_from_sorted key rows sorted none =
     in_order_from_none_falls key rows (λ k d within. rw (← add-one) (sorted k d (omega arith) (omega arith))) none
 
 -- ---- two lists
 
-none_of : (key : ℕ) (row : Row) (xs ys : List Row) → list_any (same_in_column key row) (xs ++ ys) ≡ false → (list_any (same_in_column key row) xs ≡ false) × (list_any (same_in_column key row) ys ≡ false)
+none_of : (key : ℕ) (row : Row) (xs ys : List Row) → list_any (same_in_column key row) (xs ++ ys) ≡ false
+    → (list_any (same_in_column key row) xs ≡ false) × (list_any (same_in_column key row) ys ≡ false)
 none_of key row xs ys none = or_parts _ _ (sym (list_any-append (same_in_column key row) xs ys) ∙ none)
 
 -- without twins no row of a list has the key of one behind the list
-pub apart_from_no_twins : (key : ℕ) (front : List Row) (x : Row) (middle : List Row) (y : Row) (back : List Row) → has_twin_keys key ((front ++ x ∷ []) ++ ((middle ++ y ∷ []) ++ back)) ≡ false → same_in_column key x y ≡ false
+pub apart_from_no_twins : (key : ℕ) (front : List Row) (x : Row) (middle : List Row) (y : Row) (back : List Row)
+    → has_twin_keys key ((front ++ x ∷ []) ++ ((middle ++ y ∷ []) ++ back)) ≡ false → same_in_column key x y ≡ false
 apart_from_no_twins key [] x middle y back none =
     let here = or_parts (list_any (same_in_column key x) ((middle ++ y ∷ []) ++ back)) (has_twin_keys key ((middle ++ y ∷ []) ++ back)) none in
     let inside = none_of key x (middle ++ y ∷ []) back here.0 in
@@ -184,11 +188,15 @@ list_any-nothing [] = refl
 list_any-nothing (x ∷ xs) = list_any-nothing xs
 
 -- two lists in key order have twins where a row of the second has the key of one of the first
-pub has_twin_keys-append : (key : ℕ) (old fresh : List Row) → IsStrictlySortedBy (column_cmp key) old → IsStrictlySortedBy (column_cmp key) fresh → has_twin_keys key (old ++ fresh) ≡ list_any (λ row. list_any (same_in_column key row) old) fresh
+pub has_twin_keys-append : (key : ℕ) (old fresh : List Row) → IsStrictlySortedBy (column_cmp key) old → IsStrictlySortedBy (column_cmp key) fresh
+    → has_twin_keys key (old ++ fresh) ≡ list_any (λ row. list_any (same_in_column key row) old) fresh
 has_twin_keys-append key [] fresh first second = no_twins_in_order key fresh second ∙ sym (list_any-nothing fresh)
 has_twin_keys-append key (o ∷ old) fresh first second =
     let none : list_any (same_in_column key o) old ≡ false = none_below key o old (IsStrictlySortedBy-head (column_cmp_total key) o old first) in
     let here : list_any (same_in_column key o) (old ++ fresh) ≡ list_any (λ row. same_in_column key row o) fresh =
-    list_any-append (same_in_column key o) old fresh ∙ ap (λ b. b || list_any (same_in_column key o) fresh) none ∙ list_any-agree (same_in_column key o) (λ row. same_in_column key row o) (λ row. same_in_column_comm key o row) fresh in
-    let later : has_twin_keys key (old ++ fresh) ≡ list_any (λ row. list_any (same_in_column key row) old) fresh = has_twin_keys-append key old fresh (IsStrictlySortedBy-tail (column_cmp_total key) o old first) second in
-    ap (λ b. b || has_twin_keys key (old ++ fresh)) here ∙ ap (λ b. list_any (λ row. same_in_column key row o) fresh || b) later ∙ sym (list_any-or (λ row. same_in_column key row o) (λ row. list_any (same_in_column key row) old) fresh)
+    list_any-append (same_in_column key o) old fresh ∙ ap (λ b. b || list_any (same_in_column key o) fresh) none ∙ list_any-agree
+    (same_in_column key o) (λ row. same_in_column key row o) (λ row. same_in_column_comm key o row) fresh in
+    let later : has_twin_keys key (old ++ fresh) ≡ list_any (λ row. list_any (same_in_column key row) old) fresh = has_twin_keys-append key old fresh
+    (IsStrictlySortedBy-tail (column_cmp_total key) o old first) second in
+    ap (λ b. b || has_twin_keys key (old ++ fresh)) here ∙ ap (λ b. list_any (λ row. same_in_column key row o) fresh || b) later
+    ∙ sym (list_any-or (λ row. same_in_column key row o) (λ row. list_any (same_in_column key row) old) fresh)

@@ -104,9 +104,11 @@ length-doubled (x ∷ xs) =
     ]
 
 -- a front of the text, one byte on
-pub doubled_front_more : (body front rest tail : List ℕ) (x : ℕ) → body ≡ doubled front ++ rest → rest ≡ doubled_byte x ++ tail → body ≡ doubled (front ++ x ∷ []) ++ tail
+pub doubled_front_more : (body front rest tail : List ℕ) (x : ℕ) → body ≡ doubled front ++ rest → rest ≡ doubled_byte x ++ tail
+    → body ≡ doubled (front ++ x ∷ []) ++ tail
 doubled_front_more body front rest tail x e f =
-    let pushed : doubled (front ++ x ∷ []) ≡ doubled front ++ doubled_byte x = doubled-append front (x ∷ []) ∙ ap (λ l. doubled front ++ l) (append-nil (doubled_byte x)) in
+    let pushed : doubled (front ++ x ∷ []) ≡ doubled front ++ doubled_byte x = doubled-append front (x ∷ []) ∙ ap (λ l. doubled front ++ l)
+    (append-nil (doubled_byte x)) in
     e ∙ ap (λ l. doubled front ++ l) f ∙ sym (append_assoc (doubled front) (doubled_byte x) tail) ∙ ap (λ l. l ++ tail) (sym pushed)
 
 -- the front of the buffer, where one byte more is written

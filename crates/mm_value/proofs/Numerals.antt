@@ -23,5 +23,6 @@ capped_more ds i m p n lt digit all is times next =
     let value : digits_value 10 (take i ds) * 10 + (get_or ds i 0 - 48) ≡ digits_value 10 (take (i + 1) ds) =
     ap (λ d. digits_value 10 (take i ds) * 10 + d) worth ∙ sym (digits_value_more 10 ds i lt) in (
       digits_more 10 ds i lt all small,
-      capped (digits_value 10 (take i ds)) (get_or ds i 0 - 48) m n is (next ∙ ap (λ q. min (q + (get_or ds i 0 - 48)) (2 ^ 64 - 1)) times) ∙ ap (λ v. min v (2 ^ 64 - 1)) value,
+      capped (digits_value 10 (take i ds)) (get_or ds i 0 - 48) m n is (next ∙ ap (λ q. min (q + (get_or ds i 0 - 48)) (2 ^ 64 - 1)) times)
+      ∙ ap (λ v. min v (2 ^ 64 - 1)) value,
     )

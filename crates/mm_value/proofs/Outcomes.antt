@@ -59,7 +59,8 @@ range_iff bytes (Err e) (inr (inl h)) = (λ _. h.1, λ _. ap Err h.0)
 range_iff bytes (Err e) (inr (inr (inl h))) = (λ f. cc (f, h.0), λ w. absurd (SpellsInt-no_text bytes w.0 h.1.0 w.1 h.1.1))
 range_iff bytes (Err e) (inr (inr (inr h))) = (λ f. cc (f, h.0), λ w. absurd (SpellsInt-no_text bytes w.0 h.1.0 w.1 h.1.1))
 
-too_long_iff : (bytes : List ℕ) (r : Result Value Refusal) → Outcome bytes r → IsErrOf r TextTooLong ↔ ((text : List ℕ) × SpellsText bytes text × (64 < length text))
+too_long_iff : (bytes : List ℕ) (r : Result Value Refusal) → Outcome bytes r
+    → IsErrOf r TextTooLong ↔ ((text : List ℕ) × SpellsText bytes text × (64 < length text))
 too_long_iff bytes (Ok v) h = (λ e. cc (e), λ w. absurd (long_no_value bytes w.0 v w.1 w.2 h.0 h.1))
 too_long_iff bytes (Err e) (inl h) = (λ f. cc (f, h.0), λ w. absurd (h.1 (Text w.0) w.1))
 too_long_iff bytes (Err e) (inr (inl h)) = (λ f. cc (f, h.0), λ w. absurd (SpellsInt-no_text bytes h.1.0 w.0 h.1.1 w.1))
@@ -67,7 +68,8 @@ too_long_iff bytes (Err e) (inr (inr (inl h))) = (λ _. h.1, λ _. ap Err h.0)
 too_long_iff bytes (Err e) (inr (inr (inr h))) =
     (λ f. cc (f, h.0), λ w. absurd (omega (arith, w.2, h.1.3, ap length (SpellsText-unique bytes w.0 h.1.0 w.1 h.1.1))))
 
-refusals : (bytes : List ℕ) (r : Result Value Refusal) → Outcome bytes r → IfErr r (λ e. (e ≡ Syntax) ⊎ ((e ≡ NumberOutOfRange) ⊎ ((e ≡ TextTooLong) ⊎ (e ≡ Memory))))
+refusals : (bytes : List ℕ) (r : Result Value Refusal) → Outcome bytes r
+    → IfErr r (λ e. (e ≡ Syntax) ⊎ ((e ≡ NumberOutOfRange) ⊎ ((e ≡ TextTooLong) ⊎ (e ≡ Memory))))
 refusals bytes (Ok v) h = tt
 refusals bytes (Err e) (inl h) = inl h.0
 refusals bytes (Err e) (inr (inl h)) = inr (inl h.0)
@@ -131,7 +133,8 @@ abbrev pub IsSigned : Bool → List ℕ → List ℕ → Type 0
 IsSigned true bytes digits = bytes ≡ 45 ∷ digits
 IsSigned false bytes digits = (bytes ≡ digits) × (x : ℕ) × (xs : List ℕ) × (bytes ≡ x ∷ xs) × (x ≢ 39) × (x ≢ 45)
 
-numeral_spells : (is_negative : Bool) (bytes digits : List ℕ) → IsSigned is_negative bytes digits → IsNumeral digits → SpellsInt bytes (signed_value is_negative digits)
+numeral_spells : (is_negative : Bool) (bytes digits : List ℕ) → IsSigned is_negative bytes digits → IsNumeral digits
+    → SpellsInt bytes (signed_value is_negative digits)
 numeral_spells true bytes digits e h = inr (digits, e, h, refl)
 numeral_spells false bytes digits e h = inl (subst IsNumeral (sym e.0) h, ap (λ l. pos (digits_value 10 l)) (sym e.0))
 
@@ -143,10 +146,12 @@ no_numeral false bytes digits e none (Int z) (inl h) = none (subst IsNumeral e.0
 no_numeral false bytes digits e none (Int z) (inr h) = e.5 (ap (λ l. get_or l 0 0) (sym e.3 ∙ h.1))
 no_numeral false bytes digits e none (Text text) h = e.4 (ap (λ l. get_or l 0 0) (sym e.3 ∙ h.0))
 
-pub int_read : (is_negative : Bool) (bytes digits : List ℕ) (z : ℤ) → IsSigned is_negative bytes digits → ReadsInt is_negative digits (Ok z) → Outcome bytes (Ok (Int z))
+pub int_read : (is_negative : Bool) (bytes digits : List ℕ) (z : ℤ) → IsSigned is_negative bytes digits → ReadsInt is_negative digits (Ok z)
+    → Outcome bytes (Ok (Int z))
 int_read is_negative bytes digits z e h = (subst (SpellsInt bytes) (sym h.1) (numeral_spells is_negative bytes digits e h.0), h.2)
 
-pub int_refused : (is_negative : Bool) (bytes digits : List ℕ) (r : Refusal) → IsSigned is_negative bytes digits → ReadsInt is_negative digits (Err r) → Outcome bytes (Err r)
+pub int_refused : (is_negative : Bool) (bytes digits : List ℕ) (r : Refusal) → IsSigned is_negative bytes digits
+    → ReadsInt is_negative digits (Err r) → Outcome bytes (Err r)
 int_refused is_negative bytes digits r e (inl h) = inl (h.0, no_numeral is_negative bytes digits e h.1)
 int_refused is_negative bytes digits r e (inr h) = inr (inl (h.0, (signed_value is_negative digits, numeral_spells is_negative bytes digits e h.1, h.2)))
 
@@ -158,4 +163,5 @@ clauses_passed bytes r e f is same h = clauses bytes r (subst (Outcome bytes) (s
 pub clauses_number : (is_negative : Bool) (bytes digits : List ℕ) (z : ℤ) → IsSigned is_negative bytes digits → ReadsInt is_negative digits (Ok z)
     → Clauses bytes (Ok (Int (to_z w64 (of_z w64 z))))
 clauses_number is_negative bytes digits z e h =
-    clauses bytes (Ok (Int (to_z w64 (of_z w64 z)))) (subst (λ y. Outcome bytes (Ok (Int y))) (sym (to_z-of_z w64 z h.2)) (int_read is_negative bytes digits z e h))
+    clauses bytes (Ok (Int (to_z w64 (of_z w64 z))))
+    (subst (λ y. Outcome bytes (Ok (Int y))) (sym (to_z-of_z w64 z h.2)) (int_read is_negative bytes digits z e h))

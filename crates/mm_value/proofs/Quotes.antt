@@ -26,7 +26,8 @@ pub doubled_piece : (xs : List ℕ) (i : ℕ) → i < length xs → get_or xs i 
     → doubled xs ≡ take i xs ++ (39 ∷ 39 ∷ doubled (drop 1 (drop i xs)))
 doubled_piece xs i lt at before =
     let split : xs ≡ take i xs ++ 39 ∷ drop 1 (drop i xs) =
-    sym (take-append-drop i xs) ∙ ap (λ l. take i xs ++ l) (drop_more xs i 0 lt ∙ ap (λ b. b ∷ drop (i + 1) xs) at ∙ ap (λ l. 39 ∷ l) (sym (drop-drop 1 i xs))) in
+    sym (take-append-drop i xs) ∙ ap (λ l. take i xs ++ l)
+    (drop_more xs i 0 lt ∙ ap (λ b. b ∷ drop (i + 1) xs) at ∙ ap (λ l. 39 ∷ l) (sym (drop-drop 1 i xs))) in
     let stays : doubled (take i xs) ≡ take i xs =
     doubled_none (take i xs) (λ k in_front e.
     let k_below : k < i = omega (arith, length-take i xs) in

@@ -15,7 +15,8 @@ values_text-cons v [] = sym (append-nil (value_text v))
 values_text-cons v (w ∷ ws) = ap (λ l. value_text v ++ 44 ∷ 32 ∷ l) (values_text-cons w ws)
 
 -- the first value, the i values after it, the next one, and the rest of them
-pub values_text_at : (values : List Value) (first : Value) (others : List Value) (i : ℕ) (v : Value) → values ≡ first ∷ others → i < length others → v ≡ get_or others i v
+pub values_text_at : (values : List Value) (first : Value) (others : List Value) (i : ℕ) (v : Value) → values ≡ first ∷ others → i < length others
+    → v ≡ get_or others i v
     → values_text values ≡ ((value_text first ++ flat_map next_text (take i others)) ++ next_text v) ++ flat_map next_text (drop (i + 1) others)
 values_text_at values first others i v e lt at =
     let split : others ≡ take i others ++ v ∷ drop (i + 1) others =

@@ -16,7 +16,8 @@ AppendsPrefix-first a b xs ys h =
 -- the first text and a front of the second are a front of both
 pub AppendsPrefix-second : (a b c : Option (List ℕ)) (xs ys : List ℕ) → Appends a b xs → AppendsPrefix b c ys → AppendsPrefix a c (xs ++ ys)
 AppendsPrefix-second a b c xs ys p h =
-    let front : take (length xs + h.0) (xs ++ ys) ≡ xs ++ take h.0 ys = take-add (length xs) h.0 (xs ++ ys) ∙ ap (λ l. l ++ take h.0 (drop (length xs) (xs ++ ys))) (take-append_seam xs ys)
+    let front : take (length xs + h.0) (xs ++ ys) ≡ xs ++ take h.0 ys = take-add (length xs) h.0 (xs ++ ys)
+    ∙ ap (λ l. l ++ take h.0 (drop (length xs) (xs ++ ys))) (take-append_seam xs ys)
     ∙ ap (λ l. xs ++ take h.0 l) (drop-append_seam xs ys) in
     (length xs + h.0, omega (arith, h.1, length-append xs ys), subst (Appends a c) (sym front) (Appends-trans a b c xs (take h.0 ys) p h.2))
 
@@ -36,7 +37,8 @@ module _ {W : Type 0} {contents : W → Option (List ℕ)} where
       record { written = subst (AppendsPrefix (contents (inner_of old)) (contents (inner_of new))) (sym e) both; failed = q.failed }
 
   -- an error in a first text is an error in it and a second, however it is passed on
-  pub Writes-stops : {S D T E : Type 0} {old new : Watched W} {d : D} {r : E} {result : Result T E} {xs text : List ℕ} (ys : List ℕ) → text ≡ xs ++ ys → result ≡ Err r
+  pub Writes-stops : {S D T E : Type 0} {old new : Watched W} {d : D} {r : E} {result : Result T E} {xs text : List ℕ} (ys : List ℕ)
+      → text ≡ xs ++ ys → result ≡ Err r
       → Writes {T = S} {E = D} contents old new (Err d) xs → Writes contents old new result text
   Writes-stops {S} {D} {T} {E} {old} {new} {d} {r} {result} {xs} {text} ys e is p =
       let front = AppendsPrefix-first (contents (inner_of old)) (contents (inner_of new)) xs ys p.written in
@@ -47,7 +49,8 @@ module _ {W : Type 0} {contents : W → Option (List ℕ)} where
 -- after n bytes were written, of which `rest` are left, k more are written
 pub Appends-more : (a b c : Option (List ℕ)) (bytes rest : List ℕ) (k : ℕ) → k ≤ length rest
     → (n : ℕ) × (n + length rest ≡ length bytes) × (rest ≡ drop n bytes) × Appends a b (take n bytes) → Appends b c (take k rest)
-    → (n : ℕ) × (n + length (take (length rest - k) (drop k rest)) ≡ length bytes) × (take (length rest - k) (drop k rest) ≡ drop n bytes) × Appends a c (take n bytes)
+    → (n : ℕ) × (n + length (take (length rest - k) (drop k rest)) ≡ length bytes) × (take (length rest - k) (drop k rest) ≡ drop n bytes) × Appends
+    a c (take n bytes)
 Appends-more a b c bytes rest k h w p =
     let left : take (length rest - k) (drop k rest) ≡ drop (w.0 + k) bytes = take_rest rest k ∙ ap (drop k) w.2 ∙ drop-drop k w.0 bytes in
     let written : take w.0 bytes ++ take k rest ≡ take (w.0 + k) bytes = ap (λ l. take w.0 bytes ++ take k l) w.2 ∙ sym (take-add w.0 k bytes) in

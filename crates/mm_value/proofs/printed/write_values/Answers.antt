@@ -10,11 +10,14 @@ returns-in_err-write_next g c =
     let p = err_from_is_err_and c.from_residual-in_err-write_next.result c.from_residual-in_err-write_next.ensures.1 in
     let others = c.in-Some.others.now in
     let i = c.loop-value.value-index in
-    let e = values_text_at c.args.values.now c.in-Some.first.now others i c.value-item.result c.in-Some.ensures.cases.0 c.loop-value-test.true c.value-item.is in
+    let e = values_text_at c.args.values.now c.in-Some.first.now others i c.value-item.result c.in-Some.ensures.cases.0 c.loop-value-test.true
+    c.value-item.is in
     Writes-stops (flat_map next_text (drop (i + 1) others)) e p.1
-    (Writes-then {result = Err c.in_err-write_next.field-0.0} refl (Writes-then refl c.in_ok-write_value.ensures c.loop-value.invariant) c.in_err-write_next.ensures)
+    (Writes-then {result = Err c.in_err-write_next.field-0.0} refl (Writes-then refl c.in_ok-write_value.ensures c.loop-value.invariant)
+        c.in_err-write_next.ensures)
 
 pub returns : goal.returns
 returns g c =
-    Writes-then (values_text_all c.args.values.now c.in-Some.first.now c.in-Some.others.now c.loop-value.value-index c.in-Some.ensures.cases.0 c.loop-value-test.false)
+    Writes-then (values_text_all c.args.values.now c.in-Some.first.now c.in-Some.others.now c.loop-value.value-index c.in-Some.ensures.cases.0
+    c.loop-value-test.false)
     c.in_ok-write_value.ensures c.loop-value.invariant

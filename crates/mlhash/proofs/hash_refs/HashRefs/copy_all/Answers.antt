@@ -6,11 +6,13 @@ use Rattle.mlhash.proofs.hash_refs.HashRefs.copy_all.Goals.{then-node, else-node
 
 pub push_reserved-requires : goal.push_reserved-requires
 push_reserved-requires c =
-    copying_room c.deref-node-items.result.now c.loop-node.node-index c.args.out.now.items c.loop-node.out.items _ _ c.loop-node-test.true c.if-node.true c.loop-node.invariant
+    copying_room c.deref-node-items.result.now c.loop-node.node-index c.args.out.now.items c.loop-node.out.items _ _ c.loop-node-test.true
+    c.if-node.true c.loop-node.invariant
 
 pub loop-node-init : goal.loop-node-init
 loop-node-init c =
-    IsCopying-start c.deref-node-items.result.now c.self.inside.nodes.items c.args.out.now.items c.reserve.new.self.items c.self.inside.len _ _ c.deref-node-items.ensures.value c.self.invariant.counted c.reserve.ensures.items c.in_ok-reserve.ensures.ok
+    IsCopying-start c.deref-node-items.result.now c.self.inside.nodes.items c.args.out.now.items c.reserve.new.self.items c.self.inside.len _ _
+    c.deref-node-items.ensures.value c.self.invariant.counted c.reserve.ensures.items c.in_ok-reserve.ensures.ok
 
 pub loop-node-preserved : goal.loop-node-preserved
 loop-node-preserved c =
@@ -18,8 +20,15 @@ loop-node-preserved c =
     let i = c.loop-node.node-index in
     let old = c.args.out.now.items in
     let out = c.loop-node.out in
-    elim c.if-node.branch [ then-node w ↦ copying_along ns (i + 1) old (out.items ++ w.row.result ∷ []) c.if-node.out.items (vec_len out + 1) (vec_len c.if-node.out) (vec_capacity out) (vec_capacity c.if-node.out) (cc) (cc) (cc) (IsCopying-take ns i old out.items (vec_len out) (vec_capacity out) w.row.result c.loop-node-test.true w.if-node.true w.row.ensures c.loop-node.invariant) | else-node w ↦ copying_along ns (i + 1) old out.items c.if-node.out.items (vec_len out) (vec_len c.if-node.out) (vec_capacity out) (vec_capacity c.if-node.out) (cc) (cc) (cc) (IsCopying-skip ns i old out.items (vec_len out) (vec_capacity out) c.loop-node-test.true w.if-node.false c.loop-node.invariant) ]
+    elim c.if-node.branch
+    [ then-node w ↦ copying_along ns (i + 1) old (out.items ++ w.row.result ∷ []) c.if-node.out.items (vec_len out + 1) (vec_len c.if-node.out)
+    (vec_capacity out) (vec_capacity c.if-node.out) (cc) (cc) (cc)
+    (IsCopying-take ns i old out.items (vec_len out) (vec_capacity out) w.row.result c.loop-node-test.true w.if-node.true w.row.ensures
+    c.loop-node.invariant) | else-node w ↦ copying_along ns (i + 1) old out.items c.if-node.out.items (vec_len out) (vec_len c.if-node.out)
+    (vec_capacity out) (vec_capacity c.if-node.out) (cc) (cc) (cc)
+    (IsCopying-skip ns i old out.items (vec_len out) (vec_capacity out) c.loop-node-test.true w.if-node.false c.loop-node.invariant) ]
 
 pub returns-clause-ok : goal.returns-clause-ok
 returns-clause-ok c =
-    copied c.deref-node-items.result.now c.self.inside.nodes.items c.loop-node.node-index c.args.out.now.items c.loop-node.out.items _ _ c.args.self.now.entries c.loop-node-test.false c.deref-node-items.ensures.value (ap (λ (b : Bag). b.entries) c.self.view_is) c.loop-node.invariant
+    copied c.deref-node-items.result.now c.self.inside.nodes.items c.loop-node.node-index c.args.out.now.items c.loop-node.out.items _ _
+    c.args.self.now.entries c.loop-node-test.false c.deref-node-items.ensures.value (ap (λ (b : Bag). b.entries) c.self.view_is) c.loop-node.invariant

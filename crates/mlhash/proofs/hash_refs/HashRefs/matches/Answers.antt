@@ -18,9 +18,14 @@ get-head-requires c =
 
 pub collect-requires : goal.collect-requires
 collect-requires c =
-    subst (λ ns. IsLinked ns c.get-head.result) (sym c.deref.ensures.value) ((bucket_at _ _ _ _ _ c.args.hash c.bucket_of.result c.get-head.result c.bucket_of.ensures c.get-head.ensures c.self.invariant).linked)
+    subst (λ ns. IsLinked ns c.get-head.result) (sym c.deref.ensures.value)
+    ((bucket_at _ _ _ _ _ c.args.hash c.bucket_of.result c.get-head.result c.bucket_of.ensures c.get-head.ensures c.self.invariant).linked)
 
 pub returns-clause-ok : goal.returns-clause-ok
 returns-clause-ok c =
     let i = c.self.inside in
-    on_ok_weaker c.collect.result (matches_all i.nodes.items i.place c.get-head.result c.bucket_of.result c.args.hash c.args.out.now.items c.collect.new.out.items c.deref.result.now c.args.self.now.entries c.bucket_of.ensures (bucket_at _ _ _ _ _ c.args.hash c.bucket_of.result c.get-head.result c.bucket_of.ensures c.get-head.ensures c.self.invariant) c.deref.ensures.value (ap (λ (b : Bag). b.entries) c.self.view_is)) c.collect.ensures.ok
+    on_ok_weaker c.collect.result
+    (matches_all i.nodes.items i.place c.get-head.result c.bucket_of.result c.args.hash c.args.out.now.items c.collect.new.out.items
+    c.deref.result.now c.args.self.now.entries c.bucket_of.ensures
+    (bucket_at _ _ _ _ _ c.args.hash c.bucket_of.result c.get-head.result c.bucket_of.ensures c.get-head.ensures c.self.invariant)
+    c.deref.ensures.value (ap (λ (b : Bag). b.entries) c.self.view_is)) c.collect.ensures.ok

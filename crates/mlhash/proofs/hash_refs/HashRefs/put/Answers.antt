@@ -12,7 +12,9 @@ use Rattle.mlhash.proofs.TableLemmas.{IsStocked, stocked, room_for_node, bucket_
 use Rattle.mlhash.proofs.hash_refs.HashRefs.put.Goals as goal
 
 -- after the call of `stock`
-stock_is : (i : Inside) (b : Bag) → min (vec_capacity i.nodes) NIL - i.len ≡ b.spare → 0 < b.spare → IsTable i.heads i.nodes.items i.len i.place i.free → (ms : List Node) (new : ℕ) → Stocks i.nodes.items i.free ms new → IsStocked i.heads i.nodes.items i.len i.place ms new
+stock_is : (i : Inside) (b : Bag) → min (vec_capacity i.nodes) NIL - i.len ≡ b.spare → 0 < b.spare
+    → IsTable i.heads i.nodes.items i.len i.place i.free → (ms : List Node) (new : ℕ) → Stocks i.nodes.items i.free ms new
+    → IsStocked i.heads i.nodes.items i.len i.place ms new
 stock_is i b is some t ms new s =
     stocked i.heads i.nodes.items i.len i.place i.free ms new (λ e. (room_for_node _ _ _ _ _ (vec_capacity i.nodes) b.spare is some t e).1) t s
 
@@ -44,11 +46,15 @@ invariant_of-self c =
     let k = stock_is c.self.inside c.args.self.now (ap (λ (b : Bag). b.spare) c.self.view_is) c.requires c.self.invariant _ _ c.stock-at.ensures.nodes in
     let n : Node = record { hash = c.args.hash; part = c.args.reference.part; next = c.get.result; slot = c.args.reference.slot; live = true } in
     let below = (chain_step _ _ k.table.pool.linked k.on).below in
-    put_all c.self.inside.heads c.stock-at.new.nodes.items c.self.inside.len c.self.inside.place c.stock-at.result c.bucket_of-bucket.result c.get.result c.index_mut-node.result.now.next c.set.new.self n k.on refl c.bucket_of-bucket.ensures refl c.get.ensures c.set.ensures (ap (λ (m : Node). m.next) (get_or_read c.stock-at.new.nodes.items c.stock-at.result c.index_mut-node.result.now below c.index_mut-node.ensures.value blank)) k.table
+    put_all c.self.inside.heads c.stock-at.new.nodes.items c.self.inside.len c.self.inside.place c.stock-at.result c.bucket_of-bucket.result
+    c.get.result c.index_mut-node.result.now.next c.set.new.self n k.on refl c.bucket_of-bucket.ensures refl c.get.ensures c.set.ensures
+    (ap (λ (m : Node). m.next)
+    (get_or_read c.stock-at.new.nodes.items c.stock-at.result c.index_mut-node.result.now below c.index_mut-node.ensures.value blank)) k.table
 
 pub returns-clause-entries : goal.returns-clause-entries
 returns-clause-entries c =
     let k = stock_is c.self.inside c.args.self.now (ap (λ (b : Bag). b.spare) c.self.view_is) c.requires c.self.invariant _ _ c.stock-at.ensures.nodes in
     let n : Node = record { hash = c.args.hash; part = c.args.reference.part; next = c.get.result; slot = c.args.reference.slot; live = true } in
     let e : entries c.stock-at.new.nodes.items ≡ c.args.self.now.entries = k.same ∙ ap (λ (b : Bag). b.entries) c.self.view_is in
-    subst (λ es. IsPermutation (entries (set c.stock-at.new.nodes.items c.stock-at.result n)) (pair_of n ∷ es)) e (put_entries c.self.inside.heads c.stock-at.new.nodes.items c.self.inside.len c.self.inside.place c.stock-at.result n k.on refl k.table)
+    subst (λ es. IsPermutation (entries (set c.stock-at.new.nodes.items c.stock-at.result n)) (pair_of n ∷ es)) e
+    (put_entries c.self.inside.heads c.stock-at.new.nodes.items c.self.inside.len c.self.inside.place c.stock-at.result n k.on refl k.table)

@@ -32,10 +32,14 @@ pub invariant_of-self-2 : goal.invariant_of-self-2
 invariant_of-self-2 c =
     let i = c.self.inside in
     let ms = c.deal-staying.new.nodes in
-    let k = splitting i.heads i.nodes.items i.len i.place i.free c.get-from.result c.grow.new.self c.as_mut_slice.result.now ms c.deal-staying.result.0 c.deal-staying.result.1 c.self.invariant (omega (arith, c.if-self-len.false, c.len.ensures)) c.if-not-grow.ensures.grown c.get-from.ensures c.as_mut_slice.ensures.value c.deal-staying.ensures in
+    let k = splitting i.heads i.nodes.items i.len i.place i.free c.get-from.result c.grow.new.self c.as_mut_slice.result.now ms
+    c.deal-staying.result.0 c.deal-staying.result.1 c.self.invariant (omega (arith, c.if-self-len.false, c.len.ensures)) c.if-not-grow.ensures.grown
+    c.get-from.ensures c.as_mut_slice.ensures.value c.deal-staying.ensures in
     let nodes = with_items_is i.nodes ms (c.deal-staying.ensures.size ∙ c.as_mut_slice.ensures.len) in
-    let heads = split_heads i.heads c.grow.new.self c.set.new.self c.set-2.new.self i.place.split c.len-last.result c.deal-staying.result.0 c.deal-staying.result.1 c.if-not-grow.ensures.grown c.set.ensures c.set-2.ensures c.len-last.ensures in
-    table_along _ c.set-2.new.self ms _ i.len _ c.place_after-self-inside.result i.free heads nodes c.place_after-self-inside.ensures (split_table _ _ _ _ _ _ _ _ _ _ k)
+    let heads = split_heads i.heads c.grow.new.self c.set.new.self c.set-2.new.self i.place.split c.len-last.result c.deal-staying.result.0
+    c.deal-staying.result.1 c.if-not-grow.ensures.grown c.set.ensures c.set-2.ensures c.len-last.ensures in
+    table_along _ c.set-2.new.self ms _ i.len _ c.place_after-self-inside.result i.free heads nodes c.place_after-self-inside.ensures
+    (split_table _ _ _ _ _ _ _ _ _ _ k)
 
 pub returns : goal.returns
 returns c =

@@ -7,8 +7,10 @@ use Rattle.mm_partition.proofs.rows.Partitions.replace.Goals as goal
 
 pub invariant_of-self : goal.invariant_of-self
 invariant_of-self c =
-    let here : Refers c.self.inside.slots.items c.args.at c.index_of.result = IsLive-refers c.args.self.now _ c.args.at _ (ap (λ p. p.slots) c.self.view_is) c.index_of.ensures c.requires in
-    LinksFree-kept _ _ _ _ _ _ here.within c.index_mut.ensures.value (ap is_taken (sym c.in-Live.ensures.value)) (ap is_taken c.replace.ensures.after) c.self.invariant
+    let here : Refers c.self.inside.slots.items c.args.at c.index_of.result = IsLive-refers c.args.self.now _ c.args.at _
+    (ap (λ p. p.slots) c.self.view_is) c.index_of.ensures c.requires in
+    LinksFree-kept _ _ _ _ _ _ here.within c.index_mut.ensures.value (ap is_taken (sym c.in-Live.ensures.value))
+    (ap is_taken c.replace.ensures.after) c.self.invariant
 
 pub returns-clause-replaced : goal.returns-clause-replaced
 returns-clause-replaced c =

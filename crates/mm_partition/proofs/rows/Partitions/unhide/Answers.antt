@@ -9,7 +9,8 @@ use Rattle.mm_partition.proofs.rows.Partitions.unhide.Goals as goal
 
 pub invariant_of-self : goal.invariant_of-self
 invariant_of-self c =
-    let here : Refers c.self.inside.slots.items c.args.at c.index_of.result = IsHidden-refers c.args.self.now _ c.args.at _ (ap (λ p. p.slots) c.self.view_is) c.index_of.ensures c.requires in
+    let here : Refers c.self.inside.slots.items c.args.at c.index_of.result = IsHidden-refers c.args.self.now _ c.args.at _
+    (ap (λ p. p.slots) c.self.view_is) c.index_of.ensures c.requires in
     LinksFree-kept _ _ _ _ _ _ here.within c.index_mut-slot.ensures.value (ap is_taken (sym c.in-Hidden.ensures.value)) refl c.self.invariant
 
 pub returns-clause-back : goal.returns-clause-back
@@ -17,6 +18,7 @@ returns-clause-back c row is =
     let slots : List Slot = c.self.inside.slots.items in
     let view : map content_of slots ≡ c.args.self.now.slots = ap (λ p. p.slots) c.self.view_is in
     let here : Refers slots c.args.at c.index_of.result = IsHidden-refers c.args.self.now slots c.args.at _ view c.index_of.ensures c.requires in
-    let both : Hidden c.in-Hidden.row ≡ Hidden row = ap content_of c.in-Hidden.ensures.value ∙ (sym (slot_at-is c.args.self.now slots _ _ _ view here c.index_mut-slot.ensures.value) ∙ is) in
+    let both : Hidden c.in-Hidden.row ≡ Hidden row = ap content_of c.in-Hidden.ensures.value
+    ∙ (sym (slot_at-is c.args.self.now slots _ _ _ view here c.index_mut-slot.ensures.value) ∙ is) in
     let same : Live c.in-Hidden.row ≡ Live row = cc in
     ChangesOnly-set _ _ _ _ _ _ _ same view here
