@@ -236,11 +236,21 @@ not_found heads ns len p free hash b head r at b_is head_is t s end =
     let k = bucket_at heads ns len p free hash b head b_is head_is t in
     not_held ns (hash, r) (λ i below live e. s.none end i (k.every i below live (ap (λ (x : ℕ × RowRef). bucket_of p x.0) e ∙ sym b_is)) e)
 
+-- the same of the nodes as they were read
+pub Finds-read : (ms ns : List Node) (head hash : ℕ) (r : RowRef) (at : ℕ) → ms ≡ ns → Finds ms head hash r at → Finds ns head hash r at
+Finds-read ms ns head hash r at read s = subst (λ xs. Finds xs head hash r at) read s
+
+-- a node with the pair of another one, and a free node
+abbrev pub pair_in : Node → ℕ → Node
+pair_in n next = record { hash = n.hash; part = n.part; next = next; slot = n.slot; live = true }
+
+abbrev pub freed : ℕ → Node
+freed next = record { hash = 0; part = 0; next = next; slot = 0; live = false }
+
 -- what the code writes where the pair was found; m1 is the first node as read, m2 the found one
 pub taking : (heads : List ℕ) (ns : List Node) (len : ℕ) (p : Place) (free hash b head : ℕ) (r : RowRef) (at : ℕ) (m1 m2 : Node)
     → b ≡ bucket_of p hash → head ≡ get_or heads b 0 → IsTable heads ns len p free → Finds ns head hash r at → at ≢ NIL → m1 ≡ get_or ns head m1
-    → m2 ≡ get_or ns at m2
-    → IsTaking heads ns len p free b head at (record { hash = m1.hash; part = m1.part; next = m2.next; slot = m1.slot; live = true }) (record { hash = 0; part = 0; next = free; slot = 0; live = false })
+    → m2 ≡ get_or ns at m2 → IsTaking heads ns len p free b head at (pair_in m1 m2.next) (freed free)
 taking heads ns len p free hash b head r at m1 m2 b_is head_is t s on read1 read2 =
     let k = bucket_at heads ns len p free hash b head b_is head_is t in
     let found = (s.found on).0 in
