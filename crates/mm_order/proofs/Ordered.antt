@@ -43,8 +43,8 @@ too_high Greater Equal e = (cc)
 too_high Greater Greater e = refl
 
 -- of a list in three parts, the first too low, the last too high, the entries between are the middle part
-pub entries_between-parts : (low high : RowRef → Ordering) (before middle after : List RowRef) → All (λ a. low a ≡ Less) before → All (λ a. low a ≢ Less) middle → All (λ a. high a ≢ Greater) middle → All (λ a. high a ≡ Greater) after → entries_between low high (before ++ (middle ++ after)) ≡ middle
-entries_between-parts low high before middle after low_before low_middle high_middle high_after =
+pub entries_between-found_parts : (low high : RowRef → Ordering) (before middle after : List RowRef) → All (λ a. low a ≡ Less) before → All (λ a. low a ≢ Less) middle → All (λ a. high a ≢ Greater) middle → All (λ a. high a ≡ Greater) after → entries_between low high (before ++ (middle ++ after)) ≡ middle
+entries_between-found_parts low high before middle after low_before low_middle high_middle high_after =
     let between : RowRef → Bool = is_between low high in
     let none_before : filter between before ≡ [] = filter-none between before (λ k d below. too_low _ _ (low_before k d below)) in
     let all_middle : filter between middle ≡ middle = filter-all between middle (λ k d below. inside _ _ (low_middle k d below) (high_middle k d below)) in
@@ -63,7 +63,7 @@ entries_between-found low high refs from count low_before low_rest high_middle h
     let split_rest : take count rest ++ drop count rest ≡ rest = take-append-drop count rest in
     let split : take from refs ++ (take count rest ++ drop count rest) ≡ refs = ap (λ xs. take from refs ++ xs) split_rest ∙ take-append-drop from refs in
     let low_middle : All (λ a. low a ≢ Less) (take count rest) = All-append_left (λ a. low a ≢ Less) (take count rest) (drop count rest) (subst (All (λ a. low a ≢ Less)) (sym split_rest) low_rest) in
-    sym (ap (entries_between low high) split) ∙ entries_between-parts low high (take from refs) (take count rest) (drop count rest) low_before low_middle high_middle high_after
+    sym (ap (entries_between low high) split) ∙ entries_between-found_parts low high (take from refs) (take count rest) (drop count rest) low_before low_middle high_middle high_after
 
 -- along an ordered list the places of a monotone probe rise
 pub IsNonDecreasingBy-places : (Covers : RowRef → Type 0) (cmp : RowRef → RowRef → Ordering) (refs : List RowRef) → IsOrdered Covers cmp refs → (Reaches : RowRef → Type 0) (place : RowRef → Ordering) → IsMonotone Covers cmp Reaches place → IsNonDecreasingBy (λ a. ordering_index (place a)) refs

@@ -1,21 +1,25 @@
 -- The entries between two probes, in an ordered list of three parts.
-use Rattle.std.proofs.Common.{◌≡◌, Bool, true, false, ◌&&◌, ◌-◌, ◌≤◌, List, [], ◌++◌, length, get_or, refl, ap, ◌∙◌, subst, arith}
+use Rattle.std.proofs.Common.{◌≡◌, ◌≢◌, Bool, true, false, ◌&&◌, ◌-◌, ◌≤◌, List, [], ◌++◌, length, get_or, take, refl, sym, ap, ◌∙◌, subst, arith}
+use Rattle.std.proofs.lemmas.List.{append_assoc, take-take, take_at, length-append}
 use Rattle.std.proofs.lemmas.List.Elements.{filter-append}
+use Rattle.std.specs.Prelude.{Result, Ok, Err, OnErr}
 use Rattle.std.specs.List.{All}
+use Rattle.std.specs.List.Sorted.{IsNonDecreasingBy}
 use Rattle.std.specs.Ordering.{ordering_index, is_ge, is_le, is_lt, is_gt}
 use Rattle.std.specs.declared.cmp.Ordering.{Ordering}
 use Rattle.std.specs.declared.cmp.Ordering.TheVariants.{Less, Equal, Greater}
 use Rattle.mm_value.specs.declared.row_ref.RowRef.{RowRef}
 use Rattle.mm_order.specs.Order.{IsOrdered}
 use Rattle.mm_order.specs.Probe.{IsMonotone, is_between, entries_between}
-use Rattle.mm_order.proofs.Filtered.{filter-none}
+use Rattle.mm_order.proofs.Filtered.{filter-all, filter-none}
 use Rattle.mm_order.proofs.Pairs.{AllPairs-append_across}
-use Rattle.mm_order.proofs.Places.{less_below, greater_above}
+use Rattle.mm_order.proofs.Places.{less_below, greater_above, less_up_to, not_less_from, not_greater_up_to, greater_from}
+use Rattle.ttree_node.specs.Entries.{first_entry, last_entry}
 use Rattle.ttree.proofs.Parts.{IsOrdered-front, IsOrdered-middle, IsOrdered-back, rest_ordered}
 
 -- part by part
-pub entries_between-parts : (low high : RowRef → Ordering) (left middle right : List RowRef) → entries_between low high (left ++ middle ++ right) ≡ entries_between low high left ++ entries_between low high middle ++ entries_between low high right
-entries_between-parts low high left middle right =
+pub entries_between-append : (low high : RowRef → Ordering) (left middle right : List RowRef) → entries_between low high (left ++ middle ++ right) ≡ entries_between low high left ++ entries_between low high middle ++ entries_between low high right
+entries_between-append low high left middle right =
     filter-append (is_between low high) (left ++ middle) right ∙ ap (λ xs. xs ++ entries_between low high right) (filter-append (is_between low high) left middle)
 
 and_false : (b : Bool) → (b && false) ≡ false
@@ -61,3 +65,51 @@ pub greater_from_test : (o : Ordering) → is_gt o ≡ true → o ≡ Greater
 greater_from_test Less e = (cc)
 greater_from_test Equal e = (cc)
 greater_from_test Greater e = refl
+
+-- what the places of two probes at an entry say of it
+is_ge_from : (o : Ordering) → o ≢ Less → is_ge o ≡ true
+is_ge_from Less not = absurd (not refl)
+is_ge_from Equal not = refl
+is_ge_from Greater not = refl
+
+is_le_from : (o : Ordering) → o ≢ Greater → is_le o ≡ true
+is_le_from Less not = refl
+is_le_from Equal not = refl
+is_le_from Greater not = absurd (not refl)
+
+-- entries along which the places of two probes rise
+module _ (low high : RowRef → Ordering) (entries : List RowRef) (some : 1 ≤ length entries)
+    (low_rises : IsNonDecreasingBy (λ a. ordering_index (low a)) entries) (high_rises : IsNonDecreasingBy (λ a. ordering_index (high a)) entries) where
+  -- where the first doesn't lie before the low place nor the last after the high one, all are between
+  pub all_between : low (first_entry entries) ≢ Less → high (last_entry entries) ≢ Greater → entries_between low high entries ≡ entries
+  all_between first last =
+      filter-all (is_between low high) entries (λ k e within.
+      let not_less : low (get_or entries k e) ≢ Less = not_less_from low entries 0 _ low_rises some first k e (omega arith) within in
+      let not_greater : high (get_or entries k e) ≢ Greater =
+      not_greater_up_to high entries (length entries - 1) _ high_rises (omega arith) last k e (omega arith) (omega arith) in
+      rw (is_ge_from (low (get_or entries k e)) not_less) (is_le_from (high (get_or entries k e)) not_greater))
+
+  -- where the last lies before the low place, none is
+  pub none_from_low : low (last_entry entries) ≡ Less → entries_between low high entries ≡ []
+  none_from_low last =
+      filter-none (is_between low high) entries (λ k e within.
+      let less : low (get_or entries k e) ≡ Less = less_up_to low entries (length entries - 1) _ low_rises (omega arith) last k e (omega arith) (omega arith) in
+      ap (λ o. is_ge o && is_le (high (get_or entries k e))) less)
+
+  -- where the first lies after the high place, none is
+  pub none_to_high : high (first_entry entries) ≡ Greater → entries_between low high entries ≡ []
+  none_to_high first =
+      filter-none (is_between low high) entries (λ k e within.
+      let greater : high (get_or entries k e) ≡ Greater = greater_from high entries 0 _ high_rises some first k e (omega arith) within in
+      ap (λ o. is_ge (low (get_or entries k e)) && is_le o) greater ∙ and_false (is_ge (low (get_or entries k e))))
+
+-- what is kept of a list to which two lists were appended begins with the list
+pub front_kept : {X : Type 0} (old more rest mid new : List X) → mid ≡ old ++ more ++ rest → take (length mid) new ≡ mid → take (length old) new ≡ old
+front_kept old more rest mid new is kept =
+    let within : length old ≤ length mid = omega (arith, ap length is, length-append (old ++ more) rest, length-append old more) in
+    sym (take-take (length old) (length mid) new within) ∙ ap (take (length old)) (kept ∙ is ∙ append_assoc old more rest) ∙ take_at old (more ++ rest) (length old) refl
+
+-- what follows from what an error says
+pub OnErr-weaker : {T E : Type 0} (r : Result T E) (P Q : Type 0) → (P → Q) → OnErr r P → OnErr r Q
+OnErr-weaker (Ok v) P Q f h = tt
+OnErr-weaker (Err e) P Q f h = f h

@@ -7,3 +7,4 @@ pub mod Between
 pub mod Sought
 pub mod Decides
 pub mod Path
+pub mod Reached

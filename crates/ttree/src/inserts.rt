@@ -11,7 +11,7 @@ use crate::search::{search, side_of};
 use mm_order::{AtReference, RefOrder, Seek};
 use mm_value::RowRef;
 use std::cmp::Ordering;
-use ttree_node::{Spares, Subtree};
+use ttree_node::{Entries, Spares, Subtree};
 
 /// Puts an entry after all others: at the end of the rightmost node, or, where that is full,
 /// into a new right leaf under it.
@@ -75,7 +75,7 @@ fn insert_between<O: RefOrder>(
 }
 
 /// Where a reference goes among entries that it lies between.
-fn place_among<O: RefOrder>(entries: &[RowRef], order: &O, added: RowRef) -> usize
+fn place_among<O: RefOrder>(entries: &Entries, order: &O, added: RowRef) -> usize
     requires ordered { IsOrdered (O.covers order.now) (O.cmp order.now) entries.now }
     requires covered { O.covers order.now added }
     requires apart { All (λ a. O.cmp order.now a added ≢ Equal) entries.now }

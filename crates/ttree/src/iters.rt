@@ -11,7 +11,7 @@ use arrayvec::ArrayVec;
 use mm_value::RowRef;
 use std::iter::FusedIterator;
 use std::marker::Model;
-use ttree_node::Subtree;
+use ttree_node::{EntryIter, Subtree};
 
 /// The nodes, from the root downwards, whose entries are to come, each with its right side.
 /// A tree of at most 1,048,576 references has at most 28 levels.
@@ -21,7 +21,7 @@ type Path<'a> = ArrayVec<Option<&'a Subtree>, 28>;
 #[derive(Drop)]
 pub struct Iter<'a> {
     // Those that are left of a node, whose right side is on the path already.
-    entries: &'a [RowRef],
+    entries: EntryIter<'a>,
     path: Path<'a>,
 }
 
@@ -32,7 +32,7 @@ impl<'a> Model for Iter<'a> {
 
     ghost Value = { List Ref };
 
-    ghost view = { λ it. it.entries.now ++ to_come it.path.items };
+    ghost view = { λ it. it.entries ++ to_come it.path.items };
 
     ghost invariant = { λ it. IsPath 28 it.path.items };
 }
@@ -46,7 +46,10 @@ impl<'a> Iter<'a> {
     {
         let mut path = ArrayVec::new();
         descend(&mut path, tree);
-        Iter { entries: &[], path }
+        Iter {
+            entries: EntryIter::empty(),
+            path,
+        }
     }
 }
 
@@ -58,14 +61,11 @@ impl<'a> Iterator for Iter<'a> {
     ghost remaining = { item_count (λ rest. rest) };
 
     fn next(&mut self) -> Option<RowRef> {
-        let entries = if self.entries.is_empty() {
-            next_entries(&mut self.path)?
-        } else {
-            self.entries
-        };
-        let (first, rest) = entries.split_first()?;
-        self.entries = rest;
-        Some(*first)
+        if let Some(entry) = self.entries.next() {
+            return Some(entry);
+        }
+        self.entries = next_entries(&mut self.path)?;
+        self.entries.next()
     }
 }
 
@@ -73,17 +73,17 @@ impl<'a> FusedIterator for Iter<'a> {}
 
 /// Takes the deepest node off the path, puts the left edge of its right side on it, and gives its
 /// entries.
-fn next_entries<'a>(path: &mut Path<'a>) -> Option<&'a [RowRef]>
+fn next_entries<'a>(path: &mut Path<'a>) -> Option<EntryIter<'a>>
     requires { IsPath 28 path.old.items }
     ensures path { IsPath 28 path.new.items }
-    ensures some { IfSome result (λ entries. 1 ≤ length entries.now) }
-    ensures entries { IfSome result (λ entries. to_come path.old.items ≡ entries.now ++ to_come path.new.items) }
+    ensures some { IfSome result (λ entries. 1 ≤ length entries) }
+    ensures entries { IfSome result (λ entries. to_come path.old.items ≡ entries ++ to_come path.new.items) }
     ensures none_before { IfNone result (to_come path.old.items ≡ []) }
     ensures none { IfNone result (to_come path.new.items ≡ []) }
 {
     let node = path.pop()??;
     descend(path, node.right());
-    Some(node.entries())
+    Some(node.entries().iter())
 }
 
 /// Puts the left edge of a tree on the path, its root first.

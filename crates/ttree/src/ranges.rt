@@ -1,19 +1,22 @@
 //! The entries between two probes.
 ghost use Rattle.std.specs.Prelude.{◌≡◌, ◌<◌, ◌++◌, take, All, OnOk, OnErr, vec_len};
+ghost use Rattle.std.specs.Bool.{OnTrue};
 ghost use Rattle.std.specs.Option.{option_copied};
 ghost use Rattle.ttree_node.specs.Tree.{fork, tree_of, in_order, node_count};
 ghost use Rattle.std.specs.declared.cmp.Ordering.{Ordering};
 ghost use Rattle.mm_value.specs.declared.row_ref.RowRef.{RowRef};
 ghost use Rattle.mm_order.specs.Order.{IsOrdered};
-ghost use Rattle.mm_order.specs.Probe.{IsMonotone, entries_between};
+ghost use Rattle.mm_order.specs.Probe.{entries_between};
 ghost use Rattle.ttree.specs.Balanced.{IsTTree};
+ghost use Rattle.ttree.specs.Searchable.{IsSearchable};
 
 use mm_order::{Probe, RefOrder};
 use mm_value::RowRef;
 use std::alloc::AllocError;
-use ttree_node::Subtree;
+use ttree_node::{Entries, Subtree};
 
 /// Appends the entries that lie neither before the place of `low` nor after that of `high`.
+/// Of a node that lies in the range as a whole it asks about the first and the last entry alone.
 /// After an error some may have been appended.
 pub(crate) fn copy_between<O: RefOrder, L: Probe, H: Probe>(
     tree: Option<&Subtree>,
@@ -22,19 +25,42 @@ pub(crate) fn copy_between<O: RefOrder, L: Probe, H: Probe>(
     high: &H,
     out: &mut Vec<RowRef>,
 ) -> Result<(), AllocError>
-    requires tree { IsTTree (tree_of (option_copied tree)) }
-    requires ordered { IsOrdered (O.covers order.now) (O.cmp order.now) (in_order (tree_of (option_copied tree))) }
-    requires low { IsMonotone (O.covers order.now) (O.cmp order.now) (L.covers low.now) (L.place_of low.now) }
-    requires high { IsMonotone (O.covers order.now) (O.cmp order.now) (H.covers high.now) (H.place_of high.now) }
-    ensures ok { OnOk result (out.new.items ≡ out.old.items ++ entries_between (L.place_of low.now) (H.place_of high.now) (in_order (tree_of (option_copied tree.entry)))) }
+    requires low { IsSearchable (O.covers order.now) (O.cmp order.now) (L.covers low.now) (L.place_of low.now) (tree_of (option_copied tree)) }
+    requires high { IsSearchable (O.covers order.now) (O.cmp order.now) (H.covers high.now) (H.place_of high.now) (tree_of (option_copied tree)) }
+    ensures ok { OnOk result (out.new.items ≡ out.old.items
+        ++ entries_between (L.place_of low.now) (H.place_of high.now) (in_order (tree_of (option_copied tree.entry)))) }
     ensures err { OnErr result (take (vec_len out.old) out.new.items ≡ out.old.items) }
 {
     let Some(node) = tree else {
         return Ok(());
     };
+    if is_within(node, order, low, high) {
+        copy_between(node.left(), order, low, high, out)?;
+        copy_all(node.entries(), out)?;
+        return copy_between(node.right(), order, low, high, out);
+    }
     copy_between(left_from(node, order, low), order, low, high, out)?;
-    copy_fitting(node.entries(), low, high, out)?;
+    copy_part(node, order, low, high, out)?;
     copy_between(right_to(node, order, high), order, low, high, out)
+}
+
+/// Whether all entries of a root lie in the range: the first not before the place of `low`, the
+/// last not after that of `high`.
+fn is_within<O: RefOrder, L: Probe, H: Probe>(
+    node: &Subtree,
+    order: &O,
+    low: &L,
+    high: &H,
+) -> bool
+    requires low { IsSearchable (O.covers order.now) (O.cmp order.now) (L.covers low.now) (L.place_of low.now) (fork node.now) }
+    requires high { IsSearchable (O.covers order.now) (O.cmp order.now) (H.covers high.now) (H.place_of high.now) (fork node.now) }
+    ensures { OnTrue result (entries_between (L.place_of low.now) (H.place_of high.now) node.now.entries ≡ node.now.entries) }
+{
+    let entries = node.entries();
+    if low.place(entries.first()).is_lt() {
+        return false;
+    }
+    high.place(entries.last()).is_le()
 }
 
 /// The left side of a root, where an entry there may not lie before the place of `low`.
@@ -43,16 +69,14 @@ fn left_from<'a, O: RefOrder, L: Probe>(
     order: &O,
     low: &L,
 ) -> Option<&'a Subtree>
-    requires tree { IsTTree (fork node.now) }
-    requires ordered { IsOrdered (O.covers order.now) (O.cmp order.now) (in_order (fork node.now)) }
-    requires low { IsMonotone (O.covers order.now) (O.cmp order.now) (L.covers low.now) (L.place_of low.now) }
+    requires { IsSearchable (O.covers order.now) (O.cmp order.now) (L.covers low.now) (L.place_of low.now) (fork node.now) }
     ensures tree { IsTTree (tree_of (option_copied result)) }
     ensures ordered { IsOrdered (O.covers order.now) (O.cmp order.now) (in_order (tree_of (option_copied result))) }
     ensures smaller { node_count (tree_of (option_copied result)) < node_count (fork node.now) }
     ensures same_entries { (high : RowRef → Ordering) → entries_between (L.place_of low.now) high (in_order (tree_of (option_copied result)))
         ≡ entries_between (L.place_of low.now) high (in_order node.now.left) }
 {
-    if low.place(node.entries()[0]).is_lt() {
+    if low.place(node.entries().first()).is_lt() {
         return None;
     }
     node.left()
@@ -64,25 +88,46 @@ fn right_to<'a, O: RefOrder, H: Probe>(
     order: &O,
     high: &H,
 ) -> Option<&'a Subtree>
-    requires tree { IsTTree (fork node.now) }
-    requires ordered { IsOrdered (O.covers order.now) (O.cmp order.now) (in_order (fork node.now)) }
-    requires high { IsMonotone (O.covers order.now) (O.cmp order.now) (H.covers high.now) (H.place_of high.now) }
+    requires { IsSearchable (O.covers order.now) (O.cmp order.now) (H.covers high.now) (H.place_of high.now) (fork node.now) }
     ensures tree { IsTTree (tree_of (option_copied result)) }
     ensures ordered { IsOrdered (O.covers order.now) (O.cmp order.now) (in_order (tree_of (option_copied result))) }
     ensures smaller { node_count (tree_of (option_copied result)) < node_count (fork node.now) }
     ensures same_entries { (low : RowRef → Ordering) → entries_between low (H.place_of high.now) (in_order (tree_of (option_copied result)))
         ≡ entries_between low (H.place_of high.now) (in_order node.now.right) }
 {
-    let entries = node.entries();
-    if high.place(entries[entries.len() - 1]).is_gt() {
+    if high.place(node.entries().last()).is_gt() {
         return None;
     }
     node.right()
 }
 
+/// Appends those entries of a root that lie in the range. It asks about each of them only where
+/// the range begins or ends among them.
+fn copy_part<O: RefOrder, L: Probe, H: Probe>(
+    node: &Subtree,
+    order: &O,
+    low: &L,
+    high: &H,
+    out: &mut Vec<RowRef>,
+) -> Result<(), AllocError>
+    requires low { IsSearchable (O.covers order.now) (O.cmp order.now) (L.covers low.now) (L.place_of low.now) (fork node.now) }
+    requires high { IsSearchable (O.covers order.now) (O.cmp order.now) (H.covers high.now) (H.place_of high.now) (fork node.now) }
+    ensures ok { OnOk result (out.new.items ≡ out.old.items ++ entries_between (L.place_of low.now) (H.place_of high.now) node.now.entries) }
+    ensures err { OnErr result (take (vec_len out.old) out.new.items ≡ out.old.items) }
+{
+    let entries = node.entries();
+    if low.place(entries.last()).is_lt() {
+        return Ok(());
+    }
+    if high.place(entries.first()).is_gt() {
+        return Ok(());
+    }
+    copy_fitting(entries, low, high, out)
+}
+
 /// Appends those of some entries that lie neither before the place of `low` nor after that of `high`.
 fn copy_fitting<L: Probe, H: Probe>(
-    entries: &[RowRef],
+    entries: &Entries,
     low: &L,
     high: &H,
     out: &mut Vec<RowRef>,
@@ -92,10 +137,23 @@ fn copy_fitting<L: Probe, H: Probe>(
     ensures ok { OnOk result (out.new.items ≡ out.old.items ++ entries_between (L.place_of low.now) (H.place_of high.now) entries.now) }
     ensures err { OnErr result (take (vec_len out.old) out.new.items ≡ out.old.items) }
 {
-    for entry in entries {
-        if !low.place(*entry).is_lt() && !high.place(*entry).is_gt() {
-            out.push(*entry)?;
+    for i in 0..entries.len() {
+        let entry = entries.get(i);
+        if !low.place(entry).is_lt() && !high.place(entry).is_gt() {
+            out.push(entry)?;
         }
+    }
+    Ok(())
+}
+
+/// Appends all of some entries.
+fn copy_all(entries: &Entries, out: &mut Vec<RowRef>) -> Result<(), AllocError>
+    ensures ok { OnOk result (out.new.items ≡ out.old.items ++ entries.now) }
+    ensures err { OnErr result (out.new.items ≡ out.old.items) }
+{
+    out.reserve(entries.len())?;
+    for i in 0..entries.len() {
+        out.push_reserved(entries.get(i));
     }
     Ok(())
 }

@@ -12,7 +12,7 @@ use crate::search::{search, side_of};
 use mm_order::{AtReference, RefOrder, Seek};
 use mm_value::RowRef;
 use std::cmp::Ordering;
-use ttree_node::{Spares, Subtree};
+use ttree_node::{Entries, Spares, Subtree};
 
 /// Merges a half-leaf with its left leaf where both fit into one node.
 fn absorb_left(mut node: Subtree, spares: &mut Spares) -> Subtree
@@ -172,7 +172,7 @@ fn refill(mut node: Subtree, spares: &mut Spares) -> Option<Subtree>
 }
 
 /// The place of a reference among entries.
-fn find_among<O: RefOrder>(entries: &[RowRef], order: &O, gone: RowRef) -> Option<usize>
+fn find_held<O: RefOrder>(entries: &Entries, order: &O, gone: RowRef) -> Option<usize>
     requires ordered { IsOrdered (O.covers order.now) (O.cmp order.now) entries.now }
     requires covered { O.covers order.now gone }
     requires some { 1 ≤ length entries.now }
@@ -187,7 +187,7 @@ fn find_among<O: RefOrder>(entries: &[RowRef], order: &O, gone: RowRef) -> Optio
     };
     let mut seek = Seek::new(&probe);
     match search(&mut seek, entries) {
-        Ok(i) if entries[i] == gone => Some(i),
+        Ok(i) if entries.get(i) == gone => Some(i),
         _ => None,
     }
 }
@@ -229,7 +229,7 @@ pub(crate) fn remove_from<O: RefOrder>(
             node.set_right(right);
             (Some(mend(node, spares)), found)
         }
-        Ordering::Equal => match find_among(node.entries(), order, gone) {
+        Ordering::Equal => match find_held(node.entries(), order, gone) {
             Some(i) => {
                 node.take_entry(i);
                 (refill(node, spares), true)

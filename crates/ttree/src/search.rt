@@ -7,13 +7,13 @@ ghost use Rattle.std.specs.Ordering.{ordering_index};
 use mm_order::{Probe, RefOrder, Seek};
 use mm_value::RowRef;
 use std::cmp::Ordering;
-use ttree_node::Subtree;
+use ttree_node::{Entries, Subtree};
 
 /// So many halvings leave one of the 16 entries of a full node.
 const HALVINGS: usize = 4;
 
 /// Where an entry fits the probe, or else where one would stand, by at most five questions.
-pub(crate) fn search<P: Probe>(seek: &mut Seek<P>, entries: &[RowRef]) -> Result<usize, usize>
+pub(crate) fn search<P: Probe>(seek: &mut Seek<P>, entries: &Entries) -> Result<usize, usize>
     requires some { 1 ≤ length entries.now }
     requires covered { All (P.covers seek.old.probe) entries.now }
     requires rising { IsNonDecreasingBy (λ a. ordering_index (P.place_of seek.old.probe a)) entries.now }
@@ -31,12 +31,12 @@ pub(crate) fn search<P: Probe>(seek: &mut Seek<P>, entries: &[RowRef]) -> Result
     // The number of turns is fixed, so that they are unrolled: then none has a branch to be guessed.
     for _ in 0..HALVINGS {
         let half = size / 2;
-        if seek.place(entries[low + half]).is_le() {
+        if seek.place(entries.get(low + half)).is_le() {
             low += half;
         }
         size -= half;
     }
-    match seek.place(entries[low]) {
+    match seek.place(entries.get(low)) {
         Ordering::Less => Err(low + 1),
         Ordering::Equal => Ok(low),
         Ordering::Greater => Err(low),
@@ -54,11 +54,9 @@ pub(crate) fn side_of<O: RefOrder>(node: &Subtree, order: &O, sought: RowRef) ->
     ensures not_after { result ≡ Ordering.Equal → O.cmp order.now sought (slice_index_or node.now.entries (length node.now.entries - 1) sought) ≢ Ordering.Greater }
 {
     let entries = node.entries();
-    let least = entries[0];
-    let greatest = entries[entries.len() - 1];
-    if order.compare(sought, least).is_lt() {
+    if order.compare(sought, entries.first()).is_lt() {
         Ordering::Less
-    } else if order.compare(sought, greatest).is_gt() {
+    } else if order.compare(sought, entries.last()).is_gt() {
         Ordering::Greater
     } else {
         Ordering::Equal

@@ -14,6 +14,7 @@ use std::alloc::{AllocError, Global};
 use std::cmp::Ordering;
 use std::process::Abort;
 use std::test::Fail;
+use ttree_node::Entries;
 
 /// References by partition.
 #[derive(Drop)]
@@ -178,7 +179,7 @@ fn toggle<R: OrderedRefs>(refs: &mut R, alloc: Global, toggled: RowRef) -> Resul
 }
 
 /// Asserts that the entries are of these partitions.
-fn assert_parts(rt: &impl Abort, entries: &[RowRef], want: &[usize]) {
+fn assert_parts(rt: &impl Abort, entries: &Entries, want: &[usize]) {
     assert_eq!(rt; entries.len(), want.len());
     for (held, part) in entries.iter().zip(want.iter()) {
         assert_eq!(rt; held.part, *part);

@@ -1,2 +1,3 @@
 pub mod OwnerSteps
+pub mod RowRefs
 pub mod SlideLemmas

@@ -1,5 +1,6 @@
 pub mod Block
 pub mod BlockLent
+pub mod Entries
 pub mod Nodes
 pub mod Slide
 pub mod Spares

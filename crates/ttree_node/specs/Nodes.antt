@@ -5,7 +5,7 @@ use Rattle.ttree_node.specs.declared.nodes.Node.{Node}
 
 -- its entries between the trees of its links
 abbrev pub root_of : Node → Root
-root_of n = record { left = tree_of n.left; entries = n.entries.items; right = tree_of n.right }
+root_of n = record { left = tree_of n.left; entries = n.entries; right = tree_of n.right }
 
 -- its height is the number of nodes on a longest path from it downwards
 abbrev pub IsHeightExact : Node → Type 0

@@ -1,6 +1,7 @@
 //! The nodes of a T-tree, one block each, and a pool of free ones.
 #![tactic(auto)]
 
+mod entries;
 mod nodes;
 mod owned;
 mod pool;
@@ -9,6 +10,7 @@ mod slides;
 mod tests;
 mod turns;
 
+pub use entries::{Entries, EntryIter};
 pub use nodes::Subtree;
 pub use pool::Spares;
 pub use slides::Side;

@@ -3,9 +3,9 @@ ghost use Rattle.std.specs.Prelude.{◌≡◌, ◌+◌, ◌^◌, ◌<◌, ◌≤
 ghost use Rattle.std.specs.Option.{option_copied};
 ghost use Rattle.ttree_node.specs.Tree.{Empty, fork, tree_of, height_of, node_count};
 
+use crate::entries::Entries;
 use crate::owned::Owned;
 use crate::pool::Spares;
-use arrayvec::ArrayVec;
 use mm_value::RowRef;
 use std::alloc::{AllocError, Global};
 use std::marker::Model;
@@ -22,7 +22,7 @@ pub struct Subtree {
 #[cycle(subtree)]
 #[derive(Drop)]
 struct Node {
-    entries: ArrayVec<RowRef, 16>,
+    entries: Entries,
     height: usize,
     left: Option<Subtree>,
     right: Option<Subtree>,
@@ -69,7 +69,7 @@ impl Subtree {
         let root = Owned::new(
             alloc,
             Node {
-                entries: ArrayVec::new(),
+                entries: Entries::new(),
                 height: 1,
                 left: None,
                 right: None,
@@ -106,11 +106,15 @@ impl Subtree {
     }
 
     /// The entries of the root, in order.
-    pub fn entries(&self) -> &[RowRef]
+    #[inline]
+    pub fn entries(&self) -> &Entries
         ensures value { result.now ≡ self.now.entries }
         ensures at_most_16 { length result.now ≤ 16 }
     {
-        self.root.as_ref().entries.as_slice()
+        let entries = &self.root.as_ref().entries;
+        // It is at most 16.
+        let _len = entries.len();
+        entries
     }
 
     /// What stands left of the root.
@@ -203,46 +207,40 @@ impl Subtree {
     }
 
     /// Puts entries before those of the root, which has room for them.
-    pub fn put_in_front(&mut self, front: &[RowRef])
+    pub fn put_in_front(&mut self, front: &Entries)
         requires { length front.now + length self.old.entries ≤ 16 }
         ensures { self.new ≡ record self.old { entries = front.now ++ self.old.entries } }
     {
         let node = self.root.as_mut();
-        let mut entries = ArrayVec::new();
-        entries.try_extend_from_slice(front).unwrap();
-        entries
-            .try_extend_from_slice(node.entries.as_slice())
-            .unwrap();
-        node.entries = entries;
+        node.entries.prepend(front);
     }
 
     /// Puts entries behind those of the root, which has room for them.
-    pub fn put_behind(&mut self, behind: &[RowRef])
+    pub fn put_behind(&mut self, behind: &Entries)
         requires { length self.old.entries + length behind.now ≤ 16 }
         ensures { self.new ≡ record self.old { entries = self.old.entries ++ behind.now } }
     {
         let node = self.root.as_mut();
-        node.entries.try_extend_from_slice(behind).unwrap();
+        node.entries.append(behind);
     }
 
-    /// Keeps the first `n` entries of the root alone.
-    pub(crate) fn keep_first(&mut self, n: usize)
-        ensures { self.new ≡ record self.old { entries = take n self.old.entries } }
+    /// Takes out the entries of the root from place `at` onwards.
+    pub(crate) fn split_off(&mut self, at: usize) -> Entries
+        requires { at ≤ length self.old.entries }
+        ensures taken { result ≡ drop at self.old.entries }
+        ensures rest { self.new ≡ record self.old { entries = take at self.old.entries } }
     {
         let node = self.root.as_mut();
-        node.entries.truncate(n);
+        node.entries.split_off(at)
     }
 
-    /// Takes the first `n` entries of the root out.
-    pub(crate) fn drop_first(&mut self, n: usize)
+    /// Takes out the first `n` entries of the root.
+    pub(crate) fn take_first(&mut self, n: usize) -> Entries
         requires { n ≤ length self.old.entries }
-        ensures { self.new ≡ record self.old { entries = drop n self.old.entries } }
+        ensures taken { result ≡ take n self.old.entries }
+        ensures rest { self.new ≡ record self.old { entries = drop n self.old.entries } }
     {
         let node = self.root.as_mut();
-        let mut entries = ArrayVec::new();
-        entries
-            .try_extend_from_slice(&node.entries.as_slice()[n..])
-            .unwrap();
-        node.entries = entries;
+        node.entries.take_first(n)
     }
 }

@@ -44,8 +44,7 @@ impl Subtree {
             unreachable!()
         };
         let n = count_to_hand_on(self.entries().len(), leaf.entries().len());
-        leaf.put_behind(&self.entries()[..n]);
-        self.drop_first(n);
+        leaf.put_behind(&self.take_first(n));
         self.set_left(Some(leaf));
     }
 
@@ -58,8 +57,7 @@ impl Subtree {
         };
         let kept = self.entries().len()
             - count_to_hand_on(self.entries().len(), leaf.entries().len());
-        leaf.put_in_front(&self.entries()[kept..]);
-        self.keep_first(kept);
+        leaf.put_in_front(&self.split_off(kept));
         self.set_right(Some(leaf));
     }
 }

@@ -47,7 +47,7 @@ fn write_parts(tree: Option<&Subtree>, parts: &mut Vec<usize>) -> Result<(), All
         return Ok(());
     };
     write_parts(tree.left(), parts)?;
-    for entry in tree.entries() {
+    for entry in tree.entries().iter() {
         parts.push(entry.part)?;
     }
     write_parts(tree.right(), parts)
@@ -65,7 +65,7 @@ fn rotations_keep_the_order(rt: HostRuntime) -> Result<(), Fail> {
     first.set_right(Some(second));
     assert_eq!(rt; first.height(), 3);
     let turned = first.rotate_left();
-    assert_eq!(rt; turned.entries()[0].part, 3);
+    assert_eq!(rt; turned.entries().get(0).part, 3);
     let mut parts = Vec::new(alloc);
     write_parts(Some(&turned), &mut parts)?;
     assert_eq!(rt; parts.as_slice(), [1, 2, 3, 4].as_slice());

@@ -19,8 +19,8 @@ place_among-at-requires-clause-apart g c =
     let middle : All P c.args.node.entries = All-append_right P (in_order c.args.node.left) c.args.node.entries (All-append_left P (in_order c.args.node.left ++ c.args.node.entries) (in_order c.args.node.right) c.requires.apart) in
     rw c.entries.ensures.value middle
 
-pub returns-then-entries-lt16-clause-adds : goal.returns-then-entries-lt16-clause-adds
-returns-then-entries-lt16-clause-adds g c =
+pub returns-then-len-lt16-clause-adds : goal.returns-then-len-lt16-clause-adds
+returns-then-len-lt16-clause-adds g c =
     let cmp = g.O.RefOrder.cmp c.args.order.now in
     let at = c.place_among-at.result in
     let before : All (λ a. cmp a c.args.added ≡ Less) (take at c.args.node.entries) = rw c.entries.ensures.value at c.place_among-at.ensures.before in

@@ -51,7 +51,7 @@ descend-requires-clause-low c =
 pub returns-clause-some : goal.returns-clause-some
 returns-clause-some c =
     let step : IsStep (28 - length c.pop.new.self.items) (fork c.in_ok-node.node.now) = deepest c.args.path.now.items c.pop.new.self.items c.in_ok-pop.field-0 c.in_ok-node.node c.requires c.in_ok-pop.ensures.items c.in_ok-node.was in
-    omega (arith, ap length c.entries.ensures.value, step.balanced.2.filled)
+    omega (arith, ap length c.iter.ensures, ap length c.entries.ensures.value, step.balanced.2.filled)
 
 -- src/iters.rt:76:1
 pub returns-clause-entries : goal.returns-clause-entries
@@ -65,4 +65,4 @@ returns-clause-entries c =
     ∙ ap (λ o. from_root (tree_of (option_copied o)) ++ to_come path) c.in_ok-node.was
     ∙ append_assoc n.entries (in_order n.right) (to_come path)
     ∙ ap (λ xs. n.entries ++ xs) (sym rest)
-    ∙ ap (λ xs. xs ++ to_come c.descend.new.path.items) (sym c.entries.ensures.value)
+    ∙ ap (λ xs. xs ++ to_come c.descend.new.path.items) (sym (c.iter.ensures ∙ c.entries.ensures.value))

@@ -37,8 +37,8 @@ remove_from-right-requires g t c κs within =
     let ordered = IsOrdered-back _ _ (in_order n.left ++ n.entries) (in_order n.right) was in
     (search rules, (search rules, (search rules, (subst (IsOrdered (g.O.RefOrder.covers c.args.order.now) cmp) (sym is) ordered, (search rules, (search rules, search rules))))))
 
-pub find_among-requires-clause-ordered : goal.find_among-requires-clause-ordered
-find_among-requires-clause-ordered g t c =
+pub find_held-requires-clause-ordered : goal.find_held-requires-clause-ordered
+find_held-requires-clause-ordered g t c =
     let n = c.in-Some.node in
     let was : IsOrdered (g.O.RefOrder.covers c.args.order.now) (g.O.RefOrder.cmp c.args.order.now) (in_order n.left ++ n.entries ++ in_order n.right) = rw c.in-Some.is at c.requires.ordered in
     rw c.entries.ensures.value (IsOrdered-middle _ _ (in_order n.left) n.entries (in_order n.right) was)
@@ -102,27 +102,27 @@ returns-in-Greater-clause-taken g t c =
     subst (λ xs. AddsInOrder cmp xs c.args.gone (in_order (tree_of c.args.tree))) (sym made) (subst (AddsInOrder cmp (in_order n.left ++ n.entries ++ right) c.args.gone) (sym whole) adds))
     c.remove_from-right.ensures.taken
 
-pub returns-in-Some-find_among-clause-held : goal.returns-in-Some-find_among-clause-held
-returns-in-Some-find_among-clause-held g t c =
+pub returns-in-Some-find_held-clause-held : goal.returns-in-Some-find_held-clause-held
+returns-in-Some-find_held-clause-held g t c =
     let n = c.in-Some.node in
     let whole : in_order (tree_of c.args.tree) ≡ in_order n.left ++ n.entries ++ in_order n.right = search rules in
-    let inside : c.in-Some-find_among.i < length n.entries = omega (arith, ap length c.entries.ensures.value, c.in-Some-find_among.ensures.in_bounds) in
-    let found : slice_get n.entries c.in-Some-find_among.i ≡ Some c.args.gone = rw c.entries.ensures.value at c.in-Some-find_among.ensures.found in
-    let held : Contains n.entries c.args.gone = (c.in-Some-find_among.i, inside, get_or_from_slice_get n.entries c.in-Some-find_among.i c.args.gone c.args.gone found) in (
+    let inside : c.in-Some-find_held.i < length n.entries = omega (arith, ap length c.entries.ensures.value, c.in-Some-find_held.ensures.in_bounds) in
+    let found : slice_get n.entries c.in-Some-find_held.i ≡ Some c.args.gone = rw c.entries.ensures.value at c.in-Some-find_held.ensures.found in
+    let held : Contains n.entries c.args.gone = (c.in-Some-find_held.i, inside, get_or_from_slice_get n.entries c.in-Some-find_held.i c.args.gone c.args.gone found) in (
       λ _. subst (λ xs. Contains xs c.args.gone) (sym whole) (Contains-append_left (in_order n.left ++ n.entries) (in_order n.right) c.args.gone (Contains-append_right (in_order n.left) n.entries c.args.gone held)),
       λ _. search rules,
     )
 
-pub returns-in-Some-find_among-clause-taken : goal.returns-in-Some-find_among-clause-taken
-returns-in-Some-find_among-clause-taken g t c =
+pub returns-in-Some-find_held-clause-taken : goal.returns-in-Some-find_held-clause-taken
+returns-in-Some-find_held-clause-taken g t c =
     let n = c.in-Some.node in
-    let i = c.in-Some-find_among.i in
+    let i = c.in-Some-find_held.i in
     let cmp : RowRef → RowRef → Ordering = g.O.RefOrder.cmp c.args.order.now in
     let whole : in_order (tree_of c.args.tree) ≡ in_order n.left ++ n.entries ++ in_order n.right = search rules in
     let made : in_order (tree_of c.refill.result) ≡ in_order n.left ++ remove n.entries i ++ in_order n.right = search rules in
     let was : IsOrdered (g.O.RefOrder.covers c.args.order.now) cmp (in_order n.left ++ n.entries ++ in_order n.right) = rw c.in-Some.is at c.requires.ordered in
-    let inside : i < length n.entries = omega (arith, ap length c.entries.ensures.value, c.in-Some-find_among.ensures.in_bounds) in
-    let found : slice_get n.entries i ≡ Some c.args.gone = rw c.entries.ensures.value at c.in-Some-find_among.ensures.found in
+    let inside : i < length n.entries = omega (arith, ap length c.entries.ensures.value, c.in-Some-find_held.ensures.in_bounds) in
+    let found : slice_get n.entries i ≡ Some c.args.gone = rw c.entries.ensures.value at c.in-Some-find_held.ensures.found in
     let adds = adds_taken (g.O.RefOrder.covers c.args.order.now) cmp (in_order n.left) n.entries (in_order n.right) i c.args.gone was inside found in
     subst (λ xs. AddsInOrder cmp xs c.args.gone (in_order (tree_of c.args.tree))) (sym made) (subst (AddsInOrder cmp (in_order n.left ++ remove n.entries i ++ in_order n.right) c.args.gone) (sym whole) adds)
 

@@ -4,7 +4,7 @@ use Rattle.std.specs.List.{All}
 use Rattle.std.specs.declared.cmp.Ordering.TheVariants.{Less, Equal, Greater}
 use Rattle.mm_order.proofs.Same.{same_refs}
 use Rattle.ttree.proofs.Taken.{absent_between, equal_is_held}
-use Rattle.ttree.proofs.removes.find_among.Goals as goal
+use Rattle.ttree.proofs.removes.find_held.Goals as goal
 
 pub returns-in_default-clause-absent : goal.returns-in_default-clause-absent
 returns-in_default-clause-absent g c held =
