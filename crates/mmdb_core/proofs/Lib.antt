@@ -5,6 +5,7 @@ pub mod DatabaseSteps
 pub mod FeedLemmas
 pub mod InOrder
 pub mod Inputs
+pub mod LawLemmas
 pub mod LongLines
 pub mod Merging
 pub mod Orderings

@@ -1,10 +1,6 @@
 pub mod Database
-pub mod Feeds
-pub mod Input
 pub mod KeyedRows
-pub mod Respond
 pub mod Run
 pub mod Scanned
 pub mod Status
-pub mod Taken
-pub mod Window
+pub mod steps
