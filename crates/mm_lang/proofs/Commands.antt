@@ -108,7 +108,7 @@ tokens_take ts (Some (Define definition)) is = limits_take (Define definition) (
 tokens_take ts (Some (Change mutation)) is = limits_take (Change mutation) (literals_of (Change mutation)) refl
 tokens_take ts (Some (Scan table)) is = limits_take (Scan table) (literals_of (Scan table)) refl
 
-takes : (line : List ℕ) → length line ≤ 4096 → is_nothing line ≡ false → takes_memory line ≡ true
+pub takes : (line : List ℕ) → length line ≤ 4096 → is_nothing line ≡ false → takes_memory line ≡ true
 takes line short some = ap reading_takes_memory (reads_command line short some) ∙ tokens_take (tokens line) (command_of (tokens line)) refl
 
 pub reads : (line : List ℕ) (r : Result Command Refusal) → length line ≤ 4096 → is_nothing line ≡ false → AnswersOrMemory (read_as (command_of (tokens line))) r → Reads line r

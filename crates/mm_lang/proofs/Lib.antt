@@ -1,5 +1,5 @@
 mod ColumnLists
-mod Commands
+pub mod Commands
 mod Fronts
 mod Lexing
 mod Literals

@@ -225,3 +225,44 @@ fn readers_are_watched(rt: HostRuntime) -> Result<(), Fail> {
     assert!(rt; !reader.failed());
     Ok(())
 }
+
+// Takes two bytes a call, after `times` interruptions in a row.
+#[derive(Drop)]
+struct Hesitant {
+    taken: Vec<u8>,
+    times: u32,
+    so_far: u32,
+}
+
+impl Write for Hesitant {
+    fn write(&mut self, buf: &[u8]) -> io::Result<usize> {
+        if self.so_far < self.times {
+            self.so_far += 1;
+            return Err(io::Error::from(io::ErrorKind::Interrupted));
+        }
+        self.so_far = 0;
+        let most = buf.len().min(2);
+        self.taken.extend_from_slice(&buf[..most])?;
+        Ok(most)
+    }
+
+    fn flush(&mut self) -> io::Result<()> {
+        Ok(())
+    }
+}
+
+#[test]
+fn interrupted_writes_are_made_again(rt: HostRuntime) {
+    for (times, taken) in [(16, b"abcdefgh".as_slice()), (17, b"")] {
+        let mut device = Hesitant {
+            taken: Vec::new(rt.alloc()),
+            times,
+            so_far: 0,
+        };
+        let mut writer = Watched::new(&mut device);
+        let put = put_all(&mut writer, b"abcdefgh");
+        assert_eq!(rt; put.is_err(), times == 17);
+        assert_eq!(rt; writer.failed(), times == 17);
+        assert_eq!(rt; device.taken.as_slice(), taken);
+    }
+}

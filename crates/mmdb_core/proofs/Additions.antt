@@ -10,7 +10,7 @@ use Rattle.mm_schema.specs.Refused.{first_refusal}
 use Rattle.mm_schema.specs.Rows.{IsInKeyOrder, column_cmp, has_twin_keys, same_in_column, table_rows_conditions}
 use Rattle.mm_value.specs.declared.refusal.Refusal.TheVariants.{DuplicateKey, TableFull}
 use Rattle.mm_schema.proofs.ChangedRows.{IsPermutation-additions, changed-additions}
-use Rattle.mmdb_core.specs.KeyedRows.{KeyedList, with_new_rows}
+use Rattle.mmdb_core.specs.steps.KeyedRows.{KeyedList, with_new_rows}
 use Rattle.mm_schema.proofs.Twins.{Row, has_twin_keys-IsPermutation, in_order_from_sorted}
 
 twins_behind : (key : ℕ) (old fresh : List Row) → has_twin_keys key fresh ≡ true → has_twin_keys key (old ++ fresh) ≡ true

@@ -21,15 +21,16 @@ use Rattle.mm_query.specs.declared.command.Command.{Command}
 use Rattle.mm_query.specs.declared.command.Command.TheVariants.{Nothing}
 use Rattle.mm_query.specs.declared.reply.Reply.{Reply}
 use Rattle.mm_query.specs.declared.reply.Reply.TheVariants.{Refused}
-use Rattle.mmdb_core.specs.Feeds.{EndsLine}
-use Rattle.mmdb_core.specs.Input.{Comes, Finds, IsLastLine, IsLine, PassesLine, StopsInLine}
-use Rattle.mmdb_core.specs.Respond.{AnswersLine, GoesOn, IsStep, MayLeadTo, PassesAnswered, Replies, RespondsTo, WritesNothing}
+use Rattle.mmdb_core.specs.steps.Feeds.{EndsLine}
+use Rattle.mmdb_core.specs.steps.Input.{Comes, Finds, IsLastLine, IsLine, PassesLine, StopsInLine}
+use Rattle.mmdb_core.specs.steps.Respond.{AnswersLine, GoesOn, IsStep, MayLeadTo, PassesAnswered, Replies, RespondsTo, WritesNothing}
 use Rattle.mmdb_core.specs.Run.{answer, is_error, outcome_of, refused_outcome}
 use Rattle.mmdb_core.specs.declared.fault.RunFault.{RunFault}
 use Rattle.mmdb_core.specs.declared.fault.RunFault.TheVariants.{Read, Write, TooLong}
 use Rattle.mmdb_core.specs.declared.input.Input.{Input}
 use Rattle.mmdb_core.specs.declared.input.Next.TheVariants.{Line}
 use Rattle.mmdb_core.proofs.Inputs.{Advances-skip, Advances-then}
+use Rattle.mmdb_core.proofs.LawLemmas.{refused_memory}
 use Rattle.mmdb_core.proofs.LongLines.{take-line}
 
 -- a text and then nothing more
@@ -93,9 +94,6 @@ sent reply read before after writes is leads = record {
   replies = record { state = refl; writes = writes; refused = is };
 }
 
--- memory refused to a line that takes it
-refused_memory : (line : List ℕ) (state : State) → takes_memory line ≡ true → answer true line state ≡ refused_outcome Memory state
-refused_memory line state takes = ap (λ b. cond b (refused_outcome Memory state) (outcome_of (reading line) state)) takes
 
 module _ {W E : Type 0} {contents : W → Option (List ℕ)} {old new : Watched W} {line : List ℕ} {before after : State} {result : Result Bool E} where
   chosen : (choice : Bool) (outcome : Outcome) → outcome ≡ answer choice line before → Replies contents old new after outcome result

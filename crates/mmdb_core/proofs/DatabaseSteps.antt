@@ -23,8 +23,8 @@ use Rattle.mm_query.specs.declared.command.Definition.TheVariants as define
 use Rattle.mm_query.specs.declared.command.Mutation.{Mutation}
 use Rattle.mm_query.proofs.Binds.{bound_pairs, bound_place}
 use Rattle.mm_query.proofs.Due.{due_by_rows, key_at_place}
-use Rattle.mmdb_core.specs.Database.{AreRowsOf, rows_of}
-use Rattle.mmdb_core.specs.KeyedRows.{KeyedList, with_new_rows}
+use Rattle.mmdb_core.specs.steps.Database.{AreRowsOf, rows_of}
+use Rattle.mmdb_core.specs.steps.KeyedRows.{KeyedList, with_new_rows}
 use Rattle.mmdb_core.proofs.RowsBeside.{AreRowsOf-push, AreRowsOf-set, as_many_rows, beside, changed_at_place, rows_at_place}
 
 -- the state of a catalog and of the rows beside its tables

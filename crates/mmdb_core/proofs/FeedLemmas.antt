@@ -4,7 +4,7 @@ use Rattle.bstr.specs.Find.{Nowhere, NoneBefore, Passes, IsFirstByte, is_byte}
 use Rattle.std.proofs.lemmas.List.{take_all, drop_more, take-append-drop}
 use Rattle.std.proofs.lemmas.Bool.{eqb-true}
 use Rattle.mm_lang.specs.Lines.{HasNoFeed}
-use Rattle.mmdb_core.specs.Feeds.{EndsLine}
+use Rattle.mmdb_core.specs.steps.Feeds.{EndsLine}
 
 -- what is not true is false
 pub is_false : (b : Bool) → (b ≡ true → ⊥) → b ≡ false

@@ -8,9 +8,9 @@ use Rattle.std.specs.Io.KnownBytes.{Keeps}
 use Rattle.mm_lang.specs.Lines.{HasNoFeed}
 use Rattle.mm_value.specs.Watched.{inner_of}
 use Rattle.mm_value.specs.declared.device.Watched.{Watched}
-use Rattle.mmdb_core.specs.Feeds.{EndsWith, LooksLike}
-use Rattle.mmdb_core.specs.Input.{Advances, Comes, Finds, StopsInLine, bytes_to_come}
-use Rattle.mmdb_core.specs.Taken.{Takes}
+use Rattle.mmdb_core.specs.steps.Feeds.{EndsWith, LooksLike}
+use Rattle.mmdb_core.specs.steps.Input.{Advances, Comes, Finds, StopsInLine, bytes_to_come}
+use Rattle.mmdb_core.specs.steps.Taken.{Takes}
 use Rattle.mmdb_core.specs.declared.fault.RunFault.{RunFault}
 use Rattle.mmdb_core.specs.declared.input.Input.{Input}
 use Rattle.mmdb_core.specs.declared.input.Next.{Next}

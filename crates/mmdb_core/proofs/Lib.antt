@@ -3,6 +3,7 @@ pub mod Answering
 pub mod DatabaseSteps
 pub mod FeedLemmas
 pub mod Inputs
+pub mod LawLemmas
 pub mod LongLines
 pub mod Merging
 pub mod Outcomes

@@ -4,8 +4,8 @@ use Rattle.std.proofs.lemmas.List.{append-nil, length-take-le}
 use Rattle.std.proofs.Math.Seq.{take-append-add}
 use Rattle.mm_lang.specs.Lines.{without_return, HasNoFeed}
 use Rattle.mm_value.specs.declared.device.Watched.{Watched}
-use Rattle.mmdb_core.specs.Feeds.{EndsLine}
-use Rattle.mmdb_core.specs.Input.{Advances, Comes, IsFault, StopsInLine}
+use Rattle.mmdb_core.specs.steps.Feeds.{EndsLine}
+use Rattle.mmdb_core.specs.steps.Input.{Advances, Comes, IsFault, StopsInLine}
 use Rattle.mmdb_core.specs.declared.fault.RunFault.{RunFault}
 use Rattle.mmdb_core.specs.declared.input.Input.{Input}
 use Rattle.mmdb_core.specs.declared.input.Next.TheVariants.{Long}

@@ -9,8 +9,8 @@ use Rattle.mm_schema.specs.Rows.{Pair, changed}
 use Rattle.mm_schema.specs.declared.table.Table.{Table}
 use Rattle.mm_schema.proofs.Instances.{AreBeside, changed_instance-others, edits_of_one, name_of, others_lack, pairs_of-other, pairs_of-own}
 use Rattle.mm_schema.proofs.Twins.{Row}
-use Rattle.mmdb_core.specs.Database.{AreRowsOf, rows_of}
-use Rattle.mmdb_core.specs.KeyedRows.{KeyedList}
+use Rattle.mmdb_core.specs.steps.Database.{AreRowsOf, rows_of}
+use Rattle.mmdb_core.specs.steps.KeyedRows.{KeyedList}
 
 -- There are as many rows as tables.
 pub as_many_rows : (ts : List Table) (rs : List KeyedList) → AreRowsOf ts rs → length rs ≡ length ts

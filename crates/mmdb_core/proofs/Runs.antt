@@ -13,8 +13,8 @@ use Rattle.mm_value.specs.Device.{AppendsPrefix}
 use Rattle.mm_value.specs.Watched.{inner_of, has_failed}
 use Rattle.mm_value.specs.declared.device.Watched.{Watched}
 use Rattle.mm_query.specs.State.{State, first_state}
-use Rattle.mmdb_core.specs.Input.{Advances, IsLine, KnowsEnd, StopsInLine, bytes_to_come}
-use Rattle.mmdb_core.specs.Respond.{GoesOn, PassesAnswered, WritesNothing}
+use Rattle.mmdb_core.specs.steps.Input.{Advances, IsLine, KnowsEnd, StopsInLine, bytes_to_come}
+use Rattle.mmdb_core.specs.steps.Respond.{GoesOn, PassesAnswered, WritesNothing}
 use Rattle.mmdb_core.specs.Run.{Answers, AnswersFront, AnswersLines, BrokeOff, TakesWithin, Transcript, answer, is_error, text_of, transcript}
 use Rattle.mmdb_core.specs.declared.fault.RunFault.{RunFault}
 use Rattle.mmdb_core.specs.declared.fault.RunFault.TheVariants.{Read, Write, TooLong}

@@ -1,9 +1,3 @@
-pub mod Database
-pub mod Feeds
-pub mod Input
-pub mod KeyedRows
-pub mod Respond
 pub mod Run
 pub mod Status
-pub mod Taken
-pub mod Window
+pub mod steps

@@ -7,7 +7,7 @@ ghost use Rattle.mm_value.specs.Device.{Writes};
 ghost use Rattle.mm_value.specs.Watched.{inner_of, has_failed};
 ghost use Rattle.mm_query.specs.declared.command.Command.TheVariants.{Define, Change, Scan};
 ghost use Rattle.mm_query.specs.declared.reply.Reply.TheVariants.{Rows};
-ghost use Rattle.mmdb_core.specs.Respond.{AnswersLine, IsStep, RespondsTo};
+ghost use Rattle.mmdb_core.specs.steps.Respond.{AnswersLine, IsStep, RespondsTo};
 ghost use Rattle.mmdb_core.specs.Run.{is_error};
 
 use crate::database::Database;

@@ -23,7 +23,7 @@ pub(crate) struct Database {
 
 impl Model for Database {
     ghost use Rattle.mm_query.specs.State.{State};
-    ghost use Rattle.mmdb_core.specs.Database.{AreRowsOf, rows_of};
+    ghost use Rattle.mmdb_core.specs.steps.Database.{AreRowsOf, rows_of};
 
     ghost Value = { State };
 

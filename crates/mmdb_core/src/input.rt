@@ -1,8 +1,8 @@
 //! The input, line by line.
 ghost use Rattle.std.specs.Prelude.{◌≡◌, ◌+◌, ◌^◌, ◌<◌, ◌≤◌, [], drop, length, true, false, IfOk, OnOk, IfErr, OnErr, MatchOption};
 ghost use Rattle.mm_lang.specs.Lines.{HasNoFeed};
-ghost use Rattle.mmdb_core.specs.Input.{fills_to_come, Advances, Comes, Finds, IsFault, StopsInLine};
-ghost use Rattle.mmdb_core.specs.Feeds.{EndsLine, EndsWith, LooksLike};
+ghost use Rattle.mmdb_core.specs.steps.Input.{fills_to_come, Advances, Comes, Finds, IsFault, StopsInLine};
+ghost use Rattle.mmdb_core.specs.steps.Feeds.{EndsLine, EndsWith, LooksLike};
 
 use crate::fault::RunFault;
 use crate::limits::Limits;

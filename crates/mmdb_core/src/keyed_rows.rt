@@ -2,7 +2,7 @@
 ghost use Rattle.std.specs.Prelude.{◌≡◌, [], OnOk, OnErr};
 ghost use Rattle.mm_schema.specs.Refused.{AnswersDue, first_refusal};
 ghost use Rattle.mm_schema.specs.Rows.{IsInKeyOrder, table_rows_conditions};
-ghost use Rattle.mmdb_core.specs.KeyedRows.{with_new_rows};
+ghost use Rattle.mmdb_core.specs.steps.KeyedRows.{with_new_rows};
 
 use crate::key_order::{is_in_key_order, meets_old_key, sort_by_column};
 use crate::merge::{add_places, merge_from_back};
@@ -22,7 +22,7 @@ pub(crate) struct KeyedRows {
 
 impl Model for KeyedRows {
     ghost use Rattle.mm_schema.specs.Rows.{IsInKeyOrder};
-    ghost use Rattle.mmdb_core.specs.KeyedRows.{KeyedList};
+    ghost use Rattle.mmdb_core.specs.steps.KeyedRows.{KeyedList};
 
     ghost Value = { KeyedList };
 

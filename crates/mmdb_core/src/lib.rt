@@ -7,12 +7,14 @@ mod fault;
 mod input;
 mod key_order;
 mod keyed_rows;
+mod laws;
 mod limits;
 mod merge;
 mod run_script;
 mod window;
 
 pub use fault::{RunFault, exit_status};
+pub use laws::{answers_follow_the_choice, commands_take_memory, runs_take_within_their_limit};
 pub use limits::{Limits, MAX_MAX_INPUT, Totals};
 pub use run_script::run;
 

@@ -1,7 +1,7 @@
 //! A run of the database over an input.
 ghost use Rattle.std.specs.Prelude.{◌≡◌, ◌↔◌, false, true, IfOk, IfErr, IfSome, IsErrOf};
 ghost use Rattle.mm_value.specs.Watched.{inner_of, has_failed};
-ghost use Rattle.mmdb_core.specs.Respond.{GoesOn};
+ghost use Rattle.mmdb_core.specs.steps.Respond.{GoesOn};
 ghost use Rattle.mmdb_core.specs.Run.{Answers, BrokeOff, TakesWithin};
 
 use crate::answer::{answer_line, send, without_return};

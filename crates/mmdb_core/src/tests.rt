@@ -28,12 +28,13 @@ impl Read for Source<'_> {
     }
 }
 
-// Takes at most `step` bytes a call and `room` in all, and then answers an error.
+// Takes at most `step` bytes a call and `room` in all, and then answers an error, or takes 0 where it `is_silent`.
 #[derive(Drop)]
 struct Sink {
     taken: Vec<u8>,
     step: usize,
     room: usize,
+    is_silent: bool,
     flushed: usize,
     flushes: usize,
 }
@@ -42,7 +43,7 @@ impl Write for Sink {
     fn write(&mut self, buf: &[u8]) -> io::Result<usize> {
         let room = self.room.saturating_sub(self.taken.len());
         let most = buf.len().min(self.step).min(room);
-        if most == 0 {
+        if most == 0 && !self.is_silent {
             return Err(io::Error::from(io::ErrorKind::BrokenPipe));
         }
         self.taken.extend_from_slice(&buf[..most])?;
@@ -53,6 +54,54 @@ impl Write for Sink {
         self.flushed = self.taken.len();
         self.flushes = self.flushes.saturating_add(1);
         Ok(())
+    }
+}
+
+// Interrupts each read or write `calls` times in a row and each flush `flushes` times, before it is done.
+#[derive(Drop)]
+struct Interrupted<D> {
+    device: D,
+    calls: u32,
+    flushes: u32,
+    so_far: u32,
+}
+
+impl<D> Interrupted<D> {
+    fn new(device: D, calls: u32, flushes: u32) -> Interrupted<D> {
+        Interrupted {
+            device,
+            calls,
+            flushes,
+            so_far: 0,
+        }
+    }
+
+    fn interrupt(&mut self, times: u32) -> io::Result<()> {
+        if self.so_far >= times {
+            self.so_far = 0;
+            return Ok(());
+        }
+        self.so_far += 1;
+        Err(io::Error::from(io::ErrorKind::Interrupted))
+    }
+}
+
+impl<R: Read> Read for Interrupted<R> {
+    fn read(&mut self, buf: &mut [u8]) -> io::Result<usize> {
+        self.interrupt(self.calls)?;
+        self.device.read(buf)
+    }
+}
+
+impl<W: Write> Write for Interrupted<W> {
+    fn write(&mut self, buf: &[u8]) -> io::Result<usize> {
+        self.interrupt(self.calls)?;
+        self.device.write(buf)
+    }
+
+    fn flush(&mut self) -> io::Result<()> {
+        self.interrupt(self.flushes)?;
+        self.device.flush()
     }
 }
 
@@ -92,6 +141,7 @@ fn run_source(alloc: Global, source: Source, room: usize, max_input: u64) -> Opt
         taken: Vec::new(alloc),
         step: source.step,
         room,
+        is_silent: false,
         flushed: 0,
         flushes: 0,
     };
@@ -207,6 +257,106 @@ fn a_failed_reader_ends_a_run(rt: HostRuntime) -> Result<(), Fail> {
         assert!(rt; matches!(ran.ended, Err(RunFault::Read)));
         assert_eq!(rt; exit_status(&ran.ended), 2);
     }
+    Ok(())
+}
+
+// A script of 21, 18 and 7 bytes a line, and its output.
+const SCRIPT: &[u8] = b"TABLE t (id INT KEY)\nINSERT t (2), (1)\nSCAN t\n";
+
+const OUTPUT: &[u8] = b"ok\nok 2\n(1)\n(2)\nrows 2\n";
+
+#[test]
+fn a_read_fault_leaves_the_replies_of_whole_lines(rt: HostRuntime) -> Result<(), Fail> {
+    for given in 0..=46 {
+        let replies = match given {
+            0..=20 => b"".as_slice(),
+            21..=38 => b"ok\n",
+            39..=45 => b"ok\nok 2\n",
+            _ => OUTPUT,
+        };
+        let left = SCRIPT.get(..given).ok_or("too far")?;
+        for step in [1, WHOLE] {
+            let breaks = true;
+            let source = Source { left, step, breaks };
+            let ran = run_source(rt.alloc(), source, WHOLE, 1_000).ok_or(NO_RUN)?;
+            assert!(rt; ran.wrote(replies), "at {given}");
+            assert!(rt; matches!(ran.ended, Err(RunFault::Read)), "at {given}");
+            assert_eq!(rt; exit_status(&ran.ended), 2);
+        }
+    }
+    Ok(())
+}
+
+#[test]
+fn a_write_fault_leaves_a_front_of_the_replies(rt: HostRuntime) -> Result<(), Fail> {
+    for room in 0..23 {
+        let front = OUTPUT.get(..room).ok_or("too far")?;
+        for step in [1, WHOLE] {
+            let breaks = false;
+            let source = Source {
+                left: SCRIPT,
+                step,
+                breaks,
+            };
+            let ran = run_source(rt.alloc(), source, room, 1_000).ok_or(NO_RUN)?;
+            assert!(rt; ran.wrote(front), "at {room}");
+            assert!(rt; matches!(ran.ended, Err(RunFault::Write)), "at {room}");
+            assert_eq!(rt; exit_status(&ran.ended), 2);
+        }
+    }
+    Ok(())
+}
+
+#[test]
+fn a_writer_that_takes_nothing_ends_a_run(rt: HostRuntime) -> Result<(), Fail> {
+    let mut sink = Sink {
+        taken: Vec::new(rt.alloc()),
+        step: WHOLE,
+        room: 4,
+        is_silent: true,
+        flushed: 0,
+        flushes: 0,
+    };
+    let limits = Limits::new(1_000).ok_or(NO_RUN)?;
+    let mut reader = Watched::new(SCRIPT);
+    let mut writer = Watched::new(&mut sink);
+    let ended = run(rt.alloc(), &mut reader, &mut writer, limits);
+    assert!(rt; matches!(ended, Err(RunFault::Write)));
+    assert_eq!(rt; sink.taken.as_slice(), b"ok\no".as_slice());
+    Ok(())
+}
+
+// A run whose reads, writes and flushes are each interrupted so many times in a row.
+fn run_interrupted(alloc: Global, reads: u32, writes: u32, flushes: u32) -> Option<Ran> {
+    let limits = Limits::new(1_000)?;
+    let mut sink = Sink {
+        taken: Vec::new(alloc),
+        step: 2,
+        room: WHOLE,
+        is_silent: false,
+        flushed: 0,
+        flushes: 0,
+    };
+    let mut reader = Watched::new(Interrupted::new(SCRIPT, reads, 0));
+    let mut writer = Watched::new(Interrupted::new(&mut sink, writes, flushes));
+    let ended = run(alloc, &mut reader, &mut writer, limits);
+    Some(Ran { ended, sink })
+}
+
+#[test]
+fn interrupted_calls_are_made_again(rt: HostRuntime) -> Result<(), Fail> {
+    let borne = run_interrupted(rt.alloc(), 16, 16, 16).ok_or(NO_RUN)?;
+    assert!(rt; borne.wrote(OUTPUT));
+    assert!(rt; borne.counted(3, 0));
+    let unread = run_interrupted(rt.alloc(), 17, 0, 0).ok_or(NO_RUN)?;
+    assert!(rt; unread.wrote(b""));
+    assert!(rt; matches!(unread.ended, Err(RunFault::Read)));
+    let unwritten = run_interrupted(rt.alloc(), 0, 17, 0).ok_or(NO_RUN)?;
+    assert!(rt; unwritten.wrote(b""));
+    assert!(rt; matches!(unwritten.ended, Err(RunFault::Write)));
+    let unflushed = run_interrupted(rt.alloc(), 0, 0, 17).ok_or(NO_RUN)?;
+    assert!(rt; unflushed.wrote(b"ok\n"));
+    assert!(rt; matches!(unflushed.ended, Err(RunFault::Write)));
     Ok(())
 }
 

@@ -2,7 +2,7 @@
 ghost use Rattle.std.specs.Prelude.{◌≡◌, ◌-◌, ◌<◌, ◌≤◌, [], length, take, drop, false, true, IfOk, OnOk, OnErr};
 ghost use Rattle.std.specs.Io.KnownBytes.{Keeps};
 ghost use Rattle.mm_value.specs.Watched.{inner_of, has_failed};
-ghost use Rattle.mmdb_core.specs.Taken.{Takes};
+ghost use Rattle.mmdb_core.specs.steps.Taken.{Takes};
 
 use mm_value::Watched;
 use std::io;
@@ -25,7 +25,7 @@ pub(crate) struct Window {
 
 impl Model for Window {
     ghost use Rattle.std.specs.Prelude.{slice_range, ◌-◌, ◌≤◌};
-    ghost use Rattle.mmdb_core.specs.Window.{Held};
+    ghost use Rattle.mmdb_core.specs.steps.Window.{Held};
 
     ghost Value = { Held };
 

@@ -6,7 +6,7 @@ use Rattle.mm_query.specs.Machine.{Outcome}
 use Rattle.mm_query.specs.State.{State}
 use Rattle.mm_query.specs.declared.reply.Reply.{Reply}
 use Rattle.mm_query.specs.declared.reply.Reply.TheVariants.{Refused}
-use Rattle.mmdb_core.specs.Respond.{MayLeadTo}
+use Rattle.mmdb_core.specs.steps.Respond.{MayLeadTo}
 use Rattle.mmdb_core.proofs.Answering.{leads_step, sent}
 use Rattle.mmdb_core.proofs.answer.respond.Goals as goal
 use Rattle.mmdb_core.proofs.answer.respond.Goals.{in-Ok-Define, in-Ok-Change, in-Err}

@@ -1,7 +1,7 @@
 use Rattle.std.proofs.Common.{◌≡◌, take, ap, subst, ◌∙◌}
 use Rattle.mm_lang.specs.Lines.{without_return}
-use Rattle.mmdb_core.specs.Input.{Comes}
-use Rattle.mmdb_core.specs.Respond.{AnswersLine, GoesOn, PassesAnswered}
+use Rattle.mmdb_core.specs.steps.Input.{Comes}
+use Rattle.mmdb_core.specs.steps.Respond.{AnswersLine, GoesOn, PassesAnswered}
 use Rattle.mmdb_core.proofs.Answering.{answered_goes_on, answers_long, goes_on_of, passed_as, passes_first}
 use Rattle.mmdb_core.proofs.run_script.answer_next.Goals as goal
 use Rattle.mmdb_core.proofs.run_script.answer_next.Goals.{in-Long, in-Line}

@@ -1,7 +1,7 @@
 use Rattle.std.proofs.Common.{Ok, Err, ap, subst, ◌∙◌}
 use Rattle.std.proofs.lemmas.Result.{err_from_is_err_and}
 use Rattle.mm_value.specs.Watched.{inner_of}
-use Rattle.mmdb_core.specs.Respond.{GoesOn}
+use Rattle.mmdb_core.specs.steps.Respond.{GoesOn}
 use Rattle.mmdb_core.specs.Run.{BrokeOff}
 use Rattle.mmdb_core.specs.declared.fault.RunFault.{RunFault}
 use Rattle.mmdb_core.proofs.Inputs.{at-fault}

@@ -1,4 +1,4 @@
-use Rattle.mmdb_core.specs.Input.{bytes_to_come}
+use Rattle.mmdb_core.specs.steps.Input.{bytes_to_come}
 use Rattle.mmdb_core.proofs.Runs.{Running}
 use Rattle.mmdb_core.proofs.run_script.run.Given as goal
 

@@ -6,7 +6,7 @@ use Rattle.mm_schema.specs.Schema.{Schema, table_conditions}
 use Rattle.mm_query.specs.Machine.{after_definition}
 use Rattle.mm_query.specs.State.{State}
 use Rattle.mm_query.specs.declared.command.Definition.TheVariants as define
-use Rattle.mmdb_core.specs.Database.{AreRowsOf}
+use Rattle.mmdb_core.specs.steps.Database.{AreRowsOf}
 use Rattle.mmdb_core.proofs.DatabaseSteps.{rows_added, state_of, table_added}
 use Rattle.mmdb_core.proofs.database.Database.add_table.Goals as goal
 use Rattle.mmdb_core.proofs.database.Database.add_table.Goals.{After-unwrap}

@@ -1,5 +1,5 @@
 use Rattle.std.proofs.Common.{[]}
-use Rattle.mmdb_core.specs.Input.{Advances, fills_to_come}
+use Rattle.mmdb_core.specs.steps.Input.{Advances, fills_to_come}
 use Rattle.mmdb_core.proofs.input.Input.find_line.Given as goal
 
 abbrev pub invariant-loop-next : goal.invariant-loop-next

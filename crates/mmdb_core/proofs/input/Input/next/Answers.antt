@@ -1,6 +1,6 @@
 use Rattle.std.proofs.Common.{subst, sym}
 use Rattle.std.proofs.lemmas.Result.{err_from_is_err_and}
-use Rattle.mmdb_core.specs.Input.{Comes, StopsInLine}
+use Rattle.mmdb_core.specs.steps.Input.{Comes, StopsInLine}
 use Rattle.mmdb_core.proofs.Inputs.{at-fault, long-then, stops-then}
 use Rattle.mmdb_core.proofs.input.Input.next.Goals as goal
 

@@ -1,8 +1,8 @@
 use Rattle.std.proofs.Common.{◌≡◌, true, rules, subst}
 use Rattle.std.proofs.lemmas.Result.{err_from_is_err_and}
 use Rattle.mm_lang.specs.Lines.{HasNoFeed}
-use Rattle.mmdb_core.specs.Feeds.{EndsLine}
-use Rattle.mmdb_core.specs.Input.{StopsInLine}
+use Rattle.mmdb_core.specs.steps.Feeds.{EndsLine}
+use Rattle.mmdb_core.specs.steps.Input.{StopsInLine}
 use Rattle.mmdb_core.proofs.Inputs.{at-fault}
 use Rattle.mmdb_core.proofs.LongLines.{Drops-feed, Drops-last, Drops-more, Drops-stops}
 use Rattle.mmdb_core.proofs.input.Input.skip_line.Goals as goal

@@ -1,4 +1,4 @@
-use Rattle.mmdb_core.specs.Input.{fills_to_come}
+use Rattle.mmdb_core.specs.steps.Input.{fills_to_come}
 use Rattle.mmdb_core.proofs.LongLines.{Drops}
 use Rattle.mmdb_core.proofs.input.Input.skip_line.Given as goal
 

@@ -7,7 +7,7 @@ use Rattle.std.proofs.lemmas.List.Sorted.{length_permutation}
 use Rattle.mm_schema.specs.Refused.{first_refusal}
 use Rattle.mm_schema.specs.Rows.{IsInKeyOrder, has_twin_keys, table_rows_conditions}
 use Rattle.mm_value.specs.declared.refusal.Refusal.TheVariants.{DuplicateKey, TableFull}
-use Rattle.mmdb_core.specs.KeyedRows.{KeyedList, with_new_rows}
+use Rattle.mmdb_core.specs.steps.KeyedRows.{KeyedList, with_new_rows}
 use Rattle.mmdb_core.proofs.Additions.{twins_from_disorder, tested_twins, items_of_sorted, due-duplicate, due-full, due-none, with_new_rows-is}
 use Rattle.mmdb_core.proofs.keyed_rows.KeyedRows.add_all.Goals as goal
 use Rattle.mmdb_core.proofs.keyed_rows.KeyedRows.add_all.Goals.{then-not-is_in_key_order-via-then-not-is_in_key_order, then-not-is_in_key_order-via-else-not-is_in_key_order+then-meets_old_key}

@@ -1,5 +1,5 @@
 use Rattle.std.proofs.Common.{drop, ap, ◌∙◌}
-use Rattle.mmdb_core.specs.Window.{Held}
+use Rattle.mmdb_core.specs.steps.Window.{Held}
 use Rattle.mmdb_core.proofs.Windows.{window_skipped}
 use Rattle.mmdb_core.proofs.window.Window.skip.Goals as goal
 

@@ -1,5 +1,5 @@
 use Rattle.std.proofs.Common.{◌+◌, ◌-◌, ◌++◌, take, ap, ◌∙◌, sym, arith}
-use Rattle.mmdb_core.specs.Window.{Held}
+use Rattle.mmdb_core.specs.steps.Window.{Held}
 use Rattle.mmdb_core.proofs.Windows.{window_grown, window_written}
 use Rattle.mmdb_core.proofs.Outcomes.{on_err_always}
 use Rattle.mmdb_core.proofs.window.Window.take_into_room.Goals as goal

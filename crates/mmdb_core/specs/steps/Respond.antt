@@ -11,7 +11,7 @@ use Rattle.mm_value.specs.declared.refusal.Refusal.TheVariants.{Memory}
 use Rattle.mm_query.specs.Machine.{Outcome, step}
 use Rattle.mm_query.specs.State.{State}
 use Rattle.mm_query.specs.declared.command.Command.{Command}
-use Rattle.mmdb_core.specs.Input.{Advances, Finds, PassesLine, StopsInLine}
+use Rattle.mmdb_core.specs.steps.Input.{Advances, Finds, PassesLine, StopsInLine}
 use Rattle.mmdb_core.specs.Run.{answer, is_error, refused_outcome, text_of}
 use Rattle.mmdb_core.specs.declared.fault.RunFault.{RunFault}
 use Rattle.mmdb_core.specs.declared.fault.RunFault.TheVariants.{Read, Write, TooLong}

@@ -3,7 +3,7 @@ use Rattle.std.specs.Prelude.{◌≡◌, List, [], ◌∷◌, map}
 use Rattle.mm_schema.specs.Columns.{key_place}
 use Rattle.mm_schema.specs.Instance.{Instance}
 use Rattle.mm_schema.specs.declared.table.Table.{Table}
-use Rattle.mmdb_core.specs.KeyedRows.{KeyedList}
+use Rattle.mmdb_core.specs.steps.KeyedRows.{KeyedList}
 
 -- The rows of each table.
 abbrev pub rows_of : List KeyedList → Instance

@@ -4,7 +4,7 @@ use Rattle.std.specs.Io.KnownBytes.{Consumes, IsAtEnd}
 use Rattle.mm_lang.specs.Lines.{without_return, HasNoFeed}
 use Rattle.mm_value.specs.Watched.{inner_of, has_failed}
 use Rattle.mm_value.specs.declared.device.Watched.{Watched}
-use Rattle.mmdb_core.specs.Feeds.{EndsLine}
+use Rattle.mmdb_core.specs.steps.Feeds.{EndsLine}
 use Rattle.mmdb_core.specs.declared.fault.RunFault.{RunFault}
 use Rattle.mmdb_core.specs.declared.fault.RunFault.TheVariants.{Read, Write, TooLong}
 use Rattle.mmdb_core.specs.declared.input.Input.{Input}

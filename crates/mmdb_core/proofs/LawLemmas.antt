@@ -1,0 +1,46 @@
+-- What the definitions of a run come to.
+use Rattle.std.proofs.Common.{◌≡◌, ℕ, ◌+◌, ◌<◌, ◌≤◌, Bool, true, false, cond, ltb, List, ◌++◌, length, Option, Some, None, Result, Ok, Err, refl, sym, ap, subst, ◌∙◌, arith, length-append}
+use Rattle.std.specs.Io.KnownBytes.{Consumes}
+use Rattle.mm_lang.proofs.Commands.{reads_long}
+use Rattle.mm_lang.specs.Grammar.{command_of}
+use Rattle.mm_lang.specs.Reading.{is_nothing, read_as, reading, reading_takes_memory, takes_memory}
+use Rattle.mm_lang.specs.Tokens.{tokens}
+use Rattle.mm_value.specs.declared.refusal.Refusal.{Refusal}
+use Rattle.mm_value.specs.declared.refusal.Refusal.TheVariants.{LineTooLong, Memory}
+use Rattle.mm_query.specs.State.{State}
+use Rattle.mm_query.specs.declared.command.Command.{Command}
+use Rattle.mm_query.specs.declared.command.Command.TheVariants.{Nothing}
+use Rattle.mmdb_core.specs.Run.{answer, outcome_of, refused_outcome}
+
+-- memory refused to a line that takes it
+pub refused_memory : (line : List ℕ) (state : State) → takes_memory line ≡ true → answer true line state ≡ refused_outcome Memory state
+refused_memory line state takes = ap (λ b. cond b (refused_outcome Memory state) (outcome_of (reading line) state)) takes
+
+-- and to one that takes none
+not_refused : (line : List ℕ) (state : State) (choice : Bool) → takes_memory line ≡ false → answer choice line state ≡ outcome_of (reading line) state
+not_refused line state true none = ap (λ b. cond b (refused_outcome Memory state) (outcome_of (reading line) state)) none
+not_refused line state false none = refl
+
+pub same_answer : (line : List ℕ) (state : State) (a b : Bool) → takes_memory line ≡ false → answer a line state ≡ answer b line state
+same_answer line state a b none = not_refused line state a none ∙ sym (not_refused line state b none)
+
+pub long_takes_none : (line : List ℕ) → 4096 < length line → takes_memory line ≡ false
+long_takes_none line long = ap reading_takes_memory (reads_long line long)
+
+pub nothing_takes_none : (line : List ℕ) → is_nothing line ≡ true → takes_memory line ≡ false
+unfolding reading
+nothing_takes_none line nothing =
+    ap (λ b. reading_takes_memory (cond (ltb 4096 (length line)) (Err LineTooLong) (cond b (Ok Nothing) (read_as (command_of (tokens line)))))) nothing ∙ either (ltb 4096 (length line))
+  where
+    either : (is_long : Bool) → reading_takes_memory (cond is_long (Err LineTooLong) (Ok Nothing)) ≡ false
+    either true = refl
+    either false = refl
+
+pub taken_within : (before after : Option (List ℕ)) (input left taken : List ℕ) (limit : ℕ) → before ≡ Some input → after ≡ Some left
+    → Consumes before after taken → length taken ≤ limit + 1 → length input ≤ length left + (limit + 1)
+taken_within None after input left taken limit p q consumed within = absurd (let clash : ◌≡◌ {A = Option (List ℕ)} None (Some input) = p in cc)
+taken_within (Some xs) None input left taken limit p q consumed within = absurd consumed
+taken_within (Some xs) (Some ys) input left taken limit p q consumed within =
+    let same_xs : xs ≡ input = cc in
+    let same_ys : ys ≡ left = cc in
+    omega (arith, ap length same_xs, ap length same_ys, ap length consumed, length-append taken ys, within)

@@ -1,0 +1,8 @@
+-- What the steps of a run do. They say how the pieces of the code fit together, and not what is promised.
+pub mod Database
+pub mod Feeds
+pub mod Input
+pub mod KeyedRows
+pub mod Respond
+pub mod Taken
+pub mod Window

@@ -1,0 +1,44 @@
+//! Laws of the definitions that the contract of a run speaks of.
+ghost use Rattle.std.specs.Prelude.{◌≡◌, ◌+◌, ◌<◌, ◌≤◌, ℕ, Bool, true, false, List, length, Some, Result, IsErrOf};
+ghost use Rattle.mm_lang.specs.Reading.{is_nothing, reading, takes_memory};
+ghost use Rattle.mm_query.specs.State.{State};
+ghost use Rattle.mm_query.specs.declared.reply.Reply.TheVariants.{Refused};
+ghost use Rattle.mm_value.specs.Watched.{inner_of, has_failed};
+ghost use Rattle.mm_value.specs.declared.refusal.Refusal.TheVariants.{Memory};
+ghost use Rattle.mmdb_core.specs.Run.{answer, outcome_of, TakesWithin};
+
+use crate::fault::RunFault;
+use crate::limits::{Limits, Totals};
+use mm_value::Watched;
+use std::io::{Read, Write};
+
+/// What a line is answered: with memory, what its reading leads to; without, `error 90` where it takes memory, and then
+/// nothing changes. A line that takes none is answered the same either way.
+pub fn answers_follow_the_choice()
+    ensures granted { (line : List ℕ) (state : State) → answer false line state ≡ outcome_of (reading line) state }
+    ensures refused { (line : List ℕ) (state : State) → takes_memory line ≡ true
+        → answer true line state ≡ record { reply = Some (Refused Memory); state = state } }
+    ensures untouched { (line : List ℕ) (state : State) (a b : Bool) → takes_memory line ≡ false
+        → answer a line state ≡ answer b line state }
+{}
+
+/// Just these lines take no memory: those that are too long, empty lines and comments.
+pub fn commands_take_memory()
+    ensures long { (line : List ℕ) → 4096 < length line → takes_memory line ≡ false }
+    ensures nothing { (line : List ℕ) → is_nothing line ≡ true → takes_memory line ≡ false }
+    ensures others { (line : List ℕ) → length line ≤ 4096 → is_nothing line ≡ false → takes_memory line ≡ true }
+{}
+
+/// Of a reader whose bytes are known, a run takes at most one byte more than its limit, and that one only where the input
+/// is too long.
+pub fn runs_take_within_their_limit<R: Read, W: Write>(
+    _before: &Watched<R>,
+    _after: &Watched<R>,
+    _writer: &Watched<W>,
+    _limits: Limits,
+    _ended: &Result<Totals, RunFault>,
+)
+    ensures { (input left : List ℕ) → R.remaining (inner_of _before.now) ≡ Some input → R.remaining (inner_of _after.now) ≡ Some left
+        → TakesWithin R.remaining _before.now _after.now _limits (IsErrOf _ended.now RunFault.TooLong) (has_failed _writer.now ≡ false)
+        → length input ≤ length left + (_limits + 1) }
+{}
