@@ -7,7 +7,8 @@ use Rattle.std.proofs.Math.Seq.{take-append-add}
 use borrow.Rule.Slice.PartMut.{put_mid, post_of}
 
 -- n more bytes than were between the places
-pub window_grown : (xs ys : List ℕ) (s e k n : ℕ) → s ≤ e → e ≤ length xs → n ≤ length ys → slice_range (put_mid e k xs ys) s (e + n) ≡ slice_range xs s e ++ take n ys
+pub window_grown : (xs ys : List ℕ) (s e k n : ℕ) → s ≤ e → e ≤ length xs → n ≤ length ys
+    → slice_range (put_mid e k xs ys) s (e + n) ≡ slice_range xs s e ++ take n ys
 window_grown xs ys s e k n s_e e_x n_y =
     let front : length (take e xs) ≡ e = length-take-le e xs e_x in
     let s_front : s ≤ length (take e xs) = omega arith in
