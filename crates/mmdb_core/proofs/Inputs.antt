@@ -115,7 +115,14 @@ module _ {R : Type 0} {remaining : R → Option (List ℕ)} where
   -- each byte that is gone comes no more
   pub Advances-nearer : {r s : Watched R} {a b : Input} {gone : List ℕ} → Advances remaining r s a b gone → bytes_to_come b + length gone ≤ bytes_to_come a
   Advances-nearer {r} {s} {a} {b} {gone} h =
-      omega (arith, ap length h.kept, length-append a.window.bytes (take (a.still - 1) h.given), length-append gone b.window.bytes, length-take (a.still - 1) h.given, h.counted)
+      omega (
+        arith,
+        ap length h.kept,
+        length-append a.window.bytes (take (a.still - 1) h.given),
+        length-append gone b.window.bytes,
+        length-take (a.still - 1) h.given,
+        h.counted,
+      )
 
 -- an input that breaks off, after it was filled
 pub stops-then : {R : Type 0} {remaining : R → Option (List ℕ)} {r s t : Watched R} {a b c : Input} {fault : RunFault} → Advances remaining r s a b []

@@ -31,11 +31,13 @@ one_if is_refused = if is_refused then 1 else 0
 -- The machine's run over the lines answered: whatever lines follow, their run goes on behind this text from this state.
 pub record Transcribed (answered : List (List ℕ)) (state : State) (text : List ℕ) (refused : ℕ) : Type 0 where
   pub each : (rest : List Bool) (left : List (List ℕ)) → (choices : List Bool)
-      × (transcript choices first_state (answered ++ left) ≡ record { text = text ++ (transcript rest state left).text; refused = refused + (transcript rest state left).refused })
+      × (transcript choices first_state (answered ++ left)
+      ≡ record { text = text ++ (transcript rest state left).text; refused = refused + (transcript rest state left).refused })
 
 transcribed_none : Transcribed [] first_state [] 0
 transcribed_none = record {
-  each = λ rest left. (rest, ap (λ n. record { text = (transcript rest first_state left).text; refused = n }) (sym (zero-add (transcript rest first_state left).refused)));
+  each = λ rest left. let run = transcript rest first_state left in
+      (rest, ap (λ n. record { text = run.text; refused = n }) (sym (zero-add run.refused)));
 }
 
 one_more : (written text more : List ℕ) (refused one others : ℕ)
@@ -55,7 +57,8 @@ transcribed_line answered line state text refused choice so_far = record {
       let others = transcript rest (answer choice line state).state left in (
         run.0,
         ap (transcript run.0 first_state) (append_assoc answered (line ∷ []) left)
-            ∙ (run.1 ∙ one_more text (text_of (answer choice line state).reply) others.text refused (one_if (is_error (answer choice line state).reply)) others.refused),
+            ∙ (run.1
+            ∙ one_more text (text_of (answer choice line state).reply) others.text refused (one_if (is_error (answer choice line state).reply)) others.refused),
       );
 }
 
@@ -274,8 +277,10 @@ module _ {R W : Type 0} {remaining : R → Option (List ℕ)} {contents : W → 
         choices = run.0;
         written = subst (λ ls. AppendsPrefix (contents (inner_of writer)) (contents (inner_of more)) (transcript run.0 first_state ls).text) (sym lines)
             (subst (AppendsPrefix (contents (inner_of writer)) (contents (inner_of more))) (sym (ap (λ (t : Transcript). t.text) run.1))
-            (AppendsPrefix-first (contents (inner_of writer)) (contents (inner_of more)) (so_far.text ++ text_of outcome.reply) (transcript [] outcome.state others).text
-            (AppendsPrefix-second (contents (inner_of writer)) (contents (inner_of written)) (contents (inner_of more)) so_far.text (text_of outcome.reply) so_far.appends h.answers.replies.writes.written)));
+            (AppendsPrefix-first (contents (inner_of writer)) (contents (inner_of more)) (so_far.text ++ text_of outcome.reply)
+            (transcript [] outcome.state others).text
+            (AppendsPrefix-second (contents (inner_of writer)) (contents (inner_of written)) (contents (inner_of more)) so_far.text
+            (text_of outcome.reply) so_far.appends h.answers.replies.writes.written)));
       }
 
   -- a step of a run

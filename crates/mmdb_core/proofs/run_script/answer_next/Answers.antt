@@ -33,7 +33,8 @@ returns-in-Ok g c =
             passes =
                 passes_first w.in-Line.len w.in-Line.step (subst comes w.in-Line.is c.in_ok-next.ensures.comes) w.skip.ensures.window w.skip.ensures.still
                 w.skip.ensures.ended;
-            answers = subst (λ line. RepliesToLine contents c.args.writer.now w.answer_line-answered.new.writer line c.args.database.now w.answer_line-answered.new.database w.answer_line-answered.result) line_is
+            answers = subst (λ line. RepliesToLine contents c.args.writer.now w.answer_line-answered.new.writer line c.args.database.now
+                w.answer_line-answered.new.database w.answer_line-answered.result) line_is
                 w.answer_line-answered.ensures;
           }))
     ] in
@@ -66,7 +67,8 @@ returns-in-Err g c =
             passes =
                 passes_first w.in-Line.len w.in-Line.step (subst comes w.in-Line.is c.in_ok-next.ensures.comes) w.skip.ensures.window w.skip.ensures.still
                 w.skip.ensures.ended;
-            answers = subst (λ line. RepliesToLine contents c.args.writer.now w.answer_line-answered.new.writer line c.args.database.now w.answer_line-answered.new.database w.answer_line-answered.result) line_is
+            answers = subst (λ line. RepliesToLine contents c.args.writer.now w.answer_line-answered.new.writer line c.args.database.now
+                w.answer_line-answered.new.database w.answer_line-answered.result) line_is
                 w.answer_line-answered.ensures;
           }))
     ] in

@@ -54,9 +54,12 @@ returns-in_err-is_refused-clause-write g c =
 pub returns-in_err-is_refused-clause-broke_off : goal.returns-in_err-is_refused-clause-broke_off
 returns-in_err-is_refused-clause-broke_off g c =
     let p = err_from_is_err_and c.from_residual.result c.from_residual.ensures.1 in
-    at-fault (BrokeOff g.R.Read.remaining c.args.reader.now c.answer_next.new.reader c.args.limits (g.W.Write.contents (inner_of c.args.writer.now)) (g.W.Write.contents (inner_of c.answer_next.new.writer)))
+    at-fault
+    (BrokeOff g.R.Read.remaining c.args.reader.now c.answer_next.new.reader c.args.limits (g.W.Write.contents (inner_of c.args.writer.now))
+    (g.W.Write.contents (inner_of c.answer_next.new.writer)))
     c.from_residual.result c.in_err-is_refused.field-0.0 p.0 p.1 p.2
-    (broke_off c.loop-database.invariant c.answer_next.new.reader c.answer_next.new.input c.answer_next.new.database c.answer_next.new.writer c.in_err-is_refused.field-0.0 c.in_err-is_refused.ensures)
+    (broke_off c.loop-database.invariant c.answer_next.new.reader c.answer_next.new.input c.answer_next.new.database c.answer_next.new.writer
+    c.in_err-is_refused.field-0.0 c.in_err-is_refused.ensures)
 
 pub returns-clause-answers : goal.returns-clause-answers
 returns-clause-answers g c =
