@@ -19,12 +19,14 @@ twins_behind key (o ∷ old) fresh twins =
     or_right (list_any (same_in_column key o) (old ++ fresh)) (has_twin_keys key (old ++ fresh)) (twins_behind key old fresh twins)
 
 -- sorted rows that aren't strictly in order have twins
-pub twins_from_disorder : (key : ℕ) (old sorted : List Row) → IsSorted (column_cmp key) sorted → (IsInKeyOrder key sorted → ⊥) → has_twin_keys key (old ++ sorted) ≡ true
+pub twins_from_disorder : (key : ℕ) (old sorted : List Row) → IsSorted (column_cmp key) sorted → (IsInKeyOrder key sorted → ⊥)
+    → has_twin_keys key (old ++ sorted) ≡ true
 twins_from_disorder key old sorted order disorder =
     twins_behind key old sorted (true_from_ne_false (has_twin_keys key sorted) (λ none. disorder (in_order_from_sorted key sorted order none)))
 
 -- what a test of two slices told of the lists in them
-pub tested_twins : (key : ℕ) (old fresh old_read fresh_read : List Row) (answer : Bool) → old_read ≡ old → fresh_read ≡ fresh → answer ≡ has_twin_keys key (old_read ++ fresh_read) → has_twin_keys key (old ++ fresh) ≡ answer
+pub tested_twins : (key : ℕ) (old fresh old_read fresh_read : List Row) (answer : Bool) → old_read ≡ old → fresh_read ≡ fresh
+    → answer ≡ has_twin_keys key (old_read ++ fresh_read) → has_twin_keys key (old ++ fresh) ≡ answer
 tested_twins key old fresh old_read fresh_read answer old_is fresh_is tested =
     sym (tested ∙ ap (λ xs. has_twin_keys key (xs ++ fresh_read)) old_is ∙ ap (λ xs. has_twin_keys key (old ++ xs)) fresh_is)
 
@@ -37,7 +39,8 @@ module _ (keyed : KeyedList) (fresh sorted : List Row) (moved : IsPermutation fr
   -- the old rows and the sorted new ones are those after the change, in another order
   same_rows : IsPermutation (keyed.rows ++ sorted) (with_new_rows fresh keyed).rows
   same_rows =
-      IsPermutation-trans _ _ _ (IsPermutation-append_right keyed.rows sorted fresh (IsPermutation-sym _ _ moved)) (IsPermutation-additions keyed.key fresh keyed.rows)
+      IsPermutation-trans _ _ _ (IsPermutation-append_right keyed.rows sorted fresh (IsPermutation-sym _ _ moved))
+      (IsPermutation-additions keyed.key fresh keyed.rows)
 
   same_twins : has_twin_keys keyed.key (with_new_rows fresh keyed).rows ≡ has_twin_keys keyed.key (keyed.rows ++ sorted)
   same_twins = sym (has_twin_keys-IsPermutation keyed.key _ _ same_rows)
@@ -45,7 +48,8 @@ module _ (keyed : KeyedList) (fresh sorted : List Row) (moved : IsPermutation fr
   same_count : length (with_new_rows fresh keyed).rows ≡ length keyed.rows + length sorted
   same_count = length_permutation _ _ same_rows ∙ length-append keyed.rows sorted
 
-  pub due-duplicate : has_twin_keys keyed.key (keyed.rows ++ sorted) ≡ true → first_refusal (table_rows_conditions keyed.key (with_new_rows fresh keyed).rows) ≡ Some DuplicateKey
+  pub due-duplicate : has_twin_keys keyed.key (keyed.rows ++ sorted) ≡ true
+      → first_refusal (table_rows_conditions keyed.key (with_new_rows fresh keyed).rows) ≡ Some DuplicateKey
   due-duplicate twins = cond-true _ _ _ (same_twins ∙ twins)
 
   pub due-full : has_twin_keys keyed.key (keyed.rows ++ sorted) ≡ false → 1048576 < length keyed.rows + length sorted
@@ -63,4 +67,5 @@ module _ (keyed : KeyedList) (fresh sorted : List Row) (moved : IsPermutation fr
       → with_new_rows fresh keyed ≡ record keyed { rows = merged }
   with_new_rows-is merged old_order merges order =
       ap (λ rows. record keyed { rows = rows })
-      (changed-additions keyed.key fresh keyed.rows merged old_order (IsPermutation-trans _ _ _ (IsPermutation-append_right keyed.rows fresh sorted moved) merges) order)
+      (changed-additions keyed.key fresh keyed.rows merged old_order
+      (IsPermutation-trans _ _ _ (IsPermutation-append_right keyed.rows fresh sorted moved) merges) order)

@@ -23,7 +23,7 @@ use Rattle.mm_query.specs.declared.reply.Reply.{Reply}
 use Rattle.mm_query.specs.declared.reply.Reply.TheVariants.{Refused}
 use Rattle.mmdb_core.specs.steps.Feeds.{EndsLine}
 use Rattle.mmdb_core.specs.steps.Input.{Comes, Finds, IsLastLine, IsLine, PassesLine, StopsInLine}
-use Rattle.mmdb_core.specs.steps.Respond.{AnswersLine, GoesOn, IsStep, MayLeadTo, PassesAnswered, Replies, RespondsTo, WritesNothing}
+use Rattle.mmdb_core.specs.steps.Respond.{RepliesToLine, GoesOn, IsStep, MayLeadTo, PassesReplied, Replies, RepliesToReading, WritesNothing}
 use Rattle.mmdb_core.specs.Run.{answer, is_error, outcome_of, refused_outcome}
 use Rattle.mmdb_core.specs.declared.fault.RunFault.{RunFault}
 use Rattle.mmdb_core.specs.declared.fault.RunFault.TheVariants.{Read, Write, TooLong}
@@ -42,7 +42,8 @@ appends_keeps (Some x) (Some y) (Some z) text h k = k ∙ h
 
 -- a text and then a flush, whatever that answers
 pub writes_flushed : {W S T D E : Type 0} {contents : W → Option (List ℕ)} {old mid new : Watched W} {v : S} (result : Result T E) (text : List ℕ)
-    → Writes {E = D} contents old mid (Ok v) text → Keeps (contents (inner_of mid)) (contents (inner_of new)) → has_failed new ≡ is_err result → Writes contents old new result text
+    → Writes {E = D} contents old mid (Ok v) text → Keeps (contents (inner_of mid)) (contents (inner_of new)) → has_failed new ≡ is_err result → Writes contents
+    old new result text
 writes_flushed {contents = contents} {old} {mid} {new} (Ok w) text writes kept failed = record {
   written = appends_keeps (contents (inner_of old)) (contents (inner_of mid)) (contents (inner_of new)) text writes.written kept;
   failed = failed;
@@ -85,9 +86,10 @@ without_return-last (a ∷ c ∷ front) b = ap (λ rest. a ∷ rest) (without_re
     after_more false = refl
 
 -- a reply that was sent answers what may lead to it
-pub sent : {W E : Type 0} {contents : W → Option (List ℕ)} {old new : Watched W} {result : Result Bool E} (reply : Reply) (read : Result Command Refusal) (before after : State)
+pub sent : {W E : Type 0} {contents : W → Option (List ℕ)} {old new : Watched W} {result : Result Bool E} (reply : Reply) (read : Result Command Refusal)
+    (before after : State)
     → Writes contents old new result (reply_text reply) → IfOk result (λ refused. refused ≡ is_error (Some reply))
-    → MayLeadTo read before (record { reply = Some reply; state = after }) → RespondsTo contents old new read before after result
+    → MayLeadTo read before (record { reply = Some reply; state = after }) → RepliesToReading contents old new read before after result
 sent reply read before after writes is leads = record {
   outcome = record { reply = Some reply; state = after };
   leads = leads;
@@ -97,11 +99,11 @@ sent reply read before after writes is leads = record {
 
 module _ {W E : Type 0} {contents : W → Option (List ℕ)} {old new : Watched W} {line : List ℕ} {before after : State} {result : Result Bool E} where
   chosen : (choice : Bool) (outcome : Outcome) → outcome ≡ answer choice line before → Replies contents old new after outcome result
-      → AnswersLine contents old new line before after result
+      → RepliesToLine contents old new line before after result
   chosen choice outcome is replies = record { choice = choice; replies = subst (λ o. Replies contents old new after o result) is replies }
 
   by_step : (command : Command) → reading line ≡ Ok command → (outcome : Outcome) → MayLeadTo (Ok command) before outcome
-      → Replies contents old new after outcome result → AnswersLine contents old new line before after result
+      → Replies contents old new after outcome result → RepliesToLine contents old new line before after result
   by_step command read outcome leads replies =
       ⊎_elim
       (λ (h : outcome ≡ step command before). chosen false outcome (h ∙ ap (λ r. outcome_of r before) (sym read)) replies)
@@ -110,7 +112,7 @@ module _ {W E : Type 0} {contents : W → Option (List ℕ)} {old new : Watched 
       leads
 
   by_refusal : (refusal : Refusal) → Reads line (Err refusal) → (outcome : Outcome) → outcome ≡ refused_outcome refusal before
-      → Replies contents old new after outcome result → AnswersLine contents old new line before after result
+      → Replies contents old new after outcome result → RepliesToLine contents old new line before after result
   by_refusal refusal reads outcome leads replies =
       ⊎_elim
       (λ (h : reading line ≡ Err refusal). chosen false outcome (leads ∙ ap (λ r. outcome_of r before) (sym h)) replies)
@@ -118,15 +120,15 @@ module _ {W E : Type 0} {contents : W → Option (List ℕ)} {old new : Watched 
       chosen true outcome (leads ∙ (ap (λ r. refused_outcome r before) h.0 ∙ sym (refused_memory line before h.1))) replies)
       reads
 
-  answers_read : (read : Result Command Refusal) → Reads line read → (outcome : Outcome) → MayLeadTo read before outcome
-      → Replies contents old new after outcome result → AnswersLine contents old new line before after result
-  answers_read (Ok command) reads outcome leads replies = by_step command reads outcome leads replies
-  answers_read (Err refusal) reads outcome leads replies = by_refusal refusal reads outcome leads replies
+  replies_read : (read : Result Command Refusal) → Reads line read → (outcome : Outcome) → MayLeadTo read before outcome
+      → Replies contents old new after outcome result → RepliesToLine contents old new line before after result
+  replies_read (Ok command) reads outcome leads replies = by_step command reads outcome leads replies
+  replies_read (Err refusal) reads outcome leads replies = by_refusal refusal reads outcome leads replies
 
   -- what responds to the reading of a line answers the line
-  pub answers_line : (read : Result Command Refusal) → Reads line read → RespondsTo contents old new read before after result
-      → AnswersLine contents old new line before after result
-  answers_line read reads h = answers_read read reads h.outcome h.leads h.replies
+  pub replies_to_line : (read : Result Command Refusal) → Reads line read → RepliesToReading contents old new read before after result
+      → RepliesToLine contents old new line before after result
+  replies_to_line read reads h = replies_read read reads h.outcome h.leads h.replies
 
 -- a line that is too long is refused as that
 long_reading : (line : List ℕ) (state : State) → 4096 < length line → answer false line state ≡ refused_outcome LineTooLong state
@@ -135,10 +137,11 @@ long_reading line state long =
     ap (λ b. outcome_of (cond b (Err LineTooLong) (cond (is_nothing line) (Ok Nothing) (read_as (command_of (tokens line))))) state)
     (lt-ltb 4096 (length line) long)
 
-pub answers_long : {W E : Type 0} {contents : W → Option (List ℕ)} {old new : Watched W} (line : List ℕ) (state : State) {result : Result Bool E} → 4096 < length line
+pub replies_to_long : {W E : Type 0} {contents : W → Option (List ℕ)} {old new : Watched W} (line : List ℕ) (state : State) {result : Result Bool E}
+    → 4096 < length line
     → Writes contents old new result (reply_text (Refused LineTooLong)) → IfOk result (λ refused. refused ≡ is_error (Some (Refused LineTooLong)))
-    → AnswersLine contents old new line state state result
-answers_long line state long writes is =
+    → RepliesToLine contents old new line state state result
+replies_to_long line state long writes is =
     chosen false (refused_outcome LineTooLong state) (sym (long_reading line state long)) (record { state = refl; writes = writes; refused = is })
 
 -- a line found in front of the window is passed when what leads to the next one is dropped
@@ -163,7 +166,8 @@ first_line input after len step finds dropped ended =
     })
     finds.2
 
-pub passes_first : {R : Type 0} {remaining : R → Option (List ℕ)} {reader later : Watched R} {input mid after : Input} (len step : ℕ) → Comes remaining reader later input mid (Line len step)
+pub passes_first : {R : Type 0} {remaining : R → Option (List ℕ)} {reader later : Watched R} {input mid after : Input} (len step : ℕ)
+    → Comes remaining reader later input mid (Line len step)
     → after.window.bytes ≡ drop step mid.window.bytes → after.still ≡ mid.still → after.is_ended ≡ mid.is_ended
     → PassesLine remaining reader later input after (take len mid.window.bytes)
 passes_first {mid = mid} {after = after} len step comes dropped still ended = record {
@@ -173,24 +177,26 @@ passes_first {mid = mid} {after = after} len step comes dropped still ended = re
 }
 
 -- the same of other names for what there is afterwards
-pub passed_as : {R W E : Type 0} {remaining : R → Option (List ℕ)} {contents : W → Option (List ℕ)} {reader later : Watched R} {input next next' : Input} {before after after' : State} {old new new' : Watched W} {result result' : Result Bool E}
-    → next' ≡ next → after' ≡ after → new' ≡ new → result' ≡ result → PassesAnswered remaining contents reader later input next before after old new result
-    → PassesAnswered remaining contents reader later input next' before after' old new' result'
+pub passed_as : {R W E : Type 0} {remaining : R → Option (List ℕ)} {contents : W → Option (List ℕ)} {reader later : Watched R} {input next next' : Input}
+    {before after after' : State} {old new new' : Watched W} {result result' : Result Bool E}
+    → next' ≡ next → after' ≡ after → new' ≡ new → result' ≡ result → PassesReplied remaining contents reader later input next before after old new result
+    → PassesReplied remaining contents reader later input next' before after' old new' result'
 passed_as {remaining = remaining} {contents} {reader} {later} {input} {next} {next'} {before} {after} {after'} {old} {new} {new'} {result} {result'} p q r s h =
-    subst (λ o. PassesAnswered remaining contents reader later input next' before after' old new' o) (sym s)
-    (subst (λ w. PassesAnswered remaining contents reader later input next' before after' old w result) (sym r)
-    (subst (λ a. PassesAnswered remaining contents reader later input next' before a old new result) (sym q)
-    (subst (λ n. PassesAnswered remaining contents reader later input n before after old new result) (sym p) h)))
+    subst (λ o. PassesReplied remaining contents reader later input next' before after' old new' o) (sym s)
+    (subst (λ w. PassesReplied remaining contents reader later input next' before after' old w result) (sym r)
+    (subst (λ a. PassesReplied remaining contents reader later input next' before a old new result) (sym q)
+    (subst (λ n. PassesReplied remaining contents reader later input n before after old new result) (sym p) h)))
 
 -- how a run goes on after a line was answered
 abbrev pub goes_on_of : {E : Type 0} → Result Bool E → Result (Option Bool) RunFault
 goes_on_of (Ok is_refused) = Ok (Some is_refused)
 goes_on_of (Err e) = Err Write
 
-pub answered_goes_on : {R W E : Type 0} {remaining : R → Option (List ℕ)} {contents : W → Option (List ℕ)} {reader later : Watched R} {input next : Input} {before after : State} {old new : Watched W}
-    (result : Result Bool E) → PassesAnswered remaining contents reader later input next before after old new result
+pub replied_goes_on : {R W E : Type 0} {remaining : R → Option (List ℕ)} {contents : W → Option (List ℕ)} {reader later : Watched R} {input next : Input}
+    {before after : State} {old new : Watched W}
+    (result : Result Bool E) → PassesReplied remaining contents reader later input next before after old new result
     → GoesOn remaining contents reader later input next before after old new (goes_on_of result)
-answered_goes_on (Ok is_refused) h = record {
+replied_goes_on (Ok is_refused) h = record {
   line = h.line;
   passes = h.passes;
   answers = record {
@@ -202,7 +208,7 @@ answered_goes_on (Ok is_refused) h = record {
     };
   };
 }
-answered_goes_on (Err e) h = record {
+replied_goes_on (Err e) h = record {
   line = h.line;
   passes = h.passes;
   answers = record {
@@ -216,7 +222,8 @@ answered_goes_on (Err e) h = record {
 }
 
 -- how a run goes on where its input broke off
-pub stops_goes_on : {R W : Type 0} {remaining : R → Option (List ℕ)} {contents : W → Option (List ℕ)} {reader later : Watched R} {input next : Input} (before after : State) {old new : Watched W}
+pub stops_goes_on : {R W : Type 0} {remaining : R → Option (List ℕ)} {contents : W → Option (List ℕ)} {reader later : Watched R} {input next : Input}
+    (before after : State) {old new : Watched W}
     (fault : RunFault) → StopsInLine remaining reader later input next fault → WritesNothing contents old new
     → GoesOn remaining contents reader later input next before after old new (Err fault)
 stops_goes_on before after Read stops nothing = (stops, nothing)

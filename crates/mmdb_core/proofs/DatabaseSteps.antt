@@ -83,7 +83,8 @@ module _ (schema : Schema) (rs : List KeyedList) (are : AreRowsOf schema.tables 
         (subst (λ p. slice_get (slice_set rs place new) p ≡ Some new) place_found (set_same rs place old new there))
 
     -- The rows there are changed by the pairs of the name, and no others.
-    pub rows_changed : HasDistinctNames schema → (old new : KeyedList) (pairs : List Pair) → slice_get rs place ≡ Some old → new.rows ≡ changed old.key pairs old.rows
+    pub rows_changed : HasDistinctNames schema → (old new : KeyedList) (pairs : List Pair) → slice_get rs place ≡ Some old
+        → new.rows ≡ changed old.key pairs old.rows
         → changed_instance schema.tables (edits_of_one name pairs) (rows_of rs) ≡ rows_of (slice_set rs place new)
     rows_changed distinct old new pairs there is =
         changed_at_place name pairs old new is schema.tables rs are distinct (subst (λ p. slice_get rs p ≡ Some old) place_found there)
@@ -125,7 +126,8 @@ module _ (schema : Schema) (rs : List KeyedList) (are : AreRowsOf schema.tables 
 
         -- What the catalog doesn't refuse is refused by the rows, if at all.
         pub due_of_rows : first_refusal (binding_conditions mutation schema) ≡ None
-            → first_refusal (table_rows_conditions keyed.key (with_new_rows tuples keyed).rows) ≡ first_refusal (change_conditions mutation (state_of schema rs))
+            → first_refusal (table_rows_conditions keyed.key (with_new_rows tuples keyed).rows) ≡ first_refusal
+            (change_conditions mutation (state_of schema rs))
         due_of_rows none =
             sym (due_by_rows mutation (state_of schema rs) none
             ∙ ap (λ key. first_refusal (table_rows_conditions key (rows_in (after_change mutation (state_of schema rs)) (changed_table mutation)))) key_is

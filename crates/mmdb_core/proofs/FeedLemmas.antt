@@ -28,7 +28,9 @@ pub ends_at_first : (bytes : List ℕ) (k : ℕ) → NoneBefore (Passes (is_byte
 ends_at_first bytes k first feed = record {
   within = first.high;
   no_feed = no_feed_before bytes k (λ i i_k. first.before i (omega arith) i_k);
-  feed = sym (take-append-drop k bytes) ∙ ap (λ rest. take k bytes ++ rest) (drop_more bytes k 0 first.high ∙ ap (λ b. b ∷ drop (k + 1) bytes) (eqb-true (get_or bytes k 0) 10 feed));
+  feed =
+      sym (take-append-drop k bytes) ∙ ap (λ rest. take k bytes ++ rest)
+      (drop_more bytes k 0 first.high ∙ ap (λ b. b ∷ drop (k + 1) bytes) (eqb-true (get_or bytes k 0) 10 feed));
 }
 
 -- what a search for a line feed tells

@@ -35,7 +35,8 @@ kept-trans x y z given more gone then s t counted h k =
 abbrev pub IsCut : List ℕ → ℕ → List ℕ → Type 0
 IsCut all still kept = ((0 < still) × (kept ≡ all)) ⊎ ((still ≡ 0) × (kept ≡ take (length all - 1) all))
 
-cut-kept : (window given kept : List ℕ) (still after : ℕ) → 0 < still → length given + after ≡ still → IsCut (window ++ given) after kept → window ++ take (still - 1) given ≡ kept
+cut-kept : (window given kept : List ℕ) (still after : ℕ) → 0 < still → length given + after ≡ still → IsCut (window ++ given) after kept
+    → window ++ take (still - 1) given ≡ kept
 cut-kept window given kept still after some counted cut =
     ⊎_elim
     (λ (h : (0 < after) × (kept ≡ window ++ given)). ap (λ l. window ++ l) (take_all (still - 1) given (omega arith)) ∙ sym h.1)
@@ -51,7 +52,9 @@ module _ {R : Type 0} {remaining : R → Option (List ℕ)} where
     given = h.given ++ k.given;
     consumed = Consumes-trans (remaining (inner_of r)) (remaining (inner_of s)) (remaining (inner_of t)) h.given k.given h.consumed k.consumed;
     counted = omega (arith, length-append h.given k.given, h.counted, k.counted);
-    kept = kept-trans a.window.bytes b.window.bytes c.window.bytes h.given k.given gone more a.still b.still h.counted h.kept k.kept ∙ ap (λ l. l ++ c.window.bytes) (sym is);
+    kept =
+        kept-trans a.window.bytes b.window.bytes c.window.bytes h.given k.given gone more a.still b.still h.counted h.kept k.kept ∙ ap
+        (λ l. l ++ c.window.bytes) (sym is);
     ended = λ e. let first = h.ended e in
         let second = k.ended first.1 in
         (ap (λ l. l ++ k.given) first.0 ∙ second.0, second.1);
@@ -59,7 +62,8 @@ module _ {R : Type 0} {remaining : R → Option (List ℕ)} where
   }
 
   -- nothing more was taken
-  Advances-gone : {r : Watched R} {a b : Input} {gone : List ℕ} → a.window.bytes ≡ gone ++ b.window.bytes → b.still ≡ a.still → b.is_ended ≡ a.is_ended → Advances remaining r r a b gone
+  Advances-gone : {r : Watched R} {a b : Input} {gone : List ℕ} → a.window.bytes ≡ gone ++ b.window.bytes → b.still ≡ a.still → b.is_ended ≡ a.is_ended
+      → Advances remaining r r a b gone
   Advances-gone {r} {a} {b} {gone} is still ended = record {
     given = [];
     consumed = Consumes-nil (remaining (inner_of r));
@@ -82,7 +86,8 @@ module _ {R : Type 0} {remaining : R → Option (List ℕ)} where
   Advances-clear {r} {a} is still ended = Advances-gone (sym (ap (λ l. a.window.bytes ++ l) is ∙ append-nil a.window.bytes)) still ended
 
   -- the window was filled by n bytes
-  pub Advances-fill : {r s : Watched R} {a b : Input} {taken : List ℕ} {n : ℕ} → Takes remaining r s a.window.bytes taken n → a.is_ended ≡ false → 0 < a.still → n ≤ a.still
+  pub Advances-fill : {r s : Watched R} {a b : Input} {taken : List ℕ} {n : ℕ} → Takes remaining r s a.window.bytes taken n → a.is_ended ≡ false → 0 < a.still
+      → n ≤ a.still
       → b.still ≡ a.still - n → IsCut taken b.still b.window.bytes → (b.is_ended ≡ true → n ≡ 0) → Advances remaining r s a b []
   Advances-fill {r} {s} {a} {b} {taken} {n} takes not_ended some most still cut ends =
       let counted : length takes.given + b.still ≡ a.still = omega (arith, takes.count, still, most) in
@@ -110,7 +115,14 @@ module _ {R : Type 0} {remaining : R → Option (List ℕ)} where
   -- each byte that is gone comes no more
   pub Advances-nearer : {r s : Watched R} {a b : Input} {gone : List ℕ} → Advances remaining r s a b gone → bytes_to_come b + length gone ≤ bytes_to_come a
   Advances-nearer {r} {s} {a} {b} {gone} h =
-      omega (arith, ap length h.kept, length-append a.window.bytes (take (a.still - 1) h.given), length-append gone b.window.bytes, length-take (a.still - 1) h.given, h.counted)
+      omega (
+        arith,
+        ap length h.kept,
+        length-append a.window.bytes (take (a.still - 1) h.given),
+        length-append gone b.window.bytes,
+        length-take (a.still - 1) h.given,
+        h.counted,
+      )
 
 -- an input that breaks off, after it was filled
 pub stops-then : {R : Type 0} {remaining : R → Option (List ℕ)} {r s t : Watched R} {a b c : Input} {fault : RunFault} → Advances remaining r s a b []
@@ -127,7 +139,8 @@ long-then t c h comes = (
 )
 
 -- what holds of a fault holds where it is passed on
-pub at-fault : {T : Type 0} (P : RunFault → Type 0) (result : Result T RunFault) (fault passed : RunFault) → result ≡ Err passed → passed ≡ fault → P fault → IfErr result P
+pub at-fault : {T : Type 0} (P : RunFault → Type 0) (result : Result T RunFault) (fault passed : RunFault) → result ≡ Err passed → passed ≡ fault → P fault
+    → IfErr result P
 at-fault P result fault passed is same h = subst (λ r. IfErr r P) (sym is) (subst P (sym same) h)
 
 -- what the window begins with

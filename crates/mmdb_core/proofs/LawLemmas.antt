@@ -30,7 +30,8 @@ long_takes_none line long = ap reading_takes_memory (reads_long line long)
 pub nothing_takes_none : (line : List ℕ) → is_nothing line ≡ true → takes_memory line ≡ false
 unfolding reading
 nothing_takes_none line nothing =
-    ap (λ b. reading_takes_memory (cond (ltb 4096 (length line)) (Err LineTooLong) (cond b (Ok Nothing) (read_as (command_of (tokens line)))))) nothing ∙ either (ltb 4096 (length line))
+    ap (λ b. reading_takes_memory (cond (ltb 4096 (length line)) (Err LineTooLong) (cond b (Ok Nothing) (read_as (command_of (tokens line)))))) nothing ∙ either
+    (ltb 4096 (length line))
   where
     either : (is_long : Bool) → reading_takes_memory (cond is_long (Err LineTooLong) (Ok Nothing)) ≡ false
     either true = refl

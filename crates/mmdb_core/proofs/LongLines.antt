@@ -79,7 +79,8 @@ module _ {R : Type 0} {remaining : R → Option (List ℕ)} where
     so_far = Advances-then (sym (append-nil drops.line)) drops.advances fills
 
     -- the line ended at a line feed
-    pub Drops-feed : {d : Input} (len : ℕ) → EndsLine c.window.bytes len → d.window.bytes ≡ drop (len + 1) c.window.bytes → d.still ≡ c.still → d.is_ended ≡ c.is_ended
+    pub Drops-feed : {d : Input} (len : ℕ) → EndsLine c.window.bytes len → d.window.bytes ≡ drop (len + 1) c.window.bytes → d.still ≡ c.still
+        → d.is_ended ≡ c.is_ended
         → Comes remaining r t a d Long
     Drops-feed len ends is still ended =
         let line = drops.line ++ take len c.window.bytes in (

@@ -33,7 +33,8 @@ pub record IsBeside (ts : List Table) (place : ℕ) (keyed : KeyedList) : Type 0
   pub key : keyed.key ≡ key_place table.definition.columns
   pub there : slice_get ts place ≡ Some table
 
-pub beside : (ts : List Table) (rs : List KeyedList) (place : ℕ) (keyed : KeyedList) → AreRowsOf ts rs → slice_get rs place ≡ Some keyed → IsBeside ts place keyed
+pub beside : (ts : List Table) (rs : List KeyedList) (place : ℕ) (keyed : KeyedList) → AreRowsOf ts rs → slice_get rs place ≡ Some keyed
+    → IsBeside ts place keyed
 beside (t ∷ ts) (r ∷ rs) zero keyed are h =
     let same : r ≡ keyed = cc in
     record { table = t; key = sym (ap (λ k. k.key) same) ∙ are.0; there = refl }
@@ -61,7 +62,8 @@ rows_at_place name (t ∷ ts) [] keyed are here = cc
 -- ---- other rows at a place
 
 -- They are rows of the same tables where they have the same key.
-pub AreRowsOf-set : (ts : List Table) (rs : List KeyedList) (place : ℕ) (old new : KeyedList) → slice_get rs place ≡ Some old → new.key ≡ old.key → AreRowsOf ts rs
+pub AreRowsOf-set : (ts : List Table) (rs : List KeyedList) (place : ℕ) (old new : KeyedList) → slice_get rs place ≡ Some old → new.key ≡ old.key
+    → AreRowsOf ts rs
     → AreRowsOf ts (slice_set rs place new)
 AreRowsOf-set (t ∷ ts) (r ∷ rs) zero old new h same are =
     let was : r ≡ old = cc in (same ∙ sym (ap (λ k. k.key) was) ∙ are.0, are.1)
@@ -101,7 +103,8 @@ module _ (name : List ℕ) (pairs : List Pair) (old new : KeyedList) (is : new.r
 -- ---- one more table
 
 -- A new table's rows come last.
-pub AreRowsOf-push : (ts : List Table) (rs : List KeyedList) (table : Table) (keyed : KeyedList) → keyed.key ≡ key_place table.definition.columns → AreRowsOf ts rs
+pub AreRowsOf-push : (ts : List Table) (rs : List KeyedList) (table : Table) (keyed : KeyedList) → keyed.key ≡ key_place table.definition.columns
+    → AreRowsOf ts rs
     → AreRowsOf (ts ++ table ∷ []) (rs ++ keyed ∷ [])
 AreRowsOf-push [] [] table keyed key are = (key, tt)
 AreRowsOf-push (t ∷ ts) (r ∷ rs) table keyed key are = (are.0, AreRowsOf-push ts rs table keyed key are.1)

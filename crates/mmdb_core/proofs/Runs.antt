@@ -14,7 +14,7 @@ use Rattle.mm_value.specs.Watched.{inner_of, has_failed}
 use Rattle.mm_value.specs.declared.device.Watched.{Watched}
 use Rattle.mm_query.specs.State.{State, first_state}
 use Rattle.mmdb_core.specs.steps.Input.{Advances, IsLine, KnowsEnd, StopsInLine, bytes_to_come}
-use Rattle.mmdb_core.specs.steps.Respond.{GoesOn, PassesAnswered, WritesNothing}
+use Rattle.mmdb_core.specs.steps.Respond.{GoesOn, PassesReplied, WritesNothing}
 use Rattle.mmdb_core.specs.Run.{Answers, AnswersFront, AnswersLines, BrokeOff, TakesWithin, Transcript, answer, is_error, text_of, transcript}
 use Rattle.mmdb_core.specs.declared.fault.RunFault.{RunFault}
 use Rattle.mmdb_core.specs.declared.fault.RunFault.TheVariants.{Read, Write, TooLong}
@@ -31,28 +31,34 @@ one_if is_refused = if is_refused then 1 else 0
 -- The machine's run over the lines answered: whatever lines follow, their run goes on behind this text from this state.
 pub record Transcribed (answered : List (List ℕ)) (state : State) (text : List ℕ) (refused : ℕ) : Type 0 where
   pub each : (rest : List Bool) (left : List (List ℕ)) → (choices : List Bool)
-      × (transcript choices first_state (answered ++ left) ≡ record { text = text ++ (transcript rest state left).text; refused = refused + (transcript rest state left).refused })
+      × (transcript choices first_state (answered ++ left)
+      ≡ record { text = text ++ (transcript rest state left).text; refused = refused + (transcript rest state left).refused })
 
 transcribed_none : Transcribed [] first_state [] 0
 transcribed_none = record {
-  each = λ rest left. (rest, ap (λ n. record { text = (transcript rest first_state left).text; refused = n }) (sym (zero-add (transcript rest first_state left).refused)));
+  each = λ rest left. let run = transcript rest first_state left in
+      (rest, ap (λ n. record { text = run.text; refused = n }) (sym (zero-add run.refused)));
 }
 
 one_more : (written text more : List ℕ) (refused one others : ℕ)
-    → ◌≡◌ {A = Transcript} (record { text = written ++ (text ++ more); refused = refused + (one + others) }) (record { text = (written ++ text) ++ more; refused = (refused + one) + others })
+    → ◌≡◌ {A = Transcript} (record { text = written ++ (text ++ more); refused = refused + (one + others) })
+    (record { text = (written ++ text) ++ more; refused = (refused + one) + others })
 one_more written text more refused one others =
     ap (λ t. record { text = t; refused = refused + (one + others) }) (sym (append_assoc written text more))
     ∙ ap (λ n. record { text = (written ++ text) ++ more; refused = n }) (sym (add_assoc refused one others))
 
-transcribed_line : (answered : List (List ℕ)) (line : List ℕ) (state : State) (text : List ℕ) (refused : ℕ) (choice : Bool) → Transcribed answered state text refused
-    → Transcribed (answered ++ line ∷ []) (answer choice line state).state (text ++ text_of (answer choice line state).reply) (refused + one_if (is_error (answer choice line state).reply))
+transcribed_line : (answered : List (List ℕ)) (line : List ℕ) (state : State) (text : List ℕ) (refused : ℕ) (choice : Bool)
+    → Transcribed answered state text refused
+    → Transcribed (answered ++ line ∷ []) (answer choice line state).state (text ++ text_of (answer choice line state).reply)
+    (refused + one_if (is_error (answer choice line state).reply))
 unfolding transcript
 transcribed_line answered line state text refused choice so_far = record {
   each = λ rest left. let run = so_far.each (choice ∷ rest) (line ∷ left) in
       let others = transcript rest (answer choice line state).state left in (
         run.0,
         ap (transcript run.0 first_state) (append_assoc answered (line ∷ []) left)
-            ∙ (run.1 ∙ one_more text (text_of (answer choice line state).reply) others.text refused (one_if (is_error (answer choice line state).reply)) others.refused),
+            ∙ (run.1
+            ∙ one_more text (text_of (answer choice line state).reply) others.text refused (one_if (is_error (answer choice line state).reply)) others.refused),
       );
 }
 
@@ -96,13 +102,15 @@ first_whole gone line after is_line going more =
     is_line.end
 
 -- what an input that has not ended was before
-not_before : {R : Type 0} {remaining : R → Option (List ℕ)} {r s : Watched R} {a b : Input} {gone : List ℕ} → Advances remaining r s a b gone → b.is_ended ≡ false → a.is_ended ≡ false
+not_before : {R : Type 0} {remaining : R → Option (List ℕ)} {r s : Watched R} {a b : Input} {gone : List ℕ} → Advances remaining r s a b gone
+    → b.is_ended ≡ false → a.is_ended ≡ false
 not_before {a = a} h going = is_false a.is_ended (λ e. let clash : true ≡ false = sym ((h.ended e).1) ∙ going in cc)
 
 shifted : (window given gone left more : List ℕ) → window ++ given ≡ gone ++ left → window ++ (given ++ more) ≡ gone ++ (left ++ more)
 shifted window given gone left more e = sym (append_assoc window given more) ∙ (ap (λ l. l ++ more) e ∙ append_assoc gone left more)
 
-module _ {R : Type 0} {remaining : R → Option (List ℕ)} {r s : Watched R} {a b : Input} {gone kept : List ℕ} {answered : List (List ℕ)} (cut : Cut kept a.window.bytes a.is_ended answered) (h : Advances remaining r s a b gone) where
+module _ {R : Type 0} {remaining : R → Option (List ℕ)} {r s : Watched R} {a b : Input} {gone kept : List ℕ} {answered : List (List ℕ)}
+    (cut : Cut kept a.window.bytes a.is_ended answered) (h : Advances remaining r s a b gone) where
   follows_given : (more : List ℕ) → (b.is_ended ≡ true → more ≡ []) → a.is_ended ≡ true → take (a.still - 1) h.given ++ more ≡ []
   follows_given more follows e =
       let p = h.ended e in
@@ -149,7 +157,8 @@ unfolding transcript
 refused_behind refused state = add-zero refused
 
 -- What a run keeps from line to line.
-pub record Running {R W : Type 0} (remaining : R → Option (List ℕ)) (contents : W → Option (List ℕ)) (limit : ℕ) (reader now : Watched R) (writer written : Watched W) (input : Input) (state : State) (totals : Totals) : Type 0 where
+pub record Running {R W : Type 0} (remaining : R → Option (List ℕ)) (contents : W → Option (List ℕ)) (limit : ℕ) (reader now : Watched R)
+    (writer written : Watched W) (input : Input) (state : State) (totals : Totals) : Type 0 where
   pub given : List ℕ
   pub consumed : Consumes (remaining (inner_of reader)) (remaining (inner_of now)) given
   pub counted : length given + input.still ≡ limit + 1
@@ -165,7 +174,8 @@ pub record Running {R W : Type 0} (remaining : R → Option (List ℕ)) (content
   pub transcribed : Transcribed answered state text totals.refused
 
 -- a run begins
-pub running_first : {R W : Type 0} (remaining : R → Option (List ℕ)) (contents : W → Option (List ℕ)) (limit : ℕ) (reader : Watched R) (writer : Watched W) (input : Input) (state : State) → has_failed writer ≡ false
+pub running_first : {R W : Type 0} (remaining : R → Option (List ℕ)) (contents : W → Option (List ℕ)) (limit : ℕ) (reader : Watched R) (writer : Watched W)
+    (input : Input) (state : State) → has_failed writer ≡ false
     → input.window.bytes ≡ [] → input.still ≡ limit + 1 → input.still ≤ 2 ^ 40 + 1 → input.is_ended ≡ false → state ≡ first_state
     → Running remaining contents limit reader reader writer writer input state (record { lines = 0; refused = 0 })
 running_first remaining contents limit reader writer input state unfailed empty still small going first = record {
@@ -200,8 +210,9 @@ gone_some gone line after is_line =
     (λ (h : (gone ≡ line) × (0 < length line) × (after.window.bytes ≡ []) × (after.is_ended ≡ true)). omega (arith, ap length h.0, h.1))
     is_line.end
 
-pub passed_nearer : {R W E : Type 0} {remaining : R → Option (List ℕ)} {contents : W → Option (List ℕ)} {now later : Watched R} {input next : Input} {state after : State} {written more : Watched W} {result : Result Bool E}
-    → PassesAnswered remaining contents now later input next state after written more result → bytes_to_come next < bytes_to_come input
+pub passed_nearer : {R W E : Type 0} {remaining : R → Option (List ℕ)} {contents : W → Option (List ℕ)} {now later : Watched R} {input next : Input}
+    {state after : State} {written more : Watched W} {result : Result Bool E}
+    → PassesReplied remaining contents now later input next state after written more result → bytes_to_come next < bytes_to_come input
 passed_nearer {next = next} h = omega (arith, Advances-nearer h.passes.advances, gone_some h.passes.gone h.line next h.passes.is_line)
 
 kept_more : (limit still : ℕ) (given more : List ℕ) → length given + still ≡ limit + 1 → take limit (given ++ more) ≡ take limit given ++ take (still - 1) more
@@ -211,7 +222,8 @@ kept_more limit still given more counted =
 err_same : {T : Type 0} (a b : RunFault) → ◌≡◌ {A = Result T RunFault} (Err a) (Err b) → a ≡ b
 err_same a b e = cc
 
-module _ {R W : Type 0} {remaining : R → Option (List ℕ)} {contents : W → Option (List ℕ)} {limit : ℕ} {reader now : Watched R} {writer written : Watched W} {input : Input} {state : State} {totals : Totals} (so_far : Running remaining contents limit reader now writer written input state totals) where
+module _ {R W : Type 0} {remaining : R → Option (List ℕ)} {contents : W → Option (List ℕ)} {limit : ℕ} {reader now : Watched R} {writer written : Watched W}
+    {input : Input} {state : State} {totals : Totals} (so_far : Running remaining contents limit reader now writer written input state totals) where
   counted_more : {later : Watched R} {next : Input} {gone : List ℕ} (h : Advances remaining now later input next gone)
       → length (so_far.given ++ h.given) + next.still ≡ limit + 1
   counted_more h = omega (arith, length-append so_far.given h.given, h.counted, so_far.counted)
@@ -229,16 +241,19 @@ module _ {R W : Type 0} {remaining : R → Option (List ℕ)} {contents : W → 
   cut_more : {later : Watched R} {next : Input} (line : List ℕ) {gone : List ℕ} (h : Advances remaining now later input next gone) → IsLine gone line next
       → Cut (take limit (so_far.given ++ h.given)) next.window.bytes next.is_ended (so_far.answered ++ without_return line ∷ [])
   cut_more {next = next} line h is_line =
-      subst (λ kept. Cut kept next.window.bytes next.is_ended (so_far.answered ++ without_return line ∷ [])) (sym (kept_all h)) (cut_line so_far.cut h line is_line)
+      subst (λ kept. Cut kept next.window.bytes next.is_ended (so_far.answered ++ without_return line ∷ [])) (sym (kept_all h))
+      (cut_line so_far.cut h line is_line)
 
   -- the replies to the lines that had ended were written before the input broke off
-  stopped : {later : Watched R} {next : Input} {more : Watched W} {fault : RunFault} (h : StopsInLine remaining now later input next fault) → next.is_ended ≡ false → WritesNothing contents written more
+  stopped : {later : Watched R} {next : Input} {more : Watched W} {fault : RunFault} (h : StopsInLine remaining now later input next fault)
+      → next.is_ended ≡ false → WritesNothing contents written more
       → AnswersLines (whole_lines_of (take limit (so_far.given ++ h.advances.given))) (contents (inner_of writer)) (contents (inner_of more))
   stopped {more = more} h going nothing =
       let run = so_far.transcribed.each [] [] in
       let lines : whole_lines_of (take limit (so_far.given ++ h.advances.given)) ≡ so_far.answered ++ [] =
       ap whole_lines_of (kept_all h.advances) ∙ (cut_stop so_far.cut h.advances h.no_feed going ∙ sym (append-nil so_far.answered)) in
-      let text : (transcript run.0 first_state (so_far.answered ++ [])).text ≡ so_far.text = ap (λ (t : Transcript). t.text) run.1 ∙ text_behind so_far.text state in
+      let text : (transcript run.0 first_state (so_far.answered ++ [])).text ≡ so_far.text = ap (λ (t : Transcript). t.text) run.1 ∙ text_behind so_far.text
+      state in
       record {
         choices = run.0;
         written = subst (λ ls. Appends (contents (inner_of writer)) (contents (inner_of more)) (transcript run.0 first_state ls).text) (sym lines)
@@ -247,7 +262,8 @@ module _ {R W : Type 0} {remaining : R → Option (List ℕ)} {contents : W → 
       }
 
   -- the writer failed in the reply to a line: a front of it was written behind the others
-  cut_off : {later : Watched R} {next : Input} {after : State} {more : Watched W} {E : Type 0} {e : E} (h : PassesAnswered {E = E} remaining contents now later input next state after written more (Err e))
+  cut_off : {later : Watched R} {next : Input} {after : State} {more : Watched W} {E : Type 0} {e : E}
+      (h : PassesReplied {E = E} remaining contents now later input next state after written more (Err e))
       → AnswersFront (lines_of (take limit (so_far.given ++ h.passes.advances.given))) (contents (inner_of writer)) (contents (inner_of more))
   cut_off {next = next} {more = more} h =
       let line = without_return h.line in
@@ -261,8 +277,10 @@ module _ {R W : Type 0} {remaining : R → Option (List ℕ)} {contents : W → 
         choices = run.0;
         written = subst (λ ls. AppendsPrefix (contents (inner_of writer)) (contents (inner_of more)) (transcript run.0 first_state ls).text) (sym lines)
             (subst (AppendsPrefix (contents (inner_of writer)) (contents (inner_of more))) (sym (ap (λ (t : Transcript). t.text) run.1))
-            (AppendsPrefix-first (contents (inner_of writer)) (contents (inner_of more)) (so_far.text ++ text_of outcome.reply) (transcript [] outcome.state others).text
-            (AppendsPrefix-second (contents (inner_of writer)) (contents (inner_of written)) (contents (inner_of more)) so_far.text (text_of outcome.reply) so_far.appends h.answers.replies.writes.written)));
+            (AppendsPrefix-first (contents (inner_of writer)) (contents (inner_of more)) (so_far.text ++ text_of outcome.reply)
+            (transcript [] outcome.state others).text
+            (AppendsPrefix-second (contents (inner_of writer)) (contents (inner_of written)) (contents (inner_of more)) so_far.text
+            (text_of outcome.reply) so_far.appends h.answers.replies.writes.written)));
       }
 
   -- a step of a run
@@ -277,7 +295,8 @@ module _ {R W : Type 0} {remaining : R → Option (List ℕ)} {contents : W → 
         let replies = h.answers.replies in
         let advances = h.passes.advances in
         let one : byte ≡ one_if is_refused = is ∙ one_if_byte is_refused in
-        let added : totals.refused + one_if (is_error outcome.reply) ≡ totals.refused + byte = ap (λ n. totals.refused + n) (sym (one ∙ ap one_if replies.refused)) in
+        let added : totals.refused + one_if (is_error outcome.reply) ≡ totals.refused + byte = ap (λ n. totals.refused + n)
+        (sym (one ∙ ap one_if replies.refused)) in
         record {
           given = so_far.given ++ advances.given;
           consumed = consumed_more advances;
@@ -290,8 +309,11 @@ module _ {R W : Type 0} {remaining : R → Option (List ℕ)} {contents : W → 
           count = omega (arith, so_far.count, length-append so_far.answered (line ∷ []));
           cut = cut_more h.line advances h.passes.is_line;
           text = so_far.text ++ text_of outcome.reply;
-          appends = Appends-trans (contents (inner_of writer)) (contents (inner_of written)) (contents (inner_of more)) so_far.text (text_of outcome.reply) so_far.appends replies.writes.written;
-          transcribed = subst (λ s. Transcribed (so_far.answered ++ line ∷ []) s (so_far.text ++ text_of outcome.reply) (totals.refused + byte)) (sym replies.state)
+          appends =
+              Appends-trans (contents (inner_of writer)) (contents (inner_of written)) (contents (inner_of more)) so_far.text (text_of outcome.reply)
+              so_far.appends replies.writes.written;
+          transcribed =
+              subst (λ s. Transcribed (so_far.answered ++ line ∷ []) s (so_far.text ++ text_of outcome.reply) (totals.refused + byte)) (sym replies.state)
               (subst (Transcribed (so_far.answered ++ line ∷ []) outcome.state (so_far.text ++ text_of outcome.reply)) added
               (transcribed_line so_far.answered line state so_far.text totals.refused h.answers.choice so_far.transcribed));
         }
@@ -337,7 +359,8 @@ module _ {R W : Type 0} {remaining : R → Option (List ℕ)} {contents : W → 
     )
     too_long_iff TooLong taken h counted = (λ e. (omega (arith, h.0.why.1, counted), h.1.unfailed), λ over. refl)
 
-    pub taken_at_fault : (result : Result Totals RunFault) (fault : RunFault) → result ≡ Err fault → GoesOn remaining contents now later input next state after written more (Err fault)
+    pub taken_at_fault : (result : Result Totals RunFault) (fault : RunFault) → result ≡ Err fault
+        → GoesOn remaining contents now later input next state after written more (Err fault)
         → TakesWithin remaining reader later limit (IsErrOf result TooLong) (has_failed more ≡ false)
     taken_at_fault result fault is h =
         let advances = (advanced fault h).1 in
@@ -372,7 +395,8 @@ module _ {R W : Type 0} {remaining : R → Option (List ℕ)} {contents : W → 
         let short : length all ≤ limit = omega (arith, counted_more h.0, known.0) in
         let lines : lines_of all ≡ so_far.answered =
         ap lines_of (sym (take_all limit all short)) ∙ (ap lines_of (kept_all h.0) ∙ cut_end so_far.cut h.0 refl h.1.0) in
-        all_known (λ xs. Answers xs (contents (inner_of writer)) (contents (inner_of more)) totals) (remaining (inner_of reader)) (remaining (inner_of later)) all (consumed_more h.0) known.1 (answers_all all lines)
+        all_known (λ xs. Answers xs (contents (inner_of writer)) (contents (inner_of more)) totals) (remaining (inner_of reader)) (remaining (inner_of later))
+        all (consumed_more h.0) known.1 (answers_all all lines)
       where
         all_known : (P : List ℕ → Type 0) (old new : Option (List ℕ)) (all : List ℕ) → Consumes old new all → IsAtEnd new → P all → IfSome old P
         all_known P None new all consumed at_end p = tt
@@ -386,20 +410,24 @@ module _ {R W : Type 0} {remaining : R → Option (List ℕ)} {contents : W → 
             let is = ap (transcript run.0 first_state) same ∙ run.1 in
             record {
               choices = run.0;
-              written = subst (Appends (contents (inner_of writer)) (contents (inner_of more))) (sym (ap (λ (t : Transcript). t.text) is ∙ text_behind so_far.text state))
+              written =
+                  subst (Appends (contents (inner_of writer)) (contents (inner_of more)))
+                  (sym (ap (λ (t : Transcript). t.text) is ∙ text_behind so_far.text state))
                   (appends_keeps (contents (inner_of writer)) (contents (inner_of written)) (contents (inner_of more)) so_far.text so_far.appends h.2.kept);
               lines = so_far.count ∙ ap length (sym lines);
               refused = sym (ap (λ (t : Transcript). t.refused) is ∙ refused_behind totals.refused state);
             }
 
     -- which device failed where a run broke off
-    pub read_at_fault : (result : Result Totals RunFault) (fault : RunFault) → result ≡ Err fault → GoesOn remaining contents now later input next state after written more (Err fault)
+    pub read_at_fault : (result : Result Totals RunFault) (fault : RunFault) → result ≡ Err fault
+        → GoesOn remaining contents now later input next state after written more (Err fault)
         → IsErrOf result Read → has_failed later ≡ true
     read_at_fault result Read is h e = h.0.why.1
     read_at_fault result Write is h e = absurd (let clash : ◌≡◌ {A = Result Totals RunFault} (Err Write) (Err Read) = sym is ∙ e in cc)
     read_at_fault result TooLong is h e = absurd (let clash : ◌≡◌ {A = Result Totals RunFault} (Err TooLong) (Err Read) = sym is ∙ e in cc)
 
-    pub write_at_fault : (result : Result Totals RunFault) (fault : RunFault) → result ≡ Err fault → GoesOn remaining contents now later input next state after written more (Err fault)
+    pub write_at_fault : (result : Result Totals RunFault) (fault : RunFault) → result ≡ Err fault
+        → GoesOn remaining contents now later input next state after written more (Err fault)
         → IsErrOf result Write ↔ (has_failed more ≡ true)
     write_at_fault result Read is h = (
       λ e. absurd (let clash : ◌≡◌ {A = Result Totals RunFault} (Err Read) (Err Write) = sym is ∙ e in cc),

@@ -7,14 +7,16 @@ use Rattle.std.proofs.Math.Seq.{take-append-add}
 use borrow.Rule.Slice.PartMut.{put_mid, post_of}
 
 -- n more bytes than were between the places
-pub window_grown : (xs ys : List ℕ) (s e k n : ℕ) → s ≤ e → e ≤ length xs → n ≤ length ys → slice_range (put_mid e k xs ys) s (e + n) ≡ slice_range xs s e ++ take n ys
+pub window_grown : (xs ys : List ℕ) (s e k n : ℕ) → s ≤ e → e ≤ length xs → n ≤ length ys
+    → slice_range (put_mid e k xs ys) s (e + n) ≡ slice_range xs s e ++ take n ys
 window_grown xs ys s e k n s_e e_x n_y =
     let front : length (take e xs) ≡ e = length-take-le e xs e_x in
     let s_front : s ≤ length (take e xs) = omega arith in
     let taken : take (e + n) (take e xs ++ (ys ++ post_of e k xs)) ≡ take e xs ++ take n ys =
     ap (λ m. take (m + n) (take e xs ++ (ys ++ post_of e k xs))) (sym front)
     ∙ (take-append-add (take e xs) (ys ++ post_of e k xs) n ∙ ap (λ t. take e xs ++ t) (take-front ys (post_of e k xs) n n_y)) in
-    between_is (put_mid e k xs ys) s (e + n) ∙ (ap (λ t. drop s t) taken ∙ (drop-append-le s (take e xs) (take n ys) s_front ∙ ap (λ t. t ++ take n ys) (sym (between_is xs s e))))
+    between_is (put_mid e k xs ys) s (e + n) ∙ (ap (λ t. drop s t) taken
+    ∙ (drop-append-le s (take e xs) (take n ys) s_front ∙ ap (λ t. t ++ take n ys) (sym (between_is xs s e))))
   where
     take-front : (p q : List ℕ) (m : ℕ) → m ≤ length p → take m (p ++ q) ≡ take m p
     take-front p q m h = take-append-le m p q h
@@ -27,7 +29,8 @@ window_skipped xs s e n = between_is xs (s + n) e ∙ (sym (drop-drop n s (take 
 pub window_shortened : (xs : List ℕ) (s e : ℕ) → s ≤ e → e ≤ length xs → slice_range xs s (e - 1) ≡ take (length (slice_range xs s e) - 1) (slice_range xs s e)
 window_shortened xs s e s_e e_x =
     let long : length (take (e - s) (drop s xs)) ≡ e - s = length-take-le (e - s) (drop s xs) (omega (arith, length-drop s xs)) in
-    sym (ap (λ n. take (n - 1) (take (e - s) (drop s xs))) long ∙ (take-take (e - s - 1) (e - s) (drop s xs) (omega arith) ∙ ap (λ n. take n (drop s xs)) (sub_order e s)))
+    sym (ap (λ n. take (n - 1) (take (e - s) (drop s xs))) long
+    ∙ (take-take (e - s - 1) (e - s) (drop s xs) (omega arith) ∙ ap (λ n. take n (drop s xs)) (sub_order e s)))
   where
     sub_order : (a b : ℕ) → a - b - 1 ≡ a - 1 - b
     sub_order a b = omega arith

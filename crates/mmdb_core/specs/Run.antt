@@ -97,7 +97,8 @@ IsWritten Write input old new = AnswersFront (lines_of input) old new
 IsWritten TooLong input old new = AnswersLines (whole_lines_of input) old new
 
 -- How a run broke off: its reader gave some bytes, and that much of their replies was written.
-pub record BrokeOff {R : Type 0} (remaining : R → Option (List ℕ)) (reader after : Watched R) (limit : ℕ) (old new : Option (List ℕ)) (fault : RunFault) : Type 0 where
+pub record BrokeOff {R : Type 0} (remaining : R → Option (List ℕ)) (reader after : Watched R) (limit : ℕ) (old new : Option (List ℕ))
+    (fault : RunFault) : Type 0 where
   pub given : List ℕ
   pub consumed : Consumes (remaining (inner_of reader)) (remaining (inner_of after)) given
   pub within : length given ≤ limit + 1

@@ -7,7 +7,7 @@ ghost use Rattle.mm_value.specs.Device.{Writes};
 ghost use Rattle.mm_value.specs.Watched.{inner_of, has_failed};
 ghost use Rattle.mm_query.specs.declared.command.Command.TheVariants.{Define, Change, Scan};
 ghost use Rattle.mm_query.specs.declared.reply.Reply.TheVariants.{Rows};
-ghost use Rattle.mmdb_core.specs.steps.Respond.{AnswersLine, IsStep, RespondsTo};
+ghost use Rattle.mmdb_core.specs.steps.Respond.{RepliesToLine, IsStep, RepliesToReading};
 ghost use Rattle.mmdb_core.specs.Run.{is_error};
 
 use crate::database::Database;
@@ -36,7 +36,7 @@ pub(crate) fn answer_line<W: Write>(
     writer: &mut Watched<W>,
 ) -> Result<bool, WriteFault>
     requires { has_failed writer.old ≡ false }
-    ensures { AnswersLine W.contents writer.old writer.new line.now database.old database.new result }
+    ensures { RepliesToLine W.contents writer.old writer.new line.now database.old database.new result }
 {
     let command = parse(alloc, line);
     respond(alloc, database, command, writer)
@@ -50,7 +50,7 @@ fn respond<W: Write>(
     writer: &mut Watched<W>,
 ) -> Result<bool, WriteFault>
     requires { has_failed writer.old ≡ false }
-    ensures { RespondsTo W.contents writer.old writer.new command database.old database.new result }
+    ensures { RepliesToReading W.contents writer.old writer.new command database.old database.new result }
 {
     let reply = match command {
         Ok(Command::Nothing) => return Ok(false),
@@ -92,7 +92,7 @@ fn answer_scan<W: Write>(
     writer: &mut Watched<W>,
 ) -> Result<bool, WriteFault>
     requires { has_failed writer.old ≡ false }
-    ensures { RespondsTo W.contents writer.old writer.new (Ok (Scan table.now)) database.now database.now result }
+    ensures { RepliesToReading W.contents writer.old writer.new (Ok (Scan table.now)) database.now database.now result }
 {
     match database.scan(table) {
         Ok(rows) => send_rows(rows, writer),

@@ -22,6 +22,9 @@ use std::io::{Read, Write};
 ///
 /// `Read` where the reader answered an error, `Write` where the writer answered one or took 0 of some bytes, `TooLong`
 /// where the reader gave more bytes than the limit.
+/// `Read` and `TooLong` come after the replies to the lines within the limit that a line feed ended, and no others;
+/// `Write` comes after a front of the replies to the lines that the reader gave. An interrupted call of a device is made
+/// again up to 16 times in a row.
 pub fn run<R: Read, W: Write>(
     alloc: Global,
     reader: &mut Watched<R>,

@@ -29,27 +29,31 @@ MayLeadTo (Ok command) state outcome =
 MayLeadTo (Err refusal) state outcome = outcome ≡ refused_outcome refusal state
 
 -- The outcome's state is there, and its reply was written, or a front of it where the writer failed.
-pub record Replies {W E : Type 0} (contents : W → Option (List ℕ)) (old new : Watched W) (after : State) (outcome : Outcome) (result : Result Bool E) : Type 0 where
+pub record Replies {W E : Type 0} (contents : W → Option (List ℕ)) (old new : Watched W) (after : State) (outcome : Outcome)
+    (result : Result Bool E) : Type 0 where
   pub state : after ≡ outcome.state
   pub writes : Writes contents old new result (text_of outcome.reply)
   pub refused : IfOk result (λ is_refused. is_refused ≡ is_error outcome.reply)
 
 -- The same of some outcome that a reading may lead to.
-pub record RespondsTo {W E : Type 0} (contents : W → Option (List ℕ)) (old new : Watched W) (read : Result Command Refusal) (before after : State) (result : Result Bool E) : Type 0 where
+pub record RepliesToReading {W E : Type 0} (contents : W → Option (List ℕ)) (old new : Watched W) (read : Result Command Refusal) (before after : State)
+    (result : Result Bool E) : Type 0 where
   pub outcome : Outcome
   pub leads : MayLeadTo read before outcome
   pub replies : Replies contents old new after outcome result
 
 -- The same of a line, memory refused to it or not.
-pub record AnswersLine {W E : Type 0} (contents : W → Option (List ℕ)) (old new : Watched W) (line : List ℕ) (before after : State) (result : Result Bool E) : Type 0 where
+pub record RepliesToLine {W E : Type 0} (contents : W → Option (List ℕ)) (old new : Watched W) (line : List ℕ) (before after : State)
+    (result : Result Bool E) : Type 0 where
   pub choice : Bool
   pub replies : Replies contents old new after (answer choice line before) result
 
 -- The next line is gone and was answered.
-pub record PassesAnswered {R W E : Type 0} (remaining : R → Option (List ℕ)) (contents : W → Option (List ℕ)) (reader later : Watched R) (input next : Input) (before after : State) (old new : Watched W) (result : Result Bool E) : Type 0 where
+pub record PassesReplied {R W E : Type 0} (remaining : R → Option (List ℕ)) (contents : W → Option (List ℕ)) (reader later : Watched R) (input next : Input)
+    (before after : State) (old new : Watched W) (result : Result Bool E) : Type 0 where
   pub line : List ℕ
   pub passes : PassesLine remaining reader later input next line
-  pub answers : AnswersLine contents old new (without_return line) before after result
+  pub answers : RepliesToLine contents old new (without_return line) before after result
 
 -- Nothing was written.
 pub record WritesNothing {W : Type 0} (contents : W → Option (List ℕ)) (old new : Watched W) : Type 0 where
@@ -57,14 +61,15 @@ pub record WritesNothing {W : Type 0} (contents : W → Option (List ℕ)) (old 
   pub unfailed : has_failed new ≡ false
 
 -- A run goes on by a line, ends with its input, or breaks off.
-abbrev pub GoesOn : {R W : Type 0} → (R → Option (List ℕ)) → (W → Option (List ℕ)) → Watched R → Watched R → Input → Input → State → State → Watched W → Watched W → Result (Option Bool) RunFault → Type 0
+abbrev pub GoesOn : {R W : Type 0} → (R → Option (List ℕ)) → (W → Option (List ℕ)) → Watched R → Watched R → Input → Input → State → State → Watched W
+    → Watched W → Result (Option Bool) RunFault → Type 0
 GoesOn remaining contents reader later input next before after old new (Ok (Some is_refused)) =
-    PassesAnswered {E = RunFault} remaining contents reader later input next before after old new (Ok is_refused)
+    PassesReplied {E = RunFault} remaining contents reader later input next before after old new (Ok is_refused)
 GoesOn remaining contents reader later input next before after old new (Ok None) =
     Advances remaining reader later input next [] × Finds next End × WritesNothing contents old new
 GoesOn remaining contents reader later input next before after old new (Err Read) =
     StopsInLine remaining reader later input next Read × WritesNothing contents old new
 GoesOn remaining contents reader later input next before after old new (Err Write) =
-    PassesAnswered remaining contents reader later input next before after old new (Err Write)
+    PassesReplied remaining contents reader later input next before after old new (Err Write)
 GoesOn remaining contents reader later input next before after old new (Err TooLong) =
     StopsInLine remaining reader later input next TooLong × WritesNothing contents old new

@@ -25,11 +25,13 @@ returns g c =
     let leads : MayLeadTo c.args.command c.args.database.now (reply_and c.match-command.reply c.match-command.database) =
     elim c.match-command.branch [
       | in-Ok-Define w ↦
-          leads_step (Define w.in-Ok-Define.definition) refl c.args.command (w.in-Ok-Define.is ∙ ap (λ (command : Command). Ok command) w.in-Ok-Define.field-0-is) c.args.database.now
+          leads_step (Define w.in-Ok-Define.definition) refl c.args.command
+          (w.in-Ok-Define.is ∙ ap (λ (command : Command). Ok command) w.in-Ok-Define.field-0-is) c.args.database.now
           (reply_and c.match-command.reply c.match-command.database) (reply_and w.define-reply.result w.define-reply.new.database)
           (ap (λ r. reply_and r c.match-command.database) w.reply-is ∙ ap (reply_and w.define-reply.result) w.database-is) w.define-reply.ensures
       | in-Ok-Change w ↦
-          leads_step (Change w.in-Ok-Change.mutation) refl c.args.command (w.in-Ok-Change.is ∙ ap (λ (command : Command). Ok command) w.in-Ok-Change.field-0-is) c.args.database.now
+          leads_step (Change w.in-Ok-Change.mutation) refl c.args.command (w.in-Ok-Change.is ∙ ap (λ (command : Command). Ok command) w.in-Ok-Change.field-0-is)
+          c.args.database.now
           (reply_and c.match-command.reply c.match-command.database) (reply_and w.change-reply.result w.change-reply.new.database)
           (ap (λ r. reply_and r c.match-command.database) w.reply-is ∙ ap (reply_and w.change-reply.result) w.database-is) w.change-reply.ensures
       | in-Err w ↦

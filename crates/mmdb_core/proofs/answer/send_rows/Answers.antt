@@ -8,4 +8,5 @@ use Rattle.mmdb_core.proofs.answer.send_rows.Goals as goal
 pub returns-in_err-flush-clause-written : goal.returns-in_err-flush-clause-written
 returns-in_err-flush-clause-written g c =
     let p = err_from_is_err_and c.from_residual-in_err-flush.result c.from_residual-in_err-flush.ensures.1 in
-    writes_flushed c.from_residual-in_err-flush.result (rows_text c.args.rows.now) c.in_ok-write_rows.ensures c.flush.ensures.kept (c.in_err-flush.ensures.failed ∙ sym (ap is_err p.1))
+    writes_flushed c.from_residual-in_err-flush.result (rows_text c.args.rows.now) c.in_ok-write_rows.ensures c.flush.ensures.kept
+    (c.in_err-flush.ensures.failed ∙ sym (ap is_err p.1))

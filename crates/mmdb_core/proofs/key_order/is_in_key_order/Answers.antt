@@ -8,4 +8,5 @@ use Rattle.mmdb_core.proofs.key_order.is_in_key_order.Goals as goal
 
 pub returns : goal.returns
 returns c =
-    order_from_neighbours c.args.key c.args.rows.now c.is_sorted_by.result (c.is_sorted_by.ensures.cases (λ a b. is_lt (column_cmp c.args.key a b)) (always_returns_same _ _ _ (λ a r f k. search rules)))
+    order_from_neighbours c.args.key c.args.rows.now c.is_sorted_by.result
+    (c.is_sorted_by.ensures.cases (λ a b. is_lt (column_cmp c.args.key a b)) (always_returns_same _ _ _ (λ a r f k. search rules)))

@@ -14,9 +14,12 @@ returns c =
     let last = c.in-Some-Some.ensures.item in
     let first = c.in-Some-Some.ensures'.item in
     let less = less_from_index (column_cmp c.args.key c.in-Some-Some.last.now c.in-Some-Some.first.now) _ c.compare_by_column.ensures c.if-eq.ensures in
-    sym (no_twins_from_ends c.args.key c.args.old.now c.args.fresh.now c.in-Some-Some.last.now c.in-Some-Some.first.now c.requires.old_order c.requires.fresh_order last.3.0 last.1 first.3.0 first.1 less)
+    sym (no_twins_from_ends c.args.key c.args.old.now c.args.fresh.now c.in-Some-Some.last.now c.in-Some-Some.first.now c.requires.old_order
+    c.requires.fresh_order last.3.0 last.1 first.3.0 first.1 less)
 
 pub returns-2 : goal.returns-2
 returns-2 c =
-    let by_search : c.any.result ≡ list_any (λ row. list_any (same_in_column c.args.key row) c.args.old.now) c.args.fresh.now = any_from_yields_List (λ row. list_any (same_in_column c.args.key row) c.args.old.now) _ _ c.any.result c.any.ensures.ran (YieldsList-from_slice c.args.fresh.now cc) (λ x b q k. search (rules, tests)) in
+    let by_search : c.any.result ≡ list_any (λ row. list_any (same_in_column c.args.key row) c.args.old.now) c.args.fresh.now = any_from_yields_List
+    (λ row. list_any (same_in_column c.args.key row) c.args.old.now) _ _ c.any.result c.any.ensures.ran (YieldsList-from_slice c.args.fresh.now cc)
+    (λ x b q k. search (rules, tests)) in
     by_search ∙ sym (has_twin_keys-append c.args.key c.args.old.now c.args.fresh.now c.requires.old_order c.requires.fresh_order)

@@ -9,4 +9,5 @@ use Rattle.mmdb_core.proofs.key_order.sort_by_column.Goals as goal
 
 pub returns-clause-sorted : goal.returns-clause-sorted
 returns-clause-sorted c =
-    c.sort_unstable_by.ensures.sorted (λ a b. is_lt (column_cmp c.args.column a b)) (ranks_by (column_cmp_total c.args.column) (λ row. row)) (always_returns_same _ _ _ (λ a r f k. search rules))
+    c.sort_unstable_by.ensures.sorted (λ a b. is_lt (column_cmp c.args.column a b)) (ranks_by (column_cmp_total c.args.column) (λ row. row))
+    (always_returns_same _ _ _ (λ a r f k. search rules))

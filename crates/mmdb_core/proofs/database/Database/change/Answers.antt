@@ -16,7 +16,8 @@ returns-in_err-table-clause-due c =
 
 pub index_mut-requires : goal.index_mut-requires
 index_mut-requires c =
-    rows_in_place c.self.inside.catalog c.self.inside.rows.items c.self.invariant c.args.mutation c.in_ok-table.field-0 c.in_ok-table.ensures.ok _ (cc) c.self.inside.rows.len c.self.inside.rows.ok.0
+    rows_in_place c.self.inside.catalog c.self.inside.rows.items c.self.invariant c.args.mutation c.in_ok-table.field-0 c.in_ok-table.ensures.ok _
+    (cc) c.self.inside.rows.len c.self.inside.rows.ok.0
 
 pub returns-in_err-add_all-clause-due : goal.returns-in_err-add_all-clause-due
 returns-in_err-add_all-clause-due c =
@@ -29,7 +30,8 @@ returns-in_err-add_all-clause-due c =
 pub invariant_of-self-2 : goal.invariant_of-self-2
 invariant_of-self-2 c =
     rows_stay c.self.inside.catalog c.self.inside.rows.items c.self.invariant c.args.mutation c.in_ok-table.field-0 c.in_ok-table.ensures.ok _ (cc)
-    c.into_vec-fresh.result.items (cc) c.index_mut.result.now c.index_mut.ensures.value c.in_ok-table.ensures.distinct c.add_all.new.self c.in_ok-add_all.ensures.ok
+    c.into_vec-fresh.result.items (cc) c.index_mut.result.now c.index_mut.ensures.value c.in_ok-table.ensures.distinct c.add_all.new.self
+    c.in_ok-add_all.ensures.ok
 
 pub returns-clause-due : goal.returns-clause-due
 returns-clause-due c =
@@ -41,5 +43,6 @@ returns-clause-due c =
 pub returns-clause-ok : goal.returns-clause-ok
 returns-clause-ok c =
     change_is c.self.inside.catalog c.self.inside.rows.items c.self.invariant c.args.mutation c.in_ok-table.field-0 c.in_ok-table.ensures.ok _ (cc)
-    c.into_vec-fresh.result.items (cc) c.index_mut.result.now c.index_mut.ensures.value c.in_ok-table.ensures.distinct c.add_all.new.self c.in_ok-add_all.ensures.ok
+    c.into_vec-fresh.result.items (cc) c.index_mut.result.now c.index_mut.ensures.value c.in_ok-table.ensures.distinct c.add_all.new.self
+    c.in_ok-add_all.ensures.ok
     ∙ ap (after_change c.args.mutation) c.self.view_is

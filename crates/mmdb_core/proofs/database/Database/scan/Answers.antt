@@ -15,13 +15,15 @@ pub returns-in_err-place-clause-due : goal.returns-in_err-place-clause-due
 returns-in_err-place-clause-due c =
     let p = err_from_is_err_and c.from_residual.result c.from_residual.ensures.1 in
     let lacks = lacks_nowhere c.args.table.now c.self.inside.catalog (sym c.place_of.ensures.place ∙ c.in_err-place.ensures.ok_part) in
-    let lacks_now : lacks_table c.args.table.now c.args.self.now.schema ≡ true = sym (ap (λ (s : State). lacks_table c.args.table.now s.schema) c.self.view_is) ∙ lacks in
+    let lacks_now : lacks_table c.args.table.now
+    c.args.self.now.schema ≡ true = sym (ap (λ (s : State). lacks_table c.args.table.now s.schema) c.self.view_is) ∙ lacks in
     let told : NoSuchTable ≡ c.in_err-place.field-0.0 = grind arith in
     rw (p.1, p.2) (ap (λ b. cond b (Some NoSuchTable) None) lacks_now ∙ ap (λ (r : Refusal). Some r) told)
 
 pub index-rows-requires : goal.index-rows-requires
 index-rows-requires c =
-    let there = rows_there c.self.inside.catalog c.self.inside.rows.items c.self.invariant c.args.table.now c.in_ok-place.place (sym c.place_of.ensures.place ∙ c.in_ok-place.ensures.ok_part) in
+    let there = rows_there c.self.inside.catalog c.self.inside.rows.items c.self.invariant c.args.table.now c.in_ok-place.place
+    (sym c.place_of.ensures.place ∙ c.in_ok-place.ensures.ok_part) in
     omega (arith, c.self.inside.rows.ok.0)
 
 pub returns-clause-due : goal.returns-clause-due
@@ -32,7 +34,8 @@ returns-clause-due c =
     let there = slice_get_read rows.items rows.len c.in_ok-place.place c.index-rows.result.now rows.ok.0 (omega (arith, rows.ok.0)) c.index-rows.ensures in
     let at = beside c.self.inside.catalog.tables rows.items c.in_ok-place.place c.index-rows.result.now c.self.invariant there in
     let found = not_lacking c.args.table.now c.self.inside.catalog c.in_ok-place.place at.table placed at.there in
-    let found_now : lacks_table c.args.table.now c.args.self.now.schema ≡ false = sym (ap (λ (s : State). lacks_table c.args.table.now s.schema) c.self.view_is) ∙ found in
+    let found_now : lacks_table c.args.table.now
+    c.args.self.now.schema ≡ false = sym (ap (λ (s : State). lacks_table c.args.table.now s.schema) c.self.view_is) ∙ found in
     ap (λ b. cond b (Some NoSuchTable) None) found_now
 
 pub returns-clause-rows : goal.returns-clause-rows

@@ -10,7 +10,8 @@ use Rattle.mmdb_core.proofs.input.Input.skip_line.Goals as goal
 pub returns-in_err-fill-clause-stops : goal.returns-in_err-fill-clause-stops
 returns-in_err-fill-clause-stops g c =
     let p = err_from_is_err_and c.from_residual.result c.from_residual.ensures.1 in
-    at-fault (StopsInLine g.R.Read.remaining c.args.reader.now c.fill.new.reader c.args.self.now c.fill.new.self) c.from_residual.result c.in_err-fill.field-0.0 p.0 p.1 p.2
+    at-fault (StopsInLine g.R.Read.remaining c.args.reader.now c.fill.new.reader c.args.self.now c.fill.new.self) c.from_residual.result c.in_err-fill.field-0.0
+    p.0 p.1 p.2
     (Drops-stops c.in_err-fill.field-0.0 c.loop-self.invariant c.fill.ensures.advances c.in_err-fill.ensures.same c.in_err-fill.ensures.fault)
 
 pub returns-clause-gone : goal.returns-clause-gone
