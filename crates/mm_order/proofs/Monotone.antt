@@ -13,10 +13,12 @@ not_before Equal p equal greater = subst (λ q. ordering_index Equal ≤ orderin
 not_before Greater p equal greater = subst (λ q. ordering_index Greater ≤ ordering_index q) (sym (greater refl)) (omega arith)
 
 -- in a total order the places of one reference rise
-pub IsMonotone-at : (Covers : RowRef → Type 0) (cmp : RowRef → RowRef → Ordering) → IsTotalOrderOn Covers cmp → (at : RowRef) → Covers at → IsMonotone Covers cmp (λ a. Covers a × Covers at) (λ a. cmp a at)
+pub IsMonotone-at : (Covers : RowRef → Type 0) (cmp : RowRef → RowRef → Ordering) → IsTotalOrderOn Covers cmp → (at : RowRef)
+    → Covers at → IsMonotone Covers cmp (λ a. Covers a × Covers at) (λ a. cmp a at)
 IsMonotone-at Covers cmp total at covered = record {
   reaches = λ a in_a. (in_a, covered);
   rises = λ a b in_a in_b less. not_before (cmp a at) (cmp b at)
       (λ equal. total.antisymm b at in_b covered ∙ ap ordering_reverse (sym (total.congr a at b in_a covered in_b equal) ∙ less))
-      (λ greater. total.antisymm b at in_b covered ∙ ap ordering_reverse (total.trans at a b covered in_a in_b (total.antisymm at a covered in_a ∙ ap ordering_reverse greater) less));
+      (λ greater. total.antisymm b at in_b covered ∙ ap ordering_reverse
+      (total.trans at a b covered in_a in_b (total.antisymm at a covered in_a ∙ ap ordering_reverse greater) less));
 }

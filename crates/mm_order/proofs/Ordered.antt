@@ -43,7 +43,9 @@ too_high Greater Equal e = (cc)
 too_high Greater Greater e = refl
 
 -- of a list in three parts, the first too low, the last too high, the entries between are the middle part
-pub entries_between-found_parts : (low high : RowRef → Ordering) (before middle after : List RowRef) → All (λ a. low a ≡ Less) before → All (λ a. low a ≢ Less) middle → All (λ a. high a ≢ Greater) middle → All (λ a. high a ≡ Greater) after → entries_between low high (before ++ (middle ++ after)) ≡ middle
+pub entries_between-found_parts : (low high : RowRef → Ordering) (before middle after : List RowRef) → All (λ a. low a ≡ Less) before
+    → All (λ a. low a ≢ Less) middle → All (λ a. high a ≢ Greater) middle → All (λ a. high a ≡ Greater) after
+    → entries_between low high (before ++ (middle ++ after)) ≡ middle
 entries_between-found_parts low high before middle after low_before low_middle high_middle high_after =
     let between : RowRef → Bool = is_between low high in
     let none_before : filter between before ≡ [] = filter-none between before (λ k d below. too_low _ _ (low_before k d below)) in
@@ -56,17 +58,22 @@ entries_between-found_parts low high before middle after low_before low_middle h
     ∙ ap (λ xs. middle ++ xs) none_after
     ∙ append-nil middle
 
--- the same where the two places are found one after the other
-pub entries_between-found : (low high : RowRef → Ordering) (refs : List RowRef) (from count : ℕ) → All (λ a. low a ≡ Less) (take from refs) → All (λ a. low a ≢ Less) (drop from refs) → All (λ a. high a ≢ Greater) (take count (drop from refs)) → All (λ a. high a ≡ Greater) (drop count (drop from refs)) → entries_between low high refs ≡ take count (drop from refs)
+-- the entries between are so many of those from the first that is not too low on, as come before one that is too high
+pub entries_between-found : (low high : RowRef → Ordering) (refs : List RowRef) (from count : ℕ) → All (λ a. low a ≡ Less) (take from refs)
+    → All (λ a. low a ≢ Less) (drop from refs) → All (λ a. high a ≢ Greater) (take count (drop from refs))
+    → All (λ a. high a ≡ Greater) (drop count (drop from refs)) → entries_between low high refs ≡ take count (drop from refs)
 entries_between-found low high refs from count low_before low_rest high_middle high_after =
     let rest : List RowRef = drop from refs in
     let split_rest : take count rest ++ drop count rest ≡ rest = take-append-drop count rest in
     let split : take from refs ++ (take count rest ++ drop count rest) ≡ refs = ap (λ xs. take from refs ++ xs) split_rest ∙ take-append-drop from refs in
-    let low_middle : All (λ a. low a ≢ Less) (take count rest) = All-append_left (λ a. low a ≢ Less) (take count rest) (drop count rest) (subst (All (λ a. low a ≢ Less)) (sym split_rest) low_rest) in
-    sym (ap (entries_between low high) split) ∙ entries_between-found_parts low high (take from refs) (take count rest) (drop count rest) low_before low_middle high_middle high_after
+    let low_middle : All (λ a. low a ≢ Less) (take count rest) =
+    All-append_left (λ a. low a ≢ Less) (take count rest) (drop count rest) (subst (All (λ a. low a ≢ Less)) (sym split_rest) low_rest) in
+    sym (ap (entries_between low high) split) ∙ entries_between-found_parts low high (take from refs) (take count rest)
+    (drop count rest) low_before low_middle high_middle high_after
 
 -- along an ordered list the places of a monotone probe rise
-pub IsNonDecreasingBy-places : (Covers : RowRef → Type 0) (cmp : RowRef → RowRef → Ordering) (refs : List RowRef) → IsOrdered Covers cmp refs → (Reaches : RowRef → Type 0) (place : RowRef → Ordering) → IsMonotone Covers cmp Reaches place → IsNonDecreasingBy (λ a. ordering_index (place a)) refs
+pub IsNonDecreasingBy-places : (Covers : RowRef → Type 0) (cmp : RowRef → RowRef → Ordering) (refs : List RowRef) → IsOrdered Covers cmp refs
+    → (Reaches : RowRef → Type 0) (place : RowRef → Ordering) → IsMonotone Covers cmp Reaches place → IsNonDecreasingBy (λ a. ordering_index (place a)) refs
 IsNonDecreasingBy-places Covers cmp refs was Reaches place monotone i j d upto within =
     ⊎_elim
     (λ (same : i ≡ j). subst (λ k. ordering_index (place (get_or refs i d)) ≤ ordering_index (place (get_or refs k d))) same (omega arith))
@@ -82,13 +89,15 @@ module _ (cmp : RowRef → RowRef → Ordering) (refs : List RowRef) (added : Ro
   pub All-added : (P : RowRef → Type 0) → All P refs → P added → All P more
   All-added P all here =
       let parts : All P (adds.front ++ adds.back) = subst (All P) adds.refs_are all in
-      subst (All P) (sym adds.more_are) (All-append P adds.front (added ∷ adds.back) (All-append_left P adds.front adds.back parts) (All-cons P added adds.back here (All-append_right P adds.front adds.back parts)))
+      subst (All P) (sym adds.more_are) (All-append P adds.front (added ∷ adds.back) (All-append_left P adds.front adds.back parts)
+      (All-cons P added adds.back here (All-append_right P adds.front adds.back parts)))
 
   -- what holds of all holds without one
   pub All-removed : (P : RowRef → Type 0) → All P more → All P refs
   All-removed P all =
       let parts : All P (adds.front ++ added ∷ adds.back) = subst (All P) adds.more_are all in
-      subst (All P) (sym adds.refs_are) (All-append P adds.front adds.back (All-append_left P adds.front (added ∷ adds.back) parts) (All-tail P added adds.back (All-append_right P adds.front (added ∷ adds.back) parts)))
+      subst (All P) (sym adds.refs_are) (All-append P adds.front adds.back (All-append_left P adds.front (added ∷ adds.back) parts)
+      (All-tail P added adds.back (All-append_right P adds.front (added ∷ adds.back) parts)))
 
   pub length-added : length more ≡ suc (length refs)
   length-added =
@@ -97,26 +106,33 @@ module _ (cmp : RowRef → RowRef → Ordering) (refs : List RowRef) (added : Ro
   -- the new list holds the new reference and the old ones
   pub IsPermutation-added : IsPermutation more (added ∷ refs)
   IsPermutation-added =
-      subst (λ xs. IsPermutation xs (added ∷ refs)) (sym adds.more_are) (subst (λ xs. IsPermutation (adds.front ++ added ∷ adds.back) (added ∷ xs)) (sym adds.refs_are) (IsPermutation-middle adds.front added adds.back))
+      subst (λ xs. IsPermutation xs (added ∷ refs)) (sym adds.more_are)
+      (subst (λ xs. IsPermutation (adds.front ++ added ∷ adds.back) (added ∷ xs)) (sym adds.refs_are) (IsPermutation-middle adds.front added adds.back))
 
 module _ (Covers : RowRef → Type 0) (cmp : RowRef → RowRef → Ordering) where
   Below : RowRef → RowRef → Type 0
   Below a b = cmp a b ≡ Less
 
   -- with a covered reference at its place an ordered list is ordered
-  pub IsOrdered-added : (refs : List RowRef) (added : RowRef) (more : List RowRef) → IsOrdered Covers cmp refs → Covers added → AddsInOrder cmp refs added more → IsOrdered Covers cmp more
+  pub IsOrdered-added : (refs : List RowRef) (added : RowRef) (more : List RowRef) → IsOrdered Covers cmp refs → Covers added → AddsInOrder cmp refs added more
+      → IsOrdered Covers cmp more
   unfolding Below
   IsOrdered-added refs added more was covered adds =
       let ascend : AllPairs Below (adds.front ++ adds.back) = subst (AllPairs Below) adds.refs_are was.ascending in
       let across : All (λ a. All (Below a) adds.back) adds.front = AllPairs-append_across Below adds.front adds.back ascend in
-      let back_ascends : AllPairs Below (added ∷ adds.back) = AllPairs-append Below (added ∷ []) adds.back (AllPairs-single Below added) (AllPairs-append_right Below adds.front adds.back ascend) (All-cons (λ a. All (Below a) adds.back) added [] adds.below_back (λ k d below. absurd (omega arith))) in
+      let back_ascends : AllPairs Below (added ∷ adds.back) = AllPairs-append Below (added ∷ []) adds.back (AllPairs-single Below added)
+      (AllPairs-append_right Below adds.front adds.back ascend)
+      (All-cons (λ a. All (Below a) adds.back) added [] adds.below_back (λ k d below. absurd (omega arith))) in
       record {
         covered = All-added cmp refs added more adds Covers was.covered covered;
-        ascending = subst (AllPairs Below) (sym adds.more_are) (AllPairs-append Below adds.front (added ∷ adds.back) (AllPairs-append_left Below adds.front adds.back ascend) back_ascends (λ k d below. All-cons (Below (get_or adds.front k d)) added adds.back (adds.above_front k d below) (across k d below)));
+        ascending = subst (AllPairs Below) (sym adds.more_are)
+            (AllPairs-append Below adds.front (added ∷ adds.back) (AllPairs-append_left Below adds.front adds.back ascend) back_ascends
+            (λ k d below. All-cons (Below (get_or adds.front k d)) added adds.back (adds.above_front k d below) (across k d below)));
       }
 
   -- without one of its references an ordered list is ordered
-  pub IsOrdered-removed : (refs : List RowRef) (gone : RowRef) (more : List RowRef) → IsOrdered Covers cmp more → AddsInOrder cmp refs gone more → IsOrdered Covers cmp refs
+  pub IsOrdered-removed : (refs : List RowRef) (gone : RowRef) (more : List RowRef) → IsOrdered Covers cmp more → AddsInOrder cmp refs gone more
+      → IsOrdered Covers cmp refs
   unfolding Below
   IsOrdered-removed refs gone more was adds =
       let ascend : AllPairs Below (adds.front ++ gone ∷ adds.back) = subst (AllPairs Below) adds.more_are was.ascending in
@@ -124,7 +140,10 @@ module _ (Covers : RowRef → Type 0) (cmp : RowRef → RowRef → Ordering) whe
       let back_ascends : AllPairs Below (gone ∷ adds.back) = AllPairs-append_right Below adds.front (gone ∷ adds.back) ascend in
       record {
         covered = All-removed cmp refs gone more adds Covers was.covered;
-        ascending = subst (AllPairs Below) (sym adds.refs_are) (AllPairs-append Below adds.front adds.back (AllPairs-append_left Below adds.front (gone ∷ adds.back) ascend) (AllPairs-append_right Below (gone ∷ []) adds.back back_ascends) (λ k d below. All-tail (Below (get_or adds.front k d)) gone adds.back (across k d below)));
+        ascending = subst (AllPairs Below) (sym adds.refs_are)
+            (AllPairs-append Below adds.front adds.back (AllPairs-append_left Below adds.front (gone ∷ adds.back) ascend)
+            (AllPairs-append_right Below (gone ∷ []) adds.back back_ascends)
+            (λ k d below. All-tail (Below (get_or adds.front k d)) gone adds.back (across k d below)));
       }
 
   -- ---- a search that found the place of a reference
@@ -134,7 +153,8 @@ module _ (Covers : RowRef → Type 0) (cmp : RowRef → RowRef → Ordering) whe
   reverse_self Equal e = λ f. cc
   reverse_self Greater e = λ f. cc
 
-  module _ (total : IsTotalOrderOn Covers cmp) (refs : List RowRef) (was : IsOrdered Covers cmp refs) (sought : RowRef) (covered : Covers sought) (at : ℕ) (before : All (λ a. cmp a sought ≡ Less) (take at refs)) (rest : All (λ a. cmp a sought ≢ Less) (drop at refs)) where
+  module _ (total : IsTotalOrderOn Covers cmp) (refs : List RowRef) (was : IsOrdered Covers cmp refs) (sought : RowRef) (covered : Covers sought) (at : ℕ)
+      (before : All (λ a. cmp a sought ≡ Less) (take at refs)) (rest : All (λ a. cmp a sought ≢ Less) (drop at refs)) where
     not_before : (k : ℕ) → k < length refs → get_or refs k sought ≡ sought → k < at → ⊥
     not_before k within is early =
         let there : cmp (get_or (take at refs) k sought) sought ≡ Less = before k sought (omega (arith, length-take at refs)) in
@@ -158,13 +178,17 @@ module _ (Covers : RowRef → Type 0) (cmp : RowRef → RowRef → Ordering) whe
     -- taken out at its place
     pub AddsInOrder-found : at < length refs → get_or refs at sought ≡ sought → AddsInOrder cmp (take at refs ++ drop (suc at) refs) sought refs
     AddsInOrder-found within is =
-        let split : refs ≡ take at refs ++ sought ∷ drop (suc at) refs = sym (take-append-drop at refs) ∙ ap (λ xs. take at refs ++ xs) (drop-cons refs at sought within ∙ ap (λ a. a ∷ drop (suc at) refs) is) in
-        let parts_ascend : AllPairs (λ a b. cmp a b ≡ Less) (take at refs ++ sought ∷ drop (suc at) refs) = subst (AllPairs (λ a b. cmp a b ≡ Less)) split was.ascending in
+        let split : refs ≡ take at refs ++ sought ∷ drop (suc at) refs = sym (take-append-drop at refs)
+        ∙ ap (λ xs. take at refs ++ xs) (drop-cons refs at sought within ∙ ap (λ a. a ∷ drop (suc at) refs) is) in
+        let parts_ascend : AllPairs (λ a b. cmp a b ≡ Less) (take at refs ++ sought ∷ drop (suc at) refs) =
+        subst (AllPairs (λ a b. cmp a b ≡ Less)) split was.ascending in
         record {
           front = take at refs;
           back = drop (suc at) refs;
           refs_are = refl;
           more_are = split;
           above_front = before;
-          below_back = All-head (λ a. All (λ b. cmp a b ≡ Less) (drop (suc at) refs)) sought [] (AllPairs-append_across (λ a b. cmp a b ≡ Less) (sought ∷ []) (drop (suc at) refs) (AllPairs-append_right (λ a b. cmp a b ≡ Less) (take at refs) (sought ∷ drop (suc at) refs) parts_ascend));
+          below_back = All-head (λ a. All (λ b. cmp a b ≡ Less) (drop (suc at) refs)) sought []
+              (AllPairs-append_across (λ a b. cmp a b ≡ Less) (sought ∷ []) (drop (suc at) refs)
+              (AllPairs-append_right (λ a b. cmp a b ≡ Less) (take at refs) (sought ∷ drop (suc at) refs) parts_ascend));
         }

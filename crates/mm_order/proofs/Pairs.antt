@@ -36,7 +36,8 @@ module _ {X : Type 0} (R : X → X → Type 0) where
   AllPairs-append_across xs ys all i d below j e within =
       let at_i : get_or (xs ++ ys) i e ≡ get_or xs i e = get_or_append_left xs ys e i below in
       let at_j : get_or (xs ++ ys) (length xs + j) e ≡ get_or ys j e = get_or-append-add xs ys j e in
-      let there = subst (λ x. R x (get_or ys j e)) at_i (subst (R (get_or (xs ++ ys) i e)) at_j (all i (length xs + j) e (omega arith) (omega (arith, length-append xs ys)))) in
+      let there = subst (λ x. R x (get_or ys j e)) at_i
+      (subst (R (get_or (xs ++ ys) i e)) at_j (all i (length xs + j) e (omega arith) (omega (arith, length-append xs ys)))) in
       subst (λ x. R x (get_or ys j e)) (get_or_default xs i e d below) there
 
   pub AllPairs-append : (xs ys : List X) → AllPairs R xs → AllPairs R ys → AllAcross xs ys → AllPairs R (xs ++ ys)
@@ -56,7 +57,8 @@ module _ {X : Type 0} (R : X → X → Type 0) where
       subst (λ x. R x (get_or (xs ++ ys) j d)) (sym at_i) (subst (R (get_or xs i d)) (sym at_j) (across i d i_left (j - length xs) d j_within)))
       (λ (i_right : length xs ≤ i).
       let at_i : get_or (xs ++ ys) i d ≡ get_or ys (i - length xs) d = get_or-append_right xs ys i d i_right in
-      subst (λ x. R x (get_or (xs ++ ys) j d)) (sym at_i) (subst (R (get_or ys (i - length xs) d)) (sym at_j) (in_ys (i - length xs) (j - length xs) d (omega arith) j_within)))
+      subst (λ x. R x (get_or (xs ++ ys) j d)) (sym at_i)
+      (subst (R (get_or ys (i - length xs) d)) (sym at_j) (in_ys (i - length xs) (j - length xs) d (omega arith) j_within)))
       (cases_lt i (length xs)))
       (cases_lt j (length xs))
 

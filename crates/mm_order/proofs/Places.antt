@@ -44,7 +44,8 @@ greater_from_is_le Greater e = refl
 
 -- ---- the entries before and after
 
-module _ {X : Type 0} (place : X → Ordering) (xs : List X) (at : ℕ) (d : X) (rise : IsNonDecreasingBy (λ x. ordering_index (place x)) xs) (within : at < length xs) where
+module _ {X : Type 0} (place : X → Ordering) (xs : List X) (at : ℕ) (d : X) (rise : IsNonDecreasingBy (λ x. ordering_index (place x)) xs)
+    (within : at < length xs) where
   up_to : (k : ℕ) (e : X) → k ≤ at → ordering_index (place (get_or xs k e)) ≤ ordering_index (place (get_or xs at d))
   up_to k e below =
       subst (λ y. ordering_index (place (get_or xs k e)) ≤ ordering_index (place y)) (get_or_default xs at e d within) (rise k at e below within)

@@ -42,7 +42,8 @@ module _ (Covers : RowRef → Type 0) (cmp : RowRef → RowRef → Ordering) (to
       let covered : Covers a = All-head Covers a rest was.covered in
       never_both (cmp a a) (cmp a a) (total.antisymm a a covered covered) itself itself
 
-  same_first : (a b : RowRef) (xs ys : List RowRef) → IsOrdered Covers cmp (a ∷ xs) → IsOrdered Covers cmp (b ∷ ys) → Contains (b ∷ ys) a → Contains (a ∷ xs) b → a ≡ b
+  same_first : (a b : RowRef) (xs ys : List RowRef) → IsOrdered Covers cmp (a ∷ xs) → IsOrdered Covers cmp (b ∷ ys) → Contains (b ∷ ys) a → Contains (a ∷ xs) b
+      → a ≡ b
   same_first a b xs ys in_xs in_ys a_there b_there =
       ⊎_elim
       (λ (same : b ≡ a). sym same)
@@ -58,7 +59,8 @@ module _ (Covers : RowRef → Type 0) (cmp : RowRef → RowRef → Ordering) (to
       (cons_cases b a ys a_there)
 
   -- what stands in the rest of one list stands in the rest of the other, where both begin alike
-  rest_within : (a : RowRef) (xs ys : List RowRef) → IsOrdered Covers cmp (a ∷ xs) → ((c : RowRef) → Contains (a ∷ xs) c → Contains (a ∷ ys) c) → (c : RowRef) → Contains xs c → Contains ys c
+  rest_within : (a : RowRef) (xs ys : List RowRef) → IsOrdered Covers cmp (a ∷ xs) → ((c : RowRef) → Contains (a ∷ xs) c → Contains (a ∷ ys) c) → (c : RowRef)
+      → Contains xs c → Contains ys c
   rest_within a xs ys in_xs through c here =
       ⊎_elim
       (λ (same : a ≡ c). absurd (not_later a xs in_xs (subst (Contains xs) (sym same) here)))
@@ -66,13 +68,19 @@ module _ (Covers : RowRef → Type 0) (cmp : RowRef → RowRef → Ordering) (to
       (cons_cases a c ys (through c (Contains-append_right (a ∷ []) xs c here)))
 
   -- two ordered lists that hold the same references are one list
-  pub same_from_same_references : (xs ys : List RowRef) → IsOrdered Covers cmp xs → IsOrdered Covers cmp ys → ((c : RowRef) → Contains xs c → Contains ys c) → ((c : RowRef) → Contains ys c → Contains xs c) → xs ≡ ys
+  pub same_from_same_references : (xs ys : List RowRef) → IsOrdered Covers cmp xs → IsOrdered Covers cmp ys → ((c : RowRef) → Contains xs c → Contains ys c)
+      → ((c : RowRef) → Contains ys c → Contains xs c) → xs ≡ ys
   same_from_same_references [] [] in_xs in_ys there back = refl
   same_from_same_references [] (b ∷ ys) in_xs in_ys there back = absurd (empty b (back b (Contains-append_left (b ∷ []) ys b (Contains-push [] b))))
   same_from_same_references (a ∷ xs) [] in_xs in_ys there back = absurd (empty a (there a (Contains-append_left (a ∷ []) xs a (Contains-push [] a))))
   same_from_same_references (a ∷ xs) (b ∷ ys) in_xs in_ys there back =
-      let same : a ≡ b = same_first a b xs ys in_xs in_ys (there a (Contains-append_left (a ∷ []) xs a (Contains-push [] a))) (back b (Contains-append_left (b ∷ []) ys b (Contains-push [] b))) in
+      let same : a ≡ b = same_first a b xs ys in_xs in_ys (there a (Contains-append_left (a ∷ []) xs a (Contains-push [] a)))
+      (back b (Contains-append_left (b ∷ []) ys b (Contains-push [] b))) in
       let in_ys_a : IsOrdered Covers cmp (a ∷ ys) = subst (λ r. IsOrdered Covers cmp (r ∷ ys)) (sym same) in_ys in
-      let there_a : (c : RowRef) → Contains (a ∷ xs) c → Contains (a ∷ ys) c = subst (λ r. (c : RowRef) → Contains (a ∷ xs) c → Contains (r ∷ ys) c) (sym same) there in
-      let back_a : (c : RowRef) → Contains (a ∷ ys) c → Contains (a ∷ xs) c = subst (λ r. (c : RowRef) → Contains (r ∷ ys) c → Contains (a ∷ xs) c) (sym same) back in
-      ap (λ r. r ∷ xs) same ∙ ap (λ rest. b ∷ rest) (same_from_same_references xs ys (rest_ordered a xs in_xs) (rest_ordered b ys in_ys) (rest_within a xs ys in_xs there_a) (rest_within a ys xs in_ys_a back_a))
+      let there_a : (c : RowRef) → Contains (a ∷ xs) c → Contains (a ∷ ys) c =
+      subst (λ r. (c : RowRef) → Contains (a ∷ xs) c → Contains (r ∷ ys) c) (sym same) there in
+      let back_a : (c : RowRef) → Contains (a ∷ ys) c → Contains (a ∷ xs) c =
+      subst (λ r. (c : RowRef) → Contains (r ∷ ys) c → Contains (a ∷ xs) c) (sym same) back in
+      ap (λ r. r ∷ xs) same ∙ ap (λ rest. b ∷ rest)
+      (same_from_same_references xs ys (rest_ordered a xs in_xs) (rest_ordered b ys in_ys) (rest_within a xs ys in_xs there_a)
+      (rest_within a ys xs in_ys_a back_a))

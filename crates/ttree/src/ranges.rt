@@ -46,12 +46,7 @@ pub(crate) fn copy_between<O: RefOrder, L: Probe, H: Probe>(
 
 /// Whether all entries of a root lie in the range: the first not before the place of `low`, the
 /// last not after that of `high`.
-fn is_within<O: RefOrder, L: Probe, H: Probe>(
-    node: &Subtree,
-    order: &O,
-    low: &L,
-    high: &H,
-) -> bool
+fn is_within<O: RefOrder, L: Probe, H: Probe>(node: &Subtree, order: &O, low: &L, high: &H) -> bool
     requires low { IsSearchable (O.covers order.now) (O.cmp order.now) (L.covers low.now) (L.place_of low.now) (fork node.now) }
     requires high { IsSearchable (O.covers order.now) (O.cmp order.now) (H.covers high.now) (H.place_of high.now) (fork node.now) }
     ensures { OnTrue result (entries_between (L.place_of low.now) (H.place_of high.now) node.now.entries ≡ node.now.entries) }

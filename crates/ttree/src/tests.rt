@@ -11,6 +11,7 @@ use crate::TTree;
 use mm_order::{OrderedRefs, Probe, RefOrder, Seek, SortedRefs};
 use mm_value::RowRef;
 use std::alloc::{AllocError, Global};
+use std::cell::Cell;
 use std::cmp::Ordering;
 use std::process::Abort;
 use std::test::Fail;
@@ -43,6 +44,33 @@ impl Probe for InPartition {
 
     fn place(&self, at: RowRef) -> Ordering {
         at.part.cmp(&self.0)
+    }
+}
+
+/// The references of one partition. It counts how often it is asked.
+#[derive(Drop)]
+struct Counting {
+    part: usize,
+    asked: Cell<usize>,
+}
+
+impl Probe for Counting {
+    ghost covers = { λ _ _. Unit {0} };
+
+    ghost place_of = { λ p at. nat_cmp at.part p.part };
+
+    fn place(&self, at: RowRef) -> Ordering {
+        self.asked.set(self.asked.get().wrapping_add(1));
+        at.part.cmp(&self.part)
+    }
+}
+
+fn counting_at(part: usize) -> Counting
+    ensures { result.part ≡ part }
+{
+    Counting {
+        part,
+        asked: Cell::new(0),
     }
 }
 
@@ -225,6 +253,25 @@ fn ascending_references_fill_the_nodes(rt: HostRuntime) -> Result<(), Fail> {
     }
     assert_eq!(rt; tree.len(), 1_048_576);
     assert!(rt; tree.height() <= 28);
+    Ok(())
+}
+
+#[test]
+fn a_range_asks_about_the_ends_of_a_node(rt: HostRuntime) -> Result<(), Fail> {
+    let alloc = rt.alloc();
+    let mut tree = TTree::new(alloc);
+    for part in 0..2000 {
+        reserve(&rt, &mut tree, alloc, 1)?;
+        tree.insert(&ByPart, entry(part));
+    }
+    let low = counting_at(100);
+    let high = counting_at(1899);
+    let mut out = Vec::new(alloc);
+    tree.copy_range(alloc, &ByPart, &low, &high, &mut out)?;
+    assert_eq!(rt; out.len(), 1800);
+    // Two questions a node of 16 are 225; the rest are of the nodes on the way to the two ends.
+    assert!(rt; low.asked.get() <= 200);
+    assert!(rt; high.asked.get() <= 200);
     Ok(())
 }
 

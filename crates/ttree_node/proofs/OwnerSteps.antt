@@ -58,7 +58,8 @@ module _ (T A : RattleType) (g : Ghosts A.Denot) where
 
     -- a `&` to the fields shows one to the pointer
     pub shows_pointer : {M : Type 1} {𝓤 : Ura M} (𝓛 : Logic 𝓤) (κ : Lft) (b at : ℕ) (o : Owned T.Denot A.Denot)
-        → ent 𝓤 (sem 𝓛 (hidden_shr Fields κ (o.at, (o.alloc, tt)) b at)) (sep 𝓤 (sem 𝓛 (hidden_shr RawPtr κ o.at b (at + 0))) (sem 𝓛 (hidden_shr Fields κ (o.at, (o.alloc, tt)) b at)))
+        → ent 𝓤 (sem 𝓛 (hidden_shr Fields κ (o.at, (o.alloc, tt)) b at))
+        (sep 𝓤 (sem 𝓛 (hidden_shr RawPtr κ o.at b (at + 0))) (sem 𝓛 (hidden_shr Fields κ (o.at, (o.alloc, tt)) b at)))
     shows_pointer 𝓛 κ b at o =
         qed 𝓛 (‵ (hidden_shr Fields κ (o.at, (o.alloc, tt)) b at) ∷ []) ∵
         shr_dup ! Fields fields_laws (o.at, (o.alloc, tt)) b at κ $ unhide ! $ fsplit ! $ fsplit ! $ hide ! $ keep ! (0 ∷ 3 ∷ []) $ done !
@@ -83,8 +84,11 @@ module _ (T A : RattleType) (g : Ghosts A.Denot) (K : Laws A) (d dd : Dict) wher
         → Seq J 𝓛 (‵ (part_at (param 0 T) full_share o.value b at) ∷ ‵ (may_free o.alloc (block_ptr b at)) ∷ ‵ ((param 1 A).own_val o.alloc (h ∷ [])) ∷ Γ) G)
         → Seq J 𝓛 (‵ ((Owner T A g).own_val o vs) ∷ Γ) G
     owner_out t o vs k =
-        fsplit t $ fpick t (λ vss. fsplit t $ feq_l t (λ whole. fsplit t $ feq_l t (λ pointer. fsplit t $ handle_tells allocator t o.alloc vss.1.0 (λ h handle fits. move t (1 ∷ []) $ drop t $ move t (1 ∷ []) $
-        in_a_block t o.at (λ p. block_owns (g.dealloc_token o.alloc) (param 0 T) p o.value) (fst∗ 𝓤 (never 𝓤) (sem 𝓛 (may_free o.alloc null_ptr))) (λ b at e. fsplit t $
+        fsplit t $ fpick t (λ vss. fsplit t $ feq_l t
+        (λ whole. fsplit t $ feq_l t (λ pointer. fsplit t $ handle_tells allocator t o.alloc vss.1.0
+        (λ h handle fits. move t (1 ∷ []) $ drop t $ move t (1 ∷ []) $
+        in_a_block t o.at (λ p. block_owns (g.dealloc_token o.alloc) (param 0 T) p o.value) (fst∗ 𝓤 (never 𝓤) (sem 𝓛 (may_free o.alloc null_ptr)))
+        (λ b at e. fsplit t $
         let by_pointer = subst (λ (ps : List Val). vs ≡ vstruct (of_list (ps ++ (vss.1.0 ++ []))) ∷ []) pointer whole in
         let by_handle = subst (λ (hs : List Val). vs ≡ vstruct (of_list (ptr_val o.at ∷ (hs ++ []))) ∷ []) handle by_pointer in
         k b at h e (subst (λ (p : Ptr). vs ≡ vstruct (of_list (ptr_val p ∷ h ∷ [])) ∷ []) e by_handle) fits)))))
@@ -95,14 +99,17 @@ module _ (T A : RattleType) (g : Ghosts A.Denot) (K : Laws A) (d dd : Dict) wher
         (‵ (part_at (param 0 T) full_share o.value b at) ∷ ‵ (may_free o.alloc (block_ptr b at)) ∷ ‵ ((param 1 A).own_val o.alloc (h ∷ [])) ∷ Γ) G
     owner_in t {h} o b at e = step (λ s.
         fjoin t $ rewrite t 0 (λ (p : Ptr). ‵ (block_owns (g.dealloc_token o.alloc) (param 0 T) p o.value)) (sym e) refl $
-        nothing t $ move t (2 ∷ 0 ∷ []) $ fjoin t $ feq_i t (List Val) (vptr b at ∷ []) (ptr_val o.at ∷ []) (ap (λ (p : Ptr). ptr_val p ∷ []) (sym e)) $ fjoin t $
+        nothing t $ move t (2 ∷ 0 ∷ []) $ fjoin t $ feq_i t (List Val) (vptr b at ∷ []) (ptr_val o.at ∷ [])
+            (ap (λ (p : Ptr). ptr_val p ∷ []) (sym e)) $ fjoin t $
         feq_i t (List Val) (word h b at ∷ []) (word h b at ∷ []) refl $ fjoin t $
-        fpack t (Valss (RawPtr ∷ param 1 A ∷ [])) (within (shape (owner.the_type (param 0 T) (param 1 A) g)) (o.at, (o.alloc, tt)) (word h b at ∷ [])) (vptr b at ∷ [], (h ∷ [], tt)) $ fjoin t $ s)
+        fpack t (Valss (RawPtr ∷ param 1 A ∷ [])) (within (shape (owner.the_type (param 0 T) (param 1 A) g)) (o.at, (o.alloc, tt)) (word h b at ∷ []))
+        (vptr b at ∷ [], (h ∷ [], tt)) $ fjoin t $ s)
 
   module _ (o : Owned T.Denot A.Denot) (h : Val) (b at rb ro : ℕ) where
     -- all of an owner that lies at (rb, ro) but its value
     abbrev pub Shell : Fml
-    Shell = fsep (fsep (may_free o.alloc (block_ptr b at)) ((param 1 A).own_val o.alloc (h ∷ []))) (cell_at full_share (Owner T A g).mir (word h b at ∷ []) rb ro)
+    Shell = fsep (fsep (may_free o.alloc (block_ptr b at)) ((param 1 A).own_val o.alloc (h ∷ [])))
+        (cell_at full_share (Owner T A g).mir (word h b at ∷ []) rb ro)
 
     -- with any value it is an owner of that value
     pub refilled : {M : Type 1} {𝓤 : Ura M} (𝓛 : Logic 𝓤) → o.at ≡ block_ptr b at → (w : T.Denot)

@@ -25,7 +25,8 @@ row_refs-drop (suc n) (part ∷ parts) [] same = absurd (omega (arith, same))
 row_refs-drop (suc n) (part ∷ parts) (slot ∷ slots) same = row_refs-drop n parts slots (omega (arith, same))
 
 -- those of two pairs of lists, one behind the other
-pub row_refs-append : (parts slots parts' slots' : List ℕ) → length parts ≡ length slots → row_refs (parts ++ parts') (slots ++ slots') ≡ row_refs parts slots ++ row_refs parts' slots'
+pub row_refs-append : (parts slots parts' slots' : List ℕ) → length parts ≡ length slots
+    → row_refs (parts ++ parts') (slots ++ slots') ≡ row_refs parts slots ++ row_refs parts' slots'
 row_refs-append [] [] parts' slots' same = refl
 row_refs-append [] (slot ∷ slots) parts' slots' same = absurd (omega (arith, same))
 row_refs-append (part ∷ parts) [] parts' slots' same = absurd (omega (arith, same))
@@ -41,7 +42,8 @@ row_refs-insert parts slots i part slot same =
     ∙ (λ j. row_refs-take i parts slots j ++ record { part = part; slot = slot } ∷ row_refs-drop i parts slots same j)
 
 -- without the one at place i
-pub row_refs-remove : (parts slots : List ℕ) (i : ℕ) → length parts ≡ length slots → row_refs (remove parts i) (remove slots i) ≡ remove (row_refs parts slots) i
+pub row_refs-remove : (parts slots : List ℕ) (i : ℕ) → length parts ≡ length slots
+    → row_refs (remove parts i) (remove slots i) ≡ remove (row_refs parts slots) i
 row_refs-remove parts slots i same =
     let front : length (take i parts) ≡ length (take i slots) = omega (arith, length-take i parts, length-take i slots) in
     row_refs-append (take i parts) (take i slots) (drop (suc i) parts) (drop (suc i) slots) front

@@ -28,7 +28,8 @@ slid_to_left (Fork left entries right) r =
 abbrev pub slid_to_right : Tree → Root → Root
 slid_to_right Empty r = r
 slid_to_right (Fork left entries right) r =
-    let kept = length r.entries - handed_on (length r.entries) (length entries) in record r { entries = take kept r.entries; right = Fork left (drop kept r.entries ++ entries) right }
+    let kept = length r.entries - handed_on (length r.entries) (length entries) in
+    record r { entries = take kept r.entries; right = Fork left (drop kept r.entries ++ entries) right }
 
 -- a root that has handed entries on to its child on that side
 abbrev pub slid : Side → Root → Root

@@ -32,15 +32,18 @@ first_tree [] = Empty
 first_tree (tree ∷ trees) = tree
 
 -- what is written of a tree spells it
-abbrev pub spelled-written : (tree : Tree) (rest : List (Option (List RowRef))) (trees : List Tree) → spelled (written tree rest) trees ≡ spelled rest (tree ∷ trees)
+abbrev pub spelled-written : (tree : Tree) (rest : List (Option (List RowRef))) (trees : List Tree)
+    → spelled (written tree rest) trees ≡ spelled rest (tree ∷ trees)
 spelled-written Empty rest trees = refl
 spelled-written (Fork left entries right) rest trees =
     spelled-written left (written right (Some entries ∷ rest)) trees ∙ spelled-written right (Some entries ∷ rest) (left ∷ trees)
 
 -- a tree is stored as that list
 abbrev pub tree_code : Coded Tree
-tree_code = code_by (List (Option (List RowRef))) (coded_list (coded_option (coded_list row_ref_code))) (λ t. written t []) (λ xs. first_tree (spelled xs [])) (λ t. ap first_tree (spelled-written t [] []))
+tree_code = code_by (List (Option (List RowRef))) (coded_list (coded_option (coded_list row_ref_code))) (λ t. written t []) (λ xs. first_tree (spelled xs []))
+    (λ t. ap first_tree (spelled-written t [] []))
 
 -- a root is stored as its three parts
 abbrev pub root_code : Coded Root
-root_code = code_by (Tree × (List RowRef × Tree)) (coded× tree_code (coded× (coded_list row_ref_code) tree_code)) (λ r. (r.left, (r.entries, r.right))) (λ p. record { left = p.0; entries = p.1.0; right = p.1.1 }) (λ _. refl)
+root_code = code_by (Tree × (List RowRef × Tree)) (coded× tree_code (coded× (coded_list row_ref_code) tree_code)) (λ r. (r.left, (r.entries, r.right)))
+    (λ p. record { left = p.0; entries = p.1.0; right = p.1.1 }) (λ _. refl)

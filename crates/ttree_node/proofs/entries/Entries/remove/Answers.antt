@@ -14,7 +14,8 @@ returns-clause-taken c =
     let read = get_or-row_refs parts slots c.args.i entry.part entry.slot entry c.self.invariant inside in
     let same : entry ≡ record { part = get_or parts c.args.i entry.part; slot = get_or slots c.args.i entry.slot } =
     λ j. record { part = c.remove-part.ensures.value j; slot = c.remove-slot.ensures.value j } in
-    slice_get_read c.args.self.now (length c.args.self.now) c.args.i entry refl c.requires (same ∙ sym read ∙ ap (λ refs. get_or refs c.args.i entry) c.self.view_is)
+    slice_get_read c.args.self.now (length c.args.self.now) c.args.i entry refl c.requires
+    (same ∙ sym read ∙ ap (λ refs. get_or refs c.args.i entry) c.self.view_is)
 
 pub returns-clause-rest : goal.returns-clause-rest
 returns-clause-rest c =

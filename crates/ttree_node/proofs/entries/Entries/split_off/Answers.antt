@@ -11,7 +11,8 @@ returns-clause-taken c =
     let more_slots : c.try_extend_from_slice-2.new.self.items ≡ take (length slots - c.args.at) (drop c.args.at slots) = search rules in
     let parts_are = more_parts ∙ take_rest parts c.args.at ∙ ap (drop c.args.at) c.as_slice.ensures.value in
     let slots_are = more_slots ∙ take_rest slots c.args.at ∙ ap (drop c.args.at) c.as_slice-2.ensures.value in
-    rw (parts_are, slots_are) (row_refs-drop c.args.at c.self.inside.parts.items c.self.inside.slots.items c.self.invariant ∙ ap (drop c.args.at) c.self.view_is)
+    rw (parts_are, slots_are) (row_refs-drop c.args.at c.self.inside.parts.items c.self.inside.slots.items c.self.invariant
+    ∙ ap (drop c.args.at) c.self.view_is)
 
 pub returns-clause-rest : goal.returns-clause-rest
 returns-clause-rest c =

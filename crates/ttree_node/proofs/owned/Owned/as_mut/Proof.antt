@@ -46,7 +46,8 @@ as_mut_spec 𝓤 𝓛 𝓜 𝓡 wired T A L K g d dd met glue =
     let κ = κs.0 in let rb = a.0.ref_ptr.0 in let ro = a.0.ref_ptr.1 in let γ = a.0.ghost_name in let o = a.0.now in
     let y : (walk_of 𝓛 En hs c).Ghost = ((κs, qs, bounds, a, (vptr rb ro ∷ [], tt)), gh) in
     let Post : Val → SProp 𝓤 = (walk_of 𝓛 En hs c).post y in
-    qed 𝓛 (((‵ (flft κ qs.0) ⊛ ‵ (flft κs.1.0 qs.1.0) ⊛ ‵ (flft κs.1.1.0 qs.1.1.0) ⊛ ‵ ftrue) ⊛ ‵ (owns (MutRef (named 0) κ O ∷ []) a (vptr rb ro ∷ [], tt))) ∷ raw ((c κs a).requires gh) ∷ []) ∵
+    qed 𝓛 (((‵ (flft κ qs.0) ⊛ ‵ (flft κs.1.0 qs.1.0) ⊛ ‵ (flft κs.1.1.0 qs.1.1.0) ⊛ ‵ ftrue) ⊛ ‵
+    (owns (MutRef (named 0) κ O ∷ []) a (vptr rb ro ∷ [], tt))) ∷ raw ((c κs a).requires gh) ∷ []) ∵
     split ! $ split ! $ move ! (2 ∷ []) $ fsplit ! $ enter ! _ _ _ _ _ $ alloc_all ! (λ l. pass_all ! refl ((tt, tt), tt) $
     fsplit3 ! $ move ! (1 ∷ 2 ∷ 4 ∷ []) $ opens ! tt O rb ro (λ us. move ! (1 ∷ []) $ owner_out T A g K d dd ! o us (λ b at h e ws fits.
     rewrite ! 3 (λ (xs : List Val). ‵ (cell_at full_share O.mir xs rb ro)) ws refl $
@@ -60,7 +61,8 @@ as_mut_spec 𝓤 𝓛 𝓜 𝓡 wired T A L K g d dd met glue =
     let Lent = λ (γ' : GName). (MutRef (named 0) κ R).own_val (record { ref_ptr = (b, at); ghost_name = γ'; now = o.value }) (vptr b at ∷ []) in
     move ! (1 ∷ 2 ∷ []) $ fjoin ! $ move ! (0 ∷ 2 ∷ []) $ fjoin ! $ move ! (2 ∷ 3 ∷ 4 ∷ 1 ∷ 0 ∷ []) $ group ! 5 $
     use1 𝓛 (later (some (λ (γ' : GName). ‵ (Lent γ') ⊛ ‵ (flft κ qs.0) ⊛ ‵ (follows O R γ γ' (with_value o)))))
-    (lends_Part 𝓛 O R (with_value o) (named 0) κ qs.0 rb ro b at γ (sem 𝓛 Shell) back (O.coded.code o) (O.coded.code o) o.value) $ await ! tt $ pick ! (λ γ'. split3 ! $
+    (lends_Part 𝓛 O R (with_value o) (named 0) κ qs.0 rb ro b at γ (sem 𝓛 Shell) back (O.coded.code o) (O.coded.code o) o.value) $ await ! tt $ pick !
+    (λ γ'. split3 ! $
     returns ! (look_at ! 0 refl) $ free_all ! refl $ keep ! (1 ∷ 5 ∷ 0 ∷ 2 ∷ []) $ join ! $
     nothing ! $ nothing ! $ fjoin ! $ move ! (1 ∷ 0 ∷ []) $
     suffices ! _ (ends_at 𝓛 En hs c y (vptr b at) (record { ref_ptr = (b, at); ghost_name = γ'; now = o.value }) (tt, tt) (tt, tt)) $

@@ -47,10 +47,12 @@ as_ref_spec 𝓤 𝓛 𝓜 𝓡 wired T A L K g d dd met glue =
     let κ = κs.0 in let b = a.0.ref_ptr.0 in let at = a.0.ref_ptr.1 in let o = a.0.now in
     let y : (walk_of 𝓛 En hs c).Ghost = ((κs, qs, bounds, a, (vptr b at ∷ [], tt)), gh) in
     let Post : Val → SProp 𝓤 = (walk_of 𝓛 En hs c).post y in
-    qed 𝓛 (((‵ (flft κ qs.0) ⊛ ‵ (flft κs.1.0 qs.1.0) ⊛ ‵ (flft κs.1.1.0 qs.1.1.0) ⊛ ‵ ftrue) ⊛ ‵ (owns (ShrRef (named 0) κ O ∷ []) a (vptr b at ∷ [], tt))) ∷ raw ((c κs a).requires gh) ∷ []) ∵
+    qed 𝓛 (((‵ (flft κ qs.0) ⊛ ‵ (flft κs.1.0 qs.1.0) ⊛ ‵ (flft κs.1.1.0 qs.1.1.0) ⊛ ‵ ftrue) ⊛ ‵
+    (owns (ShrRef (named 0) κ O ∷ []) a (vptr b at ∷ [], tt))) ∷ raw ((c κs a).requires gh) ∷ []) ∵
     split ! $ split ! $ move ! (2 ∷ []) $ fsplit ! $ fsplit ! $ drop ! $ shr_dup ! O (owner_laws T A g L K) o b at κ $
     use1 𝓛 (‵ (hidden_shr (Fields T A g) κ (o.at, (o.alloc, tt)) b at) ⊛ ‵ (fhide (owner.the_lent R (param 1 A) g o o.at κ)))
-    (lent_out 𝓛 (owner.struct R (param 1 A) g) (owner.the_codes R.Denot A.Denot R.coded (param 1 A).coded) (owner.the_heap R (param 1 A) g) (owner.the_lent R (param 1 A) g) κ o b at) $ split ! $
+    (lent_out 𝓛 (owner.struct R (param 1 A) g) (owner.the_codes R.Denot A.Denot R.coded (param 1 A).coded) (owner.the_heap R (param 1 A) g)
+    (owner.the_lent R (param 1 A) g) κ o b at) $ split ! $
     move ! (1 ∷ []) $ unhide ! $ fsplit ! $ use1 𝓛 (raw (fact 𝓤 (InBlock o.at))) (in_block_says 𝓛 o.at) $ heard ! (InBlock o.at) (λ inside. hide ! $
     -- [a `&` to the value; one to the fields; one to the owner; nothing; the token; the other tokens; the `requires`]
     move ! (1 ∷ 4 ∷ []) $ enter ! _ _ _ _ _ $ alloc_all ! (λ l. pass_all ! refl ((tt, tt), tt) $ first ! $ blocks ! $

@@ -48,7 +48,8 @@ into_box_spec 𝓤 𝓛 𝓜 𝓡 wired T A L K g d dx dd allocates glue glued =
     let args = passed_with_drop T A d dx dd in
     let fn = inst_fn args code.function in
     let hs : Stays En.signature.params En.kept = (stay_dropped (plain (λ _. Owner T A g)) no, tt) in
-    proved_at 𝓛 En hs c 𝓜 𝓡 (Goes-blank 𝓛 2 (plain (λ _. Owner T A g)) no (λ κs x u. tt), tt) (#self args) fn (code.unfolded 𝓤 𝓛.H 𝓜 𝓡 wired (T, (A, tt)) d dx dd) (λ y are.
+    proved_at 𝓛 En hs c 𝓜 𝓡 (Goes-blank 𝓛 2 (plain (λ _. Owner T A g)) no (λ κs x u. tt), tt) (#self args) fn
+    (code.unfolded 𝓤 𝓛.H 𝓜 𝓡 wired (T, (A, tt)) d dx dd) (λ y are.
     let κs = y.0.0 in let qs = y.0.1 in let o = y.0.3.0 in let a = o.alloc in
     let Post : Val → SProp 𝓤 = (walk_of 𝓛 En hs c).post y in
     let Run : List Val → SProp 𝓤 = λ ws. WpFn 𝓤 𝓛.H 𝓣.C 𝓣.Λ fn ws Post in
@@ -72,7 +73,8 @@ into_box_spec 𝓤 𝓛 𝓜 𝓡 wired T A L K g d dx dd allocates glue glued =
     (and_then ! (get ! refl) (and_then ! (get ! refl) (no_more !))) (λ u.
     use1 𝓛 (later (some (λ (r : B.Denot). (alive ⊛ ‵ (B.own_val r (u ∷ []))) ⊛ some (λ (ls : Lasts (callee.ended T A g d dd) κs z.0.3).
     ‵ (lasts (callee.ended T A g d dd) κs z.0.3 ls) ⊛ (raw (fact 𝓤 (r.value ≡ o.value)) ⊛ raw (fact 𝓤 (r.alloc ≡ a))))))) (id⊢ 𝓤 (Called.post z u)) $
-    await ! tt $ pick ! (λ r. split ! $ move ! (1 ∷ []) $ pick ! (λ _. split3 ! $ drop ! $ heard ! (r.value ≡ o.value) (λ same. drop ! $ split ! $ move ! (1 ∷ []) $
+    await ! tt $ pick ! (λ r. split ! $ move ! (1 ∷ []) $ pick !
+    (λ _. split3 ! $ drop ! $ heard ! (r.value ≡ o.value) (λ same. drop ! $ split ! $ move ! (1 ∷ []) $
     box_out E ! r (u ∷ []) (λ b' at' h' e' us fits'. box_in E ! r b' at' r.value e' refl $ rewrite ! 0 (λ (xs : List Val). ‵ (B.own_val r xs)) (sym us) refl $
     let made = subst (λ (v : Val). IsTrue (has_ty (layout B) v) × WT v) (sym (ap only us)) (box.box_typed E h' b' at' fits') in
     lands_last ! refl made $ exec ! 𝓣.C 𝓣.Λ (env fn.locals l) (after 3 fn.body) (at_ret _ Post) $
