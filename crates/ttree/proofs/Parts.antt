@@ -56,31 +56,39 @@ module _ (Covers : RowRef → Type 0) (cmp : RowRef → RowRef → Ordering) whe
       below_all first zero d within = ap (cmp added) (get_or_default xs 0 d added within) ∙ first
       below_all first (suc k) d within =
           let head : cmp added (get_or xs 0 d) ≡ Less = ap (cmp added) (get_or_default xs 0 d added (omega arith)) ∙ first in
-          total.trans added (get_or xs 0 d) (get_or xs (suc k) d) covered (was.covered 0 d (omega arith)) (was.covered (suc k) d within) head (was.ascending 0 (suc k) d (omega arith) within)
+          total.trans added (get_or xs 0 d) (get_or xs (suc k) d) covered (was.covered 0 d (omega arith)) (was.covered (suc k) d within) head
+          (was.ascending 0 (suc k) d (omega arith) within)
 
       -- what lies after the last of an ordered list lies after all
       pub above_all : cmp (get_or xs (length xs - 1) added) added ≡ Less → All (λ a. cmp a added ≡ Less) xs
       above_all last k d within =
           let tail : cmp (get_or xs (length xs - 1) d) added ≡ Less = ap (λ a. cmp a added) (get_or_default xs (length xs - 1) d added (omega arith)) ∙ last in
           ⊎_elim
-          (λ (before : k < length xs - 1). total.trans (get_or xs k d) (get_or xs (length xs - 1) d) added (was.covered k d within) (was.covered (length xs - 1) d (omega arith)) covered (was.ascending k (length xs - 1) d before (omega arith)) tail)
+          (λ (before : k < length xs - 1). total.trans (get_or xs k d) (get_or xs (length xs - 1) d) added (was.covered k d within)
+          (was.covered (length xs - 1) d (omega arith)) covered (was.ascending k (length xs - 1) d before (omega arith)) tail)
           (λ (at_end : length xs - 1 ≤ k). let same : length xs - 1 ≡ k = omega arith in subst (λ n. cmp (get_or xs n d) added ≡ Less) same tail)
           (cases_lt k (length xs - 1))
 
     module _ (middle : List RowRef) (was : IsOrdered Covers cmp middle) (some : 1 ≤ length middle) (added : RowRef) (covered : Covers added) where
       -- a place behind entries that the new reference comes after is not behind the last, which it does not come after
-      pub below_last : (at : ℕ) → All (λ a. cmp a added ≡ Less) (take at middle) → cmp added (get_or middle (length middle - 1) added) ≢ Greater → at < length middle
+      pub below_last : (at : ℕ) → All (λ a. cmp a added ≡ Less) (take at middle) → cmp added (get_or middle (length middle - 1) added) ≢ Greater
+          → at < length middle
       below_last at before not_after =
           ⊎_elim
           (λ (h : at < length middle). h)
           (λ (beyond : length middle ≤ at).
           let place : length middle - 1 < at = omega arith in
-          let less : cmp (get_or middle (length middle - 1) added) added ≡ Less = ap (λ a. cmp a added) (sym (get_or-take at middle (length middle - 1) added place)) ∙ before (length middle - 1) added (omega (arith, length-take at middle)) in
-          absurd (not_after (total.antisymm added (get_or middle (length middle - 1) added) covered (was.covered (length middle - 1) added (omega arith)) ∙ ap ordering_reverse less)))
+          let less : cmp (get_or middle (length middle - 1) added) added ≡ Less =
+          ap (λ a. cmp a added) (sym (get_or-take at middle (length middle - 1) added place))
+          ∙ before (length middle - 1) added (omega (arith, length-take at middle)) in
+          absurd (not_after (total.antisymm added (get_or middle (length middle - 1) added) covered (was.covered (length middle - 1) added (omega arith))
+          ∙ ap ordering_reverse less)))
           (cases_lt at (length middle))
 
-    -- before entries that follow in order
-    pub adds_before : (left middle right : List RowRef) → IsOrdered Covers cmp (middle ++ right) → 1 ≤ length middle → (added : RowRef) → Covers added → (more : List RowRef) → cmp added (get_or middle 0 added) ≡ Less → AddsInOrder cmp left added more → AddsInOrder cmp (left ++ middle ++ right) added (more ++ middle ++ right)
+    -- a reference added among entries in order, all of which come before some others in order
+    pub adds_before : (left middle right : List RowRef) → IsOrdered Covers cmp (middle ++ right) → 1 ≤ length middle → (added : RowRef) → Covers added
+        → (more : List RowRef) → cmp added (get_or middle 0 added) ≡ Less → AddsInOrder cmp left added more
+        → AddsInOrder cmp (left ++ middle ++ right) added (more ++ middle ++ right)
     adds_before left middle right rest_was some added covered more before adds =
         let first : cmp added (get_or (middle ++ right) 0 added) ≡ Less = ap (cmp added) (get_or_append_left middle right added 0 (omega arith)) ∙ before in
         record {
@@ -89,66 +97,85 @@ module _ (Covers : RowRef → Type 0) (cmp : RowRef → RowRef → Ordering) whe
           refs_are = ap (λ xs. xs ++ middle ++ right) adds.refs_are ∙ simp append_assoc;
           more_are = ap (λ xs. xs ++ middle ++ right) adds.more_are ∙ simp append_assoc;
           above_front = adds.above_front;
-          below_back = All-append (λ a. cmp added a ≡ Less) adds.back (middle ++ right) adds.below_back (below_all added covered (middle ++ right) rest_was first);
+          below_back = All-append (λ a. cmp added a ≡ Less) adds.back (middle ++ right) adds.below_back
+              (below_all added covered (middle ++ right) rest_was first);
         }
 
-    pub last_of : (left middle : List RowRef) (added : RowRef) → 1 ≤ length middle → get_or (left ++ middle) (length (left ++ middle) - 1) added ≡ get_or middle (length middle - 1) added
+    pub last_of : (left middle : List RowRef) (added : RowRef) → 1 ≤ length middle
+        → get_or (left ++ middle) (length (left ++ middle) - 1) added ≡ get_or middle (length middle - 1) added
     last_of left middle added some =
         let place : length (left ++ middle) - 1 ≡ length left + (length middle - 1) = omega (arith, length-append left middle) in
         ap (λ n. get_or (left ++ middle) n added) place ∙ get_or-append-add left middle (length middle - 1) added
 
-    -- after entries that come before it in order
-    pub adds_after : (left middle right : List RowRef) → IsOrdered Covers cmp (left ++ middle) → 1 ≤ length middle → (added : RowRef) → Covers added → (more : List RowRef) → cmp added (get_or middle (length middle - 1) added) ≡ Greater → AddsInOrder cmp right added more → AddsInOrder cmp (left ++ middle ++ right) added (left ++ middle ++ more)
+    -- a reference added among entries in order, all of which come after some others in order
+    pub adds_after : (left middle right : List RowRef) → IsOrdered Covers cmp (left ++ middle) → 1 ≤ length middle → (added : RowRef) → Covers added
+        → (more : List RowRef) → cmp added (get_or middle (length middle - 1) added) ≡ Greater → AddsInOrder cmp right added more
+        → AddsInOrder cmp (left ++ middle ++ right) added (left ++ middle ++ more)
     adds_after left middle right front_was some added covered more after adds =
         let greatest : RowRef = get_or middle (length middle - 1) added in
         let greatest_covered : Covers greatest = (IsOrdered-back left middle front_was).covered (length middle - 1) added (omega arith) in
-        let last : cmp (get_or (left ++ middle) (length (left ++ middle) - 1) added) added ≡ Less = ap (λ a. cmp a added) (last_of left middle added some) ∙ less_from_greater added greatest covered greatest_covered after in
+        let last : cmp (get_or (left ++ middle) (length (left ++ middle) - 1) added) added ≡ Less = ap (λ a. cmp a added) (last_of left middle added some)
+        ∙ less_from_greater added greatest covered greatest_covered after in
         record {
           front = left ++ middle ++ adds.front;
           back = adds.back;
           refs_are = ap (λ xs. left ++ middle ++ xs) adds.refs_are ∙ simp append_assoc;
           more_are = ap (λ xs. left ++ middle ++ xs) adds.more_are ∙ simp append_assoc;
-          above_front = All-append (λ a. cmp a added ≡ Less) (left ++ middle) adds.front (above_all added covered (left ++ middle) front_was last) adds.above_front;
+          above_front = All-append (λ a. cmp a added ≡ Less) (left ++ middle) adds.front
+              (above_all added covered (left ++ middle) front_was last) adds.above_front;
           below_back = adds.below_back;
         }
 
-    module _ (left middle right : List RowRef) (was : IsOrdered Covers cmp (left ++ middle ++ right)) (some : 1 ≤ length middle) (added : RowRef) (covered : Covers added) where
+    module _ (left middle right : List RowRef) (was : IsOrdered Covers cmp (left ++ middle ++ right)) (some : 1 ≤ length middle) (added : RowRef)
+        (covered : Covers added) where
       -- before the middle
-      pub adds_left : (more : List RowRef) → cmp added (get_or middle 0 added) ≡ Less → AddsInOrder cmp left added more → AddsInOrder cmp (left ++ middle ++ right) added (more ++ middle ++ right)
-      adds_left = adds_before left middle right (IsOrdered-back left (middle ++ right) (subst (IsOrdered Covers cmp) (append_assoc left middle right) was)) some added covered
+      pub adds_left : (more : List RowRef) → cmp added (get_or middle 0 added) ≡ Less → AddsInOrder cmp left added more
+          → AddsInOrder cmp (left ++ middle ++ right) added (more ++ middle ++ right)
+      adds_left = adds_before left middle right (IsOrdered-back left (middle ++ right) (subst (IsOrdered Covers cmp) (append_assoc left middle right) was)) some
+          added covered
 
       -- after the middle
-      pub adds_right : (more : List RowRef) → cmp added (get_or middle (length middle - 1) added) ≡ Greater → AddsInOrder cmp right added more → AddsInOrder cmp (left ++ middle ++ right) added (left ++ middle ++ more)
+      pub adds_right : (more : List RowRef) → cmp added (get_or middle (length middle - 1) added) ≡ Greater → AddsInOrder cmp right added more
+          → AddsInOrder cmp (left ++ middle ++ right) added (left ++ middle ++ more)
       adds_right = adds_after left middle right (IsOrdered-front (left ++ middle) right was) some added covered
 
       -- inside the middle
-      pub adds_between : (at : ℕ) → 1 ≤ at → at < length middle → All (λ a. cmp a added ≡ Less) (take at middle) → All (λ a. cmp a added ≡ Greater) (drop at middle) → AddsInOrder cmp (left ++ middle ++ right) added (left ++ insert middle at added ++ right)
+      pub adds_between : (at : ℕ) → 1 ≤ at → at < length middle → All (λ a. cmp a added ≡ Less) (take at middle)
+          → All (λ a. cmp a added ≡ Greater) (drop at middle) → AddsInOrder cmp (left ++ middle ++ right) added (left ++ insert middle at added ++ right)
       adds_between at above_first below_last before after =
           let front : List RowRef = left ++ take at middle in
           let back : List RowRef = drop at middle ++ right in
-          let whole : front ++ back ≡ left ++ middle ++ right = regroup left (take at middle) (drop at middle) right ∙ ap (λ xs. left ++ xs ++ right) (take-append-drop at middle) in
+          let whole : front ++ back ≡ left ++ middle ++ right = regroup left (take at middle) (drop at middle) right
+          ∙ ap (λ xs. left ++ xs ++ right) (take-append-drop at middle) in
           let parts_was : IsOrdered Covers cmp (front ++ back) = subst (IsOrdered Covers cmp) (sym whole) was in
           let last_place : length front - 1 ≡ length left + (at - 1) = omega (arith, length-append left (take at middle), length-take at middle) in
-          let last_is : get_or front (length front - 1) added ≡ get_or (take at middle) (at - 1) added = ap (λ n. get_or front n added) last_place ∙ get_or-append-add left (take at middle) (at - 1) added in
-          let last : cmp (get_or front (length front - 1) added) added ≡ Less = ap (λ a. cmp a added) last_is ∙ before (at - 1) added (omega (arith, length-take at middle)) in
-          let first_is : get_or back 0 added ≡ get_or (drop at middle) 0 added = get_or_append_left (drop at middle) right added 0 (omega (arith, length-drop at middle)) in
+          let last_is : get_or front (length front - 1) added ≡ get_or (take at middle) (at - 1) added = ap (λ n. get_or front n added) last_place
+          ∙ get_or-append-add left (take at middle) (at - 1) added in
+          let last : cmp (get_or front (length front - 1) added) added ≡ Less = ap (λ a. cmp a added) last_is
+          ∙ before (at - 1) added (omega (arith, length-take at middle)) in
+          let first_is : get_or back 0 added ≡ get_or (drop at middle) 0 added =
+          get_or_append_left (drop at middle) right added 0 (omega (arith, length-drop at middle)) in
           let first_after : cmp (get_or back 0 added) added ≡ Greater = ap (λ a. cmp a added) first_is ∙ after 0 added (omega (arith, length-drop at middle)) in
-          let first_covered : Covers (get_or back 0 added) = (IsOrdered-back front back parts_was).covered 0 added (omega (arith, length-append (drop at middle) right, length-drop at middle)) in
+          let first_covered : Covers (get_or back 0 added) = (IsOrdered-back front back parts_was).covered 0 added
+          (omega (arith, length-append (drop at middle) right, length-drop at middle)) in
           record {
             front = front;
             back = back;
             refs_are = sym whole;
             more_are = simp append_assoc;
             above_front = above_all added covered front (IsOrdered-front front back parts_was) last;
-            below_back = below_all added covered back (IsOrdered-back front back parts_was) (less_from_greater (get_or back 0 added) added first_covered covered first_after);
+            below_back = below_all added covered back (IsOrdered-back front back parts_was)
+                (less_from_greater (get_or back 0 added) added first_covered covered first_after);
           }
 
-moved : (left middle : List RowRef) (at : ℕ) (least added : RowRef) → 1 ≤ at → 1 ≤ length middle → get_or middle 0 least ≡ least → left ++ least ∷ [] ++ insert (remove middle 0) (at - 1) added ≡ left ++ insert middle at added
+moved : (left middle : List RowRef) (at : ℕ) (least added : RowRef) → 1 ≤ at → 1 ≤ length middle → get_or middle 0 least ≡ least
+    → left ++ least ∷ [] ++ insert (remove middle 0) (at - 1) added ≡ left ++ insert middle at added
 moved left [] at least added above_first some is = absurd (omega arith)
 moved left (m ∷ ms) zero least added above_first some is = absurd (omega arith)
 moved left (m ∷ ms) (suc n) least added above_first some is =
     let e : suc n - 1 ≡ n = omega arith in rw (e, append_assoc) (ap (λ a. left ++ a ∷ (take n ms ++ added ∷ drop n ms)) (sym is))
 
 -- the least entry moved to the left, the new one put among the others
-pub moved_least : (left middle : List RowRef) (at : ℕ) (least added : RowRef) → 1 ≤ at → 1 ≤ length middle → get_or middle 0 least ≡ least → left ++ least ∷ [] ++ insert (remove middle 0) (at - 1) added ≡ left ++ insert middle at added
+pub moved_least : (left middle : List RowRef) (at : ℕ) (least added : RowRef) → 1 ≤ at → 1 ≤ length middle → get_or middle 0 least ≡ least
+    → left ++ least ∷ [] ++ insert (remove middle 0) (at - 1) added ≡ left ++ insert middle at added
 moved_least left middle at least added above_first some is = moved left middle at least added above_first some is

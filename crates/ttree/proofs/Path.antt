@@ -8,14 +8,16 @@ use Rattle.ttree.specs.Balanced.{IsTTree}
 use Rattle.ttree.specs.Path.{IsPath, IsStep, from_root, to_come}
 
 -- what a new deepest node gives comes first
-pub to_come-push : (path : List (Option (Bor Root))) (node : Option (Bor Root)) → to_come (path ++ node ∷ []) ≡ from_root (tree_of (option_copied node)) ++ to_come path
+pub to_come-push : (path : List (Option (Bor Root))) (node : Option (Bor Root))
+    → to_come (path ++ node ∷ []) ≡ from_root (tree_of (option_copied node)) ++ to_come path
 to_come-push [] node = sym (append-nil (from_root (tree_of (option_copied node))))
 to_come-push (top ∷ below) node =
     ap (λ xs. xs ++ from_root (tree_of (option_copied top))) (to_come-push below node)
     ∙ append_assoc (from_root (tree_of (option_copied node))) (to_come below) (from_root (tree_of (option_copied top)))
 
 -- a tree of no more levels than are left goes on a path
-pub IsPath-push : (levels : ℕ) (path : List (Option (Bor Root))) (node : Option (Bor Root)) → IsPath levels path → IsStep (levels - length path) (tree_of (option_copied node)) → IsPath levels (path ++ node ∷ [])
+pub IsPath-push : (levels : ℕ) (path : List (Option (Bor Root))) (node : Option (Bor Root)) → IsPath levels path
+    → IsStep (levels - length path) (tree_of (option_copied node)) → IsPath levels (path ++ node ∷ [])
 IsPath-push levels [] node was step =
     let e : levels - 0 ≡ levels = omega arith in
     (subst (λ n. IsStep n (tree_of (option_copied node))) e step, tt)
@@ -24,7 +26,8 @@ IsPath-push levels (top ∷ below) node was step =
     (was.0, IsPath-push (levels - 1) below node was.1 (subst (λ n. IsStep n (tree_of (option_copied node))) e step))
 
 -- the deepest node, and the path without it
-pub IsPath-last : (levels : ℕ) (path : List (Option (Bor Root))) (node : Option (Bor Root)) → IsPath levels (path ++ node ∷ []) → IsStep (levels - length path) (tree_of (option_copied node))
+pub IsPath-last : (levels : ℕ) (path : List (Option (Bor Root))) (node : Option (Bor Root)) → IsPath levels (path ++ node ∷ [])
+    → IsStep (levels - length path) (tree_of (option_copied node))
 IsPath-last levels [] node was =
     let e : levels ≡ levels - 0 = omega arith in
     subst (λ n. IsStep n (tree_of (option_copied node))) e was.0
@@ -38,7 +41,8 @@ IsPath-front levels (top ∷ below) node was = (was.0, IsPath-front (levels - 1)
 
 module _ (path : List (Option (Bor Root))) (node : Bor Root) where
   -- a root whose levels fit goes on a path
-  pub IsPath-descend : (levels : ℕ) → IsPath levels path → IsTTree (fork node.now) → length path + height_of (fork node.now) ≤ levels → IsPath levels (path ++ Some node ∷ [])
+  pub IsPath-descend : (levels : ℕ) → IsPath levels path → IsTTree (fork node.now) → length path + height_of (fork node.now) ≤ levels
+      → IsPath levels (path ++ Some node ∷ [])
   IsPath-descend levels was balanced low =
       IsPath-push levels path (Some node) was (record { some = tt; balanced = balanced; low = omega arith })
 

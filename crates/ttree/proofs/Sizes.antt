@@ -13,13 +13,15 @@ height_at_most_nodes (Fork left entries right) = omega (arith, height_at_most_no
 pub entries_at_most : (t : Tree) → IsTTree t → length (in_order t) ≤ 16 * node_count t
 entries_at_most Empty is = omega arith
 entries_at_most (Fork left entries right) is =
-    omega (arith, entries_at_most left is.0, entries_at_most right is.1, is.2.fits, length-append (in_order left ++ entries) (in_order right), length-append (in_order left) entries)
+    omega (arith, entries_at_most left is.0, entries_at_most right is.1, is.2.fits, length-append (in_order left ++ entries) (in_order right),
+    length-append (in_order left) entries)
 
 -- at least one entry for each node
 pub nodes_at_most : (t : Tree) → IsTTree t → node_count t ≤ length (in_order t)
 nodes_at_most Empty is = omega arith
 nodes_at_most (Fork left entries right) is =
-    omega (arith, nodes_at_most left is.0, nodes_at_most right is.1, is.2.filled, length-append (in_order left ++ entries) (in_order right), length-append (in_order left) entries)
+    omega (arith, nodes_at_most left is.0, nodes_at_most right is.1, is.2.filled, length-append (in_order left ++ entries) (in_order right),
+    length-append (in_order left) entries)
 
 -- the fewest nodes of a balanced tree of height h, and of height h + 1: one more than those of the two heights before
 abbrev pub fewest : ℕ → ℕ × ℕ
@@ -46,8 +48,10 @@ fewest_over (suc k) l r in_l in_r highest left_low right_low left right =
     (λ (l_high : suc k ≤ l).
     let l_is : l ≡ suc k = omega arith in
     ⊎_elim
-    (λ (r_low : r < suc k). let r_is : r ≡ k = omega arith in omega (arith, subst (λ n. (fewest n).0 ≤ in_l) l_is left, subst (λ n. (fewest n).0 ≤ in_r) r_is right))
-    (λ (r_high : suc k ≤ r). let r_is : r ≡ suc k = omega arith in omega (arith, fewest_rises k, subst (λ n. (fewest n).0 ≤ in_l) l_is left, subst (λ n. (fewest n).0 ≤ in_r) r_is right))
+    (λ (r_low : r < suc k). let r_is : r ≡ k = omega arith in omega
+    (arith, subst (λ n. (fewest n).0 ≤ in_l) l_is left, subst (λ n. (fewest n).0 ≤ in_r) r_is right))
+    (λ (r_high : suc k ≤ r). let r_is : r ≡ suc k = omega arith in
+    omega (arith, fewest_rises k, subst (λ n. (fewest n).0 ≤ in_l) l_is left, subst (λ n. (fewest n).0 ≤ in_r) r_is right))
     (cases_lt r (suc k)))
     (cases_lt l (suc k))
 
@@ -56,7 +60,8 @@ pub fewest_at_most : (t : Tree) → IsTTree t → (fewest (height_of t)).0 ≤ n
 fewest_at_most Empty is = omega arith
 fewest_at_most (Fork left entries right) is =
     let e : max (height_of left) (height_of right) + 1 ≡ suc (max (height_of left) (height_of right)) = omega arith in
-    rw e (fewest_over (max (height_of left) (height_of right)) (height_of left) (height_of right) (node_count left) (node_count right) refl is.2.left_low is.2.right_low (fewest_at_most left is.0) (fewest_at_most right is.1))
+    rw e (fewest_over (max (height_of left) (height_of right)) (height_of left) (height_of right) (node_count left)
+    (node_count right) refl is.2.left_low is.2.right_low (fewest_at_most left is.0) (fewest_at_most right is.1))
 
 -- so 1,048,576 entries stand within height 28
 pub height_at_most_28 : (t : Tree) → IsTTree t → length (in_order t) ≤ 1048576 → height_of t ≤ 28

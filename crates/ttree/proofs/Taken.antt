@@ -20,12 +20,14 @@ use Rattle.ttree.proofs.Parts.{IsOrdered-front, IsOrdered-middle, IsOrdered-back
 use Rattle.mm_order.proofs.Pairs.{AllPairs-append_right, AllPairs-append_across}
 
 -- the last entry, taken out and put back
-pub remove_last-append : (xs : List RowRef) (last : RowRef) → 1 ≤ length xs → slice_get xs (length xs - 1) ≡ Some last → remove xs (length xs - 1) ++ last ∷ [] ≡ xs
+pub remove_last-append : (xs : List RowRef) (last : RowRef) → 1 ≤ length xs → slice_get xs (length xs - 1) ≡ Some last
+    → remove xs (length xs - 1) ++ last ∷ [] ≡ xs
 remove_last-append xs last some is =
     let n : ℕ = length xs - 1 in
     let none : drop (suc n) xs ≡ [] = drop_of_length-le xs {i = suc n} (omega arith) in
     let end : drop n xs ≡ last ∷ [] = drop-cons xs n last (omega arith) ∙ (λ i. get_or_from_slice_get xs n last last is i ∷ none i) in
-    ap (λ ys. take n xs ++ ys ++ last ∷ []) none ∙ ap (λ ys. ys ++ last ∷ []) (append-nil (take n xs)) ∙ sym (ap (λ ys. take n xs ++ ys) end) ∙ take-append-drop n xs
+    ap (λ ys. take n xs ++ ys ++ last ∷ []) none ∙ ap (λ ys. ys ++ last ∷ []) (append-nil (take n xs)) ∙ sym (ap (λ ys. take n xs ++ ys) end)
+    ∙ take-append-drop n xs
 
 self_equal : (o : Ordering) → o ≡ ordering_reverse o → o ≡ Equal
 self_equal Less e = (cc)
@@ -37,21 +39,25 @@ module _ (Covers : RowRef → Type 0) (cmp : RowRef → RowRef → Ordering) (to
   equal_to_itself = self_equal (cmp gone gone) (total.antisymm gone gone covered covered)
 
   -- between entries that lie before it and entries that lie after it a reference isn't held
-  pub absent_between : (xs : List RowRef) (at : ℕ) → All (λ a. cmp a gone ≡ Less) (take at xs) → All (λ a. cmp a gone ≡ Greater) (drop at xs) → Contains xs gone → ⊥
+  pub absent_between : (xs : List RowRef) (at : ℕ) → All (λ a. cmp a gone ≡ Less) (take at xs) → All (λ a. cmp a gone ≡ Greater) (drop at xs) → Contains xs gone
+      → ⊥
   absent_between xs at before after (k, within, is) =
       let here : cmp (get_or xs k gone) gone ≡ Equal = ap (λ a. cmp a gone) is ∙ equal_to_itself in
       ⊎_elim
       (λ (early : k < at).
-      let less : cmp (get_or xs k gone) gone ≡ Less = ap (λ a. cmp a gone) (sym (get_or-take at xs k gone early)) ∙ before k gone (omega (arith, length-take at xs)) in
+      let less : cmp (get_or xs k gone) gone ≡ Less = ap (λ a. cmp a gone) (sym (get_or-take at xs k gone early))
+      ∙ before k gone (omega (arith, length-take at xs)) in
       cc)
       (λ (late : at ≤ k).
       let place : at + (k - at) ≡ k = omega arith in
-      let greater : cmp (get_or xs k gone) gone ≡ Greater = ap (λ a. cmp a gone) (ap (λ n. get_or xs n gone) (sym place) ∙ sym (get_or-drop at xs (k - at) gone)) ∙ after (k - at) gone (omega (arith, length-drop at xs)) in
+      let greater : cmp (get_or xs k gone) gone ≡ Greater = ap (λ a. cmp a gone)
+      (ap (λ n. get_or xs n gone) (sym place) ∙ sym (get_or-drop at xs (k - at) gone)) ∙ after (k - at) gone (omega (arith, length-drop at xs)) in
       cc)
       (cases_lt k at)
 
   -- an entry that compares equal to a held reference is that reference
-  pub equal_is_held : (xs : List RowRef) → IsOrdered Covers cmp xs → (i : ℕ) → i < length xs → cmp (get_or xs i gone) gone ≡ Equal → Contains xs gone → get_or xs i gone ≡ gone
+  pub equal_is_held : (xs : List RowRef) → IsOrdered Covers cmp xs → (i : ℕ) → i < length xs → cmp (get_or xs i gone) gone ≡ Equal → Contains xs gone
+      → get_or xs i gone ≡ gone
   equal_is_held xs was i inside equal (k, within, is) =
       ⊎_elim
       (λ (same : i ≡ k). ap (λ n. get_or xs n gone) same ∙ is)
@@ -60,13 +66,15 @@ module _ (Covers : RowRef → Type 0) (cmp : RowRef → RowRef → Ordering) (to
       (λ (early : i < k). let less : cmp (get_or xs i gone) gone ≡ Less = ap (cmp (get_or xs i gone)) (sym is) ∙ was.ascending i k gone early within in cc)
       (λ (late : k < i).
       let less : cmp gone (get_or xs i gone) ≡ Less = ap (λ a. cmp a (get_or xs i gone)) (sym is) ∙ was.ascending k i gone late inside in
-      let greater : cmp (get_or xs i gone) gone ≡ Greater = total.antisymm (get_or xs i gone) gone (was.covered i gone inside) covered ∙ ap ordering_reverse less in
+      let greater : cmp (get_or xs i gone) gone ≡ Greater = total.antisymm (get_or xs i gone) gone (was.covered i gone inside) covered
+      ∙ ap ordering_reverse less in
       cc)
       apart))
       (cases_order i k)
 
 -- a reference in a list of three parts stands in the part on whose side it lies
-module _ (Covers : RowRef → Type 0) (cmp : RowRef → RowRef → Ordering) (total : IsTotalOrderOn Covers cmp) (gone : RowRef) (covered : Covers gone) (left middle right : List RowRef) (was : IsOrdered Covers cmp (left ++ middle ++ right)) (some : 1 ≤ length middle) where
+module _ (Covers : RowRef → Type 0) (cmp : RowRef → RowRef → Ordering) (total : IsTotalOrderOn Covers cmp) (gone : RowRef) (covered : Covers gone)
+    (left middle right : List RowRef) (was : IsOrdered Covers cmp (left ++ middle ++ right)) (some : 1 ≤ length middle) where
   rest_was : IsOrdered Covers cmp (middle ++ right)
   rest_was = IsOrdered-back Covers cmp left (middle ++ right) (subst (IsOrdered Covers cmp) (append_assoc left middle right) was)
 
@@ -88,7 +96,8 @@ module _ (Covers : RowRef → Type 0) (cmp : RowRef → RowRef → Ordering) (to
   contains_right after held =
       let greatest : RowRef = get_or middle (length middle - 1) gone in
       let greatest_covered : Covers greatest = (IsOrdered-middle Covers cmp left middle right was).covered (length middle - 1) gone (omega arith) in
-      let last : cmp (get_or (left ++ middle) (length (left ++ middle) - 1) gone) gone ≡ Less = ap (λ a. cmp a gone) (last_of Covers cmp total left middle gone some) ∙ less_from_greater Covers cmp total gone greatest covered greatest_covered after in
+      let last : cmp (get_or (left ++ middle) (length (left ++ middle) - 1) gone) gone ≡ Less =
+      ap (λ a. cmp a gone) (last_of Covers cmp total left middle gone some) ∙ less_from_greater Covers cmp total gone greatest covered greatest_covered after in
       ⊎_elim
       (λ (h : Contains (left ++ middle) gone).
       let less : cmp gone gone ≡ Less = ap (λ a. cmp a gone) (sym h.2) ∙ above_all Covers cmp total gone covered (left ++ middle) front_was last h.0 gone h.1 in
@@ -107,9 +116,11 @@ module _ (Covers : RowRef → Type 0) (cmp : RowRef → RowRef → Ordering) (to
       let across : All (λ a. All (λ b. cmp a b ≡ Less) right) middle = AllPairs-append_across (λ a b. cmp a b ≡ Less) middle right rest_was.ascending in
       let greatest : RowRef = get_or middle (length middle - 1) gone in
       let less : cmp greatest gone ≡ Less = ap (cmp greatest) (sym h.2) ∙ across (length middle - 1) gone (omega arith) h.0 gone h.1 in
-      total.antisymm gone greatest covered ((IsOrdered-middle Covers cmp left middle right was).covered (length middle - 1) gone (omega arith)) ∙ ap ordering_reverse less
+      total.antisymm gone greatest covered ((IsOrdered-middle Covers cmp left middle right was).covered (length middle - 1) gone (omega arith))
+      ∙ ap ordering_reverse less
 
-  pub contains_middle : cmp gone (get_or middle 0 gone) ≢ Less → cmp gone (get_or middle (length middle - 1) gone) ≢ Greater → Contains (left ++ middle ++ right) gone → Contains middle gone
+  pub contains_middle : cmp gone (get_or middle 0 gone) ≢ Less → cmp gone (get_or middle (length middle - 1) gone) ≢ Greater
+      → Contains (left ++ middle ++ right) gone → Contains middle gone
   contains_middle not_before not_after held =
       ⊎_elim
       (λ (h : Contains (left ++ middle) gone).
@@ -123,13 +134,17 @@ OnTrue-weaker true P Q f h = f h
 OnTrue-weaker false P Q f h = h
 
 -- an ordered list without one of its references, which stands in the middle of three parts
-pub adds_taken : (Covers : RowRef → Type 0) (cmp : RowRef → RowRef → Ordering) (left middle right : List RowRef) (i : ℕ) (gone : RowRef) → IsOrdered Covers cmp (left ++ middle ++ right) → i < length middle → slice_get middle i ≡ Some gone → AddsInOrder cmp (left ++ remove middle i ++ right) gone (left ++ middle ++ right)
+pub adds_taken : (Covers : RowRef → Type 0) (cmp : RowRef → RowRef → Ordering) (left middle right : List RowRef) (i : ℕ) (gone : RowRef)
+    → IsOrdered Covers cmp (left ++ middle ++ right) → i < length middle → slice_get middle i ≡ Some gone
+    → AddsInOrder cmp (left ++ remove middle i ++ right) gone (left ++ middle ++ right)
 adds_taken Covers cmp left middle right i gone was inside is =
     let front : List RowRef = left ++ take i middle in
     let back : List RowRef = drop (suc i) middle ++ right in
-    let rest : drop i middle ≡ gone ∷ drop (suc i) middle = drop-cons middle i gone inside ∙ ap (λ a. a ∷ drop (suc i) middle) (get_or_from_slice_get middle i gone gone is) in
+    let rest : drop i middle ≡ gone ∷ drop (suc i) middle = drop-cons middle i gone inside
+    ∙ ap (λ a. a ∷ drop (suc i) middle) (get_or_from_slice_get middle i gone gone is) in
     let parts : take i middle ++ gone ∷ drop (suc i) middle ≡ middle = ap (λ ys. take i middle ++ ys) (sym rest) ∙ take-append-drop i middle in
-    let whole : front ++ gone ∷ back ≡ left ++ middle ++ right = regrouped left (take i middle) gone (drop (suc i) middle) right ∙ ap (λ ys. left ++ ys ++ right) parts in
+    let whole : front ++ gone ∷ back ≡ left ++ middle ++ right = regrouped left (take i middle) gone (drop (suc i) middle) right
+    ∙ ap (λ ys. left ++ ys ++ right) parts in
     let ascend : AllPairs (λ a b. cmp a b ≡ Less) (front ++ gone ∷ back) = subst (AllPairs (λ a b. cmp a b ≡ Less)) (sym whole) was.ascending in
     let across : All (λ a. All (λ b. cmp a b ≡ Less) (gone ∷ back)) front = AllPairs-append_across (λ a b. cmp a b ≡ Less) front (gone ∷ back) ascend in
     let tail : AllPairs (λ a b. cmp a b ≡ Less) (gone ∷ back) = AllPairs-append_right (λ a b. cmp a b ≡ Less) front (gone ∷ back) ascend in

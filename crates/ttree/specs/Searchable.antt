@@ -7,7 +7,8 @@ use Rattle.ttree_node.specs.Tree.{Tree, in_order}
 use Rattle.ttree.specs.Balanced.{IsTTree}
 
 -- a T-tree whose entries are in an order, along which a probe goes
-pub record IsSearchable (Covers : RowRef → Type 0) (cmp : RowRef → RowRef → Ordering) (Reaches : RowRef → Type 0) (place : RowRef → Ordering) (tree : Tree) : Type 0 where
+pub record IsSearchable (Covers : RowRef → Type 0) (cmp : RowRef → RowRef → Ordering) (Reaches : RowRef → Type 0) (place : RowRef → Ordering)
+    (tree : Tree) : Type 0 where
   pub balanced : IsTTree tree
   pub ordered : IsOrdered Covers cmp (in_order tree)
   pub monotone : IsMonotone Covers cmp Reaches place

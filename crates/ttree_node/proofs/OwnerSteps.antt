@@ -100,7 +100,7 @@ module _ (T A : RattleType) (g : Ghosts A.Denot) (K : Laws A) (d dd : Dict) wher
     owner_in t {h} o b at e = step (λ s.
         fjoin t $ rewrite t 0 (λ (p : Ptr). ‵ (block_owns (g.dealloc_token o.alloc) (param 0 T) p o.value)) (sym e) refl $
         nothing t $ move t (2 ∷ 0 ∷ []) $ fjoin t $ feq_i t (List Val) (vptr b at ∷ []) (ptr_val o.at ∷ [])
-            (ap (λ (p : Ptr). ptr_val p ∷ []) (sym e)) $ fjoin t $
+        (ap (λ (p : Ptr). ptr_val p ∷ []) (sym e)) $ fjoin t $
         feq_i t (List Val) (word h b at ∷ []) (word h b at ∷ []) refl $ fjoin t $
         fpack t (Valss (RawPtr ∷ param 1 A ∷ [])) (within (shape (owner.the_type (param 0 T) (param 1 A) g)) (o.at, (o.alloc, tt)) (word h b at ∷ []))
         (vptr b at ∷ [], (h ∷ [], tt)) $ fjoin t $ s)

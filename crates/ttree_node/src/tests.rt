@@ -12,12 +12,7 @@ fn entry(part: usize) -> RowRef {
 }
 
 /// A pool of at least `n` nodes. A refused reservation leaves no fewer than before.
-fn reserve(
-    rt: &impl Abort,
-    alloc: Global,
-    spares: &mut Spares,
-    n: usize,
-) -> Result<(), AllocError>
+fn reserve(rt: &impl Abort, alloc: Global, spares: &mut Spares, n: usize) -> Result<(), AllocError>
     ensures { OnOk result (spares.new ≡ max spares.old n) }
 {
     let before = spares.len();

@@ -16,7 +16,8 @@ place_among-at-requires-clause-ordered g c =
 pub place_among-at-requires-clause-apart : goal.place_among-at-requires-clause-apart
 place_among-at-requires-clause-apart g c =
     let P : RowRef → Type 0 = λ a. g.O.RefOrder.cmp c.args.order.now a c.args.added ≢ Equal in
-    let middle : All P c.args.node.entries = All-append_right P (in_order c.args.node.left) c.args.node.entries (All-append_left P (in_order c.args.node.left ++ c.args.node.entries) (in_order c.args.node.right) c.requires.apart) in
+    let middle : All P c.args.node.entries = All-append_right P (in_order c.args.node.left) c.args.node.entries
+    (All-append_left P (in_order c.args.node.left ++ c.args.node.entries) (in_order c.args.node.right) c.requires.apart) in
     rw c.entries.ensures.value middle
 
 pub returns-then-len-lt16-clause-adds : goal.returns-then-len-lt16-clause-adds
@@ -25,7 +26,9 @@ returns-then-len-lt16-clause-adds g c =
     let at = c.place_among-at.result in
     let before : All (λ a. cmp a c.args.added ≡ Less) (take at c.args.node.entries) = rw c.entries.ensures.value at c.place_among-at.ensures.before in
     let after : All (λ a. cmp a c.args.added ≡ Greater) (drop at c.args.node.entries) = rw c.entries.ensures.value at c.place_among-at.ensures.after in
-    rw c.put_entry.ensures (adds_between _ _ (g.met.O.RefOrder.total c.args.order.now) (in_order c.args.node.left) c.args.node.entries (in_order c.args.node.right) c.requires.ordered c.requires.tree.2.filled c.args.added c.requires.covered at c.place_among-at.ensures.above_first (omega (arith, ap length c.entries.ensures.value, c.place_among-at.ensures.below_last)) before after)
+    rw c.put_entry.ensures (adds_between _ _ (g.met.O.RefOrder.total c.args.order.now) (in_order c.args.node.left) c.args.node.entries
+    (in_order c.args.node.right) c.requires.ordered c.requires.tree.2.filled c.args.added c.requires.covered at c.place_among-at.ensures.above_first
+    (omega (arith, ap length c.entries.ensures.value, c.place_among-at.ensures.below_last)) before after)
 
 pub returns-clause-adds : goal.returns-clause-adds
 returns-clause-adds g c =
@@ -38,7 +41,10 @@ returns-clause-adds g c =
     let before : All (λ a. cmp a c.args.added ≡ Less) (take at entries) = rw c.entries.ensures.value at c.place_among-at.ensures.before in
     let after : All (λ a. cmp a c.args.added ≡ Greater) (drop at entries) = rw c.entries.ensures.value at c.place_among-at.ensures.after in
     let adds : AddsInOrder cmp (left ++ entries ++ right) c.args.added (left ++ insert entries at c.args.added ++ right) =
-    adds_between _ _ (g.met.O.RefOrder.total c.args.order.now) left entries right c.requires.ordered c.requires.tree.2.filled c.args.added c.requires.covered at c.place_among-at.ensures.above_first (omega (arith, ap length c.entries.ensures.value, c.place_among-at.ensures.below_last)) before after in
+    adds_between _ _ (g.met.O.RefOrder.total c.args.order.now) left entries right c.requires.ordered c.requires.tree.2.filled c.args.added c.requires.covered
+    at c.place_among-at.ensures.above_first (omega (arith, ap length c.entries.ensures.value, c.place_among-at.ensures.below_last)) before after in
     let least_is : get_or entries 0 least ≡ least = get_or_from_slice_get entries 0 least least c.take_entry-least.ensures.taken in
     let made : in_order (fork c.balance.result) ≡ left ++ least ∷ [] ++ insert (remove entries 0) (at - 1) c.args.added ++ right = search rules in
-    subst (AddsInOrder cmp (left ++ entries ++ right) c.args.added) (sym (made ∙ ap (λ xs. xs ++ right) (moved_least left entries at least c.args.added c.place_among-at.ensures.above_first c.requires.tree.2.filled least_is))) adds
+    subst (AddsInOrder cmp (left ++ entries ++ right) c.args.added)
+    (sym (made ∙ ap (λ xs. xs ++ right) (moved_least left entries at least c.args.added c.place_among-at.ensures.above_first c.requires.tree.2.filled
+    least_is))) adds

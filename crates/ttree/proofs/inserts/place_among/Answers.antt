@@ -11,4 +11,5 @@ unreachable-requires g c =
 pub returns-clause-below_last : goal.returns-clause-below_last
 returns-clause-below_last g c =
     let before : All (λ a. g.O.RefOrder.cmp c.args.order.now a c.args.added ≡ Less) (take c.in-Err.at c.args.entries.now) = search rules in
-    below_last _ _ (g.met.O.RefOrder.total c.args.order.now) c.args.entries.now c.requires.ordered c.requires.some c.args.added c.requires.covered c.in-Err.at before c.requires.not_after
+    below_last _ _ (g.met.O.RefOrder.total c.args.order.now) c.args.entries.now c.requires.ordered c.requires.some c.args.added c.requires.covered c.in-Err.at
+    before c.requires.not_after

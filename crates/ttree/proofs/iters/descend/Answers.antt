@@ -13,7 +13,8 @@ loop-edge-preserved c =
     let tree : IsTTree (fork c.in-Some.node.now) = subst IsTTree is was.tree in
     let left : tree_of (option_copied c.left-edge.result) ≡ c.in-Some.node.now.left = c.left-edge.ensures in
     record {
-      path = subst (IsPath 28) (sym c.push.ensures.items) (IsPath-descend c.loop-edge.path.items c.in-Some.node 28 was.path tree (omega (arith, ap height_of is, was.low)));
+      path = subst (IsPath 28) (sym c.push.ensures.items)
+          (IsPath-descend c.loop-edge.path.items c.in-Some.node 28 was.path tree (omega (arith, ap height_of is, was.low)));
       tree = subst IsTTree (sym left) tree.0;
       low = omega (arith, ap length c.push.ensures.items, c.push.ensures.len, ap height_of left, ap height_of is, was.low);
       entries = ap (λ t. in_order t ++ to_come c.push.new.self.items) left

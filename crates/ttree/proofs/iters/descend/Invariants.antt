@@ -11,7 +11,8 @@ invariant-loop-edge l = record {
   path : IsPath 28 l.path.items;
   tree : IsTTree (tree_of (option_copied l.edge));
   low : length l.path.items + height_of (tree_of (option_copied l.edge)) ≤ 28;
-  entries : in_order (tree_of (option_copied l.edge)) ++ to_come l.path.items ≡ in_order (tree_of (option_copied l.initial.tree)) ++ to_come l.initial.path.items;
+  entries : in_order (tree_of (option_copied l.edge)) ++ to_come l.path.items ≡ in_order (tree_of (option_copied l.initial.tree))
+      ++ to_come l.initial.path.items;
 }
 
 abbrev pub decreases-loop-edge : goal.decreases-loop-edge

@@ -15,45 +15,41 @@ never old new node was is none =
     (subst (λ o. IsStep (28 - length new) (tree_of (option_copied o))) none step).some
 
 -- the deepest node
-deepest : (old new : List (Option (Bor Root))) (node : Option (Bor Root)) (root : Bor Root) → IsPath 28 old → old ≡ new ++ node ∷ [] → node ≡ Some root → IsStep (28 - length new) (fork root.now)
+deepest : (old new : List (Option (Bor Root))) (node : Option (Bor Root)) (root : Bor Root) → IsPath 28 old → old ≡ new ++ node ∷ [] → node ≡ Some root
+    → IsStep (28 - length new) (fork root.now)
 deepest old new node root was is some =
     subst (λ o. IsStep (28 - length new) (tree_of (option_copied o))) some (IsPath-last 28 new node (subst (IsPath 28) is was))
 
--- src/iters.rt:84:16
 pub returns-in_err-node-clause-path : goal.returns-in_err-node-clause-path
 returns-in_err-node-clause-path c = absurd (never _ _ _ c.requires c.in_ok-pop.ensures.items c.in_err-node.was)
 
--- src/iters.rt:84:16
 pub returns-in_err-node-clause-none_before : goal.returns-in_err-node-clause-none_before
 returns-in_err-node-clause-none_before c = absurd (never _ _ _ c.requires c.in_ok-pop.ensures.items c.in_err-node.was)
 
--- src/iters.rt:84:16
 pub returns-in_err-node-clause-none : goal.returns-in_err-node-clause-none
 returns-in_err-node-clause-none c = absurd (never _ _ _ c.requires c.in_ok-pop.ensures.items c.in_err-node.was)
 
--- src/iters.rt:85:5
 pub descend-requires-clause-path : goal.descend-requires-clause-path
 descend-requires-clause-path c = IsPath-front 28 c.pop.new.self.items c.in_ok-pop.field-0 (subst (IsPath 28) c.in_ok-pop.ensures.items c.requires)
 
--- src/iters.rt:85:5
 pub descend-requires-clause-tree : goal.descend-requires-clause-tree
 descend-requires-clause-tree c =
-    let step : IsStep (28 - length c.pop.new.self.items) (fork c.in_ok-node.node.now) = deepest c.args.path.now.items c.pop.new.self.items c.in_ok-pop.field-0 c.in_ok-node.node c.requires c.in_ok-pop.ensures.items c.in_ok-node.was in
+    let step : IsStep (28 - length c.pop.new.self.items) (fork c.in_ok-node.node.now) =
+    deepest c.args.path.now.items c.pop.new.self.items c.in_ok-pop.field-0 c.in_ok-node.node c.requires c.in_ok-pop.ensures.items c.in_ok-node.was in
     subst IsTTree (sym c.right.ensures) step.balanced.1
 
--- src/iters.rt:85:5
 pub descend-requires-clause-low : goal.descend-requires-clause-low
 descend-requires-clause-low c =
-    let step : IsStep (28 - length c.pop.new.self.items) (fork c.in_ok-node.node.now) = deepest c.args.path.now.items c.pop.new.self.items c.in_ok-pop.field-0 c.in_ok-node.node c.requires c.in_ok-pop.ensures.items c.in_ok-node.was in
+    let step : IsStep (28 - length c.pop.new.self.items) (fork c.in_ok-node.node.now) =
+    deepest c.args.path.now.items c.pop.new.self.items c.in_ok-pop.field-0 c.in_ok-node.node c.requires c.in_ok-pop.ensures.items c.in_ok-node.was in
     omega (arith, ap height_of c.right.ensures, step.low)
 
--- src/iters.rt:76:1
 pub returns-clause-some : goal.returns-clause-some
 returns-clause-some c =
-    let step : IsStep (28 - length c.pop.new.self.items) (fork c.in_ok-node.node.now) = deepest c.args.path.now.items c.pop.new.self.items c.in_ok-pop.field-0 c.in_ok-node.node c.requires c.in_ok-pop.ensures.items c.in_ok-node.was in
+    let step : IsStep (28 - length c.pop.new.self.items) (fork c.in_ok-node.node.now) =
+    deepest c.args.path.now.items c.pop.new.self.items c.in_ok-pop.field-0 c.in_ok-node.node c.requires c.in_ok-pop.ensures.items c.in_ok-node.was in
     omega (arith, ap length c.iter.ensures, ap length c.entries.ensures.value, step.balanced.2.filled)
 
--- src/iters.rt:76:1
 pub returns-clause-entries : goal.returns-clause-entries
 returns-clause-entries c =
     let n = c.in_ok-node.node.now in

@@ -30,4 +30,5 @@ returns-in-Err-clause-none g c =
     let after : All (λ a. place a ≡ Greater) (drop at n.entries) =
     subst (λ (xs : List RowRef). All (λ a. place a ≡ Greater) (drop at xs)) c.entries-entries.ensures.value c.in-Err.ensures.after in
     none_between _ _ _ place is.monotone (in_order n.left) n.entries (in_order n.right) is.ordered _
-    is.balanced.2.filled c.requires.not_before c.requires.not_after at (omega (arith, ap length c.entries-entries.ensures.value, c.in-Err.ensures.in_bounds)) before after
+    is.balanced.2.filled c.requires.not_before c.requires.not_after at (omega (arith, ap length c.entries-entries.ensures.value, c.in-Err.ensures.in_bounds))
+    before after

@@ -14,5 +14,7 @@ returns-in-None-clause-entries t c =
     let taken : slice_get n.entries (length n.entries - 1) ≡ Some last = search rules in
     let made : in_order (tree_of c.settle.result) ≡ left ++ remove n.entries (length n.entries - 1) ++ [] = search rules in
     let none : Empty ≡ n.right = c.in-None.ensures.taken in
-    ap (λ xs. xs ++ last ∷ []) (made ∙ append-nil (left ++ remove n.entries (length n.entries - 1))) ∙ append_assoc left (remove n.entries (length n.entries - 1)) (last ∷ [])
-    ∙ ap (λ xs. left ++ xs) (remove_last-append n.entries last c.requires.tree.2.filled taken) ∙ sym (append-nil (left ++ n.entries)) ∙ ap (λ r. left ++ n.entries ++ in_order r) none
+    ap (λ xs. xs ++ last ∷ []) (made ∙ append-nil (left ++ remove n.entries (length n.entries - 1)))
+    ∙ append_assoc left (remove n.entries (length n.entries - 1)) (last ∷ [])
+    ∙ ap (λ xs. left ++ xs) (remove_last-append n.entries last c.requires.tree.2.filled taken) ∙ sym (append-nil (left ++ n.entries))
+    ∙ ap (λ r. left ++ n.entries ++ in_order r) none

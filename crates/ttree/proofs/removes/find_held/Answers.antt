@@ -8,8 +8,10 @@ use Rattle.ttree.proofs.removes.find_held.Goals as goal
 
 pub returns-in_default-clause-absent : goal.returns-in_default-clause-absent
 returns-in_default-clause-absent g c held =
-    let equal : g.O.RefOrder.cmp c.args.order.now (get_or c.args.entries.now c.in-Ok.i c.args.gone) c.args.gone ≡ Equal = rw c.new-seek.ensures at (c.in-Ok.ensures.found c.args.gone) in
-    let is = equal_is_held _ _ (g.met.O.RefOrder.total c.args.order.now) c.args.gone c.requires.covered c.args.entries.now c.requires.ordered c.in-Ok.i c.in-Ok.ensures.found_in_bounds equal held in
+    let equal : g.O.RefOrder.cmp c.args.order.now (get_or c.args.entries.now c.in-Ok.i c.args.gone) c.args.gone ≡ Equal =
+    rw c.new-seek.ensures at (c.in-Ok.ensures.found c.args.gone) in
+    let is = equal_is_held _ _ (g.met.O.RefOrder.total c.args.order.now) c.args.gone c.requires.covered c.args.entries.now c.requires.ordered c.in-Ok.i
+    c.in-Ok.ensures.found_in_bounds equal held in
     let there = get_or_default c.args.entries.now c.in-Ok.i (record { part = 0; slot = 0 }) c.args.gone c.in-Ok.ensures.found_in_bounds ∙ is in
     let same = same_refs (get_or c.args.entries.now c.in-Ok.i (record { part = 0; slot = 0 })) c.args.gone there in
     cc (c.if-eq.false, c.eq.ensures)

@@ -5,7 +5,8 @@ use Rattle.ttree.proofs.tests.ascending_references_fill_the_nodes.Goals as goal
 
 pub loop-part-preserved : goal.loop-part-preserved
 loop-part-preserved g c =
-    let earlier : All (λ a. a.part < c.loop-part.part) c.reserve.new.tree.refs = subst (λ (xs : List RowRef). All (λ a. a.part < c.loop-part.part) xs) (sym c.in_ok-reserve.ensures.refs) c.loop-part.invariant.earlier in
+    let earlier : All (λ a. a.part < c.loop-part.part) c.reserve.new.tree.refs =
+    subst (λ (xs : List RowRef). All (λ a. a.part < c.loop-part.part) xs) (sym c.in_ok-reserve.ensures.refs) c.loop-part.invariant.earlier in
     record {
       ordered = c.insert.ensures.ordered;
       earlier = All-added _ _ _ _ c.insert.ensures.refs (λ a. a.part < c.loop-part.part + 1) (λ k d below. omega (arith, earlier k d below)) (omega arith);

@@ -5,8 +5,10 @@ use Rattle.ttree.proofs.tests.grows_and_shrinks.Goals as goal
 
 pub down-preserved : goal.down-preserved
 down-preserved g c =
-    let later : All (λ a. 1000 ≤ a.part + c.down.i) c.reserve.new.tree.refs = subst (λ (xs : List RowRef). All (λ a. 1000 ≤ a.part + c.down.i) xs) (sym c.in_ok-reserve.ensures.refs) c.down.invariant.later in
-    let earlier : All (λ a. a.part < 1000) c.reserve.new.tree.refs = subst (λ (xs : List RowRef). All (λ a. a.part < 1000) xs) (sym c.in_ok-reserve.ensures.refs) c.down.invariant.earlier in
+    let later : All (λ a. 1000 ≤ a.part + c.down.i) c.reserve.new.tree.refs =
+    subst (λ (xs : List RowRef). All (λ a. 1000 ≤ a.part + c.down.i) xs) (sym c.in_ok-reserve.ensures.refs) c.down.invariant.later in
+    let earlier : All (λ a. a.part < 1000) c.reserve.new.tree.refs =
+    subst (λ (xs : List RowRef). All (λ a. a.part < 1000) xs) (sym c.in_ok-reserve.ensures.refs) c.down.invariant.earlier in
     record {
       ordered = c.insert.ensures.ordered;
       later = All-added _ _ _ _ c.insert.ensures.refs (λ a. 1000 ≤ a.part + (c.down.i + 1)) (λ k d below. omega (arith, later k d below)) (omega arith);
@@ -15,7 +17,8 @@ down-preserved g c =
 
 pub up-preserved : goal.up-preserved
 up-preserved g c =
-    let earlier : All (λ a. a.part < c.up.part) c.reserve-in-up.new.tree.refs = subst (λ (xs : List RowRef). All (λ a. a.part < c.up.part) xs) (sym c.in_ok-reserve-2.ensures.refs) c.up.invariant.earlier in
+    let earlier : All (λ a. a.part < c.up.part) c.reserve-in-up.new.tree.refs =
+    subst (λ (xs : List RowRef). All (λ a. a.part < c.up.part) xs) (sym c.in_ok-reserve-2.ensures.refs) c.up.invariant.earlier in
     record {
       ordered = c.insert-in-up.ensures.ordered;
       earlier = All-added _ _ _ _ c.insert-in-up.ensures.refs (λ a. a.part < c.up.part + 1) (λ k d below. omega (arith, earlier k d below)) (omega arith);

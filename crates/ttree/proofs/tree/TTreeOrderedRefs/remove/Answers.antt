@@ -6,5 +6,6 @@ use Rattle.ttree.proofs.tree.TTreeOrderedRefs.remove.Goals as goal
 
 pub returns-then-found-clause-ordered : goal.returns-then-found-clause-ordered
 returns-then-found-clause-ordered g c =
-    let adds : AddsInOrder (g.O.RefOrder.cmp c.args.order.now) (in_order (tree_of c.remove_from-root.result.0)) c.args.gone c.args.self.now.refs = search rules in
+    let adds : AddsInOrder (g.O.RefOrder.cmp c.args.order.now) (in_order (tree_of c.remove_from-root.result.0)) c.args.gone c.args.self.now.refs =
+    search rules in
     IsOrdered-removed _ _ (in_order (tree_of c.remove_from-root.result.0)) c.args.gone c.args.self.now.refs c.requires.ordered adds

@@ -69,7 +69,7 @@ from_box_spec 𝓤 𝓛 𝓜 𝓡 wired T A L K g d dx dd allocates glue glued =
     (and_then ! (get ! refl) (no_more !)) (λ u.
     use1 𝓛 (later (some (λ (r : Ptr × A.Denot). (alive ⊛ ‵ (Pair.own_val r (u ∷ []))) ⊛
     some (λ (_ : (Unit {0} × (Unit {0} × Unit {0})) × Unit {0}).
-        ‵ (fsep (fsep ftrue (fsep ftrue ftrue)) ftrue) ⊛ (raw (fact 𝓤 (r.1 ≡ a)) ⊛ ‵ (block_owns (g.dealloc_token a) (param 0 T) r.0 v.value)))))) (id⊢ 𝓤 _) $
+    ‵ (fsep (fsep ftrue (fsep ftrue ftrue)) ftrue) ⊛ (raw (fact 𝓤 (r.1 ≡ a)) ⊛ ‵ (block_owns (g.dealloc_token a) (param 0 T) r.0 v.value)))))) (id⊢ 𝓤 _) $
     await ! tt $ pick ! (λ r.
     split ! $ move ! (1 ∷ []) $ pick ! (λ _. split3 ! $ drop ! $ heard ! (r.1 ≡ a) (λ same.
     in_a_block ! r.0 (λ p. block_owns (g.dealloc_token a) (param 0 T) p v.value) (fst∗ 𝓤 (never 𝓤) (sem 𝓛 (may_free T A g K d dd a null_ptr))) (λ b' at' e'.
