@@ -1,5 +1,5 @@
 -- What a line reads as.
-use Rattle.std.specs.Prelude.{◌≡◌, ◌⊎◌, ℕ, ◌==◌, ◌^◌, Bool, not, false, ◌||◌, ◌&&◌, if◌then◌else◌, List, [], ◌∷◌, Option, Some, None, Result, Ok, Err, length, nat_lt, IsTrue}
+use Rattle.std.specs.Prelude.{◌≡◌, ◌⊎◌, ℕ, ◌==◌, ◌^◌, Bool, true, false, ◌||◌, ◌&&◌, if◌then◌else◌, List, [], ◌∷◌, Option, Some, None, Result, Ok, Err, length, nat_lt, IsTrue}
 use Rattle.std.specs.List.{list_all, flat_map}
 use Rattle.std.proofs.Math.IntN.{ℤ, pos, negsuc}
 use Rattle.mm_value.specs.declared.refusal.Refusal.{Refusal}
@@ -63,9 +63,22 @@ reading line =
     if nat_lt 4096 (length line) then Err LineTooLong
     else (if is_nothing line then Ok Nothing else read_as (command_of (tokens line)))
 
--- A line takes memory unless it is too long, empty or a comment.
+-- A command takes memory unless it is Nothing.
+abbrev pub command_takes_memory : Command → Bool
+command_takes_memory Nothing = false
+command_takes_memory (Define definition) = true
+command_takes_memory (Change mutation) = true
+command_takes_memory (Scan table) = true
+
+-- What a line reads as takes memory, unless it is such a command or the line is too long.
+abbrev pub reading_takes_memory : Result Command Refusal → Bool
+reading_takes_memory (Ok command) = command_takes_memory command
+reading_takes_memory (Err LineTooLong) = false
+reading_takes_memory (Err refusal) = true
+
+-- A line takes memory by what it reads as.
 abbrev pub takes_memory : List ℕ → Bool
-takes_memory line = not (nat_lt 4096 (length line)) && not (is_nothing line)
+takes_memory line = reading_takes_memory (reading line)
 
 -- A call answers the reading of a line, or want of memory in its place where the line takes memory.
 abbrev pub Reads : List ℕ → Result Command Refusal → Type 0

@@ -1,5 +1,5 @@
 -- What is written is the reply to what was read.
-use Rattle.std.proofs.Common.{◌≡◌, ◌≢◌, ℕ, Bool, true, false, cond, eqb, not, ◌&&◌, List, [], ◌∷◌, ◌++◌, Option, Some, None, Result, Ok, Err, IsTrue, ◌<◌, length, take, drop, sym, refl, ap, subst, ◌∙◌, ⊎_elim}
+use Rattle.std.proofs.Common.{◌≡◌, ℕ, Bool, true, false, cond, eqb, List, [], ◌∷◌, ◌++◌, Option, Some, None, Result, Ok, Err, IsTrue, ◌<◌, length, take, drop, sym, refl, ap, subst, ◌∙◌, ⊎_elim, inl, inr}
 use Rattle.std.proofs.lemmas.List.{append-nil, drop_at, length-take-le}
 use Rattle.std.proofs.lemmas.Bool.{lt-ltb}
 use Rattle.std.specs.Prelude.{IfOk, IfSome, MatchResult}
@@ -7,7 +7,7 @@ use Rattle.std.specs.Borrow.{Bor}
 use Rattle.std.specs.Io.KnownBytes.{Appends, Consumes, Keeps}
 use Rattle.mm_lang.specs.Grammar.{command_of}
 use Rattle.mm_lang.specs.Lines.{pieces_of, without_return}
-use Rattle.mm_lang.specs.Reading.{Reads, is_nothing, read_as, reading, takes_memory}
+use Rattle.mm_lang.specs.Reading.{Reads, command_takes_memory, is_nothing, read_as, reading, reading_takes_memory, takes_memory}
 use Rattle.mm_lang.specs.ReplyText.{reply_text}
 use Rattle.mm_lang.specs.Tokens.{tokens}
 use Rattle.mm_value.specs.Device.{AppendsPrefix, Writes}
@@ -19,7 +19,7 @@ use Rattle.mm_value.specs.declared.values.Value.{Value}
 use Rattle.mm_query.specs.Machine.{Outcome, scanned, step}
 use Rattle.mm_query.specs.State.{State, Stored}
 use Rattle.mm_query.specs.declared.command.Command.{Command}
-use Rattle.mm_query.specs.declared.command.Command.TheVariants.{Nothing, Define, Change, Scan}
+use Rattle.mm_query.specs.declared.command.Command.TheVariants.{Nothing}
 use Rattle.mm_query.specs.declared.reply.Reply.{Reply}
 use Rattle.mm_query.specs.declared.reply.Reply.TheVariants.{Rows, Refused}
 use Rattle.mmdb_core.specs.Input.{DropsLongLine, IsFirstLine, LiesInFront}
@@ -37,16 +37,18 @@ pub appends_nothing : (a : Option (List ℕ)) → Appends a a []
 appends_nothing None = tt
 appends_nothing (Some x) = sym (append-nil x)
 
--- a step of what was read
-pub leads_step : (command : Command) → command ≢ Nothing → (read : Result Command Refusal) → read ≡ Ok command → (state : State) (outcome stepped : Outcome) → outcome ≡ stepped → IsStep command state stepped → MayLeadTo read state outcome
-leads_step command some read is state outcome stepped same leads =
-    subst (λ r. MayLeadTo r state outcome) (sym is) (subst (MayLeadTo (Ok command) state) (sym same) (of_command command some leads))
+-- a step of a command that takes memory is what its reading leads to
+pub leads_step : (command : Command) → IsTrue (command_takes_memory command) → (read : Result Command Refusal) → read ≡ Ok command
+    → (state : State) (outcome stepped : Outcome) → outcome ≡ stepped → IsStep command state stepped → MayLeadTo read state outcome
+leads_step command takes read is state outcome stepped same leads =
+    subst (λ r. MayLeadTo r state outcome) (sym is) (subst (MayLeadTo (Ok command) state) (sym same) of_command)
   where
-    of_command : (c : Command) → c ≢ Nothing → IsStep c state stepped → MayLeadTo (Ok c) state stepped
-    of_command Nothing none h = absurd (none refl)
-    of_command (Define definition) none h = h
-    of_command (Change mutation) none h = h
-    of_command (Scan table) none h = h
+    of_command : MayLeadTo (Ok command) state stepped
+    of_command =
+        ⊎_elim
+        (λ (h : stepped ≡ step command state). inl h)
+        (λ (h : stepped ≡ refused_outcome Memory state). inr (h, takes))
+        leads
 
 -- a line, by its last byte
 pub without_return-last : (front : List ℕ) (b : ℕ) → without_return (front ++ b ∷ []) ≡ cond (eqb b 13) front (front ++ b ∷ [])
@@ -81,16 +83,6 @@ pub scan_refused : (found : Option Stored) (refusal : Refusal) (state : State) �
 scan_refused None refusal state h = ap (λ r. record { reply = Some (Refused r); state = state }) h
 scan_refused (Some stored) refusal state h = absurd h
 
--- a command takes memory
-takes_by_tests : (is_long is_nothing : Bool) (read : Result Command Refusal) (command : Command) → cond is_long (Err LineTooLong) (cond is_nothing (Ok Nothing) read) ≡ Ok command → command ≢ Nothing → (not is_long && not is_nothing) ≡ true
-takes_by_tests true is_nothing read command h some = absurd (let clash : ◌≡◌ {A = Result Command Refusal} (Err LineTooLong) (Ok command) = h in cc)
-takes_by_tests false true read command h some = absurd (some (let same : ◌≡◌ {A = Result Command Refusal} (Ok Nothing) (Ok command) = h in cc))
-takes_by_tests false false read command h some = refl
-
-command_takes : (line : List ℕ) (command : Command) → reading line ≡ Ok command → command ≢ Nothing → takes_memory line ≡ true
-unfolding reading
-command_takes line command h some = takes_by_tests _ _ _ command h some
-
 -- memory refused to a line that takes it
 refused_memory : (line : List ℕ) (state : State) → takes_memory line ≡ true → answer true line state ≡ refused_outcome Memory state
 refused_memory line state takes = ap (λ b. cond b (refused_outcome Memory state) (outcome_of (reading line) state)) takes
@@ -99,11 +91,12 @@ module _ {W : Type 0} (contents : W → Option (List ℕ)) (old new : Watched W)
   chosen : (choice : Bool) (outcome : Outcome) → outcome ≡ answer choice line before → Responds contents old new after outcome is_refused → AnswersLine contents old new line before after is_refused
   chosen choice outcome is responds = record { choice = choice; responds = subst (λ o. Responds contents old new after o is_refused) is responds }
 
-  by_step : (command : Command) → command ≢ Nothing → reading line ≡ Ok command → (outcome : Outcome) → IsStep command before outcome → Responds contents old new after outcome is_refused → AnswersLine contents old new line before after is_refused
-  by_step command some read outcome leads responds =
+  by_step : (command : Command) → reading line ≡ Ok command → (outcome : Outcome) → MayLeadTo (Ok command) before outcome → Responds contents old new after outcome is_refused → AnswersLine contents old new line before after is_refused
+  by_step command read outcome leads responds =
       ⊎_elim
       (λ (h : outcome ≡ step command before). chosen false outcome (h ∙ ap (λ r. outcome_of r before) (sym read)) responds)
-      (λ (h : outcome ≡ refused_outcome Memory before). chosen true outcome (h ∙ sym (refused_memory line before (command_takes line command read some))) responds)
+      (λ (h : (outcome ≡ refused_outcome Memory before) × IsTrue (command_takes_memory command)).
+      chosen true outcome (h.0 ∙ sym (refused_memory line before (ap reading_takes_memory read ∙ h.1))) responds)
       leads
 
   by_refusal : (refusal : Refusal) → Reads line (Err refusal) → (outcome : Outcome) → outcome ≡ refused_outcome refusal before → Responds contents old new after outcome is_refused → AnswersLine contents old new line before after is_refused
@@ -115,10 +108,7 @@ module _ {W : Type 0} (contents : W → Option (List ℕ)) (old new : Watched W)
 
   -- what was read of a line answers the line
   answers_read : (read : Result Command Refusal) → Reads line read → (outcome : Outcome) → MayLeadTo read before outcome → Responds contents old new after outcome is_refused → AnswersLine contents old new line before after is_refused
-  answers_read (Ok Nothing) reads outcome leads responds = chosen false outcome (leads ∙ ap (λ r. outcome_of r before) (sym reads)) responds
-  answers_read (Ok (Define definition)) reads outcome leads responds = by_step (Define definition) (λ e. cc) reads outcome leads responds
-  answers_read (Ok (Change mutation)) reads outcome leads responds = by_step (Change mutation) (λ e. cc) reads outcome leads responds
-  answers_read (Ok (Scan table)) reads outcome leads responds = by_step (Scan table) (λ e. cc) reads outcome leads responds
+  answers_read (Ok command) reads outcome leads responds = by_step command reads outcome leads responds
   answers_read (Err refusal) reads outcome leads responds = by_refusal refusal reads outcome leads responds
 
 -- the same of a call's result

@@ -1,7 +1,8 @@
 -- What one line does: the reply is written, and the state is the one after it.
-use Rattle.std.specs.Prelude.{◌≡◌, ◌⊎◌, ◌<◌, ℕ, Bool, true, false, List, [], ◌∷◌, Option, Some, None, Result, Ok, Err, IfSome}
+use Rattle.std.specs.Prelude.{◌≡◌, ◌⊎◌, ◌<◌, ℕ, Bool, true, false, List, [], ◌∷◌, Option, Some, None, Result, Ok, Err, IfSome, IsTrue}
 use Rattle.std.specs.Io.KnownBytes.{Appends, IsAtEnd, Keeps}
 use Rattle.mm_lang.specs.Lines.{pieces_of, without_return}
+use Rattle.mm_lang.specs.Reading.{command_takes_memory}
 use Rattle.mm_value.specs.Watched.{inner_of, has_failed}
 use Rattle.mm_value.specs.declared.device.Watched.{Watched}
 use Rattle.mm_value.specs.declared.refusal.Refusal.{Refusal}
@@ -9,7 +10,6 @@ use Rattle.mm_value.specs.declared.refusal.Refusal.TheVariants.{Memory}
 use Rattle.mm_query.specs.Machine.{Outcome, step}
 use Rattle.mm_query.specs.State.{State}
 use Rattle.mm_query.specs.declared.command.Command.{Command}
-use Rattle.mm_query.specs.declared.command.Command.TheVariants.{Nothing, Define, Change, Scan}
 use Rattle.mmdb_core.specs.Input.{IsFault, left_of}
 use Rattle.mmdb_core.specs.Run.{answer, is_error, refused_outcome, text_of}
 use Rattle.mmdb_core.specs.declared.fault.RunFault.{RunFault}
@@ -20,12 +20,10 @@ use Rattle.mmdb_core.specs.declared.input.Input.{Input}
 abbrev pub IsStep : Command → State → Outcome → Type 0
 IsStep command state outcome = (outcome ≡ step command state) ⊎ (outcome ≡ refused_outcome Memory state)
 
--- The outcome of a reading; one with no reply takes no memory.
+-- What a reading leads to: a command's step, or want of memory where it takes memory; or the reading's refusal.
 abbrev pub MayLeadTo : Result Command Refusal → State → Outcome → Type 0
-MayLeadTo (Ok Nothing) state outcome = outcome ≡ step Nothing state
-MayLeadTo (Ok (Define definition)) state outcome = IsStep (Define definition) state outcome
-MayLeadTo (Ok (Change mutation)) state outcome = IsStep (Change mutation) state outcome
-MayLeadTo (Ok (Scan table)) state outcome = IsStep (Scan table) state outcome
+MayLeadTo (Ok command) state outcome =
+    (outcome ≡ step command state) ⊎ ((outcome ≡ refused_outcome Memory state) × IsTrue (command_takes_memory command))
 MayLeadTo (Err refusal) state outcome = outcome ≡ refused_outcome refusal state
 
 -- The outcome's reply was written and its state is there.

@@ -1,4 +1,4 @@
-use Rattle.std.proofs.Common.{Some, None, Ok, refl, sym, ap, subst, ◌∙◌}
+use Rattle.std.proofs.Common.{Some, None, Ok, inl, refl, sym, ap, subst, ◌∙◌}
 use Rattle.mm_value.specs.Watched.{inner_of}
 use Rattle.mm_query.specs.declared.command.Command.{Command}
 use Rattle.mm_query.specs.declared.command.Command.TheVariants.{Define, Change}
@@ -14,7 +14,7 @@ use Rattle.mmdb_core.proofs.answer.respond.Goals.{in-Ok-Define, in-Ok-Change, in
 pub returns-in-Ok-Nothing-clause-ok : goal.returns-in-Ok-Nothing-clause-ok
 returns-in-Ok-Nothing-clause-ok g c = record {
   outcome = record { reply = None; state = c.args.database.now };
-  leads = subst (λ read. MayLeadTo read c.args.database.now (record { reply = None; state = c.args.database.now })) (sym (c.in-Ok-Nothing.is ∙ ap (λ (command : Command). Ok command) c.in-Ok-Nothing.field-0-is)) refl;
+  leads = subst (λ read. MayLeadTo read c.args.database.now (record { reply = None; state = c.args.database.now })) (sym (c.in-Ok-Nothing.is ∙ ap (λ (command : Command). Ok command) c.in-Ok-Nothing.field-0-is)) (inl refl);
   responds = record { state = refl; written = appends_nothing (g.W.Write.contents (inner_of c.args.writer.now)); refused = refl };
 }
 
@@ -24,11 +24,11 @@ returns-clause-ok g c =
     let leads : MayLeadTo c.args.command c.args.database.now (reply_and c.match-command.reply c.match-command.database) =
     elim c.match-command.branch [
       | in-Ok-Define w ↦
-          leads_step (Define w.in-Ok-Define.definition) (λ e. cc) c.args.command (w.in-Ok-Define.is ∙ ap (λ (command : Command). Ok command) w.in-Ok-Define.field-0-is) c.args.database.now
+          leads_step (Define w.in-Ok-Define.definition) refl c.args.command (w.in-Ok-Define.is ∙ ap (λ (command : Command). Ok command) w.in-Ok-Define.field-0-is) c.args.database.now
           (reply_and c.match-command.reply c.match-command.database) (reply_and w.define-reply.result w.define-reply.new.database)
           (ap (λ r. reply_and r c.match-command.database) w.reply-is ∙ ap (reply_and w.define-reply.result) w.database-is) w.define-reply.ensures
       | in-Ok-Change w ↦
-          leads_step (Change w.in-Ok-Change.mutation) (λ e. cc) c.args.command (w.in-Ok-Change.is ∙ ap (λ (command : Command). Ok command) w.in-Ok-Change.field-0-is) c.args.database.now
+          leads_step (Change w.in-Ok-Change.mutation) refl c.args.command (w.in-Ok-Change.is ∙ ap (λ (command : Command). Ok command) w.in-Ok-Change.field-0-is) c.args.database.now
           (reply_and c.match-command.reply c.match-command.database) (reply_and w.change-reply.result w.change-reply.new.database)
           (ap (λ r. reply_and r c.match-command.database) w.reply-is ∙ ap (reply_and w.change-reply.result) w.database-is) w.change-reply.ensures
       | in-Err w ↦
