@@ -1,13 +1,14 @@
-mod ColumnLists
+mod CommandReadings
 mod Commands
+mod Exactness
 mod Fronts
 mod Lexing
+mod Lists
 mod Literals
 pub mod Pieces
+mod Readings
 mod ReplyLemmas
-mod SpelledColumns
 mod SpelledCommands
-mod SpelledTuples
 mod SpelledWords
 mod Texts
-mod TupleLists
+mod TupleValues

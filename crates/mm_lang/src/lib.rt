@@ -1,9 +1,11 @@
 //! The command language: what a line reads as, and the text of a reply.
 #![tactic(auto)]
 
+mod columns;
 mod grammar;
 mod keyword;
 mod phrase;
+mod reader;
 mod reading;
 mod reply_text;
 mod token;
