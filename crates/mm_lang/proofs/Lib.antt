@@ -4,6 +4,7 @@ mod Exactness
 mod Fronts
 mod Lexing
 mod Lists
+mod LiteralOrder
 mod Literals
 pub mod Pieces
 mod Readings

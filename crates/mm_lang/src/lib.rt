@@ -11,7 +11,7 @@ mod reply_text;
 mod token;
 mod tuples;
 
-pub use grammar::grammar_is_exact;
+pub use grammar::{grammar_is_exact, literals_are_in_written_order};
 pub use keyword::Keyword;
 pub use mm_query::{Command, Reply};
 pub use reading::{MAX_LINE_BYTES, parse};
