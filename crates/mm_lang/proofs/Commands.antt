@@ -1,71 +1,67 @@
--- Commands by their first words, and lines by what they hold.
-use Rattle.std.proofs.Common.{◌≡◌, ◌<◌, ◌≤◌, ◌⊎◌, inl, inr, ℕ, Bool, true, false, cond, ltb, List, [], ◌∷◌, Option, Some, None, Result, Ok, Err, length, refl, sym, ap, ◌∙◌, subst}
+-- A whole line as a command, and lines by what they hold.
+use Rattle.std.proofs.Common.{◌≡◌, ◌≢◌, ◌<◌, ◌≤◌, ◌⊎◌, inl, inr, ⊎_elim, ℕ, Bool, true, false, cond, ltb, List, [], ◌∷◌, Option, Some, None, Result, Ok, Err, length, refl, sym, ap, ◌∙◌, subst}
+use Rattle.std.specs.Option.{option_and_then, option_or}
 use Rattle.std.proofs.lemmas.Bool.{cond-true, cond-false, lt-ltb, le-ltb}
-use Rattle.std.specs.Option.{ok_or}
 use Rattle.mm_value.specs.declared.refusal.Refusal.{Refusal}
-use Rattle.mm_value.specs.declared.refusal.Refusal.TheVariants.{LineTooLong, Syntax, NumberOutOfRange, TextTooLong, Memory}
+use Rattle.mm_value.specs.declared.refusal.Refusal.TheVariants.{LineTooLong, Syntax, Memory}
 use Rattle.mm_value.specs.declared.values.Value.{Value}
 use Rattle.mm_value.specs.declared.values.Value.TheVariants.{Int, Text}
+use Rattle.mm_value.specs.Literal.{is_within_limit}
 use Rattle.mm_query.specs.declared.command.Command.{Command}
 use Rattle.mm_query.specs.declared.command.Command.TheVariants.{Nothing, Define, Change, Scan}
-use Rattle.mm_lang.specs.declared.keyword.Keyword.TheVariants as keyword
-use Rattle.mm_lang.specs.Grammar.{command_of, insert_of, scan_of, table_of, is_name}
-use Rattle.mm_lang.specs.Reading.{Reads, command_takes_memory, first_fault, fits_64_bits, is_nothing, literal_fault, literals_of, or_else, read_as, reading, reading_takes_memory, takes_memory, within_limits}
-use Rattle.mm_lang.specs.Parsing.{AnswersOrMemory, BeginsNoWord, Follows}
-use Rattle.mm_lang.specs.Tokens.{Token, Word, tokens}
-use Rattle.mm_lang.specs.Words.{is_word}
+use Rattle.mm_lang.specs.declared.keyword.Keyword.{Keyword}
+use Rattle.mm_lang.specs.declared.reader.Reader.{Reader}
+use Rattle.mm_lang.specs.Grammar.{command_behind, command_of}
+use Rattle.mm_lang.specs.Phrases.{Phrase, ◌>>=◌, one_word, alone}
+use Rattle.mm_lang.specs.Reading.{Reads, command_takes_memory, first_fault, is_nothing, literal_fault, literals_of, past_limit, read_as, reading, reading_takes_memory, takes_memory, unless}
+use Rattle.mm_lang.specs.Tokens.{Token, tokens}
+use Rattle.mm_lang.specs.Words.{keyword_named}
+use Rattle.mm_lang.specs.steps.Parsing.{AnswersOrMemory, Fails, Finishes, Gives, no_literals}
+use Rattle.mm_lang.specs.steps.Parts.{Front}
+use Rattle.mm_lang.proofs.Readings.{Took, took, fails_first, fails_next}
 use Rattle.mm_lang.proofs.SpelledCommands.{command_read}
 
-command_no_word : (ts : List Token) → BeginsNoWord ts → command_of ts ≡ None
+-- a command, and nothing behind it
+
+abbrev command_phrase : Phrase Command
+command_phrase = one_word keyword_named >>= command_behind
+
+no_command : (old : Reader) (e : Refusal) → Fails command_phrase old e → AnswersOrMemory (read_as (command_of (tokens old.rest.now))) (Err e)
 unfolding command_of
-command_no_word (Word w ∷ ts) h = absurd h
-command_no_word _ h = refl
+no_command old e (inl h) = inl (ap (λ (o : Option (Front Command)). read_as (option_and_then (λ r. alone r.0 r.1) o)) h.1 ∙ ap Err (sym h.0))
+no_command old e (inr h) = inr h
 
-pub no_word_answers : (ts : List Token) → BeginsNoWord ts → (read_as (command_of ts) ≡ Err Syntax) ⊎ (Syntax ≡ Memory)
-no_word_answers ts h = inl (ap read_as (command_no_word ts h))
+pub no_keyword : (old : Reader) (e : Refusal) → Fails (one_word keyword_named) old e → AnswersOrMemory (read_as (command_of (tokens old.rest.now))) (Err e)
+no_keyword old e h = no_command old e (fails_first (one_word keyword_named) command_behind old e h)
 
-scan_read : (ts : List Token) → AnswersOrMemory (read_as (scan_of ts)) (ok_or (scan_of ts) Syntax)
-scan_read (Word table ∷ []) = named (is_name table)
-  where
-    named : (b : Bool) → AnswersOrMemory (read_as (cond b (Some (Scan table)) None)) (ok_or (cond b (Some (Scan table)) None) Syntax)
-    named true = refl
-    named false = inl refl
-scan_read _ = inl refl
+pub nothing_behind : (old mid : Reader) (k : Keyword) (e : Refusal) → Gives (one_word keyword_named) no_literals old mid k → Fails (command_behind k) mid e
+    → AnswersOrMemory (read_as (command_of (tokens old.rest.now))) (Err e)
+nothing_behind old mid k e g h = let t = took g in no_command old e (fails_next (one_word keyword_named) command_behind old mid k e t.is h)
 
-module _ (line word rest : List ℕ) (follows : Follows line (Word word) rest) where
-  insert_is : is_word keyword.Insert word ≡ true → command_of (tokens line) ≡ insert_of (tokens rest)
+alone_some : (c : Command) (ts : List Token) → ts ≢ [] → alone c ts ≡ None
+alone_some c [] h = absurd (h refl)
+alone_some c (t ∷ ts) h = refl
+
+module _ (old mid new : Reader) (k : Keyword) (c : Command) (fresh : old.fault ≡ None) (g : Gives (one_word keyword_named) no_literals old mid k)
+    (h : Gives (command_behind k) literals_of mid new c) where
+  whole_is : command_of (tokens old.rest.now) ≡ alone h.said (tokens new.rest.now)
   unfolding command_of
-  insert_is is = ap command_of follows.in_front ∙ cond-true (is_word keyword.Insert word) _ _ is
+  whole_is =
+      let t = took g in
+      ap (λ (o : Option (Front Keyword)). option_and_then (λ (r : Front Command). alone r.0 r.1) (option_and_then (λ (r : Front Keyword). command_behind r.0 r.1) o)) t.is
+      ∙ ap (option_and_then (λ (r : Front Command). alone r.0 r.1)) h.read
 
-  scan_is : is_word keyword.Insert word ≡ false → is_word keyword.Scan word ≡ true → command_of (tokens line) ≡ scan_of (tokens rest)
-  unfolding command_of
-  scan_is insert is =
-      ap command_of follows.in_front ∙ cond-false (is_word keyword.Insert word) _ _ insert ∙ cond-true (is_word keyword.Scan word) _ _ is
+  fault_is : new.fault ≡ first_fault (literals_of h.said)
+  fault_is = let t = took g in h.fault ∙ ap (λ f. option_or f (first_fault (literals_of h.said))) (t.fault ∙ fresh)
 
-  table_is : is_word keyword.Insert word ≡ false → is_word keyword.Scan word ≡ false → is_word keyword.Table word ≡ true → command_of (tokens line) ≡ table_of (tokens rest)
-  unfolding command_of
-  table_is insert scan is =
-      ap command_of follows.in_front ∙ cond-false (is_word keyword.Insert word) _ _ insert ∙ cond-false (is_word keyword.Scan word) _ _ scan
-      ∙ cond-true (is_word keyword.Table word) _ _ is
+  pub unfinished : (e : Refusal) → Finishes new (Err e) → AnswersOrMemory (read_as (command_of (tokens old.rest.now))) (Err e)
+  unfinished e (inl f) = inl (ap read_as (whole_is ∙ alone_some h.said (tokens new.rest.now) f.1) ∙ ap Err (sym f.0))
+  unfinished e (inr f) = inl (ap read_as (whole_is ∙ ap (alone h.said) f.0) ∙ ap (unless h.said) (sym fault_is ∙ f.1))
 
-  none_is : is_word keyword.Insert word ≡ false → is_word keyword.Scan word ≡ false → is_word keyword.Table word ≡ false → command_of (tokens line) ≡ None
-  unfolding command_of
-  none_is insert scan table =
-      ap command_of follows.in_front ∙ cond-false (is_word keyword.Insert word) _ _ insert ∙ cond-false (is_word keyword.Scan word) _ _ scan
-      ∙ cond-false (is_word keyword.Table word) _ _ table
-
-  pub insert_answers : (r : Result Command Refusal) → is_word keyword.Insert word ≡ true → AnswersOrMemory (read_as (insert_of (tokens rest))) r → AnswersOrMemory (read_as (command_of (tokens line))) r
-  insert_answers r is h = subst (λ o. AnswersOrMemory (read_as o) r) (sym (insert_is is)) h
-
-  pub scan_answers : (r : Result Command Refusal) → is_word keyword.Insert word ≡ false → is_word keyword.Scan word ≡ true → r ≡ ok_or (scan_of (tokens rest)) Syntax → AnswersOrMemory (read_as (command_of (tokens line))) r
-  scan_answers r insert is h = subst (λ o. AnswersOrMemory (read_as o) r) (sym (scan_is insert is)) (subst (AnswersOrMemory (read_as (scan_of (tokens rest)))) (sym h) (scan_read (tokens rest)))
-
-  pub table_answers : (r : Result Command Refusal) → is_word keyword.Insert word ≡ false → is_word keyword.Scan word ≡ false → is_word keyword.Table word ≡ true → AnswersOrMemory (read_as (table_of (tokens rest))) r
-      → AnswersOrMemory (read_as (command_of (tokens line))) r
-  table_answers r insert scan is h = subst (λ o. AnswersOrMemory (read_as o) r) (sym (table_is insert scan is)) h
-
-  pub none_answers : is_word keyword.Insert word ≡ false → is_word keyword.Scan word ≡ false → is_word keyword.Table word ≡ false → (read_as (command_of (tokens line)) ≡ Err Syntax) ⊎ (Syntax ≡ Memory)
-  none_answers insert scan table = inl (ap read_as (none_is insert scan table))
+  pub finished : Finishes new (Ok tt) → read_as (command_of (tokens old.rest.now)) ≡ Ok c
+  finished f =
+      let none : first_fault (literals_of h.said) ≡ None = sym fault_is ∙ f.1 in
+      ap read_as (whole_is ∙ ap (alone h.said) f.0) ∙ ap (unless h.said) none ∙ ap Ok (sym (h.same none))
 
 -- the lines that take no memory, and the others
 
@@ -82,21 +78,20 @@ unfolding reading
 reads_command line short some = cond-false (ltb 4096 (length line)) _ _ (le-ltb 4096 (length line) short) ∙ cond-false (is_nothing line) _ _ some
 
 -- a literal past its limit makes no line too long
-literal_takes : (command : Command) (v : Value) (others : Option Refusal) → reading_takes_memory (within_limits command others) ≡ true
-    → reading_takes_memory (within_limits command (or_else (literal_fault v) others)) ≡ true
-literal_takes command (Int z) others takes = by_size (fits_64_bits z)
+literal_takes : (command : Command) (v : Value) (others : Option Refusal) → reading_takes_memory (unless command others) ≡ true
+    → reading_takes_memory (unless command (option_or (literal_fault v) others)) ≡ true
+literal_takes command v others takes = by_limit (is_within_limit v)
   where
-    by_size : (fits : Bool) → reading_takes_memory (within_limits command (or_else (cond fits None (Some NumberOutOfRange)) others)) ≡ true
-    by_size true = takes
-    by_size false = refl
-literal_takes command (Text text) others takes = by_length (ltb 64 (length text))
-  where
-    by_length : (is_long : Bool) → reading_takes_memory (within_limits command (or_else (cond is_long (Some TextTooLong) None) others)) ≡ true
-    by_length true = refl
-    by_length false = takes
+    past : (w : Value) → reading_takes_memory (Err (past_limit w)) ≡ true
+    past (Int z) = refl
+    past (Text text) = refl
+
+    by_limit : (fits : Bool) → reading_takes_memory (unless command (option_or (cond fits None (Some (past_limit v))) others)) ≡ true
+    by_limit true = takes
+    by_limit false = past v
 
 limits_take : (command : Command) (literals : List Value) → command_takes_memory command ≡ true
-    → reading_takes_memory (within_limits command (first_fault literals)) ≡ true
+    → reading_takes_memory (unless command (first_fault literals)) ≡ true
 limits_take command [] takes = takes
 limits_take command (v ∷ vs) takes = literal_takes command v (first_fault vs) (limits_take command vs takes)
 

@@ -9,7 +9,7 @@ use Rattle.mm_lang.specs.declared.token.Symbol.TheVariants.{Minus}
 use Rattle.mm_lang.specs.declared.token.Token.{Token as Shown}
 use Rattle.mm_lang.specs.declared.token.Token.TheVariants as shown
 use Rattle.mm_lang.specs.Tokens.{Token, Word, Signed, Mark, Unreadable, Inside, tokens, lexed, is_word_byte, begins_word, begins_equal, onto_minus, onto_equal, onto_symbol}
-use Rattle.mm_lang.specs.Splitting.{Splits, begins_blank}
+use Rattle.mm_lang.specs.steps.Splitting.{Splits, begins_blank}
 use Rattle.mm_lang.proofs.Lexing.{tokens_none, tokens_quote, tokens_word, tokens_symbol, tokens_equal, run_yes, run_no}
 
 -- a comparison with an equals sign at once behind it, and one without

@@ -4,7 +4,7 @@ use Rattle.std.specs.List.{prefix_len}
 use Rattle.std.proofs.lemmas.Bool.{cases_Bool, false≢true, cond-true, cond-false, or_from, ne_eqb}
 use Rattle.mm_lang.specs.declared.token.Symbol.TheVariants.{Equal}
 use Rattle.mm_lang.specs.Tokens.{Token, Word, Quoted, Mark, Unreadable, Inside, tokens, lexed, is_blank, is_word_byte, begins_word, onto_word, onto_text, onto_symbol}
-use Rattle.mm_lang.specs.Splitting.{begins_blank}
+use Rattle.mm_lang.specs.steps.Splitting.{begins_blank}
 
 -- nothing
 pub tokens_none : tokens [] ≡ []

@@ -1,13 +1,15 @@
-mod ColumnLists
+mod CommandReadings
 pub mod Commands
+mod Exactness
 mod Fronts
 mod Lexing
+mod Lists
+mod LiteralOrder
 mod Literals
 pub mod Pieces
+mod Readings
 mod ReplyLemmas
-mod SpelledColumns
 mod SpelledCommands
-mod SpelledTuples
 mod SpelledWords
 mod Texts
-mod TupleLists
+mod TupleValues

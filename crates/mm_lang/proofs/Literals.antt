@@ -1,27 +1,28 @@
 -- What a token is as a literal, and what reading its bytes as one gives.
-use Rattle.std.proofs.Common.{◌≡◌, ◌<◌, ◌≤◌, ◌⊎◌, inl, inr, ⊎_elim, ℕ, true, false, cond, List, [], ◌∷◌, ◌++◌, Option, Some, None, Result, Ok, Err, length, Bor, MatchResult, refl, sym, ap, ◌∙◌, subst, arith}
-use Rattle.std.specs.Prelude.{◌^◌, pos, ℤ, IsErrOf, FitsSigned, ◌↔◌}
-use Rattle.std.specs.Char.{is_ascii_digit}
+use Rattle.std.proofs.Common.{◌≡◌, ◌<◌, ◌≤◌, ◌⊎◌, inl, inr, ⊎_elim, ℕ, Bool, true, false, cond, List, [], ◌∷◌, ◌++◌, Option, Some, None, Result, Ok, Err, length, Bor, MatchResult, refl, sym, ap, ◌∙◌, subst, arith}
+use Rattle.std.specs.Prelude.{pos, ℤ, IsErrOf, FitsSigned, ◌↔◌}
+use Rattle.std.specs.Option.{option_map, option_or}
 use Rattle.std.specs.Int.{w64}
-use Rattle.std.specs.List.{list_all}
-use Rattle.std.specs.Str.Parse.{AllDigits, digits_value}
-use Rattle.std.proofs.Math.IntN.{negsuc, neg_ℤ}
-use Rattle.std.proofs.lemmas.Bool.{cases_Bool, cases_lt, false≢true, and_from, and_parts, lt-ltb, le-ltb, ltb-true, le-leb, leb-true}
-use Rattle.std.proofs.lemmas.Int.{ints}
-use Rattle.std.proofs.lemmas.Str.Parse.{tells_digits, digit_from_value}
+use Rattle.std.specs.Str.Parse.{digits_value}
+use Rattle.std.proofs.Math.IntN.{neg_ℤ}
+use Rattle.std.proofs.lemmas.Bool.{cases_Bool, false≢true, leb-false}
 use Rattle.mm_value.specs.declared.refusal.Refusal.{Refusal}
 use Rattle.mm_value.specs.declared.refusal.Refusal.TheVariants.{Syntax, NumberOutOfRange, TextTooLong, Memory}
 use Rattle.mm_value.specs.declared.values.Value.{Value}
 use Rattle.mm_value.specs.declared.values.Value.TheVariants.{Int, Text}
-use Rattle.mm_value.specs.Literal.{IsNumeral, SpellsInt, SpellsText, Spells, IsWithinLimit, doubled}
+use Rattle.mm_value.specs.Literal.{is_numeral, is_within_limit, IsNumeral, SpellsInt, SpellsText, Spells, IsWithinLimit, doubled}
+use Rattle.mm_value.proofs.Limits.{int_within, text_within}
 use Rattle.mm_value.proofs.Spelling.{minus_no_digits, minus_no_text}
 use Rattle.mm_lang.specs.declared.token.Token.{Token as Shown}
 use Rattle.mm_lang.specs.declared.token.Token.TheVariants as shown
-use Rattle.mm_lang.specs.Grammar.{is_numeral, literal_of}
-use Rattle.mm_lang.specs.Parsing.{checked, unless, AnswersOrMemory}
-use Rattle.mm_lang.specs.Reading.{fits_64_bits, literal_fault}
-use Rattle.mm_lang.specs.Splitting.{Shows}
-use Rattle.mm_lang.specs.Tokens.{Token, Word, Signed, Quoted, is_word_byte, begins_word}
+use Rattle.mm_lang.specs.declared.reader.Reader.{Reader}
+use Rattle.mm_lang.specs.Grammar.{literal_of}
+use Rattle.mm_lang.specs.Phrases.{Phrase, one}
+use Rattle.mm_lang.specs.Reading.{checked, unless, first_fault, literal_fault, past_limit}
+use Rattle.mm_lang.specs.steps.Parsing.{AnswersOrMemory, Fails, Gives, is_limit, only_literal}
+use Rattle.mm_lang.specs.steps.Parts.{Front}
+use Rattle.mm_lang.specs.steps.Splitting.{Shows, Splits}
+use Rattle.mm_lang.specs.Tokens.{Token, Word, Signed, Quoted, is_word_byte, begins_word, tokens}
 
 -- the contract of reading a literal
 pub record Reads (bytes : List ℕ) (r : Result Value Refusal) : Type 0 where
@@ -30,15 +31,6 @@ pub record Reads (bytes : List ℕ) (r : Result Value Refusal) : Type 0 where
   pub range : (z : ℤ) × SpellsInt bytes z × ¬ FitsSigned w64 z → r ≡ Err NumberOutOfRange
   pub too_long : (text : List ℕ) × SpellsText bytes text × (64 < length text) → r ≡ Err TextTooLong
 
--- the limit of whole numbers
-fits_true : (z : ℤ) → FitsSigned w64 z → fits_64_bits z ≡ true
-fits_true (pos n) h = lt-ltb n (2 ^ 63) (omega (arith, ints, h))
-fits_true (negsuc n) h = lt-ltb n (2 ^ 63) (omega (arith, ints, h))
-
-fits_from_true : (z : ℤ) → fits_64_bits z ≡ true → FitsSigned w64 z
-fits_from_true (pos n) h = let lt = ltb-true n (2 ^ 63) h in omega (arith, ints)
-fits_from_true (negsuc n) h = let lt = ltb-true n (2 ^ 63) h in omega (arith, ints)
-
 answers_err : (o : Option Value) (r : Result Value Refusal) (e : Refusal) → r ≡ Err e → checked literal_fault o ≡ Err e → AnswersOrMemory (checked literal_fault o) r
 answers_err o r e is due = subst (AnswersOrMemory (checked literal_fault o)) (sym is) (inl due)
 
@@ -46,50 +38,31 @@ answers_found : (v : Value) (r : Result Value Refusal) → literal_fault v ≡ N
 answers_found v (Ok w) none h = ap (unless v) none ∙ ap Ok (sym h)
 answers_found v (Err e) none h = inr h
 
+within_none : (v : Value) → is_within_limit v ≡ true → literal_fault v ≡ None
+within_none v h = ap (λ b. cond b None (Some (past_limit v))) h
+
+past_some : (v : Value) → is_within_limit v ≡ false → literal_fault v ≡ Some (past_limit v)
+past_some v h = ap (λ b. cond b None (Some (past_limit v))) h
+
+-- bytes that spell a value past its limit
+past_answers : (bytes : List ℕ) (r : Result Value Refusal) (v : Value) → Reads bytes r → Spells bytes v → is_within_limit v ≡ false → r ≡ Err (past_limit v)
+past_answers bytes r (Int z) reads spells past = reads.range (z, spells, λ fits. false≢true (sym past ∙ int_within z fits))
+past_answers bytes r (Text text) reads spells past = reads.too_long (text, spells, leb-false (length text) 64 past)
+
 -- bytes that spell a value
 pub spelled_answers : (bytes : List ℕ) (r : Result Value Refusal) (v : Value) → Reads bytes r → Spells bytes v → AnswersOrMemory (checked literal_fault (Some v)) r
-spelled_answers bytes r (Int z) reads spells =
+spelled_answers bytes r v reads spells =
     ⊎_elim
-    (λ fits.
-    answers_found (Int z) r (ap (λ b. cond b None (Some NumberOutOfRange)) fits) (reads.found (Int z) spells (fits_from_true z fits)))
-    (λ past.
-    answers_err (Some (Int z)) r NumberOutOfRange (reads.range (z, spells, λ h. false≢true (sym past ∙ fits_true z h)))
-    (ap (λ b. unless (Int z) (cond b None (Some NumberOutOfRange))) past))
-    (cases_Bool (fits_64_bits z))
-spelled_answers bytes r (Text text) reads spells =
-    ⊎_elim
-    (λ long.
-    answers_err (Some (Text text)) r TextTooLong (reads.too_long (text, spells, long))
-    (ap (λ b. unless (Text text) (cond b (Some TextTooLong) None)) (lt-ltb 64 (length text) long)))
-    (λ short.
-    answers_found (Text text) r (ap (λ b. cond b (Some TextTooLong) None) (le-ltb 64 (length text) short)) (reads.found (Text text) spells short))
-    (cases_lt 64 (length text))
+    (λ within. answers_found v r (within_none v within) (reads.found v spells within))
+    (λ past. answers_err (Some v) r (past_limit v) (past_answers bytes r v reads spells past) (ap (unless v) (past_some v past)))
+    (cases_Bool (is_within_limit v))
 
 -- bytes that spell none
 pub none_answers : (bytes : List ℕ) (r : Result Value Refusal) → Reads bytes r → ((v : Value) → Spells bytes v → ⊥) → AnswersOrMemory (checked literal_fault None) r
 none_answers bytes r reads none = answers_err None r Syntax (reads.syntax none) refl
 
--- digits
-digit_range : (c : ℕ) → is_ascii_digit c ≡ true → (48 ≤ c) × (c ≤ 57)
-digit_range c h = let p = and_parts _ _ h in (leb-true 48 c p.0, leb-true c 57 p.1)
-
-all_digits : (ds : List ℕ) → list_all is_ascii_digit ds ≡ true → AllDigits 10 ds
-all_digits [] h = tells_digits.empty
-all_digits (d ∷ ds) h =
-    let p = and_parts (is_ascii_digit d) (list_all is_ascii_digit ds) h in
-    tells_digits.more d ds (digit_range d p.0) (all_digits ds p.1)
-
-from_all_digits : (ds : List ℕ) → AllDigits 10 ds → list_all is_ascii_digit ds ≡ true
-from_all_digits [] h = refl
-from_all_digits (d ∷ ds) h =
-    let range = digit_from_value d h.0 in
-    and_from (is_ascii_digit d) (list_all is_ascii_digit ds) (and_from _ _ (le-leb 48 d range.0) (le-leb d 57 range.1)) (from_all_digits ds h.1)
-
-numeral : (word : List ℕ) → is_numeral word ≡ true → IsNumeral word
-numeral word h = let p = and_parts _ _ h in (ltb-true 0 (length word) p.0, all_digits word p.1)
-
 no_numeral : (word : List ℕ) → is_numeral word ≡ false → IsNumeral word → ⊥
-no_numeral word bad h = false≢true (sym bad ∙ and_from _ _ (lt-ltb 0 (length word) h.0) (from_all_digits word h.1))
+no_numeral word bad h = false≢true (sym bad ∙ h)
 
 -- a word begins with no minus and no quote
 word_front : (word : List ℕ) (b : ℕ) (bs : List ℕ) → begins_word word ≡ true → word ≡ b ∷ bs → is_word_byte b ≡ false → ⊥
@@ -102,7 +75,7 @@ word_spells_none word begins bad (Text text) h = word_front word 39 (doubled tex
 
 signed_spells_none : (bytes word : List ℕ) → bytes ≡ 45 ∷ word → (IsNumeral word → ⊥) → (v : Value) → Spells bytes v → ⊥
 signed_spells_none bytes word is bad (Int z) (inl h) = minus_no_digits bytes word is h.0
-signed_spells_none bytes word is bad (Int z) (inr h) = bad (subst IsNumeral (cc (is, h.1)) h.2)
+signed_spells_none bytes word is bad (Int z) (inr h) = let same : h.0 ≡ word = cc (is, h.1) in bad (subst IsNumeral same h.2)
 signed_spells_none bytes word is bad (Text text) h = minus_no_text bytes word text is h
 
 module _ (bytes : List ℕ) (r : Result Value Refusal) (reads : Reads bytes r) where
@@ -112,7 +85,7 @@ module _ (bytes : List ℕ) (r : Result Value Refusal) (reads : Reads bytes r) w
       (⊎_elim
       (λ good.
       subst (λ b. AnswersOrMemory (checked literal_fault (cond b (Some (Int (pos (digits_value 10 bytes)))) None)) r) (sym good)
-      (spelled_answers bytes r (Int (pos (digits_value 10 bytes))) reads (inl (numeral bytes good, refl))))
+      (spelled_answers bytes r (Int (pos (digits_value 10 bytes))) reads (inl (good, refl))))
       (λ bad.
       subst (λ b. AnswersOrMemory (checked literal_fault (cond b (Some (Int (pos (digits_value 10 bytes)))) None)) r) (sym bad)
       (none_answers bytes r reads (word_spells_none bytes shows.1 (no_numeral bytes bad))))
@@ -125,7 +98,7 @@ module _ (bytes : List ℕ) (r : Result Value Refusal) (reads : Reads bytes r) w
       (⊎_elim
       (λ good.
       subst (λ b. AnswersOrMemory (checked literal_fault (cond b (Some (Int (neg_ℤ (pos (digits_value 10 word))))) None)) r) (sym good)
-      (spelled_answers bytes r (Int (neg_ℤ (pos (digits_value 10 word)))) reads (inr (word, shows.1, numeral word good, refl))))
+      (spelled_answers bytes r (Int (neg_ℤ (pos (digits_value 10 word)))) reads (inr (word, shows.1, good, refl))))
       (λ bad.
       subst (λ b. AnswersOrMemory (checked literal_fault (cond b (Some (Int (neg_ℤ (pos (digits_value 10 word))))) None)) r) (sym bad)
       (none_answers bytes r reads (signed_spells_none bytes word shows.1 (no_numeral word bad))))
@@ -148,3 +121,47 @@ pub token_answers : (token : Shown) (bytes : Bor (List ℕ)) (r : Result Value R
 token_answers token bytes r (inl is) reads t shows = word_answers bytes.now r reads t (subst (λ u. Shows u t) is shows)
 token_answers token bytes r (inr (inl is)) reads t shows = signed_answers bytes.now r reads t (subst (λ u. Shows u t) is shows)
 token_answers token bytes r (inr (inr is)) reads t shows = quoted_answers bytes.now r reads t (subst (λ u. Shows u t) is shows)
+
+front : List ℕ → Value → Front Value
+front rest v = (v, tokens rest)
+
+-- A literal past its limit is noted, and other refusals end the reading.
+
+limit_of_past : (v : Value) → is_limit (past_limit v) ≡ true
+limit_of_past (Int z) = refl
+limit_of_past (Text text) = refl
+
+fault_by : (v : Value) (b : Bool) → is_within_limit v ≡ b → (e : Refusal) → unless v (cond b None (Some (past_limit v))) ≡ Err e → (literal_fault v ≡ Some e) × (is_limit e ≡ true)
+fault_by v true is e h = absurd (cc)
+fault_by v false is e h = let same : past_limit v ≡ e = cc in (past_some v is ∙ ap Some same, subst (λ r. is_limit r ≡ true) same (limit_of_past v))
+
+faulty : (o : Option Value) (e : Refusal) → checked literal_fault o ≡ Err e → ((o ≡ None) × (e ≡ Syntax)) ⊎ ((v : Value) × (o ≡ Some v) × (literal_fault v ≡ Some e) × (is_limit e ≡ true))
+faulty None e h = inl (refl, cc)
+faulty (Some v) e h = let p = fault_by v (is_within_limit v) refl e h in inr (v, refl, p.0, p.1)
+
+module _ (old : Reader) (token : Shown) (rest : Bor (List ℕ)) (e : Refusal) (s : Splits (tokens old.rest.now) (length old.rest.now) token rest.now)
+    (answers : AnswersOrMemory (checked literal_fault (literal_of s.first)) (Err e)) where
+  pub literal_past : is_limit e ≡ true → (placeholder : Value) (fault : Option Refusal) → fault ≡ option_or old.fault (Some e)
+      → Gives (one literal_of) only_literal old (record old { rest = rest; fault = fault }) placeholder
+  unfolding front
+  literal_past limit placeholder fault noted = ⊎_elim (λ h. by (faulty (literal_of s.first) e h)) (λ h. absurd (false≢true (ap is_limit (sym h) ∙ limit))) answers
+    where
+      by : ((literal_of s.first ≡ None) × (e ≡ Syntax)) ⊎ ((v : Value) × (literal_of s.first ≡ Some v) × (literal_fault v ≡ Some e) × (is_limit e ≡ true))
+          → Gives (one literal_of) only_literal old (record old { rest = rest; fault = fault }) placeholder
+      by (inl h) = absurd (false≢true (ap is_limit (sym h.1) ∙ limit))
+      by (inr h) = record {
+        said = h.0;
+        read = ap (one literal_of) s.in_front ∙ ap (option_map (front rest.now)) h.1;
+        fault = noted ∙ ap (λ f. option_or old.fault (option_or f None)) (sym h.2);
+        same = λ none. absurd (cc (h.2, none));
+        shorter = omega (arith, s.shorter);
+      }
+
+  pub literal_refused : is_limit e ≡ false → Fails (one literal_of) old e
+  unfolding front
+  literal_refused other = ⊎_elim (λ h. by (faulty (literal_of s.first) e h)) (λ h. inr h) answers
+    where
+      by : ((literal_of s.first ≡ None) × (e ≡ Syntax)) ⊎ ((v : Value) × (literal_of s.first ≡ Some v) × (literal_fault v ≡ Some e) × (is_limit e ≡ true))
+          → Fails (one literal_of) old e
+      by (inl h) = inl (h.1, ap (one literal_of) s.in_front ∙ ap (option_map (front rest.now)) h.0)
+      by (inr h) = absurd (false≢true (sym other ∙ h.3))

@@ -1,73 +1,232 @@
 -- Commands: what is read is spelled so, and what is spelled is read.
-use Rattle.std.proofs.Common.{◌≡◌, ℕ, Bool, true, false, cond, eqb, List, [], ◌∷◌, Some, None, ◌&&◌, refl, sym, ap, subst, ◌∙◌}
-use Rattle.std.specs.Option.{option_map, option_and_then}
-use Rattle.std.proofs.lemmas.Bool.{cond-true, and_parts, and_from, eqb-true, eq-eqb}
+use Rattle.std.proofs.Common.{◌≡◌, ◌⊎◌, inl, inr, ⊎_elim, ℕ, true, cond, eqb, List, [], ◌∷◌, ◌++◌, Option, Some, None, refl, sym, ap, subst, ◌∙◌, append-nil}
+use Rattle.std.specs.Option.{option_map, option_and_then, option_or}
+use Rattle.std.proofs.lemmas.Bool.{cond-true, eqb-true, eq-eqb}
 use Rattle.std.proofs.lemmas.Option.{none-some, same_Some}
 use Rattle.mm_schema.specs.Columns.{key_count}
+use Rattle.mm_schema.specs.Name.{IsName}
+use Rattle.mm_schema.specs.declared.column.Column.{Column}
+use Rattle.mm_schema.specs.declared.column.Role.{Role}
+use Rattle.mm_schema.specs.declared.column.Role.TheVariants.{Plain, Key}
+use Rattle.mm_value.specs.declared.col_type.ColType.{ColType}
+use Rattle.mm_value.specs.declared.col_type.ColType.TheVariants as type
+use Rattle.mm_value.specs.declared.values.Value.{Value}
 use Rattle.mm_query.specs.declared.command.Command.{Command}
 use Rattle.mm_query.specs.declared.command.Command.TheVariants as command
 use Rattle.mm_query.specs.declared.command.Definition.TheVariants as define
 use Rattle.mm_query.specs.declared.command.Mutation.TheVariants as change
+use Rattle.mm_lang.specs.declared.keyword.Keyword.{Keyword}
 use Rattle.mm_lang.specs.declared.keyword.Keyword.TheVariants as keyword
-use Rattle.mm_lang.specs.declared.token.Symbol.TheVariants.{Open}
-use Rattle.mm_lang.specs.Grammar.{is_name, tuples_of, columns_of, table_with, table_of, insert_of, scan_of, command_of}
-use Rattle.mm_lang.specs.Spelling.{word, SpellsCommand}
+use Rattle.mm_lang.specs.declared.token.Symbol.TheVariants.{Close, Comma}
+use Rattle.mm_lang.specs.Grammar.{literal_of, name, type_named, col_type, column, tuple, comma_list, table, insert, scan, command_behind, command_of}
+use Rattle.mm_lang.specs.Phrases.{Phrase, ◌>>=◌, ◌>>◌, say, one, one_word, the_symbol, the_keyword, only_if, optional, in_parentheses, alone}
+use Rattle.mm_lang.specs.Spelling.{word, type_word, role_tokens, SpellsLiteral, SpellsOne, SpellsList, SpellsInParentheses, SpellsTuple, SpellsColumn, SpellsCommand}
 use Rattle.mm_lang.specs.Tokens.{Token, Word, Mark}
-use Rattle.mm_lang.specs.Words.{is_word}
-use Rattle.mm_lang.proofs.SpelledWords.{tested, mapped, chained, is_word-Decides, name_read, name_spelled}
-use Rattle.mm_lang.proofs.SpelledColumns.{columns_read, columns_spelled}
-use Rattle.mm_lang.proofs.SpelledTuples.{tuples_read, tuples_spelled}
+use Rattle.mm_lang.specs.Words.{keyword_named, keyword_text}
+use Rattle.mm_lang.specs.steps.Parts.{Front, said_same, tested, chained, then_parts, word_parts, optional_parts}
+use Rattle.mm_lang.proofs.SpelledWords.{symbol_read, keyword_read, named_read, name_read, name_spelled, literal_read, literal_spelled}
+use Rattle.mm_lang.proofs.Exactness.{IsExact, IsToken, Always, one_exact, list_exact, parentheses_exact}
 
-insert_read : (ts : List Token) (c : Command) → insert_of ts ≡ Some c → SpellsCommand (word keyword.Insert ∷ ts) c
-insert_read (Word table ∷ Mark Open ∷ ts) c e =
-    let p = tested (is_name table) (option_map (λ tuples. command.Change (change.Insert table tuples)) (tuples_of ts)) c e in
-    let q = mapped (λ tuples. command.Change (change.Insert table tuples)) (tuples_of ts) c p.1 in
-    subst (SpellsCommand (word keyword.Insert ∷ Word table ∷ Mark Open ∷ ts)) q.2 (Mark Open ∷ ts, name_read table p.0, tuples_read ts q.0 q.1, refl)
-insert_read _ c e = absurd (none-some c e)
+comma : IsToken (the_symbol Comma) (Mark Comma)
+comma = record { sound = symbol_read Comma; complete = λ us. refl }
 
-scan_read : (ts : List Token) (c : Command) → scan_of ts ≡ Some c → SpellsCommand (word keyword.Scan ∷ ts) c
-scan_read (Word table ∷ []) c e =
-    let p = tested (is_name table) (Some (command.Scan table)) c e in
-    subst (SpellsCommand (word keyword.Scan ∷ Word table ∷ [])) (same_Some (command.Scan table) c p.1) (name_read table p.0, refl)
-scan_read _ c e = absurd (none-some c e)
+-- tuples
 
-table_read : (ts : List Token) (c : Command) → table_of ts ≡ Some c → SpellsCommand (word keyword.Table ∷ ts) c
-table_read (Word name ∷ Mark Open ∷ ts) c e =
-    let p = chained (table_with name) (columns_of ts) c e in
-    let q = tested (is_name name && eqb (key_count p.0) 1) (Some (command.Define (define.Table (record { name = name; columns = p.0 })))) c p.2 in
-    let r = and_parts (is_name name) (eqb (key_count p.0) 1) q.0 in
-    let s = columns_read ts p.0 p.1 in
-    subst (SpellsCommand (word keyword.Table ∷ Word name ∷ Mark Open ∷ ts)) (same_Some (command.Define (define.Table (record { name = name; columns = p.0 }))) c q.1)
-    (s.0, name_read name r.0, eqb-true (key_count p.0) 1 r.1, s.1, ap (λ l. word keyword.Table ∷ Word name ∷ Mark Open ∷ l) s.2)
-table_read _ c e = absurd (none-some c e)
+abbrev Literals : List Token → List Value → Type 0
+Literals ts values = SpellsList (Mark Comma) (SpellsOne SpellsLiteral) ts values
 
--- by the first word
-read_by : (w : List ℕ) (ts : List Token) (c : Command) (i s t : Bool) → is_word keyword.Insert w ≡ i → is_word keyword.Scan w ≡ s → is_word keyword.Table w ≡ t
-    → cond i (insert_of ts) (cond s (scan_of ts) (cond t (table_of ts) None)) ≡ Some c → SpellsCommand (Word w ∷ ts) c
-read_by w ts c true s t p q r e = subst (λ k. SpellsCommand (Word k ∷ ts) c) (sym ((is_word-Decides keyword.Insert w).0 p)) (insert_read ts c e)
-read_by w ts c false true t p q r e = subst (λ k. SpellsCommand (Word k ∷ ts) c) (sym ((is_word-Decides keyword.Scan w).0 q)) (scan_read ts c e)
-read_by w ts c false false true p q r e = subst (λ k. SpellsCommand (Word k ∷ ts) c) (sym ((is_word-Decides keyword.Table w).0 r)) (table_read ts c e)
-read_by w ts c false false false p q r e = absurd (none-some c e)
+literals_exact : IsExact (comma_list (one literal_of)) Literals (λ us. Always us × (the_symbol Comma us ≡ None))
+literals_exact =
+    list_exact (the_symbol Comma) (Mark Comma) (one literal_of) (SpellsOne SpellsLiteral) Always comma
+    (one_exact literal_of SpellsLiteral literal_read literal_spelled) (λ us. tt)
+
+tuple_exact : IsExact tuple SpellsTuple Always
+unfolding tuple
+tuple_exact = parentheses_exact (comma_list (one literal_of)) Literals (λ us. Always us × (the_symbol Comma us ≡ None)) literals_exact (λ us. (tt, refl))
+
+tuples_exact : IsExact (comma_list tuple) (SpellsList (Mark Comma) SpellsTuple) (λ us. Always us × (the_symbol Comma us ≡ None))
+tuples_exact = list_exact (the_symbol Comma) (Mark Comma) tuple SpellsTuple Always comma tuple_exact (λ us. tt)
+
+-- columns
+
+type_word_of : (k : Keyword) (t : ColType) → type_named k ≡ Some t → k ≡ type_word t
+type_word_of keyword.Int t e = ap type_word (same_Some type.Int t e)
+type_word_of keyword.Text t e = ap type_word (same_Some type.Text t e)
+type_word_of _ t e = absurd (none-some t e)
+
+type_read : (ts : List Token) (t : ColType) (us : List Token) → col_type ts ≡ Some (t, us) → ts ≡ word (type_word t) ∷ us
+type_read ts t us e =
+    let p = word_parts (λ w. option_and_then type_named (keyword_named w)) ts t us e in
+    let q = chained type_named (keyword_named p.0) t p.2 in
+    p.1 ∙ ap (λ w. w ∷ us) (named_read p.0 q.0 q.1 ∙ ap word (type_word_of q.0 t q.2))
+
+type_spelled : (t : ColType) (us : List Token) → col_type (word (type_word t) ∷ us) ≡ Some (t, us)
+type_spelled type.Int us = refl
+type_spelled type.Text us = refl
+
+abbrev role : Phrase Role
+role = optional Plain (the_keyword keyword.Key >> say Key)
+
+role_read : (ts : List Token) (r : Role) (us : List Token) → role ts ≡ Some (r, us) → ts ≡ role_tokens r ++ us
+role_read ts r us e =
+    ⊎_elim
+    (λ there. let p = then_parts (the_keyword keyword.Key) (λ u. say Key) ts r us there in
+    let q = said_same Key r p.1 us p.3 in
+    keyword_read keyword.Key ts p.1 p.2 ∙ ap (λ l. word keyword.Key ∷ l) q.1 ∙ ap (λ s. role_tokens s ++ us) q.0)
+    (λ not_there. not_there.2 ∙ ap (λ s. role_tokens s ++ us) not_there.1)
+    (optional_parts Plain (the_keyword keyword.Key >> say Key) ts r us e)
+
+role_spelled : (r : Role) (us : List Token) → the_keyword keyword.Key us ≡ None → role (role_tokens r ++ us) ≡ Some (r, us)
+role_spelled Key us end = refl
+role_spelled Plain us end =
+    ap (λ (o : Option (Front (Unit {0}))). option_or (option_and_then (λ (s : Front (Unit {0})). say Key s.1) o) (Some (Plain, us))) end
+
+say_column : List ℕ → ColType → Role → Phrase Column
+say_column n t r = say (record { name = n; col_type = t; role = r })
+
+after_type : List ℕ → ColType → Phrase Column
+after_type n t = role >>= say_column n t
+
+after_name : List ℕ → Phrase Column
+after_name n = col_type >>= after_type n
+
+column_read : (ts : List Token) (c : Column) (us : List Token) → column ts ≡ Some (c, us) → (front : List Token) × SpellsColumn front c × (ts ≡ front ++ us)
+unfolding column say_column after_type after_name
+column_read ts c us e =
+    let p = then_parts name after_name ts c us e in
+    let q = then_parts col_type (after_type p.0) p.1 c us p.3 in
+    let r = then_parts role (say_column p.0 q.0) q.1 c us q.3 in
+    let read : Column = record { name = p.0; col_type = q.0; role = r.0 } in
+    let s = said_same read c r.1 us r.3 in
+    let n = name_read ts p.0 p.1 p.2 in (
+      Word p.0 ∷ word (type_word q.0) ∷ role_tokens r.0,
+      subst (SpellsColumn (Word p.0 ∷ word (type_word q.0) ∷ role_tokens r.0)) s.0 (n.1, refl),
+      n.0 ∙ ap (λ l. Word p.0 ∷ l) (type_read p.1 q.0 q.1 q.2 ∙ ap (λ l. word (type_word q.0) ∷ l) (role_read q.1 r.0 r.1 r.2 ∙ ap (λ l. role_tokens r.0 ++ l) s.1)),
+    )
+
+column_spelled : (front : List Token) (c : Column) (us : List Token) → SpellsColumn front c → the_keyword keyword.Key us ≡ None → column (front ++ us) ≡ Some (c, us)
+unfolding column say_column after_type after_name
+column_spelled front c us h end =
+    let behind = word (type_word c.col_type) ∷ role_tokens c.role ++ us in
+    ap (λ l. column (l ++ us)) h.1
+    ∙ ap (option_and_then (λ (r : Front (List ℕ)). after_name r.0 r.1)) (name_spelled c.name behind h.0)
+    ∙ ap (option_and_then (λ (r : Front ColType). after_type c.name r.0 r.1)) (type_spelled c.col_type (role_tokens c.role ++ us))
+    ∙ ap (option_and_then (λ (r : Front Role). say_column c.name c.col_type r.0 r.1)) (role_spelled c.role us end)
+
+abbrev NoKey : List Token → Type 0
+NoKey us = the_keyword keyword.Key us ≡ None
+
+columns_exact : IsExact (comma_list column) (SpellsList (Mark Comma) SpellsColumn) (λ us. NoKey us × (the_symbol Comma us ≡ None))
+columns_exact =
+    list_exact (the_symbol Comma) (Mark Comma) column SpellsColumn NoKey comma (record { sound = column_read; complete = column_spelled }) (λ us. refl)
+
+table_columns_exact : IsExact (in_parentheses (comma_list column)) (SpellsInParentheses (SpellsList (Mark Comma) SpellsColumn)) Always
+table_columns_exact =
+    parentheses_exact (comma_list column) (SpellsList (Mark Comma) SpellsColumn) (λ us. NoKey us × (the_symbol Comma us ≡ None)) columns_exact (λ us. (refl, refl))
+
+-- INSERT
+
+say_insert : List ℕ → List (List Value) → Phrase Command
+say_insert t tuples = say (command.Change (change.Insert t tuples))
+
+insert_read : (ts : List Token) (c : Command) → insert ts ≡ Some (c, []) → SpellsCommand (word keyword.Insert ∷ ts) c
+unfolding insert say_insert
+insert_read ts c e =
+    let p = then_parts name (λ t. comma_list tuple >>= say_insert t) ts c [] e in
+    let q = then_parts (comma_list tuple) (say_insert p.0) p.1 c [] p.3 in
+    let r = said_same (command.Change (change.Insert p.0 q.0)) c q.1 [] q.3 in
+    let n = name_read ts p.0 p.1 p.2 in
+    let s = tuples_exact.sound p.1 q.0 q.1 q.2 in
+    let all : p.1 ≡ s.0 = s.2 ∙ ap (λ l. s.0 ++ l) r.1 ∙ append-nil s.0 in
+    subst (SpellsCommand (word keyword.Insert ∷ ts)) r.0
+    (s.0, n.1, s.1, ap (λ l. word keyword.Insert ∷ l) (n.0 ∙ ap (λ l. Word p.0 ∷ l) all))
+
+insert_spelled : (t : List ℕ) (tuples : List (List Value)) (inner : List Token) → IsName t → SpellsList (Mark Comma) SpellsTuple inner tuples
+    → insert (Word t ∷ inner) ≡ Some (command.Change (change.Insert t tuples), [])
+unfolding insert say_insert
+insert_spelled t tuples inner named h =
+    ap (option_and_then (λ (r : Front (List ℕ)). (comma_list tuple >>= say_insert r.0) r.1)) (name_spelled t inner named)
+    ∙ ap (option_and_then (λ (r : Front (List (List Value))). say_insert t r.0 r.1))
+    (ap (comma_list tuple) (sym (append-nil inner)) ∙ tuples_exact.complete inner tuples [] h (tt, refl))
+
+-- SCAN
+
+say_scan : List ℕ → Phrase Command
+say_scan t = say (command.Scan t)
+
+scan_read : (ts : List Token) (c : Command) → scan ts ≡ Some (c, []) → SpellsCommand (word keyword.Scan ∷ ts) c
+unfolding scan say_scan
+scan_read ts c e =
+    let p = then_parts name say_scan ts c [] e in
+    let r = said_same (command.Scan p.0) c p.1 [] p.3 in
+    let n = name_read ts p.0 p.1 p.2 in
+    subst (SpellsCommand (word keyword.Scan ∷ ts)) r.0 (n.1, ap (λ l. word keyword.Scan ∷ l) (n.0 ∙ ap (λ l. Word p.0 ∷ l) r.1))
+
+scan_spelled : (t : List ℕ) → IsName t → scan (Word t ∷ []) ≡ Some (command.Scan t, [])
+unfolding scan say_scan
+scan_spelled t named = ap (option_and_then (λ (r : Front (List ℕ)). say_scan r.0 r.1)) (name_spelled t [] named)
+
+-- TABLE
+
+abbrev the_table : List ℕ → List Column → Command
+the_table n columns = command.Define (define.Table (record { name = n; columns = columns }))
+
+say_table : List ℕ → List Column → Phrase Command
+say_table n columns = only_if (eqb (key_count columns) 1) (say (the_table n columns))
+
+table_read : (ts : List Token) (c : Command) → table ts ≡ Some (c, []) → SpellsCommand (word keyword.Table ∷ ts) c
+unfolding table say_table
+table_read ts c e =
+    let p = then_parts name (λ n. in_parentheses (comma_list column) >>= say_table n) ts c [] e in
+    let q = then_parts (in_parentheses (comma_list column)) (say_table p.0) p.1 c [] p.3 in
+    let answer : Front Command = (c, []) in
+    let k = tested (eqb (key_count q.0) 1) (Some (the_table p.0 q.0, q.1)) answer q.3 in
+    let r = said_same (the_table p.0 q.0) c q.1 [] k.1 in
+    let n = name_read ts p.0 p.1 p.2 in
+    let s = table_columns_exact.sound p.1 q.0 q.1 q.2 in
+    let all : p.1 ≡ s.0 = s.2 ∙ ap (λ l. s.0 ++ l) r.1 ∙ append-nil s.0 in
+    subst (SpellsCommand (word keyword.Table ∷ ts)) r.0
+    (s.0, n.1, eqb-true (key_count q.0) 1 k.0, s.1, ap (λ l. word keyword.Table ∷ l) (n.0 ∙ ap (λ l. Word p.0 ∷ l) all))
+
+table_spelled : (n : List ℕ) (columns : List Column) (inner : List Token) → IsName n → key_count columns ≡ 1
+    → SpellsInParentheses (SpellsList (Mark Comma) SpellsColumn) inner columns → table (Word n ∷ inner) ≡ Some (the_table n columns, [])
+unfolding table say_table
+table_spelled n columns inner named one h =
+    ap (option_and_then (λ (r : Front (List ℕ)). (in_parentheses (comma_list column) >>= say_table r.0) r.1)) (name_spelled n inner named)
+    ∙ ap (option_and_then (λ (r : Front (List Column)). say_table n r.0 r.1))
+    (ap (in_parentheses (comma_list column)) (sym (append-nil inner)) ∙ table_columns_exact.complete inner columns [] h tt)
+    ∙ cond-true (eqb (key_count columns) 1) _ _ (eq-eqb (key_count columns) 1 one)
+
+-- all commands
+
+behind_read : (k : Keyword) (ts : List Token) (c : Command) → command_behind k ts ≡ Some (c, []) → SpellsCommand (word k ∷ ts) c
+behind_read keyword.Insert ts c e = insert_read ts c e
+behind_read keyword.Scan ts c e = scan_read ts c e
+behind_read keyword.Table ts c e = table_read ts c e
+behind_read _ ts c e = let answer : Front Command = (c, []) in absurd (none-some answer e)
+
+alone_read : (x c : Command) (us : List Token) → alone x us ≡ Some c → (x ≡ c) × (us ≡ [])
+alone_read x c [] e = (same_Some x c e, refl)
+alone_read x c (u ∷ us) e = absurd (none-some c e)
 
 pub command_read : (ts : List Token) (c : Command) → command_of ts ≡ Some c → SpellsCommand ts c
 unfolding command_of
-command_read (Word w ∷ ts) c e = read_by w ts c (is_word keyword.Insert w) (is_word keyword.Scan w) (is_word keyword.Table w) refl refl refl e
-command_read _ c e = absurd (none-some c e)
+command_read ts c e =
+    let p = chained (λ (r : Front Command). alone r.0 r.1) ((one_word keyword_named >>= command_behind) ts) c e in
+    let q = alone_read p.0.0 c p.0.1 p.2 in
+    let r = then_parts (one_word keyword_named) command_behind ts p.0.0 p.0.1 p.1 in
+    let s = word_parts keyword_named ts r.0 r.1 r.2 in
+    let same : ◌≡◌ {A = Option (Front Command)} (Some (p.0.0, p.0.1)) (Some (c, [])) = ap (λ x. Some (x, p.0.1)) q.0 ∙ ap (λ us. Some (c, us)) q.1 in
+    subst (λ l. SpellsCommand l c) (sym (s.1 ∙ ap (λ t. t ∷ r.1) (named_read s.0 r.0 s.2))) (behind_read r.0 r.1 c (r.3 ∙ same))
 
 pub command_spelled : (ts : List Token) (c : Command) → SpellsCommand ts c → command_of ts ≡ Some c
 unfolding command_of
 command_spelled ts command.Nothing h = absurd h
 command_spelled ts (command.Define (define.Table definition)) h =
-    ap command_of h.4
-    ∙ ap (option_and_then (table_with definition.name)) (columns_spelled definition.columns h.0 h.3)
-    ∙ cond-true (is_name definition.name && eqb (key_count definition.columns) 1) (Some (command.Define (define.Table definition))) None
-    (and_from (is_name definition.name) (eqb (key_count definition.columns) 1) (name_spelled definition.name h.1) (eq-eqb (key_count definition.columns) 1 h.2))
-command_spelled ts (command.Change (change.Insert table tuples)) h =
-    let p = tuples_spelled tuples h.0 h.2 in
-    ap command_of (h.3 ∙ ap (λ l. word keyword.Insert ∷ Word table ∷ l) p.1)
-    ∙ cond-true (is_name table) (option_map (λ us. command.Change (change.Insert table us)) (tuples_of p.0)) None (name_spelled table h.1)
-    ∙ ap (option_map (λ us. command.Change (change.Insert table us))) p.2
-command_spelled ts (command.Scan table) h = ap command_of h.1 ∙ cond-true (is_name table) (Some (command.Scan table)) None (name_spelled table h.0)
+    ap command_of h.4 ∙ ap (option_and_then (λ (r : Front Command). alone r.0 r.1)) (table_spelled definition.name definition.columns h.0 h.1 h.2 h.3)
+command_spelled ts (command.Change (change.Insert t tuples)) h =
+    ap command_of h.3 ∙ ap (option_and_then (λ (r : Front Command). alone r.0 r.1)) (insert_spelled t tuples h.0 h.1 h.2)
+command_spelled ts (command.Scan t) h = ap command_of h.1 ∙ ap (option_and_then (λ (r : Front Command). alone r.0 r.1)) (scan_spelled t h.0)
 
 pub command_one : (ts : List Token) (c d : Command) → SpellsCommand ts c → SpellsCommand ts d → c ≡ d
 command_one ts c d h k = same_Some c d (sym (command_spelled ts c h) ∙ command_spelled ts d k)

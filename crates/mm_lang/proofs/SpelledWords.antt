@@ -1,78 +1,91 @@
--- Names, numbers, keywords and literals: what a test says of a word, and what the grammar says.
-use Rattle.std.proofs.Common.{◌≡◌, ℕ, Bool, true, false, cond, leb, ltb, List, [], ◌∷◌, ◌++◌, Option, Some, None, length, Decides, pos, neg_ℤ, refl, sym, ap, subst, ◌∙◌, rules}
-use Rattle.std.specs.Char.{is_ascii_digit}
-use Rattle.std.specs.List.{list_all}
-use Rattle.std.specs.Option.{option_map, option_and_then}
+-- Symbols, keywords, names and literals: what a single token is read as, and what the grammar says.
+use Rattle.std.proofs.Common.{◌≡◌, ℕ, Bool, true, false, cond, List, [], ◌∷◌, Option, Some, None, Decides, pos, neg_ℤ, refl, sym, ap, subst, ◌∙◌}
+use Rattle.std.specs.List.{find}
+use Rattle.std.specs.Option.{option_map}
 use Rattle.std.specs.Str.Parse.{digits_value}
-use Rattle.std.proofs.lemmas.Bool.{and_parts, and_from, leb-true, le-leb, ltb-true, lt-ltb, cond-true}
+use Rattle.std.proofs.lemmas.Bool.{cond-true, false≢true}
 use Rattle.std.proofs.lemmas.Option.{none-some, same_Some}
 use Rattle.std.proofs.lemmas.Slice.Eq.{bytes_eq-Decides}
-use Rattle.std.proofs.lemmas.Str.Parse.{IsNumeralModel, numerals_by_value}
-use Rattle.mm_schema.specs.Name.{IsName, is_name_text}
-use Rattle.mm_value.specs.Literal.{IsNumeral}
+use Rattle.mm_schema.specs.Name.{is_name, IsName}
+use Rattle.mm_value.specs.Literal.{is_numeral}
 use Rattle.mm_value.specs.declared.values.Value.{Value}
 use Rattle.mm_value.specs.declared.values.Value.TheVariants.{Int, Text}
 use Rattle.mm_lang.specs.declared.keyword.Keyword.{Keyword}
-use Rattle.mm_lang.specs.declared.token.Symbol.TheVariants.{Comma}
-use Rattle.mm_lang.specs.Grammar.{is_name, is_numeral, literal_of}
-use Rattle.mm_lang.specs.Spelling.{SpellsLiteral, SpellsList}
+use Rattle.mm_lang.specs.declared.keyword.TheConstants.{KEYWORDS}
+use Rattle.mm_lang.specs.declared.token.Symbol.{Symbol}
+use Rattle.mm_lang.specs.declared.token.Symbol.TheVariants.{Open, Close, Comma, Dot, Equal, Less, AtMost, Greater, AtLeast, Plus, Minus}
+use Rattle.mm_lang.specs.Grammar.{literal_of, name}
+use Rattle.mm_lang.specs.Phrases.{is_mark, the_keyword, the_symbol}
+use Rattle.mm_lang.specs.Spelling.{word, SpellsLiteral}
 use Rattle.mm_lang.specs.Tokens.{Token, Word, Signed, Quoted, Mark, Unreadable}
-use Rattle.mm_lang.specs.Words.{is_word, keyword_text}
+use Rattle.mm_lang.specs.Words.{is_symbol, is_word, keyword_named, keyword_text}
+use Rattle.mm_lang.specs.steps.Parts.{Front, tested, mapped, one_parts, word_parts}
 
--- where a chain of steps answers, each of its steps does
-pub tested : {A : Type 0} (b : Bool) (o : Option A) (y : A) → cond b o None ≡ Some y → (b ≡ true) × (o ≡ Some y)
-tested true o y e = (refl, e)
-tested false o y e = absurd (none-some y e)
+symbol_same : (a b : Symbol) → is_symbol a b ≡ true → b ≡ a
+symbol_same Open Open h = refl
+symbol_same Close Close h = refl
+symbol_same Comma Comma h = refl
+symbol_same Dot Dot h = refl
+symbol_same Equal Equal h = refl
+symbol_same Less Less h = refl
+symbol_same AtMost AtMost h = refl
+symbol_same Greater Greater h = refl
+symbol_same AtLeast AtLeast h = refl
+symbol_same Plus Plus h = refl
+symbol_same Minus Minus h = refl
+symbol_same _ _ h = absurd (false≢true h)
 
-pub mapped : {A B : Type 0} (f : A → B) (o : Option A) (y : B) → option_map f o ≡ Some y → (x : A) × (o ≡ Some x) × (f x ≡ y)
-mapped f None y e = absurd (none-some y e)
-mapped f (Some x) y e = (x, refl, same_Some (f x) y e)
+mark_read : (s : Symbol) (t : Token) → is_mark s t ≡ Some tt → t ≡ Mark s
+mark_read s (Mark other) e = let p = tested (is_symbol s other) (Some tt) tt e in ap Mark (symbol_same s other p.0)
+mark_read s _ e = absurd (none-some tt e)
 
-pub chained : {A B : Type 0} (f : A → Option B) (o : Option A) (y : B) → option_and_then f o ≡ Some y → (x : A) × (o ≡ Some x) × (f x ≡ Some y)
-chained f None y e = absurd (none-some y e)
-chained f (Some x) y e = (x, refl, e)
-
--- one more in front of a list
-pub SpellsList-cons : {A : Type 0} (Spells : List Token → A → Type 0) (first others : List Token) (x : A) (xs : List A)
-    → Spells first x → SpellsList Spells others xs → SpellsList Spells (first ++ Mark Comma ∷ others) (x ∷ xs)
-SpellsList-cons Spells first others x [] h k = absurd k
-SpellsList-cons Spells first others x (y ∷ ys) h k = (first, others, h, k, refl)
+pub symbol_read : (s : Symbol) (ts us : List Token) → the_symbol s ts ≡ Some (tt, us) → ts ≡ Mark s ∷ us
+symbol_read s ts us e = let p = one_parts (is_mark s) ts tt us e in p.1 ∙ ap (λ t. t ∷ us) (mark_read s p.0 p.2)
 
 pub is_word-Decides : (k : Keyword) (w : List ℕ) → Decides (is_word k w) (w ≡ keyword_text k)
 is_word-Decides k w = bytes_eq-Decides w (keyword_text k)
 
-pub name_read : (w : List ℕ) → is_name w ≡ true → IsName w
-name_read w e =
-    let p = and_parts (is_name_text w) (leb (length w) 32) e in
-    (p.0, leb-true (length w) 32 p.1)
+pub keyword_read : (k : Keyword) (ts us : List Token) → the_keyword k ts ≡ Some (tt, us) → ts ≡ word k ∷ us
+keyword_read k ts us e =
+    let p = word_parts _ ts tt us e in
+    let q = tested (is_word k p.0) (Some tt) tt p.2 in
+    p.1 ∙ ap (λ w. Word w ∷ us) ((is_word-Decides k p.0).0 q.0)
 
-pub name_spelled : (w : List ℕ) → IsName w → is_name w ≡ true
-name_spelled w h = and_from (is_name_text w) (leb (length w) 32) h.0 (le-leb (length w) 32 h.1)
+find_passes : {A : Type 0} (p : A → Bool) (xs : List A) (x : A) → find p xs ≡ Some x → p x ≡ true
+find_passes p [] x e = absurd (none-some x e)
+find_passes p (y ∷ ys) x e = by (p y) refl e (λ f. find_passes p ys x f)
+  where
+    by : (b : Bool) → p y ≡ b → cond b (Some y) (find p ys) ≡ Some x → (find p ys ≡ Some x → p x ≡ true) → p x ≡ true
+    by true is e rest = ap p (sym (same_Some y x e)) ∙ is
+    by false is e rest = rest e
 
-digits : IsNumeralModel (λ ds. list_all is_ascii_digit ds ≡ true) (digits_value 10)
-digits = numerals_by_value _ (search rules)
+-- the word that a keyword was named by
+pub named_read : (w : List ℕ) (k : Keyword) → keyword_named w ≡ Some k → Word w ≡ word k
+named_read w k e = ap Word ((is_word-Decides k w).0 (find_passes (λ k. is_word k w) KEYWORDS k e))
 
-pub numeral_read : (w : List ℕ) → is_numeral w ≡ true → IsNumeral w
-numeral_read w e =
-    let p = and_parts (ltb 0 (length w)) (list_all is_ascii_digit w) e in
-    (ltb-true 0 (length w) p.0, digits.to w p.1)
+pub name_read : (ts : List Token) (n : List ℕ) (us : List Token) → name ts ≡ Some (n, us) → (ts ≡ Word n ∷ us) × IsName n
+name_read ts n us e =
+    let p = word_parts _ ts n us e in
+    let q = tested (is_name p.0) (Some p.0) n p.2 in
+    let same = same_Some p.0 n q.1 in
+    (p.1 ∙ ap (λ w. Word w ∷ us) same, ap is_name (sym same) ∙ q.0)
 
-pub numeral_spelled : (w : List ℕ) → IsNumeral w → is_numeral w ≡ true
-numeral_spelled w h = and_from (ltb 0 (length w)) (list_all is_ascii_digit w) (lt-ltb 0 (length w) h.0) (digits.from w h.1)
+pub name_spelled : (n : List ℕ) (us : List Token) → IsName n → name (Word n ∷ us) ≡ Some (n, us)
+name_spelled n us h = let pair : List ℕ → Front (List ℕ) = λ m. (m, us) in ap (option_map pair) (cond-true (is_name n) (Some n) None h)
 
 pub literal_read : (t : Token) (v : Value) → literal_of t ≡ Some v → SpellsLiteral t v
 literal_read (Word w) v e =
     let p = tested (is_numeral w) (Some (Int (pos (digits_value 10 w)))) v e in
-    subst (SpellsLiteral (Word w)) (same_Some _ v p.1) (numeral_read w p.0, refl)
+    subst (SpellsLiteral (Word w)) (same_Some _ v p.1) (p.0, refl)
 literal_read (Signed w) v e =
     let p = tested (is_numeral w) (Some (Int (neg_ℤ (pos (digits_value 10 w))))) v e in
-    subst (SpellsLiteral (Signed w)) (same_Some _ v p.1) (numeral_read w p.0, refl)
+    subst (SpellsLiteral (Signed w)) (same_Some _ v p.1) (p.0, refl)
 literal_read (Quoted text) v e = subst (SpellsLiteral (Quoted text)) (same_Some _ v e) refl
 literal_read (Mark symbol) v e = absurd (none-some v e)
 literal_read Unreadable v e = absurd (none-some v e)
 
 pub literal_spelled : (t : Token) (v : Value) → SpellsLiteral t v → literal_of t ≡ Some v
-literal_spelled (Word w) (Int z) h = cond-true (is_numeral w) (Some (Int (pos (digits_value 10 w)))) None (numeral_spelled w h.0) ∙ ap (λ n. Some (Int n)) (sym h.1)
-literal_spelled (Signed w) (Int z) h = cond-true (is_numeral w) (Some (Int (neg_ℤ (pos (digits_value 10 w))))) None (numeral_spelled w h.0) ∙ ap (λ n. Some (Int n)) (sym h.1)
+literal_spelled (Word w) (Int z) h = cond-true (is_numeral w) (Some (Int (pos (digits_value 10 w)))) None h.0 ∙ ap (λ n. Some (Int n)) (sym h.1)
+literal_spelled (Signed w) (Int z) h = cond-true (is_numeral w) (Some (Int (neg_ℤ (pos (digits_value 10 w))))) None h.0 ∙ ap (λ n. Some (Int n)) (sym h.1)
 literal_spelled (Quoted text) (Text said) h = ap (λ t. Some (Text t)) (sym h)
 literal_spelled _ _ h = absurd h

@@ -9,7 +9,7 @@ use Rattle.std.proofs.Math.Seq.{take-add}
 use Rattle.mm_value.specs.Literal.{doubled}
 use Rattle.mm_lang.specs.declared.token.Token.TheVariants as shown
 use Rattle.mm_lang.specs.Tokens.{Quoted, Unreadable, Inside, tokens, lexed}
-use Rattle.mm_lang.specs.Splitting.{Splits, StandsForByte, EndsText}
+use Rattle.mm_lang.specs.steps.Splitting.{Splits, StandsForByte, EndsText}
 use Rattle.mm_lang.proofs.Lexing.{tokens_none, onto_texts, onto_texts_none, onto_texts_push, onto_texts_quoted, onto_texts_unreadable, text_none, text_line_feed, text_quotes, text_end, text_byte}
 
 pub piece_quotes : (rest : List ℕ) → 2 ≤ length rest → get_or rest 0 0 ≡ 39 → get_or rest 1 0 ≡ 39 → StandsForByte rest 2

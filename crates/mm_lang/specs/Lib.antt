@@ -1,12 +1,12 @@
 pub mod Grammar
 pub mod Lines
-pub mod Parsing
+pub mod Phrases
 pub mod Reading
 pub mod ReplyText
 pub mod Spelling
-pub mod Splitting
 pub mod Tokens
 pub mod Words
+pub mod steps
 pub use Rattle.mm_query.specs.Binding
 pub use Rattle.mm_query.specs.Edits
 pub use Rattle.mm_query.specs.Machine

@@ -1,7 +1,8 @@
 -- What a line reads as.
-use Rattle.std.specs.Prelude.{◌≡◌, ◌⊎◌, ℕ, ◌==◌, ◌^◌, Bool, true, false, ◌||◌, ◌&&◌, if◌then◌else◌, List, [], ◌∷◌, Option, Some, None, Result, Ok, Err, length, nat_lt, IsTrue}
+use Rattle.std.specs.Prelude.{◌≡◌, ◌⊎◌, ℕ, ◌==◌, Bool, true, false, ◌||◌, ◌&&◌, if◌then◌else◌, List, [], ◌∷◌, Option, Some, None, Result, Ok, Err, length, nat_lt, IsTrue}
 use Rattle.std.specs.List.{list_all, flat_map}
-use Rattle.std.proofs.Math.IntN.{ℤ, pos, negsuc}
+use Rattle.std.specs.Option.{option_or}
+use Rattle.mm_value.specs.Literal.{is_within_limit}
 use Rattle.mm_value.specs.declared.refusal.Refusal.{Refusal}
 use Rattle.mm_value.specs.declared.refusal.Refusal.TheVariants.{LineTooLong, Syntax, NumberOutOfRange, TextTooLong, Memory}
 use Rattle.mm_value.specs.declared.values.Value.{Value}
@@ -12,24 +13,18 @@ use Rattle.mm_query.specs.declared.command.Mutation.TheVariants.{Insert}
 use Rattle.mm_lang.specs.Grammar.{command_of}
 use Rattle.mm_lang.specs.Tokens.{tokens, is_blank}
 
--- a whole number of 64 bits
-abbrev pub fits_64_bits : ℤ → Bool
-fits_64_bits (pos n) = nat_lt n (2 ^ 63)
-fits_64_bits (negsuc n) = nat_lt n (2 ^ 63)
+-- the refusal of a value past its limit
+abbrev pub past_limit : Value → Refusal
+past_limit (Int z) = NumberOutOfRange
+past_limit (Text text) = TextTooLong
 
--- the refusal of a literal past its limit
 abbrev pub literal_fault : Value → Option Refusal
-literal_fault (Int z) = if fits_64_bits z then None else Some NumberOutOfRange
-literal_fault (Text text) = if nat_lt 64 (length text) then Some TextTooLong else None
+literal_fault v = if is_within_limit v then None else Some (past_limit v)
 
--- the first of them
-abbrev pub or_else : Option Refusal → Option Refusal → Option Refusal
-or_else (Some refusal) other = Some refusal
-or_else None other = other
-
+-- the refusal of the first value past its limit, if there is one
 abbrev pub first_fault : List Value → Option Refusal
 first_fault [] = None
-first_fault (v ∷ vs) = or_else (literal_fault v) (first_fault vs)
+first_fault (v ∷ vs) = option_or (literal_fault v) (first_fault vs)
 
 -- the literals of a command, from left to right
 abbrev pub literals_of : Command → List Value
@@ -38,14 +33,19 @@ literals_of (Define definition) = []
 literals_of (Change (Insert table tuples)) = flat_map (λ tuple. tuple) tuples
 literals_of (Scan table) = []
 
--- whether there is a reading comes first, and then the first number or text past its limit
-abbrev pub within_limits : Command → Option Refusal → Result Command Refusal
-within_limits command (Some refusal) = Err refusal
-within_limits command None = Ok command
+-- a thing, unless it has a fault
+abbrev pub unless : {A : Type 0} → A → Option Refusal → Result A Refusal
+unless x None = Ok x
+unless x (Some refusal) = Err refusal
 
+-- That nothing is read comes before the fault of what is read.
+abbrev pub checked : {A : Type 0} → (A → Option Refusal) → Option A → Result A Refusal
+checked fault None = Err Syntax
+checked fault (Some x) = unless x (fault x)
+
+-- a command, unless a number or a text in it is past its limit
 abbrev pub read_as : Option Command → Result Command Refusal
-read_as None = Err Syntax
-read_as (Some command) = within_limits command (first_fault (literals_of command))
+read_as command = checked (λ c. first_fault (literals_of c)) command
 
 -- two minus signs
 abbrev pub is_comment : List ℕ → Bool

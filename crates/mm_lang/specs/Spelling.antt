@@ -32,17 +32,24 @@ SpellsLiteral (Signed digits) (value.Int z) = IsNumeral digits × (z ≡ neg_ℤ
 SpellsLiteral (Quoted said) (value.Text text) = text ≡ said
 SpellsLiteral token literal = ⊥
 
--- x, .. : one or more, a comma between each two
-abbrev pub SpellsList : {A : Type 0} → (List Token → A → Type 0) → List Token → List A → Type 0
-SpellsList Spells ts [] = ⊥
-SpellsList Spells ts (x ∷ []) = Spells ts x
-SpellsList Spells ts (x ∷ y ∷ xs) =
-    (first others : List Token) × Spells first x × SpellsList Spells others (y ∷ xs) × (ts ≡ first ++ Mark Comma ∷ others)
+-- A single token.
+abbrev pub SpellsOne : {A : Type 0} → (Token → A → Type 0) → List Token → A → Type 0
+SpellsOne Spells ts x = (t : Token) × Spells t x × (ts ≡ t ∷ [])
+
+-- x, .. : one or more, a separator between each two
+abbrev pub SpellsList : {A : Type 0} → Token → (List Token → A → Type 0) → List Token → List A → Type 0
+SpellsList separator Spells ts [] = ⊥
+SpellsList separator Spells ts (x ∷ []) = Spells ts x
+SpellsList separator Spells ts (x ∷ y ∷ xs) =
+    (first others : List Token) × Spells first x × SpellsList separator Spells others (y ∷ xs) × (ts ≡ first ++ separator ∷ others)
+
+-- ( x )
+abbrev pub SpellsInParentheses : {A : Type 0} → (List Token → A → Type 0) → List Token → A → Type 0
+SpellsInParentheses Spells ts x = (inner : List Token) × Spells inner x × (ts ≡ Mark Open ∷ inner ++ Mark Close ∷ [])
 
 -- tuple = ( literal, .. )
 abbrev pub SpellsTuple : List Token → List Value → Type 0
-SpellsTuple ts values =
-    (inner : List Token) × SpellsList (λ us v. (t : Token) × SpellsLiteral t v × (us ≡ t ∷ [])) inner values × (ts ≡ Mark Open ∷ inner ++ Mark Close ∷ [])
+SpellsTuple ts values = SpellsInParentheses (SpellsList (Mark Comma) (SpellsOne SpellsLiteral)) ts values
 
 -- type = INT | TEXT
 abbrev pub type_word : ColType → Keyword
@@ -64,8 +71,9 @@ SpellsColumn ts column =
 abbrev pub SpellsCommand : List Token → Command → Type 0
 SpellsCommand ts command.Nothing = ⊥
 SpellsCommand ts (command.Define (define.Table definition)) =
-    (inner : List Token) × IsName definition.name × (key_count definition.columns ≡ 1) × SpellsList SpellsColumn inner definition.columns
-    × (ts ≡ word keyword.Table ∷ Word definition.name ∷ Mark Open ∷ inner ++ Mark Close ∷ [])
+    (columns : List Token) × IsName definition.name × (key_count definition.columns ≡ 1)
+    × SpellsInParentheses (SpellsList (Mark Comma) SpellsColumn) columns definition.columns
+    × (ts ≡ word keyword.Table ∷ Word definition.name ∷ columns)
 SpellsCommand ts (command.Change (change.Insert table tuples)) =
-    (inner : List Token) × IsName table × SpellsList SpellsTuple inner tuples × (ts ≡ word keyword.Insert ∷ Word table ∷ inner)
+    (inner : List Token) × IsName table × SpellsList (Mark Comma) SpellsTuple inner tuples × (ts ≡ word keyword.Insert ∷ Word table ∷ inner)
 SpellsCommand ts (command.Scan table) = IsName table × (ts ≡ word keyword.Scan ∷ Word table ∷ [])

@@ -37,7 +37,7 @@ abbrev pub onto_word : ℕ → Bool → List Token → List Token
 onto_word b true (Word w ∷ ts) = Word (b ∷ w) ∷ ts
 onto_word b _ ts = Word (b ∷ []) ∷ ts
 
--- so does a minus
+-- a minus joins the word that follows it at once
 abbrev pub onto_minus : Bool → List Token → List Token
 onto_minus true (Word w ∷ ts) = Signed w ∷ ts
 onto_minus _ ts = Mark Minus ∷ ts

@@ -1,8 +1,12 @@
--- How keywords are written.
-use Rattle.std.specs.Prelude.{ℕ, Bool, List, codes, nat_eq}
+-- How keywords and symbols are written.
+use Rattle.std.specs.Prelude.{ℕ, Bool, List, Option, codes, nat_eq}
+use Rattle.std.specs.List.{find}
 use lib.Pointwise.{pointwise}
 use Rattle.mm_lang.specs.declared.keyword.Keyword.{Keyword}
 use Rattle.mm_lang.specs.declared.keyword.Keyword.TheVariants.{And, Begin, Commit, Delete, Distinct, Drop, Explain, From, Hash, Index, Insert, Int, Key, On, Order, Ref, Rollback, Scan, Select, Set, Show, Table, Tables, Text, Tree, Unwatch, Update, Watch, Where}
+use Rattle.mm_lang.specs.declared.token.Symbol.{Symbol}
+use Rattle.mm_lang.specs.declared.token.Symbol.TheVariants.{Open, Close, Comma, Dot, Equal, Less, AtMost, Greater, AtLeast, Plus, Minus}
+use Rattle.mm_lang.specs.declared.keyword.TheConstants.{KEYWORDS}
 
 abbrev pub keyword_text : Keyword → List ℕ
 keyword_text And = codes "AND"
@@ -38,3 +42,24 @@ keyword_text Where = codes "WHERE"
 -- The word is the keyword.
 abbrev pub is_word : Keyword → List ℕ → Bool
 is_word keyword word = pointwise nat_eq word (keyword_text keyword)
+
+-- The keyword that the word is.
+abbrev pub keyword_named : List ℕ → Option Keyword
+keyword_named word = find (λ keyword. is_word keyword word) KEYWORDS
+
+abbrev pub symbol_text : Symbol → List ℕ
+symbol_text Open = codes "("
+symbol_text Close = codes ")"
+symbol_text Comma = codes ","
+symbol_text Dot = codes "."
+symbol_text Equal = codes "="
+symbol_text Less = codes "<"
+symbol_text AtMost = codes "<="
+symbol_text Greater = codes ">"
+symbol_text AtLeast = codes ">="
+symbol_text Plus = codes "+"
+symbol_text Minus = codes "-"
+
+-- The two symbols are one.
+abbrev pub is_symbol : Symbol → Symbol → Bool
+is_symbol symbol other = pointwise nat_eq (symbol_text other) (symbol_text symbol)

@@ -1,6 +1,6 @@
 //! The keywords.
 ghost use Rattle.std.specs.Prelude.{◌≡◌};
-ghost use Rattle.mm_lang.specs.Words.{is_word, keyword_text};
+ghost use Rattle.mm_lang.specs.Words.{is_word, keyword_named, keyword_text};
 
 /// A word in upper case that is no name.
 #[derive(Clone, Copy, Debug, PartialEq, Eq)]
@@ -35,6 +35,39 @@ pub enum Keyword {
     Watch,
     Where,
 }
+
+/// All keywords.
+pub(crate) const KEYWORDS: [Keyword; 29] = [
+    Keyword::And,
+    Keyword::Begin,
+    Keyword::Commit,
+    Keyword::Delete,
+    Keyword::Distinct,
+    Keyword::Drop,
+    Keyword::Explain,
+    Keyword::From,
+    Keyword::Hash,
+    Keyword::Index,
+    Keyword::Insert,
+    Keyword::Int,
+    Keyword::Key,
+    Keyword::On,
+    Keyword::Order,
+    Keyword::Ref,
+    Keyword::Rollback,
+    Keyword::Scan,
+    Keyword::Select,
+    Keyword::Set,
+    Keyword::Show,
+    Keyword::Table,
+    Keyword::Tables,
+    Keyword::Text,
+    Keyword::Tree,
+    Keyword::Unwatch,
+    Keyword::Update,
+    Keyword::Watch,
+    Keyword::Where,
+];
 
 impl Keyword {
     /// How it is written.
@@ -72,6 +105,16 @@ impl Keyword {
             Keyword::Watch => b"WATCH",
             Keyword::Where => b"WHERE",
         }
+    }
+
+    /// The keyword that a word is.
+    pub(crate) fn named(word: &[u8]) -> Option<Keyword>
+        ensures { result ≡ keyword_named word.now }
+    {
+        KEYWORDS
+            .iter()
+            .copied()
+            .find(|keyword| keyword.is_word(word))
     }
 
     /// Whether a word is this keyword.

@@ -1,15 +1,17 @@
 //! The command language: what a line reads as, and the text of a reply.
 #![tactic(auto)]
 
+mod columns;
 mod grammar;
 mod keyword;
 mod phrase;
+mod reader;
 mod reading;
 mod reply_text;
 mod token;
 mod tuples;
 
-pub use grammar::grammar_is_exact;
+pub use grammar::{grammar_is_exact, literals_are_in_written_order};
 pub use keyword::Keyword;
 pub use mm_query::{Command, Reply};
 pub use reading::{MAX_LINE_BYTES, parse};

@@ -1,18 +1,19 @@
 //! What a line reads as.
-ghost use Rattle.std.specs.Prelude.{◌≡◌, ◌⊎◌, Some, None, MatchResult};
+ghost use Rattle.std.specs.Prelude.{◌≡◌};
 ghost use Rattle.std.specs.List.{list_all};
-ghost use Rattle.mm_lang.specs.Grammar.{command_of, columns_of, insert_of, scan_of, table_of};
-ghost use Rattle.mm_lang.specs.Parsing.{AnswersOrMemory};
-ghost use Rattle.mm_lang.specs.Reading.{Reads, is_comment, is_nothing, read_as};
+ghost use Rattle.mm_lang.specs.Grammar.{command_behind, command_of, insert, scan, table};
+ghost use Rattle.mm_lang.specs.Reading.{Reads, is_comment, is_nothing, literals_of, read_as};
 ghost use Rattle.mm_lang.specs.Tokens.{tokens, is_blank};
-ghost use Rattle.mm_value.specs.declared.refusal.Refusal.TheVariants.{Memory, Syntax};
+ghost use Rattle.mm_lang.specs.steps.Parsing.{AnswersOrMemory, ReadsPhrase};
 
+use crate::columns::ColumnPhrase;
 use crate::keyword::Keyword;
-use crate::phrase::{Delimiter, split_column, split_delimiter, split_mark, split_name, split_word};
-use crate::token::{Symbol, is_blank, split_token};
-use crate::tuples::read_tuples;
-use mm_query::{Command, Definition, Mutation};
-use mm_schema::{Column, Columns, TableDef};
+use crate::phrase::{read_in_parentheses, read_list};
+use crate::reader::Reader;
+use crate::token::is_blank;
+use crate::tuples::TuplePhrase;
+use mm_query::{Command, Definition, Mutation, RowList};
+use mm_schema::{Columns, TableDef};
 use mm_value::Refusal;
 use std::alloc::Global;
 
@@ -58,77 +59,49 @@ fn is_comment(line: &[u8]) -> bool
 fn read_command(alloc: Global, line: &[u8]) -> Result<Command, Refusal>
     ensures { AnswersOrMemory (read_as (command_of (tokens line.now))) result }
 {
-    let Some((word, rest)) = split_word(line) else {
-        return Err(Refusal::Syntax);
-    };
-    if Keyword::Insert.is_word(word) {
-        read_insert(alloc, rest)
-    } else if Keyword::Scan.is_word(word) {
-        read_scan(rest).ok_or(Refusal::Syntax)
-    } else if Keyword::Table.is_word(word) {
-        read_table(alloc, rest)
-    } else {
-        Err(Refusal::Syntax)
+    let mut reader = Reader::new(alloc, line);
+    let keyword = reader.keyword()?;
+    let command = read_behind(keyword, &mut reader)?;
+    reader.finish()?;
+    Ok(command)
+}
+
+// What stands behind the keyword that a command begins with.
+fn read_behind(keyword: Keyword, reader: &mut Reader<'_>) -> Result<Command, Refusal>
+    ensures { ReadsPhrase (command_behind keyword) literals_of reader.old reader.new result }
+{
+    match keyword {
+        Keyword::Insert => read_insert(reader),
+        Keyword::Scan => read_scan(reader),
+        Keyword::Table => read_table(reader),
+        _ => Err(Refusal::Syntax),
     }
 }
 
-fn read_insert(alloc: Global, bytes: &[u8]) -> Result<Command, Refusal>
-    ensures { AnswersOrMemory (read_as (insert_of (tokens bytes.now))) result }
+fn read_insert(reader: &mut Reader<'_>) -> Result<Command, Refusal>
+    ensures { ReadsPhrase insert literals_of reader.old reader.new result }
 {
-    let Some((table, rest)) = split_name(bytes) else {
-        return Err(Refusal::Syntax);
-    };
-    let Some(rest) = split_mark(rest, Symbol::Open) else {
-        return Err(Refusal::Syntax);
-    };
-    let tuples = read_tuples(alloc, rest)?;
+    let table = reader.name()?;
+    let mut tuples = Vec::new(reader.alloc());
+    read_list(&mut TuplePhrase::new(reader.alloc()), reader, &mut tuples)?;
+    let tuples = RowList::new(tuples);
     Ok(Command::Change(Mutation::Insert { table, tuples }))
 }
 
-fn read_scan(bytes: &[u8]) -> Option<Command>
-    ensures { result ≡ scan_of (tokens bytes.now) }
+fn read_scan(reader: &mut Reader<'_>) -> Result<Command, Refusal>
+    ensures { ReadsPhrase scan literals_of reader.old reader.new result }
 {
-    let (table, rest) = split_name(bytes)?;
-    match split_token(rest) {
-        Some(_) => None,
-        None => Some(Command::Scan(table)),
-    }
+    Ok(Command::Scan(reader.name()?))
 }
 
-fn read_table(alloc: Global, bytes: &[u8]) -> Result<Command, Refusal>
-    ensures { AnswersOrMemory (read_as (table_of (tokens bytes.now))) result }
+fn read_table(reader: &mut Reader<'_>) -> Result<Command, Refusal>
+    ensures { ReadsPhrase table literals_of reader.old reader.new result }
 {
-    let Some((name, rest)) = split_name(bytes) else {
-        return Err(Refusal::Syntax);
-    };
-    let Some(rest) = split_mark(rest, Symbol::Open) else {
-        return Err(Refusal::Syntax);
-    };
-    let Some(columns) = Columns::new(read_columns(alloc, rest)?) else {
+    let name = reader.name()?;
+    let mut items = Vec::new(reader.alloc());
+    read_in_parentheses(&mut ColumnPhrase, reader, &mut items)?;
+    let Some(columns) = Columns::new(items) else {
         return Err(Refusal::Syntax);
     };
     Ok(Command::Define(Definition::Table(TableDef { name, columns })))
-}
-
-// The columns of a TABLE, behind the parenthesis, to the end of the line.
-fn read_columns(alloc: Global, bytes: &[u8]) -> Result<Vec<Column>, Refusal>
-    ensures { MatchResult result (λ columns. columns_of (tokens bytes.now) ≡ Some columns.items)
-        (λ e. ((e ≡ Syntax) × (columns_of (tokens bytes.now) ≡ None)) ⊎ (e ≡ Memory)) }
-{
-    let mut columns = Vec::new(alloc);
-    let mut rest = bytes;
-    loop {
-        let Some((column, behind)) = split_column(rest) else {
-            return Err(Refusal::Syntax);
-        };
-        columns.push(column)?;
-        let Some(delimiter) = split_delimiter(behind) else {
-            return Err(Refusal::Syntax);
-        };
-        match delimiter {
-            Delimiter::Comma(next) => rest = next,
-            Delimiter::Tuple(_) => return Err(Refusal::Syntax),
-            Delimiter::End => return Ok(columns),
-        }
-    }
 }

@@ -1,7 +1,7 @@
 //! The tokens of a line.
 ghost use Rattle.std.specs.Prelude.{◌≡◌, ◌<◌, ◌≤◌, ◌+◌, false, [], length, drop, slice_index, MatchOption};
 ghost use Rattle.std.specs.List.{prefix_len};
-ghost use Rattle.mm_lang.specs.Splitting.{GoesOn, Splits, begins_blank};
+ghost use Rattle.mm_lang.specs.steps.Splitting.{GoesOn, Splits, begins_blank};
 ghost use Rattle.mm_lang.specs.Tokens.{Inside, tokens, lexed, is_blank, is_word_byte, begins_word, begins_equal, onto_equal, onto_minus, onto_symbol};
 
 /// A symbol of the language.

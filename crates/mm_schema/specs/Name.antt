@@ -1,5 +1,5 @@
 -- What a name is.
-use Rattle.std.specs.Prelude.{ℕ, ◌≤◌, ◌==◌, ◌||◌, ◌&&◌, Bool, false, List, [], ◌∷◌, length, IsTrue, nat_eq, nat_le}
+use Rattle.std.specs.Prelude.{ℕ, ◌==◌, ◌||◌, ◌&&◌, Bool, false, List, [], ◌∷◌, length, IsTrue, nat_eq, nat_le}
 use Rattle.std.specs.List.{list_all}
 use Rattle.std.specs.Cmp.Lexicographic.{pointwise}
 
@@ -16,9 +16,13 @@ abbrev pub is_name_text : List ℕ → Bool
 is_name_text [] = false
 is_name_text (b ∷ bs) = is_lower b && list_all is_name_byte bs
 
--- the bytes are a name: at most 32 of them
+-- at most 32 bytes: a letter, and then letters, digits and _
+abbrev pub is_name : List ℕ → Bool
+is_name bytes = is_name_text bytes && nat_le (length bytes) 32
+
+-- The bytes are a name.
 abbrev pub IsName : List ℕ → Type 0
-IsName bytes = IsTrue (is_name_text bytes) × (length bytes ≤ 32)
+IsName bytes = IsTrue (is_name bytes)
 
 -- Two names are one.
 abbrev pub same_name : List ℕ → List ℕ → Bool

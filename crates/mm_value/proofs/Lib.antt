@@ -1,4 +1,5 @@
 pub mod Closing
+pub mod Limits
 pub mod Numerals
 pub mod Orders
 pub mod Outcomes

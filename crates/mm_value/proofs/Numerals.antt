@@ -1,10 +1,23 @@
--- Reading decimal digits.
-use Rattle.std.proofs.Common.{◌≡◌, ◌<◌, ◌-◌, ◌+◌, ◌*◌, ◌^◌, ℕ, min, List, length, get_or, take, arith, sym, ap, ◌∙◌}
-use Rattle.std.specs.Char.{digit_value, IsAsciiDigit, IsNotAsciiDigit}
+-- Decimal digits, and reading them.
+use Rattle.std.proofs.Common.{◌≡◌, ◌<◌, ◌-◌, ◌+◌, ◌*◌, ◌^◌, ℕ, min, true, ltb, List, length, get_or, take, arith, sym, ap, ◌∙◌, rules}
+use Rattle.std.specs.List.{list_all}
+use Rattle.std.specs.Char.{digit_value, is_ascii_digit, IsAsciiDigit, IsNotAsciiDigit}
 use Rattle.std.specs.Str.Parse.{AllDigits, digits_value}
 use Rattle.std.proofs.lemmas.Int.Digits.{digits_value_more, digits_more}
 use Rattle.std.proofs.lemmas.Str.{digit_value_digit}
-use Rattle.std.proofs.lemmas.Str.Parse.{digit_at}
+use Rattle.std.proofs.lemmas.Str.Parse.{IsNumeralModel, digit_at, numerals_by_value}
+use Rattle.std.proofs.lemmas.Bool.{and_parts, and_from, ltb-true, lt-ltb}
+use Rattle.mm_value.specs.Literal.{IsNumeral}
+
+digits : IsNumeralModel (λ ds. list_all is_ascii_digit ds ≡ true) (digits_value 10)
+digits = numerals_by_value _ (search rules)
+
+-- the test of a numeral says that there is a digit and that each byte is one
+pub numeral_parts : (ds : List ℕ) → IsNumeral ds → (0 < length ds) × AllDigits 10 ds
+numeral_parts ds h = let p = and_parts (ltb 0 (length ds)) (list_all is_ascii_digit ds) h in (ltb-true 0 (length ds) p.0, digits.to ds p.1)
+
+pub numeral_from : (ds : List ℕ) → 0 < length ds → AllDigits 10 ds → IsNumeral ds
+numeral_from ds some all = and_from (ltb 0 (length ds)) (list_all is_ascii_digit ds) (lt-ltb 0 (length ds) some) (digits.from ds all)
 
 -- a byte that is no digit stands in no numeral
 pub AllDigits-other : (ds : List ℕ) (i : ℕ) → i < length ds → IsNotAsciiDigit (get_or ds i 0) → AllDigits 10 ds → ⊥

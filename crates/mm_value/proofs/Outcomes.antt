@@ -12,6 +12,7 @@ use Rattle.mm_value.specs.declared.values.Value.{Value}
 use Rattle.mm_value.specs.declared.values.Value.TheVariants.{Int, Text}
 use Rattle.mm_value.specs.Literal.{IsNumeral, SpellsInt, SpellsText, Spells, IsWithinLimit}
 use Rattle.mm_value.specs.Reading.{ReadsInt, ReadsText, Closes, signed_value}
+use Rattle.mm_value.proofs.Limits.{int_within, within_int, text_within, within_text}
 use Rattle.mm_value.proofs.Spelling.{Spells-unique, SpellsInt-unique, SpellsInt-no_text, SpellsText-unique, SpellsText-closes, Closes-spells, quote_no_int, minus_no_digits, minus_no_text}
 
 -- each outcome with what the bytes are
@@ -25,13 +26,13 @@ Outcome bytes (Err e) =
 
 -- a number past 64 bits is no value within its limit
 range_no_value : (bytes : List ℕ) (z : ℤ) (v : Value) → SpellsInt bytes z → ¬ FitsSigned w64 z → Spells bytes v → IsWithinLimit v → ⊥
-range_no_value bytes z (Int y) p out q within = out (subst (FitsSigned w64) (SpellsInt-unique bytes y z q p) within)
+range_no_value bytes z (Int y) p out q within = out (subst (FitsSigned w64) (SpellsInt-unique bytes y z q p) (within_int y within))
 range_no_value bytes z (Text t) p out q within = SpellsInt-no_text bytes z t p q
 
 -- nor is a text past 64 bytes
 long_no_value : (bytes text : List ℕ) (v : Value) → SpellsText bytes text → 64 < length text → Spells bytes v → IsWithinLimit v → ⊥
 long_no_value bytes text (Int z) p long q within = SpellsInt-no_text bytes z text q p
-long_no_value bytes text (Text t) p long q within = omega (arith, long, within, ap length (SpellsText-unique bytes t text q p))
+long_no_value bytes text (Text t) p long q within = omega (arith, long, within_text t within, ap length (SpellsText-unique bytes t text q p))
 
 ok : (bytes : List ℕ) (r : Result Value Refusal) → Outcome bytes r → IfOk r (λ v. Spells bytes v × IsWithinLimit v)
 ok bytes (Ok v) h = h
@@ -110,7 +111,7 @@ clauses bytes r h = record {
 
 -- after an opening quote
 pub text_read : (bytes body text : List ℕ) → bytes ≡ 39 ∷ body → ReadsText body (Ok text) → Outcome bytes (Ok (Text text))
-text_read bytes body text e h = (subst (λ l. SpellsText l text) (sym e) (Closes-spells body text h.0), h.1)
+text_read bytes body text e h = (subst (λ l. SpellsText l text) (sym e) (Closes-spells body text h.0), text_within text h.1)
 
 -- a text that spells bytes after an opening quote closes them
 closed : (bytes body text : List ℕ) → bytes ≡ 39 ∷ body → SpellsText bytes text → Closes body text
@@ -148,7 +149,7 @@ no_numeral false bytes digits e none (Text text) h = e.4 (ap (λ l. get_or l 0 0
 
 pub int_read : (is_negative : Bool) (bytes digits : List ℕ) (z : ℤ) → IsSigned is_negative bytes digits → ReadsInt is_negative digits (Ok z)
     → Outcome bytes (Ok (Int z))
-int_read is_negative bytes digits z e h = (subst (SpellsInt bytes) (sym h.1) (numeral_spells is_negative bytes digits e h.0), h.2)
+int_read is_negative bytes digits z e h = (subst (SpellsInt bytes) (sym h.1) (numeral_spells is_negative bytes digits e h.0), int_within z h.2)
 
 pub int_refused : (is_negative : Bool) (bytes digits : List ℕ) (r : Refusal) → IsSigned is_negative bytes digits
     → ReadsInt is_negative digits (Err r) → Outcome bytes (Err r)

@@ -14,6 +14,8 @@ use Rattle.mm_value.specs.Reading.{Closes}
 use Rattle.mm_value.specs.Storable.{IsStorable}
 use Rattle.mm_value.specs.Written.{value_text}
 use Rattle.mm_value.proofs.Closing.{Closes-unique}
+use Rattle.mm_value.proofs.Limits.{int_within, text_within}
+use Rattle.mm_value.proofs.Numerals.{numeral_parts, numeral_from}
 
 -- digits begin with a digit
 digits_head : (x : ℕ) (xs bytes : List ℕ) → bytes ≡ x ∷ xs → AllDigits 10 bytes → digit_value x < 10
@@ -21,7 +23,7 @@ digits_head x xs bytes e h = (subst (AllDigits 10) e h).0
 
 -- bytes that begin with a quote spell no number
 pub quote_no_int : (bytes body : List ℕ) (z : ℤ) → bytes ≡ 39 ∷ body → SpellsInt bytes z → ⊥
-quote_no_int bytes body z e (inl h) = omega (arith, digits_head 39 body bytes e h.0.1)
+quote_no_int bytes body z e (inl h) = omega (arith, digits_head 39 body bytes e (numeral_parts bytes h.0).1)
 quote_no_int bytes body z e (inr h) =
     let f : 39 ∷ body ≡ 45 ∷ h.0 = sym e ∙ h.1 in
     let g : ◌≡◌ {A = ℕ} 39 45 = ap (λ l. get_or l 0 0) f in
@@ -32,7 +34,7 @@ quote_no_int bytes body z e (inr h) =
 
 -- a minus begins no digits
 pub minus_no_digits : (bytes ds : List ℕ) → bytes ≡ 45 ∷ ds → IsNumeral bytes → ⊥
-minus_no_digits bytes ds e h = omega (arith, digits_head 45 ds bytes e h.1)
+minus_no_digits bytes ds e h = omega (arith, digits_head 45 ds bytes e (numeral_parts bytes h).1)
 
 -- nor a text
 pub minus_no_text : (bytes ds text : List ℕ) → bytes ≡ 45 ∷ ds → SpellsText bytes text → ⊥
@@ -75,11 +77,12 @@ Spells-unique bytes (Text t) (Int z) p q = absurd (SpellsInt-no_text bytes z t q
 Spells-unique bytes (Text t) (Text u) p q = ap Text (SpellsText-unique bytes t u p q)
 
 signed_decimal_spells : (z : ℤ) → FitsSigned w64 z → SpellsInt (signed_decimal z) z
-signed_decimal_spells (pos n) fits = let h = decimal_is_IsNumeral n (omega (arith, fits.sfits)) in inl (h.0, ap pos (sym h.1))
+signed_decimal_spells (pos n) fits = let h = decimal_is_IsNumeral n (omega (arith, fits.sfits)) in inl (numeral_from (decimal n) h.0.0 h.0.1, ap pos (sym h.1))
 signed_decimal_spells (negsuc n) fits =
-    let h = decimal_is_IsNumeral (suc n) (omega (arith, fits.sfits)) in inr (decimal (suc n), refl, h.0, ap (λ k. neg_ℤ (pos k)) (sym h.1))
+    let h = decimal_is_IsNumeral (suc n) (omega (arith, fits.sfits)) in
+    inr (decimal (suc n), refl, numeral_from (decimal (suc n)) h.0.0 h.0.1, ap (λ k. neg_ℤ (pos k)) (sym h.1))
 
 -- the text of a value spells that value
 pub value_text-spells : (v : Value) → IsStorable v → Spells (value_text v) v × IsWithinLimit v
-value_text-spells (Int z) h = (signed_decimal_spells z h, h)
-value_text-spells (Text t) h = ((refl, h.one_line), h.short)
+value_text-spells (Int z) h = (signed_decimal_spells z h, int_within z h)
+value_text-spells (Text t) h = ((refl, h.one_line), text_within t h.short)

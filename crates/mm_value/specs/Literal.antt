@@ -1,15 +1,19 @@
 -- How literals are spelled.
-use Rattle.std.specs.Prelude.{◌≡◌, ◌≢◌, ◌⊎◌, ℕ, ◌<◌, ◌≤◌, ◌==◌, if◌then◌else◌, List, [], ◌∷◌, ◌++◌, length, pos, All, FitsSigned}
-use Rattle.std.specs.Int.{w64}
-use Rattle.std.specs.List.{flat_map}
-use Rattle.std.specs.Str.Parse.{AllDigits, digits_value}
-use Rattle.std.proofs.Math.IntN.{ℤ, neg_ℤ}
+use Rattle.std.specs.Prelude.{◌≡◌, ◌≢◌, ◌⊎◌, ℕ, ◌^◌, ◌==◌, Bool, ◌&&◌, if◌then◌else◌, List, [], ◌∷◌, ◌++◌, length, nat_lt, nat_le, IsTrue, All}
+use Rattle.std.specs.Char.{is_ascii_digit}
+use Rattle.std.specs.List.{flat_map, list_all}
+use Rattle.std.specs.Str.Parse.{digits_value}
+use Rattle.std.proofs.Math.IntN.{ℤ, pos, negsuc, neg_ℤ}
 use Rattle.mm_value.specs.declared.values.Value.{Value}
 use Rattle.mm_value.specs.declared.values.Value.TheVariants.{Int, Text}
 
--- One or more decimal digits.
+-- one or more decimal digits
+abbrev pub is_numeral : List ℕ → Bool
+is_numeral ds = nat_lt 0 (length ds) && list_all is_ascii_digit ds
+
+-- The bytes are one or more decimal digits.
 abbrev pub IsNumeral : List ℕ → Type 0
-IsNumeral ds = (0 < length ds) × AllDigits 10 ds
+IsNumeral ds = IsTrue (is_numeral ds)
 
 -- A whole number is spelled by digits, or by a minus directly before digits; zeros may lead.
 abbrev pub SpellsInt : List ℕ → ℤ → Type 0
@@ -37,7 +41,16 @@ abbrev pub Spells : List ℕ → Value → Type 0
 Spells bytes (Int z) = SpellsInt bytes z
 Spells bytes (Text text) = SpellsText bytes text
 
--- The value passes no limit: a whole number of 64 bits, a text of at most 64 bytes.
+-- a whole number of 64 bits
+abbrev pub fits_64_bits : ℤ → Bool
+fits_64_bits (pos n) = nat_lt n (2 ^ 63)
+fits_64_bits (negsuc n) = nat_lt n (2 ^ 63)
+
+-- a whole number of 64 bits, or a text of at most 64 bytes
+abbrev pub is_within_limit : Value → Bool
+is_within_limit (Int z) = fits_64_bits z
+is_within_limit (Text text) = nat_le (length text) 64
+
+-- The value passes no limit.
 abbrev pub IsWithinLimit : Value → Type 0
-IsWithinLimit (Int z) = FitsSigned w64 z
-IsWithinLimit (Text text) = length text ≤ 64
+IsWithinLimit value = IsTrue (is_within_limit value)

@@ -1,25 +1,31 @@
-use Rattle.std.proofs.Common.{sym, ◌∙◌, ap}
-use Rattle.mm_value.specs.declared.refusal.Refusal.TheVariants.{Syntax}
-use Rattle.std.specs.Option.{ok_or}
+use Rattle.std.proofs.Common.{Err, sym, ap, ◌∙◌, subst}
+use Rattle.std.proofs.lemmas.Result.{err_from_is_err_and}
+use Rattle.mm_lang.specs.Grammar.{command_of}
+use Rattle.mm_lang.specs.Reading.{read_as}
 use Rattle.mm_lang.specs.Tokens.{tokens}
-use Rattle.mm_lang.proofs.Commands.{no_word_answers, insert_answers, scan_answers, table_answers, none_answers}
+use Rattle.mm_lang.specs.steps.Parsing.{AnswersOrMemory}
+use Rattle.mm_lang.proofs.Commands.{no_keyword, nothing_behind, unfinished, finished}
 use Rattle.mm_lang.proofs.reading.read_command.Goals as goal
 
-pub returns-in_default : goal.returns-in_default
-returns-in_default c = no_word_answers (tokens c.args.line.now) c.in_default.ensures
+pub returns-in_err-keyword : goal.returns-in_err-keyword
+returns-in_err-keyword c =
+    let p = err_from_is_err_and c.from_residual.result c.from_residual.ensures.1 in
+    let line = ap (λ l. read_as (command_of (tokens l))) c.new-reader.ensures.rest in
+    rw (p.1, p.2) (subst (λ due. AnswersOrMemory due (Err c.in_err-keyword.field-0.0)) line (no_keyword c.new-reader.result _ c.in_err-keyword.ensures))
 
-pub returns-then-is_word : goal.returns-then-is_word
-returns-then-is_word c =
-    insert_answers c.args.line.now c.in-Some.word.now c.in-Some.rest.now c.in-Some.ensures c.read_insert.result (sym c.is_word.ensures ∙ c.if-is_word.true) c.read_insert.ensures
+pub returns-in_err-command : goal.returns-in_err-command
+returns-in_err-command c =
+    let p = err_from_is_err_and c.from_residual-in_err-command.result c.from_residual-in_err-command.ensures.1 in
+    let line = ap (λ l. read_as (command_of (tokens l))) c.new-reader.ensures.rest in
+    rw (p.1, p.2) (subst (λ due. AnswersOrMemory due (Err c.in_err-command.field-0.0)) line (nothing_behind c.new-reader.result c.keyword.new.self c.in_ok-keyword.keyword _ c.in_ok-keyword.ensures c.in_err-command.ensures))
 
-pub returns-then-is_word-2 : goal.returns-then-is_word-2
-returns-then-is_word-2 c =
-    scan_answers c.args.line.now c.in-Some.word.now c.in-Some.rest.now c.in-Some.ensures c.ok_or.result (sym c.is_word.ensures ∙ c.if-is_word.false) (sym c.is_word-else-is_word.ensures ∙ c.if-is_word-2.true) (c.ok_or.ensures.value ∙ ap (λ o. ok_or o Syntax) c.read_scan.ensures)
+pub returns-in_err-finish : goal.returns-in_err-finish
+returns-in_err-finish c =
+    let p = err_from_is_err_and c.from_residual-in_err-finish.result c.from_residual-in_err-finish.ensures.1 in
+    let line = ap (λ l. read_as (command_of (tokens l))) c.new-reader.ensures.rest in
+    rw (p.1, p.2) (subst (λ due. AnswersOrMemory due (Err c.in_err-finish.field-0.0)) line (unfinished c.new-reader.result c.keyword.new.self c.read_behind.new.reader c.in_ok-keyword.keyword c.in_ok-command.command c.new-reader.ensures.fault c.in_ok-keyword.ensures c.in_ok-command.ensures _ c.in_err-finish.ensures))
 
-pub returns-then-is_word-3 : goal.returns-then-is_word-3
-returns-then-is_word-3 c =
-    table_answers c.args.line.now c.in-Some.word.now c.in-Some.rest.now c.in-Some.ensures c.read_table.result (sym c.is_word.ensures ∙ c.if-is_word.false) (sym c.is_word-else-is_word.ensures ∙ c.if-is_word-2.false) (sym c.is_word-else-is_word-2.ensures ∙ c.if-is_word-3.true) c.read_table.ensures
-
-pub returns-else-is_word-3 : goal.returns-else-is_word-3
-returns-else-is_word-3 c =
-    none_answers c.args.line.now c.in-Some.word.now c.in-Some.rest.now c.in-Some.ensures (sym c.is_word.ensures ∙ c.if-is_word.false) (sym c.is_word-else-is_word.ensures ∙ c.if-is_word-2.false) (sym c.is_word-else-is_word-2.ensures ∙ c.if-is_word-3.false)
+pub returns : goal.returns
+returns c =
+    let line = ap (λ l. read_as (command_of (tokens l))) c.new-reader.ensures.rest in
+    sym line ∙ finished c.new-reader.result c.keyword.new.self c.read_behind.new.reader c.in_ok-keyword.keyword c.in_ok-command.command c.new-reader.ensures.fault c.in_ok-keyword.ensures c.in_ok-command.ensures c.in_ok-finish.ensures

@@ -3,7 +3,7 @@ use Rattle.std.proofs.lemmas.List.{take_rest}
 use Rattle.std.proofs.Common.{drop}
 use Rattle.mm_lang.specs.Tokens.{tokens}
 use Rattle.mm_lang.proofs.Lexing.{tokens_blanks, visible_behind_blanks}
-use Rattle.mm_lang.specs.Splitting.{begins_blank}
+use Rattle.mm_lang.specs.steps.Splitting.{begins_blank}
 use Rattle.mm_lang.proofs.token.skip_blanks.Goals as goal
 
 pub returns-clause-tokens : goal.returns-clause-tokens

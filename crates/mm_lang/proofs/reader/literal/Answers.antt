@@ -1,7 +1,7 @@
 use Rattle.std.proofs.Common.{subst}
 use Rattle.mm_lang.proofs.Literals.{Reads, reads_from, token_answers}
-use Rattle.mm_lang.proofs.phrase.literal.Goals as goal
-use Rattle.mm_lang.proofs.phrase.literal.Goals.{in-Word, in-Word-2, in-Word-3}
+use Rattle.mm_lang.proofs.reader.literal.Goals as goal
+use Rattle.mm_lang.proofs.reader.literal.Goals.{in-Word, in-Word-2, in-Word-3}
 
 pub returns-in-Word : goal.returns-in-Word
 returns-in-Word c =

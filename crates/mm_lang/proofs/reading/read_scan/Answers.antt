@@ -1,0 +1,12 @@
+use Rattle.std.proofs.lemmas.Result.{err_from_is_err_and}
+use Rattle.mm_lang.proofs.CommandReadings.{scan_no_name, scan_given}
+use Rattle.mm_lang.proofs.reading.read_scan.Goals as goal
+
+pub returns-in_err-name : goal.returns-in_err-name
+returns-in_err-name c =
+    let p = err_from_is_err_and c.from_residual.result c.from_residual.ensures.1 in
+    rw (p.1, p.2) (scan_no_name c.args.reader.now _ c.in_err-name.ensures)
+
+pub returns : goal.returns
+returns c =
+    scan_given c.args.reader.now c.name.new.self c.in_ok-name.field-0 c.in_ok-name.ensures

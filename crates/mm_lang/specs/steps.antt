@@ -1,0 +1,4 @@
+pub mod Parsing
+pub mod Parts
+pub mod Shrinking
+pub mod Splitting

@@ -1,0 +1,87 @@
+-- What the steps of reading a command give.
+use Rattle.std.specs.Prelude.{◌≡◌, ◌≢◌, ◌⊎◌, ℕ, ◌<◌, ◌≤◌, Bool, true, false, List, [], ◌∷◌, ◌++◌, length, Option, Some, None, Result, Ok, Err, MatchResult}
+use Rattle.std.specs.Option.{option_or}
+use Rattle.mm_value.specs.declared.refusal.Refusal.{Refusal}
+use Rattle.mm_value.specs.declared.refusal.Refusal.TheVariants.{Syntax, NumberOutOfRange, TextTooLong, Memory}
+use Rattle.mm_value.specs.declared.values.Value.{Value}
+use Rattle.mm_lang.specs.declared.reader.Reader.{Reader}
+use Rattle.mm_lang.specs.declared.token.Symbol.{Symbol}
+use Rattle.mm_lang.specs.Phrases.{Phrase}
+use Rattle.mm_lang.specs.Reading.{first_fault}
+use Rattle.mm_lang.specs.Tokens.{Token, Word, Mark, tokens}
+
+-- A call gives this answer, or want of memory in its place.
+abbrev pub AnswersOrMemory : {T : Type 0} → Result T Refusal → Result T Refusal → Type 0
+AnswersOrMemory due (Ok x) = due ≡ Ok x
+AnswersOrMemory due (Err refusal) = (due ≡ Err refusal) ⊎ (refusal ≡ Memory)
+
+-- The tokens begin with no word.
+abbrev pub BeginsNoWord : List Token → Type 0
+BeginsNoWord (Word word ∷ ts) = ⊥
+BeginsNoWord ts = Unit {0}
+
+-- The tokens do not begin with this symbol.
+abbrev pub BeginsNot : Symbol → List Token → Type 0
+BeginsNot symbol (Mark other ∷ ts) = other ≢ symbol
+BeginsNot symbol ts = Unit {0}
+
+-- Behind the first token of the bytes stand fewer bytes with the others.
+pub record Follows (bytes : List ℕ) (first : Token) (rest : List ℕ) : Type 0 where
+  pub in_front : tokens bytes ≡ first ∷ tokens rest
+  pub shorter : length rest < length bytes
+
+-- No literals stand in a thing.
+abbrev pub no_literals : {A : Type 0} → A → List Value
+no_literals x = []
+
+-- A literal is its only one.
+abbrev pub only_literal : Value → List Value
+only_literal v = v ∷ []
+
+-- A literal past its limit is refused so.
+abbrev pub is_limit : Refusal → Bool
+is_limit NumberOutOfRange = true
+is_limit TextTooLong = true
+is_limit _ = false
+
+-- A phrase was read. What stands in the line is `said`, whose literals may pass their limits: the fault afterwards is the
+-- one before, or else that of the first of them. Where none of them does, what was read is what stands in the line.
+pub record Gives {A : Type 0} (phrase : Phrase A) (literals : A → List Value) (old new : Reader) (x : A) : Type 0 where
+  pub said : A
+  pub read : phrase (tokens old.rest.now) ≡ Some (said, tokens new.rest.now)
+  pub fault : new.fault ≡ option_or old.fault (first_fault (literals said))
+  pub same : first_fault (literals said) ≡ None → x ≡ said
+  pub shorter : length new.rest.now ≤ length old.rest.now
+
+-- A phrase does not stand there, or memory was refused.
+abbrev pub Fails : {A : Type 0} → Phrase A → Reader → Refusal → Type 0
+Fails phrase old e = ((e ≡ Syntax) × (phrase (tokens old.rest.now) ≡ None)) ⊎ (e ≡ Memory)
+
+-- What reading a phrase gives.
+abbrev pub ReadsPhrase : {A : Type 0} → Phrase A → (A → List Value) → Reader → Reader → Result A Refusal → Type 0
+ReadsPhrase phrase literals old new result = MatchResult result (Gives phrase literals old new) (Fails phrase old)
+
+-- A phrase that says nothing was read, or does not stand there, and then nothing is read.
+abbrev pub Skips : Phrase (Unit {0}) → Reader → Reader → Bool → Type 0
+Skips phrase old new true = Gives phrase no_literals old new tt × (length new.rest.now < length old.rest.now)
+Skips phrase old new false = (phrase (tokens old.rest.now) ≡ None) × (new ≡ old)
+
+-- Items were read, which stand behind those that were there.
+pub record GivesItems {A : Type 0} (phrase : Phrase (List A)) (literals : List A → List Value) (old new : Reader) (before after : List A) : Type 0 where
+  pub items : List A
+  pub joined : after ≡ before ++ items
+  pub given : Gives phrase literals old new items
+
+-- What reading the items of a list gives.
+abbrev pub ReadsItems : {A : Type 0} → Phrase (List A) → (List A → List Value) → Reader → Reader → List A → List A → Result (Unit {0}) Refusal → Type 0
+ReadsItems phrase literals old new before after result =
+    MatchResult result (λ u. GivesItems phrase literals old new before after) (Fails phrase old)
+
+-- Nothing stands behind what was read, and then the first fault is told.
+abbrev pub Finishes : Reader → Result (Unit {0}) Refusal → Type 0
+Finishes reader (Ok u) = (tokens reader.rest.now ≡ []) × (reader.fault ≡ None)
+Finishes reader (Err e) = ((e ≡ Syntax) × (tokens reader.rest.now ≢ [])) ⊎ ((tokens reader.rest.now ≡ []) × (reader.fault ≡ Some e))
+
+-- A phrase leaves no more tokens than there were.
+abbrev pub NeverLonger : {A : Type 0} → Phrase A → Type 0
+NeverLonger {A} phrase = (ts : List Token) (x : A) (us : List Token) → phrase ts ≡ Some (x, us) → length us ≤ length ts

@@ -1,0 +1,65 @@
+-- A phrase leaves no more tokens than there were.
+use Rattle.std.proofs.Common.{◌≡◌, ◌≤◌, ◌⊎◌, inl, inr, ⊎_elim, ℕ, zero, suc, List, [], ◌∷◌, Option, Some, None, length, refl, ap, arith}
+use Rattle.std.proofs.lemmas.Option.{none-some}
+use Rattle.mm_schema.specs.declared.column.Role.TheVariants.{Plain, Key}
+use Rattle.mm_lang.specs.declared.keyword.Keyword.TheVariants as keyword
+use Rattle.mm_lang.specs.declared.token.Symbol.{Symbol}
+use Rattle.mm_lang.specs.declared.token.Symbol.TheVariants.{Open, Close, Comma}
+use Rattle.mm_lang.specs.Grammar.{literal_of, name, col_type, column, comma_list, tuple}
+use Rattle.mm_lang.specs.Phrases.{Phrase, ◌>>=◌, ◌>>◌, say, one, the_symbol, the_keyword, behind_item, at_most, list_of, optional, in_parentheses}
+use Rattle.mm_lang.specs.Tokens.{Token}
+use Rattle.mm_lang.specs.steps.Parsing.{NeverLonger}
+use Rattle.mm_lang.specs.steps.Parts.{Front, said_same, then_parts, one_parts, optional_parts}
+
+pub one_never_longer : {A : Type 0} (says : Token → Option A) → NeverLonger (one says)
+one_never_longer says ts x us e = let p = one_parts says ts x us e in omega (arith, ap length p.1)
+
+say_never_longer : {A : Type 0} (y : A) → NeverLonger (say y)
+say_never_longer y ts x us e = let p = said_same y x ts us e in omega (arith, ap length p.1)
+
+then_never_longer : {A B : Type 0} (first : Phrase A) (next : A → Phrase B) → NeverLonger first → ((x : A) → NeverLonger (next x)) → NeverLonger (first >>= next)
+then_never_longer first next h k ts y us e = let p = then_parts first next ts y us e in omega (arith, h ts p.0 p.1 p.2, k p.0 p.1 y us p.3)
+
+optional_never_longer : {A : Type 0} (absent : A) (phrase : Phrase A) → NeverLonger phrase → NeverLonger (optional absent phrase)
+optional_never_longer absent phrase h ts x us e =
+    ⊎_elim (λ there. h ts x us there) (λ not_there. omega (arith, ap length not_there.2)) (optional_parts absent phrase ts x us e)
+
+behind_never_longer : {A : Type 0} (separator : Phrase (Unit {0})) (others : Phrase (List A)) → NeverLonger separator → NeverLonger others
+    → NeverLonger (λ ts. behind_item (separator ts) others ts)
+behind_never_longer {A} separator others h k ts xs us e = by (separator ts) refl e
+  where
+    by : (o : Option (Front (Unit {0}))) → separator ts ≡ o → behind_item o others ts ≡ Some (xs, us) → length us ≤ length ts
+    by None is e = let p = said_same [] xs ts us e in omega (arith, ap length p.1)
+    by (Some s) is e = omega (arith, h ts s.0 s.1 is, k s.1 xs us e)
+
+module _ {A : Type 0} (separator : Phrase (Unit {0})) (item : Phrase A) (h : NeverLonger separator) (k : NeverLonger item) where
+  at_most_never_longer : (n : ℕ) → NeverLonger (at_most n separator item)
+  unfolding at_most
+  at_most_never_longer zero ts xs us e = let answer : Front (List A) = (xs, us) in absurd (none-some answer e)
+  at_most_never_longer (suc n) ts xs us e =
+      then_never_longer item (λ x. (λ ts. behind_item (separator ts) (at_most n separator item) ts) >>= (λ xs. say (x ∷ xs))) k
+      (λ x. then_never_longer (λ ts. behind_item (separator ts) (at_most n separator item) ts) (λ xs. say (x ∷ xs))
+      (behind_never_longer separator (at_most n separator item) h (at_most_never_longer n)) (λ xs. say_never_longer (x ∷ xs)))
+      ts xs us e
+
+  list_never_longer : NeverLonger (list_of separator item)
+  list_never_longer ts xs us e = at_most_never_longer (suc (length ts)) ts xs us e
+
+parentheses_never_longer : {A : Type 0} (phrase : Phrase A) → NeverLonger phrase → NeverLonger (in_parentheses phrase)
+parentheses_never_longer phrase h =
+    then_never_longer (the_symbol Open) (λ o. phrase >>= (λ x. the_symbol Close >>= (λ c. say x))) (one_never_longer _)
+    (λ o. then_never_longer phrase (λ x. the_symbol Close >>= (λ c. say x)) h
+    (λ x. then_never_longer (the_symbol Close) (λ c. say x) (one_never_longer _) (λ c. say_never_longer x)))
+
+pub tuple_never_longer : NeverLonger tuple
+unfolding tuple
+tuple_never_longer = parentheses_never_longer (comma_list (one literal_of)) (list_never_longer (the_symbol Comma) (one literal_of) (one_never_longer _) (one_never_longer _))
+
+pub column_never_longer : NeverLonger column
+unfolding column
+column_never_longer =
+    then_never_longer name _ (one_never_longer _)
+    (λ n. then_never_longer col_type _ (one_never_longer _)
+    (λ t. then_never_longer (optional Plain (the_keyword keyword.Key >> say Key)) _
+    (optional_never_longer Plain _ (then_never_longer (the_keyword keyword.Key) (λ u. say Key) (one_never_longer _) (λ u. say_never_longer Key)))
+    (λ r. say_never_longer _)))

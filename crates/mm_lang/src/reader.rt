@@ -1,0 +1,196 @@
+//! Reading of a line from left to right.
+ghost use Rattle.std.specs.Prelude.{◌≡◌, Some, None, MatchOption, MatchResult};
+ghost use Rattle.std.specs.Option.{option_or};
+ghost use Rattle.mm_lang.specs.Grammar.{col_type, literal_of, name};
+ghost use Rattle.mm_lang.specs.Phrases.{one, one_word, the_keyword, the_symbol, word_of};
+ghost use Rattle.mm_lang.specs.Words.{keyword_named};
+ghost use Rattle.mm_lang.specs.steps.Parsing.{AnswersOrMemory, BeginsNoWord, BeginsNot, Fails, Finishes, Follows, Gives, ReadsPhrase, Skips, is_limit, no_literals, only_literal};
+ghost use Rattle.mm_lang.specs.steps.Splitting.{Shows};
+ghost use Rattle.mm_lang.specs.Reading.{checked, literal_fault};
+ghost use Rattle.mm_lang.specs.Tokens.{Token as Tok, Word, Mark as MarkToken, tokens};
+
+use crate::keyword::Keyword;
+use crate::token::{Symbol, Token, split_token};
+use mm_schema::Name;
+use mm_value::{ColType, Refusal, Value, read_literal};
+use std::alloc::Global;
+
+/// What is left of a line to be read, and the first literal past its limit. Its calls read what stands first in the rest.
+/// They answer `Syntax` where it does not stand there.
+#[derive(Drop)]
+pub(crate) struct Reader<'a> {
+    alloc: Global,
+    rest: &'a [u8],
+    fault: Option<Refusal>,
+}
+
+impl<'a> Reader<'a> {
+    /// A reader of all the bytes of a line.
+    pub(crate) fn new(alloc: Global, line: &'a [u8]) -> Reader<'a>
+        ensures rest { result.rest.now ≡ line.now }
+        ensures fault { result.fault ≡ None }
+    {
+        Reader {
+            alloc,
+            rest: line,
+            fault: None,
+        }
+    }
+
+    /// Where the memory comes from.
+    pub(crate) fn alloc(&self) -> Global {
+        self.alloc
+    }
+
+    /// Takes this symbol, and tells whether it stood there.
+    pub(crate) fn skip(&mut self, symbol: Symbol) -> bool
+        ensures { Skips (the_symbol symbol) self.old self.new result }
+    {
+        match split_mark(self.rest, symbol) {
+            Some(rest) => {
+                self.rest = rest;
+                true
+            }
+            None => false,
+        }
+    }
+
+    /// Takes this keyword, and tells whether it stood there.
+    pub(crate) fn skip_keyword(&mut self, keyword: Keyword) -> bool
+        ensures { Skips (the_keyword keyword) self.old self.new result }
+    {
+        match split_word(self.rest) {
+            Some((word, rest)) if keyword.is_word(word) => {
+                self.rest = rest;
+                true
+            }
+            _ => false,
+        }
+    }
+
+    /// This symbol.
+    pub(crate) fn symbol(&mut self, symbol: Symbol) -> Result<(), Refusal>
+        ensures { ReadsPhrase (the_symbol symbol) no_literals self.old self.new result }
+    {
+        if self.skip(symbol) {
+            Ok(())
+        } else {
+            Err(Refusal::Syntax)
+        }
+    }
+
+    /// A keyword.
+    pub(crate) fn keyword(&mut self) -> Result<Keyword, Refusal>
+        ensures { ReadsPhrase (one_word keyword_named) no_literals self.old self.new result }
+    {
+        let word = self.word()?;
+        Keyword::named(word).ok_or(Refusal::Syntax)
+    }
+
+    /// A name.
+    pub(crate) fn name(&mut self) -> Result<Name, Refusal>
+        ensures { ReadsPhrase name no_literals self.old self.new result }
+    {
+        let word = self.word()?;
+        Name::new(word).ok_or(Refusal::Syntax)
+    }
+
+    /// A type.
+    pub(crate) fn col_type(&mut self) -> Result<ColType, Refusal>
+        ensures { ReadsPhrase col_type no_literals self.old self.new result }
+    {
+        match self.keyword()? {
+            Keyword::Int => Ok(ColType::Int),
+            Keyword::Text => Ok(ColType::Text),
+            _ => Err(Refusal::Syntax),
+        }
+    }
+
+    /// A literal. Where it passes its limit that is noted, and a zero stands in its place.
+    /// `Memory` where that was refused.
+    pub(crate) fn literal(&mut self) -> Result<Value, Refusal>
+        ensures { ReadsPhrase (one literal_of) only_literal self.old self.new result }
+    {
+        let Some((token, rest)) = split_token(self.rest) else {
+            return Err(Refusal::Syntax);
+        };
+        match literal(self.alloc, token) {
+            Ok(value) => {
+                self.rest = rest;
+                Ok(value)
+            }
+            Err(fault) if is_limit(fault) => {
+                self.rest = rest;
+                self.fault = self.fault.or(Some(fault));
+                Ok(Value::Int(0))
+            }
+            Err(refusal) => Err(refusal),
+        }
+    }
+
+    /// The end of the line: `Syntax` where something stands there, else the first fault.
+    pub(crate) fn finish(&self) -> Result<(), Refusal>
+        ensures { Finishes self.now result }
+    {
+        if split_token(self.rest).is_some() {
+            return Err(Refusal::Syntax);
+        }
+        match self.fault {
+            Some(fault) => Err(fault),
+            None => Ok(()),
+        }
+    }
+
+    // A word.
+    fn word(&mut self) -> Result<&'a [u8], Refusal>
+        ensures { MatchResult result (λ word. Gives (one word_of) no_literals self.old self.new word.now) (Fails (one word_of) self.old) }
+    {
+        match split_word(self.rest) {
+            Some((word, rest)) => {
+                self.rest = rest;
+                Ok(word)
+            }
+            None => Err(Refusal::Syntax),
+        }
+    }
+}
+
+// The word that stands first, and the bytes behind it.
+fn split_word(bytes: &[u8]) -> Option<(&[u8], &[u8])>
+    ensures { MatchOption result (BeginsNoWord (tokens bytes.now)) (λ r. Follows bytes.now (Word r.0.now) r.1.now) }
+{
+    match split_token(bytes) {
+        Some((Token::Word(word), rest)) => Some((word, rest)),
+        _ => None,
+    }
+}
+
+// The bytes behind this symbol, where it stands first.
+fn split_mark(bytes: &[u8], symbol: Symbol) -> Option<&[u8]>
+    ensures { MatchOption result (BeginsNot symbol (tokens bytes.now)) (λ r. Follows bytes.now (MarkToken symbol) r.now) }
+{
+    match split_token(bytes) {
+        Some((Token::Mark(mark), rest)) if mark == symbol => Some(rest),
+        _ => None,
+    }
+}
+
+// The value that a token is. `Syntax` where it is none, else `NumberOutOfRange` or `TextTooLong` where it passes its
+// limit, else `Memory` where that was refused.
+fn literal(alloc: Global, token: Token<'_>) -> Result<Value, Refusal>
+    ensures { (t : Tok) → Shows token.entry t → AnswersOrMemory (checked literal_fault (literal_of t)) result }
+{
+    match token {
+        Token::Word(bytes) | Token::Signed(bytes) | Token::Quoted(bytes) => {
+            read_literal(alloc, bytes)
+        }
+        Token::Mark(_) | Token::Unreadable => Err(Refusal::Syntax),
+    }
+}
+
+// Whether a literal past its limit is refused so.
+fn is_limit(refusal: Refusal) -> bool
+    ensures { result ≡ is_limit refusal }
+{
+    matches!(refusal, Refusal::NumberOutOfRange | Refusal::TextTooLong)
+}
