@@ -23,7 +23,9 @@ IsCollecting-start ns head hash old linked =
 
 refs_along-step : (ns : List Node) (at hash : ℕ) → IsLinked ns at → at ≢ NIL
     → refs_along ns at hash
-    ≡ map row_of (cond (eqb (node_at ns at).hash hash) (node_at ns at ∷ filter (λ n. eqb n.hash hash) (map (node_at ns) (chain ns (node_at ns at).next))) (filter (λ n. eqb n.hash hash) (map (node_at ns) (chain ns (node_at ns at).next))))
+    ≡ map row_of
+    (cond (eqb (node_at ns at).hash hash) (node_at ns at ∷ filter (λ n. eqb n.hash hash) (map (node_at ns) (chain ns (node_at ns at).next)))
+    (filter (λ n. eqb n.hash hash) (map (node_at ns) (chain ns (node_at ns at).next))))
 refs_along-step ns at hash linked on =
     ap (λ is. map row_of (filter (λ n. eqb n.hash hash) (map (node_at ns) is))) ((chain_step ns at linked on).is)
 

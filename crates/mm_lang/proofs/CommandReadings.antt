@@ -84,7 +84,8 @@ pub table_no_name : (old : Reader) (e : Refusal) → Fails name old e → Fails 
 unfolding table after_name table_columns say_table
 table_no_name old e h = fails_first name after_name old e h
 
-pub table_no_columns : (old mid : Reader) (n : List ℕ) (e : Refusal) → Gives name no_literals old mid n → Fails (in_parentheses (comma_list column)) mid e → Fails table old e
+pub table_no_columns : (old mid : Reader) (n : List ℕ) (e : Refusal) → Gives name no_literals old mid n
+    → Fails (in_parentheses (comma_list column)) mid e → Fails table old e
 unfolding table after_name table_columns say_table
 table_no_columns old mid n e g h = let t = took g in fails_next name after_name old mid n e t.is (fails_first table_columns (say_table n) mid e h)
 

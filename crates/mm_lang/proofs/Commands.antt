@@ -48,7 +48,8 @@ module _ (old mid new : Reader) (k : Keyword) (c : Command) (fresh : old.fault �
   unfolding command_of
   whole_is =
       let t = took g in
-      ap (λ (o : Option (Front Keyword)). option_and_then (λ (r : Front Command). alone r.0 r.1) (option_and_then (λ (r : Front Keyword). command_behind r.0 r.1) o)) t.is
+      ap (λ (o : Option (Front Keyword)). option_and_then (λ (r : Front Command). alone r.0 r.1)
+      (option_and_then (λ (r : Front Keyword). command_behind r.0 r.1) o)) t.is
       ∙ ap (option_and_then (λ (r : Front Command). alone r.0 r.1)) h.read
 
   fault_is : new.fault ≡ first_fault (literals_of h.said)
@@ -106,7 +107,8 @@ tokens_take ts (Some (Scan table)) is = limits_take (Scan table) (literals_of (S
 pub takes : (line : List ℕ) → length line ≤ 4096 → is_nothing line ≡ false → takes_memory line ≡ true
 takes line short some = ap reading_takes_memory (reads_command line short some) ∙ tokens_take (tokens line) (command_of (tokens line)) refl
 
-pub reads : (line : List ℕ) (r : Result Command Refusal) → length line ≤ 4096 → is_nothing line ≡ false → AnswersOrMemory (read_as (command_of (tokens line))) r → Reads line r
+pub reads : (line : List ℕ) (r : Result Command Refusal) → length line ≤ 4096 → is_nothing line ≡ false
+    → AnswersOrMemory (read_as (command_of (tokens line))) r → Reads line r
 reads line (Ok command) short some h = reads_command line short some ∙ h
 reads line (Err e) short some (inl h) = inl (reads_command line short some ∙ h)
 reads line (Err e) short some (inr h) = inr (h, takes line short some)

@@ -72,13 +72,15 @@ module _ {A : Type 0} (separator : Phrase (Unit {0})) (token : Token) (item : Ph
       let t = behind_sound n s.0 p.0 p.1 q.0 q.1 s.1 (at_most_sound n) (separator p.1) refl q.2 in
       (t.0, subst (SpellsList token Spells t.0) r.0 t.1, s.2 ∙ t.2 ∙ ap (λ l. t.0 ++ l) r.1)
 
-  at_most_complete : (ends : (us : List Token) → Ends (token ∷ us)) (n : ℕ) (xs : List A) (front us : List Token) → SpellsList token Spells front xs → Ends us → separator us ≡ None
+  at_most_complete : (ends : (us : List Token) → Ends (token ∷ us)) (n : ℕ) (xs : List A) (front us : List Token) → SpellsList token Spells front xs
+      → Ends us → separator us ≡ None
       → length front < n → at_most n separator item (front ++ us) ≡ Some (xs, us)
   unfolding at_most
   at_most_complete ends zero xs front us h end last less = absurd (omega arith)
   at_most_complete ends (suc n) [] front us h end last less = absurd h
   at_most_complete ends (suc n) (x ∷ []) front us h end last less =
-      ap (option_and_then (λ (r : Front A). option_and_then (onto r.0) (behind_item (separator r.1) (at_most n separator item) r.1))) (exact.complete front x us h end)
+      ap (option_and_then (λ (r : Front A). option_and_then (onto r.0) (behind_item (separator r.1) (at_most n separator item) r.1)))
+      (exact.complete front x us h end)
       ∙ ap (λ (o : Option (Front (Unit {0}))). option_and_then (onto x) (behind_item o (at_most n separator item) us)) last
   at_most_complete ends (suc n) (x ∷ y ∷ ys) front us h end last less =
       let behind = h.1 ++ us in

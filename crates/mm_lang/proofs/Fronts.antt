@@ -60,7 +60,8 @@ minus_word (b ∷ bs) some =
     (cases_Bool (is_word_byte b))
 
 -- the front of the bytes that a minus and a run of n bytes make up, and what is behind it
-pub splits_minus : (bytes : List ℕ) (n : ℕ) (rest : List ℕ) → 0 < length bytes → n ≡ prefix_len is_word_byte (take (length bytes - 1) (drop 1 bytes)) → n ≡ 0 → rest ≡ drop (1 + n) bytes
+pub splits_minus : (bytes : List ℕ) (n : ℕ) (rest : List ℕ) → 0 < length bytes
+    → n ≡ prefix_len is_word_byte (take (length bytes - 1) (drop 1 bytes)) → n ≡ 0 → rest ≡ drop (1 + n) bytes
     → Splits (onto_minus (begins_word (drop 1 bytes)) (tokens (drop 1 bytes))) (length bytes) (shown.Mark Minus) rest
 splits_minus bytes n rest some is none back = record {
   first = Mark Minus;
@@ -69,7 +70,8 @@ splits_minus bytes n rest some is none back = record {
   shorter = omega (arith, ap length back, length-drop (1 + n) bytes);
 }
 
-pub splits_signed : (bytes : List ℕ) (n : ℕ) (front : Bor (List ℕ)) (rest : List ℕ) → 0 < length bytes → get_or bytes 0 0 ≡ 45 → n ≡ prefix_len is_word_byte (take (length bytes - 1) (drop 1 bytes)) → n ≢ 0
+pub splits_signed : (bytes : List ℕ) (n : ℕ) (front : Bor (List ℕ)) (rest : List ℕ) → 0 < length bytes → get_or bytes 0 0 ≡ 45
+    → n ≡ prefix_len is_word_byte (take (length bytes - 1) (drop 1 bytes)) → n ≢ 0
     → front.now ≡ take (1 + n) bytes → rest ≡ drop (1 + n) bytes
     → Splits (onto_minus (begins_word (drop 1 bytes)) (tokens (drop 1 bytes))) (length bytes) (shown.Signed front) rest
 splits_signed [] n front rest some minus is nonzero front_is back = absurd (omega arith)
@@ -89,7 +91,8 @@ splits_signed (b ∷ bs) n front rest some minus is nonzero front_is back =
     }
 
 -- a word
-pub splits_word : (bytes : List ℕ) (front : Bor (List ℕ)) (rest : List ℕ) (n : ℕ) → is_word_byte (get_or bytes 0 0) ≡ true → n ≡ prefix_len is_word_byte bytes → 0 < length bytes
+pub splits_word : (bytes : List ℕ) (front : Bor (List ℕ)) (rest : List ℕ) (n : ℕ) → is_word_byte (get_or bytes 0 0) ≡ true
+    → n ≡ prefix_len is_word_byte bytes → 0 < length bytes
     → front.now ≡ take n bytes → rest ≡ drop n bytes → Splits (tokens bytes) (length bytes) (shown.Word front) rest
 splits_word [] front rest n word is some front_is back = absurd (omega arith)
 splits_word (b ∷ bs) front rest n word is some front_is back =
@@ -105,7 +108,8 @@ splits_word (b ∷ bs) front rest n word is some front_is back =
     }
 
 -- a symbol, or a byte that can't be read
-pub splits_symbol : (bytes : List ℕ) (token : Shown) (rest : List ℕ) → 0 < length bytes → begins_blank bytes ≡ false → get_or bytes 0 0 ≢ 39 → is_word_byte (get_or bytes 0 0) ≡ false
+pub splits_symbol : (bytes : List ℕ) (token : Shown) (rest : List ℕ) → 0 < length bytes → begins_blank bytes ≡ false → get_or bytes 0 0 ≢ 39
+    → is_word_byte (get_or bytes 0 0) ≡ false
     → Splits (onto_symbol (get_or bytes 0 0) (drop 1 bytes) (tokens (drop 1 bytes))) (length bytes) token rest → Splits (tokens bytes) (length bytes) token rest
 splits_symbol [] token rest some visible unquoted symbol s = absurd (omega arith)
 splits_symbol (b ∷ bs) token rest some visible unquoted symbol s = record {
@@ -134,7 +138,8 @@ not_symbol b bs ts opening close comma dot equal less greater plus minus =
     ∙ cond-false (eqb b 46) _ _ (ne_eqb b 46 dot) ∙ cond-false (eqb b 61) _ _ (ne_eqb b 61 equal) ∙ cond-false (eqb b 60) _ _ (ne_eqb b 60 less)
     ∙ cond-false (eqb b 62) _ _ (ne_eqb b 62 greater) ∙ cond-false (eqb b 43) _ _ (ne_eqb b 43 plus) ∙ cond-false (eqb b 45) _ _ (ne_eqb b 45 minus)
 
-pub splits_unreadable : (b : ℕ) (bs : List ℕ) (ts : List Token) (limit : ℕ) → b ≢ 40 → b ≢ 41 → b ≢ 44 → b ≢ 46 → b ≢ 61 → b ≢ 60 → b ≢ 62 → b ≢ 43 → b ≢ 45 → 0 < limit
+pub splits_unreadable : (b : ℕ) (bs : List ℕ) (ts : List Token) (limit : ℕ) → b ≢ 40 → b ≢ 41 → b ≢ 44 → b ≢ 46 → b ≢ 61 → b ≢ 60 → b ≢ 62 → b ≢ 43
+    → b ≢ 45 → 0 < limit
     → Splits (onto_symbol b bs ts) limit shown.Unreadable []
 splits_unreadable b bs ts limit opening close comma dot equal less greater plus minus some = record {
   first = Unreadable;

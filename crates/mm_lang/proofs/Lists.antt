@@ -139,14 +139,16 @@ module _ {A : Type 0} (item : Phrase A) (literals : A → List Value) (old : Rea
       pub items_end : (new : Reader) → Skips (the_symbol Comma) mid new false → GivesItems (comma_list item) (flat_map literals) old new before more
       items_end new s =
           let end : ◌≡◌ {A = Reader} mid new = sym s.1 in
-          let all : Gathered literals old new (h.said ++ g.said ∷ []) before more = subst (λ (r : Reader). Gathered literals old r (h.said ++ g.said ∷ []) before more) end gathered in
+          let all : Gathered literals old new (h.said ++ g.said ∷ []) before
+          more = subst (λ (r : Reader). Gathered literals old r (h.said ++ g.said ∷ []) before more) end gathered in
           record {
             items = all.items;
             joined = all.joined;
             given = record {
               said = h.said ++ g.said ∷ [];
               read =
-                  h.goes_on ∙ ap (option_map (in_front h.said)) (list_last (the_symbol Comma) item (tokens now.rest.now) g.said (tokens mid.rest.now) g.read s.0)
+                  h.goes_on ∙ ap (option_map (in_front h.said))
+                  (list_last (the_symbol Comma) item (tokens now.rest.now) g.said (tokens mid.rest.now) g.read s.0)
                   ∙ ap (λ (r : Reader). Some (h.said ++ g.said ∷ [], tokens r.rest.now)) end;
               fault = all.fault;
               same = all.same;
@@ -168,10 +170,13 @@ module _ {A : Type 0} (item : Phrase A) (literals : A → List Value) (old : Rea
             };
             goes_on =
                 h.goes_on
-                ∙ ap (option_map (in_front h.said)) (list_more (the_symbol Comma) item comma_shorter never_longer (tokens now.rest.now) g.said (tokens mid.rest.now) (tokens new.rest.now) g.read t.is)
+                ∙ ap (option_map (in_front h.said))
+                (list_more (the_symbol Comma) item comma_shorter never_longer (tokens now.rest.now) g.said (tokens mid.rest.now)
+                (tokens new.rest.now) g.read t.is)
                 ∙ regroup (comma_list item (tokens new.rest.now));
           }
         where
-          regroup : (o : Option (Front (List A))) → option_map (in_front h.said) (option_and_then (onto g.said) o) ≡ option_map (in_front (h.said ++ g.said ∷ [])) o
+          regroup : (o : Option (Front (List A)))
+              → option_map (in_front h.said) (option_and_then (onto g.said) o) ≡ option_map (in_front (h.said ++ g.said ∷ [])) o
           regroup None = refl
           regroup (Some r) = ap (λ l. Some (l, r.1)) (sym (append_assoc h.said (g.said ∷ []) r.0))

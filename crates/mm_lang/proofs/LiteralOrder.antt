@@ -74,7 +74,8 @@ name_no_numeral (b ∷ bs) named numeral =
 
 name_no_literal : (name : List ℕ) → IsName name → literal_of (Word name) ≡ None
 name_no_literal name named =
-    ⊎_elim (λ numeral. absurd (name_no_numeral name named numeral)) (λ other. ap (λ b. cond b (Some (Int (pos (digits_value 10 name)))) None) other) (cases_Bool (is_numeral name))
+    ⊎_elim (λ numeral. absurd (name_no_numeral name named numeral)) (λ other. ap (λ b. cond b (Some (Int (pos (digits_value 10 name)))) None) other)
+    (cases_Bool (is_numeral name))
 
 type_no_literal : (t : ColType) (ts : List Token) → among (word (type_word t) ∷ ts) ≡ among ts
 type_no_literal type.Int ts = refl
@@ -89,7 +90,8 @@ behind_name name ts named = ap (λ o. cons_option o (among ts)) (name_no_literal
 
 column_literals : (ts : List Token) (c : Column) → SpellsColumn ts c → among ts ≡ no_literals c
 column_literals ts c h =
-    ap among h.1 ∙ behind_name c.name (word (type_word c.col_type) ∷ role_tokens c.role) h.0 ∙ type_no_literal c.col_type (role_tokens c.role) ∙ role_no_literal c.role
+    ap among h.1 ∙ behind_name c.name (word (type_word c.col_type) ∷ role_tokens c.role) h.0 ∙ type_no_literal c.col_type (role_tokens c.role)
+    ∙ role_no_literal c.role
 
 none_at_all : {A : Type 0} (xs : List A) → flat_map no_literals xs ≡ []
 none_at_all [] = refl

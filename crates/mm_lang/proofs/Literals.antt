@@ -31,10 +31,12 @@ pub record Reads (bytes : List ℕ) (r : Result Value Refusal) : Type 0 where
   pub range : (z : ℤ) × SpellsInt bytes z × ¬ FitsSigned w64 z → r ≡ Err NumberOutOfRange
   pub too_long : (text : List ℕ) × SpellsText bytes text × (64 < length text) → r ≡ Err TextTooLong
 
-answers_err : (o : Option Value) (r : Result Value Refusal) (e : Refusal) → r ≡ Err e → checked literal_fault o ≡ Err e → AnswersOrMemory (checked literal_fault o) r
+answers_err : (o : Option Value) (r : Result Value Refusal) (e : Refusal) → r ≡ Err e → checked literal_fault o ≡ Err e
+    → AnswersOrMemory (checked literal_fault o) r
 answers_err o r e is due = subst (AnswersOrMemory (checked literal_fault o)) (sym is) (inl due)
 
-answers_found : (v : Value) (r : Result Value Refusal) → literal_fault v ≡ None → MatchResult r (λ w. w ≡ v) (λ e. e ≡ Memory) → AnswersOrMemory (checked literal_fault (Some v)) r
+answers_found : (v : Value) (r : Result Value Refusal) → literal_fault v ≡ None → MatchResult r (λ w. w ≡ v) (λ e. e ≡ Memory)
+    → AnswersOrMemory (checked literal_fault (Some v)) r
 answers_found v (Ok w) none h = ap (unless v) none ∙ ap Ok (sym h)
 answers_found v (Err e) none h = inr h
 
@@ -50,7 +52,8 @@ past_answers bytes r (Int z) reads spells past = reads.range (z, spells, λ fits
 past_answers bytes r (Text text) reads spells past = reads.too_long (text, spells, leb-false (length text) 64 past)
 
 -- bytes that spell a value
-pub spelled_answers : (bytes : List ℕ) (r : Result Value Refusal) (v : Value) → Reads bytes r → Spells bytes v → AnswersOrMemory (checked literal_fault (Some v)) r
+pub spelled_answers : (bytes : List ℕ) (r : Result Value Refusal) (v : Value) → Reads bytes r → Spells bytes v
+    → AnswersOrMemory (checked literal_fault (Some v)) r
 spelled_answers bytes r v reads spells =
     ⊎_elim
     (λ within. answers_found v r (within_none v within) (reads.found v spells within))
@@ -58,7 +61,8 @@ spelled_answers bytes r v reads spells =
     (cases_Bool (is_within_limit v))
 
 -- bytes that spell none
-pub none_answers : (bytes : List ℕ) (r : Result Value Refusal) → Reads bytes r → ((v : Value) → Spells bytes v → ⊥) → AnswersOrMemory (checked literal_fault None) r
+pub none_answers : (bytes : List ℕ) (r : Result Value Refusal) → Reads bytes r → ((v : Value) → Spells bytes v → ⊥)
+    → AnswersOrMemory (checked literal_fault None) r
 none_answers bytes r reads none = answers_err None r Syntax (reads.syntax none) refl
 
 no_numeral : (word : List ℕ) → is_numeral word ≡ false → IsNumeral word → ⊥
@@ -109,14 +113,16 @@ module _ (bytes : List ℕ) (r : Result Value Refusal) (reads : Reads bytes r) w
       subst (λ u. AnswersOrMemory (checked literal_fault (literal_of u)) r) (sym shows.2)
       (spelled_answers bytes r (Text shows.0) reads shows.1)
 
-pub reads_from : {bytes : List ℕ} {r : Result Value Refusal} → ((value : Value) → Spells bytes value → IsWithinLimit value → MatchResult r (λ v. v ≡ value) (λ e. e ≡ Memory))
+pub reads_from : {bytes : List ℕ} {r : Result Value Refusal}
+    → ((value : Value) → Spells bytes value → IsWithinLimit value → MatchResult r (λ v. v ≡ value) (λ e. e ≡ Memory))
     → (IsErrOf r Syntax ↔ ((value : Value) → Spells bytes value → ⊥))
     → (IsErrOf r NumberOutOfRange ↔ ((z : ℤ) × SpellsInt bytes z × ¬ FitsSigned w64 z))
     → (IsErrOf r TextTooLong ↔ ((text : List ℕ) × SpellsText bytes text × (64 < length text))) → Reads bytes r
 reads_from found syntax range too_long = record { found = found; syntax = syntax.1; range = range.1; too_long = too_long.1 }
 
 -- a token that has bytes of its own
-pub token_answers : (token : Shown) (bytes : Bor (List ℕ)) (r : Result Value Refusal) → (token ≡ shown.Word bytes) ⊎ ((token ≡ shown.Signed bytes) ⊎ (token ≡ shown.Quoted bytes)) → Reads bytes.now r
+pub token_answers : (token : Shown) (bytes : Bor (List ℕ)) (r : Result Value Refusal)
+    → (token ≡ shown.Word bytes) ⊎ ((token ≡ shown.Signed bytes) ⊎ (token ≡ shown.Quoted bytes)) → Reads bytes.now r
     → (t : Token) → Shows token t → AnswersOrMemory (checked literal_fault (literal_of t)) r
 token_answers token bytes r (inl is) reads t shows = word_answers bytes.now r reads t (subst (λ u. Shows u t) is shows)
 token_answers token bytes r (inr (inl is)) reads t shows = signed_answers bytes.now r reads t (subst (λ u. Shows u t) is shows)
@@ -131,11 +137,13 @@ limit_of_past : (v : Value) → is_limit (past_limit v) ≡ true
 limit_of_past (Int z) = refl
 limit_of_past (Text text) = refl
 
-fault_by : (v : Value) (b : Bool) → is_within_limit v ≡ b → (e : Refusal) → unless v (cond b None (Some (past_limit v))) ≡ Err e → (literal_fault v ≡ Some e) × (is_limit e ≡ true)
+fault_by : (v : Value) (b : Bool) → is_within_limit v ≡ b → (e : Refusal) → unless v (cond b None (Some (past_limit v))) ≡ Err e
+    → (literal_fault v ≡ Some e) × (is_limit e ≡ true)
 fault_by v true is e h = absurd (cc)
 fault_by v false is e h = let same : past_limit v ≡ e = cc in (past_some v is ∙ ap Some same, subst (λ r. is_limit r ≡ true) same (limit_of_past v))
 
-faulty : (o : Option Value) (e : Refusal) → checked literal_fault o ≡ Err e → ((o ≡ None) × (e ≡ Syntax)) ⊎ ((v : Value) × (o ≡ Some v) × (literal_fault v ≡ Some e) × (is_limit e ≡ true))
+faulty : (o : Option Value) (e : Refusal) → checked literal_fault o ≡ Err e
+    → ((o ≡ None) × (e ≡ Syntax)) ⊎ ((v : Value) × (o ≡ Some v) × (literal_fault v ≡ Some e) × (is_limit e ≡ true))
 faulty None e h = inl (refl, cc)
 faulty (Some v) e h = let p = fault_by v (is_within_limit v) refl e h in inr (v, refl, p.0, p.1)
 
@@ -144,7 +152,8 @@ module _ (old : Reader) (token : Shown) (rest : Bor (List ℕ)) (e : Refusal) (s
   pub literal_past : is_limit e ≡ true → (placeholder : Value) (fault : Option Refusal) → fault ≡ option_or old.fault (Some e)
       → Gives (one literal_of) only_literal old (record old { rest = rest; fault = fault }) placeholder
   unfolding front
-  literal_past limit placeholder fault noted = ⊎_elim (λ h. by (faulty (literal_of s.first) e h)) (λ h. absurd (false≢true (ap is_limit (sym h) ∙ limit))) answers
+  literal_past limit placeholder fault noted =
+      ⊎_elim (λ h. by (faulty (literal_of s.first) e h)) (λ h. absurd (false≢true (ap is_limit (sym h) ∙ limit))) answers
     where
       by : ((literal_of s.first ≡ None) × (e ≡ Syntax)) ⊎ ((v : Value) × (literal_of s.first ≡ Some v) × (literal_fault v ≡ Some e) × (is_limit e ≡ true))
           → Gives (one literal_of) only_literal old (record old { rest = rest; fault = fault }) placeholder

@@ -59,7 +59,8 @@ module _ {A B : Type 0} (first : Phrase A) (next : A → Phrase B) (old : Reader
   fails_next mid x e is (inr h) = inr h
 
 -- A word was read.
-pub word_given : (old new : Reader) (word : List ℕ) → Follows old.rest.now (Word word) new.rest.now → new.fault ≡ old.fault → Gives (one word_of) no_literals old new word
+pub word_given : (old new : Reader) (word : List ℕ) → Follows old.rest.now (Word word) new.rest.now → new.fault ≡ old.fault
+    → Gives (one word_of) no_literals old new word
 word_given old new word f same = gives (record { is = ap (one word_of) f.in_front; fault = same; shorter = omega (arith, f.shorter) })
 
 pub word_says : {A : Type 0} (says : List ℕ → Option A) (ts : List Token) (word : List ℕ) (us : List Token)
@@ -82,7 +83,8 @@ word_reads {A} says old new word g = by (says word) refl
     by : (o : Option A) → says word ≡ o → ReadsPhrase (one_word says) no_literals old new (ok_or o Syntax)
     by None is = inl (refl, word_says says (tokens old.rest.now) word (tokens new.rest.now) t.is ∙ ap (option_map pair) is)
     by (Some x) is =
-        gives (record { is = word_says says (tokens old.rest.now) word (tokens new.rest.now) t.is ∙ ap (option_map pair) is; fault = t.fault; shorter = t.shorter })
+        gives (record
+            { is = word_says says (tokens old.rest.now) word (tokens new.rest.now) t.is ∙ ap (option_map pair) is; fault = t.fault; shorter = t.shorter })
 
 -- The role of a column.
 
@@ -93,7 +95,8 @@ pub role_key : (old new : Reader) → Skips (the_keyword keyword.Key) old new tr
 role_key old new h =
     let t = took h.0 in
     record {
-      is = ap (λ (o : Option (Front (Unit {0}))). option_or (option_and_then (λ (r : Front (Unit {0})). say Key r.1) o) (Some (Plain, tokens old.rest.now))) t.is;
+      is = ap (λ (o : Option (Front (Unit {0}))). option_or (option_and_then (λ (r : Front (Unit {0})). say Key r.1) o)
+          (Some (Plain, tokens old.rest.now))) t.is;
       fault = t.fault;
       shorter = t.shorter;
     }
@@ -126,8 +129,10 @@ pub column_no_type : (old mid : Reader) (n : List ℕ) (e : Refusal) → Gives n
 unfolding column after_name after_type say_column
 column_no_type old mid n e g h = let t = took g in fails_next name after_name old mid n e t.is (fails_first col_type (after_type n) mid e h)
 
-pub column_given : (old mid behind new : Reader) (n : List ℕ) (t : ColType) (r : Role) → Gives name no_literals old mid n → Gives col_type no_literals mid behind t
+pub column_given : (old mid behind new : Reader) (n : List ℕ) (t : ColType) (r : Role) → Gives name no_literals old mid n
+    → Gives col_type no_literals mid behind t
     → Took role behind new r → Gives column no_literals old new (record { name = n; col_type = t; role = r })
 unfolding column after_name after_type say_column
 column_given old mid behind new n t r a b c =
-    gives (took_then after_name (took a) (took_then (after_type n) (took b) (took_then (say_column n t) c (took_say (record { name = n; col_type = t; role = r }) new))))
+    gives (took_then after_name (took a)
+        (took_then (after_type n) (took b) (took_then (say_column n t) c (took_say (record { name = n; col_type = t; role = r }) new))))

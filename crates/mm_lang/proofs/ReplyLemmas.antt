@@ -46,4 +46,5 @@ rows_text_all rows i h = rows_text_split rows ∙ ap (λ l. flat_map row_line l 
 pub refusal_line : (refusal : Refusal) (n : ℕ) (text : List ℕ) → n ≡ refusal_number refusal → text ≡ refusal_text refusal
     → reply_text (Refused refusal) ≡ codes "error " ++ decimal n ++ 32 ∷ text ++ 10 ∷ []
 refusal_line refusal n text number says =
-    ap (λ k. codes "error " ++ decimal k ++ 32 ∷ refusal_text refusal ++ 10 ∷ []) (sym number) ∙ ap (λ t. codes "error " ++ decimal n ++ 32 ∷ t ++ 10 ∷ []) (sym says)
+    ap (λ k. codes "error " ++ decimal k ++ 32 ∷ refusal_text refusal ++ 10 ∷ []) (sym number)
+    ∙ ap (λ t. codes "error " ++ decimal n ++ 32 ∷ t ++ 10 ∷ []) (sym says)

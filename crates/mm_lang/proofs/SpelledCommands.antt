@@ -101,10 +101,12 @@ column_read ts c us e =
     let n = name_read ts p.0 p.1 p.2 in (
       Word p.0 ∷ word (type_word q.0) ∷ role_tokens r.0,
       subst (SpellsColumn (Word p.0 ∷ word (type_word q.0) ∷ role_tokens r.0)) s.0 (n.1, refl),
-      n.0 ∙ ap (λ l. Word p.0 ∷ l) (type_read p.1 q.0 q.1 q.2 ∙ ap (λ l. word (type_word q.0) ∷ l) (role_read q.1 r.0 r.1 r.2 ∙ ap (λ l. role_tokens r.0 ++ l) s.1)),
+      n.0 ∙ ap (λ l. Word p.0 ∷ l)
+      (type_read p.1 q.0 q.1 q.2 ∙ ap (λ l. word (type_word q.0) ∷ l) (role_read q.1 r.0 r.1 r.2 ∙ ap (λ l. role_tokens r.0 ++ l) s.1)),
     )
 
-column_spelled : (front : List Token) (c : Column) (us : List Token) → SpellsColumn front c → the_keyword keyword.Key us ≡ None → column (front ++ us) ≡ Some (c, us)
+column_spelled : (front : List Token) (c : Column) (us : List Token) → SpellsColumn front c → the_keyword keyword.Key us ≡ None
+    → column (front ++ us) ≡ Some (c, us)
 unfolding column say_column after_type after_name
 column_spelled front c us h end =
     let behind = word (type_word c.col_type) ∷ role_tokens c.role ++ us in
@@ -122,7 +124,8 @@ columns_exact =
 
 table_columns_exact : IsExact (in_parentheses (comma_list column)) (SpellsInParentheses (SpellsList (Mark Comma) SpellsColumn)) Always
 table_columns_exact =
-    parentheses_exact (comma_list column) (SpellsList (Mark Comma) SpellsColumn) (λ us. NoKey us × (the_symbol Comma us ≡ None)) columns_exact (λ us. (refl, refl))
+    parentheses_exact (comma_list column) (SpellsList (Mark Comma) SpellsColumn) (λ us. NoKey us × (the_symbol Comma us ≡ None)) columns_exact
+    (λ us. (refl, refl))
 
 -- INSERT
 

@@ -78,7 +78,8 @@ within_more bytes end n w s = record {
       ∙ ap (λ l. onto_texts (w.said ++ s.byte ∷ []) (lexed Inside l)) (drop-drop n end bytes);
 }
 
-pub within_end : (bytes : List ℕ) (end : ℕ) (text : Bor (List ℕ)) (rest : List ℕ) → Within bytes end → EndsText (drop end bytes) → text.now ≡ take (end + 1) bytes → rest ≡ drop (end + 1) bytes
+pub within_end : (bytes : List ℕ) (end : ℕ) (text : Bor (List ℕ)) (rest : List ℕ) → Within bytes end → EndsText (drop end bytes)
+    → text.now ≡ take (end + 1) bytes → rest ≡ drop (end + 1) bytes
     → Splits (lexed Inside (drop 1 bytes)) (length bytes) (shown.Quoted text) rest
 within_end bytes end text rest w e front back = record {
   first = Quoted w.said;

@@ -22,7 +22,8 @@ pub tuple_fails : (old : Reader) (e : Refusal) → Fails values_in_parentheses o
 unfolding tuple
 tuple_fails old e h = h
 
-pub tuple_given : (old new : Reader) (before after row : List Value) → before ≡ [] → GivesItems values_in_parentheses (flat_map only_literal) old new before after
+pub tuple_given : (old new : Reader) (before after row : List Value) → before ≡ []
+    → GivesItems values_in_parentheses (flat_map only_literal) old new before after
     → row ≡ after → Gives tuple (λ values. values) old new row
 unfolding tuple
 tuple_given old new before after row none g same =

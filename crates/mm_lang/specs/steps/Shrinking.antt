@@ -17,7 +17,8 @@ one_never_longer says ts x us e = let p = one_parts says ts x us e in omega (ari
 say_never_longer : {A : Type 0} (y : A) → NeverLonger (say y)
 say_never_longer y ts x us e = let p = said_same y x ts us e in omega (arith, ap length p.1)
 
-then_never_longer : {A B : Type 0} (first : Phrase A) (next : A → Phrase B) → NeverLonger first → ((x : A) → NeverLonger (next x)) → NeverLonger (first >>= next)
+then_never_longer : {A B : Type 0} (first : Phrase A) (next : A → Phrase B) → NeverLonger first → ((x : A) → NeverLonger (next x))
+    → NeverLonger (first >>= next)
 then_never_longer first next h k ts y us e = let p = then_parts first next ts y us e in omega (arith, h ts p.0 p.1 p.2, k p.0 p.1 y us p.3)
 
 optional_never_longer : {A : Type 0} (absent : A) (phrase : Phrase A) → NeverLonger phrase → NeverLonger (optional absent phrase)
@@ -53,7 +54,8 @@ parentheses_never_longer phrase h =
 
 pub tuple_never_longer : NeverLonger tuple
 unfolding tuple
-tuple_never_longer = parentheses_never_longer (comma_list (one literal_of)) (list_never_longer (the_symbol Comma) (one literal_of) (one_never_longer _) (one_never_longer _))
+tuple_never_longer =
+    parentheses_never_longer (comma_list (one literal_of)) (list_never_longer (the_symbol Comma) (one literal_of) (one_never_longer _) (one_never_longer _))
 
 pub column_never_longer : NeverLonger column
 unfolding column

@@ -14,5 +14,6 @@ returns-in_err-read_list c =
 
 pub returns : goal.returns
 returns c =
-    insert_given c.args.reader.now c.name.new.self c.read_list.new.reader c.in_ok-table.table c.new-tuples.result.items c.read_list.new.items.items c.new-tuples-2.result
+    insert_given c.args.reader.now c.name.new.self c.read_list.new.reader c.in_ok-table.table c.new-tuples.result.items c.read_list.new.items.items
+    c.new-tuples-2.result
     c.in_ok-table.ensures c.new-tuples.ensures.items c.in_ok-read_list.ensures c.new-tuples-2.ensures

@@ -16,10 +16,13 @@ returns-in_err-read_in_parentheses c =
 
 pub returns-in_default : goal.returns-in_default
 returns-in_default c =
-    table_keys c.args.reader.now c.name.new.self c.read_in_parentheses.new.reader c.in_ok-name.name c.new-items.result.items c.read_in_parentheses.new.items.items
+    table_keys c.args.reader.now c.name.new.self c.read_in_parentheses.new.reader c.in_ok-name.name c.new-items.result.items
+    c.read_in_parentheses.new.items.items
     c.in_ok-name.ensures c.new-items.ensures.items c.in_ok-read_in_parentheses.ensures (λ one. false≢true (c.in_default.ensures.variant.1 one))
 
 pub returns : goal.returns
 returns c =
-    table_given c.args.reader.now c.name.new.self c.read_in_parentheses.new.reader c.in_ok-name.name c.new-items.result.items c.read_in_parentheses.new.items.items
-    c.in_ok-name.ensures c.new-items.ensures.items c.in_ok-read_in_parentheses.ensures c.in-Some.columns c.in-Some.ensures.value (c.in-Some.ensures.variant.0 refl)
+    table_given c.args.reader.now c.name.new.self c.read_in_parentheses.new.reader c.in_ok-name.name c.new-items.result.items
+    c.read_in_parentheses.new.items.items
+    c.in_ok-name.ensures c.new-items.ensures.items c.in_ok-read_in_parentheses.ensures c.in-Some.columns c.in-Some.ensures.value
+    (c.in-Some.ensures.variant.0 refl)

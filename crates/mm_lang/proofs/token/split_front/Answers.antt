@@ -8,8 +8,10 @@ returns-then-bytes-eq39 c =
 
 pub returns-then-not-is_word_byte : goal.returns-then-not-is_word_byte
 returns-then-not-is_word_byte c =
-    splits_symbol c.args.bytes.now c.split_symbol.result.0 c.split_symbol.result.1.now c.requires.nonempty c.requires.visible c.if-bytes-eq39.false (sym c.is_word_byte.ensures ∙ c.if-not-is_word_byte.true) c.split_symbol.ensures
+    splits_symbol c.args.bytes.now c.split_symbol.result.0 c.split_symbol.result.1.now c.requires.nonempty c.requires.visible c.if-bytes-eq39.false
+    (sym c.is_word_byte.ensures ∙ c.if-not-is_word_byte.true) c.split_symbol.ensures
 
 pub returns : goal.returns
 returns c =
-    splits_word c.args.bytes.now c.split_at.result.0 c.split_at.result.1.now c.word_len.result (sym c.is_word_byte.ensures ∙ c.if-not-is_word_byte.false) c.word_len.ensures.run c.requires.nonempty c.split_at.ensures.front c.split_at.ensures.back
+    splits_word c.args.bytes.now c.split_at.result.0 c.split_at.result.1.now c.word_len.result
+    (sym c.is_word_byte.ensures ∙ c.if-not-is_word_byte.false) c.word_len.ensures.run c.requires.nonempty c.split_at.ensures.front c.split_at.ensures.back

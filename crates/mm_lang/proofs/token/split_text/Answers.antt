@@ -13,7 +13,8 @@ loop-len-preserved c =
 pub returns-in-End : goal.returns-in-End
 returns-in-End c =
     let bytes = c.args.bytes.now in
-    within_end bytes c.loop-len.end c.split_at.result.0 c.split_at.result.1.now c.loop-len.invariant (rw (take_rest bytes c.loop-len.end) at c.in-End.ensures) c.split_at.ensures.front c.split_at.ensures.back
+    within_end bytes c.loop-len.end c.split_at.result.0 c.split_at.result.1.now c.loop-len.invariant
+    (rw (take_rest bytes c.loop-len.end) at c.in-End.ensures) c.split_at.ensures.front c.split_at.ensures.back
 
 pub returns-in-Fault : goal.returns-in-Fault
 returns-in-Fault c =

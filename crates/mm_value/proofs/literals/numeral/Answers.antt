@@ -6,7 +6,8 @@ use Rattle.mm_value.proofs.literals.numeral.Goals as goal
 
 pub returns-then-not-is_ascii_digit : goal.returns-then-not-is_ascii_digit
 returns-then-not-is_ascii_digit c h =
-    AllDigits-other c.args.digits.now c.loop-digit.digit-index c.loop-digit-test.true c.if-not-is_ascii_digit.ensures.cases (numeral_parts c.args.digits.now h).1
+    AllDigits-other c.args.digits.now c.loop-digit.digit-index c.loop-digit-test.true c.if-not-is_ascii_digit.ensures.cases
+    (numeral_parts c.args.digits.now h).1
 
 pub loop-digit-preserved : goal.loop-digit-preserved
 loop-digit-preserved c =
@@ -19,7 +20,8 @@ loop-digit-preserved c =
 pub returns : goal.returns
 returns c =
     let so_far = c.loop-digit.invariant in
-    let all : take c.loop-digit.digit-index c.args.digits.now ≡ c.args.digits.now = take_all c.loop-digit.digit-index c.args.digits.now c.loop-digit-test.false in (
+    let all : take c.loop-digit.digit-index c.args.digits.now ≡ c.args.digits.now = take_all c.loop-digit.digit-index c.args.digits.now
+    c.loop-digit-test.false in (
       numeral_from c.args.digits.now so_far.0 (subst (AllDigits 10) all so_far.1),
       so_far.2 ∙ ap (λ ds. min (digits_value 10 ds) (2 ^ 64 - 1)) all,
     )
