@@ -13,15 +13,27 @@ height_at_most_nodes (Fork left entries right) = omega (arith, height_at_most_no
 pub entries_at_most : (t : Tree) → IsTTree t → length (in_order t) ≤ 16 * node_count t
 entries_at_most Empty is = omega arith
 entries_at_most (Fork left entries right) is =
-    omega (arith, entries_at_most left is.0, entries_at_most right is.1, is.2.fits, length-append (in_order left ++ entries) (in_order right),
-    length-append (in_order left) entries)
+    omega (
+      arith,
+      entries_at_most left is.0,
+      entries_at_most right is.1,
+      is.2.fits,
+      length-append (in_order left ++ entries) (in_order right),
+      length-append (in_order left) entries,
+    )
 
 -- at least one entry for each node
 pub nodes_at_most : (t : Tree) → IsTTree t → node_count t ≤ length (in_order t)
 nodes_at_most Empty is = omega arith
 nodes_at_most (Fork left entries right) is =
-    omega (arith, nodes_at_most left is.0, nodes_at_most right is.1, is.2.filled, length-append (in_order left ++ entries) (in_order right),
-    length-append (in_order left) entries)
+    omega (
+      arith,
+      nodes_at_most left is.0,
+      nodes_at_most right is.1,
+      is.2.filled,
+      length-append (in_order left ++ entries) (in_order right),
+      length-append (in_order left) entries,
+    )
 
 -- the fewest nodes of a balanced tree of height h, and of height h + 1: one more than those of the two heights before
 abbrev pub fewest : ℕ → ℕ × ℕ

@@ -72,7 +72,7 @@ module _ (Covers : RowRef → Type 0) (cmp : RowRef → RowRef → Ordering) (Re
       let zero_is : at ≡ 0 = omega arith in
       let there : place (get_or (drop at middle) 0 d) ≡ Greater = after 0 d (omega (arith, length-drop at middle)) in
       absurd (first (ap place (ap (λ n. get_or middle n d) (let e : 0 ≡ at + 0 = omega arith in e) ∙ sym (get_or-drop at middle 0 d)) ∙ there)))
-          (cases_lt 0 at) in
+      (cases_lt 0 at) in
       let greatest : (at < length middle) = ⊎_elim (λ (h : at < length middle). h) (λ (h : length middle ≤ at).
       let there : place (get_or (take at middle) (length middle - 1) d) ≡ Less = before (length middle - 1) d (omega (arith, length-take at middle)) in
       absurd (last (ap place (sym (get_or-take at middle (length middle - 1) d (omega arith))) ∙ there))) (cases_lt at (length middle)) in

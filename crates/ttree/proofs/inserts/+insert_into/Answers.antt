@@ -42,9 +42,19 @@ insert_into-requires g t c κs within =
     let was : IsOrdered (g.O.RefOrder.covers c.args.order.now) cmp (in_order n.left ++ n.entries ++ in_order n.right) = rw c.in-Some.is at c.requires.ordered in
     let apart : All P (in_order n.left ++ n.entries ++ in_order n.right) = rw c.in-Some.is at c.requires.apart in
     let ordered = IsOrdered-front _ _ (in_order n.left) n.entries (IsOrdered-front _ _ (in_order n.left ++ n.entries) (in_order n.right) was) in
-    let left_apart = All-append_left P (in_order n.left) n.entries (All-append_left P (in_order n.left ++ n.entries) (in_order n.right) apart) in
-    (search rules, (search rules, (search rules, (subst (IsOrdered (g.O.RefOrder.covers c.args.order.now) cmp) (sym is) ordered,
-    (search rules, (subst (All P) (sym is) left_apart, (search rules, search rules)))))))
+    let left_apart = All-append_left P (in_order n.left) n.entries (All-append_left P (in_order n.left ++ n.entries) (in_order n.right) apart) in (
+      search rules,
+      (
+        search rules,
+        (
+          search rules,
+          (
+            subst (IsOrdered (g.O.RefOrder.covers c.args.order.now) cmp) (sym is) ordered,
+            (search rules, (subst (All P) (sym is) left_apart, (search rules, search rules))),
+          ),
+        ),
+      ),
+    )
 
 pub returns-then-len-lt16-2-clause-adds : goal.returns-then-len-lt16-2-clause-adds
 returns-then-len-lt16-2-clause-adds g t c =
@@ -71,9 +81,19 @@ insert_into-requires-in-Greater g t c κs within =
     let was : IsOrdered (g.O.RefOrder.covers c.args.order.now) cmp (in_order n.left ++ n.entries ++ in_order n.right) = rw c.in-Some.is at c.requires.ordered in
     let apart : All P (in_order n.left ++ n.entries ++ in_order n.right) = rw c.in-Some.is at c.requires.apart in
     let ordered = IsOrdered-back _ _ (in_order n.left ++ n.entries) (in_order n.right) was in
-    let right_apart = All-append_right P (in_order n.left ++ n.entries) (in_order n.right) apart in
-    (search rules, (search rules, (search rules, (subst (IsOrdered (g.O.RefOrder.covers c.args.order.now) cmp) (sym is) ordered,
-    (search rules, (subst (All P) (sym is) right_apart, (search rules, search rules)))))))
+    let right_apart = All-append_right P (in_order n.left ++ n.entries) (in_order n.right) apart in (
+      search rules,
+      (
+        search rules,
+        (
+          search rules,
+          (
+            subst (IsOrdered (g.O.RefOrder.covers c.args.order.now) cmp) (sym is) ordered,
+            (search rules, (subst (All P) (sym is) right_apart, (search rules, search rules))),
+          ),
+        ),
+      ),
+    )
 
 pub returns-else-is_none-clause-adds : goal.returns-else-is_none-clause-adds
 returns-else-is_none-clause-adds g t c =

@@ -44,9 +44,9 @@ returns-then-is_gt-clause-ok g c =
 pub copy_fitting-requires-clause-low : goal.copy_fitting-requires-clause-low
 copy_fitting-requires-clause-low g c =
     subst (λ (xs : List RowRef). All (g.L.Probe.covers c.args.low.now) xs) (sym c.entries-entries.ensures.value)
-        (reached _ _ _ _ c.args.node.now c.requires.low)
+    (reached _ _ _ _ c.args.node.now c.requires.low)
 
 pub copy_fitting-requires-clause-high : goal.copy_fitting-requires-clause-high
 copy_fitting-requires-clause-high g c =
     subst (λ (xs : List RowRef). All (g.H.Probe.covers c.args.high.now) xs) (sym c.entries-entries.ensures.value)
-        (reached _ _ _ _ c.args.node.now c.requires.high)
+    (reached _ _ _ _ c.args.node.now c.requires.high)

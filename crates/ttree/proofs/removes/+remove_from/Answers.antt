@@ -25,9 +25,19 @@ remove_from-left-requires g t c κs within =
     let cmp : RowRef → RowRef → Ordering = g.O.RefOrder.cmp c.args.order.now in
     let is : in_order (tree_of c.take_left-left.result) ≡ in_order n.left = search rules in
     let was : IsOrdered (g.O.RefOrder.covers c.args.order.now) cmp (in_order n.left ++ n.entries ++ in_order n.right) = rw c.in-Some.is at c.requires.ordered in
-    let ordered = IsOrdered-front _ _ (in_order n.left) n.entries (IsOrdered-front _ _ (in_order n.left ++ n.entries) (in_order n.right) was) in
-    (search rules, (search rules, (search rules, (subst (IsOrdered (g.O.RefOrder.covers c.args.order.now) cmp) (sym is) ordered,
-    (search rules, (search rules, search rules))))))
+    let ordered = IsOrdered-front _ _ (in_order n.left) n.entries (IsOrdered-front _ _ (in_order n.left ++ n.entries) (in_order n.right) was) in (
+      search rules,
+      (
+        search rules,
+        (
+          search rules,
+          (
+            subst (IsOrdered (g.O.RefOrder.covers c.args.order.now) cmp) (sym is) ordered,
+            (search rules, (search rules, search rules)),
+          ),
+        ),
+      ),
+    )
 
 pub remove_from-right-requires : goal.remove_from-right-requires
 remove_from-right-requires g t c κs within =
@@ -35,9 +45,19 @@ remove_from-right-requires g t c κs within =
     let cmp : RowRef → RowRef → Ordering = g.O.RefOrder.cmp c.args.order.now in
     let is : in_order (tree_of c.take_right-right.result) ≡ in_order n.right = search rules in
     let was : IsOrdered (g.O.RefOrder.covers c.args.order.now) cmp (in_order n.left ++ n.entries ++ in_order n.right) = rw c.in-Some.is at c.requires.ordered in
-    let ordered = IsOrdered-back _ _ (in_order n.left ++ n.entries) (in_order n.right) was in
-    (search rules, (search rules, (search rules, (subst (IsOrdered (g.O.RefOrder.covers c.args.order.now) cmp) (sym is) ordered,
-    (search rules, (search rules, search rules))))))
+    let ordered = IsOrdered-back _ _ (in_order n.left ++ n.entries) (in_order n.right) was in (
+      search rules,
+      (
+        search rules,
+        (
+          search rules,
+          (
+            subst (IsOrdered (g.O.RefOrder.covers c.args.order.now) cmp) (sym is) ordered,
+            (search rules, (search rules, search rules)),
+          ),
+        ),
+      ),
+    )
 
 pub find_held-requires-clause-ordered : goal.find_held-requires-clause-ordered
 find_held-requires-clause-ordered g t c =
@@ -121,8 +141,11 @@ returns-in-Some-find_held-clause-held g t c =
     let whole : in_order (tree_of c.args.tree) ≡ in_order n.left ++ n.entries ++ in_order n.right = search rules in
     let inside : c.in-Some-find_held.i < length n.entries = omega (arith, ap length c.entries.ensures.value, c.in-Some-find_held.ensures.in_bounds) in
     let found : slice_get n.entries c.in-Some-find_held.i ≡ Some c.args.gone = rw c.entries.ensures.value at c.in-Some-find_held.ensures.found in
-    let held : Contains n.entries c.args.gone = (c.in-Some-find_held.i, inside,
-    get_or_from_slice_get n.entries c.in-Some-find_held.i c.args.gone c.args.gone found) in (
+    let held : Contains n.entries c.args.gone = (
+      c.in-Some-find_held.i,
+      inside,
+      get_or_from_slice_get n.entries c.in-Some-find_held.i c.args.gone c.args.gone found,
+    ) in (
       λ _. subst (λ xs. Contains xs c.args.gone) (sym whole)
           (Contains-append_left (in_order n.left ++ n.entries) (in_order n.right) c.args.gone
           (Contains-append_right (in_order n.left) n.entries c.args.gone held)),

@@ -27,4 +27,4 @@ pub insert-requires-clause-apart : goal.insert-requires-clause-apart
 insert-requires-clause-apart g c k d below same =
     let kept : g.R.OrderedRefs.refs c.reserve.new.self ≡ g.R.OrderedRefs.refs c.args.refs.now = c.reserve.ensures.refs ∙ c.if-remove.ensures.absent in
     not_among (g.R.OrderedRefs.refs c.reserve.new.self) c.args.toggled
-        (λ here. let there = c.if-remove.ensures.held.1 (subst (λ xs. Contains xs c.args.toggled) kept here) in (cc)) k d below same
+    (λ here. let there = c.if-remove.ensures.held.1 (subst (λ xs. Contains xs c.args.toggled) kept here) in (cc)) k d below same
