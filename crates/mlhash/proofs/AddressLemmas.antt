@@ -49,10 +49,11 @@ low_below l h = mod_below h (4 * 2 ^ l) (omega (arith, pow_pos l))
 
 pub bucket_below : (p : Place) (h : ℕ) → bucket_of p h < 4 * 2 ^ p.level + p.split
 bucket_below p h =
-    elim (cases_lt (h % (4 * 2 ^ p.level)) p.split)
-        [ inl lt ↦ (let e = bucket_split p h lt in elim (mod_double p.level h)
-        [ inl d ↦ omega (arith, e, d, low_below p.level h) | inr d ↦ omega (arith, e, d, lt) ]) |
-        inr le ↦ omega (arith, bucket_whole p h le, low_below p.level h) ]
+    elim (cases_lt (h % (4 * 2 ^ p.level)) p.split) [
+      | inl lt ↦ (let e = bucket_split p h lt in elim (mod_double p.level h)
+          [ inl d ↦ omega (arith, e, d, low_below p.level h) | inr d ↦ omega (arith, e, d, lt) ])
+      | inr le ↦ omega (arith, bucket_whole p h le, low_below p.level h)
+    ]
 
 pub place_after-wraps : (p : Place) → p.split + 1 ≡ 4 * 2 ^ p.level → place_after p ≡ record { level = p.level + 1; split = 0 }
 place_after-wraps p e = cond-true _ _ _ (eq-eqb _ _ e)
@@ -63,58 +64,67 @@ place_after-steps p ne = cond-false _ _ _ (ne_eqb _ _ ne)
 -- the places count the buckets
 pub place_after-size : (p : Place) → 4 * 2 ^ (place_after p).level + (place_after p).split ≡ 4 * 2 ^ p.level + p.split + 1
 place_after-size p =
-    elim (cases_eq (p.split + 1) (4 * 2 ^ p.level))
-    [ inl e ↦ subst (λ (q : Place). 4 * 2 ^ q.level + q.split ≡ 4 * 2 ^ p.level + p.split + 1) (sym (place_after-wraps p e))
-    (omega (arith, e, pow-add 2 p.level 1)) | inr ne ↦ subst (λ (q : Place). 4 * 2 ^ q.level + q.split ≡ 4 * 2 ^ p.level + p.split + 1)
-    (sym (place_after-steps p ne)) (omega arith) ]
+    elim (cases_eq (p.split + 1) (4 * 2 ^ p.level)) [
+      | inl e ↦ subst (λ (q : Place). 4 * 2 ^ q.level + q.split ≡ 4 * 2 ^ p.level + p.split + 1) (sym (place_after-wraps p e))
+          (omega (arith, e, pow-add 2 p.level 1))
+      | inr ne ↦ subst (λ (q : Place). 4 * 2 ^ q.level + q.split ≡ 4 * 2 ^ p.level + p.split + 1)
+          (sym (place_after-steps p ne)) (omega arith)
+    ]
 
 pub place_after-split : (p : Place) → p.split < 4 * 2 ^ p.level → (place_after p).split < 4 * 2 ^ (place_after p).level
 place_after-split p lt =
-    elim (cases_eq (p.split + 1) (4 * 2 ^ p.level))
-    [ inl e ↦ subst (λ (q : Place). q.split < 4 * 2 ^ q.level) (sym (place_after-wraps p e)) (omega (arith, pow_pos (p.level + 1))) |
-    inr ne ↦ subst (λ (q : Place). q.split < 4 * 2 ^ q.level) (sym (place_after-steps p ne)) (omega (arith, lt, ne)) ]
+    elim (cases_eq (p.split + 1) (4 * 2 ^ p.level)) [
+      | inl e ↦ subst (λ (q : Place). q.split < 4 * 2 ^ q.level) (sym (place_after-wraps p e)) (omega (arith, pow_pos (p.level + 1)))
+      | inr ne ↦ subst (λ (q : Place). q.split < 4 * 2 ^ q.level) (sym (place_after-steps p ne)) (omega (arith, lt, ne))
+    ]
 
 next_level : (l h : ℕ) → bucket_of (record { level = l + 1; split = 0 }) h ≡ h % (8 * 2 ^ l)
 next_level l h =
     bucket_whole (record { level = l + 1; split = 0 }) h (omega arith) ∙ ap (λ m. h % m)
-        (let e : 4 * 2 ^ (l + 1) ≡ 8 * 2 ^ l = omega (arith, pow-add 2 l 1) in e)
+    (let e : 4 * 2 ^ (l + 1) ≡ 8 * 2 ^ l = omega (arith, pow-add 2 l 1) in e)
 
 -- a hash of the bucket to split has it as its remainder
 low_at_split : (p : Place) (h : ℕ) → p.split < 4 * 2 ^ p.level → bucket_of p h ≡ p.split → h % (4 * 2 ^ p.level) ≡ p.split
 low_at_split p h lt e =
-    elim (cases_lt (h % (4 * 2 ^ p.level)) p.split)
-        [ inl small ↦ absurd (let b = bucket_split p h small in elim (mod_double p.level h)
-        [ inl d ↦ omega (arith, b, d, e, small) | inr d ↦ omega (arith, b, d, e, lt) ]) | inr le ↦ sym (bucket_whole p h le) ∙ e ]
+    elim (cases_lt (h % (4 * 2 ^ p.level)) p.split) [
+      | inl small ↦ absurd (let b = bucket_split p h small in elim (mod_double p.level h)
+          [ inl d ↦ omega (arith, b, d, e, small) | inr d ↦ omega (arith, b, d, e, lt) ])
+      | inr le ↦ sym (bucket_whole p h le) ∙ e
+    ]
 
 -- past a split its bucket's hashes have the remainder by twice the size
 pub after_split : (p : Place) (h : ℕ) → p.split < 4 * 2 ^ p.level → bucket_of p h ≡ p.split → bucket_of (place_after p) h ≡ h % (8 * 2 ^ p.level)
 after_split p h lt e =
     let low = low_at_split p h lt e in
-    elim (cases_eq (p.split + 1) (4 * 2 ^ p.level))
-        [ inl w ↦ subst (λ (q : Place). bucket_of q h ≡ h % (8 * 2 ^ p.level)) (sym (place_after-wraps p w)) (next_level p.level h) |
-        inr nw ↦ subst (λ (q : Place). bucket_of q h ≡ h % (8 * 2 ^ p.level)) (sym (place_after-steps p nw))
-        (bucket_split (record { level = p.level; split = p.split + 1 }) h (omega (arith, low))) ]
+    elim (cases_eq (p.split + 1) (4 * 2 ^ p.level)) [
+      | inl w ↦ subst (λ (q : Place). bucket_of q h ≡ h % (8 * 2 ^ p.level)) (sym (place_after-wraps p w)) (next_level p.level h)
+      | inr nw ↦ subst (λ (q : Place). bucket_of q h ≡ h % (8 * 2 ^ p.level)) (sym (place_after-steps p nw))
+          (bucket_split (record { level = p.level; split = p.split + 1 }) h (omega (arith, low)))
+    ]
 
 other_wraps : (p : Place) (h : ℕ) → p.split + 1 ≡ 4 * 2 ^ p.level → (bucket_of p h ≡ p.split → ⊥) → h % (8 * 2 ^ p.level) ≡ bucket_of p h
 other_wraps p h w ne =
-    elim (cases_lt (h % (4 * 2 ^ p.level)) p.split)
-        [ inl small ↦ sym (bucket_split p h small) |
-        inr le ↦ absurd (let b = bucket_whole p h le in let ne' : bucket_of p h ≢ p.split = ne in omega (arith, b, w, ne', low_below p.level h, le)) ]
+    elim (cases_lt (h % (4 * 2 ^ p.level)) p.split) [
+      | inl small ↦ sym (bucket_split p h small)
+      | inr le ↦ absurd (let b = bucket_whole p h le in let ne' : bucket_of p h ≢ p.split = ne in omega (arith, b, w, ne', low_below p.level h, le))
+    ]
 
 other_steps : (p : Place) (h : ℕ) → (bucket_of p h ≡ p.split → ⊥) → bucket_of (record { level = p.level; split = p.split + 1 }) h ≡ bucket_of p h
 other_steps p h ne =
     let q : Place = record { level = p.level; split = p.split + 1 } in
-    elim (cases_lt (h % (4 * 2 ^ p.level)) p.split)
-        [ inl small ↦ bucket_split q h (omega (arith, small)) ∙ sym (bucket_split p h small) |
-        inr le ↦ (let b = bucket_whole p h le in let ne' : h % (4 * 2 ^ p.level) ≢ p.split = λ e. ne (b ∙ e) in bucket_whole q h
-        (omega (arith, ne', le)) ∙ sym b) ]
+    elim (cases_lt (h % (4 * 2 ^ p.level)) p.split) [
+      | inl small ↦ bucket_split q h (omega (arith, small)) ∙ sym (bucket_split p h small)
+      | inr le ↦ (let b = bucket_whole p h le in let ne' : h % (4 * 2 ^ p.level) ≢ p.split = λ e. ne (b ∙ e) in bucket_whole q h
+          (omega (arith, ne', le)) ∙ sym b)
+    ]
 
 -- and all others keep their bucket
 pub after_other : (p : Place) (h : ℕ) → p.split < 4 * 2 ^ p.level → (bucket_of p h ≡ p.split → ⊥) → bucket_of (place_after p) h ≡ bucket_of p h
 after_other p h lt ne =
-    elim (cases_eq (p.split + 1) (4 * 2 ^ p.level))
-    [ inl w ↦ subst (λ (q : Place). bucket_of q h ≡ bucket_of p h) (sym (place_after-wraps p w)) (next_level p.level h ∙ other_wraps p h w ne) |
-    inr nw ↦ subst (λ (q : Place). bucket_of q h ≡ bucket_of p h) (sym (place_after-steps p nw)) (other_steps p h ne) ]
+    elim (cases_eq (p.split + 1) (4 * 2 ^ p.level)) [
+      | inl w ↦ subst (λ (q : Place). bucket_of q h ≡ bucket_of p h) (sym (place_after-wraps p w)) (next_level p.level h ∙ other_wraps p h w ne)
+      | inr nw ↦ subst (λ (q : Place). bucket_of q h ≡ bucket_of p h) (sym (place_after-steps p nw)) (other_steps p h ne)
+    ]
 
 -- the two buckets of a split
 pub split_in_two : (p : Place) (h : ℕ) → p.split < 4 * 2 ^ p.level → bucket_of p h ≡ p.split
@@ -128,14 +138,15 @@ pub before_in : (p : Place) (h : ℕ) → p.split < 4 * 2 ^ p.level
     → (bucket_of (place_after p) h ≡ p.split) ⊎ (bucket_of (place_after p) h ≡ 4 * 2 ^ p.level + p.split) → bucket_of p h ≡ p.split
 before_in p h lt d =
     elim (cases_eq (bucket_of p h) p.split)
-        [ inl e ↦ e | inr ne ↦ absurd (let o = after_other p h lt ne in elim d [ inl f ↦ ne (sym o ∙ f) | inr f ↦ omega (arith, o, f, bucket_below p h) ]) ]
+    [ inl e ↦ e | inr ne ↦ absurd (let o = after_other p h lt ne in elim d [ inl f ↦ ne (sym o ∙ f) | inr f ↦ omega (arith, o, f, bucket_below p h) ]) ]
 
 pub before_other : (p : Place) (h : ℕ) → p.split < 4 * 2 ^ p.level → (bucket_of (place_after p) h ≡ p.split → ⊥)
     → (bucket_of (place_after p) h ≡ 4 * 2 ^ p.level + p.split → ⊥) → bucket_of p h ≡ bucket_of (place_after p) h
 before_other p h lt one two =
-    elim (cases_eq (bucket_of p h) p.split)
-        [ inl e ↦ absurd (let a = after_split p h lt e in elim (split_in_two p h lt e) [ inl f ↦ one (a ∙ f) | inr f ↦ two (a ∙ f) ]) |
-        inr ne ↦ sym (after_other p h lt ne) ]
+    elim (cases_eq (bucket_of p h) p.split) [
+      | inl e ↦ absurd (let a = after_split p h lt e in elim (split_in_two p h lt e) [ inl f ↦ one (a ∙ f) | inr f ↦ two (a ∙ f) ])
+      | inr ne ↦ sym (after_other p h lt ne)
+    ]
 
 pub level_small : (l : ℕ) → 4 * 2 ^ l ≤ 2 ^ 31 → l < 32
 level_small l le =

@@ -25,9 +25,11 @@ module _ (q : Node → Bool) where
   filter-set_out (m ∷ ns) (suc i) n below was is =
       let rest : IsPermutation (filter q ns) (node_at ns i ∷ filter q (set ns i n)) = filter-set_out ns i n (omega arith) was is in
       elim (q m) as (λ b. IsPermutation (cond b (m ∷ filter q ns) (filter q ns))
-      (node_at ns i ∷ cond b (m ∷ filter q (set ns i n)) (filter q (set ns i n))))
-      [ true ↦ IsPermutation-trans _ _ _ (IsPermutation-cons m _ _ rest)
-      (IsPermutation-sym _ _ (IsPermutation-middle (node_at ns i ∷ []) m (filter q (set ns i n)))) | false ↦ rest ]
+      (node_at ns i ∷ cond b (m ∷ filter q (set ns i n)) (filter q (set ns i n)))) [
+        | true ↦ IsPermutation-trans _ _ _ (IsPermutation-cons m _ _ rest)
+            (IsPermutation-sym _ _ (IsPermutation-middle (node_at ns i ∷ []) m (filter q (set ns i n))))
+        | false ↦ rest
+      ]
 
   -- a node that fails the test comes in the place of another
   pub filter-set_none : (ns : List Node) (i : ℕ) (n : Node) → i < length ns → q (node_at ns i) ≡ false → q n ≡ false → filter q (set ns i n) ≡ filter q ns
@@ -68,15 +70,17 @@ module _ (q : Node → Bool) where
       let size : length ms ≡ length ns = length-set ns i blank in
       let step : IsPermutation (filter q (map (node_at ms) is)) (filter q ms) = filter_places void is ms distinct.1
       (λ j a. let b : j < length ns = below j (inr a) in omega (arith, size, b))
-      (λ j lt t. elim (cases_eq j i)
-      [ inl e ↦ absurd (false≢true (sym void ∙ ap q (sym at_i) ∙ ap (λ k. q (node_at ms k)) (sym e) ∙ t)) |
-      inr ne ↦ elim (every j (omega (arith, size, lt)) (ap q (sym (get_or-set_other ns i j blank blank ne)) ∙ t)) [ inl e ↦ absurd (ne e) | inr a ↦ a ] ]) in
+      (λ j lt t. elim (cases_eq j i) [
+        | inl e ↦ absurd (false≢true (sym void ∙ ap q (sym at_i) ∙ ap (λ k. q (node_at ms k)) (sym e) ∙ t))
+        | inr ne ↦ elim (every j (omega (arith, size, lt)) (ap q (sym (get_or-set_other ns i j blank blank ne)) ∙ t)) [ inl e ↦ absurd (ne e) | inr a ↦ a ]
+      ]) in
       let kept : IsPermutation rest (filter q ms) = subst (λ xs. IsPermutation (filter q xs) (filter q ms)) (map_other ns i blank is distinct.0) step in
-      elim (cases_Bool (q n))
-      [ inl t ↦ subst (λ xs. IsPermutation xs (filter q ns)) (sym (cond-true (q n) (n ∷ rest) rest t))
-      (IsPermutation-trans _ _ _ (IsPermutation-cons n rest (filter q ms) kept) (IsPermutation-sym _ _ (filter-set_out ns i blank inside t void))) |
-      inr f ↦ subst (λ xs. IsPermutation xs (filter q ns)) (sym (cond-false (q n) (n ∷ rest) rest f))
-      (subst (λ xs. IsPermutation rest xs) (filter-set_none ns i blank inside f void) kept) ]
+      elim (cases_Bool (q n)) [
+        | inl t ↦ subst (λ xs. IsPermutation xs (filter q ns)) (sym (cond-true (q n) (n ∷ rest) rest t))
+            (IsPermutation-trans _ _ _ (IsPermutation-cons n rest (filter q ms) kept) (IsPermutation-sym _ _ (filter-set_out ns i blank inside t void)))
+        | inr f ↦ subst (λ xs. IsPermutation xs (filter q ns)) (sym (cond-false (q n) (n ∷ rest) rest f))
+            (subst (λ xs. IsPermutation rest xs) (filter-set_none ns i blank inside f void) kept)
+      ]
 
 -- the tests
 abbrev pub is_live : Node → Bool
@@ -117,10 +121,12 @@ none_held : (ns : List Node) (e : ℕ × RowRef) → ((i : ℕ) → i < length n
 none_held [] e none = All-nil (λ x. x ≡ e → ⊥)
 none_held (n ∷ ns) e none =
     let rest = none_held ns e (λ i below. none (suc i) (omega arith)) in
-    elim (cases_Bool n.live)
-    [ inl t ↦ All-same (λ x. x ≡ e → ⊥) _ _ (ap (map pair_of) (cond-true n.live (n ∷ filter is_live ns) (filter is_live ns) t))
-    (All-cons (λ x. x ≡ e → ⊥) (pair_of n) (entries ns) (none 0 (omega arith) t) rest) | inr f ↦ All-same (λ x. x ≡ e → ⊥) _ _
-    (ap (map pair_of) (cond-false n.live (n ∷ filter is_live ns) (filter is_live ns) f)) rest ]
+    elim (cases_Bool n.live) [
+      | inl t ↦ All-same (λ x. x ≡ e → ⊥) _ _ (ap (map pair_of) (cond-true n.live (n ∷ filter is_live ns) (filter is_live ns) t))
+          (All-cons (λ x. x ≡ e → ⊥) (pair_of n) (entries ns) (none 0 (omega arith) t) rest)
+      | inr f ↦ All-same (λ x. x ≡ e → ⊥) _ _
+          (ap (map pair_of) (cond-false n.live (n ∷ filter is_live ns) (filter is_live ns) f)) rest
+    ]
 
 pub not_held : (ns : List Node) (e : ℕ × RowRef) → ((i : ℕ) → i < length ns → (node_at ns i).live ≡ true → pair_of (node_at ns i) ≡ e → ⊥)
     → Contains (entries ns) e → ⊥
@@ -154,10 +160,12 @@ refs_of-entries hash [] = refl
 refs_of-entries hash (n ∷ ns) =
     let rest = refs_of-entries hash ns in
     elim n.live as (λ b. refs_of hash (map pair_of (cond b (n ∷ filter is_live ns) (filter is_live ns))) ≡ map row_of
-    (cond (b && eqb n.hash hash) (n ∷ filter (is_match hash) ns) (filter (is_match hash) ns)))
-    [ true ↦ elim (eqb n.hash hash) as (λ b. map (λ (e : ℕ × RowRef). e.1)
-    (cond b (pair_of n ∷ filter (λ (e : ℕ × RowRef). eqb e.0 hash) (entries ns)) (filter (λ (e : ℕ × RowRef). eqb e.0 hash) (entries ns))) ≡ map
-    row_of (cond b (n ∷ filter (is_match hash) ns) (filter (is_match hash) ns))) [ true ↦ ap (λ rs. row_of n ∷ rs) rest | false ↦ rest ] | false ↦ rest ]
+    (cond (b && eqb n.hash hash) (n ∷ filter (is_match hash) ns) (filter (is_match hash) ns))) [
+      | true ↦ elim (eqb n.hash hash) as (λ b. map (λ (e : ℕ × RowRef). e.1)
+          (cond b (pair_of n ∷ filter (λ (e : ℕ × RowRef). eqb e.0 hash) (entries ns)) (filter (λ (e : ℕ × RowRef). eqb e.0 hash) (entries ns))) ≡ map
+          row_of (cond b (n ∷ filter (is_match hash) ns) (filter (is_match hash) ns))) [ true ↦ ap (λ rs. row_of n ∷ rs) rest | false ↦ rest ]
+      | false ↦ rest
+    ]
 
 pub live_matches : (hash : ℕ) (ns : List Node) (is : List ℕ) → ((i : ℕ) → Among i is → (node_at ns i).live ≡ true)
     → filter (λ n. eqb n.hash hash) (map (node_at ns) is) ≡ filter (is_match hash) (map (node_at ns) is)

@@ -141,8 +141,11 @@ keeps_frame ns ms head few same linked =
 pub keeps_set : (ns : List Node) (at : ℕ) (n : Node) (head : ℕ) → (Among at (chain ns head) → ⊥) → IsLinked ns head → Keeps ns (set ns at n) head
 keeps_set ns at n head apart linked =
     keeps_frame ns (set ns at n) head (omega (arith, length-set ns at n, linked.few))
-    (λ i a. (omega (arith, length-set ns at n, below_linked ns head linked i a), ap (λ m. m.next)
-    (get_or-set_other ns at i n blank (λ e. apart (subst (λ k. Among k (chain ns head)) e a))))) linked
+    (λ i a. (
+      omega (arith, length-set ns at n, below_linked ns head linked i a),
+      ap (λ m. m.next)
+          (get_or-set_other ns at i n blank (λ e. apart (subst (λ k. Among k (chain ns head)) e a))),
+    )) linked
 
 -- a node put in front of a chain
 pub record Fronts (ns ms : List Node) (head at : ℕ) : Type 0 where

@@ -14,11 +14,12 @@ among_along i is js e a = subst (λ ks. Among i ks) e a
 pub SameEntry-set : (ns : List Node) (at : ℕ) (n : Node) → SameEntry (node_at ns at) n → (i : ℕ) → at < length ns
     → SameEntry (node_at ns i) (node_at (set ns at n) i)
 SameEntry-set ns at n same i below =
-    elim (cases_eq i at)
-        [ inl e ↦ subst (λ k. SameEntry (node_at ns k) (node_at (set ns at n) k)) (sym e)
-        (subst (λ m. SameEntry (node_at ns at) m) (sym (get_or-set_same ns at n blank below)) same) |
-        inr ne ↦ subst (λ m. SameEntry (node_at ns i) m) (sym (get_or-set_other ns at i n blank ne))
-        (record { hash = refl; part = refl; slot = refl; live = refl }) ]
+    elim (cases_eq i at) [
+      | inl e ↦ subst (λ k. SameEntry (node_at ns k) (node_at (set ns at n) k)) (sym e)
+          (subst (λ m. SameEntry (node_at ns at) m) (sym (get_or-set_same ns at n blank below)) same)
+      | inr ne ↦ subst (λ m. SameEntry (node_at ns i) m) (sym (get_or-set_other ns at i n blank ne))
+          (record { hash = refl; part = refl; slot = refl; live = refl })
+    ]
 
 pub SameEntry-trans : (l m n : Node) → SameEntry l m → SameEntry m n → SameEntry l n
 SameEntry-trans l m n s t = record {
@@ -73,22 +74,27 @@ IsDealing-stay ns from mask stay onto ms at staying leaving on test s =
       staying_linked = fs.linked;
       leaving_linked = kl.linked;
       at_staying =
-          λ i a b. elim (among_along i _ _ fs.is b)
-          [ inl e ↦ t.fresh (subst (λ k. Among k (chain ms (node_at ms at).next)) e (among_along i _ _ kx.same a)) | inr c ↦ s.at_staying i
-          (among_along i _ _ (sym t.is) (inr (among_along i _ _ kx.same a))) c ];
+          λ i a b. elim (among_along i _ _ fs.is b) [
+            | inl e ↦ t.fresh (subst (λ k. Among k (chain ms (node_at ms at).next)) e (among_along i _ _ kx.same a))
+            | inr c ↦ s.at_staying i
+                (among_along i _ _ (sym t.is) (inr (among_along i _ _ kx.same a))) c
+          ];
       at_leaving =
           λ i a b. s.at_leaving i (among_along i _ _ (sym t.is) (inr (among_along i _ _ kx.same a))) (among_along i _ _ kl.same b);
       at_in = λ i a. s.at_in i (among_along i _ _ (sym t.is) (inr (among_along i _ _ kx.same a)));
       staying_in =
-          λ i a. elim (among_along i _ _ fs.is a)
-          [ inl e ↦ inr (subst (λ k. Among k (chain ns from) × (stays mask stay (node_at ns k) ≡ true)) (sym e) (s.at_in at here, test')) |
-          inr b ↦ s.staying_in i b ];
+          λ i a. elim (among_along i _ _ fs.is a) [
+            | inl e ↦ inr (subst (λ k. Among k (chain ns from) × (stays mask stay (node_at ns k) ≡ true)) (sym e) (s.at_in at here, test'))
+            | inr b ↦ s.staying_in i b
+          ];
       leaving_in = λ i a. s.leaving_in i (among_along i _ _ kl.same a);
       all_from =
-          λ i a. elim (s.all_from i a)
-          [ inl b ↦ elim (among_along i _ _ t.is b)
-          [ inl e ↦ inr (inl (among_along i _ _ (sym fs.is) (inl e))) | inr c ↦ inl (among_along i _ _ (sym kx.same) c) ] | inr b ↦ elim b
-          [ inl c ↦ inr (inl (among_along i _ _ (sym fs.is) (inr c))) | inr c ↦ inr (inr (among_along i _ _ (sym kl.same) c)) ] ];
+          λ i a. elim (s.all_from i a) [
+            | inl b ↦ elim (among_along i _ _ t.is b)
+                [ inl e ↦ inr (inl (among_along i _ _ (sym fs.is) (inl e))) | inr c ↦ inl (among_along i _ _ (sym kx.same) c) ]
+            | inr b ↦ elim b
+                [ inl c ↦ inr (inl (among_along i _ _ (sym fs.is) (inr c))) | inr c ↦ inr (inr (among_along i _ _ (sym kl.same) c)) ]
+          ];
       all_onto = λ i a. among_along i _ _ (sym fs.is) (inr (s.all_onto i a));
     }
 
@@ -116,20 +122,25 @@ IsDealing-leave ns from mask stay onto ms at staying leaving on test s =
       at_staying =
           λ i a b. s.at_staying i (among_along i _ _ (sym t.is) (inr (among_along i _ _ kx.same a))) (among_along i _ _ ks.same b);
       at_leaving =
-          λ i a b. elim (among_along i _ _ fl.is b)
-          [ inl e ↦ t.fresh (subst (λ k. Among k (chain ms (node_at ms at).next)) e (among_along i _ _ kx.same a)) | inr c ↦ s.at_leaving i
-          (among_along i _ _ (sym t.is) (inr (among_along i _ _ kx.same a))) c ];
+          λ i a b. elim (among_along i _ _ fl.is b) [
+            | inl e ↦ t.fresh (subst (λ k. Among k (chain ms (node_at ms at).next)) e (among_along i _ _ kx.same a))
+            | inr c ↦ s.at_leaving i
+                (among_along i _ _ (sym t.is) (inr (among_along i _ _ kx.same a))) c
+          ];
       at_in = λ i a. s.at_in i (among_along i _ _ (sym t.is) (inr (among_along i _ _ kx.same a)));
       staying_in = λ i a. s.staying_in i (among_along i _ _ ks.same a);
       leaving_in =
-          λ i a. elim (among_along i _ _ fl.is a)
-          [ inl e ↦ subst (λ k. Among k (chain ns from) × (stays mask stay (node_at ns k) ≡ false)) (sym e) (s.at_in at here, test') |
-          inr b ↦ s.leaving_in i b ];
+          λ i a. elim (among_along i _ _ fl.is a) [
+            | inl e ↦ subst (λ k. Among k (chain ns from) × (stays mask stay (node_at ns k) ≡ false)) (sym e) (s.at_in at here, test')
+            | inr b ↦ s.leaving_in i b
+          ];
       all_from =
-          λ i a. elim (s.all_from i a)
-          [ inl b ↦ elim (among_along i _ _ t.is b)
-          [ inl e ↦ inr (inr (among_along i _ _ (sym fl.is) (inl e))) | inr c ↦ inl (among_along i _ _ (sym kx.same) c) ] | inr b ↦ elim b
-          [ inl c ↦ inr (inl (among_along i _ _ (sym ks.same) c)) | inr c ↦ inr (inr (among_along i _ _ (sym fl.is) (inr c))) ] ];
+          λ i a. elim (s.all_from i a) [
+            | inl b ↦ elim (among_along i _ _ t.is b)
+                [ inl e ↦ inr (inr (among_along i _ _ (sym fl.is) (inl e))) | inr c ↦ inl (among_along i _ _ (sym kx.same) c) ]
+            | inr b ↦ elim b
+                [ inl c ↦ inr (inl (among_along i _ _ (sym ks.same) c)) | inr c ↦ inr (inr (among_along i _ _ (sym fl.is) (inr c))) ]
+          ];
       all_onto = λ i a. among_along i _ _ (sym ks.same) (s.all_onto i a);
     }
 

@@ -87,15 +87,18 @@ module _ (heads : List ℕ) (ns : List Node) (len : ℕ) (p : Place) (free mask 
   staying_bucket = record {
     linked = k.deals.staying_linked;
     here =
-        λ i a. elim (k.deals.staying_in i a)
-        [ inl n ↦ absurd (not_nil i n) |
-        inr q ↦ (let h = from_bucket.here i
-        q.0 in (live_is i ∙ h.0, ap (bucket_of (place_after p)) (hash_is i) ∙ after_split p (node_at ns i).hash k.table.split h.1 ∙ stay_mod i q.1)) ];
+        λ i a. elim (k.deals.staying_in i a) [
+          | inl n ↦ absurd (not_nil i n)
+          | inr q ↦ (let h = from_bucket.here i
+              q.0 in (live_is i ∙ h.0, ap (bucket_of (place_after p)) (hash_is i) ∙ after_split p (node_at ns i).hash k.table.split h.1 ∙ stay_mod i q.1))
+        ];
     every =
         λ i below live is. let is' = sym (ap (bucket_of (place_after p)) (hash_is i)) ∙ is in let old = before_in p (node_at ns i).hash k.table.split
-        (inl is') in elim (k.deals.all_from i (there i below live old))
-        [ inl a ↦ absurd (not_end i a) | inr e ↦ elim e
-        [ inl a ↦ a | inr a ↦ absurd (leave_mod i (k.deals.leaving_in i a).1 (sym (after_split p (node_at ns i).hash k.table.split old) ∙ is')) ] ];
+        (inl is') in elim (k.deals.all_from i (there i below live old)) [
+          | inl a ↦ absurd (not_end i a)
+          | inr e ↦ elim e
+              [ inl a ↦ a | inr a ↦ absurd (leave_mod i (k.deals.leaving_in i a).1 (sym (after_split p (node_at ns i).hash k.table.split old) ∙ is')) ]
+        ];
   }
 
   leaving_bucket : IsBucket ms (place_after p) leaving (length heads)
@@ -103,16 +106,24 @@ module _ (heads : List ℕ) (ns : List Node) (len : ℕ) (p : Place) (free mask 
     linked = k.deals.leaving_linked;
     here =
         λ i a. let q = k.deals.leaving_in i a in let h = from_bucket.here i
-        q.0 in (live_is i ∙ h.0, ap (bucket_of (place_after p)) (hash_is i) ∙ after_split p (node_at ns i).hash k.table.split h.1
-        ∙ elim (split_in_two p (node_at ns i).hash k.table.split h.1) [ inl m ↦ absurd (leave_mod i q.1 m) | inr m ↦ m ∙ sym k.table.size ]);
+        q.0 in (
+          live_is i ∙ h.0,
+          ap (bucket_of (place_after p)) (hash_is i) ∙ after_split p (node_at ns i).hash k.table.split h.1
+              ∙ elim (split_in_two p (node_at ns i).hash k.table.split h.1) [ inl m ↦ absurd (leave_mod i q.1 m) | inr m ↦ m ∙ sym k.table.size ],
+        );
     every =
         λ i below live is. let is' = sym (ap (bucket_of (place_after p)) (hash_is i)) ∙ is in let old = before_in p (node_at ns i).hash k.table.split
-        (inr (is' ∙ k.table.size)) in elim (k.deals.all_from i (there i below live old))
-        [ inl a ↦ absurd (not_end i a) | inr e ↦ elim e
-        [ inl a ↦ elim (k.deals.staying_in i a)
-        [ inl n ↦ absurd (not_nil i n) |
-        inr q ↦ absurd (let m = stay_mod i q.1 in let n = after_split p (node_at ns i).hash k.table.split
-        old in omega (arith, m, n, is', split_inside)) ] | inr a ↦ a ] ];
+        (inr (is' ∙ k.table.size)) in elim (k.deals.all_from i (there i below live old)) [
+          | inl a ↦ absurd (not_end i a)
+          | inr e ↦ elim e [
+            | inl a ↦ elim (k.deals.staying_in i a) [
+              | inl n ↦ absurd (not_nil i n)
+              | inr q ↦ absurd (let m = stay_mod i q.1 in let n = after_split p (node_at ns i).hash k.table.split
+                  old in omega (arith, m, n, is', split_inside))
+            ]
+            | inr a ↦ a
+          ]
+        ];
   }
 
   kept_bucket : (c : ℕ) → c < length heads → (c ≡ p.split → ⊥) → IsBucket ms (place_after p) (get_or heads c 0) c
@@ -124,8 +135,11 @@ module _ (heads : List ℕ) (ns : List Node) (len : ℕ) (p : Place) (free mask 
         linked = kept.linked;
         here =
             λ i a. let h = old.here i
-            (among_along i _ _ kept.same a) in (live_is i ∙ h.0, ap (bucket_of (place_after p)) (hash_is i) ∙ after_other p (node_at ns i).hash
-            k.table.split (λ e. nc (sym h.1 ∙ e)) ∙ h.1);
+            (among_along i _ _ kept.same a) in (
+              live_is i ∙ h.0,
+              ap (bucket_of (place_after p)) (hash_is i) ∙ after_other p (node_at ns i).hash
+                  k.table.split (λ e. nc (sym h.1 ∙ e)) ∙ h.1,
+            );
         every =
             λ i below live is. let is' = sym (ap (bucket_of (place_after p)) (hash_is i)) ∙ is in let same = before_other p (node_at ns i).hash
             k.table.split (λ e. nc (sym is' ∙ e)) (λ e. omega (arith, is', e, k.table.size, lt)) in among_along i _ _ (sym kept.same)
@@ -146,23 +160,25 @@ module _ (heads : List ℕ) (ns : List Node) (len : ℕ) (p : Place) (free mask 
         limit = omega (arith, g2, k.room);
         pool = dealt_pool ns from mask p.split NIL ms staying leaving len free k.deals (λ i a. (from_bucket.here i a).0) k.table.pool;
         buckets =
-            λ c lt. elim (cases_eq c (length heads))
-            [ inl e ↦ subst (λ x. IsBucket ms (place_after p) (get_or (set once (length heads) leaving) x 0) x) (sym e)
-            (subst (λ h. IsBucket ms (place_after p) h (length heads)) (sym (get_or-set_same once (length heads) leaving 0 (omega (arith, g1))))
-            leaving_bucket) |
-            inr ne ↦ (let one = get_or-set_other once (length heads) c leaving 0 ne in elim (cases_eq c p.split)
-            [ inl f ↦ subst (λ h. IsBucket ms (place_after p) h c)
-            (sym (one ∙ ap (λ x. get_or once x 0) f ∙ get_or-set_same grown p.split staying 0 (omega (arith, g, split_inside))))
-            (subst (λ x. IsBucket ms (place_after p) staying x) (sym f) staying_bucket) |
-            inr nf ↦ (let inside : c < length
-            heads = (let ne' : c ≢ length heads = ne in omega (arith, g2, lt, ne')) in subst (λ h. IsBucket ms (place_after p) h c)
-            (sym (one ∙ get_or-set_other grown p.split c staying 0 nf ∙ get_or_append_left heads (NIL ∷ []) 0 c inside)) (kept_bucket c inside nf)) ]) ];
+            λ c lt. elim (cases_eq c (length heads)) [
+              | inl e ↦ subst (λ x. IsBucket ms (place_after p) (get_or (set once (length heads) leaving) x 0) x) (sym e)
+                  (subst (λ h. IsBucket ms (place_after p) h (length heads)) (sym (get_or-set_same once (length heads) leaving 0 (omega (arith, g1))))
+                  leaving_bucket)
+              | inr ne ↦ (let one = get_or-set_other once (length heads) c leaving 0 ne in elim (cases_eq c p.split) [
+                | inl f ↦ subst (λ h. IsBucket ms (place_after p) h c)
+                    (sym (one ∙ ap (λ x. get_or once x 0) f ∙ get_or-set_same grown p.split staying 0 (omega (arith, g, split_inside))))
+                    (subst (λ x. IsBucket ms (place_after p) staying x) (sym f) staying_bucket)
+                | inr nf ↦ (let inside : c < length
+                    heads = (let ne' : c ≢ length heads = ne in omega (arith, g2, lt, ne')) in subst (λ h. IsBucket ms (place_after p) h c)
+                    (sym (one ∙ get_or-set_other grown p.split c staying 0 nf ∙ get_or_append_left heads (NIL ∷ []) 0 c inside)) (kept_bucket c inside nf))
+              ])
+            ];
       }
 
 pub before_split : (q : Place) → (place_after q).split < 4 * 2 ^ (place_after q).level → q.split < 4 * 2 ^ q.level
 before_split q lt =
     elim (cases_eq (q.split + 1) (4 * 2 ^ q.level))
-        [ inl e ↦ omega (arith, e) | inr ne ↦ (let lt' = subst (λ (r : Place). r.split < 4 * 2 ^ r.level) (place_after-steps q ne) lt in omega (arith, lt')) ]
+    [ inl e ↦ omega (arith, e) | inr ne ↦ (let lt' = subst (λ (r : Place). r.split < 4 * 2 ^ r.level) (place_after-steps q ne) lt in omega (arith, lt')) ]
 
 always_stays : (n : Node) → stays 0 0 n ≡ true
 always_stays n = eq-eqb _ _ (omega (arith, and_le_r n.hash 0))
@@ -187,7 +203,7 @@ merge_apart heads ns len q free last from onto t e f g =
     let from_bucket = t.buckets last (omega (arith, e)) in
     let onto_bucket = t.buckets q.split (omega (arith, e, at_last)) in
     λ i a b. (let x = (from_bucket.here i (subst (λ h. Among i (chain ns h)) f a)).1 in let y = (onto_bucket.here i
-        (subst (λ h. Among i (chain ns h)) g b)).1 in omega (arith, x, y, at_last, pow_pos q.level))
+    (subst (λ h. Among i (chain ns h)) g b)).1 in omega (arith, x, y, at_last, pow_pos q.level))
 
 module _ (heads : List ℕ) (ns : List Node) (len : ℕ) (q : Place) (free last from onto : ℕ) (ms : List Node) (staying leaving : ℕ)
     (k : IsMerging heads ns len q free last from onto ms staying leaving) where
@@ -219,19 +235,23 @@ module _ (heads : List ℕ) (ns : List Node) (len : ℕ) (q : Place) (free last 
   merged_bucket = record {
     linked = k.deals.staying_linked;
     here =
-        λ i a. elim (k.deals.staying_in i a)
-        [ inl o ↦ (let h = onto_bucket.here i
-        o in (merged_live i ∙ h.0, ap (bucket_of q) (merged_hash i) ∙ before_in q (node_at ns i).hash q_split (inl h.1))) |
-        inr f ↦ (let h = last_bucket.here i
-        f.0 in (merged_live i ∙ h.0, ap (bucket_of q) (merged_hash i) ∙ before_in q (node_at ns i).hash q_split (inr (h.1 ∙ at_last)))) ];
+        λ i a. elim (k.deals.staying_in i a) [
+          | inl o ↦ (let h = onto_bucket.here i
+              o in (merged_live i ∙ h.0, ap (bucket_of q) (merged_hash i) ∙ before_in q (node_at ns i).hash q_split (inl h.1)))
+          | inr f ↦ (let h = last_bucket.here i
+              f.0 in (merged_live i ∙ h.0, ap (bucket_of q) (merged_hash i) ∙ before_in q (node_at ns i).hash q_split (inr (h.1 ∙ at_last))))
+        ];
     every =
         λ i below live is. let is' = sym (ap (bucket_of q) (merged_hash i)) ∙ is in let below' : i < length
         ns = omega (arith, k.deals.size, below) in let live' = sym (merged_live i) ∙ live in let now = after_split q (node_at ns i).hash q_split
-        is' in elim (split_in_two q (node_at ns i).hash q_split is')
-        [ inl m ↦ k.deals.all_onto i (onto_bucket.every i below' live' (now ∙ m)) |
-        inr m ↦ elim (k.deals.all_from i (last_bucket.every i below' live' (now ∙ m ∙ sym at_last)))
-        [ inl a ↦ absurd (merged_end i a) | inr e ↦ elim e
-        [ inl a ↦ a | inr a ↦ absurd (false≢true (sym (k.deals.leaving_in i a).1 ∙ always_stays (node_at ns i))) ] ] ];
+        is' in elim (split_in_two q (node_at ns i).hash q_split is') [
+          | inl m ↦ k.deals.all_onto i (onto_bucket.every i below' live' (now ∙ m))
+          | inr m ↦ elim (k.deals.all_from i (last_bucket.every i below' live' (now ∙ m ∙ sym at_last))) [
+            | inl a ↦ absurd (merged_end i a)
+            | inr e ↦ elim e
+                [ inl a ↦ a | inr a ↦ absurd (false≢true (sym (k.deals.leaving_in i a).1 ∙ always_stays (node_at ns i))) ]
+          ]
+        ];
   }
 
   rest_bucket : (c : ℕ) → c < last → (c ≡ q.split → ⊥) → IsBucket ms q (get_or heads c 0) c
@@ -244,8 +264,11 @@ module _ (heads : List ℕ) (ns : List Node) (len : ℕ) (q : Place) (free last 
         linked = kept.linked;
         here =
             λ i a. let h = old.here i
-            (among_along i _ _ kept.same a) in (merged_live i ∙ h.0, ap (bucket_of q) (merged_hash i) ∙ before_other q (node_at ns i).hash q_split
-            (λ e. nc (sym h.1 ∙ e)) (λ e. omega (arith, h.1, e, at_last, lt)) ∙ h.1);
+            (among_along i _ _ kept.same a) in (
+              merged_live i ∙ h.0,
+              ap (bucket_of q) (merged_hash i) ∙ before_other q (node_at ns i).hash q_split
+                  (λ e. nc (sym h.1 ∙ e)) (λ e. omega (arith, h.1, e, at_last, lt)) ∙ h.1,
+            );
         every =
             λ i below live is. let is' = sym (ap (bucket_of q) (merged_hash i)) ∙ is in among_along i _ _ (sym kept.same)
             (old.every i (omega (arith, k.deals.size, below)) (sym (merged_live i) ∙ live)

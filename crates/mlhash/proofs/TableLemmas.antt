@@ -27,10 +27,11 @@ bucket_in heads ns len p free t h = omega (arith, t.size, bucket_below p h)
 
 push_live : (ns : List Node) (i : ℕ) → (node_at (ns ++ free_node ∷ []) i).live ≡ true → i < length (ns ++ free_node ∷ []) → i < length ns
 push_live ns i live below =
-    elim (cases_lt i (length ns))
-        [ inl lt ↦ lt |
-        inr ge ↦ absurd (let e : length ns ≡ i = omega (arith, length-append ns (free_node ∷ []), below, ge) in false≢true
-        (ap (λ (n : Node). n.live) (sym (get_or_push ns free_node blank i e)) ∙ live)) ]
+    elim (cases_lt i (length ns)) [
+      | inl lt ↦ lt
+      | inr ge ↦ absurd (let e : length ns ≡ i = omega (arith, length-append ns (free_node ∷ []), below, ge) in false≢true
+          (ap (λ (n : Node). n.live) (sym (get_or_push ns free_node blank i e)) ∙ live))
+    ]
 
 -- a new node
 pub record IsStocked (heads : List ℕ) (ns : List Node) (len : ℕ) (p : Place) (ms : List Node) (new : ℕ) : Type 0 where
@@ -68,8 +69,11 @@ stock_new heads ns len p room t =
               linked = kept.linked;
               here =
                   λ i a. let a' = among_along i _ _ kept.same a in let e = old i
-                  (below_linked ns _ k.linked i a') in (ap (λ (n : Node). n.live) e ∙ (k.here i a').0, ap (λ (n : Node). bucket_of p n.hash) e
-                  ∙ (k.here i a').1);
+                  (below_linked ns _ k.linked i a') in (
+                    ap (λ (n : Node). n.live) e ∙ (k.here i a').0,
+                    ap (λ (n : Node). bucket_of p n.hash) e
+                        ∙ (k.here i a').1,
+                  );
               every =
                   λ i below live is. let lt' = push_live ns i live below in let e = old i lt' in among_along i _ _ (sym kept.same)
                   (k.every i lt' (ap (λ (n : Node). n.live) (sym e) ∙ live) (ap (λ (n : Node). bucket_of p n.hash) (sym e) ∙ is));
@@ -82,12 +86,13 @@ stock_new heads ns len p room t =
 pub stocked : (heads : List ℕ) (ns : List Node) (len : ℕ) (p : Place) (free : ℕ) (ms : List Node) (new : ℕ) → (free ≡ NIL → length ns < NIL)
     → IsTable heads ns len p free → Stocks ns free ms new → IsStocked heads ns len p ms new
 stocked heads ns len p free ms new room t s =
-    elim (cases_eq free NIL)
-        [ inl e ↦ (let a = s.added e in subst (λ (x : List Node). IsStocked heads ns len p x new) (sym a.0)
-        (subst (λ (x : ℕ). IsStocked heads ns len p (ns ++ free_node ∷ []) x) (sym a.1)
-        (stock_new heads ns len p (room e) (subst (λ (x : ℕ). IsTable heads ns len p x) e t)))) |
-        inr ne ↦ (let k = s.kept ne in subst (λ (x : List Node). IsStocked heads ns len p x new) (sym k.0)
-        (subst (λ (x : ℕ). IsStocked heads ns len p ns x) (sym k.1) (record { table = t; on = ne; same = refl }))) ]
+    elim (cases_eq free NIL) [
+      | inl e ↦ (let a = s.added e in subst (λ (x : List Node). IsStocked heads ns len p x new) (sym a.0)
+          (subst (λ (x : ℕ). IsStocked heads ns len p (ns ++ free_node ∷ []) x) (sym a.1)
+          (stock_new heads ns len p (room e) (subst (λ (x : ℕ). IsTable heads ns len p x) e t))))
+      | inr ne ↦ (let k = s.kept ne in subst (λ (x : List Node). IsStocked heads ns len p x new) (sym k.0)
+          (subst (λ (x : ℕ). IsStocked heads ns len p ns x) (sym k.1) (record { table = t; on = ne; same = refl })))
+    ]
 
 -- a table whose free nodes are used up has one node for each entry
 pub all_used : (heads : List ℕ) (ns : List Node) (len : ℕ) (p : Place) (free : ℕ) → IsTable heads ns len p free → free ≡ NIL → length ns ≡ len
@@ -130,36 +135,46 @@ put_table heads ns len p at n on live next t =
             | inl e ↦ (let head_is : get_or (set heads b at) c 0 ≡ at = ap (λ x. get_or (set heads b at) x 0) e ∙ get_or-set_same heads b at 0
                 b_in in let front = fronts_set ns at n (get_or heads c 0) step.below (next ∙ ap (λ x. get_or heads x 0) (sym e)) (apart c lt)
                 k.linked in subst (λ x. IsBucket ms p x c) (sym head_is) (record {
-              linked = front.linked;
-              here =
-                  λ i a. elim (among_along i _ _ front.is a)
-                  [ inl f ↦ (ap (λ x. (node_at ms x).live) f ∙ ap (λ (m : Node). m.live) at_n ∙ live, ap (λ x. bucket_of p (node_at ms x).hash) f
-                  ∙ ap (λ (m : Node). bucket_of p m.hash) at_n ∙ sym e) |
-                  inr a' ↦ (let o = other i
-                  (λ f. apart c lt (subst (λ x. Among x (chain ns (get_or heads c 0))) f a')) in (ap (λ (m : Node). m.live) o ∙ (k.here i a').0,
-                  ap (λ (m : Node). bucket_of p m.hash) o ∙ (k.here i a').1)) ];
-              every =
-                  λ i below is_live' is. among_along i _ _ (sym front.is)
-                  (elim (cases_eq i at)
-                  [ inl f ↦ inl f |
-                  inr ne ↦ (let o = other i
-                  ne in inr (k.every i (omega (arith, size, below)) (ap (λ (m : Node). m.live) (sym o) ∙ is_live')
-                  (ap (λ (m : Node). bucket_of p m.hash) (sym o) ∙ is))) ]);
-            }))
+                  linked = front.linked;
+                  here =
+                      λ i a. elim (among_along i _ _ front.is a) [
+                        | inl f ↦ (
+                          ap (λ x. (node_at ms x).live) f ∙ ap (λ (m : Node). m.live) at_n ∙ live,
+                          ap (λ x. bucket_of p (node_at ms x).hash) f
+                              ∙ ap (λ (m : Node). bucket_of p m.hash) at_n ∙ sym e,
+                        )
+                        | inr a' ↦ (let o = other i
+                            (λ f. apart c lt (subst (λ x. Among x (chain ns (get_or heads c 0))) f a')) in (
+                              ap (λ (m : Node). m.live) o ∙ (k.here i a').0,
+                              ap (λ (m : Node). bucket_of p m.hash) o ∙ (k.here i a').1,
+                            ))
+                      ];
+                  every =
+                      λ i below is_live' is. among_along i _ _ (sym front.is)
+                      (elim (cases_eq i at) [
+                        | inl f ↦ inl f
+                        | inr ne ↦ (let o = other i
+                            ne in inr (k.every i (omega (arith, size, below)) (ap (λ (m : Node). m.live) (sym o) ∙ is_live')
+                            (ap (λ (m : Node). bucket_of p m.hash) (sym o) ∙ is)))
+                      ]);
+                }))
             | inr ne ↦ (let head_is : get_or (set heads b at) c 0 ≡ get_or heads c 0 = get_or-set_other heads b c at 0 ne in let kept = keeps_set
                 ns at n (get_or heads c 0) (apart c lt) k.linked in subst (λ x. IsBucket ms p x c) (sym head_is) (record {
-              linked = kept.linked;
-              here =
-                  λ i a. let a' = among_along i _ _ kept.same a in let o = other i
-                  (λ f. apart c lt (subst (λ x. Among x (chain ns (get_or heads c 0))) f a')) in (ap (λ (m : Node). m.live) o ∙ (k.here i a').0,
-                  ap (λ (m : Node). bucket_of p m.hash) o ∙ (k.here i a').1);
-              every =
-                  λ i below is_live' is. among_along i _ _ (sym kept.same)
-                  (elim (cases_eq i at)
-                  [ inl f ↦ absurd (ne (sym is ∙ ap (λ x. bucket_of p (node_at ms x).hash) f ∙ ap (λ (m : Node). bucket_of p m.hash) at_n)) |
-                  inr nf ↦ (let o = other i nf in k.every i (omega (arith, size, below)) (ap (λ (m : Node). m.live) (sym o) ∙ is_live')
-                  (ap (λ (m : Node). bucket_of p m.hash) (sym o) ∙ is)) ]);
-            }))
+                  linked = kept.linked;
+                  here =
+                      λ i a. let a' = among_along i _ _ kept.same a in let o = other i
+                      (λ f. apart c lt (subst (λ x. Among x (chain ns (get_or heads c 0))) f a')) in (
+                        ap (λ (m : Node). m.live) o ∙ (k.here i a').0,
+                        ap (λ (m : Node). bucket_of p m.hash) o ∙ (k.here i a').1,
+                      );
+                  every =
+                      λ i below is_live' is. among_along i _ _ (sym kept.same)
+                      (elim (cases_eq i at) [
+                        | inl f ↦ absurd (ne (sym is ∙ ap (λ x. bucket_of p (node_at ms x).hash) f ∙ ap (λ (m : Node). bucket_of p m.hash) at_n))
+                        | inr nf ↦ (let o = other i nf in k.every i (omega (arith, size, below)) (ap (λ (m : Node). m.live) (sym o) ∙ is_live')
+                            (ap (λ (m : Node). bucket_of p m.hash) (sym o) ∙ is))
+                      ]);
+                }))
           ];
     }
 

@@ -80,9 +80,14 @@ module _ (heads : List ℕ) (ns : List Node) (len : ℕ) (p : Place) (free b hea
   keep1 : (h : ℕ) → IsLinked ns h → Keeps ns (set ns at n1) h
   keep1 h linked =
       keeps_frame ns (set ns at n1) h (omega (arith, size1, linked.few))
-      (λ i a. (omega (arith, size1, below_linked ns h linked i a), elim (cases_eq i at)
-      [ inl e ↦ ap (λ x. (node_at (set ns at n1) x).next) e ∙ ap (λ (m : Node). m.next) (get_or-set_same ns at n1 blank at_below) ∙ k.link
-      ∙ ap (λ x. (node_at ns x).next) (sym e) | inr ne ↦ ap (λ (m : Node). m.next) (get_or-set_other ns at i n1 blank ne) ])) linked
+      (λ i a. (
+        omega (arith, size1, below_linked ns h linked i a),
+        elim (cases_eq i at) [
+          | inl e ↦ ap (λ x. (node_at (set ns at n1) x).next) e ∙ ap (λ (m : Node). m.next) (get_or-set_same ns at n1 blank at_below) ∙ k.link
+              ∙ ap (λ x. (node_at ns x).next) (sym e)
+          | inr ne ↦ ap (λ (m : Node). m.next) (get_or-set_other ns at i n1 blank ne)
+        ],
+      )) linked
 
   keep : (h : ℕ) → IsLinked ns h → (Among head (chain ns h) → ⊥) → Keeps ns (set (set ns at n1) head n2) h
   keep h linked apart =
@@ -105,16 +110,18 @@ module _ (heads : List ℕ) (ns : List Node) (len : ℕ) (p : Place) (free b hea
         linked = tail.linked;
         here =
             λ i a. let a' = among_along i _ _ tail.same a in let ne : i ≡ head → ⊥ = λ e. step.fresh
-            (subst (λ x. Among x (chain ns (node_at ns head).next)) e a') in elim (cases_eq i at)
-            [ inl e ↦ (let now = ap (node_at ms) e ∙ at_now
-            (λ f. ne (e ∙ f)) in (ap (λ (m : Node). m.live) now ∙ k.live, ap (λ (m : Node). bucket_of p m.hash) now ∙ bucket_n1)) |
-            inr na ↦ (let o = other i ne na in let h = bucket.here i
-            (among_along i _ _ (sym step.is) (inr a')) in (ap (λ (m : Node). m.live) o ∙ h.0, ap (λ (m : Node). bucket_of p m.hash) o ∙ h.1)) ];
+            (subst (λ x. Among x (chain ns (node_at ns head).next)) e a') in elim (cases_eq i at) [
+              | inl e ↦ (let now = ap (node_at ms) e ∙ at_now
+                  (λ f. ne (e ∙ f)) in (ap (λ (m : Node). m.live) now ∙ k.live, ap (λ (m : Node). bucket_of p m.hash) now ∙ bucket_n1))
+              | inr na ↦ (let o = other i ne na in let h = bucket.here i
+                  (among_along i _ _ (sym step.is) (inr a')) in (ap (λ (m : Node). m.live) o ∙ h.0, ap (λ (m : Node). bucket_of p m.hash) o ∙ h.1))
+            ];
         every =
-            λ i below live is. let ne = not_head i live in let there : Among i (chain ns head) = elim (cases_eq i at)
-            [ inl e ↦ subst (λ x. Among x (chain ns head)) (sym e) k.found |
-            inr na ↦ (let o = other i ne na in bucket.every i (omega (arith, size, below)) (ap (λ (m : Node). m.live) (sym o) ∙ live)
-            (ap (λ (m : Node). bucket_of p m.hash) (sym o) ∙ is)) ] in among_along i _ _ (sym tail.same)
+            λ i below live is. let ne = not_head i live in let there : Among i (chain ns head) = elim (cases_eq i at) [
+              | inl e ↦ subst (λ x. Among x (chain ns head)) (sym e) k.found
+              | inr na ↦ (let o = other i ne na in bucket.every i (omega (arith, size, below)) (ap (λ (m : Node). m.live) (sym o) ∙ live)
+                  (ap (λ (m : Node). bucket_of p m.hash) (sym o) ∙ is))
+            ] in among_along i _ _ (sym tail.same)
             (elim (among_along i _ _ step.is there) [ inl e ↦ absurd (ne e) | inr a ↦ a ]);
       }
 
@@ -129,14 +136,17 @@ module _ (heads : List ℕ) (ns : List Node) (len : ℕ) (p : Place) (free b hea
         linked = kept.linked;
         here =
             λ i a. let a' = among_along i _ _ kept.same a in let o = other i (λ e. no_head (subst (λ x. Among x (chain ns (get_or heads c 0))) e a'))
-            (λ e. no_at (subst (λ x. Among x (chain ns (get_or heads c 0))) e a')) in (ap (λ (m : Node). m.live) o ∙ (old.here i a').0,
-            ap (λ (m : Node). bucket_of p m.hash) o ∙ (old.here i a').1);
+            (λ e. no_at (subst (λ x. Among x (chain ns (get_or heads c 0))) e a')) in (
+              ap (λ (m : Node). m.live) o ∙ (old.here i a').0,
+              ap (λ (m : Node). bucket_of p m.hash) o ∙ (old.here i a').1,
+            );
         every =
             λ i below live is. let ne = not_head i live in among_along i _ _ (sym kept.same)
-            (elim (cases_eq i at)
-            [ inl e ↦ absurd (nb (sym is ∙ ap (λ (m : Node). bucket_of p m.hash) (ap (node_at ms) e ∙ at_now (λ f. ne (e ∙ f))) ∙ bucket_n1)) |
-            inr na ↦ (let o = other i ne na in old.every i (omega (arith, size, below)) (ap (λ (m : Node). m.live) (sym o) ∙ live)
-            (ap (λ (m : Node). bucket_of p m.hash) (sym o) ∙ is)) ]);
+            (elim (cases_eq i at) [
+              | inl e ↦ absurd (nb (sym is ∙ ap (λ (m : Node). bucket_of p m.hash) (ap (node_at ms) e ∙ at_now (λ f. ne (e ∙ f))) ∙ bucket_n1))
+              | inr na ↦ (let o = other i ne na in old.every i (omega (arith, size, below)) (ap (λ (m : Node). m.live) (sym o) ∙ live)
+                  (ap (λ (m : Node). bucket_of p m.hash) (sym o) ∙ is))
+            ]);
       }
 
   pool_apart : (i : ℕ) → (node_at ns i).live ≡ true → Among i (chain ns free) → ⊥
@@ -154,9 +164,10 @@ module _ (heads : List ℕ) (ns : List Node) (len : ℕ) (p : Place) (free b hea
       let f' : Bool → ℕ = λ x. cond x 1 0 in
       let e1 = sum_by-set f ns at n1 blank at_below in
       let e2 = sum_by-set f (set ns at n1) head n2 blank (omega (arith, size1, head_below)) in
-      let head1 : (node_at (set ns at n1) head).live ≡ true = elim (cases_eq head at)
-      [ inl e ↦ ap (λ x. (node_at (set ns at n1) x).live) e ∙ ap (λ (m : Node). m.live) (get_or-set_same ns at n1 blank at_below) ∙ k.live |
-      inr ne ↦ ap (λ (m : Node). m.live) (get_or-set_other ns at head n1 blank ne) ∙ head_live ] in
+      let head1 : (node_at (set ns at n1) head).live ≡ true = elim (cases_eq head at) [
+        | inl e ↦ ap (λ x. (node_at (set ns at n1) x).live) e ∙ ap (λ (m : Node). m.live) (get_or-set_same ns at n1 blank at_below) ∙ k.live
+        | inr ne ↦ ap (λ (m : Node). m.live) (get_or-set_other ns at head n1 blank ne) ∙ head_live
+      ] in
       let a1 : f (node_at ns at) ≡ 1 = ap f' at_live in
       let a2 : f n1 ≡ 1 = ap f' k.live in
       let a3 : f (node_at (set ns at n1) head) ≡ 1 = ap f' head1 in
@@ -178,11 +189,12 @@ module _ (heads : List ℕ) (ns : List Node) (len : ℕ) (p : Place) (free b hea
         pool = record {
           linked = front.linked;
           dead =
-              λ i a. elim (among_along i _ _ front.is a)
-              [ inl e ↦ ap (λ x. (node_at ms x).live) e ∙ ap (λ (m : Node). m.live) head_now ∙ k.dead |
-              inr a1 ↦ (let a' = among_along i _ _ one.same a1 in ap (λ (m : Node). m.live)
-              (other i (λ e. pool_apart head head_live (subst (λ x. Among x (chain ns free)) e a'))
-              (λ e. pool_apart at at_live (subst (λ x. Among x (chain ns free)) e a'))) ∙ k.table.pool.dead i a') ];
+              λ i a. elim (among_along i _ _ front.is a) [
+                | inl e ↦ ap (λ x. (node_at ms x).live) e ∙ ap (λ (m : Node). m.live) head_now ∙ k.dead
+                | inr a1 ↦ (let a' = among_along i _ _ one.same a1 in ap (λ (m : Node). m.live)
+                    (other i (λ e. pool_apart head head_live (subst (λ x. Among x (chain ns free)) e a'))
+                    (λ e. pool_apart at at_live (subst (λ x. Among x (chain ns free)) e a'))) ∙ k.table.pool.dead i a')
+              ];
           rest = omega (arith, ap length front.is, ap length one.same, k.table.pool.rest, size, one_less);
         };
         buckets =

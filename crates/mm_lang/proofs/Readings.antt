@@ -84,7 +84,7 @@ word_reads {A} says old new word g = by (says word) refl
     by None is = inl (refl, word_says says (tokens old.rest.now) word (tokens new.rest.now) t.is ∙ ap (option_map pair) is)
     by (Some x) is =
         gives (record
-            { is = word_says says (tokens old.rest.now) word (tokens new.rest.now) t.is ∙ ap (option_map pair) is; fault = t.fault; shorter = t.shorter })
+        { is = word_says says (tokens old.rest.now) word (tokens new.rest.now) t.is ∙ ap (option_map pair) is; fault = t.fault; shorter = t.shorter })
 
 -- The role of a column.
 
@@ -135,4 +135,4 @@ pub column_given : (old mid behind new : Reader) (n : List ℕ) (t : ColType) (r
 unfolding column after_name after_type say_column
 column_given old mid behind new n t r a b c =
     gives (took_then after_name (took a)
-        (took_then (after_type n) (took b) (took_then (say_column n t) c (took_say (record { name = n; col_type = t; role = r }) new))))
+    (took_then (after_type n) (took b) (took_then (say_column n t) c (took_say (record { name = n; col_type = t; role = r }) new))))

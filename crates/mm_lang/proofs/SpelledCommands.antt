@@ -102,7 +102,7 @@ column_read ts c us e =
       Word p.0 ∷ word (type_word q.0) ∷ role_tokens r.0,
       subst (SpellsColumn (Word p.0 ∷ word (type_word q.0) ∷ role_tokens r.0)) s.0 (n.1, refl),
       n.0 ∙ ap (λ l. Word p.0 ∷ l)
-      (type_read p.1 q.0 q.1 q.2 ∙ ap (λ l. word (type_word q.0) ∷ l) (role_read q.1 r.0 r.1 r.2 ∙ ap (λ l. role_tokens r.0 ++ l) s.1)),
+          (type_read p.1 q.0 q.1 q.2 ∙ ap (λ l. word (type_word q.0) ∷ l) (role_read q.1 r.0 r.1 r.2 ∙ ap (λ l. role_tokens r.0 ++ l) s.1)),
     )
 
 column_spelled : (front : List Token) (c : Column) (us : List Token) → SpellsColumn front c → the_keyword keyword.Key us ≡ None

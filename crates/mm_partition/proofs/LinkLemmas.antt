@@ -55,8 +55,15 @@ LinksFree-kept slots head count i was slot within read row new_row free =
     let there : slice_get slots i ≡ Some was = slice_get-get_or slots i was within ∙ ap Some (sym read) in
     record {
       links = Leads-set slots count head i slot (λ m _. apart_from_taken slots i was there row m) free.links;
-      counted = omega (arith, length-set slots i slot, sum_by-set taken slots i slot was within, ap taken read, ap {B = ℕ} (λ b. cond b 1 0) row,
-          ap {B = ℕ} (λ b. cond b 1 0) new_row, free.counted);
+      counted = omega (
+        arith,
+        length-set slots i slot,
+        sum_by-set taken slots i slot was within,
+        ap taken read,
+        ap {B = ℕ} (λ b. cond b 1 0) row,
+        ap {B = ℕ} (λ b. cond b 1 0) new_row,
+        free.counted,
+      );
     }
 
 -- a row is out, and its slot is the first of the free ones
@@ -72,8 +79,15 @@ LinksFree-freed slots head count i was within read row free =
     let links : Leads after (suc count) (Some i) = (i, head, refl, link, rest) in
     record {
       links = subst (λ n. Leads after n (Some i)) (sym (add-one count)) links;
-      counted = omega (arith, length-set slots i (Free head), sum_by-set taken slots i (Free head) was within, ap taken read, ap {B = ℕ}
-          (λ b. cond b 1 0) row, free.counted);
+      counted = omega (
+        arith,
+        length-set slots i (Free head),
+        sum_by-set taken slots i (Free head) was within,
+        ap taken read,
+        ap {B = ℕ}
+            (λ b. cond b 1 0) row,
+        free.counted,
+      );
     }
 
 -- the first of the free slots is one of the slots

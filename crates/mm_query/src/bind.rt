@@ -192,10 +192,9 @@ mod tests {
             table: name(&rt, b"u"),
             tuples: tuples(&rt, &[&[Some(1), Some(2)], &[Some(3), Some(4)]]),
         };
-        let BoundChange::Insert { table, tuples } = bind_change(
-            &catalog(&rt),
-            mutation,
-        ).expect(&rt, "a change");
+        let BoundChange::Insert { table, tuples } = bind_change(&catalog(&rt), mutation).expect(
+            &rt, "a change",
+        );
         assert_eq!(rt; table, 1);
         assert_eq!(rt; tuples.as_slice().len(), 2);
         assert_eq!(rt; tuples.into_vec().len(), 2);

@@ -1,7 +1,7 @@
 -- What a change makes of the rows of a table: which rows are there afterwards, in which order, and what additions make.
-use Rattle.std.proofs.Common.{◌≡◌, ℕ, zero, suc, ◌<◌, ◌||◌, Bool, true, false, not, List, [], ◌∷◌, ◌++◌, Option, Some, None, length, map, ◌⊎◌, inl, inr, refl, sym, ap, ◌∙◌, subst, arith}
+use Rattle.std.proofs.Common.{◌≡◌, ℕ, ◌<◌, Bool, true, false, not, List, [], ◌∷◌, ◌++◌, Option, Some, None, length, ◌⊎◌, inl, inr, refl, sym, ap, ◌∙◌, subst, arith}
 use Rattle.std.specs.List.{Contains, filter, filter_map, list_any}
-use Rattle.std.specs.List.Sorted.{IsStrictlySortedBy, IsPermutation}
+use Rattle.std.specs.List.Sorted.{IsPermutation}
 use Rattle.std.specs.Ordering.{is_eq}
 use Rattle.std.specs.declared.cmp.Ordering.TheVariants.{Equal}
 use Rattle.std.proofs.lemmas.Bool.{or_parts, or_from, cases_Bool, false≢true}
@@ -21,23 +21,23 @@ module _ {X : Type 0} (p : X → Bool) where
   passes_in_filter : (xs : List X) (x : X) → IsIn x xs → p x ≡ true → IsIn x (filter p xs)
   passes_in_filter [] x here passes = here
   passes_in_filter (y ∷ ys) x here passes = elim (cases_Bool (p y)) [
-      | inl first ↦ rw first (elim here [ inl same ↦ inl same | inr later ↦ inr (passes_in_filter ys x later passes) ])
-      | inr first ↦ rw first (elim here [
-          | inl same ↦ absurd (false≢true (sym first ∙ ap p same ∙ passes))
-          | inr later ↦ passes_in_filter ys x later passes
-        ])
-    ]
+    | inl first ↦ rw first (elim here [ inl same ↦ inl same | inr later ↦ inr (passes_in_filter ys x later passes) ])
+    | inr first ↦ rw first (elim here [
+      | inl same ↦ absurd (false≢true (sym first ∙ ap p same ∙ passes))
+      | inr later ↦ passes_in_filter ys x later passes
+    ])
+  ]
 
   from_filter : (xs : List X) (x : X) → IsIn x (filter p xs) → IsIn x xs × (p x ≡ true)
   from_filter [] x here = absurd here
   from_filter (y ∷ ys) x here = elim (cases_Bool (p y)) [
-      | inl first ↦
-          let kept : IsIn x (y ∷ filter p ys) = rw first at here in
-          elim kept [ inl same ↦ (inl same, sym (ap p same) ∙ first) | inr later ↦ let found = from_filter ys x later in (inr found.0, found.1) ]
-      | inr first ↦
-          let kept : IsIn x (filter p ys) = rw first at here in
-          let found = from_filter ys x kept in (inr found.0, found.1)
-    ]
+    | inl first ↦
+        let kept : IsIn x (y ∷ filter p ys) = rw first at here in
+        elim kept [ inl same ↦ (inl same, sym (ap p same) ∙ first) | inr later ↦ let found = from_filter ys x later in (inr found.0, found.1) ]
+    | inr first ↦
+        let kept : IsIn x (filter p ys) = rw first at here in
+        let found = from_filter ys x kept in (inr found.0, found.1)
+  ]
 
 -- ---- the rows that come
 
@@ -67,9 +67,9 @@ StaysIn key row pairs = (old : Row) (new : Option Row) → IsIn {X = Pair} (Some
 not_gone : (key : ℕ) (row : Row) (gone : Option Row) → ((old : Row) → gone ≡ Some old → column_cmp key row old ≡ Equal → ⊥) → goes key row gone ≡ false
 not_gone key row None other = refl
 not_gone key row (Some old) other = elim (cases_Bool (same_in_column key row old)) [
-    | inl same ↦ absurd (other old refl (equal_from_is_eq (column_cmp key row old) same))
-    | inr differs ↦ differs
-  ]
+  | inl same ↦ absurd (other old refl (equal_from_is_eq (column_cmp key row old) same))
+  | inr differs ↦ differs
+]
 
 none_goes : (key : ℕ) (row : Row) (pairs : List Pair) → StaysIn key row pairs → list_any (λ (p : Pair). goes key row p.0) pairs ≡ false
 none_goes key row [] stays = refl
@@ -140,8 +140,11 @@ no_other_row key (p ∷ ps) rows row here =
       | inl old ↦
           let found = from_filter (λ r. not (list_any (λ (q : Pair). goes key r q.0) (p ∷ ps))) rows row (IsIn-from_Contains _ row old) in
           let none = not_true (list_any (λ (q : Pair). goes key row q.0) (p ∷ ps)) found.1 in
-          inr (Contains-from_IsIn rows row found.0, λ gone new there same. stays_from_none key row (p ∷ ps) none gone new
-              (IsIn-from_Contains {X = Pair} (p ∷ ps) (Some gone, new) there) same)
+          inr (
+            Contains-from_IsIn rows row found.0,
+            λ gone new there same. stays_from_none key row (p ∷ ps) none gone new
+                (IsIn-from_Contains {X = Pair} (p ∷ ps) (Some gone, new) there) same,
+          )
       | inr come ↦
           let found = new_comes_in row (p ∷ ps) (IsIn-from_Contains _ row come) in
           inl (found.0, Contains-from_IsIn {X = Pair} (p ∷ ps) (found.0, Some row) found.1)

@@ -1,6 +1,6 @@
 -- Changes of the rows of one table among those of all.
 use Rattle.std.proofs.Common.{◌≡◌, ℕ, Bool, true, false, cond, List, [], ◌∷◌, ◌++◌, Option, Some, None, find, map, inl, inr, refl, sym, ap, subst, ◌∙◌}
-use Rattle.std.specs.List.{AllByRecursion, IsDistinct, filter, flat_map}
+use Rattle.std.specs.List.{AllByRecursion, IsDistinct, flat_map}
 use Rattle.std.specs.Option.{option_map_or}
 use Rattle.std.proofs.lemmas.Bool.{cases_Bool, false≢true}
 use Rattle.std.proofs.lemmas.List.{append-nil}
@@ -99,7 +99,7 @@ module _ (name : List ℕ) (pairs : List Pair) where
   )
   first_or_others t ts r rs false other order distinct none rest = (
     subst (λ ps. IsInKeyOrder (key_place t.definition.columns) (changed (key_place t.definition.columns) ps r))
-    (sym (pairs_of-other name pairs (name_of t) other)) order.0,
+        (sym (pairs_of-other name pairs (name_of t) other)) order.0,
     rest none,
   )
 
@@ -121,11 +121,11 @@ not_first false x found none = (refl, none)
 
 other_way_round : (a b : List ℕ) → same_name a b ≡ false → same_name b a ≡ false
 other_way_round a b differs = elim (cases_Bool (same_name b a)) [
-    | inl same ↦
-        let one : b ≡ a = same_bytes b a same in
-        absurd (false≢true (sym differs ∙ ap (λ n. same_name n b) (sym one) ∙ same_name_refl b))
-    | inr other ↦ other
-  ]
+  | inl same ↦
+      let one : b ≡ a = same_bytes b a same in
+      absurd (false≢true (sym differs ∙ ap (λ n. same_name n b) (sym one) ∙ same_name_refl b))
+  | inr other ↦ other
+]
 
 module _ (table : Table) where
   names_before : (name : List ℕ) (tables : List Table) → AllByRecursion (λ other. same_name name other ≡ false) (map name_of tables)

@@ -37,5 +37,5 @@ capped_more ds i m p n lt digit all is times next =
     ap (λ d. digits_value 10 (take i ds) * 10 + d) worth ∙ sym (digits_value_more 10 ds i lt) in (
       digits_more 10 ds i lt all small,
       capped (digits_value 10 (take i ds)) (get_or ds i 0 - 48) m n is (next ∙ ap (λ q. min (q + (get_or ds i 0 - 48)) (2 ^ 64 - 1)) times)
-      ∙ ap (λ v. min v (2 ^ 64 - 1)) value,
+          ∙ ap (λ v. min v (2 ^ 64 - 1)) value,
     )

@@ -96,7 +96,6 @@ sent reply read before after writes is leads = record {
   replies = record { state = refl; writes = writes; refused = is };
 }
 
-
 module _ {W E : Type 0} {contents : W → Option (List ℕ)} {old new : Watched W} {line : List ℕ} {before after : State} {result : Result Bool E} where
   chosen : (choice : Bool) (outcome : Outcome) → outcome ≡ answer choice line before → Replies contents old new after outcome result
       → RepliesToLine contents old new line before after result

@@ -99,9 +99,11 @@ pub Merging-end : (key : ℕ) (whole rows fresh : List Row) (left : ℕ) → len
 Merging-end key whole rows [] left done so_far =
     let same : left + 0 ≡ left = omega arith in
     let all : drop (left + 0) rows ≡ drop left rows = ap (λ n. drop n rows) same in
-    let parts : IsMergeOf key whole (take left rows) [] (drop left rows) = subst (IsMergeOf key whole (take left rows) []) all so_far.parts in
-    (subst (IsPermutation whole) (take-append-drop left rows) parts.moved, subst (IsStrictlySortedBy (column_cmp key)) (take-append-drop left rows)
-    parts.old_order)
+    let parts : IsMergeOf key whole (take left rows) [] (drop left rows) = subst (IsMergeOf key whole (take left rows) []) all so_far.parts in (
+      subst (IsPermutation whole) (take-append-drop left rows) parts.moved,
+      subst (IsStrictlySortedBy (column_cmp key)) (take-append-drop left rows)
+          parts.old_order,
+    )
 Merging-end key whole rows (y ∷ fresh) left done so_far = absurd (omega arith)
 
 -- the last of the old rows, and the places behind it

@@ -42,9 +42,11 @@ found_by_search key row rows order (Err i) within at =
 -- each key is less than the next just where the rows are in key order
 pub order_from_neighbours : (key : ℕ) (rows : List Row) (answer : Bool) → IsAllAdjacentAnswer (λ a b r. r ≡ is_lt (column_cmp key a b)) rows answer
     → (IsTrue answer → IsStrictlySortedBy (column_cmp key) rows) × (IsStrictlySortedBy (column_cmp key) rows → IsTrue answer)
-order_from_neighbours key rows true next =
-    (λ yes. IsStrictlySortedBy-from_neighbours (column_cmp_total key) rows
-    (λ k d within. rw (← add-one) (less_from_is_lt (column_cmp key (get_or rows k d) (get_or rows (k + 1) d)) (next k d (omega arith)))), λ order. refl)
+order_from_neighbours key rows true next = (
+  λ yes. IsStrictlySortedBy-from_neighbours (column_cmp_total key) rows
+      (λ k d within. rw (← add-one) (less_from_is_lt (column_cmp key (get_or rows k d) (get_or rows (k + 1) d)) (next k d (omega arith)))),
+  λ order. refl,
+)
 order_from_neighbours key rows false (k, within, next) = (
   λ yes. absurd (false≢true yes),
   λ order.

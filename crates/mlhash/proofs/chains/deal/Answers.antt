@@ -14,7 +14,7 @@ bounds-nodes-at c = (chain_step _ _ c.loop-at.invariant.at_linked c.loop-at-test
 pub loop-at-smaller-then-node-mask : goal.loop-at-smaller-then-node-mask
 loop-at-smaller-then-node-mask c =
     deal_falls c.loop-at.nodes c.loop-at.at (record (node_at c.loop-at.nodes c.loop-at.at) { next = c.loop-at.staying })
-        c.loop-at.invariant.at_linked c.loop-at-test.true
+    c.loop-at.invariant.at_linked c.loop-at-test.true
 
 pub loop-at-preserved-then-node-mask : goal.loop-at-preserved-then-node-mask
 loop-at-preserved-then-node-mask c =
@@ -24,7 +24,7 @@ loop-at-preserved-then-node-mask c =
 pub loop-at-smaller : goal.loop-at-smaller
 loop-at-smaller c =
     deal_falls c.loop-at.nodes c.loop-at.at (record (node_at c.loop-at.nodes c.loop-at.at) { next = c.loop-at.leaving })
-        c.loop-at.invariant.at_linked c.loop-at-test.true
+    c.loop-at.invariant.at_linked c.loop-at-test.true
 
 pub loop-at-preserved : goal.loop-at-preserved
 loop-at-preserved c =

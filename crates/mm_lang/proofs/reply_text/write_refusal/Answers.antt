@@ -18,7 +18,7 @@ returns-in_err-write_after_space g c =
     let p = err_from_is_err_and c.from_residual-in_err-write_after_space.result c.from_residual-in_err-write_after_space.ensures.1 in
     let e = refusal_line c.args.refusal c.from.result c.as_bytes.result.now (c.from.ensures ∙ c.number.ensures) (c.as_bytes.ensures.value ∙ c.text.ensures) in
     Writes-stops (10 ∷ []) e p.1
-        (Writes-then {result = Err c.in_err-write_after_space.field-0.0} refl c.in_ok-write_labelled.ensures c.in_err-write_after_space.ensures)
+    (Writes-then {result = Err c.in_err-write_after_space.field-0.0} refl c.in_ok-write_labelled.ensures c.in_err-write_after_space.ensures)
 
 pub returns : goal.returns
 returns g c =

@@ -11,7 +11,7 @@ returns-in_err-write_row_line g c =
     let i = c.loop-row.row-index in
     let e = rows_text_at rows (i + 1) ∙ ap (λ l. l ++ text_behind (i + 1) rows) (row_lines_more rows i c.row-item.result c.loop-row-test.true c.row-item.is) in
     Writes-stops (text_behind (i + 1) rows) e p.1
-        (Writes-then {result = Err c.in_err-write_row_line.field-0.0} refl c.loop-row.invariant c.in_err-write_row_line.ensures)
+    (Writes-then {result = Err c.in_err-write_row_line.field-0.0} refl c.loop-row.invariant c.in_err-write_row_line.ensures)
 
 pub returns : goal.returns
 returns g c =

@@ -11,8 +11,16 @@ overflow_add-len c =
     let front = so_far.0 ++ c.in-Byte.byte ∷ [] in
     let e : c.args.body.now ≡ doubled front ++ c.in-Byte.tail.now = doubled_front_more c.args.body.now so_far.0 c.loop-byte.rest.now
     c.in-Byte.tail.now c.in-Byte.byte so_far.1 c.in-Byte.ensures.0 in
-    omega (arith, c.requires, so_far.3, length-append so_far.0 (c.in-Byte.byte ∷ []), length-doubled front, ap length e, length-append
-    (doubled front) c.in-Byte.tail.now)
+    omega (
+      arith,
+      c.requires,
+      so_far.3,
+      length-append so_far.0 (c.in-Byte.byte ∷ []),
+      length-doubled front,
+      ap length e,
+      length-append
+          (doubled front) c.in-Byte.tail.now,
+    )
 
 pub loop-byte-preserved : goal.loop-byte-preserved
 loop-byte-preserved c =

@@ -13,16 +13,19 @@ returns-in_err-write_to_quote g c =
     let e = doubled_more c.args.text.now so_far.0 c.loop-quote.rest.now c.split_at.result.0.now c.split_at.result.1.now c.in-Some.quote so_far.1
     c.in-Some.ensures c.split_at.ensures.front c.split_at.ensures.back in
     Writes-stops (doubled (drop 1 c.split_at.result.1.now)) e p.1
-        (Writes-then {result = Err c.in_err-write_to_quote.field-0.0} refl so_far.2 c.in_err-write_to_quote.ensures)
+    (Writes-then {result = Err c.in_err-write_to_quote.field-0.0} refl so_far.2 c.in_err-write_to_quote.ensures)
 
 pub loop-quote-preserved : goal.loop-quote-preserved
 loop-quote-preserved g c =
     let so_far = c.loop-quote.invariant in
     let written = so_far.0 ++ (c.split_at.result.0.now ++ 39 ∷ 39 ∷ []) in
     let e = doubled_more c.args.text.now so_far.0 c.loop-quote.rest.now c.split_at.result.0.now c.split_at.result.1.now c.in-Some.quote so_far.1
-    c.in-Some.ensures c.split_at.ensures.front c.split_at.ensures.back in
-    (written, e ∙ ap (λ l. written ++ doubled l) (sym (take_rest c.split_at.result.1.now 1)), Writes-then
-        {result = Ok c.in_ok-write_to_quote.field-0} refl so_far.2 c.in_ok-write_to_quote.ensures)
+    c.in-Some.ensures c.split_at.ensures.front c.split_at.ensures.back in (
+      written,
+      e ∙ ap (λ l. written ++ doubled l) (sym (take_rest c.split_at.result.1.now 1)),
+      Writes-then
+          {result = Ok c.in_ok-write_to_quote.field-0} refl so_far.2 c.in_ok-write_to_quote.ensures,
+    )
 
 pub returns : goal.returns
 returns g c =

@@ -13,7 +13,7 @@ pub returns-in_err-write_values : goal.returns-in_err-write_values
 returns-in_err-write_values g c =
     let p = err_from_is_err_and c.from_residual-in_err-write_values.result c.from_residual-in_err-write_values.ensures.1 in
     Writes-stops (41 ∷ []) (ap row_text (sym c.values.ensures)) p.1
-        (Writes-then {result = Err c.in_err-write_values.field-0.0} refl c.in_ok-put_all.ensures c.in_err-write_values.ensures)
+    (Writes-then {result = Err c.in_err-write_values.field-0.0} refl c.in_ok-put_all.ensures c.in_err-write_values.ensures)
 
 pub returns : goal.returns
 returns g c = Writes-then (ap row_text (sym c.values.ensures)) (Writes-then refl c.in_ok-put_all.ensures c.in_ok-write_values.ensures) c.put_all-2.ensures

@@ -14,7 +14,7 @@ returns-in_err-write_next g c =
     c.value-item.is in
     Writes-stops (flat_map next_text (drop (i + 1) others)) e p.1
     (Writes-then {result = Err c.in_err-write_next.field-0.0} refl (Writes-then refl c.in_ok-write_value.ensures c.loop-value.invariant)
-        c.in_err-write_next.ensures)
+    c.in_err-write_next.ensures)
 
 pub returns : goal.returns
 returns g c =

@@ -20,13 +20,15 @@ loop-node-preserved c =
     let i = c.loop-node.node-index in
     let old = c.args.out.now.items in
     let out = c.loop-node.out in
-    elim c.if-node.branch
-    [ then-node w ↦ copying_along ns (i + 1) old (out.items ++ w.row.result ∷ []) c.if-node.out.items (vec_len out + 1) (vec_len c.if-node.out)
-    (vec_capacity out) (vec_capacity c.if-node.out) (cc) (cc) (cc)
-    (IsCopying-take ns i old out.items (vec_len out) (vec_capacity out) w.row.result c.loop-node-test.true w.if-node.true w.row.ensures
-    c.loop-node.invariant) | else-node w ↦ copying_along ns (i + 1) old out.items c.if-node.out.items (vec_len out) (vec_len c.if-node.out)
-    (vec_capacity out) (vec_capacity c.if-node.out) (cc) (cc) (cc)
-    (IsCopying-skip ns i old out.items (vec_len out) (vec_capacity out) c.loop-node-test.true w.if-node.false c.loop-node.invariant) ]
+    elim c.if-node.branch [
+      | then-node w ↦ copying_along ns (i + 1) old (out.items ++ w.row.result ∷ []) c.if-node.out.items (vec_len out + 1) (vec_len c.if-node.out)
+          (vec_capacity out) (vec_capacity c.if-node.out) (cc) (cc) (cc)
+          (IsCopying-take ns i old out.items (vec_len out) (vec_capacity out) w.row.result c.loop-node-test.true w.if-node.true w.row.ensures
+          c.loop-node.invariant)
+      | else-node w ↦ copying_along ns (i + 1) old out.items c.if-node.out.items (vec_len out) (vec_len c.if-node.out)
+          (vec_capacity out) (vec_capacity c.if-node.out) (cc) (cc) (cc)
+          (IsCopying-skip ns i old out.items (vec_len out) (vec_capacity out) c.loop-node-test.true w.if-node.false c.loop-node.invariant)
+    ]
 
 pub returns-clause-ok : goal.returns-clause-ok
 returns-clause-ok c =

@@ -35,9 +35,11 @@ find_by_hint-at-requires-clause-all c =
 pub returns-then-at-clause-found : goal.returns-then-at-clause-found
 returns-then-at-clause-found c =
     let s = Finds-read _ _ _ _ _ _ c.deref.ensures.value c.find_by_hint-at.ensures.found in
-    let none = not_found _ _ _ _ _ _ _ _ _ _ c.bucket_of-bucket.ensures c.get-head.ensures c.self.invariant s c.if-at.true in
-    (λ e. absurd (false≢true e), λ m.
-    absurd (none (subst (λ es. Contains es (c.args.hash, c.args.reference)) (sym (ap (λ (b : Bag). b.entries) c.self.view_is)) m)))
+    let none = not_found _ _ _ _ _ _ _ _ _ _ c.bucket_of-bucket.ensures c.get-head.ensures c.self.invariant s c.if-at.true in (
+      λ e. absurd (false≢true e),
+      λ m.
+          absurd (none (subst (λ es. Contains es (c.args.hash, c.args.reference)) (sym (ap (λ (b : Bag). b.entries) c.self.view_is)) m)),
+    )
 
 pub index-requires : goal.index-requires
 index-requires c =

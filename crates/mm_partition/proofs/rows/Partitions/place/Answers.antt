@@ -20,4 +20,4 @@ returns-clause-placed c =
     c.self.inside.free_count = subst (λ h. LinksFree c.self.inside.slots.items h c.self.inside.free_count) c.in-Some.is c.self.invariant in
     let view : map content_of c.self.inside.slots.items ≡ c.args.self.now.slots = ap (λ p. p.slots) c.self.view_is in
     ChangesOnly-set _ _ _ _ _ _ _ (ap content_of c.replace.ensures.after) view
-        (record { place = sym c.reference_to-2.ensures.place; small = c.reference_to-2.ensures.slot; within = first_within _ _ _ free })
+    (record { place = sym c.reference_to-2.ensures.place; small = c.reference_to-2.ensures.slot; within = first_within _ _ _ free })

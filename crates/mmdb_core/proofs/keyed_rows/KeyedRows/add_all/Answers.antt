@@ -70,6 +70,13 @@ returns-clause-ok c =
     (items_of_sorted c.args.fresh sorted moved) (rw front at c.merge_from_back.ensures.permutation) in
     let added = with_new_rows-is keyed c.args.fresh.items sorted moved merged c.self.invariant merges c.merge_from_back.ensures.order in
     let filled : length
-    merged ≡ places.len = omega (arith, length_permutation c.args.fresh.items sorted moved, length_permutation (keyed.rows ++ sorted) merged merges,
-    length-append keyed.rows sorted, c.args.fresh.ok.0, c.self.inside.rows.ok.0, c.in_ok-add_places.ensures.places) in
+    merged ≡ places.len = omega (
+      arith,
+      length_permutation c.args.fresh.items sorted moved,
+      length_permutation (keyed.rows ++ sorted) merged merges,
+      length-append keyed.rows sorted,
+      c.args.fresh.ok.0,
+      c.self.inside.rows.ok.0,
+      c.in_ok-add_places.ensures.places,
+    ) in
     ap (λ rows. record keyed { rows = rows }) (with_items_is places merged filled) ∙ sym added ∙ ap (with_new_rows c.args.fresh.items) c.self.view_is
