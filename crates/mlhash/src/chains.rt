@@ -2,6 +2,7 @@
 ghost use Rattle.std.specs.Prelude.{◌≡◌, ◌≢◌, ℕ, ◌++◌, OnOk, OnErr};
 ghost use Rattle.mlhash.specs.Chain.{IsLinked, HasAll, Finds, refs_along, Deals, chain, AreApart};
 
+use crate::directory::Directory;
 use crate::node::{NIL, Node};
 use mm_value::RowRef;
 use std::alloc::AllocError;
@@ -22,12 +23,12 @@ pub(crate) fn find(nodes: &[Node], head: u32, hash: u64, reference: RowRef) -> u
     NIL
 }
 
-/// The same of a chain that has all entries of this hash. It looks at the node of the hint first, and
-/// walks the chain only where that has another entry or none.
+/// The same of a chain that has all entries of this hash. It looks at the chain's first node and then at the one that the
+/// directory names, and walks the chain only where neither has the entry.
 pub(crate) fn find_by_hint(
     nodes: &[Node],
+    directory: &Directory,
     head: u32,
-    hint: u32,
     hash: u64,
     reference: RowRef,
 ) -> u32
@@ -35,6 +36,10 @@ pub(crate) fn find_by_hint(
     requires all { HasAll nodes.now head hash }
     ensures found { Finds nodes.now head hash reference result }
 {
+    if head != NIL && nodes[head as usize].has(hash, reference) {
+        return head;
+    }
+    let hint = directory.hint(reference);
     if (hint as usize) < nodes.len() {
         let node = &nodes[hint as usize];
         if node.live && node.has(hash, reference) {

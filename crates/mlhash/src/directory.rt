@@ -1,5 +1,5 @@
 //! Where entries are likely to stand.
-ghost use Rattle.std.specs.Prelude.{◌≡◌, ℕ, ◌+◌, ◌*◌, ◌-◌, ◌^◌, [], ◌++◌, min, replicate, slice_index_or, slice_set};
+ghost use Rattle.std.specs.Prelude.{◌≡◌, ◌≢◌, ℕ, ◌+◌, ◌*◌, ◌-◌, ◌^◌, [], ◌++◌, min, replicate, slice_index_or, slice_set};
 
 use crate::node::NIL;
 use mm_value::RowRef;
@@ -75,6 +75,17 @@ impl Directory {
         let index = index_of(reference);
         if index < self.nodes.len() {
             self.nodes[index] = node;
+        }
+    }
+
+    /// Keeps in mind that the entry of the reference in one node is in another one now. Where it stayed, there is nothing
+    /// to write.
+    pub(crate) fn note_move(&mut self, reference: RowRef, from: u32, to: u32)
+        ensures moved { from ≢ to → self.new ≡ slice_set self.old (64 * reference.part + reference.slot) to }
+        ensures stayed { from ≡ to → self.new ≡ self.old }
+    {
+        if from != to {
+            self.note(reference, to);
         }
     }
 }

@@ -219,8 +219,7 @@ impl HashRefs {
     {
         let bucket = bucket_of(self.place, hash);
         let head = self.heads.get(bucket);
-        let hint = self.directory.hint(reference);
-        let at = find_by_hint(&self.nodes, head, hint, hash, reference);
+        let at = find_by_hint(&self.nodes, &self.directory, head, hash, reference);
         if at == NIL {
             return false;
         }
@@ -241,7 +240,7 @@ impl HashRefs {
             live: false,
         };
         self.heads.set(bucket, first.next);
-        self.directory.note(first.row(), at);
+        self.directory.note_move(first.row(), head, at);
         self.free = head;
         self.len -= 1;
         true

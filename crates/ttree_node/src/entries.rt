@@ -238,13 +238,11 @@ impl<'a> Iterator for EntryIter<'a> {
     #[inline]
     fn next(&mut self) -> Option<RowRef> {
         let (part, parts) = self.parts.split_first()?;
-        let (slot, slots) = self.slots.split_first()?;
+        // There are as many slots, so that one test is enough.
+        let slot = self.slots[0];
         self.parts = parts;
-        self.slots = slots;
-        Some(RowRef {
-            part: *part,
-            slot: *slot,
-        })
+        self.slots = &self.slots[1..];
+        Some(RowRef { part: *part, slot })
     }
 }
 
