@@ -1,5 +1,5 @@
 -- References whose partitions and slots are two lists.
-use Rattle.std.proofs.Common.{◌≡◌, ℕ, zero, suc, ◌<◌, List, [], ◌∷◌, ◌++◌, length, take, drop, get_or, refl, ap, ◌∙◌, arith, length-take}
+use Rattle.std.proofs.Common.{◌≡◌, ℕ, zero, suc, ◌+◌, ◌<◌, ◌≤◌, add-one, List, [], ◌∷◌, ◌++◌, length, take, drop, get_or, refl, ap, ◌∙◌, arith, length-take}
 use Rattle.std.specs.List.{insert, remove}
 use Rattle.mm_value.specs.declared.row_ref.RowRef.{RowRef}
 use Rattle.ttree_node.specs.Entries.{row_refs}
@@ -57,3 +57,24 @@ get_or-row_refs (part ∷ parts) [] i p s other same inside = absurd (omega (ari
 get_or-row_refs (part ∷ parts) (slot ∷ slots) zero p s other same inside = refl
 get_or-row_refs (part ∷ parts) (slot ∷ slots) (suc i) p s other same inside =
     get_or-row_refs parts slots i p s other (omega (arith, same)) (omega (arith, inside))
+
+-- from place i on, the first is the one at place i
+pub next_ref : (parts slots : List ℕ) (i : ℕ) → length parts ≡ length slots → i < length parts
+    → row_refs (drop i parts) (drop i slots)
+    ≡ record { part = get_or parts i 0; slot = get_or slots i 0 } ∷ row_refs (drop (i + 1) parts) (drop (i + 1) slots)
+next_ref [] slots i same inside = absurd (omega (arith, inside))
+next_ref (part ∷ parts) [] i same inside = absurd (omega (arith, same))
+next_ref (part ∷ parts) (slot ∷ slots) zero same inside = refl
+next_ref (part ∷ parts) (slot ∷ slots) (suc i) same inside = rw add-one (rw add-one at (next_ref parts slots i (omega (arith, same)) (omega (arith, inside))))
+
+no_slots : (parts : List ℕ) → row_refs parts [] ≡ []
+no_slots [] = refl
+no_slots (part ∷ parts) = refl
+
+-- from their end on there is none
+pub no_ref : (parts slots : List ℕ) (i : ℕ) → length parts ≤ i → row_refs (drop i parts) (drop i slots) ≡ []
+no_ref [] slots zero past = refl
+no_ref [] slots (suc i) past = refl
+no_ref (part ∷ parts) slots zero past = absurd (omega (arith, past))
+no_ref (part ∷ parts) [] (suc i) past = no_slots (drop i parts)
+no_ref (part ∷ parts) (slot ∷ slots) (suc i) past = no_ref parts slots i (omega (arith, past))

@@ -97,6 +97,7 @@ impl Entries {
         EntryIter {
             parts: self.parts.as_slice(),
             slots: self.slots.as_slice(),
+            at: 0,
         }
     }
 
@@ -202,16 +203,17 @@ impl Entries {
 pub struct EntryIter<'a> {
     parts: &'a [usize],
     slots: &'a [u8],
+    at: usize,
 }
 
 impl<'a> Model for EntryIter<'a> {
-    ghost use Rattle.std.specs.Prelude.{◌≡◌, List, length};
+    ghost use Rattle.std.specs.Prelude.{◌≡◌, List, drop, length};
     ghost use Rattle.mm_value.specs.declared.row_ref.RowRef.{RowRef as Ref};
     ghost use Rattle.ttree_node.specs.Entries.{row_refs};
 
     ghost Value = { List Ref };
 
-    ghost view = { λ it. row_refs it.parts.now it.slots.now };
+    ghost view = { λ it. row_refs (drop it.at it.parts.now) (drop it.at it.slots.now) };
 
     ghost invariant = { λ it. length it.parts.now ≡ length it.slots.now };
 }
@@ -224,6 +226,7 @@ impl<'a> EntryIter<'a> {
         EntryIter {
             parts: &[],
             slots: &[],
+            at: 0,
         }
     }
 }
@@ -236,13 +239,17 @@ impl<'a> Iterator for EntryIter<'a> {
     ghost remaining = { item_count (λ rest. rest) };
 
     #[inline]
+    #[tactic(auto, using(crate::proofs::RowRefs::next_ref, crate::proofs::RowRefs::no_ref))]
     fn next(&mut self) -> Option<RowRef> {
-        let (part, parts) = self.parts.split_first()?;
-        // There are as many slots, so that one test is enough.
-        let slot = self.slots[0];
-        self.parts = parts;
-        self.slots = &self.slots[1..];
-        Some(RowRef { part: *part, slot })
+        let at = self.at;
+        if at >= self.parts.len() {
+            return None;
+        }
+        self.at = at + 1;
+        Some(RowRef {
+            part: self.parts[at],
+            slot: self.slots[at],
+        })
     }
 }
 
