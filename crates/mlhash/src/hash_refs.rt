@@ -105,8 +105,8 @@ impl HashRefs {
         self.nodes.capacity().min(MAX_NODES) - self.len
     }
 
-    /// Makes room for `n` more pairs, and looks for the bucket heads that inserts into all the room may
-    /// split into, and for as many places of the directory as pairs fit into the room.
+    /// Makes room for `n` more pairs. Where it has to grow for them, it also looks for the bucket heads that inserts into all
+    /// the room may split into, and for as many places of the directory as pairs fit into the room.
     ///
     /// It is refused where there is no memory for that many nodes, or where there would be more than
     /// 2^32 - 1 of them. Bucket heads that it can't get are no refusal: inserts then skip splits. Nor
@@ -117,6 +117,9 @@ impl HashRefs {
         ensures entries { self.new.entries ≡ self.old.entries }
         ensures spare { self.old.spare ≤ self.new.spare }
     {
+        if n <= self.spare() {
+            return Ok(());
+        }
         if n > MAX_NODES - self.len {
             return Err(AllocError);
         }

@@ -11,4 +11,3 @@ pub mod RowsBeside
 pub mod Runs
 pub mod Scanning
 pub mod Searching
-pub mod Windows

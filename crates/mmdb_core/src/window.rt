@@ -4,6 +4,7 @@ ghost use Rattle.std.specs.Io.KnownBytes.{Keeps};
 ghost use Rattle.mm_value.specs.Watched.{inner_of, has_failed};
 ghost use Rattle.mmdb_core.specs.steps.Taken.{Takes};
 
+use arrayvec::ArrayVec;
 use mm_value::Watched;
 use std::io;
 use std::io::Read;
@@ -12,26 +13,28 @@ use std::marker::Model;
 /// How many bytes a window holds.
 const WINDOW_BYTES: usize = 16384;
 
-/// The least room for which the reader is asked.
+/// How many bytes the reader is asked for at most at a time, for which there is always room.
 const CHUNK_BYTES: usize = 4096;
 
-/// Bytes that were taken from the reader and not yet answered, in a fixed array.
+/// Bytes that were taken from the reader and not yet answered, in a vector of fixed capacity.
 #[derive(Drop)]
 pub(crate) struct Window {
-    bytes: [u8; WINDOW_BYTES],
+    taken: ArrayVec<u8, WINDOW_BYTES>,
+    // How many bytes at the front were answered.
     start: usize,
-    end: usize,
+    // What the reader writes into.
+    chunk: [u8; CHUNK_BYTES],
 }
 
 impl Model for Window {
-    ghost use Rattle.std.specs.Prelude.{slice_range, ◌-◌, ◌≤◌};
+    ghost use Rattle.std.specs.Prelude.{drop, length, ◌-◌, ◌≤◌};
     ghost use Rattle.mmdb_core.specs.steps.Window.{Held};
 
     ghost Value = { Held };
 
-    ghost view = { λ w. record { bytes = slice_range w.bytes w.start w.end; room = 16384 - w.end } };
+    ghost view = { λ w. record { bytes = drop w.start w.taken.items; room = 16384 - length w.taken.items } };
 
-    ghost invariant = { λ w. (w.start ≤ w.end) × (w.end ≤ 16384) };
+    ghost invariant = { λ w. (w.start ≤ length w.taken.items) × (length w.taken.items ≤ 16384) };
 }
 
 impl Window {
@@ -40,9 +43,9 @@ impl Window {
         ensures { result.bytes ≡ [] }
     {
         Window {
-            bytes: [0; WINDOW_BYTES],
+            taken: ArrayVec::new(),
             start: 0,
-            end: 0,
+            chunk: [0; CHUNK_BYTES],
         }
     }
 
@@ -50,7 +53,7 @@ impl Window {
     pub(crate) fn as_slice(&self) -> &[u8]
         ensures { result.now ≡ self.now.bytes }
     {
-        &self.bytes[self.start..self.end]
+        &self.taken.as_slice()[self.start..]
     }
 
     /// Drops the first n bytes.
@@ -66,7 +69,7 @@ impl Window {
         requires { 0 < length self.old.bytes }
         ensures { self.new.bytes ≡ take (length self.old.bytes - 1) self.old.bytes }
     {
-        self.end -= 1;
+        self.taken.truncate(self.taken.len() - 1);
     }
 
     /// Takes at most so many bytes more from the reader. It takes none only at the end of the input.
@@ -85,25 +88,24 @@ impl Window {
         ensures failed { OnErr result (has_failed reader.new ≡ true) }
     {
         self.make_room();
-        self.take_into_room(reader, most)
+        self.take_chunk(reader, most)
     }
 
-    /// Moves the bytes to the front of the array where less than a chunk fits behind them.
+    /// Moves the bytes to the front where less than a chunk fits behind them.
     fn make_room(&mut self)
         requires { length self.old.bytes < 8192 }
         ensures same { self.new.bytes ≡ self.old.bytes }
         ensures room { 4096 ≤ self.new.room }
     {
-        if WINDOW_BYTES - self.end < CHUNK_BYTES {
-            self.bytes.copy_within(self.start..self.end, 0);
-            self.end -= self.start;
+        if WINDOW_BYTES - self.taken.len() < CHUNK_BYTES {
+            self.taken.drain(..self.start);
             self.start = 0;
         }
     }
 
-    /// Takes at most so many bytes, as far as there is room.
-    fn take_into_room<R: Read>(&mut self, reader: &mut Watched<R>, most: usize) -> io::Result<usize>
-        requires room { 0 < self.old.room }
+    /// Takes at most so many bytes, and at most a chunk.
+    fn take_chunk<R: Read>(&mut self, reader: &mut Watched<R>, most: usize) -> io::Result<usize>
+        requires room { 4096 ≤ self.old.room }
         requires some { 0 < most }
         ensures ok { IfOk result (λ n. Takes R.remaining reader.old reader.new self.old.bytes self.new.bytes n) }
         ensures most { IfOk result (λ n. n ≤ most) }
@@ -112,10 +114,10 @@ impl Window {
         ensures kept { OnErr result (Keeps (R.remaining (inner_of reader.old)) (R.remaining (inner_of reader.new))) }
         ensures failed { OnErr result (has_failed reader.new ≡ true) }
     {
-        let end = self.end;
-        let to = end + most.min(WINDOW_BYTES - end);
-        let n = reader.read(&mut self.bytes[end..to])?;
-        self.end += n;
+        let n = reader.read(&mut self.chunk[..most.min(CHUNK_BYTES)])?;
+        self.taken
+            .try_extend_from_slice(&self.chunk[..n])
+            .unwrap();
         Ok(n)
     }
 }
