@@ -1,5 +1,5 @@
 -- What a token is as a literal, and what reading its bytes as one gives.
-use Rattle.std.proofs.Common.{◌≡◌, ◌<◌, ◌≤◌, ◌⊎◌, inl, inr, ⊎_elim, ℕ, Bool, true, false, cond, List, [], ◌∷◌, ◌++◌, Option, Some, None, Result, Ok, Err, length, Bor, MatchResult, refl, sym, ap, ◌∙◌, subst, arith}
+use Rattle.std.proofs.Common.{◌≡◌, ◌<◌, ◌⊎◌, inl, inr, ⊎_elim, ℕ, Bool, true, false, cond, List, [], ◌∷◌, ◌++◌, Option, Some, None, Result, Ok, Err, length, Bor, MatchResult, refl, sym, ap, ◌∙◌, subst, arith}
 use Rattle.std.specs.Prelude.{pos, ℤ, IsErrOf, FitsSigned, ◌↔◌}
 use Rattle.std.specs.Option.{option_map, option_or}
 use Rattle.std.specs.Int.{w64}
@@ -11,14 +11,14 @@ use Rattle.mm_value.specs.declared.refusal.Refusal.TheVariants.{Syntax, NumberOu
 use Rattle.mm_value.specs.declared.values.Value.{Value}
 use Rattle.mm_value.specs.declared.values.Value.TheVariants.{Int, Text}
 use Rattle.mm_value.specs.Literal.{is_numeral, is_within_limit, IsNumeral, SpellsInt, SpellsText, Spells, IsWithinLimit, doubled}
-use Rattle.mm_value.proofs.Limits.{int_within, text_within}
+use Rattle.mm_value.proofs.Limits.{int_within}
 use Rattle.mm_value.proofs.Spelling.{minus_no_digits, minus_no_text}
 use Rattle.mm_lang.specs.declared.token.Token.{Token as Shown}
 use Rattle.mm_lang.specs.declared.token.Token.TheVariants as shown
 use Rattle.mm_lang.specs.declared.reader.Reader.{Reader}
 use Rattle.mm_lang.specs.Grammar.{literal_of}
-use Rattle.mm_lang.specs.Phrases.{Phrase, one}
-use Rattle.mm_lang.specs.Reading.{checked, unless, first_fault, literal_fault, past_limit}
+use Rattle.mm_lang.specs.Phrases.{one}
+use Rattle.mm_lang.specs.Reading.{checked, unless, literal_fault, past_limit}
 use Rattle.mm_lang.specs.steps.Parsing.{AnswersOrMemory, Fails, Gives, is_limit, only_literal}
 use Rattle.mm_lang.specs.steps.Parts.{Front}
 use Rattle.mm_lang.specs.steps.Splitting.{Shows, Splits}
