@@ -1,7 +1,7 @@
 -- What is between two places of an array, when bytes behind them are written.
-use Rattle.std.proofs.Common.{◌≡◌, ℕ, ◌+◌, ◌-◌, ◌≤◌, List, ◌++◌, length, take, take-take, drop, sym, ap, ◌∙◌, arith}
+use Rattle.std.proofs.Common.{◌≡◌, ℕ, ◌+◌, ◌≤◌, List, ◌++◌, length, take, drop, sym, ap, ◌∙◌, arith}
 use Rattle.std.specs.List.{slice_range}
-use Rattle.std.proofs.lemmas.List.{length-take-le, drop-append-le, length-drop, drop-drop, take-append-le}
+use Rattle.std.proofs.lemmas.List.{length-take-le, drop-append-le, drop-drop, take-append-le}
 use Rattle.std.proofs.lemmas.Slice.{between_is, take-put_mid_below}
 use Rattle.std.proofs.Math.Seq.{take-append-add}
 use borrow.Rule.Slice.PartMut.{put_mid, post_of}
@@ -24,16 +24,6 @@ window_grown xs ys s e k n s_e e_x n_y =
 -- fewer by n at the front
 pub window_skipped : (xs : List ℕ) (s e n : ℕ) → slice_range xs (s + n) e ≡ drop n (slice_range xs s e)
 window_skipped xs s e n = between_is xs (s + n) e ∙ (sym (drop-drop n s (take e xs)) ∙ ap (λ t. drop n t) (sym (between_is xs s e)))
-
--- fewer by one at the end
-pub window_shortened : (xs : List ℕ) (s e : ℕ) → s ≤ e → e ≤ length xs → slice_range xs s (e - 1) ≡ take (length (slice_range xs s e) - 1) (slice_range xs s e)
-window_shortened xs s e s_e e_x =
-    let long : length (take (e - s) (drop s xs)) ≡ e - s = length-take-le (e - s) (drop s xs) (omega (arith, length-drop s xs)) in
-    sym (ap (λ n. take (n - 1) (take (e - s) (drop s xs))) long
-    ∙ (take-take (e - s - 1) (e - s) (drop s xs) (omega arith) ∙ ap (λ n. take n (drop s xs)) (sub_order e s)))
-  where
-    sub_order : (a b : ℕ) → a - b - 1 ≡ a - 1 - b
-    sub_order a b = omega arith
 
 -- the same bytes, whatever was written behind them
 pub window_written : (xs ys : List ℕ) (s e k : ℕ) → s ≤ e → e ≤ length xs → slice_range (put_mid e k xs ys) s e ≡ slice_range xs s e
