@@ -1,5 +1,5 @@
 -- Commands, read by their parts.
-use Rattle.std.proofs.Common.{◌≡◌, ◌≢◌, ◌⊎◌, inl, inr, ℕ, Bool, true, false, cond, eqb, List, [], ◌∷◌, ◌++◌, Option, Some, None, refl, sym, ap, ◌∙◌, subst, arith}
+use Rattle.std.proofs.Common.{◌≡◌, ◌≢◌, inl, ℕ, eqb, List, [], ◌∷◌, ◌++◌, Some, None, refl, sym, ap, ◌∙◌, arith}
 use Rattle.std.specs.List.{flat_map}
 use Rattle.std.specs.Option.{option_and_then, option_or}
 use Rattle.std.proofs.lemmas.Bool.{cond-true, cond-false, eq-eqb, ne_eqb}
@@ -16,7 +16,7 @@ use Rattle.mm_lang.specs.declared.reader.Reader.{Reader}
 use Rattle.mm_lang.specs.Grammar.{name, column, tuple, comma_list, table, insert, scan}
 use Rattle.mm_lang.specs.Phrases.{Phrase, ◌>>=◌, say, only_if, in_parentheses}
 use Rattle.mm_lang.specs.Reading.{first_fault, literals_of}
-use Rattle.mm_lang.specs.Tokens.{Token, tokens}
+use Rattle.mm_lang.specs.Tokens.{tokens}
 use Rattle.mm_lang.specs.steps.Parsing.{Fails, Gives, GivesItems, no_literals}
 use Rattle.mm_lang.specs.steps.Parts.{Front}
 use Rattle.mm_lang.proofs.Readings.{Took, took, or_none, took_then, took_say, fails_first, fails_next}

@@ -1,9 +1,9 @@
 -- A whole line as a command, and lines by what they hold.
-use Rattle.std.proofs.Common.{◌≡◌, ◌≢◌, ◌<◌, ◌≤◌, ◌⊎◌, inl, inr, ⊎_elim, ℕ, Bool, true, false, cond, ltb, List, [], ◌∷◌, Option, Some, None, Result, Ok, Err, length, refl, sym, ap, ◌∙◌, subst}
+use Rattle.std.proofs.Common.{◌≡◌, ◌≢◌, ◌<◌, ◌≤◌, inl, inr, ℕ, Bool, true, false, cond, ltb, List, [], ◌∷◌, Option, Some, None, Result, Ok, Err, length, refl, sym, ap, ◌∙◌}
 use Rattle.std.specs.Option.{option_and_then, option_or}
 use Rattle.std.proofs.lemmas.Bool.{cond-true, cond-false, lt-ltb, le-ltb}
 use Rattle.mm_value.specs.declared.refusal.Refusal.{Refusal}
-use Rattle.mm_value.specs.declared.refusal.Refusal.TheVariants.{LineTooLong, Syntax, Memory}
+use Rattle.mm_value.specs.declared.refusal.Refusal.TheVariants.{LineTooLong}
 use Rattle.mm_value.specs.declared.values.Value.{Value}
 use Rattle.mm_value.specs.declared.values.Value.TheVariants.{Int, Text}
 use Rattle.mm_value.specs.Literal.{is_within_limit}
@@ -18,7 +18,7 @@ use Rattle.mm_lang.specs.Tokens.{Token, tokens}
 use Rattle.mm_lang.specs.Words.{keyword_named}
 use Rattle.mm_lang.specs.steps.Parsing.{AnswersOrMemory, Fails, Finishes, Gives, no_literals}
 use Rattle.mm_lang.specs.steps.Parts.{Front}
-use Rattle.mm_lang.proofs.Readings.{Took, took, fails_first, fails_next}
+use Rattle.mm_lang.proofs.Readings.{took, fails_first, fails_next}
 use Rattle.mm_lang.proofs.SpelledCommands.{command_read}
 
 -- a command, and nothing behind it

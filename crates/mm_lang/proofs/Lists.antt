@@ -1,5 +1,5 @@
 -- Lists: what follows their first item, and the items that were read of one.
-use Rattle.std.proofs.Common.{◌≡◌, ◌≤◌, ◌<◌, ◌⊎◌, inl, inr, ℕ, zero, suc, Bool, true, false, List, [], ◌∷◌, ◌++◌, Option, Some, None, length, refl, sym, ap, ◌∙◌, subst, arith, append_assoc, append-nil}
+use Rattle.std.proofs.Common.{◌≡◌, ◌≤◌, ◌<◌, inl, inr, ℕ, zero, suc, true, false, List, [], ◌∷◌, ◌++◌, Option, Some, None, length, refl, sym, ap, ◌∙◌, subst, arith, append_assoc, append-nil}
 use Rattle.std.specs.List.{flat_map}
 use Rattle.std.specs.Option.{option_map, option_and_then, option_or}
 use Rattle.std.proofs.lemmas.List.Concat.{flat_map-append}
@@ -11,9 +11,9 @@ use Rattle.mm_lang.specs.Grammar.{comma_list}
 use Rattle.mm_lang.specs.Phrases.{Phrase, the_symbol, behind_item, at_most, list_of}
 use Rattle.mm_lang.specs.Reading.{first_fault, literal_fault}
 use Rattle.mm_lang.specs.Tokens.{Token, tokens}
-use Rattle.mm_lang.specs.steps.Parsing.{Fails, Gives, GivesItems, NeverLonger, ReadsItems, Skips, no_literals}
+use Rattle.mm_lang.specs.steps.Parsing.{Fails, Gives, GivesItems, NeverLonger, Skips}
 use Rattle.mm_lang.specs.steps.Parts.{Front, one_parts}
-use Rattle.mm_lang.proofs.Readings.{Took, took, or_none}
+use Rattle.mm_lang.proofs.Readings.{took, or_none}
 
 and_then_same : {A B : Type 0} (o : Option A) (f g : A → Option B) → ((x : A) → o ≡ Some x → f x ≡ g x) → option_and_then f o ≡ option_and_then g o
 and_then_same None f g h = refl

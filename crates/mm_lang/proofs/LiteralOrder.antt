@@ -19,9 +19,9 @@ use Rattle.mm_query.specs.declared.command.Command.{Command}
 use Rattle.mm_query.specs.declared.command.Command.TheVariants as command
 use Rattle.mm_query.specs.declared.command.Definition.TheVariants as define
 use Rattle.mm_query.specs.declared.command.Mutation.TheVariants as change
-use Rattle.mm_lang.specs.declared.token.Symbol.TheVariants.{Open, Close, Comma}
+use Rattle.mm_lang.specs.declared.token.Symbol.TheVariants.{Close, Comma}
 use Rattle.mm_lang.specs.Grammar.{literal_of, command_of}
-use Rattle.mm_lang.specs.Reading.{first_fault, literal_fault, literals_of, past_limit}
+use Rattle.mm_lang.specs.Reading.{first_fault, literals_of, past_limit}
 use Rattle.mm_lang.specs.Spelling.{word, type_word, role_tokens, SpellsLiteral, SpellsOne, SpellsList, SpellsInParentheses, SpellsTuple, SpellsColumn, SpellsCommand}
 use Rattle.mm_lang.specs.Tokens.{Token, Word, Mark}
 use Rattle.mm_lang.specs.steps.Parsing.{no_literals, only_literal}

@@ -1,5 +1,5 @@
 -- What a token is as a literal, and what reading its bytes as one gives.
-use Rattle.std.proofs.Common.{◌≡◌, ◌<◌, ◌≤◌, ◌⊎◌, inl, inr, ⊎_elim, ℕ, Bool, true, false, cond, List, [], ◌∷◌, ◌++◌, Option, Some, None, Result, Ok, Err, length, Bor, MatchResult, refl, sym, ap, ◌∙◌, subst, arith}
+use Rattle.std.proofs.Common.{◌≡◌, ◌<◌, ◌⊎◌, inl, inr, ⊎_elim, ℕ, Bool, true, false, cond, List, [], ◌∷◌, ◌++◌, Option, Some, None, Result, Ok, Err, length, Bor, MatchResult, refl, sym, ap, ◌∙◌, subst, arith}
 use Rattle.std.specs.Prelude.{pos, ℤ, IsErrOf, FitsSigned, ◌↔◌}
 use Rattle.std.specs.Option.{option_map, option_or}
 use Rattle.std.specs.Int.{w64}
@@ -11,15 +11,15 @@ use Rattle.mm_value.specs.declared.refusal.Refusal.TheVariants.{Syntax, NumberOu
 use Rattle.mm_value.specs.declared.values.Value.{Value}
 use Rattle.mm_value.specs.declared.values.Value.TheVariants.{Int, Text}
 use Rattle.mm_value.specs.Literal.{is_numeral, is_within_limit, IsNumeral, SpellsInt, SpellsText, Spells, IsWithinLimit, doubled}
-use Rattle.mm_value.proofs.Limits.{int_within, text_within}
+use Rattle.mm_value.proofs.Limits.{int_within}
 use Rattle.mm_value.proofs.Spelling.{minus_no_digits, minus_no_text}
 use Rattle.mm_lang.specs.declared.token.Token.{Token as Shown}
 use Rattle.mm_lang.specs.declared.token.Token.TheVariants as shown
 use Rattle.mm_lang.specs.declared.reader.Reader.{Reader}
 use Rattle.mm_lang.specs.Grammar.{literal_of}
-use Rattle.mm_lang.specs.Phrases.{Phrase, one}
-use Rattle.mm_lang.specs.Reading.{checked, unless, first_fault, literal_fault, past_limit}
-use Rattle.mm_lang.specs.steps.Parsing.{AnswersOrMemory, Fails, Gives, is_limit, only_literal}
+use Rattle.mm_lang.specs.Phrases.{one}
+use Rattle.mm_lang.specs.Reading.{checked, unless, literal_fault, past_limit}
+use Rattle.mm_lang.specs.steps.Parsing.{AnswersOrMemory, Gives, is_limit, only_literal}
 use Rattle.mm_lang.specs.steps.Parts.{Front}
 use Rattle.mm_lang.specs.steps.Splitting.{Shows, Splits}
 use Rattle.mm_lang.specs.Tokens.{Token, Word, Signed, Quoted, is_word_byte, begins_word, tokens}
@@ -165,12 +165,3 @@ module _ (old : Reader) (token : Shown) (rest : Bor (List ℕ)) (e : Refusal) (s
         same = λ none. absurd (cc (h.2, none));
         shorter = omega (arith, s.shorter);
       }
-
-  pub literal_refused : is_limit e ≡ false → Fails (one literal_of) old e
-  unfolding front
-  literal_refused other = ⊎_elim (λ h. by (faulty (literal_of s.first) e h)) (λ h. inr h) answers
-    where
-      by : ((literal_of s.first ≡ None) × (e ≡ Syntax)) ⊎ ((v : Value) × (literal_of s.first ≡ Some v) × (literal_fault v ≡ Some e) × (is_limit e ≡ true))
-          → Fails (one literal_of) old e
-      by (inl h) = inl (h.1, ap (one literal_of) s.in_front ∙ ap (option_map (front rest.now)) h.0)
-      by (inr h) = absurd (false≢true (sym other ∙ h.3))

@@ -1,6 +1,6 @@
 -- Commands: what is read is spelled so, and what is spelled is read.
-use Rattle.std.proofs.Common.{◌≡◌, ◌⊎◌, inl, inr, ⊎_elim, ℕ, true, cond, eqb, List, [], ◌∷◌, ◌++◌, Option, Some, None, refl, sym, ap, subst, ◌∙◌, append-nil}
-use Rattle.std.specs.Option.{option_map, option_and_then, option_or}
+use Rattle.std.proofs.Common.{◌≡◌, ⊎_elim, ℕ, eqb, List, [], ◌∷◌, ◌++◌, Option, Some, None, refl, sym, ap, subst, ◌∙◌, append-nil}
+use Rattle.std.specs.Option.{option_and_then, option_or}
 use Rattle.std.proofs.lemmas.Bool.{cond-true, eqb-true, eq-eqb}
 use Rattle.std.proofs.lemmas.Option.{none-some, same_Some}
 use Rattle.mm_schema.specs.Columns.{key_count}
@@ -17,12 +17,12 @@ use Rattle.mm_query.specs.declared.command.Definition.TheVariants as define
 use Rattle.mm_query.specs.declared.command.Mutation.TheVariants as change
 use Rattle.mm_lang.specs.declared.keyword.Keyword.{Keyword}
 use Rattle.mm_lang.specs.declared.keyword.Keyword.TheVariants as keyword
-use Rattle.mm_lang.specs.declared.token.Symbol.TheVariants.{Close, Comma}
+use Rattle.mm_lang.specs.declared.token.Symbol.TheVariants.{Comma}
 use Rattle.mm_lang.specs.Grammar.{literal_of, name, type_named, col_type, column, tuple, comma_list, table, insert, scan, command_behind, command_of}
 use Rattle.mm_lang.specs.Phrases.{Phrase, ◌>>=◌, ◌>>◌, say, one, one_word, the_symbol, the_keyword, only_if, optional, in_parentheses, alone}
 use Rattle.mm_lang.specs.Spelling.{word, type_word, role_tokens, SpellsLiteral, SpellsOne, SpellsList, SpellsInParentheses, SpellsTuple, SpellsColumn, SpellsCommand}
 use Rattle.mm_lang.specs.Tokens.{Token, Word, Mark}
-use Rattle.mm_lang.specs.Words.{keyword_named, keyword_text}
+use Rattle.mm_lang.specs.Words.{keyword_named}
 use Rattle.mm_lang.specs.steps.Parts.{Front, said_same, tested, chained, then_parts, word_parts, optional_parts}
 use Rattle.mm_lang.proofs.SpelledWords.{symbol_read, keyword_read, named_read, name_read, name_spelled, literal_read, literal_spelled}
 use Rattle.mm_lang.proofs.Exactness.{IsExact, IsToken, Always, one_exact, list_exact, parentheses_exact}

@@ -1,5 +1,5 @@
 -- Symbols, keywords, names and literals: what a single token is read as, and what the grammar says.
-use Rattle.std.proofs.Common.{◌≡◌, ℕ, Bool, true, false, cond, List, [], ◌∷◌, Option, Some, None, Decides, pos, neg_ℤ, refl, sym, ap, subst, ◌∙◌}
+use Rattle.std.proofs.Common.{◌≡◌, ℕ, Bool, true, false, cond, List, [], ◌∷◌, Some, None, Decides, pos, neg_ℤ, refl, sym, ap, subst, ◌∙◌}
 use Rattle.std.specs.List.{find}
 use Rattle.std.specs.Option.{option_map}
 use Rattle.std.specs.Str.Parse.{digits_value}
@@ -19,7 +19,7 @@ use Rattle.mm_lang.specs.Phrases.{is_mark, the_keyword, the_symbol}
 use Rattle.mm_lang.specs.Spelling.{word, SpellsLiteral}
 use Rattle.mm_lang.specs.Tokens.{Token, Word, Signed, Quoted, Mark, Unreadable}
 use Rattle.mm_lang.specs.Words.{is_symbol, is_word, keyword_named, keyword_text}
-use Rattle.mm_lang.specs.steps.Parts.{Front, tested, mapped, one_parts, word_parts}
+use Rattle.mm_lang.specs.steps.Parts.{Front, tested, one_parts, word_parts}
 
 symbol_same : (a b : Symbol) → is_symbol a b ≡ true → b ≡ a
 symbol_same Open Open h = refl

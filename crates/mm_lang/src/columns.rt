@@ -7,7 +7,7 @@ use crate::reader::Reader;
 use mm_schema::{Column, Role};
 use mm_value::Refusal;
 
-/// Columns: a name, a type, and `KEY` behind it where the column is the key.
+/// How a column is read: its name, its type, and `KEY` behind these where it is the key. Its item is the column.
 #[derive(Drop)]
 pub(crate) struct ColumnPhrase;
 
@@ -24,6 +24,7 @@ impl Phrase for ColumnPhrase {
 
     ghost never_longer = { column_never_longer };
 
+    /// Reads a column. `Syntax` where no name stands first in the rest, or no type behind it.
     fn read(&mut self, reader: &mut Reader<'_>) -> Result<Column, Refusal> {
         let name = reader.name()?;
         let col_type = reader.col_type()?;

@@ -2,7 +2,7 @@
 ghost use Rattle.std.specs.Prelude.{◌≡◌};
 ghost use Rattle.mm_lang.specs.Words.{is_word, keyword_named, keyword_text};
 
-/// A word in upper case that is no name.
+/// A word in upper case that the language keeps to itself. No name is one, since names are in lower case.
 #[derive(Clone, Copy, Debug, PartialEq, Eq)]
 pub enum Keyword {
     And,
@@ -36,7 +36,7 @@ pub enum Keyword {
     Where,
 }
 
-/// All keywords.
+/// All keywords, in the order of the alphabet.
 pub(crate) const KEYWORDS: [Keyword; 29] = [
     Keyword::And,
     Keyword::Begin,
@@ -70,7 +70,7 @@ pub(crate) const KEYWORDS: [Keyword; 29] = [
 ];
 
 impl Keyword {
-    /// How it is written.
+    /// The word that it is written as, in upper case.
     pub fn text(self) -> &'static [u8]
         ensures { result.now ≡ keyword_text self }
     {
@@ -107,7 +107,7 @@ impl Keyword {
         }
     }
 
-    /// The keyword that a word is.
+    /// The keyword that is written as this word, none where none is.
     pub(crate) fn named(word: &[u8]) -> Option<Keyword>
         ensures { result ≡ keyword_named word.now }
     {

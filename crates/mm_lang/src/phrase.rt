@@ -27,7 +27,8 @@ pub(crate) trait Phrase {
     ghost never_longer: { NeverLonger reading };
 }
 
-/// Reads one or more items, with a comma between each two, and puts them behind those that are there.
+/// Reads one or more items, with a comma between each two, and puts them behind those that are there. `Syntax` where no
+/// item stands there or behind a comma, `Memory` where memory was refused.
 pub(crate) fn read_list<P: Phrase>(
     phrase: &mut P,
     reader: &mut Reader<'_>,
@@ -43,7 +44,7 @@ pub(crate) fn read_list<P: Phrase>(
     }
 }
 
-/// Reads a list in parentheses.
+/// Reads a list in parentheses, as `read_list` does. `Syntax` also where one of the parentheses does not stand there.
 pub(crate) fn read_in_parentheses<P: Phrase>(
     phrase: &mut P,
     reader: &mut Reader<'_>,

@@ -15,8 +15,8 @@ use mm_schema::Name;
 use mm_value::{ColType, Refusal, Value, read_literal};
 use std::alloc::Global;
 
-/// What is left of a line to be read, and the first literal past its limit. Its calls read what stands first in the rest.
-/// They answer `Syntax` where it does not stand there.
+/// What is left of a line to be read, and the first literal past its limit. Its calls read what stands first in the
+/// rest. They answer `Syntax` where it does not stand there, and then the line is not read any further.
 #[derive(Drop)]
 pub(crate) struct Reader<'a> {
     alloc: Global,
@@ -25,7 +25,7 @@ pub(crate) struct Reader<'a> {
 }
 
 impl<'a> Reader<'a> {
-    /// A reader of all the bytes of a line.
+    /// A reader of all the bytes of a line, with no literal past its limit so far.
     pub(crate) fn new(alloc: Global, line: &'a [u8]) -> Reader<'a>
         ensures rest { result.rest.now ≡ line.now }
         ensures fault { result.fault ≡ None }
@@ -37,12 +37,12 @@ impl<'a> Reader<'a> {
         }
     }
 
-    /// Where the memory comes from.
+    /// The allocator of what is read.
     pub(crate) fn alloc(&self) -> Global {
         self.alloc
     }
 
-    /// Takes this symbol, and tells whether it stood there.
+    /// Takes this symbol, and tells whether it stood there. Where it did not, nothing is taken.
     pub(crate) fn skip(&mut self, symbol: Symbol) -> bool
         ensures { Skips (the_symbol symbol) self.old self.new result }
     {
@@ -55,7 +55,7 @@ impl<'a> Reader<'a> {
         }
     }
 
-    /// Takes this keyword, and tells whether it stood there.
+    /// Takes this keyword, and tells whether it stood there. Where it did not, nothing is taken.
     pub(crate) fn skip_keyword(&mut self, keyword: Keyword) -> bool
         ensures { Skips (the_keyword keyword) self.old self.new result }
     {
@@ -68,7 +68,7 @@ impl<'a> Reader<'a> {
         }
     }
 
-    /// This symbol.
+    /// Reads this symbol. `Syntax` where anything else stands there.
     pub(crate) fn symbol(&mut self, symbol: Symbol) -> Result<(), Refusal>
         ensures { ReadsPhrase (the_symbol symbol) no_literals self.old self.new result }
     {
@@ -79,7 +79,7 @@ impl<'a> Reader<'a> {
         }
     }
 
-    /// A keyword.
+    /// Reads a keyword, and gives it. `Syntax` where no word stands there, or one that is no keyword.
     pub(crate) fn keyword(&mut self) -> Result<Keyword, Refusal>
         ensures { ReadsPhrase (one_word keyword_named) no_literals self.old self.new result }
     {
@@ -87,7 +87,7 @@ impl<'a> Reader<'a> {
         Keyword::named(word).ok_or(Refusal::Syntax)
     }
 
-    /// A name.
+    /// Reads a name, and gives it. `Syntax` where no word stands there, or one that is no name.
     pub(crate) fn name(&mut self) -> Result<Name, Refusal>
         ensures { ReadsPhrase name no_literals self.old self.new result }
     {
@@ -95,7 +95,7 @@ impl<'a> Reader<'a> {
         Name::new(word).ok_or(Refusal::Syntax)
     }
 
-    /// A type.
+    /// Reads `INT` or `TEXT`, and gives the type. `Syntax` where neither stands there.
     pub(crate) fn col_type(&mut self) -> Result<ColType, Refusal>
         ensures { ReadsPhrase col_type no_literals self.old self.new result }
     {
@@ -106,8 +106,8 @@ impl<'a> Reader<'a> {
         }
     }
 
-    /// A literal. Where it passes its limit that is noted, and a zero stands in its place.
-    /// `Memory` where that was refused.
+    /// Reads a literal, and gives its value. Where it passes its limit that is noted, and a zero stands in its place.
+    /// `Syntax` where no literal stands there, `Memory` where memory was refused for a text.
     pub(crate) fn literal(&mut self) -> Result<Value, Refusal>
         ensures { ReadsPhrase (one literal_of) only_literal self.old self.new result }
     {
@@ -128,7 +128,8 @@ impl<'a> Reader<'a> {
         }
     }
 
-    /// The end of the line: `Syntax` where something stands there, else the first fault.
+    /// Tells how the reading of the line ends: `Syntax` where something is left of it, else `NumberOutOfRange` or
+    /// `TextTooLong` where a number or a text was the first literal past its limit.
     pub(crate) fn finish(&self) -> Result<(), Refusal>
         ensures { Finishes self.now result }
     {
@@ -141,7 +142,7 @@ impl<'a> Reader<'a> {
         }
     }
 
-    // A word.
+    // Reads a word, and gives its bytes. `Syntax` where none stands there.
     fn word(&mut self) -> Result<&'a [u8], Refusal>
         ensures { MatchResult result (λ word. Gives (one word_of) no_literals self.old self.new word.now) (Fails (one word_of) self.old) }
     {

@@ -6,7 +6,7 @@ use crate::reader::Reader;
 use mm_value::{Refusal, Row, Value};
 use std::alloc::{AllocError, Global};
 
-/// LiteralPhrase.
+/// How a literal is read, a number or a text. Its item is the value.
 #[derive(Drop)]
 pub(crate) struct LiteralPhrase;
 
@@ -24,19 +24,22 @@ impl Phrase for LiteralPhrase {
 
     ghost never_longer = { one_never_longer literal_of };
 
+    /// Reads a literal. `Syntax` where none stands first in the rest, `Memory` where memory was refused for a text. A
+    /// literal past its limit is no error yet: it is noted in the reader, and a zero stands in its place.
     fn read(&mut self, reader: &mut Reader<'_>) -> Result<Value, Refusal> {
         reader.literal()
     }
 }
 
-/// TuplePhrase: literals in parentheses. The values of each are gathered before the row gets its block.
+/// How a tuple is read: literals in parentheses, with a comma between each two. Its item is the row of their values,
+/// which are gathered here before the row gets its block.
 #[derive(Drop)]
 pub(crate) struct TuplePhrase {
     values: Vec<Value>,
 }
 
 impl TuplePhrase {
-    /// No value is gathered yet, so no memory is taken.
+    /// The phrase with no value gathered yet. It takes no memory.
     pub(crate) fn new(alloc: Global) -> TuplePhrase {
         TuplePhrase {
             values: Vec::new(alloc),
@@ -56,6 +59,8 @@ impl Phrase for TuplePhrase {
 
     ghost never_longer = { tuple_never_longer };
 
+    /// Reads a tuple. `Syntax` where none stands first in the rest, `Memory` where memory was refused for a text, for
+    /// the values or for the row. A literal past its limit is no error yet: it is noted in the reader.
     fn read(&mut self, reader: &mut Reader<'_>) -> Result<Row, Refusal> {
         self.values.clear();
         read_in_parentheses(&mut LiteralPhrase, reader, &mut self.values)?;
@@ -63,8 +68,8 @@ impl Phrase for TuplePhrase {
     }
 }
 
-// A row of these values, which are none afterwards. A row is kept, so it gets a block of just their size: one that
-// shrank where it lies would leave a gap behind it.
+// A row of these values, which are none afterwards. `AllocError` where memory was refused; then they are as before.
+// A row is kept, so it gets a block of just their size: one that shrank where it lies would leave a gap behind it.
 fn take_row(alloc: Global, values: &mut Vec<Value>) -> Result<Row, AllocError>
     ensures row { IfOk result (λ r. r ≡ values.old.items) }
     ensures taken { OnOk result (values.new.items ≡ []) }

@@ -1,12 +1,11 @@
 -- Ordered lists of references: what their edits leave, what a search found, and the entries of a range.
-use Rattle.std.proofs.Common.{◌≡◌, ◌≢◌, ℕ, ◌<◌, ◌≤◌, Bool, true, false, ◌&&◌, List, [], ◌∷◌, ◌++◌, length, get_or, take, drop, suc, ◌⊎◌, refl, sym, ap, ◌∙◌, subst, ⊎_elim, arith, add-zero, length-append, length-take, length-drop}
+use Rattle.std.proofs.Common.{◌≡◌, ◌≢◌, ℕ, ◌<◌, ◌≤◌, Bool, true, false, ◌&&◌, List, [], ◌∷◌, ◌++◌, length, get_or, take, drop, suc, ◌⊎◌, refl, sym, ap, ◌∙◌, subst, ⊎_elim, arith, add-zero, length-take, length-drop}
 use Rattle.std.proofs.lemmas.Bool.{cases_order}
 use Rattle.std.proofs.lemmas.List.{take-append-drop, get_or-drop, get_or-take, append-nil}
 use Rattle.std.proofs.lemmas.List.Elements.{All-append, All-cons, All-head, All-tail, filter-append}
 use Rattle.std.proofs.Math.Seq.{drop-cons}
 use Rattle.std.specs.List.{All, AllPairs, Contains, filter}
-use Rattle.std.specs.List.Sorted.{IsNonDecreasingBy, IsPermutation}
-use Rattle.std.proofs.lemmas.List.Sorted.{IsPermutation-middle}
+use Rattle.std.specs.List.Sorted.{IsNonDecreasingBy}
 use Rattle.std.specs.Ordering.{ordering_reverse, ordering_index, is_le, is_ge}
 use Rattle.std.specs.declared.cmp.Ordering.{Ordering}
 use Rattle.std.specs.declared.cmp.Ordering.TheVariants.{Less, Equal, Greater}
@@ -98,16 +97,6 @@ module _ (cmp : RowRef → RowRef → Ordering) (refs : List RowRef) (added : Ro
       let parts : All P (adds.front ++ added ∷ adds.back) = subst (All P) adds.more_are all in
       subst (All P) (sym adds.refs_are) (All-append P adds.front adds.back (All-append_left P adds.front (added ∷ adds.back) parts)
       (All-tail P added adds.back (All-append_right P adds.front (added ∷ adds.back) parts)))
-
-  pub length-added : length more ≡ suc (length refs)
-  length-added =
-      omega (arith, ap length adds.more_are, ap length adds.refs_are, length-append adds.front (added ∷ adds.back), length-append adds.front adds.back)
-
-  -- the new list holds the new reference and the old ones
-  pub IsPermutation-added : IsPermutation more (added ∷ refs)
-  IsPermutation-added =
-      subst (λ xs. IsPermutation xs (added ∷ refs)) (sym adds.more_are)
-      (subst (λ xs. IsPermutation (adds.front ++ added ∷ adds.back) (added ∷ xs)) (sym adds.refs_are) (IsPermutation-middle adds.front added adds.back))
 
 module _ (Covers : RowRef → Type 0) (cmp : RowRef → RowRef → Ordering) where
   Below : RowRef → RowRef → Type 0

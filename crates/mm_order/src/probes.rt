@@ -24,7 +24,9 @@ pub trait Probe {
 /// it does itself. The order has to cover it.
 #[derive(Drop)]
 pub struct AtReference<'a, O> {
+    /// The order along which the place is sought.
     pub order: &'a O,
+    /// The reference whose place it is.
     pub sought: RowRef,
 }
 

@@ -7,7 +7,7 @@ use mm_schema::{Name, TableDef};
 pub enum Mutation {
     /// Adds all these rows to a table, or none.
     Insert {
-        /// The table.
+        /// The name of the table.
         table: Name,
         /// One row for each tuple.
         tuples: RowList,
@@ -17,7 +17,7 @@ pub enum Mutation {
 /// A change of the catalog.
 #[derive(Debug, Drop)]
 pub enum Definition {
-    /// A new table.
+    /// Makes a new table, which has no rows.
     Table(TableDef),
 }
 
@@ -30,6 +30,6 @@ pub enum Command {
     Define(Definition),
     /// A change of rows.
     Change(Mutation),
-    /// All rows of a table in key order.
+    /// Asks for all rows of the table of this name, in key order.
     Scan(Name),
 }

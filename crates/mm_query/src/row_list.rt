@@ -20,14 +20,14 @@ impl Model for RowList {
 }
 
 impl RowList {
-    /// A list of these rows.
+    /// The list of these rows, in their order. It takes no memory.
     pub fn new(rows: Vec<Row>) -> RowList
         ensures { result ≡ rows.items }
     {
         RowList { rows }
     }
 
-    /// The rows.
+    /// The rows, in their order.
     pub fn as_slice(&self) -> &[Row]
         ensures { result.now ≡ self.now }
     {

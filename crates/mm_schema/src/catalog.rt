@@ -72,7 +72,7 @@ impl Catalog {
         None
     }
 
-    /// The table of a name.
+    /// The table of a name, none where no table has it. No two tables have one name.
     #[tactic(auto, using(crate::proofs::Places::table_at_place, crate::proofs::Places::no_table))]
     pub fn find_table(&self, name: &Name) -> Option<&Table>
         ensures found { option_copied result ≡ table_named name.now self.now }
@@ -90,7 +90,7 @@ impl Catalog {
         self.tables.get_index(place).unwrap().1
     }
 
-    /// The place of the table of a name in the order of creation, counted from 0.
+    /// The place of the table of a name in the order of creation, counted from 0; none where no table has it.
     pub fn place_of(&self, name: &Name) -> Option<usize>
         ensures place { result ≡ table_place name.now self.now }
         ensures distinct { HasDistinctNames self.now }

@@ -73,7 +73,7 @@ impl Columns {
         Some(Columns { items, key })
     }
 
-    /// The columns.
+    /// The columns from left to right, of which just one is the key.
     pub fn as_slice(&self) -> &[Column]
         ensures value { result.now ≡ self.now }
         ensures one_key { key_count self.now ≡ 1 }

@@ -38,7 +38,7 @@ impl Name {
         Some(Name { bytes })
     }
 
-    /// A copy.
+    /// A name of the same bytes. It takes no memory.
     pub fn copy(&self) -> Name
         ensures { result ≡ self.now }
     {
@@ -46,7 +46,7 @@ impl Name {
         Name { bytes }
     }
 
-    /// The bytes.
+    /// The bytes of the name: 1 to 32.
     pub fn bytes(&self) -> &[u8]
         ensures value { result.now ≡ self.now }
         ensures is_name { IsName self.now }

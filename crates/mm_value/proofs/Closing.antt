@@ -3,7 +3,7 @@ use Rattle.std.proofs.Common.{◌≡◌, ◌≢◌, ◌⊎◌, inl, inr, ◌<◌
 use Rattle.std.specs.List.{All}
 use Rattle.std.proofs.lemmas.Bool.{cases_eq}
 use Rattle.std.proofs.lemmas.List.{take_all, take_more_set, take-append-le}
-use Rattle.std.proofs.lemmas.List.Elements.{All-head, All-tail}
+use Rattle.std.proofs.lemmas.List.Elements.{All-tail}
 use Rattle.mm_value.specs.Literal.{doubled_byte, doubled}
 use Rattle.mm_value.specs.Reading.{Closes}
 use Rattle.mm_value.proofs.Quotes.{doubled_other, doubled-append}
@@ -26,28 +26,6 @@ begins x xs (t ∷ ts) e =
       | inl is ↦ let f : x ∷ xs ≡ 39 ∷ (39 ∷ (doubled ts ++ 39 ∷ [])) = e ∙ ap (λ l. l ++ 39 ∷ []) (doubled_at_quote t ts is) in inr (inl (ts, cc, cc, cc))
       | inr ne ↦ let f : x ∷ xs ≡ t ∷ (doubled ts ++ 39 ∷ []) = e ∙ ap (λ l. l ++ 39 ∷ []) (doubled_other t ts ne) in
           let g : x ≡ t = cc in inr (inr (ts, cc, subst (λ b. b ≢ 39) (sym g) ne, cc))
-    ]
-
--- a text is closed by its quote alone
-pub Closes-empty : (text : List ℕ) → Closes [] text → ⊥
-Closes-empty text h = omega (arith, ap length h.spelled, length-append (doubled text) (39 ∷ []))
-
--- no text goes on with a line feed
-pub Closes-line_feed : (x : ℕ) (xs text : List ℕ) → x ≡ 10 → Closes (x ∷ xs) text → ⊥
-Closes-line_feed x xs text e h =
-    elim (begins x xs text h.spelled) [
-      | inl w ↦ absurd (omega (arith, w.1))
-      | inr (inl w) ↦ absurd (omega (arith, w.2))
-      | inr (inr w) ↦ All-head (λ b. b ≢ 10) x w.0 (subst (All (λ b. b ≢ 10)) w.1 h.one_line) e
-    ]
-
--- nor with a quote before another byte
-pub Closes-quote : (x y : ℕ) (ys text : List ℕ) → x ≡ 39 → y ≢ 39 → Closes (x ∷ y ∷ ys) text → ⊥
-Closes-quote x y ys text e ne h =
-    elim (begins x (y ∷ ys) text h.spelled) [
-      | inl w ↦ cc (w.2)
-      | inr (inl w) ↦ let f = w.3 in ne cc
-      | inr (inr w) ↦ w.2 e
     ]
 
 -- what is left of a text after a front of it

@@ -9,9 +9,6 @@ use Rattle.mm_value.specs.Literal.{doubled_byte, doubled}
 pub doubled-append : (xs ys : List ℕ) → doubled (xs ++ ys) ≡ doubled xs ++ doubled ys
 doubled-append xs ys = flat_map-append doubled_byte xs ys
 
-pub doubled_quote : (xs : List ℕ) → doubled (39 ∷ xs) ≡ 39 ∷ 39 ∷ doubled xs
-doubled_quote xs = refl
-
 pub doubled_other : (x : ℕ) (xs : List ℕ) → x ≢ 39 → doubled (x ∷ xs) ≡ x ∷ doubled xs
 doubled_other x xs ne = ap (λ b. cond b (39 ∷ 39 ∷ []) (x ∷ []) ++ doubled xs) (ne_eqb x 39 ne)
 

@@ -56,10 +56,6 @@ SpellsText-closes body text h = record { spelled = let e = h.0 in cc; one_line =
 pub Closes-spells : (body text : List ℕ) → Closes body text → SpellsText (39 ∷ body) text
 Closes-spells body text h = (ap (λ l. 39 ∷ l) h.spelled, h.one_line)
 
--- what spells a text begins with a quote
-SpellsText-head : (bytes text : List ℕ) → SpellsText bytes text → (body : List ℕ) × (bytes ≡ 39 ∷ body)
-SpellsText-head bytes text h = (doubled text ++ 39 ∷ [], h.0)
-
 pub SpellsText-unique : (bytes text other : List ℕ) → SpellsText bytes text → SpellsText bytes other → text ≡ other
 SpellsText-unique bytes text other p q =
     let body = doubled text ++ 39 ∷ [] in

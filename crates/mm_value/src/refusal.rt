@@ -97,7 +97,7 @@ impl Refusal {
         }
     }
 
-    /// What it says, in ASCII.
+    /// Its text, which a reply has behind the number, in ASCII.
     pub fn text(self) -> &'static str
         ensures { result.now ≡ refusal_text self }
     {

@@ -50,7 +50,7 @@ impl Text {
         })
     }
 
-    /// The bytes.
+    /// The bytes of the text: at most 64, and no line feed among them.
     pub fn bytes(&self) -> &[u8]
         ensures value { result.now ≡ self.now }
         ensures is_text { IsText self.now }
@@ -58,7 +58,7 @@ impl Text {
         self.bytes.as_slice()
     }
 
-    /// A copy. `Memory` is answered only for more than 16 bytes.
+    /// A text of the same bytes. `Memory` is the only refusal, and answered only for more than 16 bytes.
     pub fn copy(&self, alloc: Global) -> Result<Text, Refusal>
         ensures ok { IfOk result (λ text. text ≡ self.now) }
         ensures memory { IfErr result (λ e. e ≡ Memory) }

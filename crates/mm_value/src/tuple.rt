@@ -52,7 +52,8 @@ impl Row {
         self.values.as_slice()
     }
 
-    /// A copy. `Memory` is the only refusal.
+    /// A row of the same values. `Memory` where memory is refused for the list of them or for a text; that is the only
+    /// refusal.
     pub fn copy(&self, alloc: Global) -> Result<Row, Refusal>
         ensures ok { IfOk result (λ row. row ≡ self.now) }
         ensures memory { IfErr result (λ e. e ≡ Memory) }

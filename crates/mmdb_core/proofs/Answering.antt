@@ -22,11 +22,11 @@ use Rattle.mm_query.specs.declared.command.Command.TheVariants.{Nothing}
 use Rattle.mm_query.specs.declared.reply.Reply.{Reply}
 use Rattle.mm_query.specs.declared.reply.Reply.TheVariants.{Refused}
 use Rattle.mmdb_core.specs.steps.Feeds.{EndsLine}
-use Rattle.mmdb_core.specs.steps.Input.{Comes, Finds, IsLastLine, IsLine, PassesLine, StopsInLine}
-use Rattle.mmdb_core.specs.steps.Respond.{RepliesToLine, GoesOn, IsStep, MayLeadTo, PassesReplied, Replies, RepliesToReading, WritesNothing}
+use Rattle.mmdb_core.specs.steps.Input.{Comes, Finds, IsLastLine, IsLine, PassesLine}
+use Rattle.mmdb_core.specs.steps.Respond.{RepliesToLine, GoesOn, IsStep, MayLeadTo, PassesReplied, Replies, RepliesToReading}
 use Rattle.mmdb_core.specs.Run.{answer, is_error, outcome_of, refused_outcome}
 use Rattle.mmdb_core.specs.declared.fault.RunFault.{RunFault}
-use Rattle.mmdb_core.specs.declared.fault.RunFault.TheVariants.{Read, Write, TooLong}
+use Rattle.mmdb_core.specs.declared.fault.RunFault.TheVariants.{Write}
 use Rattle.mmdb_core.specs.declared.input.Input.{Input}
 use Rattle.mmdb_core.specs.declared.input.Next.TheVariants.{Line}
 use Rattle.mmdb_core.proofs.Inputs.{Advances-skip, Advances-then}
@@ -219,12 +219,3 @@ replied_goes_on (Err e) h = record {
     };
   };
 }
-
--- how a run goes on where its input broke off
-pub stops_goes_on : {R W : Type 0} {remaining : R → Option (List ℕ)} {contents : W → Option (List ℕ)} {reader later : Watched R} {input next : Input}
-    (before after : State) {old new : Watched W}
-    (fault : RunFault) → StopsInLine remaining reader later input next fault → WritesNothing contents old new
-    → GoesOn remaining contents reader later input next before after old new (Err fault)
-stops_goes_on before after Read stops nothing = (stops, nothing)
-stops_goes_on before after Write stops nothing = absurd stops.why
-stops_goes_on before after TooLong stops nothing = (stops, nothing)

@@ -1,11 +1,11 @@
 -- The database's calls as steps of the machine, by the catalog and the rows beside its tables.
-use Rattle.std.proofs.Common.{◌≡◌, ℕ, ◌<◌, List, [], ◌∷◌, ◌++◌, Some, None, zero, suc, length, map, slice_get, slice_index_or, slice_set, refl, sym, ap, subst, ◌∙◌, arith}
-use Rattle.std.specs.List.{IsDistinct, position_or_len}
+use Rattle.std.proofs.Common.{◌≡◌, ℕ, ◌<◌, List, [], ◌∷◌, ◌++◌, Some, None, zero, suc, length, slice_get, slice_index_or, slice_set, refl, sym, ap, subst, ◌∙◌, arith}
+use Rattle.std.specs.List.{position_or_len}
 use Rattle.std.proofs.lemmas.List.{map-append}
 use Rattle.std.proofs.lemmas.Option.{slice_get_read}
 use Rattle.mm_schema.specs.Columns.{key_place}
 use Rattle.mm_schema.specs.Name.{same_name}
-use Rattle.mm_schema.specs.Instance.{changed_instance, rows_named}
+use Rattle.mm_schema.specs.Instance.{changed_instance}
 use Rattle.mm_schema.specs.Refused.{first_refusal}
 use Rattle.mm_schema.specs.Rows.{Pair, additions, changed, table_rows_conditions}
 use Rattle.mm_schema.specs.Schema.{HasDistinctNames, Schema, key_named, table_place, with_table}

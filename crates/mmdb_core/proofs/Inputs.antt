@@ -1,20 +1,15 @@
 -- How an input goes on, one step after another.
-use Rattle.std.proofs.Common.{◌≡◌, ◌⊎◌, inl, inr, ⊎_elim, ℕ, suc, zero, ◌+◌, ◌-◌, ◌<◌, ◌≤◌, true, false, Option, Some, Result, Ok, Err, List, [], ◌∷◌, ◌++◌, length, take, drop, refl, sym, ap, subst, ◌∙◌, arith, append_assoc, length-append}
-use Rattle.std.proofs.KnownBytes.{Consumes-kept, Consumes-nil, Consumes-trans}
-use Rattle.std.proofs.Math.Seq.{take-append-add, take-nil}
-use Rattle.std.proofs.lemmas.List.{append-nil, length-take, take-append-drop, take_all}
+use Rattle.std.proofs.Common.{◌≡◌, ℕ, suc, zero, ◌+◌, ◌-◌, ◌≤◌, Option, Result, Err, List, [], ◌∷◌, ◌++◌, length, take, drop, refl, sym, ap, subst, ◌∙◌, arith, append_assoc, length-append}
+use Rattle.std.proofs.KnownBytes.{Consumes-nil, Consumes-trans}
+use Rattle.std.proofs.Math.Seq.{take-nil}
+use Rattle.std.proofs.lemmas.List.{append-nil, length-take, take-append-drop}
 use Rattle.std.specs.Prelude.{IfErr}
-use Rattle.std.specs.Io.KnownBytes.{Keeps}
-use Rattle.mm_lang.specs.Lines.{HasNoFeed}
 use Rattle.mm_value.specs.Watched.{inner_of}
 use Rattle.mm_value.specs.declared.device.Watched.{Watched}
-use Rattle.mmdb_core.specs.steps.Feeds.{EndsWith, LooksLike}
-use Rattle.mmdb_core.specs.steps.Input.{Advances, Comes, Finds, StopsInLine, bytes_to_come}
-use Rattle.mmdb_core.specs.steps.Taken.{Takes}
+use Rattle.mmdb_core.specs.steps.Input.{Advances, Comes, StopsInLine, bytes_to_come}
 use Rattle.mmdb_core.specs.declared.fault.RunFault.{RunFault}
 use Rattle.mmdb_core.specs.declared.input.Input.{Input}
-use Rattle.mmdb_core.specs.declared.input.Next.{Next}
-use Rattle.mmdb_core.specs.declared.input.Next.TheVariants.{Line, Long, End}
+use Rattle.mmdb_core.specs.declared.input.Next.TheVariants.{Long}
 
 pub take-append : (n : ℕ) (xs ys : List ℕ) → take n (xs ++ ys) ≡ take n xs ++ take (n - length xs) ys
 take-append n [] ys = sym (ap (λ l. l ++ take (n - 0) ys) (take-nil n) ∙ ap (λ m. take m ys) (let e : n - 0 ≡ n = omega arith in e))
@@ -30,20 +25,6 @@ kept-trans x y z given more gone then s t counted h k =
     ap (λ l. x ++ l) (take-append (s - 1) given more ∙ ap (λ n. take (s - 1) given ++ take n more) left)
     ∙ (sym (append_assoc x (take (s - 1) given) (take (t - 1) more)) ∙ (ap (λ l. l ++ take (t - 1) more) h
     ∙ (append_assoc gone y (take (t - 1) more) ∙ (ap (λ l. gone ++ l) k ∙ sym (append_assoc gone then z)))))
-
--- the bytes kept of those that a reader gave
-abbrev pub IsCut : List ℕ → ℕ → List ℕ → Type 0
-IsCut all still kept = ((0 < still) × (kept ≡ all)) ⊎ ((still ≡ 0) × (kept ≡ take (length all - 1) all))
-
-cut-kept : (window given kept : List ℕ) (still after : ℕ) → 0 < still → length given + after ≡ still → IsCut (window ++ given) after kept
-    → window ++ take (still - 1) given ≡ kept
-cut-kept window given kept still after some counted cut =
-    ⊎_elim
-    (λ (h : (0 < after) × (kept ≡ window ++ given)). ap (λ l. window ++ l) (take_all (still - 1) given (omega arith)) ∙ sym h.1)
-    (λ (h : (after ≡ 0) × (kept ≡ take (length (window ++ given) - 1) (window ++ given))).
-    let long : length (window ++ given) - 1 ≡ length window + (still - 1) = omega (arith, length-append window given) in
-    sym (h.1 ∙ (ap (λ n. take n (window ++ given)) long ∙ take-append-add window given (still - 1))))
-    cut
 
 module _ {R : Type 0} {remaining : R → Option (List ℕ)} where
   pub Advances-then : {r s t : Watched R} {a b c : Input} {gone more all : List ℕ} → all ≡ gone ++ more
@@ -73,9 +54,6 @@ module _ {R : Type 0} {remaining : R → Option (List ℕ)} where
     at_end = λ p e. let known = p (sym ended ∙ e) in (omega (arith, known.0, still), known.1);
   }
 
-  pub Advances-nil : {r : Watched R} {a : Input} → Advances remaining r r a a []
-  Advances-nil = Advances-gone refl refl refl
-
   pub Advances-skip : {r : Watched R} {a b : Input} (n : ℕ) → b.window.bytes ≡ drop n a.window.bytes → b.still ≡ a.still → b.is_ended ≡ a.is_ended
       → Advances remaining r r a b (take n a.window.bytes)
   Advances-skip {r} {a} n is still ended =
@@ -84,33 +62,6 @@ module _ {R : Type 0} {remaining : R → Option (List ℕ)} where
   pub Advances-clear : {r : Watched R} {a b : Input} → b.window.bytes ≡ [] → b.still ≡ a.still → b.is_ended ≡ a.is_ended
       → Advances remaining r r a b a.window.bytes
   Advances-clear {r} {a} is still ended = Advances-gone (sym (ap (λ l. a.window.bytes ++ l) is ∙ append-nil a.window.bytes)) still ended
-
-  -- the window was filled by n bytes
-  pub Advances-fill : {r s : Watched R} {a b : Input} {taken : List ℕ} {n : ℕ} → Takes remaining r s a.window.bytes taken n → a.is_ended ≡ false → 0 < a.still
-      → n ≤ a.still
-      → b.still ≡ a.still - n → IsCut taken b.still b.window.bytes → (b.is_ended ≡ true → n ≡ 0) → Advances remaining r s a b []
-  Advances-fill {r} {s} {a} {b} {taken} {n} takes not_ended some most still cut ends =
-      let counted : length takes.given + b.still ≡ a.still = omega (arith, takes.count, still, most) in
-      record {
-        given = takes.given;
-        consumed = takes.consumed;
-        counted = counted;
-        kept = cut-kept a.window.bytes takes.given b.window.bytes a.still b.still some counted (subst (λ t. IsCut t b.still b.window.bytes) takes.behind cut);
-        ended = λ e. absurd (let clash : true ≡ false = sym e ∙ not_ended in cc);
-        at_end = λ _ e. (omega (arith, still, some, ends e), takes.at_end (ends e));
-      }
-
-  -- the reader failed
-  pub Advances-fault : {r s : Watched R} {a b : Input} → Keeps (remaining (inner_of r)) (remaining (inner_of s)) → a.is_ended ≡ false
-      → b.window.bytes ≡ a.window.bytes → b.still ≡ a.still → b.is_ended ≡ a.is_ended → Advances remaining r s a b []
-  Advances-fault {r} {s} {a} {b} kept not_ended same still ended = record {
-    given = [];
-    consumed = Consumes-kept (remaining (inner_of r)) (remaining (inner_of r)) (remaining (inner_of s)) [] (Consumes-nil (remaining (inner_of r))) kept;
-    counted = omega (arith, still);
-    kept = ap (λ l. a.window.bytes ++ l) (take-nil (a.still - 1)) ∙ (append-nil a.window.bytes ∙ sym same);
-    ended = λ e. absurd (let clash : true ≡ false = sym e ∙ not_ended in cc);
-    at_end = λ _ e. absurd (let clash : true ≡ false = sym e ∙ (ended ∙ not_ended) in cc);
-  }
 
   -- each byte that is gone comes no more
   pub Advances-nearer : {r s : Watched R} {a b : Input} {gone : List ℕ} → Advances remaining r s a b gone → bytes_to_come b + length gone ≤ bytes_to_come a
@@ -142,16 +93,3 @@ long-then t c h comes = (
 pub at-fault : {T : Type 0} (P : RunFault → Type 0) (result : Result T RunFault) (fault passed : RunFault) → result ≡ Err passed → passed ≡ fault → P fault
     → IfErr result P
 at-fault P result fault passed is same h = subst (λ r. IfErr r P) (sym is) (subst P (sym same) h)
-
--- what the window begins with
-pub finds-look : (input : Input) (next : Next) → LooksLike input.window.bytes (Some next) → Finds input next
-finds-look input (Line len step) looks = (omega (arith, looks.0.within, looks.1), omega (arith, looks.1), inl looks)
-finds-look input Long looks = looks
-finds-look input End looks = absurd looks
-
--- or what is left at the end
-pub finds-last : (input : Input) (next : Next) → input.is_ended ≡ true → HasNoFeed input.window.bytes → EndsWith input.window.bytes next → Finds input next
-finds-last input (Line len step) ended no_feed ends =
-    (omega (arith, ends.1, ends.2), omega (arith, ends.2), inr (record { some = ends.0; all = ends.1; no_more = ends.2; no_feed = no_feed; ended = ended }))
-finds-last input Long ended no_feed ends = absurd ends
-finds-last input End ended no_feed ends = (ends, ended)

@@ -44,12 +44,6 @@ take-line window len ends =
     ∙ take-append-add (take len window) (10 ∷ drop (len + 1) window) 1)
 
 module _ {R : Type 0} {remaining : R → Option (List ℕ)} where
-  -- the window with the line's beginning is cleared
-  pub Drops-first : {r : Watched R} {a b : Input} → HasNoFeed a.window.bytes → 4097 < length a.window.bytes
-      → b.window.bytes ≡ [] → b.still ≡ a.still → b.is_ended ≡ a.is_ended → Drops remaining r r a b
-  Drops-first {r} {a} no_feed long empty still ended =
-      record { line = a.window.bytes; no_feed = no_feed; long = long; advances = Advances-clear empty still ended; empty = empty }
-
   -- the reader failed, or gave too much
   pub Drops-stops : {r s t : Watched R} {a b c : Input} (fault : RunFault) → Drops remaining r s a b → Advances remaining s t b c []
       → c.window.bytes ≡ b.window.bytes → IsFault c t fault → StopsInLine remaining r t a c fault

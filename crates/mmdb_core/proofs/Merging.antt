@@ -6,9 +6,9 @@ use Rattle.std.specs.Ordering.{is_gt, ordering_index}
 use Rattle.std.specs.Prelude.{◌==◌}
 use Rattle.std.specs.declared.cmp.Ordering.{Ordering}
 use Rattle.std.specs.declared.cmp.Ordering.TheVariants.{Less, Greater}
-use Rattle.std.proofs.lemmas.List.{append-nil, take_more, take-set, take-set-le, drop-set, drop-set-lt, drop_all, length-set, take-append-drop, get_or_read, get_or_push, length_push}
+use Rattle.std.proofs.lemmas.List.{take_more, take-set, take-set-le, drop-set, drop-set-lt, length-set, get_or_read, get_or_push, length_push}
 use Rattle.std.proofs.lemmas.List.Edits.{swap_is, length-swap}
-use Rattle.std.proofs.lemmas.List.Sorted.{IsPermutation-refl, IsPermutation-trans, IsPermutation-sym, IsPermutation-middle, IsPermutation-append_right}
+use Rattle.std.proofs.lemmas.List.Sorted.{IsPermutation-trans, IsPermutation-sym, IsPermutation-middle, IsPermutation-append_right}
 use Rattle.mm_schema.specs.Rows.{column_cmp, has_twin_keys}
 use Rattle.mm_schema.proofs.StrictOrder.{IsStrictlySortedBy-append_right, IsStrictlySortedBy-between, less_from_greater, split_last}
 use Rattle.mm_schema.proofs.Orderings.{less_from_neither, not_greater_from_index}
@@ -79,32 +79,6 @@ module _ (key : ℕ) (whole : List Row) where
 pub record Merging (key : ℕ) (whole rows fresh : List Row) (left : ℕ) : Type 0 where
   pub fits : left + length fresh ≤ length rows
   pub parts : IsMergeOf key whole (take left rows) fresh (drop (left + length fresh) rows)
-
-pub Merging-start : (key : ℕ) (rows fresh : List Row) (old : ℕ) → length rows ≡ old + length fresh
-    → IsStrictlySortedBy (column_cmp key) (take old rows) → IsStrictlySortedBy (column_cmp key) fresh → Merging key (take old rows ++ fresh) rows fresh old
-Merging-start key rows fresh old places old_order fresh_order =
-    let none : drop (old + length fresh) rows ≡ [] = drop_all (old + length fresh) rows (omega arith) in
-    record {
-      fits = omega arith;
-      parts = subst (IsMergeOf key (take old rows ++ fresh) (take old rows) fresh) (sym none) (record {
-        old_order = subst (IsStrictlySortedBy (column_cmp key)) (sym (append-nil (take old rows))) old_order;
-        fresh_order = subst (IsStrictlySortedBy (column_cmp key)) (sym (append-nil fresh)) fresh_order;
-        moved = subst (λ xs. IsPermutation (take old rows ++ fresh) (take old rows ++ xs)) (sym (append-nil fresh))
-            (IsPermutation-refl (take old rows ++ fresh));
-      });
-    }
-
-pub Merging-end : (key : ℕ) (whole rows fresh : List Row) (left : ℕ) → length fresh ≡ 0 → Merging key whole rows fresh left
-    → IsPermutation whole rows × IsStrictlySortedBy (column_cmp key) rows
-Merging-end key whole rows [] left done so_far =
-    let same : left + 0 ≡ left = omega arith in
-    let all : drop (left + 0) rows ≡ drop left rows = ap (λ n. drop n rows) same in
-    let parts : IsMergeOf key whole (take left rows) [] (drop left rows) = subst (IsMergeOf key whole (take left rows) []) all so_far.parts in (
-      subst (IsPermutation whole) (take-append-drop left rows) parts.moved,
-      subst (IsStrictlySortedBy (column_cmp key)) (take-append-drop left rows)
-          parts.old_order,
-    )
-Merging-end key whole rows (y ∷ fresh) left done so_far = absurd (omega arith)
 
 -- the last of the old rows, and the places behind it
 module _ (rows : List Row) (i to : ℕ) (d : Row) (before : i ≤ to) (within : to < length rows) where

@@ -4,7 +4,7 @@ use Rattle.std.proofs.KnownBytes.{Appends-nil, Appends-trans, Consumes-nil, Cons
 use Rattle.std.proofs.Math.Seq.{take-nil}
 use Rattle.std.proofs.lemmas.List.{append-nil, take_all}
 use Rattle.std.specs.Prelude.{IfSome, IsErrOf, if◌then◌else◌}
-use Rattle.std.specs.Io.KnownBytes.{Appends, Consumes, IsAtEnd, Keeps}
+use Rattle.std.specs.Io.KnownBytes.{Appends, Consumes, IsAtEnd}
 use mir.Val.{bool_byte}
 use Rattle.mm_lang.specs.Lines.{lines_of, whole_lines_of, without_return, HasNoFeed}
 use Rattle.mm_lang.proofs.Pieces.{lines_of-last, lines_of-line, lines_of-nil, whole_lines_of-line, whole_lines_of-rest}

@@ -28,7 +28,8 @@ pub(crate) fn without_return(line: &[u8]) -> &[u8]
     if *last == b'\r' { front } else { line }
 }
 
-/// Answers a line, and tells whether the reply is an `error`.
+/// Answers a line, and tells whether the reply is an `error`. `WriteFault` where the writer failed; what the line does
+/// to the database is done then too.
 pub(crate) fn answer_line<W: Write>(
     alloc: Global,
     database: &mut Database,

@@ -49,7 +49,7 @@ impl Window {
         }
     }
 
-    /// The bytes.
+    /// The bytes that were taken and not dropped since, in the order in which they came.
     pub(crate) fn as_slice(&self) -> &[u8]
         ensures { result.now ≡ self.now.bytes }
     {

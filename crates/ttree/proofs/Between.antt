@@ -1,7 +1,6 @@
 -- The entries between two probes, in an ordered list of three parts.
 use Rattle.std.proofs.Common.{◌≡◌, ◌≢◌, Bool, true, false, ◌&&◌, ◌-◌, ◌≤◌, List, [], ◌++◌, length, get_or, take, refl, sym, ap, ◌∙◌, subst, arith}
 use Rattle.std.proofs.lemmas.List.{append_assoc, take-take, take_at, length-append}
-use Rattle.std.proofs.lemmas.List.Elements.{filter-append}
 use Rattle.std.specs.Prelude.{Result, Ok, Err, OnErr}
 use Rattle.std.specs.List.{All}
 use Rattle.std.specs.List.Sorted.{IsNonDecreasingBy}
@@ -16,13 +15,6 @@ use Rattle.mm_order.proofs.Pairs.{AllPairs-append_across}
 use Rattle.mm_order.proofs.Places.{less_below, greater_above, less_up_to, not_less_from, not_greater_up_to, greater_from}
 use Rattle.ttree_node.specs.Entries.{first_entry, last_entry}
 use Rattle.ttree.proofs.Parts.{IsOrdered-front, IsOrdered-middle, IsOrdered-back, rest_ordered}
-
--- the entries between of a list in three parts are those of its parts, one after the other
-pub entries_between-append : (low high : RowRef → Ordering) (left middle right : List RowRef)
-    → entries_between low high (left ++ middle ++ right) ≡ entries_between low high left ++ entries_between low high middle ++ entries_between low high right
-entries_between-append low high left middle right =
-    filter-append (is_between low high) (left ++ middle) right ∙ ap (λ xs. xs ++ entries_between low high right)
-    (filter-append (is_between low high) left middle)
 
 and_false : (b : Bool) → (b && false) ≡ false
 and_false true = refl
@@ -58,10 +50,6 @@ module _ (Covers : RowRef → Type 0) (cmp : RowRef → RowRef → Ordering) (le
       (rises.rises (get_or middle (length middle - 1) d) (get_or right k e) (covered_middle (length middle - 1) d (omega arith)) (covered_right k e within)
       (across (length middle - 1) d (omega arith) k e within))) in
       ap (λ o. is_ge (low (get_or right k e)) && is_le o) high_is ∙ and_false (is_ge (low (get_or right k e))))
-
--- a list of no references is in order
-pub IsOrdered-nil : (Covers : RowRef → Type 0) (cmp : RowRef → RowRef → Ordering) → IsOrdered Covers cmp []
-IsOrdered-nil Covers cmp = record { covered = λ k d within. absurd (omega arith); ascending = λ i j d before within. absurd (omega arith) }
 
 -- `is_lt` holds of Less alone, and `is_gt` of Greater alone
 pub less_from_test : (o : Ordering) → is_lt o ≡ true → o ≡ Less

@@ -17,7 +17,7 @@ use ttree_node::{Entries, Subtree};
 
 /// Appends the entries that lie neither before the place of `low` nor after that of `high`.
 /// Of a node that lies in the range as a whole it asks about the first and the last entry alone.
-/// After an error some may have been appended.
+/// `AllocError` where memory is refused; then some may have been appended.
 pub(crate) fn copy_between<O: RefOrder, L: Probe, H: Probe>(
     tree: Option<&Subtree>,
     order: &O,
@@ -97,7 +97,8 @@ fn right_to<'a, O: RefOrder, H: Probe>(
 }
 
 /// Appends those entries of a root that lie in the range. It asks about each of them only where
-/// the range begins or ends among them.
+/// the range begins or ends among them. `AllocError` where memory is refused; then some may have
+/// been appended.
 fn copy_part<O: RefOrder, L: Probe, H: Probe>(
     node: &Subtree,
     order: &O,
@@ -121,6 +122,7 @@ fn copy_part<O: RefOrder, L: Probe, H: Probe>(
 }
 
 /// Appends those of some entries that lie neither before the place of `low` nor after that of `high`.
+/// `AllocError` where memory is refused; then some may have been appended.
 fn copy_fitting<L: Probe, H: Probe>(
     entries: &Entries,
     low: &L,
@@ -141,7 +143,7 @@ fn copy_fitting<L: Probe, H: Probe>(
     Ok(())
 }
 
-/// Appends all of some entries.
+/// Appends all of some entries. `AllocError` where memory is refused; then none was appended.
 fn copy_all(entries: &Entries, out: &mut Vec<RowRef>) -> Result<(), AllocError>
     ensures ok { OnOk result (out.new.items ≡ out.old.items ++ entries.now) }
     ensures err { OnErr result (out.new.items ≡ out.old.items) }

@@ -62,7 +62,7 @@ fn link_height(link: &Option<Subtree>) -> usize
 }
 
 impl Subtree {
-    /// A node with no entries, in a block of its own.
+    /// A node with no entries, in a block of its own. `AllocError` where memory is refused.
     pub(crate) fn blank(alloc: Global) -> Result<Subtree, AllocError>
         ensures { IfOk result (λ s. s ≡ record { left = Empty; entries = []; right = Empty }) }
     {
@@ -117,14 +117,14 @@ impl Subtree {
         entries
     }
 
-    /// What stands left of the root.
+    /// What stands left of the root, none where nothing does.
     pub fn left(&self) -> Option<&Subtree>
         ensures { tree_of (option_copied result) ≡ self.now.left }
     {
         self.root.as_ref().left.as_ref()
     }
 
-    /// What stands right of the root.
+    /// What stands right of the root, none where nothing does.
     pub fn right(&self) -> Option<&Subtree>
         ensures { tree_of (option_copied result) ≡ self.now.right }
     {
@@ -148,7 +148,7 @@ impl Subtree {
         node.entries.insert(i, entry);
     }
 
-    /// Takes out the entry at place `i` of the root, which may be its last one.
+    /// Takes out the entry at place `i` of the root, which may be its last one, and gives it.
     pub fn take_entry(&mut self, i: usize) -> RowRef
         requires { i < length self.old.entries }
         ensures taken { slice_get self.old.entries i ≡ Some result }
@@ -158,7 +158,7 @@ impl Subtree {
         node.entries.remove(i)
     }
 
-    /// Takes away what stands left of the root.
+    /// Takes away what stands left of the root and gives it, none where nothing does.
     pub fn take_left(&mut self) -> Option<Subtree>
         ensures taken { tree_of result ≡ self.old.left }
         ensures rest { self.new ≡ record self.old { left = Empty } }
@@ -171,7 +171,7 @@ impl Subtree {
         left
     }
 
-    /// Takes away what stands right of the root.
+    /// Takes away what stands right of the root and gives it, none where nothing does.
     pub fn take_right(&mut self) -> Option<Subtree>
         ensures taken { tree_of result ≡ self.old.right }
         ensures rest { self.new ≡ record self.old { right = Empty } }

@@ -45,7 +45,7 @@ impl<T, A: Allocator> Owned<T, A> {
 }
 
 impl<T: Drop, A: Allocator> Owned<T, A> {
-    /// Moves a value into a new block.
+    /// Moves a value into a new block. `AllocFailed` where memory is refused; the value is given back in it.
     pub(crate) fn new(alloc: A, value: T) -> Result<Owned<T, A>, AllocFailed<T>>
         ensures { IfOk result (λ o. o.value ≡ value) }
     {

@@ -1,9 +1,8 @@
 -- A phrase leaves no more tokens than there were.
-use Rattle.std.proofs.Common.{◌≡◌, ◌≤◌, ◌⊎◌, inl, inr, ⊎_elim, ℕ, zero, suc, List, [], ◌∷◌, Option, Some, None, length, refl, ap, arith}
+use Rattle.std.proofs.Common.{◌≡◌, ◌≤◌, ⊎_elim, ℕ, zero, suc, List, [], ◌∷◌, Option, Some, None, length, refl, ap, arith}
 use Rattle.std.proofs.lemmas.Option.{none-some}
 use Rattle.mm_schema.specs.declared.column.Role.TheVariants.{Plain, Key}
 use Rattle.mm_lang.specs.declared.keyword.Keyword.TheVariants as keyword
-use Rattle.mm_lang.specs.declared.token.Symbol.{Symbol}
 use Rattle.mm_lang.specs.declared.token.Symbol.TheVariants.{Open, Close, Comma}
 use Rattle.mm_lang.specs.Grammar.{literal_of, name, col_type, column, comma_list, tuple}
 use Rattle.mm_lang.specs.Phrases.{Phrase, ◌>>=◌, ◌>>◌, say, one, the_symbol, the_keyword, behind_item, at_most, list_of, optional, in_parentheses}

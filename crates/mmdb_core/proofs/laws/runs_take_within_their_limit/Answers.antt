@@ -1,5 +1,3 @@
-use Rattle.std.proofs.Common.{Some, subst}
-use Rattle.std.specs.Io.KnownBytes.{Consumes}
 use Rattle.mm_value.specs.Watched.{inner_of}
 use Rattle.mmdb_core.proofs.LawLemmas.{taken_within}
 use Rattle.mmdb_core.proofs.laws.runs_take_within_their_limit.Goals as goal

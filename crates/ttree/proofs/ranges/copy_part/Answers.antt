@@ -1,9 +1,8 @@
-use Rattle.std.proofs.Common.{◌≡◌, List, [], ◌++◌, sym, ap, ◌∙◌, subst}
+use Rattle.std.proofs.Common.{◌≡◌, List, ◌++◌, sym, ap, ◌∙◌, subst}
 use Rattle.std.proofs.lemmas.List.{append-nil}
 use Rattle.std.specs.List.{All}
 use Rattle.std.specs.declared.cmp.Ordering.TheVariants.{Less, Greater}
 use Rattle.mm_value.specs.declared.row_ref.RowRef.{RowRef}
-use Rattle.mm_order.specs.Probe.{entries_between}
 use Rattle.ttree_node.specs.Entries.{first_entry, last_entry}
 use Rattle.ttree.proofs.Between.{none_from_low, none_to_high, less_from_test, greater_from_test}
 use Rattle.ttree.proofs.Reached.{reached, reached_first, reached_last, risen}

@@ -1,4 +1,3 @@
-use Rattle.std.proofs.Common.{[], subst}
 use Rattle.std.proofs.lemmas.Result.{err_from_is_err_and}
 use Rattle.mm_lang.proofs.TupleValues.{tuple_fails, tuple_given}
 use Rattle.mm_lang.proofs.tuples.TuplePhrasePhrase.read.Goals as goal

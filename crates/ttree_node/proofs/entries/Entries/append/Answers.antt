@@ -1,5 +1,4 @@
-use Rattle.std.proofs.Common.{◌≡◌, ◌++◌, ap, ◌∙◌, rules}
-use Rattle.ttree_node.specs.Entries.{row_refs}
+use Rattle.std.proofs.Common.{◌≡◌, ◌++◌, ◌∙◌, rules}
 use Rattle.ttree_node.proofs.RowRefs.{row_refs-append}
 use Rattle.ttree_node.proofs.entries.Entries.append.Goals as goal
 
