@@ -1,3 +1,4 @@
+pub mod Atoms
 pub mod Binding
 pub mod Edits
 pub mod Machine

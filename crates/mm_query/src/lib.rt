@@ -1,12 +1,14 @@
 //! What commands and replies are, and the machine of row lists that gives them their meaning.
 #![tactic(auto)]
 
+mod atom;
 mod bind;
 mod command;
 mod laws;
 mod reply;
 mod row_list;
 
+pub use atom::{Assignment, Atom, Comparison, Operand};
 pub use bind::{BoundChange, bind_change};
 pub use command::{Command, Definition, Mutation};
 pub use laws::{conditions_ascend, rows_stay_in_key_order};

@@ -1,0 +1,109 @@
+//! Atoms: what a row is asked in WHERE, and what a column is given in SET.
+ghost use Rattle.std.specs.Prelude.{◌≡◌, ◌<◌, ◌+ℤ◌, ℕ, Some, length};
+ghost use Rattle.std.specs.Ordering.{int_cmp};
+ghost use Rattle.mm_value.specs.Order.{value_cmp};
+ghost use Rattle.mm_query.specs.Atoms.{ReadsWithin, holds, operand_of, shifted, stands, value_in};
+
+use mm_value::{Row, Value, compare};
+use std::cmp::Ordering;
+
+/// How the two sides of an atom are compared.
+#[derive(Clone, Copy, Debug, PartialEq, Eq)]
+pub enum Comparison {
+    /// `=`
+    Equal,
+    /// `<`
+    Less,
+    /// `<=`
+    LessOrEqual,
+    /// `>`
+    Greater,
+    /// `>=`
+    GreaterOrEqual,
+}
+
+/// The right side of an atom or an assignment. `F` names a column: as written, or by its place.
+#[derive(Debug, Drop)]
+pub enum Operand<F> {
+    /// A value.
+    Literal(Value),
+    /// The value of a column.
+    Column(F),
+    /// The sum of the value of a column and a number. It is a shift also where the number is 0.
+    Shifted(F, i64),
+}
+
+/// A condition on rows: the value of a column compares so with another value.
+#[derive(Debug, Drop)]
+pub struct Atom<F> {
+    /// The column on the left.
+    pub left: F,
+    /// How the two are compared.
+    pub comparison: Comparison,
+    /// The other value.
+    pub right: Operand<F>,
+}
+
+/// A column's new value.
+#[derive(Debug, Drop)]
+pub struct Assignment<F> {
+    /// The column that gets it.
+    pub column: F,
+    /// The value, computed from the old row alone.
+    pub source: Operand<F>,
+}
+
+impl Comparison {
+    /// Whether two things that compare so stand in this relation.
+    pub fn accepts(self, ordering: Ordering) -> bool
+        ensures { result ≡ stands self ordering }
+    {
+        match self {
+            Comparison::Equal => ordering.is_eq(),
+            Comparison::Less => ordering.is_lt(),
+            Comparison::LessOrEqual => ordering.is_le(),
+            Comparison::Greater => ordering.is_gt(),
+            Comparison::GreaterOrEqual => ordering.is_ge(),
+        }
+    }
+}
+
+/// The sum of two numbers, which may be past their range.
+fn sum(a: i64, b: i64) -> i128
+    ensures { result ≡ a +ℤ b }
+{
+    i128::from(a) + i128::from(b)
+}
+
+/// How a number stands to a sum that may be past its range.
+fn compare_with_sum(a: i64, sum: i128) -> Ordering
+    ensures { result ≡ int_cmp a sum }
+{
+    i128::from(a).cmp(&sum)
+}
+
+/// How a value stands to another one with a number added to it. Numbers are added without bound.
+fn compare_shifted(a: &Value, b: &Value, shift: i64) -> Ordering
+    ensures { result ≡ value_cmp a.now (shifted shift b.now) }
+{
+    match (a, b) {
+        (Value::Int(a), Value::Int(b)) => compare_with_sum(*a, sum(*b, shift)),
+        _ => compare(a, b),
+    }
+}
+
+impl Atom<usize> {
+    /// Whether the atom is true of a row. Numbers are added without bound, so `k < k + 1` is true of every row.
+    pub fn holds(&self, row: &Row) -> bool
+        requires { ReadsWithin (length row.now) self.now.left self.now.right }
+        ensures { result ≡ holds (λ (column : ℕ). Some (value_in column row.now)) self.now }
+    {
+        let left = row.value(self.left);
+        let ordering = match &self.right {
+            Operand::Literal(value) => compare(left, value),
+            Operand::Column(column) => compare(left, row.value(*column)),
+            Operand::Shifted(column, shift) => compare_shifted(left, row.value(*column), *shift),
+        };
+        self.comparison.accepts(ordering)
+    }
+}
