@@ -2,3 +2,4 @@ pub mod Binds
 pub mod Due
 pub mod KeyOrder
 mod Tuples
+pub mod Updates

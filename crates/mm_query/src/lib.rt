@@ -7,6 +7,7 @@ mod command;
 mod laws;
 mod reply;
 mod row_list;
+mod update;
 
 pub use atom::{Assignment, Atom, Comparison, Operand};
 pub use bind::{BoundChange, bind_change};
@@ -14,3 +15,4 @@ pub use command::{Command, Definition, Mutation};
 pub use laws::{conditions_ascend, rows_stay_in_key_order};
 pub use reply::Reply;
 pub use row_list::RowList;
+pub use update::updated_row;

@@ -1,0 +1,75 @@
+//! What an UPDATE makes of a row.
+ghost use Rattle.std.specs.Prelude.{◌≡◌, ◌==◌, ◌+ℤ◌, ◌∷◌, ℕ, [], find, length, map, All, IfOk};
+ghost use Rattle.std.specs.Option.{option_copied};
+ghost use Rattle.mm_schema.specs.Refused.{AnswersDue, first_refusal};
+ghost use Rattle.mm_value.specs.declared.values.Value.TheVariants.{Int};
+ghost use Rattle.mm_query.specs.Atoms.{IsWithin, range_conditions, updated_row, updated_value, value_for};
+ghost use Rattle.mm_query.specs.declared.atom.Assignment.{Assignment as Assigned};
+
+use crate::atom::{Assignment, Operand};
+use mm_value::{Refusal, Row, Value};
+use std::alloc::Global;
+
+/// The sum of two numbers. `ArithmeticOutOfRange` where it is past the range of whole numbers.
+fn sum_in_range(number: i64, shift: i64) -> Result<i64, Refusal>
+    ensures due { AnswersDue (first_refusal (range_conditions (Int (number +ℤ shift) ∷ []))) result }
+    ensures ok { IfOk result (λ sum. sum ≡ number +ℤ shift) }
+{
+    number
+        .checked_add(shift)
+        .ok_or(Refusal::ArithmeticOutOfRange)
+}
+
+impl Operand<usize> {
+    /// Its value for a row, in memory of its own. `ArithmeticOutOfRange` where it is past the range of whole numbers; else
+    /// `Memory` is the only refusal.
+    fn value_for(&self, alloc: Global, row: &Row) -> Result<Value, Refusal>
+        requires { IsWithin (length row.now) self.now }
+        ensures due { AnswersDue (first_refusal (range_conditions (value_for row.now self.now ∷ []))) result }
+        ensures ok { IfOk result (λ value. value ≡ value_for row.now self.now) }
+    {
+        match self {
+            Operand::Literal(value) => value.copy(alloc),
+            Operand::Column(column) => row.value(*column).copy(alloc),
+            Operand::Shifted(column, shift) => match row.value(*column) {
+                Value::Int(number) => Ok(Value::Int(sum_in_range(*number, *shift)?)),
+                text => text.copy(alloc),
+            },
+        }
+    }
+}
+
+/// The first assignment to a column.
+fn assignment_to(assignments: &[Assignment<usize>], column: usize) -> Option<&Assignment<usize>>
+    ensures { option_copied result ≡ find (λ (a : Assigned ℕ). a.column == column) assignments.now }
+{
+    assignments
+        .iter()
+        .find(|assignment| assignment.column == column)
+}
+
+/// The new value of a column, which had this one.
+fn updated_value(alloc: Global, row: &Row, assignments: &[Assignment<usize>], column: usize, old: &Value) -> Result<Value, Refusal>
+    requires { All (λ (a : Assigned ℕ). IsWithin (length row.now) a.source) assignments.now }
+    ensures due { AnswersDue (first_refusal (range_conditions (updated_value assignments.now row.now column old.now ∷ []))) result }
+    ensures ok { IfOk result (λ value. value ≡ updated_value assignments.now row.now column old.now) }
+{
+    match assignment_to(assignments, column) {
+        Some(assignment) => assignment.source.value_for(alloc, row),
+        None => old.copy(alloc),
+    }
+}
+
+/// The row that assignments make of a row; each value is computed from the old row alone. `ArithmeticOutOfRange` where some
+/// value is past the range of whole numbers; else `Memory` is the only refusal.
+pub fn updated_row(alloc: Global, row: &Row, assignments: &[Assignment<usize>]) -> Result<Row, Refusal>
+    requires { All (λ (a : Assigned ℕ). IsWithin (length row.now) a.source) assignments.now }
+    ensures due { AnswersDue (first_refusal (range_conditions (updated_row assignments.now row.now))) result }
+    ensures ok { IfOk result (λ new. new ≡ updated_row assignments.now row.now) }
+{
+    let mut values = Vec::with_capacity(alloc, row.len())?;
+    for (column, old) in row.values().iter().enumerate() {
+        values.push(updated_value(alloc, row, assignments, column, old)?)?;
+    }
+    Ok(Row::new(values))
+}
