@@ -16,8 +16,8 @@ pub found_holds : {X : Type 0} (P : X → Type 0) (test : X → Bool) (xs : List
 found_holds P test [] x all e = cc
 found_holds P test (y ∷ ys) x all e =
     elim (test y) as (λ b. (cond b (Some y) (find test ys) ≡ Some x) → P x) [
-      true ↦ λ h. let same : y ≡ x = cc in subst P same (All-head P y ys all)
-    | false ↦ λ h. found_holds P test ys x (All-tail P y ys all) h
+      | true ↦ λ h. let same : y ≡ x = cc in subst P same (All-head P y ys all)
+      | false ↦ λ h. found_holds P test ys x (All-tail P y ys all) h
     ] e
 
 due_none : (b : Bool) (refusal : Refusal) → cond b (Some refusal) None ≡ None → b ≡ false
@@ -49,8 +49,8 @@ pub refused_among : (front : List Value) (value : Value) (rest all : List Value)
 refused_among front value rest all refusal is due =
     let some : (is_past_range value || false) ≡ true = due_some _ ArithmeticOutOfRange refusal due in
     let any : list_any is_past_range all ≡ true =
-      ap (list_any is_past_range) (sym is) ∙ (list_any-append is_past_range front (value ∷ rest)
-      ∙ or_true (list_any is_past_range front) (is_past_range value) (list_any is_past_range rest) some) in
+    ap (list_any is_past_range) (sym is) ∙ (list_any-append is_past_range front (value ∷ rest)
+    ∙ or_true (list_any is_past_range front) (is_past_range value) (list_any is_past_range rest) some) in
     ap (λ b. cond b (Some ArithmeticOutOfRange) None) any ∙ (sym (ap (λ b. cond b (Some ArithmeticOutOfRange) None) some) ∙ due)
 
 -- The next value of the new row is that of the next column.
@@ -60,8 +60,8 @@ pub next_value : (assignments : List (Assignment ℕ)) (row items : List Value) 
     → front ++ updated_value assignments row column old ∷ updated_from assignments row (suc column) (drop (suc column) row) ≡ all
 next_value assignments row items column old front all same is inside e =
     let split : drop column row ≡ old ∷ drop (suc column) row =
-      ap (drop column) (sym same) ∙ (drop-cons items column old inside
-      ∙ (ap (λ v. v ∷ drop (suc column) items) (sym is) ∙ ap (λ r. old ∷ drop (suc column) r) same)) in
+    ap (drop column) (sym same) ∙ (drop-cons items column old inside
+    ∙ (ap (λ v. v ∷ drop (suc column) items) (sym is) ∙ ap (λ r. old ∷ drop (suc column) r) same)) in
     let here : updated_from assignments row column (old ∷ drop (suc column) row)
-        ≡ updated_value assignments row column old ∷ updated_from assignments row (suc column) (drop (suc column) row) = rw add-one refl in
+    ≡ updated_value assignments row column old ∷ updated_from assignments row (suc column) (drop (suc column) row) = rw add-one refl in
     ap (λ t. front ++ t) (sym here) ∙ (ap (λ t. front ++ updated_from assignments row column t) (sym split) ∙ e)

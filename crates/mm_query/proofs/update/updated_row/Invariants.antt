@@ -7,5 +7,5 @@ use Rattle.mm_query.proofs.update.updated_row.Given as goal
 abbrev pub invariant-loop-column : goal.invariant-loop-column
 invariant-loop-column l = record {
   rest : l.values.items ++ updated_from l.assignments l.row l.column (drop l.column l.row) ≡ updated_row l.assignments l.row;
-  in_range : list_any is_past_range l.values.items ≡ false
+  in_range : list_any is_past_range l.values.items ≡ false;
 }
