@@ -3,3 +3,4 @@ pub mod Due
 pub mod KeyOrder
 mod Tuples
 pub mod Updates
+pub mod Within
