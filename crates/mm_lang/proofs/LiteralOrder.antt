@@ -9,7 +9,7 @@ use Rattle.std.proofs.lemmas.List.Elements.{filter_map-append}
 use Rattle.mm_schema.specs.Name.{IsName, is_lower, is_name_byte, is_name_text}
 use Rattle.mm_schema.specs.declared.column.Column.{Column}
 use Rattle.mm_schema.specs.declared.column.Role.{Role}
-use Rattle.mm_schema.specs.declared.column.Role.TheVariants.{Plain, Key}
+use Rattle.mm_schema.specs.declared.column.Role.TheVariants.{Plain, Key, Reference}
 use Rattle.mm_value.specs.Literal.{is_numeral, is_within_limit}
 use Rattle.mm_value.specs.declared.col_type.ColType.{ColType}
 use Rattle.mm_value.specs.declared.col_type.ColType.TheVariants as type
@@ -22,7 +22,7 @@ use Rattle.mm_query.specs.declared.command.Mutation.TheVariants as change
 use Rattle.mm_lang.specs.declared.token.Symbol.TheVariants.{Close, Comma}
 use Rattle.mm_lang.specs.Grammar.{literal_of, command_of}
 use Rattle.mm_lang.specs.Reading.{first_fault, literals_of, past_limit}
-use Rattle.mm_lang.specs.Spelling.{word, type_word, role_tokens, SpellsLiteral, SpellsOne, SpellsList, SpellsInParentheses, SpellsTuple, SpellsColumn, SpellsCommand}
+use Rattle.mm_lang.specs.Spelling.{word, type_word, SpellsLiteral, SpellsOne, SpellsList, SpellsInParentheses, SpellsTuple, SpellsRole, SpellsColumn, SpellsCommand}
 use Rattle.mm_lang.specs.Tokens.{Token, Word, Mark}
 use Rattle.mm_lang.specs.steps.Parsing.{no_literals, only_literal}
 use Rattle.mm_lang.proofs.SpelledWords.{literal_spelled}
@@ -81,17 +81,17 @@ type_no_literal : (t : ColType) (ts : List Token) → among (word (type_word t) 
 type_no_literal type.Int ts = refl
 type_no_literal type.Text ts = refl
 
-role_no_literal : (r : Role) → among (role_tokens r) ≡ []
-role_no_literal Key = refl
-role_no_literal Plain = refl
+role_no_literal : (ts : List Token) (r : Role) → SpellsRole ts r → among ts ≡ []
+role_no_literal ts Key spelled = ap among spelled
+role_no_literal ts Plain spelled = ap among spelled
+role_no_literal ts (Reference table) spelled = absurd spelled
 
 behind_name : (name : List ℕ) (ts : List Token) → IsName name → among (Word name ∷ ts) ≡ among ts
 behind_name name ts named = ap (λ o. cons_option o (among ts)) (name_no_literal name named)
 
 column_literals : (ts : List Token) (c : Column) → SpellsColumn ts c → among ts ≡ no_literals c
 column_literals ts c h =
-    ap among h.1 ∙ behind_name c.name (word (type_word c.col_type) ∷ role_tokens c.role) h.0 ∙ type_no_literal c.col_type (role_tokens c.role)
-    ∙ role_no_literal c.role
+    ap among h.3 ∙ behind_name c.name (word (type_word c.col_type) ∷ h.0) h.1 ∙ type_no_literal c.col_type h.0 ∙ role_no_literal h.0 c.role h.2
 
 none_at_all : {A : Type 0} (xs : List A) → flat_map no_literals xs ≡ []
 none_at_all [] = refl

@@ -7,7 +7,7 @@ use Rattle.mm_schema.specs.Columns.{key_count}
 use Rattle.mm_schema.specs.Name.{IsName}
 use Rattle.mm_schema.specs.declared.column.Column.{Column}
 use Rattle.mm_schema.specs.declared.column.Role.{Role}
-use Rattle.mm_schema.specs.declared.column.Role.TheVariants.{Plain, Key}
+use Rattle.mm_schema.specs.declared.column.Role.TheVariants.{Plain, Key, Reference}
 use Rattle.mm_value.specs.declared.col_type.ColType.{ColType}
 use Rattle.mm_value.specs.declared.col_type.ColType.TheVariants as type
 use Rattle.mm_value.specs.declared.values.Value.{Value}
@@ -20,7 +20,7 @@ use Rattle.mm_lang.specs.declared.keyword.Keyword.TheVariants as keyword
 use Rattle.mm_lang.specs.declared.token.Symbol.TheVariants.{Comma}
 use Rattle.mm_lang.specs.Grammar.{literal_of, name, type_named, col_type, column, tuple, comma_list, table, insert, scan, command_behind, command_of}
 use Rattle.mm_lang.specs.Phrases.{Phrase, ◌>>=◌, ◌>>◌, say, one, one_word, the_symbol, the_keyword, only_if, optional, in_parentheses, alone}
-use Rattle.mm_lang.specs.Spelling.{word, type_word, role_tokens, SpellsLiteral, SpellsOne, SpellsList, SpellsInParentheses, SpellsTuple, SpellsColumn, SpellsCommand}
+use Rattle.mm_lang.specs.Spelling.{word, type_word, SpellsLiteral, SpellsOne, SpellsList, SpellsInParentheses, SpellsTuple, SpellsRole, SpellsColumn, SpellsCommand}
 use Rattle.mm_lang.specs.Tokens.{Token, Word, Mark}
 use Rattle.mm_lang.specs.Words.{keyword_named}
 use Rattle.mm_lang.specs.steps.Parts.{Front, said_same, tested, chained, then_parts, word_parts, optional_parts}
@@ -67,19 +67,23 @@ type_spelled type.Text us = refl
 abbrev role : Phrase Role
 role = optional Plain (the_keyword keyword.Key >> say Key)
 
-role_read : (ts : List Token) (r : Role) (us : List Token) → role ts ≡ Some (r, us) → ts ≡ role_tokens r ++ us
+role_read : (ts : List Token) (r : Role) (us : List Token) → role ts ≡ Some (r, us) → (front : List Token) × SpellsRole front r × (ts ≡ front ++ us)
 role_read ts r us e =
     ⊎_elim
     (λ there. let p = then_parts (the_keyword keyword.Key) (λ u. say Key) ts r us there in
     let q = said_same Key r p.1 us p.3 in
-    keyword_read keyword.Key ts p.1 p.2 ∙ ap (λ l. word keyword.Key ∷ l) q.1 ∙ ap (λ s. role_tokens s ++ us) q.0)
-    (λ not_there. not_there.2 ∙ ap (λ s. role_tokens s ++ us) not_there.1)
+    let front = word keyword.Key ∷ [] in
+    (front, subst (SpellsRole front) q.0 refl, keyword_read keyword.Key ts p.1 p.2 ∙ ap (λ l. word keyword.Key ∷ l) q.1))
+    (λ not_there. ([], subst (SpellsRole []) not_there.1 refl, not_there.2))
     (optional_parts Plain (the_keyword keyword.Key >> say Key) ts r us e)
 
-role_spelled : (r : Role) (us : List Token) → the_keyword keyword.Key us ≡ None → role (role_tokens r ++ us) ≡ Some (r, us)
-role_spelled Key us end = refl
-role_spelled Plain us end =
-    ap (λ (o : Option (Front (Unit {0}))). option_or (option_and_then (λ (s : Front (Unit {0})). say Key s.1) o) (Some (Plain, us))) end
+role_spelled : (front : List Token) (r : Role) (us : List Token) → SpellsRole front r → the_keyword keyword.Key us ≡ None
+    → role (front ++ us) ≡ Some (r, us)
+role_spelled front Key us spelled end = ap (λ l. role (l ++ us)) spelled
+role_spelled front Plain us spelled end =
+    ap (λ l. role (l ++ us)) spelled
+    ∙ ap (λ (o : Option (Front (Unit {0}))). option_or (option_and_then (λ (s : Front (Unit {0})). say Key s.1) o) (Some (Plain, us))) end
+role_spelled front (Reference table) us spelled end = absurd spelled
 
 say_column : List ℕ → ColType → Role → Phrase Column
 say_column n t r = say (record { name = n; col_type = t; role = r })
@@ -98,22 +102,23 @@ column_read ts c us e =
     let r = then_parts role (say_column p.0 q.0) q.1 c us q.3 in
     let read : Column = record { name = p.0; col_type = q.0; role = r.0 } in
     let s = said_same read c r.1 us r.3 in
-    let n = name_read ts p.0 p.1 p.2 in (
-      Word p.0 ∷ word (type_word q.0) ∷ role_tokens r.0,
-      subst (SpellsColumn (Word p.0 ∷ word (type_word q.0) ∷ role_tokens r.0)) s.0 (n.1, refl),
+    let n = name_read ts p.0 p.1 p.2 in
+    let behind = role_read q.1 r.0 r.1 r.2 in (
+      Word p.0 ∷ word (type_word q.0) ∷ behind.0,
+      subst (SpellsColumn (Word p.0 ∷ word (type_word q.0) ∷ behind.0)) s.0 (behind.0, n.1, behind.1, refl),
       n.0 ∙ ap (λ l. Word p.0 ∷ l)
-          (type_read p.1 q.0 q.1 q.2 ∙ ap (λ l. word (type_word q.0) ∷ l) (role_read q.1 r.0 r.1 r.2 ∙ ap (λ l. role_tokens r.0 ++ l) s.1)),
+          (type_read p.1 q.0 q.1 q.2 ∙ ap (λ l. word (type_word q.0) ∷ l) (behind.2 ∙ ap (λ l. behind.0 ++ l) s.1)),
     )
 
 column_spelled : (front : List Token) (c : Column) (us : List Token) → SpellsColumn front c → the_keyword keyword.Key us ≡ None
     → column (front ++ us) ≡ Some (c, us)
 unfolding column say_column after_type after_name
 column_spelled front c us h end =
-    let behind = word (type_word c.col_type) ∷ role_tokens c.role ++ us in
-    ap (λ l. column (l ++ us)) h.1
-    ∙ ap (option_and_then (λ (r : Front (List ℕ)). after_name r.0 r.1)) (name_spelled c.name behind h.0)
-    ∙ ap (option_and_then (λ (r : Front ColType). after_type c.name r.0 r.1)) (type_spelled c.col_type (role_tokens c.role ++ us))
-    ∙ ap (option_and_then (λ (r : Front Role). say_column c.name c.col_type r.0 r.1)) (role_spelled c.role us end)
+    let behind = word (type_word c.col_type) ∷ h.0 ++ us in
+    ap (λ l. column (l ++ us)) h.3
+    ∙ ap (option_and_then (λ (r : Front (List ℕ)). after_name r.0 r.1)) (name_spelled c.name behind h.1)
+    ∙ ap (option_and_then (λ (r : Front ColType). after_type c.name r.0 r.1)) (type_spelled c.col_type (h.0 ++ us))
+    ∙ ap (option_and_then (λ (r : Front Role). say_column c.name c.col_type r.0 r.1)) (role_spelled h.0 c.role us h.2 end)
 
 abbrev NoKey : List Token → Type 0
 NoKey us = the_keyword keyword.Key us ≡ None

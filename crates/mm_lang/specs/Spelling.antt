@@ -56,14 +56,15 @@ abbrev pub type_word : ColType → Keyword
 type_word type.Int = keyword.Int
 type_word type.Text = keyword.Text
 
--- coldef = name type [KEY]
-abbrev pub role_tokens : Role → List Token
-role_tokens role.Key = word keyword.Key ∷ []
-role_tokens role.Plain = []
+-- coldef = name type [KEY]; a foreign key has no spelling yet
+abbrev pub SpellsRole : List Token → Role → Type 0
+SpellsRole ts role.Key = ts ≡ word keyword.Key ∷ []
+SpellsRole ts role.Plain = ts ≡ []
+SpellsRole ts (role.Reference table) = ⊥
 
 abbrev pub SpellsColumn : List Token → Column → Type 0
 SpellsColumn ts column =
-    IsName column.name × (ts ≡ Word column.name ∷ word (type_word column.col_type) ∷ role_tokens column.role)
+    (behind : List Token) × IsName column.name × SpellsRole behind column.role × (ts ≡ Word column.name ∷ word (type_word column.col_type) ∷ behind)
 
 -- command = TABLE name ( coldef, .. ) with exactly one KEY
 --         | INSERT name tuple, ..

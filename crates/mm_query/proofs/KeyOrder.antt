@@ -1,20 +1,21 @@
 -- Every state that commands lead to has each table's rows strictly in key order.
-use Rattle.std.proofs.Common.{◌≡◌, ℕ, ◌||◌, Bool, true, false, List, [], ◌∷◌, length, Option, Some, None, is_some, refl}
+use Rattle.std.proofs.Common.{◌≡◌, ℕ, true, false, List, [], ◌∷◌, length, Option, Some, None, refl}
 use Rattle.std.specs.List.{IsDistinct}
 use Rattle.std.specs.Prelude.{nat_lt}
-use Rattle.mm_schema.specs.Columns.{has_twin_names, key_place}
+use Rattle.mm_schema.specs.Columns.{key_place}
 use Rattle.mm_schema.specs.Instance.{AreInKeyOrder}
 use Rattle.mm_schema.specs.Refused.{ascend, first_refusal}
 use Rattle.mm_schema.specs.Rows.{has_twin_keys, table_rows_conditions}
-use Rattle.mm_schema.specs.Schema.{HasDistinctNames, key_named, passes_table_limits, table_named}
+use Rattle.mm_schema.specs.Schema.{HasDistinctNames, key_named}
 use Rattle.mm_schema.specs.declared.table.Table.{Table}
 use Rattle.mm_schema.specs.declared.table.TableDef.{TableDef}
 use Rattle.mm_schema.proofs.Dues.{neither_due, none_due_behind}
 use Rattle.mm_schema.proofs.Instances.{AreInKeyOrder-changed, AreInKeyOrder-push, IsDistinct-push}
+use Rattle.mm_schema.proofs.Places.{new_name_is_free}
 use Rattle.mm_schema.proofs.StrictOrder.{IsStrictlySortedBy-nil}
 use Rattle.mm_schema.proofs.Twins.{Row, column_cmp_total}
 use Rattle.mm_value.specs.declared.refusal.Refusal.{Refusal}
-use Rattle.mm_value.specs.declared.refusal.Refusal.TheVariants.{DuplicateKey, NameTaken, TableFull, TooMany}
+use Rattle.mm_value.specs.declared.refusal.Refusal.TheVariants.{DuplicateKey, TableFull}
 use Rattle.mm_query.specs.Binding.{binding_conditions}
 use Rattle.mm_query.specs.Edits.{changed_table, own_pairs}
 use Rattle.mm_query.specs.Machine.{Outcome, after_all, after_change, after_definition, conditions, reply_to, row_conditions, state_after, step, unless_refused}
@@ -37,18 +38,13 @@ record IsKept (state : State) : Type 0 where
   distinct : HasDistinctNames state.schema
   order : AreInKeyOrder state.schema.tables state.rows
 
-not_there : (named : Option Table) (twins : Bool) → (is_some named || twins) ≡ false → named ≡ None
-not_there None twins h = refl
-not_there (Some table) twins h = cc
-
 kept_by_table : (definition : TableDef) (state : State) → first_refusal (conditions (Define (define.Table definition)) state) ≡ None → IsKept state
     → IsKept (after_definition (define.Table definition) state)
 kept_by_table definition state due kept =
-    let free = not_there (table_named definition.name state.schema) (has_twin_names definition.columns)
-    (neither_due _ (passes_table_limits definition state.schema) NameTaken TooMany due).0 in
+    let table : Table = record { definition = definition; indexes = [] } in
     record {
-      distinct = IsDistinct-push (record { definition = definition }) state.schema.tables free kept.distinct;
-      order = AreInKeyOrder-push state.schema.tables state.rows (record { definition = definition }) [] kept.order
+      distinct = IsDistinct-push table state.schema.tables (new_name_is_free definition state.schema due) kept.distinct;
+      order = AreInKeyOrder-push state.schema.tables state.rows table [] kept.order
           (IsStrictlySortedBy-nil (column_cmp_total (key_place definition.columns)));
     }
 

@@ -1,6 +1,7 @@
 -- Tuples against the columns of their table.
 use Rattle.std.proofs.Common.{◌≡◌, ℕ, ◌||◌, Bool, true, false, cond, not, List, [], ◌∷◌, Option, Some, None, zip, slice_get, refl, sym, ap, ◌∙◌}
 use Rattle.std.specs.List.{list_any}
+use Rattle.mm_schema.specs.Columns.{same_type}
 use Rattle.mm_schema.specs.Refused.{first_refusal}
 use Rattle.mm_schema.specs.Schema.{Schema, lacks_table, table_passes, table_place}
 use Rattle.mm_schema.specs.declared.column.Column.{Column}
@@ -9,7 +10,7 @@ use Rattle.mm_value.specs.Types.{type_of}
 use Rattle.mm_value.specs.declared.refusal.Refusal.{Refusal}
 use Rattle.mm_value.specs.declared.refusal.Refusal.TheVariants.{NoSuchTable, TypeMismatch, WrongNumberOfValues}
 use Rattle.mm_value.specs.declared.values.Value.{Value}
-use Rattle.mm_query.specs.Binding.{binding_conditions, has_other_length, has_type_mismatch, same_type}
+use Rattle.mm_query.specs.Binding.{binding_conditions, has_other_length, has_type_mismatch}
 use Rattle.mm_query.specs.declared.command.Mutation.TheVariants.{Insert}
 use Rattle.mm_query.proofs.Due.{lacks_nowhere, not_lacking, passes_at_place}
 

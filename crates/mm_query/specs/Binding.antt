@@ -1,25 +1,17 @@
 -- What refuses a change by the catalog alone, and what its names stand for.
-use Rattle.std.specs.Prelude.{◌≡◌, ℕ, ◌==◌, Bool, true, false, not, ◌||◌, List, [], ◌∷◌, Some, length}
+use Rattle.std.specs.Prelude.{◌≡◌, ℕ, ◌==◌, Bool, false, not, ◌||◌, List, [], ◌∷◌, Some, length}
 use Rattle.std.specs.List.{list_any}
+use Rattle.mm_schema.specs.Columns.{same_type}
 use Rattle.mm_schema.specs.Refused.{Condition}
 use Rattle.mm_schema.specs.Schema.{Schema, lacks_table, table_passes, table_place}
 use Rattle.mm_schema.specs.declared.column.Column.{Column}
 use Rattle.mm_value.specs.Types.{type_of}
-use Rattle.mm_value.specs.declared.col_type.ColType.{ColType}
-use Rattle.mm_value.specs.declared.col_type.ColType.TheVariants as type
 use Rattle.mm_value.specs.declared.refusal.Refusal.TheVariants.{NoSuchTable, TypeMismatch, WrongNumberOfValues}
 use Rattle.mm_value.specs.declared.values.Value.{Value}
 use Rattle.mm_query.specs.declared.bind.BoundChange.{BoundChange}
 use Rattle.mm_query.specs.declared.bind.BoundChange.TheVariants as bound
 use Rattle.mm_query.specs.declared.command.Mutation.{Mutation}
 use Rattle.mm_query.specs.declared.command.Mutation.TheVariants as written
-
--- Two types are one.
-abbrev pub same_type : ColType → ColType → Bool
-same_type type.Int type.Int = true
-same_type type.Text type.Text = true
-same_type type.Int type.Text = false
-same_type type.Text type.Int = false
 
 -- Some value differs in type from its column, where it has one.
 abbrev pub has_type_mismatch : List Column → List Value → Bool

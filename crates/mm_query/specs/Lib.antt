@@ -1,6 +1,8 @@
+pub mod Atoms
 pub mod Binding
 pub mod Edits
 pub mod Machine
+pub mod Placing
 pub mod State
 pub use Rattle.mm_schema.specs.Columns
 pub use Rattle.mm_schema.specs.Instance

@@ -2,9 +2,10 @@
 ghost use Rattle.std.specs.Prelude.{◌≡◌, not, Some, None, IfOk, MatchResult, zip};
 ghost use Rattle.std.specs.List.{list_any};
 ghost use Rattle.mm_value.specs.Types.{type_of};
+ghost use Rattle.mm_schema.specs.Columns.{same_type};
 ghost use Rattle.mm_schema.specs.Refused.{first_refusal};
 ghost use Rattle.mm_schema.specs.Schema.{HasDistinctNames};
-ghost use Rattle.mm_query.specs.Binding.{Binds, binding_conditions, has_other_length, has_type_mismatch, same_type};
+ghost use Rattle.mm_query.specs.Binding.{Binds, binding_conditions, has_other_length, has_type_mismatch};
 ghost use Rattle.mm_query.specs.declared.command.Mutation.TheVariants.{Insert};
 
 use crate::command::Mutation;

@@ -1,8 +1,7 @@
 -- Changes of the rows of one table among those of all.
-use Rattle.std.proofs.Common.{◌≡◌, ℕ, Bool, true, false, cond, List, [], ◌∷◌, ◌++◌, Option, Some, None, find, map, inl, inr, refl, sym, ap, subst, ◌∙◌}
+use Rattle.std.proofs.Common.{◌≡◌, ℕ, Bool, true, false, cond, List, [], ◌∷◌, ◌++◌, Option, Some, None, find, map, refl, sym, ap, subst, ◌∙◌}
 use Rattle.std.specs.List.{AllByRecursion, IsDistinct, flat_map}
 use Rattle.std.specs.Option.{option_map_or}
-use Rattle.std.proofs.lemmas.Bool.{cases_Bool, false≢true}
 use Rattle.std.proofs.lemmas.List.{append-nil}
 use Rattle.std.proofs.lemmas.Map.Keys.{IsDistinct-cons, IsDistinct-head, IsDistinct-tail}
 use Rattle.mm_schema.specs.Columns.{key_place}
@@ -11,7 +10,7 @@ use Rattle.mm_schema.specs.Name.{same_name}
 use Rattle.mm_schema.specs.Rows.{IsInKeyOrder, Pair, changed, has_twin_keys}
 use Rattle.mm_schema.specs.declared.table.Table.{Table}
 use Rattle.mm_schema.proofs.ChangedRows.{IsInKeyOrder-changed}
-use Rattle.mm_schema.proofs.NameLemmas.{same_bytes, same_name_refl}
+use Rattle.mm_schema.proofs.NameLemmas.{differs_back, same_bytes}
 use Rattle.mm_schema.proofs.Twins.{Row}
 
 abbrev pub name_of : Table → List ℕ
@@ -119,14 +118,6 @@ not_first : {X : Type 0} (b : Bool) (x : X) (found : Option X) → cond b (Some 
 not_first true x found none = cc
 not_first false x found none = (refl, none)
 
-other_way_round : (a b : List ℕ) → same_name a b ≡ false → same_name b a ≡ false
-other_way_round a b differs = elim (cases_Bool (same_name b a)) [
-  | inl same ↦
-      let one : b ≡ a = same_bytes b a same in
-      absurd (false≢true (sym differs ∙ ap (λ n. same_name n b) (sym one) ∙ same_name_refl b))
-  | inr other ↦ other
-]
-
 module _ (table : Table) where
   names_before : (name : List ℕ) (tables : List Table) → AllByRecursion (λ other. same_name name other ≡ false) (map name_of tables)
       → same_name name (name_of table) ≡ false
@@ -141,5 +132,5 @@ module _ (table : Table) where
   IsDistinct-push (t ∷ ts) none distinct =
       let others = not_first (same_name (name_of table) (name_of t)) t (find (λ u. same_name (name_of table) (name_of u)) ts) none in
       IsDistinct-cons same_name (name_of t) (map name_of (ts ++ table ∷ []))
-      (names_before (name_of t) ts (IsDistinct-head same_name (name_of t) (map name_of ts) distinct) (other_way_round (name_of table) (name_of t) others.0))
+      (names_before (name_of t) ts (IsDistinct-head same_name (name_of t) (map name_of ts) distinct) (differs_back (name_of table) (name_of t) others.0))
       (IsDistinct-push ts others.1 (IsDistinct-tail same_name (name_of t) (map name_of ts) distinct))

@@ -2,10 +2,12 @@ mod CatalogLemmas
 pub mod ChangedRows
 pub mod Dues
 pub mod InOrder
+mod IndexLemmas
 pub mod Instances
 pub mod Keys
 pub mod NameLemmas
 pub mod Orderings
 pub mod Places
 pub mod StrictOrder
+pub mod TwinIndexes
 pub mod Twins

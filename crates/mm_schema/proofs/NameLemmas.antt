@@ -1,6 +1,7 @@
 -- Names by their first byte and the others, and names that are one.
-use Rattle.std.proofs.Common.{◌≡◌, ℕ, ◌≤◌, ◌&&◌, List, [], ◌∷◌, true, length, drop, get_or, refl, arith}
+use Rattle.std.proofs.Common.{◌≡◌, ℕ, ◌≤◌, ◌&&◌, List, [], ◌∷◌, true, false, length, drop, get_or, inl, inr, refl, sym, ap, ◌∙◌, arith}
 use Rattle.std.specs.List.{list_all}
+use Rattle.std.proofs.lemmas.Bool.{cases_Bool, false≢true}
 use lib.Pointwise.{bytes_decides}
 use Rattle.mm_schema.specs.Name.{is_lower, is_name_byte, is_name_text, same_name}
 
@@ -17,3 +18,12 @@ same_bytes a b h = (bytes_decides a b).0 h
 -- .. and a name is one with itself.
 pub same_name_refl : (a : List ℕ) → same_name a a ≡ true
 same_name_refl a = (bytes_decides a a).1 refl
+
+-- Names that differ do so the other way round.
+pub differs_back : (a b : List ℕ) → same_name a b ≡ false → same_name b a ≡ false
+differs_back a b differs = elim (cases_Bool (same_name b a)) [
+  | inl same ↦
+      let one : b ≡ a = same_bytes b a same in
+      absurd (false≢true (sym differs ∙ ap (λ n. same_name n b) (sym one) ∙ same_name_refl b))
+  | inr other ↦ other
+]

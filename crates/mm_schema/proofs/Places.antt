@@ -1,10 +1,14 @@
 -- Tables by their places in the order of creation.
-use Rattle.std.proofs.Common.{◌≡◌, ℕ, ◌<◌, ◌≤◌, Bool, cond, ltb, List, Some, None, length, find, position, slice_get, sym, ap, ◌∙◌, arith}
+use Rattle.std.proofs.Common.{◌≡◌, ℕ, ◌<◌, ◌≤◌, ◌||◌, Bool, true, false, cond, ltb, List, [], ◌∷◌, Option, Some, None, is_some, length, find, position, slice_get, refl, sym, ap, ◌∙◌, arith}
 use Rattle.std.specs.List.{position_or_len}
 use Rattle.std.proofs.lemmas.Bool.Decides.{nat_tests}
 use Rattle.std.proofs.lemmas.List.Folds.{find_at}
 use Rattle.std.proofs.lemmas.Option.{slice_get_past}
-use Rattle.mm_schema.specs.Schema.{Schema, table_named, table_place}
+use Rattle.mm_schema.specs.Refused.{first_refusal}
+use Rattle.mm_schema.specs.Schema.{Schema, table_conditions, table_named, table_place}
+use Rattle.mm_schema.specs.declared.table.Table.{Table}
+use Rattle.mm_schema.specs.declared.table.TableDef.{TableDef}
+use Rattle.mm_value.specs.declared.refusal.Refusal.TheVariants.{NameTaken, NoSuchTable, TooMany, TypeMismatch}
 
 below : (at len i : ℕ) → cond (ltb at len) (Some at) None ≡ Some i → (i < len) × (i ≡ at)
 below at len i h = (grind (arith, nat_tests), grind (arith, nat_tests))
@@ -45,3 +49,16 @@ place_within name schema place h = within_from_some _ schema.tables place h
 -- A name without a place has no table.
 pub no_table : (name : List ℕ) (schema : Schema) → table_place name schema ≡ None → table_named name schema ≡ None
 no_table name schema h = find_nowhere _ schema.tables h
+
+free : (lacks : Bool) (named : Option Table) (twins mismatch limits : Bool)
+    → first_refusal (record { holds = lacks; refusal = NoSuchTable } ∷ record { holds = is_some named || twins; refusal = NameTaken }
+    ∷ record { holds = mismatch; refusal = TypeMismatch } ∷ record { holds = limits; refusal = TooMany } ∷ []) ≡ None
+    → named ≡ None
+free true named twins mismatch limits h = cc
+free false None twins mismatch limits h = refl
+free false (Some table) twins mismatch limits h = cc
+
+-- A table that nothing refuses has a new name.
+pub new_name_is_free : (definition : TableDef) (schema : Schema) → first_refusal (table_conditions definition schema) ≡ None
+    → table_named definition.name schema ≡ None
+new_name_is_free definition schema due = free _ (table_named definition.name schema) _ _ _ due

@@ -3,6 +3,7 @@ use Rattle.std.specs.Prelude.{◌≡◌, ℕ, List, map, All}
 use Rattle.std.specs.declared.hash.FoldHasher.{FoldHasher}
 use Rattle.std.specs.declared.hash.BuildHasherDefault.{BuildHasherDefault}
 use Rattle.indexmap.specs.IndexMap.{IndexMap}
+use Rattle.mm_schema.specs.Indexes.{HasDistinctIndexes, HasIndexesInPlace}
 use Rattle.mm_schema.specs.declared.table.Table.{Table}
 
 abbrev pub Tables : Type 0
@@ -15,3 +16,9 @@ tables_of tables = map (λ entry. entry.1) tables.entries
 -- each table stands under its own name
 abbrev pub IsKeyedByName : Tables → Type 0
 IsKeyedByName tables = All (λ entry. entry.0 ≡ entry.1.definition.name) tables.entries
+
+-- Each table stands under its own name, no two indexes have one name, and each stands in the table that it names.
+pub record IsSound (tables : Tables) : Type 0 where
+  pub keyed : IsKeyedByName tables
+  pub distinct : HasDistinctIndexes (record { tables = tables_of tables })
+  pub in_place : HasIndexesInPlace (record { tables = tables_of tables })

@@ -1,15 +1,19 @@
 -- The columns of a table.
-use Rattle.std.specs.Prelude.{ℕ, Bool, true, false, List, [], ◌∷◌, count_by, ◌||◌}
+use Rattle.std.specs.Prelude.{ℕ, Bool, true, false, not, List, [], ◌∷◌, Option, Some, None, count_by, find, position, ◌||◌}
 use Rattle.std.specs.List.{list_any, position_or_len}
+use Rattle.std.specs.Option.{option_map_or}
 use Rattle.mm_schema.specs.Name.{same_name}
 use Rattle.mm_schema.specs.declared.column.Column.{Column}
 use Rattle.mm_schema.specs.declared.column.Role.{Role}
-use Rattle.mm_schema.specs.declared.column.Role.TheVariants.{Key, Plain}
+use Rattle.mm_schema.specs.declared.column.Role.TheVariants.{Key, Plain, Reference}
+use Rattle.mm_value.specs.declared.col_type.ColType.{ColType}
+use Rattle.mm_value.specs.declared.col_type.ColType.TheVariants as type
 
 -- The column holds the key.
 abbrev pub is_key_role : Role → Bool
 is_key_role Key = true
 is_key_role Plain = false
+is_key_role (Reference table) = false
 
 abbrev pub is_key : Column → Bool
 is_key column = is_key_role column.role
@@ -26,3 +30,35 @@ key_place columns = position_or_len is_key columns
 abbrev pub has_twin_names : List Column → Bool
 has_twin_names [] = false
 has_twin_names (c ∷ cs) = list_any (λ d. same_name c.name d.name) cs || has_twin_names cs
+
+-- The column of a name.
+abbrev pub column_named : List ℕ → List Column → Option Column
+column_named name columns = find (λ column. same_name name column.name) columns
+
+-- Its place among the columns.
+abbrev pub column_place : List ℕ → List Column → Option ℕ
+column_place name columns = position (λ column. same_name name column.name) columns
+
+-- Two types are one.
+abbrev pub same_type : ColType → ColType → Bool
+same_type type.Int type.Int = true
+same_type type.Text type.Text = true
+same_type type.Int type.Text = false
+same_type type.Text type.Int = false
+
+-- The key column is of another type.
+abbrev pub differs_from_key : ColType → List Column → Bool
+differs_from_key type columns = option_map_or (λ key. not (same_type key.col_type type)) (find is_key columns) false
+
+-- The name of the table that a column of this role refers to, if it refers to one.
+abbrev pub target_of_role : Role → Option (List ℕ)
+target_of_role Key = None
+target_of_role Plain = None
+target_of_role (Reference table) = Some table
+
+abbrev pub target_of : Column → Option (List ℕ)
+target_of column = target_of_role column.role
+
+-- The column refers to the table of a name.
+abbrev pub refers_to : List ℕ → Column → Bool
+refers_to name column = option_map_or (same_name name) (target_of column) false

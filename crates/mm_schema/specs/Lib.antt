@@ -1,5 +1,6 @@
 pub mod Catalog
 pub mod Columns
+pub mod Indexes
 pub mod Instance
 pub mod Name
 pub mod Refused

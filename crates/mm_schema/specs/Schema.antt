@@ -1,13 +1,14 @@
--- The catalog: its tables in order of creation, and what refuses a new one.
-use Rattle.std.specs.Prelude.{ℕ, Bool, false, List, [], ◌∷◌, ◌++◌, Option, length, map, find, position, is_some, is_none, nat_lt, nat_le, ◌||◌}
-use Rattle.std.specs.List.{IsDistinct}
+-- The catalog: its tables in order of creation, and what refuses that one is made or dropped.
+use Rattle.std.specs.Prelude.{ℕ, Bool, false, not, List, [], ◌∷◌, ◌++◌, Option, filter, length, map, find, position, is_some, is_none, nat_lt, nat_le, ◌||◌, ◌&&◌}
+use Rattle.std.specs.List.{IsDistinct, list_any}
 use Rattle.std.specs.Option.{option_map_or}
 use Rattle.mm_schema.specs.Name.{same_name}
-use Rattle.mm_schema.specs.Columns.{has_twin_names, key_place}
+use Rattle.mm_schema.specs.Columns.{differs_from_key, has_twin_names, key_place, refers_to, target_of}
 use Rattle.mm_schema.specs.Refused.{Condition}
+use Rattle.mm_schema.specs.declared.column.Column.{Column}
 use Rattle.mm_schema.specs.declared.table.Table.{Table}
 use Rattle.mm_schema.specs.declared.table.TableDef.{TableDef}
-use Rattle.mm_value.specs.declared.refusal.Refusal.TheVariants.{NameTaken, TooMany}
+use Rattle.mm_value.specs.declared.refusal.Refusal.TheVariants.{InUse, NameTaken, NoSuchTable, TooMany, TypeMismatch}
 
 -- The tables, in order of creation.
 pub record Schema : Type 0 where
@@ -41,13 +42,39 @@ key_named name schema = option_map_or (λ table. key_place table.definition.colu
 abbrev pub passes_table_limits : TableDef → Schema → Bool
 passes_table_limits definition schema = nat_le 64 (length schema.tables) || nat_lt 16 (length definition.columns)
 
+-- The column refers to a table that isn't there.
+abbrev pub lacks_target : Schema → Column → Bool
+lacks_target schema column = option_map_or (λ table. lacks_table table schema) (target_of column) false
+
+-- The column refers to a table that is there, and differs in type from its key column.
+abbrev pub mismatches_target : Schema → Column → Bool
+mismatches_target schema column =
+    option_map_or (λ table. table_passes (λ t. differs_from_key column.col_type t.definition.columns) table schema) (target_of column) false
+
 -- What refuses a new table, in the one order.
 abbrev pub table_conditions : TableDef → Schema → List Condition
 table_conditions definition schema =
-    record { holds = is_some (table_named definition.name schema) || has_twin_names definition.columns; refusal = NameTaken }
+    record { holds = list_any (lacks_target schema) definition.columns; refusal = NoSuchTable }
+    ∷ record { holds = is_some (table_named definition.name schema) || has_twin_names definition.columns; refusal = NameTaken }
+    ∷ record { holds = list_any (mismatches_target schema) definition.columns; refusal = TypeMismatch }
     ∷ record { holds = passes_table_limits definition schema; refusal = TooMany }
     ∷ []
 
--- The catalog with a new table, which comes last.
+-- The catalog with a new table, which comes last and has no indexes.
 abbrev pub with_table : TableDef → Schema → Schema
-with_table definition schema = record schema { tables = schema.tables ++ record { definition = definition } ∷ [] }
+with_table definition schema = record schema { tables = schema.tables ++ record { definition = definition; indexes = [] } ∷ [] }
+
+-- It is another table than that of the name, and one of its columns refers to it.
+abbrev pub is_other_referring_to : List ℕ → Table → Bool
+is_other_referring_to name table = not (same_name name table.definition.name) && list_any (refers_to name) table.definition.columns
+
+-- What refuses that a table is dropped, in the one order.
+abbrev pub drop_table_conditions : List ℕ → Schema → List Condition
+drop_table_conditions name schema =
+    record { holds = lacks_table name schema; refusal = NoSuchTable }
+    ∷ record { holds = list_any (is_other_referring_to name) schema.tables; refusal = InUse }
+    ∷ []
+
+-- The catalog without the table of a name; the others stay in order.
+abbrev pub without_table : List ℕ → Schema → Schema
+without_table name schema = record schema { tables = filter (λ table. not (same_name name table.definition.name)) schema.tables }

@@ -1,9 +1,15 @@
 //! The catalog.
-ghost use Rattle.std.specs.Prelude.{◌≡◌, ◌<◌, [], Some, length, slice_get, OnOk, OnErr};
+ghost use Rattle.std.specs.Prelude.{◌≡◌, ◌<◌, ◌||◌, is_some, [], Some, None, length, position, slice_get, MatchResult, OnOk, OnErr};
+ghost use Rattle.std.specs.List.{list_any};
 ghost use Rattle.std.specs.Option.{option_copied};
+ghost use Rattle.mm_schema.specs.Columns.{has_twin_names};
+ghost use Rattle.mm_schema.specs.Indexes.{HasDistinctIndexes, HasIndexesInPlace, drop_index_conditions, index_conditions, index_named, with_index, without_index};
+ghost use Rattle.mm_schema.specs.Name.{same_name};
 ghost use Rattle.mm_schema.specs.Refused.{AnswersDue, first_refusal};
-ghost use Rattle.mm_schema.specs.Schema.{HasDistinctNames, table_conditions, table_named, table_place, with_table};
+ghost use Rattle.mm_schema.specs.Schema.{HasDistinctNames, drop_table_conditions, is_other_referring_to, lacks_target, mismatches_target, passes_table_limits, table_conditions, table_named, table_place, with_table, without_table};
 
+use crate::column::Column;
+use crate::index::{IndexDef, Indexes};
 use crate::name::Name;
 use crate::table::{Table, TableDef};
 use indexmap::IndexMap;
@@ -15,6 +21,8 @@ use std::marker::Model;
 pub const MAX_TABLES: usize = 64;
 /// The most columns that a table has.
 pub const MAX_COLUMNS: usize = 16;
+/// The most indexes that a table has, beside the one on its key.
+pub const MAX_INDEXES: usize = 16;
 
 /// The tables that there are, in order of creation, no two of one name.
 #[derive(Drop)]
@@ -24,13 +32,13 @@ pub struct Catalog {
 
 impl Model for Catalog {
     ghost use Rattle.mm_schema.specs.Schema.{Schema};
-    ghost use Rattle.mm_schema.specs.Catalog.{tables_of, IsKeyedByName};
+    ghost use Rattle.mm_schema.specs.Catalog.{tables_of, IsSound};
 
     ghost Value = { Schema };
 
     ghost view = { λ c. record { tables = tables_of c.tables } };
 
-    ghost invariant = { λ c. IsKeyedByName c.tables };
+    ghost invariant = { λ c. IsSound c.tables };
 }
 
 impl Catalog {
@@ -43,9 +51,11 @@ impl Catalog {
         }
     }
 
-    /// Adds a table, which comes last. `NameTaken` where the catalog has its name or a column stands twice, else
-    /// `TooMany` where there are 64 tables already or it has more than 16 columns; `Memory` may come in their place
-    /// and in that of success. A refused call changes nothing.
+    /// Adds a table, which comes last and has no indexes. `NoSuchTable` where a column refers to a table that isn't
+    /// there; else `NameTaken` where the catalog has its name or a column stands twice; else `TypeMismatch` where a
+    /// column differs in type from the key of the table that it refers to; else `TooMany` where there are 64 tables
+    /// already or it has more than 16 columns. `Memory` may come in their place and in that of success. A refused call
+    /// changes nothing.
     pub fn add_table(&mut self, definition: TableDef) -> Result<(), Refusal>
         ensures due { AnswersDue (first_refusal (table_conditions definition self.old)) result }
         ensures ok { OnOk result (self.new ≡ with_table definition self.old) }
@@ -55,7 +65,12 @@ impl Catalog {
             return Err(refusal);
         }
         let name = definition.name.copy();
-        self.tables.insert(name, Table { definition })?;
+        let indexes = Indexes::new(*self.tables.allocator());
+        let table = Table {
+            definition,
+            indexes,
+        };
+        self.tables.insert(name, table)?;
         Ok(())
     }
 
@@ -63,13 +78,175 @@ impl Catalog {
     fn table_refusal(&self, definition: &TableDef) -> Option<Refusal>
         ensures { result ≡ first_refusal (table_conditions definition.now self.now) }
     {
-        if self.find_table(&definition.name).is_some() || definition.columns.has_twin_names() {
+        if self.lacks_some_target(definition) {
+            Some(Refusal::NoSuchTable)
+        } else if self.has_taken_name(definition) {
+            Some(Refusal::NameTaken)
+        } else if self.mismatches_some_target(definition) {
+            Some(Refusal::TypeMismatch)
+        } else if self.passes_limits(definition) {
+            Some(Refusal::TooMany)
+        } else {
+            None
+        }
+    }
+
+    /// Whether some column refers to a table that isn't there.
+    fn lacks_some_target(&self, definition: &TableDef) -> bool
+        ensures { result ≡ list_any (lacks_target self.now) definition.now.columns }
+    {
+        let columns = definition.columns.as_slice();
+        columns.iter().any(|column| self.lacks_target(column))
+    }
+
+    /// Whether a column refers to a table that isn't there.
+    fn lacks_target(&self, column: &Column) -> bool
+        ensures { result ≡ lacks_target self.now column.now }
+    {
+        match column.target() {
+            Some(table) => self.find_table(table).is_none(),
+            None => false,
+        }
+    }
+
+    /// Whether the catalog has the table's name, or a column stands twice.
+    fn has_taken_name(&self, definition: &TableDef) -> bool
+        ensures { result ≡ (is_some (table_named definition.now.name self.now) || has_twin_names definition.now.columns) }
+    {
+        self.find_table(&definition.name).is_some() || definition.columns.has_twin_names()
+    }
+
+    /// Whether some column refers to a table that is there, and differs in type from its key.
+    fn mismatches_some_target(&self, definition: &TableDef) -> bool
+        ensures { result ≡ list_any (mismatches_target self.now) definition.now.columns }
+    {
+        let columns = definition.columns.as_slice();
+        columns.iter().any(|column| self.mismatches_target(column))
+    }
+
+    /// Whether a column refers to a table that is there, and differs in type from its key.
+    fn mismatches_target(&self, column: &Column) -> bool
+        ensures { result ≡ mismatches_target self.now column.now }
+    {
+        let target = column.target().and_then(|table| self.find_table(table));
+        match target {
+            Some(table) => table.definition.columns.key_differs_from(column.col_type),
+            None => false,
+        }
+    }
+
+    /// Whether there are 64 tables already, or the new one has more than 16 columns.
+    fn passes_limits(&self, definition: &TableDef) -> bool
+        ensures { result ≡ passes_table_limits definition.now self.now }
+    {
+        self.tables.len() >= MAX_TABLES || definition.columns.as_slice().len() > MAX_COLUMNS
+    }
+
+    /// Drops a table and its indexes. The others stay in order. It takes no memory. `NoSuchTable` where no table has
+    /// the name, else `InUse` where a column of another table refers to it. A refused call changes nothing.
+    pub fn drop_table(&mut self, name: &Name) -> Result<(), Refusal>
+        ensures due { MatchResult result (λ _. first_refusal (drop_table_conditions name.now self.old) ≡ None)
+            (λ refusal. first_refusal (drop_table_conditions name.now self.old) ≡ Some refusal) }
+        ensures ok { OnOk result (self.new ≡ without_table name.now self.old) }
+        ensures err { OnErr result (self.new ≡ self.old) }
+    {
+        if self.find_table(name).is_none() {
+            return Err(Refusal::NoSuchTable);
+        }
+        if self.is_in_use(name) {
+            return Err(Refusal::InUse);
+        }
+        self.tables.shift_remove(name);
+        Ok(())
+    }
+
+    /// Whether a column of another table refers to the table of a name.
+    fn is_in_use(&self, name: &Name) -> bool
+        ensures { result ≡ list_any (is_other_referring_to name.now) self.now.tables }
+    {
+        self.tables()
+            .iter()
+            .any(|table| *name != table.definition.name && table.definition.columns.refer_to(name))
+    }
+
+    /// Adds an index, which comes last in its table. `NoSuchTable` where its table isn't there; else `NoSuchColumn`
+    /// where that has no column of the name; else `NameTaken` where some index of any table has its name; else
+    /// `TooMany` where the table has 16 indexes already. `Memory` may come in their place and in that of success. A
+    /// refused call changes nothing.
+    pub fn add_index(&mut self, index: IndexDef) -> Result<(), Refusal>
+        ensures due { AnswersDue (first_refusal (index_conditions index self.old)) result }
+        ensures ok { OnOk result (self.new ≡ with_index index self.old) }
+        ensures err { OnErr result (self.new ≡ self.old) }
+    {
+        let Some(place) = self.place_of(&index.table) else {
+            return Err(Refusal::NoSuchTable);
+        };
+        if let Some(refusal) = self.index_refusal(self.table_at(place), &index) {
+            return Err(refusal);
+        }
+        self.tables[place].indexes.push(index)
+    }
+
+    /// What refuses a new index of a table.
+    fn index_refusal(&self, table: &Table, index: &IndexDef) -> Option<Refusal>
+        requires { table_named index.now.table self.now ≡ Some table.now }
+        ensures { result ≡ first_refusal (index_conditions index.now self.now) }
+    {
+        if table.definition.columns.place_of(&index.column).is_none() {
+            return Some(Refusal::NoSuchColumn);
+        }
+        if self.find_index(&index.name).is_some() {
             return Some(Refusal::NameTaken);
         }
-        if self.tables.len() >= MAX_TABLES || definition.columns.as_slice().len() > MAX_COLUMNS {
+        if table.indexes.as_slice().len() >= MAX_INDEXES {
             return Some(Refusal::TooMany);
         }
         None
+    }
+
+    /// Drops an index. It takes no memory. `NoSuchIndex` where no index has the name. A refused call changes nothing.
+    pub fn drop_index(&mut self, name: &Name) -> Result<(), Refusal>
+        ensures due { MatchResult result (λ _. first_refusal (drop_index_conditions name.now self.old) ≡ None)
+            (λ refusal. first_refusal (drop_index_conditions name.now self.old) ≡ Some refusal) }
+        ensures ok { OnOk result (self.new ≡ without_index name.now self.old) }
+        ensures err { OnErr result (self.new ≡ self.old) }
+    {
+        let Some(place) = self.place_with_index(name) else {
+            return Err(Refusal::NoSuchIndex);
+        };
+        self.tables[place].indexes.remove(name);
+        Ok(())
+    }
+
+    /// The index of a name, or none where no index has it. It looks through the indexes of all tables, at most 1,024:
+    /// only commands that name an index ask it.
+    pub fn find_index(&self, name: &Name) -> Option<&IndexDef>
+        ensures found { option_copied result ≡ index_named name.now self.now }
+        ensures distinct { HasDistinctIndexes self.now }
+        ensures in_place { HasIndexesInPlace self.now }
+    {
+        self.tables()
+            .iter()
+            .flat_map(|table| table.indexes.as_slice())
+            .find(|index| *name == index.name)
+    }
+
+    /// The place of the table that has the index of a name.
+    fn place_with_index(&self, name: &Name) -> Option<usize>
+        ensures { result ≡ position (λ t. list_any (λ i. same_name name.now i.name) t.indexes) self.now.tables }
+    {
+        self.tables()
+            .iter()
+            .position(|table| table.indexes.has(name))
+    }
+
+    /// The tables, in order of creation.
+    pub fn tables(&self) -> &[Table]
+        ensures value { result.now ≡ self.now.tables }
+        ensures distinct { HasDistinctIndexes self.now }
+        ensures in_place { HasIndexesInPlace self.now }
+    {
+        self.tables.values().as_slice()
     }
 
     /// The table of a name, none where no table has it. No two tables have one name.
@@ -103,6 +280,7 @@ impl Catalog {
 mod tests {
     use super::*;
     use crate::column::{Column, Columns, Role};
+    use crate::index::IndexKind;
     use mm_value::ColType;
     use std::process::Abort;
 
@@ -112,20 +290,48 @@ mod tests {
         Name::new(&bytes).expect(rt, "a name")
     }
 
+    /// Puts a column at the end, and again where memory was refused.
+    fn put(
+        rt: &impl Abort,
+        items: &mut Vec<Column>,
+        number: u16,
+        col_type: ColType,
+        role: Role,
+    ) {
+        let column = Column {
+            name: name_of(rt, number),
+            col_type,
+            role,
+        };
+        if let Err(refused) = items.push(column) {
+            items.push(refused.value).expect(rt, "memory");
+        }
+    }
+
     /// A table with so many columns, of which the first is the key.
     fn table(rt: &(impl Abort + AllocGlobal), name: u16, columns: u16) -> TableDef {
         let mut items = Vec::new(rt.alloc());
         for i in 0..columns {
-            let column = Column {
-                name: name_of(rt, i),
-                col_type: ColType::Int,
-                role: if i == 0 { Role::Key } else { Role::Plain },
-            };
-            // Memory may be refused once.
-            if let Err(refused) = items.push(column) {
-                items.push(refused.value).expect(rt, "memory");
-            }
+            let role = if i == 0 { Role::Key } else { Role::Plain };
+            put(rt, &mut items, i, ColType::Int, role);
         }
+        TableDef {
+            name: name_of(rt, name),
+            columns: Columns::new(items).expect(rt, "a key"),
+        }
+    }
+
+    /// A table of a key and a column of this type that refers to a table.
+    fn referring(
+        rt: &(impl Abort + AllocGlobal),
+        name: u16,
+        target: u16,
+        col_type: ColType,
+    ) -> TableDef {
+        let mut items = Vec::new(rt.alloc());
+        put(rt, &mut items, 0, ColType::Int, Role::Key);
+        let role = Role::Reference(name_of(rt, target));
+        put(rt, &mut items, 1, col_type, role);
         TableDef {
             name: name_of(rt, name),
             columns: Columns::new(items).expect(rt, "a key"),
@@ -142,6 +348,45 @@ mod tests {
         let first = catalog.add_table(table(rt, name, columns));
         if first == Err(Refusal::Memory) {
             return catalog.add_table(table(rt, name, columns));
+        }
+        first
+    }
+
+    /// Adds a table that refers to one, and again where memory was refused.
+    fn refer(
+        rt: &(impl Abort + AllocGlobal),
+        catalog: &mut Catalog,
+        name: u16,
+        target: u16,
+        col_type: ColType,
+    ) -> Result<(), Refusal> {
+        let first = catalog.add_table(referring(rt, name, target, col_type));
+        if first == Err(Refusal::Memory) {
+            return catalog.add_table(referring(rt, name, target, col_type));
+        }
+        first
+    }
+
+    fn index(rt: &impl Abort, name: u16, table: u16, column: u16) -> IndexDef {
+        IndexDef {
+            name: name_of(rt, name),
+            table: name_of(rt, table),
+            column: name_of(rt, column),
+            kind: IndexKind::Tree,
+        }
+    }
+
+    /// Adds an index, and again where memory was refused.
+    fn add_index(
+        rt: &impl Abort,
+        catalog: &mut Catalog,
+        name: u16,
+        table: u16,
+        column: u16,
+    ) -> Result<(), Refusal> {
+        let first = catalog.add_index(index(rt, name, table, column));
+        if first == Err(Refusal::Memory) {
+            return catalog.add_index(index(rt, name, table, column));
         }
         first
     }
@@ -163,14 +408,7 @@ mod tests {
     fn refuses_columns_of_one_name(rt: HostRuntime) {
         let mut twins = Vec::new(rt.alloc());
         for role in [Role::Key, Role::Plain] {
-            let column = Column {
-                name: name_of(&rt, 1),
-                col_type: ColType::Text,
-                role,
-            };
-            if let Err(refused) = twins.push(column) {
-                twins.push(refused.value).expect(&rt, "memory");
-            }
+            put(&rt, &mut twins, 1, ColType::Text, role);
         }
         let definition = TableDef {
             name: name_of(&rt, 0),
@@ -191,5 +429,73 @@ mod tests {
         assert!(rt; catalog.find_table(&name_of(&rt, 6)).is_none());
         let first = catalog.place_of(&name_of(&rt, 7)).expect(&rt, "a table");
         assert_eq!(rt; catalog.table_at(first).definition.name, name_of(&rt, 7));
+    }
+
+    #[test]
+    fn keeps_references_whole(rt: HostRuntime) {
+        let mut catalog = Catalog::new(rt.alloc());
+        let (int, text) = (ColType::Int, ColType::Text);
+        assert_eq!(rt; add(&rt, &mut catalog, 0, 1), Ok(()));
+        assert_eq!(rt; refer(&rt, &mut catalog, 1, 2, int), Err(Refusal::NoSuchTable));
+        assert_eq!(rt; refer(&rt, &mut catalog, 1, 1, int), Err(Refusal::NoSuchTable));
+        assert_eq!(rt; refer(&rt, &mut catalog, 0, 0, text), Err(Refusal::NameTaken));
+        assert_eq!(rt; refer(&rt, &mut catalog, 1, 0, text), Err(Refusal::TypeMismatch));
+        assert_eq!(rt; refer(&rt, &mut catalog, 1, 0, int), Ok(()));
+        assert_eq!(rt; catalog.drop_table(&name_of(&rt, 0)), Err(Refusal::InUse));
+        assert_eq!(rt; catalog.drop_table(&name_of(&rt, 1)), Ok(()));
+        assert_eq!(rt; catalog.drop_table(&name_of(&rt, 0)), Ok(()));
+        assert!(rt; catalog.tables().is_empty());
+    }
+
+    #[test]
+    fn drops_tables_in_order(rt: HostRuntime) {
+        let mut catalog = Catalog::new(rt.alloc());
+        for i in 0..3 {
+            assert_eq!(rt; add(&rt, &mut catalog, i, 1), Ok(()));
+        }
+        assert_eq!(rt; catalog.drop_table(&name_of(&rt, 0)), Ok(()));
+        assert_eq!(rt; catalog.drop_table(&name_of(&rt, 0)), Err(Refusal::NoSuchTable));
+        assert_eq!(rt; add(&rt, &mut catalog, 0, 1), Ok(()));
+        for (place, name) in [1, 2, 0].into_iter().enumerate() {
+            assert_eq!(rt; catalog.place_of(&name_of(&rt, name)), Some(place));
+        }
+    }
+
+    #[test]
+    fn refuses_indexes(rt: HostRuntime) {
+        let mut catalog = Catalog::new(rt.alloc());
+        assert_eq!(rt; add(&rt, &mut catalog, 0, 2), Ok(()));
+        assert_eq!(rt; add(&rt, &mut catalog, 1, 2), Ok(()));
+        assert_eq!(rt; add_index(&rt, &mut catalog, 0, 2, 0), Err(Refusal::NoSuchTable));
+        assert_eq!(rt; add_index(&rt, &mut catalog, 0, 0, 2), Err(Refusal::NoSuchColumn));
+        for i in 0..16 {
+            assert_eq!(rt; add_index(&rt, &mut catalog, i, 0, 1), Ok(()));
+        }
+        assert_eq!(rt; add_index(&rt, &mut catalog, 5, 1, 2), Err(Refusal::NoSuchColumn));
+        assert_eq!(rt; add_index(&rt, &mut catalog, 5, 1, 0), Err(Refusal::NameTaken));
+        assert_eq!(rt; add_index(&rt, &mut catalog, 5, 0, 0), Err(Refusal::NameTaken));
+        assert_eq!(rt; add_index(&rt, &mut catalog, 16, 0, 0), Err(Refusal::TooMany));
+        assert_eq!(rt; add_index(&rt, &mut catalog, 16, 1, 0), Ok(()));
+    }
+
+    #[test]
+    fn finds_and_drops_indexes(rt: HostRuntime) {
+        let mut catalog = Catalog::new(rt.alloc());
+        for i in 0..2 {
+            assert_eq!(rt; add(&rt, &mut catalog, i, 2), Ok(()));
+        }
+        for (name, table) in [(3, 0), (4, 0), (5, 1)] {
+            assert_eq!(rt; add_index(&rt, &mut catalog, name, table, 1), Ok(()));
+        }
+        let found = catalog.find_index(&name_of(&rt, 5)).expect(&rt, "an index");
+        assert_eq!(rt; found.table, name_of(&rt, 1));
+        assert_eq!(rt; found.column, name_of(&rt, 1));
+        assert_eq!(rt; catalog.drop_index(&name_of(&rt, 3)), Ok(()));
+        assert_eq!(rt; catalog.drop_index(&name_of(&rt, 3)), Err(Refusal::NoSuchIndex));
+        let left = catalog.table_at(catalog.place_of(&name_of(&rt, 0)).expect(&rt, "a table"));
+        assert_eq!(rt; left.indexes.as_slice().len(), 1);
+        assert_eq!(rt; left.indexes.as_slice()[0].name, name_of(&rt, 4));
+        assert_eq!(rt; catalog.drop_table(&name_of(&rt, 1)), Ok(()));
+        assert!(rt; catalog.find_index(&name_of(&rt, 5)).is_none());
     }
 }

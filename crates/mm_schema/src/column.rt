@@ -2,19 +2,22 @@
 ghost use Rattle.std.specs.Prelude.{◌≡◌, ◌↔◌, ◌<◌, IsSome, IfSome, length, position};
 ghost use Rattle.std.specs.List.{list_any};
 ghost use Rattle.mm_schema.specs.Name.{same_name};
-ghost use Rattle.mm_schema.specs.Columns.{has_twin_names, is_key, key_count, key_place};
+ghost use Rattle.std.specs.Option.{option_copied};
+ghost use Rattle.mm_schema.specs.Columns.{column_place, differs_from_key, has_twin_names, is_key, key_count, key_place, refers_to, target_of};
 
 use crate::name::Name;
 use mm_value::ColType;
 use std::marker::Model;
 
 /// What a column is for.
-#[derive(Clone, Copy, Debug, PartialEq, Eq)]
+#[derive(Debug, PartialEq, Eq, Drop)]
 pub enum Role {
     /// Its value is the row's key: no two rows of the table have the same.
     Key,
     /// Nothing beside its value.
     Plain,
+    /// A foreign key: each value is the key of a row of the table of this name.
+    Reference(Name),
 }
 
 /// A column of a table.
@@ -35,8 +38,25 @@ impl Column {
     {
         match self.role {
             Role::Key => true,
-            Role::Plain => false,
+            Role::Plain | Role::Reference(_) => false,
         }
+    }
+
+    /// The table that it refers to, or none where it is no foreign key.
+    pub fn target(&self) -> Option<&Name>
+        ensures { option_copied result ≡ target_of self.now }
+    {
+        match &self.role {
+            Role::Key | Role::Plain => None,
+            Role::Reference(table) => Some(table),
+        }
+    }
+
+    /// Whether it refers to the table of a name.
+    fn refers_to(&self, name: &Name) -> bool
+        ensures { result ≡ refers_to name.now self.now }
+    {
+        self.target().is_some_and(|table| *name == *table)
     }
 }
 
@@ -102,6 +122,27 @@ impl Columns {
     {
         self.key
     }
+
+    /// The place of the column of a name, counted from 0, or none where no column has it.
+    pub fn place_of(&self, name: &Name) -> Option<usize>
+        ensures { result ≡ column_place name.now self.now }
+    {
+        self.items.iter().position(|column| *name == column.name)
+    }
+
+    /// Whether the key column is of another type.
+    pub(crate) fn key_differs_from(&self, col_type: ColType) -> bool
+        ensures { result ≡ differs_from_key col_type self.now }
+    {
+        self.items[self.key].col_type != col_type
+    }
+
+    /// Whether some column refers to the table of a name.
+    pub(crate) fn refer_to(&self, name: &Name) -> bool
+        ensures { result ≡ list_any (refers_to name.now) self.now }
+    {
+        self.items.iter().any(|column| column.refers_to(name))
+    }
 }
 
 /// How many of the columns are the key.
@@ -130,13 +171,18 @@ mod tests {
     use super::*;
     use std::process::Abort;
 
-    fn columns(rt: &(impl Abort + AllocGlobal), items: &[(&[u8], Role)]) -> Option<Columns> {
+    fn name_of(rt: &impl Abort, bytes: &[u8]) -> Name {
+        Name::new(bytes).expect(rt, "a name")
+    }
+
+    /// Columns of whole numbers, each with its name and whether it is the key.
+    fn columns(rt: &(impl Abort + AllocGlobal), items: &[(&[u8], bool)]) -> Option<Columns> {
         let mut columns = Vec::new(rt.alloc());
-        for (name, role) in items {
+        for (name, is_key) in items {
             let column = Column {
-                name: Name::new(name).expect(rt, "a name"),
+                name: name_of(rt, name),
                 col_type: ColType::Int,
-                role: *role,
+                role: if *is_key { Role::Key } else { Role::Plain },
             };
             // Memory may be refused once.
             if let Err(refused) = columns.push(column) {
@@ -148,8 +194,8 @@ mod tests {
 
     #[test]
     fn has_one_key(rt: HostRuntime) {
-        let plain = (b"a".as_slice(), Role::Plain);
-        let key = (b"b".as_slice(), Role::Key);
+        let plain = (b"a".as_slice(), false);
+        let key = (b"b".as_slice(), true);
         assert!(rt; columns(&rt, &[]).is_none());
         assert!(rt; columns(&rt, &[plain]).is_none());
         assert!(rt; columns(&rt, &[key, plain, key]).is_none());
@@ -160,5 +206,26 @@ mod tests {
         assert!(rt; !found.has_twin_names());
         let twins = columns(&rt, &[key, plain, plain]).expect(&rt, "one key");
         assert!(rt; twins.has_twin_names());
+    }
+
+    #[test]
+    fn finds_columns_by_name(rt: HostRuntime) {
+        let found = columns(&rt, &[(b"a", false), (b"b", true)]).expect(&rt, "one key");
+        assert_eq!(rt; found.place_of(&name_of(&rt, b"b")), Some(1));
+        assert_eq!(rt; found.place_of(&name_of(&rt, b"c")), None);
+    }
+
+    #[test]
+    fn tells_its_target(rt: HostRuntime) {
+        let column = Column {
+            name: name_of(&rt, b"a"),
+            col_type: ColType::Text,
+            role: Role::Reference(name_of(&rt, b"t")),
+        };
+        let target = column.target().expect(&rt, "a target");
+        assert_eq!(rt; target.bytes(), b"t".as_slice());
+        assert!(rt; column.refers_to(target));
+        assert!(rt; !column.refers_to(&column.name));
+        assert!(rt; !column.is_key());
     }
 }

@@ -1,14 +1,16 @@
-//! The catalog: names, columns, tables, and what a change of a table's rows is.
+//! The catalog: names, columns, tables, indexes, and what a change of a table's rows is.
 #![tactic(auto)]
 
 mod catalog;
 mod column;
+mod index;
 mod laws;
 mod name;
 mod table;
 
-pub use catalog::{Catalog, MAX_COLUMNS, MAX_TABLES};
+pub use catalog::{Catalog, MAX_COLUMNS, MAX_INDEXES, MAX_TABLES};
 pub use column::{Column, Columns, Role};
+pub use index::{IndexDef, IndexId, IndexKind, Indexes};
 pub use laws::{changes_are_exact, in_order_sorts};
 pub use name::Name;
 pub use table::{Table, TableDef};

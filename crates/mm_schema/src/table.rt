@@ -1,5 +1,6 @@
 //! Tables as the catalog has them.
 use crate::column::Columns;
+use crate::index::Indexes;
 use crate::name::Name;
 
 /// A table as it is defined.
@@ -16,4 +17,6 @@ pub struct TableDef {
 pub struct Table {
     /// As it was defined.
     pub definition: TableDef,
+    /// Its indexes, in order of creation.
+    pub indexes: Indexes,
 }

@@ -62,7 +62,7 @@ module _ (schema : Schema) (rs : List KeyedList) (are : AreRowsOf schema.tables 
   -- .. and those are its rows.
   pub rows_added : (definition : TableDef) (keyed : KeyedList) → keyed.key ≡ key_place definition.columns
       → AreRowsOf (with_table definition schema).tables (rs ++ keyed ∷ [])
-  rows_added definition keyed key = AreRowsOf-push schema.tables rs (record { definition = definition }) keyed key are
+  rows_added definition keyed key = AreRowsOf-push schema.tables rs (record { definition = definition; indexes = [] }) keyed key are
 
   module _ (name : List ℕ) (place : ℕ) (placed : table_place name schema ≡ Some place) where
     -- There are rows at the place of a name.

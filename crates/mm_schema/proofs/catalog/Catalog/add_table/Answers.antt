@@ -1,7 +1,7 @@
 use Rattle.std.proofs.Common.{sym, ap, ◌∙◌}
 use Rattle.indexmap.specs.IndexMap.{insert_entry}
 use Rattle.mm_schema.specs.Name.{same_name}
-use Rattle.mm_schema.proofs.CatalogLemmas.{IsPushed, entry_comes_last, keyed_push, view_push}
+use Rattle.mm_schema.proofs.CatalogLemmas.{IsPushed, entry_comes_last, sound_push, view_push}
 use Rattle.mm_schema.proofs.catalog.Catalog.add_table.Goals as goal
 use Rattle.mm_schema.proofs.catalog.Catalog.add_table.Goals.{Joined-branch-2}
 
@@ -9,11 +9,12 @@ use Rattle.mm_schema.proofs.catalog.Catalog.add_table.Goals.{Joined-branch-2}
 pushed : (c : Joined-branch-2) → IsPushed c.args.definition c.self.inside.tables c.insert.new.self
 pushed c =
     c.in_ok-insert.ensures.entries
-    ∙ ap (λ name. insert_entry same_name c.self.inside.tables.entries name (record { definition = c.args.definition })) c.copy-name.ensures
-    ∙ entry_comes_last c.args.definition c.self.inside.tables c.args.self.now c.self.invariant c.self.view_is (sym c.in_default.ensures) _
+    ∙ (λ i. insert_entry same_name c.self.inside.tables.entries (c.copy-name.ensures i)
+    (record { definition = c.args.definition; indexes = c.new-indexes.ensures i }))
+    ∙ entry_comes_last c.args.definition c.self.inside.tables c.args.self.now c.self.invariant.keyed c.self.view_is (sym c.in_default.ensures) _
 
 pub invariant_of-self-2 : goal.invariant_of-self-2
-invariant_of-self-2 c = keyed_push c.args.definition c.self.inside.tables c.insert.new.self (pushed c) c.self.invariant
+invariant_of-self-2 c = sound_push c.args.definition c.self.inside.tables c.insert.new.self (pushed c) c.self.invariant
 
 pub returns-clause-ok : goal.returns-clause-ok
 returns-clause-ok c = view_push c.args.definition c.self.inside.tables c.insert.new.self c.args.self.now (pushed c) c.self.view_is

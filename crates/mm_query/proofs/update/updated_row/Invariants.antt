@@ -1,0 +1,11 @@
+use Rattle.std.proofs.Common.{◌≡◌, ◌++◌, false, drop}
+use Rattle.std.specs.List.{list_any}
+use Rattle.mm_query.specs.Atoms.{is_past_range, updated_from, updated_row}
+use Rattle.mm_query.proofs.update.updated_row.Given as goal
+
+-- what was computed so far, and then the rest of the new row; none of the former is past the range
+abbrev pub invariant-loop-column : goal.invariant-loop-column
+invariant-loop-column l = record {
+  rest : l.values.items ++ updated_from l.assignments l.row l.column (drop l.column l.row) ≡ updated_row l.assignments l.row;
+  in_range : list_any is_past_range l.values.items ≡ false;
+}

@@ -1,0 +1,103 @@
+-- What the column names of tests and assignments stand for, and what refuses them by the columns of their table.
+use Rattle.std.specs.Prelude.{ℕ, Bool, false, not, ◌||◌, List, [], ◌∷◌, Option, Some, None, is_none, length, nat_lt}
+use Rattle.std.specs.List.{list_any}
+use Rattle.std.specs.Option.{option_map, option_map_or, unwrap_or}
+use Rattle.mm_schema.specs.Columns.{column_named, column_place, same_type}
+use Rattle.mm_schema.specs.Name.{same_name}
+use Rattle.mm_schema.specs.Refused.{Condition}
+use Rattle.mm_schema.specs.declared.column.Column.{Column}
+use Rattle.mm_value.specs.Types.{type_of}
+use Rattle.mm_value.specs.declared.col_type.ColType.{ColType}
+use Rattle.mm_value.specs.declared.col_type.ColType.TheVariants as type
+use Rattle.mm_value.specs.declared.refusal.Refusal.TheVariants.{NameTaken, NoSuchColumn, TooMany, TypeMismatch}
+use Rattle.mm_query.specs.declared.atom.Assignment.{Assignment}
+use Rattle.mm_query.specs.declared.atom.Atom.{Atom}
+use Rattle.mm_query.specs.declared.atom.Operand.{Operand}
+use Rattle.mm_query.specs.declared.atom.Operand.TheVariants as operand
+
+-- ---- places for names
+
+-- The place of the column of a name, and 0 where there is none.
+abbrev pub placed : List Column → List ℕ → ℕ
+placed columns name = unwrap_or (column_place name columns) 0
+
+-- An operand, an atom and an assignment with places in place of the names of columns.
+abbrev pub placed_operand : List Column → Operand (List ℕ) → Operand ℕ
+placed_operand columns (operand.Literal value) = operand.Literal value
+placed_operand columns (operand.Column name) = operand.Column (placed columns name)
+placed_operand columns (operand.Shifted name by) = operand.Shifted (placed columns name) by
+
+abbrev pub placed_atom : List Column → Atom (List ℕ) → Atom ℕ
+placed_atom columns atom =
+    record { left = placed columns atom.left; comparison = atom.comparison; right = placed_operand columns atom.right }
+
+abbrev pub placed_assignment : List Column → Assignment (List ℕ) → Assignment ℕ
+placed_assignment columns assignment =
+    record { column = placed columns assignment.column; source = placed_operand columns assignment.source }
+
+-- ---- names that are missing
+
+-- No column has the name.
+abbrev pub lacks_column : List Column → List ℕ → Bool
+lacks_column columns name = is_none (column_place name columns)
+
+-- An operand, an atom or an assignment names a column that isn't there.
+abbrev pub operand_lacks_column : List Column → Operand (List ℕ) → Bool
+operand_lacks_column columns (operand.Literal value) = false
+operand_lacks_column columns (operand.Column name) = lacks_column columns name
+operand_lacks_column columns (operand.Shifted name by) = lacks_column columns name
+
+abbrev pub atom_lacks_column : List Column → Atom (List ℕ) → Bool
+atom_lacks_column columns atom = lacks_column columns atom.left || operand_lacks_column columns atom.right
+
+abbrev pub assignment_lacks_column : List Column → Assignment (List ℕ) → Bool
+assignment_lacks_column columns assignment = lacks_column columns assignment.column || operand_lacks_column columns assignment.source
+
+-- ---- types
+
+-- The type of the column of a name, if it is there.
+abbrev pub type_named : List Column → List ℕ → Option ColType
+type_named columns name = option_map (λ column. column.col_type) (column_named name columns)
+
+-- The type of an operand, if its column is there.
+abbrev pub operand_type : List Column → Operand (List ℕ) → Option ColType
+operand_type columns (operand.Literal value) = Some (type_of value)
+operand_type columns (operand.Column name) = type_named columns name
+operand_type columns (operand.Shifted name by) = type_named columns name
+
+-- Both types are known, and they differ.
+abbrev pub differ : Option ColType → Option ColType → Bool
+differ (Some a) (Some b) = not (same_type a b)
+differ (Some a) None = false
+differ None b = false
+
+-- An operand shifts a text.
+abbrev pub shifts_text : List Column → Operand (List ℕ) → Bool
+shifts_text columns (operand.Literal value) = false
+shifts_text columns (operand.Column name) = false
+shifts_text columns (operand.Shifted name by) = option_map_or (same_type type.Text) (type_named columns name) false
+
+-- A column and what it is compared with or gets differ in type, or a text is shifted.
+abbrev pub mismatches : List Column → List ℕ → Operand (List ℕ) → Bool
+mismatches columns name operand = differ (type_named columns name) (operand_type columns operand) || shifts_text columns operand
+
+-- ---- conditions
+
+-- A column stands twice in SET.
+abbrev pub has_twin_targets : List (Assignment (List ℕ)) → Bool
+has_twin_targets [] = false
+has_twin_targets (a ∷ others) = list_any (λ (b : Assignment (List ℕ)). same_name a.column b.column) others || has_twin_targets others
+
+-- What refuses an UPDATE by the columns of its table, in the one order: there are at most 16 tests. A DELETE is an UPDATE without
+-- assignments here.
+abbrev pub column_conditions : List Column → List (Assignment (List ℕ)) → List (Atom (List ℕ)) → List Condition
+column_conditions columns assignments tests =
+    record { holds = list_any (assignment_lacks_column columns) assignments || list_any (atom_lacks_column columns) tests; refusal = NoSuchColumn }
+    ∷ record { holds = has_twin_targets assignments; refusal = NameTaken }
+    ∷ record {
+      holds = list_any (λ (a : Assignment (List ℕ)). mismatches columns a.column a.source) assignments
+          || list_any (λ (t : Atom (List ℕ)). mismatches columns t.left t.right) tests;
+      refusal = TypeMismatch;
+    }
+    ∷ record { holds = nat_lt 16 (length tests); refusal = TooMany }
+    ∷ []

@@ -1,0 +1,377 @@
+//! Tests and assignments resolved against the columns of their table.
+ghost use Rattle.std.specs.Prelude.{◌≡◌, ◌<◌, ◌||◌, ℕ, List, false, All, IfErr, IfOk, length, map};
+ghost use Rattle.std.specs.List.{list_any};
+ghost use Rattle.std.specs.Option.{option_copied};
+ghost use Rattle.mm_schema.specs.Columns.{column_named};
+ghost use Rattle.mm_schema.specs.Name.{same_name};
+ghost use Rattle.mm_schema.specs.Refused.{first_refusal};
+ghost use Rattle.mm_value.specs.declared.col_type.ColType.TheVariants.{Text};
+ghost use Rattle.mm_value.specs.declared.refusal.Refusal.TheVariants.{Memory};
+ghost use Rattle.mm_query.specs.Atoms.{IsWithin, ReadsWithin};
+ghost use Rattle.mm_query.specs.Placing.{assignment_lacks_column, atom_lacks_column, column_conditions, differ, has_twin_targets, lacks_column, mismatches, operand_lacks_column, operand_type, placed, placed_assignment, placed_atom, placed_operand, shifts_text, type_named};
+ghost use Rattle.mm_query.specs.declared.atom.Assignment.{Assignment as Assigned};
+ghost use Rattle.mm_query.specs.declared.atom.Atom.{Atom as Test};
+
+use crate::atom::{Assignment, Atom, Operand};
+use mm_schema::{Column, Columns, Name};
+use mm_value::{ColType, Refusal};
+use std::alloc::Global;
+
+/// The most tests of a change.
+pub const MAX_TESTS: usize = 16;
+
+/// What refuses an UPDATE by the columns of its table: `NoSuchColumn`, `NameTaken` for a column twice in SET, `TypeMismatch`,
+/// `TooMany` for more than 16 tests; the first that is due over the whole command. A DELETE has no assignments.
+pub fn column_refusal(
+    columns: &Columns,
+    assignments: &[Assignment<Name>],
+    tests: &[Atom<Name>],
+) -> Option<Refusal>
+    ensures { result ≡ first_refusal (column_conditions columns.now assignments.now tests.now) }
+{
+    if assign_missing_column(columns, assignments) || test_missing_column(columns, tests) {
+        Some(Refusal::NoSuchColumn)
+    } else if has_twin_targets(assignments) {
+        Some(Refusal::NameTaken)
+    } else if assign_mismatch(columns, assignments) || test_mismatch(columns, tests) {
+        Some(Refusal::TypeMismatch)
+    } else if tests.len() > MAX_TESTS {
+        Some(Refusal::TooMany)
+    } else {
+        None
+    }
+}
+
+/// Whether some assignment names a column that isn't there.
+fn assign_missing_column(columns: &Columns, assignments: &[Assignment<Name>]) -> bool
+    ensures { result ≡ list_any (assignment_lacks_column columns.now) assignments.now }
+{
+    assignments.iter().any(|assignment| lacks_column(columns, &assignment.column)
+        || operand_lacks_column(columns, &assignment.source))
+}
+
+/// Whether some test names a column that isn't there.
+fn test_missing_column(columns: &Columns, tests: &[Atom<Name>]) -> bool
+    ensures { result ≡ list_any (atom_lacks_column columns.now) tests.now }
+{
+    tests.iter().any(|test| lacks_column(columns, &test.left)
+        || operand_lacks_column(columns, &test.right))
+}
+
+/// Whether no column has the name.
+fn lacks_column(columns: &Columns, name: &Name) -> bool
+    ensures { result ≡ lacks_column columns.now name.now }
+{
+    columns.place_of(name).is_none()
+}
+
+/// Whether an operand names a column that isn't there.
+fn operand_lacks_column(columns: &Columns, operand: &Operand<Name>) -> bool
+    ensures { result ≡ operand_lacks_column columns.now operand.now }
+{
+    match operand {
+        Operand::Literal(_) => false,
+        Operand::Column(name) => lacks_column(columns, name),
+        Operand::Shifted(name, _) => lacks_column(columns, name),
+    }
+}
+
+/// Whether some column stands twice in SET.
+fn has_twin_targets(assignments: &[Assignment<Name>]) -> bool
+    ensures { result ≡ has_twin_targets assignments.now }
+{
+    for (i, assignment) in assignments.iter().enumerate() {
+        if assigns_to(&assignments[i + 1..], &assignment.column) {
+            return true;
+        }
+    }
+    false
+}
+
+/// Whether some assignment is to the column of a name.
+fn assigns_to(assignments: &[Assignment<Name>], name: &Name) -> bool
+    ensures { result ≡ list_any (λ (a : Assigned (List ℕ)). same_name name.now a.column) assignments.now }
+{
+    assignments
+        .iter()
+        .any(|assignment| *name == assignment.column)
+}
+
+/// Whether some column differs in type from what it gets, or a text is shifted.
+fn assign_mismatch(columns: &Columns, assignments: &[Assignment<Name>]) -> bool
+    ensures { result ≡ list_any (λ (a : Assigned (List ℕ)). mismatches columns.now a.column a.source) assignments.now }
+{
+    assignments.iter().any(|assignment| mismatches(columns, &assignment.column, &assignment.source))
+}
+
+/// Whether some column differs in type from what it is compared with, or a text is shifted.
+fn test_mismatch(columns: &Columns, tests: &[Atom<Name>]) -> bool
+    ensures { result ≡ list_any (λ (t : Test (List ℕ)). mismatches columns.now t.left t.right) tests.now }
+{
+    tests
+        .iter()
+        .any(|test| mismatches(columns, &test.left, &test.right))
+}
+
+/// Whether a column differs in type from an operand, or that shifts a text.
+fn mismatches(columns: &Columns, name: &Name, operand: &Operand<Name>) -> bool
+    ensures { result ≡ mismatches columns.now name.now operand.now }
+{
+    differ(type_named(columns, name), operand_type(columns, operand))
+        || shifts_text(columns, operand)
+}
+
+/// Whether two types are known and differ.
+fn differ(a: Option<ColType>, b: Option<ColType>) -> bool
+    ensures { result ≡ differ a b }
+{
+    match (a, b) {
+        (Some(a), Some(b)) => a != b,
+        _ => false,
+    }
+}
+
+/// The column of a name, if it is there.
+fn column_named<'a>(columns: &'a Columns, name: &Name) -> Option<&'a Column>
+    ensures { option_copied result ≡ column_named name.now columns.now }
+{
+    columns
+        .as_slice()
+        .iter()
+        .find(|column| *name == column.name)
+}
+
+/// The type of the column of a name, if it is there.
+fn type_named(columns: &Columns, name: &Name) -> Option<ColType>
+    ensures { result ≡ type_named columns.now name.now }
+{
+    match column_named(columns, name) {
+        Some(column) => Some(column.col_type),
+        None => None,
+    }
+}
+
+/// The type of an operand, if its column is there.
+fn operand_type(columns: &Columns, operand: &Operand<Name>) -> Option<ColType>
+    ensures { result ≡ operand_type columns.now operand.now }
+{
+    match operand {
+        Operand::Literal(value) => Some(value.col_type()),
+        Operand::Column(name) => type_named(columns, name),
+        Operand::Shifted(name, _) => type_named(columns, name),
+    }
+}
+
+/// Whether an operand shifts a text.
+fn shifts_text(columns: &Columns, operand: &Operand<Name>) -> bool
+    ensures { result ≡ shifts_text columns.now operand.now }
+{
+    match operand {
+        Operand::Shifted(name, _) => match type_named(columns, name) {
+            Some(col_type) => col_type == ColType::Text,
+            None => false,
+        },
+        _ => false,
+    }
+}
+
+/// The place of the column of a name, and 0 where there is none.
+fn place(columns: &Columns, name: &Name) -> usize
+    ensures { result ≡ placed columns.now name.now }
+{
+    columns.place_of(name).unwrap_or(0)
+}
+
+fn place_operand(columns: &Columns, operand: Operand<Name>) -> Operand<usize>
+    ensures { result ≡ placed_operand columns.now operand }
+{
+    match operand {
+        Operand::Literal(value) => Operand::Literal(value),
+        Operand::Column(name) => Operand::Column(place(columns, &name)),
+        Operand::Shifted(name, shift) => Operand::Shifted(place(columns, &name), shift),
+    }
+}
+
+/// Tests with places in place of the names of columns. `Memory` is the only refusal.
+#[tactic(auto, using(crate::proofs::Within::tests_within))]
+pub fn place_tests(
+    alloc: Global,
+    columns: &Columns,
+    tests: Vec<Atom<Name>>,
+) -> Result<Vec<Atom<usize>>, Refusal>
+    ensures ok { IfOk result (λ atoms. atoms.items ≡ map (placed_atom columns.now) tests.items) }
+    ensures within { list_any (atom_lacks_column columns.now) tests.items ≡ false
+        → IfOk result (λ atoms. All (λ (t : Test ℕ). ReadsWithin (length columns.now) t.left t.right) atoms.items) }
+    ensures memory { IfErr result (λ refusal. refusal ≡ Memory) }
+{
+    let mut atoms = Vec::with_capacity(alloc, tests.len())?;
+    for test in tests {
+        let atom = Atom {
+            left: place(columns, &test.left),
+            comparison: test.comparison,
+            right: place_operand(columns, test.right),
+        };
+        atoms.push(atom)?;
+    }
+    Ok(atoms)
+}
+
+/// Assignments with places in place of the names of columns. `Memory` is the only refusal.
+#[tactic(auto, using(crate::proofs::Within::assignments_within))]
+pub fn place_assignments(
+    alloc: Global,
+    columns: &Columns,
+    assignments: Vec<Assignment<Name>>,
+) -> Result<Vec<Assignment<usize>>, Refusal>
+    ensures ok { IfOk result (λ placed. placed.items ≡ map (placed_assignment columns.now) assignments.items) }
+    ensures within { list_any (assignment_lacks_column columns.now) assignments.items ≡ false
+        → IfOk result (λ placed. All (λ (a : Assigned ℕ). IsWithin (length columns.now) a.source) placed.items) }
+    ensures memory { IfErr result (λ refusal. refusal ≡ Memory) }
+{
+    let mut placed = Vec::with_capacity(alloc, assignments.len())?;
+    for assignment in assignments {
+        let assigned = Assignment {
+            column: place(columns, &assignment.column),
+            source: place_operand(columns, assignment.source),
+        };
+        placed.push(assigned)?;
+    }
+    Ok(placed)
+}
+
+#[cfg(test)]
+mod tests {
+    use super::*;
+    use crate::atom::Comparison;
+    use mm_schema::Role;
+    use mm_value::{Text, Value};
+    use std::process::Abort;
+
+    fn name(rt: &impl Abort, bytes: &[u8]) -> Name {
+        Name::new(bytes).expect(rt, "a name")
+    }
+
+    /// Puts an item at the end, and again where memory was refused.
+    fn put<T: Drop>(rt: &impl Abort, items: &mut Vec<T>, item: T) {
+        if let Err(refused) = items.push(item) {
+            let _ = items.push(refused.value).ok().expect(rt, "memory");
+        }
+    }
+
+    fn column(rt: &impl Abort, bytes: &[u8], col_type: ColType, role: Role) -> Column {
+        Column {
+            name: name(rt, bytes),
+            col_type,
+            role,
+        }
+    }
+
+    /// The columns a and b of whole numbers, of which b is the key, and s of texts.
+    fn columns(rt: &(impl Abort + AllocGlobal)) -> Columns {
+        let mut items = Vec::new(rt.alloc());
+        put(rt, &mut items, column(rt, b"a", ColType::Int, Role::Plain));
+        put(rt, &mut items, column(rt, b"b", ColType::Int, Role::Key));
+        put(rt, &mut items, column(rt, b"s", ColType::Text, Role::Plain));
+        Columns::new(items).expect(rt, "a key")
+    }
+
+    fn test(rt: &impl Abort, left: &[u8], right: Operand<Name>) -> Atom<Name> {
+        Atom {
+            left: name(rt, left),
+            comparison: Comparison::Equal,
+            right,
+        }
+    }
+
+    fn assignment(rt: &impl Abort, column: &[u8], source: Operand<Name>) -> Assignment<Name> {
+        Assignment {
+            column: name(rt, column),
+            source,
+        }
+    }
+
+    #[test]
+    fn refuses_the_first_that_is_due(rt: HostRuntime) {
+        let columns = columns(&rt);
+        let one = || Operand::Literal(Value::Int(1));
+        let text = || Operand::Literal(Value::Text(Text::new(rt.alloc(), b"x").expect(
+            &rt, "a text",
+        )));
+        let other = |bytes: &[u8]| Operand::Column(name(&rt, bytes));
+        let shifted = |bytes: &[u8]| Operand::Shifted(name(&rt, bytes), 0);
+
+        let missing = Some(Refusal::NoSuchColumn);
+        let set = [
+            assignment(&rt, b"a", other(b"z")),
+            assignment(&rt, b"a", one()),
+        ];
+        assert_eq!(rt; column_refusal(&columns, &set, &[]), missing);
+        assert_eq!(rt;
+            column_refusal(&columns, &[], &[test(&rt, b"z", text())]),
+            missing
+        );
+
+        let taken = Some(Refusal::NameTaken);
+        let set = [assignment(&rt, b"a", text()), assignment(&rt, b"a", one())];
+        assert_eq!(rt; column_refusal(&columns, &set, &[]), taken);
+
+        let mismatch = Some(Refusal::TypeMismatch);
+        assert_eq!(rt;
+            column_refusal(&columns, &[assignment(&rt, b"a", other(b"s"))], &[]),
+            mismatch
+        );
+        assert_eq!(rt;
+            column_refusal(&columns, &[], &[test(&rt, b"s", shifted(b"s"))]),
+            mismatch
+        );
+        assert_eq!(rt;
+            column_refusal(&columns, &[], &[test(&rt, b"b", text())]),
+            mismatch
+        );
+
+        let set = [
+            assignment(&rt, b"a", shifted(b"b")),
+            assignment(&rt, b"b", other(b"a")),
+        ];
+        assert_eq!(rt;
+            column_refusal(&columns, &set, &[test(&rt, b"s", text())]),
+            None
+        );
+    }
+
+    /// So many tests.
+    fn many(rt: &(impl Abort + AllocGlobal), count: u8) -> Vec<Atom<Name>> {
+        let mut tests = Vec::new(rt.alloc());
+        for _ in 0..count {
+            put(
+                rt,
+                &mut tests,
+                test(rt, b"b", Operand::Column(name(rt, b"a"))),
+            );
+        }
+        tests
+    }
+
+    #[test]
+    fn takes_sixteen_tests(rt: HostRuntime) {
+        let columns = columns(&rt);
+        let most = many(&rt, 16);
+        assert_eq!(rt; column_refusal(&columns, &[], most.as_slice()), None);
+        let more = many(&rt, 17);
+        let refusal = column_refusal(&columns, &[], more.as_slice());
+        assert_eq!(rt; refusal, Some(Refusal::TooMany));
+    }
+
+    #[test]
+    fn gives_places(rt: HostRuntime) {
+        let columns = columns(&rt);
+        let placed = match place_tests(rt.alloc(), &columns, many(&rt, 1)) {
+            Err(Refusal::Memory) => place_tests(rt.alloc(), &columns, many(&rt, 1)),
+            placed => placed,
+        };
+        let placed = placed.expect(&rt, "tests");
+        let first = placed.first().expect(&rt, "a test");
+        assert_eq!(rt; first.left, 1);
+        assert!(rt; matches!(first.right, Operand::Column(0)));
+    }
+}
