@@ -1,5 +1,5 @@
 -- What refuses a command: by names that are there or are not, and by one list of conditions behind another.
-use Rattle.std.proofs.Common.{◌≡◌, ℕ, Bool, true, false, cond, List, [], ◌∷◌, Option, Some, None, is_none, slice_get, refl, ap, ◌∙◌}
+use Rattle.std.proofs.Common.{◌≡◌, ℕ, Bool, true, false, List, Some, None, is_none, slice_get, ap, ◌∙◌}
 use Rattle.std.specs.Option.{option_map_or}
 use Rattle.mm_schema.specs.Refused.{first_refusal}
 use Rattle.mm_schema.specs.Schema.{Schema, key_named, lacks_table, table_named, table_passes, table_place}
@@ -10,7 +10,7 @@ use Rattle.mm_schema.proofs.Places.{no_table, table_at_place}
 use Rattle.mm_value.specs.declared.refusal.Refusal.{Refusal}
 use Rattle.mm_query.specs.Binding.{binding_conditions}
 use Rattle.mm_query.specs.Edits.{changed_table}
-use Rattle.mm_query.specs.Machine.{Outcome, after_change, change_conditions, conditions, reply_to, row_conditions, state_after, step, unless_refused}
+use Rattle.mm_query.specs.Machine.{after_change, change_conditions, conditions, reply_to, row_conditions, state_after, step, unless_refused}
 use Rattle.mm_query.specs.State.{State}
 use Rattle.mm_query.specs.declared.command.Command.{Command}
 use Rattle.mm_query.specs.declared.command.Mutation.{Mutation}

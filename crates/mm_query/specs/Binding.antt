@@ -1,5 +1,5 @@
 -- What refuses a change by the catalog alone, and what its names stand for.
-use Rattle.std.specs.Prelude.{◌≡◌, ℕ, ◌==◌, Bool, false, not, ◌||◌, List, [], ◌∷◌, Some, length}
+use Rattle.std.specs.Prelude.{◌≡◌, ◌==◌, Bool, false, not, ◌||◌, List, [], ◌∷◌, Some, length}
 use Rattle.std.specs.List.{list_any}
 use Rattle.mm_schema.specs.Columns.{same_type}
 use Rattle.mm_schema.specs.Refused.{Condition}

@@ -79,7 +79,6 @@ changes_having name (t ∷ ts) none = (
   changes_having name ts (twins_behind t.indexes (indexes_of ts) none),
 )
 
-
 -- Other indexes of a table leave each under its own name.
 keyed_with : (old new : Tables) (n : ℕ) (t : Table) (is : List IndexDef) → slice_get (tables_of old) n ≡ Some t
     → new.entries ≡ set_value_at old.entries n (record t { indexes = is }) → All IsKeyed old.entries → All IsKeyed new.entries

@@ -8,6 +8,7 @@ pub mod Keys
 pub mod NameLemmas
 pub mod Orderings
 pub mod Places
+pub mod References
 pub mod StrictOrder
 pub mod TwinIndexes
 pub mod Twins

@@ -3,6 +3,7 @@ pub mod Columns
 pub mod Indexes
 pub mod Instance
 pub mod Name
+pub mod References
 pub mod Refused
 pub mod Rows
 pub mod Schema

@@ -164,9 +164,8 @@ impl Catalog {
     fn is_in_use(&self, name: &Name) -> bool
         ensures { result ≡ list_any (is_other_referring_to name.now) self.now.tables }
     {
-        self.tables()
-            .iter()
-            .any(|table| *name != table.definition.name && table.definition.columns.refer_to(name))
+        self.tables().iter().any(|table| *name != table.definition.name
+            && table.definition.columns.refer_to(name))
     }
 
     /// Adds an index, which comes last in its table. `NoSuchTable` where its table isn't there; else `NoSuchColumn`
@@ -291,13 +290,7 @@ mod tests {
     }
 
     /// Puts a column at the end, and again where memory was refused.
-    fn put(
-        rt: &impl Abort,
-        items: &mut Vec<Column>,
-        number: u16,
-        col_type: ColType,
-        role: Role,
-    ) {
+    fn put(rt: &impl Abort, items: &mut Vec<Column>, number: u16, col_type: ColType, role: Role) {
         let column = Column {
             name: name_of(rt, number),
             col_type,
@@ -436,10 +429,22 @@ mod tests {
         let mut catalog = Catalog::new(rt.alloc());
         let (int, text) = (ColType::Int, ColType::Text);
         assert_eq!(rt; add(&rt, &mut catalog, 0, 1), Ok(()));
-        assert_eq!(rt; refer(&rt, &mut catalog, 1, 2, int), Err(Refusal::NoSuchTable));
-        assert_eq!(rt; refer(&rt, &mut catalog, 1, 1, int), Err(Refusal::NoSuchTable));
-        assert_eq!(rt; refer(&rt, &mut catalog, 0, 0, text), Err(Refusal::NameTaken));
-        assert_eq!(rt; refer(&rt, &mut catalog, 1, 0, text), Err(Refusal::TypeMismatch));
+        assert_eq!(rt;
+            refer(&rt, &mut catalog, 1, 2, int),
+            Err(Refusal::NoSuchTable)
+        );
+        assert_eq!(rt;
+            refer(&rt, &mut catalog, 1, 1, int),
+            Err(Refusal::NoSuchTable)
+        );
+        assert_eq!(rt;
+            refer(&rt, &mut catalog, 0, 0, text),
+            Err(Refusal::NameTaken)
+        );
+        assert_eq!(rt;
+            refer(&rt, &mut catalog, 1, 0, text),
+            Err(Refusal::TypeMismatch)
+        );
         assert_eq!(rt; refer(&rt, &mut catalog, 1, 0, int), Ok(()));
         assert_eq!(rt; catalog.drop_table(&name_of(&rt, 0)), Err(Refusal::InUse));
         assert_eq!(rt; catalog.drop_table(&name_of(&rt, 1)), Ok(()));
@@ -454,7 +459,10 @@ mod tests {
             assert_eq!(rt; add(&rt, &mut catalog, i, 1), Ok(()));
         }
         assert_eq!(rt; catalog.drop_table(&name_of(&rt, 0)), Ok(()));
-        assert_eq!(rt; catalog.drop_table(&name_of(&rt, 0)), Err(Refusal::NoSuchTable));
+        assert_eq!(rt;
+            catalog.drop_table(&name_of(&rt, 0)),
+            Err(Refusal::NoSuchTable)
+        );
         assert_eq!(rt; add(&rt, &mut catalog, 0, 1), Ok(()));
         for (place, name) in [1, 2, 0].into_iter().enumerate() {
             assert_eq!(rt; catalog.place_of(&name_of(&rt, name)), Some(place));
@@ -466,15 +474,33 @@ mod tests {
         let mut catalog = Catalog::new(rt.alloc());
         assert_eq!(rt; add(&rt, &mut catalog, 0, 2), Ok(()));
         assert_eq!(rt; add(&rt, &mut catalog, 1, 2), Ok(()));
-        assert_eq!(rt; add_index(&rt, &mut catalog, 0, 2, 0), Err(Refusal::NoSuchTable));
-        assert_eq!(rt; add_index(&rt, &mut catalog, 0, 0, 2), Err(Refusal::NoSuchColumn));
+        assert_eq!(rt;
+            add_index(&rt, &mut catalog, 0, 2, 0),
+            Err(Refusal::NoSuchTable)
+        );
+        assert_eq!(rt;
+            add_index(&rt, &mut catalog, 0, 0, 2),
+            Err(Refusal::NoSuchColumn)
+        );
         for i in 0..16 {
             assert_eq!(rt; add_index(&rt, &mut catalog, i, 0, 1), Ok(()));
         }
-        assert_eq!(rt; add_index(&rt, &mut catalog, 5, 1, 2), Err(Refusal::NoSuchColumn));
-        assert_eq!(rt; add_index(&rt, &mut catalog, 5, 1, 0), Err(Refusal::NameTaken));
-        assert_eq!(rt; add_index(&rt, &mut catalog, 5, 0, 0), Err(Refusal::NameTaken));
-        assert_eq!(rt; add_index(&rt, &mut catalog, 16, 0, 0), Err(Refusal::TooMany));
+        assert_eq!(rt;
+            add_index(&rt, &mut catalog, 5, 1, 2),
+            Err(Refusal::NoSuchColumn)
+        );
+        assert_eq!(rt;
+            add_index(&rt, &mut catalog, 5, 1, 0),
+            Err(Refusal::NameTaken)
+        );
+        assert_eq!(rt;
+            add_index(&rt, &mut catalog, 5, 0, 0),
+            Err(Refusal::NameTaken)
+        );
+        assert_eq!(rt;
+            add_index(&rt, &mut catalog, 16, 0, 0),
+            Err(Refusal::TooMany)
+        );
         assert_eq!(rt; add_index(&rt, &mut catalog, 16, 1, 0), Ok(()));
     }
 
@@ -491,7 +517,10 @@ mod tests {
         assert_eq!(rt; found.table, name_of(&rt, 1));
         assert_eq!(rt; found.column, name_of(&rt, 1));
         assert_eq!(rt; catalog.drop_index(&name_of(&rt, 3)), Ok(()));
-        assert_eq!(rt; catalog.drop_index(&name_of(&rt, 3)), Err(Refusal::NoSuchIndex));
+        assert_eq!(rt;
+            catalog.drop_index(&name_of(&rt, 3)),
+            Err(Refusal::NoSuchIndex)
+        );
         let left = catalog.table_at(catalog.place_of(&name_of(&rt, 0)).expect(&rt, "a table"));
         assert_eq!(rt; left.indexes.as_slice().len(), 1);
         assert_eq!(rt; left.indexes.as_slice()[0].name, name_of(&rt, 4));

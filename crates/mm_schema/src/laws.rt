@@ -1,12 +1,18 @@
 //! Laws of the definitions of this crate, which the clauses here and in the crates above speak of.
-ghost use Rattle.std.specs.Prelude.{◌≡◌, ◌⊎◌, ℕ, List, Option, Some, Contains};
+ghost use Rattle.std.specs.Prelude.{◌≡◌, ◌⊎◌, ℕ, List, Option, Some, None, Contains};
 ghost use Rattle.std.specs.Cmp.{IsTotalOrder};
 ghost use Rattle.std.specs.List.Sorted.{IsPermutation, IsSorted};
 ghost use Rattle.std.specs.declared.cmp.Ordering.{Ordering};
 ghost use Rattle.std.specs.declared.cmp.Ordering.TheVariants.{Equal};
 ghost use Rattle.mm_value.specs.declared.values.Value.{Value};
+ghost use Rattle.mm_schema.specs.Indexes.{with_index, without_index};
+ghost use Rattle.mm_schema.specs.References.{HasTargets};
+ghost use Rattle.mm_schema.specs.Refused.{first_refusal};
 ghost use Rattle.mm_schema.specs.Rows.{Pair, changed, column_cmp};
+ghost use Rattle.mm_schema.specs.Schema.{Schema, drop_table_conditions, table_conditions, with_table, without_table};
 ghost use Rattle.mm_schema.specs.Sorting.{in_order};
+ghost use Rattle.mm_schema.specs.declared.index.IndexDef.{IndexDef};
+ghost use Rattle.mm_schema.specs.declared.table.TableDef.{TableDef};
 
 /// Putting in order sorts: the list has the same elements afterwards, and none is less than the one before it, in any
 /// total order, also where elements compare as equal.
@@ -26,4 +32,15 @@ pub fn changes_are_exact()
     ensures no_other { (key : ℕ) (pairs : List Pair) (rows : List (List Value)) (row : List Value) → Contains (changed key pairs rows) row
         → ((old : Option (List Value)) × Contains pairs (old, Some row))
         ⊎ (Contains rows row × ((old : List Value) (new : Option (List Value)) → Contains pairs (Some old, new) → column_cmp key row old ≡ Equal → ⊥)) }
+{}
+
+/// References have targets: where each column that refers to a table refers to one that is there, that is so after each
+/// change of the catalog that nothing refuses.
+pub fn references_have_targets()
+    ensures table { (definition : TableDef) (schema : Schema) → HasTargets schema → first_refusal (table_conditions definition schema) ≡ None
+        → HasTargets (with_table definition schema) }
+    ensures no_table { (name : List ℕ) (schema : Schema) → HasTargets schema → first_refusal (drop_table_conditions name schema) ≡ None
+        → HasTargets (without_table name schema) }
+    ensures index { (index : IndexDef) (schema : Schema) → HasTargets schema → HasTargets (with_index index schema) }
+    ensures no_index { (name : List ℕ) (schema : Schema) → HasTargets schema → HasTargets (without_index name schema) }
 {}

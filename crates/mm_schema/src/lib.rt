@@ -11,6 +11,6 @@ mod table;
 pub use catalog::{Catalog, MAX_COLUMNS, MAX_INDEXES, MAX_TABLES};
 pub use column::{Column, Columns, Role};
 pub use index::{IndexDef, IndexId, IndexKind, Indexes};
-pub use laws::{changes_are_exact, in_order_sorts};
+pub use laws::{changes_are_exact, in_order_sorts, references_have_targets};
 pub use name::Name;
 pub use table::{Table, TableDef};

@@ -1,4 +1,4 @@
-use Rattle.std.proofs.Common.{sym, ap, ◌∙◌}
+use Rattle.std.proofs.Common.{sym, ◌∙◌}
 use Rattle.indexmap.specs.IndexMap.{insert_entry}
 use Rattle.mm_schema.specs.Name.{same_name}
 use Rattle.mm_schema.proofs.CatalogLemmas.{IsPushed, entry_comes_last, sound_push, view_push}

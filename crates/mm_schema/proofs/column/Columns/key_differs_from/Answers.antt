@@ -1,6 +1,6 @@
-use Rattle.std.proofs.Common.{◌≡◌, not, Some, ap, sym, ◌∙◌, arith}
+use Rattle.std.proofs.Common.{ap, ◌∙◌, arith}
 use Rattle.mm_schema.specs.Columns.{differs_from_key}
-use Rattle.mm_schema.proofs.Keys.{key_differs, key_found, key_within}
+use Rattle.mm_schema.proofs.Keys.{key_differs, key_within}
 use Rattle.mm_schema.proofs.column.Columns.key_differs_from.Goals as goal
 
 pub index-requires : goal.index-requires

@@ -1,0 +1,14 @@
+use Rattle.mm_schema.proofs.References.{targets_added, targets_indexed, targets_left, targets_unindexed}
+use Rattle.mm_schema.proofs.laws.references_have_targets.Goals as goal
+
+pub returns-clause-table : goal.returns-clause-table
+returns-clause-table c = targets_added
+
+pub returns-clause-no_table : goal.returns-clause-no_table
+returns-clause-no_table c = targets_left
+
+pub returns-clause-index : goal.returns-clause-index
+returns-clause-index c = targets_indexed
+
+pub returns-clause-no_index : goal.returns-clause-no_index
+returns-clause-no_index c = targets_unindexed
