@@ -1,0 +1,13 @@
+pub mod Apply
+pub mod Bags
+pub mod Came
+pub mod Changed
+pub mod Indexing
+pub mod Ordered
+pub mod RefTests
+pub mod Removed
+pub mod Rooms
+pub mod Seeks
+pub mod Steps
+pub mod Turning
+pub mod WaysBack
