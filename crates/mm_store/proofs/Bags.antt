@@ -1,7 +1,7 @@
 -- Lists that are bags: one more element on both sides may be left out.
-use Rattle.std.proofs.Common.{◌≡◌, ℕ, ◌+◌, ◌≤◌, List, [], ◌∷◌, Bool, true, false, cond, refl, sym, ap, subst, arith}
+use Rattle.std.proofs.Common.{◌≡◌, ℕ, ◌+◌, ◌≤◌, List, [], ◌∷◌, Bool, true, false, cond, refl, sym, ap, ◌∙◌, subst, zero-add, arith}
 use Rattle.std.specs.Prelude.{sum_by, IsPermutation}
-use Rattle.std.specs.List.{Contains, remove}
+use Rattle.std.specs.List.{Contains, remove, filter}
 use Rattle.std.proofs.lemmas.List.Sums.{sum_by-cons}
 use Rattle.std.proofs.lemmas.List.Elements.{Contains-append_left, Contains-append_right, Contains-push}
 use Rattle.std.proofs.lemmas.List.Sorted.{IsPermutation-refl, IsPermutation-cons, IsPermutation-trans, IsPermutation-sym, IsPermutation-remove}
@@ -53,3 +53,27 @@ module _ {X : Type 0} (same : X → X → Bool) (told : (a b : X) → same a b �
   IsPermutation-uncons x xs ys moved =
       IsPermutation-from_counts xs ys
       (λ z. omega (arith, sum_by-IsPermutation (one z) (x ∷ xs) (x ∷ ys) moved, sum_by-cons (one z) x xs, sum_by-cons (one z) x ys))
+
+-- the sum over what passes a test
+module _ {X : Type 0} (f : X → ℕ) (p : X → Bool) where
+  abbrev tested : X → ℕ
+  tested x = cond (p x) (f x) 0
+
+  sum_step : (b : Bool) (x : X) (xs : List X) (n : ℕ) → sum_by f xs ≡ n → sum_by f (cond b (x ∷ xs) xs) ≡ cond b (f x) 0 + n
+  sum_step true x xs n e = sum_by-cons f x xs ∙ ap (λ (m : ℕ). f x + m) e
+  sum_step false x xs n e = e ∙ sym (zero-add n)
+
+  sum_by-passing : (xs : List X) → sum_by f (filter p xs) ≡ sum_by tested xs
+  sum_by-passing [] = refl
+  sum_by-passing (x ∷ xs) =
+      sum_step (p x) x (filter p xs) (sum_by tested xs) (sum_by-passing xs) ∙ sym (sum_by-cons tested x xs)
+
+-- what passes a test of one bag is what passes it of another that is the same
+pub IsPermutation-filter : {X : Type 0} (same : X → X → Bool) (told : (a b : X) → same a b ≡ true → a ≡ b)
+    (itself : (a : X) → same a a ≡ true) (p : X → Bool) (xs ys : List X) → IsPermutation xs ys
+    → IsPermutation (filter p xs) (filter p ys)
+IsPermutation-filter same told itself p xs ys moved =
+    IsPermutation-from_counts same told itself (filter p xs) (filter p ys)
+    (λ z.
+    sum_by-passing (one same told itself z) p xs
+    ∙ (sym (sum_by-IsPermutation (tested (one same told itself z) p) xs ys moved) ∙ sym (sum_by-passing (one same told itself z) p ys)))

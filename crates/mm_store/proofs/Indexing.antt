@@ -62,6 +62,7 @@ tree_put key column now names old new moved ordered spare = record {
         (IsPermutation-append_right names old.refs held was.1),
   );
   column = refl;
+  kind = refl;
   spare = spare;
 }
 
@@ -77,5 +78,6 @@ hash_put key column now names old new moved spare = record {
       (IsPermutation-trans new.entries (map pair names ++ old.entries) (map pair names ++ map pair held)
       (IsPermutation-sym (map pair names ++ old.entries) new.entries moved) inside);
   column = refl;
+  kind = refl;
   spare = spare;
 }

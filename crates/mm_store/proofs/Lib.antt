@@ -3,6 +3,8 @@ pub mod Bags
 pub mod Came
 pub mod Changed
 pub mod Indexing
+pub mod Made
+pub mod Matches
 pub mod Ordered
 pub mod RefTests
 pub mod Removed

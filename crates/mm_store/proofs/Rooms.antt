@@ -9,12 +9,12 @@ use Rattle.mm_store.specs.Differs.{Differs}
 use Rattle.mm_store.specs.Changes.{Standing}
 use Rattle.mm_store.specs.declared.edits.Edit.{Edit}
 use Rattle.mm_store.specs.HashedPairs.{hashed_pair}
-use Rattle.mm_store.specs.Index.{InOrder, Keeps, EachTurns, SameEntries, Grown, column_of}
+use Rattle.mm_store.specs.Index.{InOrder, Keeps, EachTurns, Taken, Put, SameIndex, SameEntries, Grown, column_of, kind_of}
 use Rattle.mm_store.specs.Kept.{StoredRows, IsKept, SameButRoom, KeysStayApart, HasRowsAfter, Stay, rows_after, RowsApart}
 use Rattle.mm_store.specs.declared.index.Index.{Index}
 use Rattle.mm_store.specs.declared.index.Index.TheVariants.{Tree, Hash}
 use Rattle.mm_store.proofs.RefTests.{alike}
-use Rattle.mm_store.proofs.Turning.{All-turned, Grown-refl}
+use Rattle.mm_store.proofs.Turning.{All-turned, EachTurns-twice, Grown-refl}
 
 -- the column is among what two indexes of the same entries share
 pub column_same : (x y : Index) → SameEntries x y → column_of y ≡ column_of x
@@ -22,6 +22,13 @@ column_same (Tree column refs) (Tree other more) same = same.0
 column_same (Tree column refs) (Hash other more) same = absurd same
 column_same (Hash column pairs) (Tree other more) same = absurd same
 column_same (Hash column pairs) (Hash other more) same = same.0
+
+-- and so is the kind
+pub kind_same : (x y : Index) → SameEntries x y → kind_of y ≡ kind_of x
+kind_same (Tree column refs) (Tree other more) same = refl
+kind_same (Tree column refs) (Hash other more) same = absurd same
+kind_same (Hash column pairs) (Tree other more) same = absurd same
+kind_same (Hash column pairs) (Hash other more) same = refl
 
 -- what an index keeps depends on its column and its entries alone
 pub Keeps-same : (key : ℕ) (now : Slots) (held : List RowRef) (x y : Index) → SameEntries x y
@@ -86,3 +93,16 @@ module _ (old mid : StoredRows) (same : SameButRoom old mid) where
 
   pub hidden_same : (at : RowRef) (row : List Value) → slot_at old.places at ≡ Hidden row → slot_at mid.places at ≡ Hidden row
   hidden_same at row is = same.places at ∙ is
+
+  pub indexes_same : (now : List Index) → EachTurns SameIndex mid.indexes now → EachTurns SameIndex old.indexes now
+  indexes_same now turned =
+      EachTurns-twice Grown SameIndex SameIndex
+      (λ x y z grown same. (same.0 ∙ column_same x y grown.same, same.1 ∙ kind_same x y grown.same))
+      old.indexes mid.indexes now same.indexes turned
+
+-- an index taken from and put into is the same index
+pub indexes_changed : (key : ℕ) (old new : Slots) (outs ins : List RowRef) (start some full : List Index)
+    → EachTurns (Taken key old outs) start some → EachTurns (Put key new ins) some full → EachTurns SameIndex start full
+indexes_changed key old new outs ins start some full taken put =
+    EachTurns-twice (Taken key old outs) (Put key new ins) SameIndex
+    (λ x y z t p. (p.column ∙ t.column, p.kind ∙ t.kind)) start some full taken put

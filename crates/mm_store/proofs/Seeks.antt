@@ -12,6 +12,7 @@ use Rattle.mm_value.specs.Order.{value_cmp}
 use Rattle.mm_value.specs.declared.values.Value.{Value}
 use Rattle.mm_schema.specs.Rows.{column_cmp}
 use Rattle.mm_order.specs.Probe.{IsMonotone}
+use Rattle.mm_store.specs.Reads.{end_place}
 use Rattle.mm_store.specs.Refs.{Slots, row_at, refs_by, place_by, IsWide}
 
 then_less : (x y : Ordering) → ordering_then x y ≡ Less → x ≢ Greater
@@ -66,3 +67,9 @@ place_own o value e =
 pub IfNone_then : {X : Type 0} (r : Option X) {P Q : Type 0} → IfNone r P → (P → Q) → IfNone r Q
 IfNone_then None holds then = then holds
 IfNone_then (Some x) holds then = tt
+
+-- an end of a range goes along the order by its column
+pub IsMonotone-at_end : (column key : ℕ) (places : Slots) (end : Option Value)
+    → IsMonotone (IsWide column key places) (refs_by column key places) (IsWide column key places) (end_place column places end)
+IsMonotone-at_end column key places None = record { reaches = λ a wide. wide; rises = λ a b in_a in_b less. omega arith }
+IsMonotone-at_end column key places (Some value) = IsMonotone-at_value column key places value

@@ -57,3 +57,13 @@ Grown-refl x = record { same = SameEntries-refl x; spare = omega arith }
 -- a vector that is written back whole is what was written
 pub written_back : {X : Type 0} (ys zs : List X) (n : ℕ) → n ≡ length ys → take n (ys ++ zs) ≡ ys
 written_back ys zs n e = ap (λ (m : ℕ). take m (ys ++ zs)) e ∙ take-append_seam ys zs
+
+-- a turn upon a turn
+pub EachTurns-twice : {X : Type 0} (R S T : X → X → Type 0) → ((x y z : X) → R x y → S y z → T x z)
+    → (start mid now : List X) → EachTurns R start mid → EachTurns S mid now → EachTurns T start now
+EachTurns-twice R S T both start mid now first second = record {
+  size = second.size ∙ first.size;
+  each = λ k d within.
+      let there : k < length mid = omega (arith, first.size) in
+      both (get_or start k d) (get_or mid k d) (get_or now k d) (first.each k d within) (second.each k d there);
+}

@@ -24,6 +24,10 @@ entry_name (Changed at was) side = Some at
 entry_name (Removed at) Old = Some at
 entry_name (Removed at) New = None
 
+-- the reference itself, on both sides
+abbrev pub ref_name : RowRef → Side → Option RowRef
+ref_name at side = Some at
+
 -- the references that a list names
 abbrev pub named : {T : Type 0} → (T → Side → Option RowRef) → Side → List T → List RowRef
 named {T} name side items = filter_map (λ e. name e side) items

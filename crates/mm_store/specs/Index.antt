@@ -9,6 +9,8 @@ use Rattle.mm_partition.specs.Places.{Live}
 use Rattle.mm_store.specs.HashedPairs.{hashed_pair}
 use Rattle.mm_store.specs.declared.index.Index.{Index}
 use Rattle.mm_store.specs.declared.index.Index.TheVariants.{Tree, Hash}
+use Rattle.mm_store.specs.declared.index.IndexKind.{IndexKind}
+use Rattle.mm_store.specs.declared.index.IndexKind.TheVariants as kind
 use Rattle.mm_store.specs.Refs.{Slots, IsWide, refs_by, row_at}
 
 -- references in the order of a column and the key
@@ -30,6 +32,11 @@ abbrev pub column_of : Index → ℕ
 column_of (Tree column refs) = column
 column_of (Hash column pairs) = column
 
+-- the kind of an index
+abbrev pub kind_of : Index → IndexKind
+kind_of (Tree column refs) = kind.Tree
+kind_of (Hash column pairs) = kind.Hash
+
 -- how many more entries an index takes without growing
 abbrev pub spare_of : Index → ℕ
 spare_of (Tree column refs) = refs.spare
@@ -45,12 +52,14 @@ Keeps key now held (Hash column pairs) = IsPermutation pairs.entries (map (hashe
 pub record Taken (key : ℕ) (now : Slots) (names : List RowRef) (old new : Index) : Type 0 where
   pub keeps : (kept : List RowRef) → Keeps key now (names ++ kept) old → Keeps key now kept new
   pub column : column_of new ≡ column_of old
+  pub kind : kind_of new ≡ kind_of old
   pub spare : spare_of old ≤ spare_of new
 
 -- the entries of these references came into an index, and nothing else
 pub record Put (key : ℕ) (now : Slots) (names : List RowRef) (old new : Index) : Type 0 where
   pub keeps : (held : List RowRef) → Keeps key now held old → Keeps key now (names ++ held) new
   pub column : column_of new ≡ column_of old
+  pub kind : kind_of new ≡ kind_of old
   pub spare : spare_of old ≤ spare_of new + length names
 
 -- the first i elements have turned, the others not yet
@@ -80,3 +89,7 @@ pub record Grown (old new : Index) : Type 0 where
 pub record GrownTo (n : ℕ) (old new : Index) : Type 0 where
   pub grown : Grown old new
   pub room : n ≤ spare_of new
+
+-- two indexes have the same column and are of the same kind
+abbrev pub SameIndex : Index → Index → Type 0
+SameIndex old new = (column_of new ≡ column_of old) × (kind_of new ≡ kind_of old)

@@ -7,4 +7,5 @@ pub mod Index
 pub mod Kept
 pub mod LogEntries
 pub mod Orders
+pub mod Reads
 pub mod Refs

@@ -1,9 +1,10 @@
 //! The indexes of a table beside its key's.
-ghost use Rattle.std.specs.Prelude.{◌≡◌, ◌+◌, ◌≤◌, ◌++◌, List, length, All, IsPermutation, OnOk};
+ghost use Rattle.std.specs.Prelude.{◌≡◌, ◌+◌, ◌≤◌, ◌++◌, List, length, All, IsPermutation, ℕ, [], IfOk, OnOk};
 ghost use Rattle.mm_value.specs.declared.row_ref.RowRef.{RowRef};
 ghost use Rattle.mm_partition.specs.Places.{slot_at};
-ghost use Rattle.mm_store.specs.Refs.{IsWide};
+ghost use Rattle.mm_store.specs.Refs.{Slots, IsWide};
 ghost use Rattle.mm_store.specs.Edits.{named};
+ghost use Rattle.mm_store.specs.Reads.{IsOn};
 ghost use Rattle.mm_store.specs.Index.{KeysApart, Keeps, Taken, Put, EachTurns, Grown, GrownTo, column_of, spare_of};
 
 use crate::hash_entries::{put_pairs, take_pairs};
@@ -12,8 +13,18 @@ use crate::tree_entries::{put_each, take_each};
 use mlhash::HashRefs;
 use mm_order::OrderedRefs;
 use mm_partition::Partitions;
+use mm_value::RowRef;
 use std::alloc::{AllocError, Global};
 use ttree::TTree;
+
+/// How an index finds rows.
+#[derive(Clone, Copy, Debug, PartialEq, Eq)]
+pub enum IndexKind {
+    /// In the order of the values.
+    Tree,
+    /// By the values' hashes.
+    Hash,
+}
 
 /// An index on one column.
 #[derive(Drop)]
@@ -25,6 +36,43 @@ pub enum Index {
 }
 
 impl Index {
+    /// An index on a column over these rows.
+    pub(crate) fn over(
+        alloc: Global,
+        rows: &Partitions,
+        column: usize,
+        key: usize,
+        kind: IndexKind,
+        refs: &[RowRef],
+    ) -> Result<Index, AllocError>
+        requires wide { All (IsWide column key (slot_at rows.now)) refs.now }
+        requires apart { KeysApart key (slot_at rows.now) refs.now }
+        ensures keeps { IfOk result (Keeps key (slot_at rows.now) refs.now) }
+        ensures on { IfOk result (IsOn column kind) }
+    {
+        let mut index = Index::new(alloc, column, kind);
+        index.reserve(alloc, refs.len())?;
+        index.put_each(rows, key, refs, Side::New);
+        Ok(index)
+    }
+
+    /// An index on a column that has no entries. It takes no memory.
+    fn new(alloc: Global, column: usize, kind: IndexKind) -> Index
+        ensures empty { (key : ℕ) (now : Slots) → Keeps key now [] result }
+        ensures on { IsOn column kind result }
+    {
+        match kind {
+            IndexKind::Tree => Index::Tree {
+                column,
+                refs: TTree::new(alloc),
+            },
+            IndexKind::Hash => Index::Hash {
+                column,
+                pairs: HashRefs::new(alloc),
+            },
+        }
+    }
+
     /// Makes room for at least `n` more entries.
     pub fn reserve(&mut self, alloc: Global, n: usize) -> Result<(), AllocError>
         ensures room { OnOk result (n ≤ spare_of self.new) }

@@ -2,6 +2,7 @@
 ghost use Rattle.std.specs.Prelude.{◌≡◌, Option as Maybe};
 ghost use Rattle.mm_value.specs.declared.row_ref.RowRef.{RowRef};
 ghost use Rattle.mm_store.specs.declared.names.Side.{Side};
+ghost use Rattle.mm_store.specs.Edits.{ref_name};
 
 use mm_value::RowRef;
 
@@ -21,4 +22,12 @@ pub trait Names {
     /// The reference of the row on that side.
     fn name(&self, side: Side) -> Option<RowRef>
         ensures { result ≡ name self.now side };
+}
+
+impl Names for RowRef {
+    ghost name = { ref_name };
+
+    fn name(&self, _side: Side) -> Option<RowRef> {
+        Some(*self)
+    }
 }

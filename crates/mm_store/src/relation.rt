@@ -4,7 +4,9 @@ ghost use Rattle.mm_value.specs.declared.row_ref.RowRef.{RowRef};
 ghost use Rattle.mm_partition.specs.Places.{Free, Live, IsLive, slot_at, extent_of};
 
 mod apply;
+mod indexing;
 mod lookup;
+mod reads;
 mod settle;
 
 use crate::index::Index;

@@ -8,7 +8,7 @@ ghost use Rattle.mm_store.specs.Before.{before, StandsBack};
 ghost use Rattle.mm_store.specs.Differs.{Differs};
 ghost use Rattle.mm_store.specs.Edits.{named, entry_name, new_rows, added_count, removed};
 ghost use Rattle.mm_store.specs.Changes.{Standing, AreHidden};
-ghost use Rattle.mm_store.specs.Index.{InOrder, spare_of};
+ghost use Rattle.mm_store.specs.Index.{InOrder, EachTurns, SameIndex, spare_of};
 ghost use Rattle.mm_store.specs.Kept.{SameButRoom, KeysStayApart, HasRowsAfter};
 
 use super::Relation;
@@ -52,6 +52,7 @@ impl Relation {
             (named entry_name New log.new.entries) (named entry_name Old log.new.entries)) }
         ensures key { OnOk result (self.new.key ≡ self.old.key) }
         ensures width { OnOk result (self.new.width ≡ self.old.width) }
+        ensures indexes { OnOk result (EachTurns SameIndex self.old.indexes self.new.indexes) }
         ensures err { OnErr result (SameButRoom self.old self.new) }
         ensures err_log { OnErr result (log.new.entries ≡ log.old.entries) }
     {
@@ -96,6 +97,7 @@ impl Relation {
         ensures ordered { InOrder self.new.key self.new.key (slot_at self.new.places) self.new.refs }
         ensures key { self.new.key ≡ self.old.key }
         ensures width { self.new.width ≡ self.old.width }
+        ensures indexes { EachTurns SameIndex self.old.indexes self.new.indexes }
     {
         take_each(
             &self.rows,

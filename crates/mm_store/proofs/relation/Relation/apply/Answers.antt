@@ -1,7 +1,7 @@
 use Rattle.mm_partition.specs.Places.{slot_at}
 use Rattle.mm_store.specs.Edits.{named, entry_name}
 use Rattle.mm_store.specs.declared.names.Side.TheVariants.{Old, New}
-use Rattle.mm_store.proofs.Rooms.{Standing-same, KeysStayApart-same, HasRowsAfter-same, Differs-same, hidden_same}
+use Rattle.mm_store.proofs.Rooms.{Standing-same, KeysStayApart-same, HasRowsAfter-same, Differs-same, hidden_same, indexes_same}
 use Rattle.mm_store.proofs.relation.Relation.apply.Goals as goal
 
 pub change-requires-clause-standing : goal.change-requires-clause-standing
@@ -25,3 +25,7 @@ returns-clause-differs c =
 pub returns-clause-still_hidden : goal.returns-clause-still_hidden
 returns-clause-still_hidden c = λ at row is.
     c.change.ensures.still_hidden at row (hidden_same c.args.self.now c.make_room.new.self c.make_room.ensures.same at row is)
+
+pub returns-clause-indexes : goal.returns-clause-indexes
+returns-clause-indexes c =
+    indexes_same c.args.self.now c.make_room.new.self c.make_room.ensures.same c.change.new.self.indexes c.change.ensures.indexes

@@ -7,13 +7,14 @@ use Rattle.mm_partition.specs.Places.{Hidden, slot_at}
 use Rattle.mm_store.specs.Refs.{row_at}
 use Rattle.mm_store.specs.Edits.{Among, named, edit_name, entry_name, new_rows}
 use Rattle.mm_store.specs.Changes.{Standing}
-use Rattle.mm_store.specs.Index.{Taken, Put, EachTurns, spare_of}
+use Rattle.mm_store.specs.Index.{Taken, Put, EachTurns, SameIndex, spare_of}
 use Rattle.mm_store.specs.Kept.{StoredRows, Stay, rows_after, RowsApart}
 use Rattle.mm_store.specs.declared.log.Entry.{Entry}
 use Rattle.mm_store.specs.declared.edits.Edit.{Edit}
 use Rattle.mm_store.specs.declared.names.Side.TheVariants.{Old, New}
 use Rattle.mm_store.proofs.Changed.{olds, before_changes}
 use Rattle.mm_store.proofs.Came.{news}
+use Rattle.mm_store.proofs.Rooms.{indexes_changed}
 use Rattle.mm_store.proofs.Removed.{removed_hidden, hidden_stays}
 use Rattle.mm_store.proofs.Indexing.{InOrder-stays}
 use Rattle.mm_store.specs.Differs.{Differs}
@@ -278,3 +279,15 @@ pub returns-clause-still_hidden : goal.returns-clause-still_hidden
 returns-clause-still_hidden c = λ at row is.
     hidden_stays c.args.edits.items c.change_each.new.log.entries (slot_at c.self.inside.rows) (slot_at c.change_each.new.rows) at row
     c.change_each.ensures.changes (subst (λ (v : StoredRows). slot_at v.places at ≡ Hidden row) (sym c.self.view_is) is)
+
+pub returns-clause-indexes : goal.returns-clause-indexes
+returns-clause-indexes c =
+    let old = slot_at c.self.inside.rows in
+    let new = slot_at c.change_each.new.rows in
+    let outs : List RowRef = named edit_name Old c.as_slice-2.result.now in
+    let ins : List RowRef = named entry_name New c.entries-2.result.now in
+    let same : EachTurns SameIndex c.self.inside.indexes.items c.put_into_all.new.indexes.items =
+        indexes_changed c.self.inside.key old new outs ins c.self.inside.indexes.items c.take_from_all.new.indexes.items
+        c.put_into_all.new.indexes.items c.take_from_all.ensures.taken c.put_into_all.ensures.put
+    in
+    subst (λ (v : StoredRows). EachTurns SameIndex v.indexes c.put_into_all.new.indexes.items) c.self.view_is same
