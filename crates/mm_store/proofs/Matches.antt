@@ -98,7 +98,7 @@ pub hash_from_value : (column : ℕ) (now : Slots) (value : Value) (at : RowRef)
     → has_hash column now (value_hash value) at ≡ true
 hash_from_value column now value at e =
     let is : slice_get (row_at now at) column ≡ Some value =
-        place_exact (slice_get (row_at now at) column) value (equal_from_test (place_by column now value at) e)
+    place_exact (slice_get (row_at now at) column) value (equal_from_test (place_by column now value at) e)
     in
     eq-eqb (hash_of (slice_get (row_at now at) column)) (value_hash value) (ap hash_of is)
 
@@ -122,10 +122,10 @@ module _ (column : ℕ) (now : Slots) (pairs : List (ℕ × RowRef)) (refs : Lis
   found_of_hash =
       let tests = λ (e : ℕ × RowRef). e.0 == hash in
       let passing : IsPermutation (filter tests pairs) (filter tests (map (hashed_pair column now) refs)) =
-          IsPermutation-filter same_pair pair_from_test pair_itself tests pairs (map (hashed_pair column now) refs) all
+      IsPermutation-filter same_pair pair_from_test pair_itself tests pairs (map (hashed_pair column now) refs) all
       in
       let moved : IsPermutation (refs_of hash pairs) (refs_of hash (map (hashed_pair column now) refs)) =
-          IsPermutation-map (λ (e : ℕ × RowRef). e.1) (filter tests pairs) (filter tests (map (hashed_pair column now) refs)) passing
+      IsPermutation-map (λ (e : ℕ × RowRef). e.1) (filter tests pairs) (filter tests (map (hashed_pair column now) refs)) passing
       in
       subst (IsPermutation behind) (refs_of_pairs column now hash refs)
       (IsPermutation-trans behind (refs_of hash pairs) (refs_of hash (map (hashed_pair column now) refs)) found moved)
@@ -143,7 +143,7 @@ module _ (column : ℕ) (now : Slots) (pairs : List (ℕ × RowRef)) (refs : Lis
       let test = has_value column now value in
       let some : List RowRef = filter (has_hash column now hash) refs in
       let implies : (at : RowRef) → test at ≡ true → has_hash column now hash at ≡ true = λ at e.
-          subst (λ (n : ℕ). has_hash column now n at ≡ true) (sym is) (hash_from_value column now value at e)
+      subst (λ (n : ℕ). has_hash column now n at ≡ true) (sym is) (hash_from_value column now value at e)
       in
       subst (IsPermutation (filter test behind)) (filter_twice test (has_hash column now hash) implies refs)
       (IsPermutation-filter same_ref same_from_test (λ (a : RowRef). test_from_same a a refl) test behind some found_of_hash)

@@ -21,13 +21,7 @@ fn is_match(rows: &Partitions, column: usize, value: &Value, at: RowRef) -> bool
 }
 
 /// Keeps of the references from a place on those whose rows have this value, in their order.
-fn keep_matches(
-    rows: &Partitions,
-    column: usize,
-    value: &Value,
-    out: &mut Vec<RowRef>,
-    from: usize,
-)
+fn keep_matches(rows: &Partitions, column: usize, value: &Value, out: &mut Vec<RowRef>, from: usize)
     requires from { from ≤ length out.old.items }
     requires wide { All (HasColumn column (slot_at rows.now)) (drop from out.old.items) }
     ensures { out.new.items ≡ take from out.old.items

@@ -74,7 +74,7 @@ impl Index {
     }
 
     /// Makes room for at least `n` more entries.
-    pub fn reserve(&mut self, alloc: Global, n: usize) -> Result<(), AllocError>
+    pub(crate) fn reserve(&mut self, alloc: Global, n: usize) -> Result<(), AllocError>
         ensures room { OnOk result (n ≤ spare_of self.new) }
         ensures grown { Grown self.old self.new }
     {
@@ -85,7 +85,13 @@ impl Index {
     }
 
     /// Takes the entries out of the references that the items name.
-    pub fn take_each<T: Names>(&mut self, rows: &Partitions, key: usize, items: &[T], side: Side)
+    pub(crate) fn take_each<T: Names>(
+        &mut self,
+        rows: &Partitions,
+        key: usize,
+        items: &[T],
+        side: Side,
+    )
         requires keeps { (kept : List RowRef) × Keeps key (slot_at rows.now) (named T.name side items.now ++ kept) self.old }
         requires wide { All (IsWide (column_of self.old) key (slot_at rows.now)) (named T.name side items.now) }
         ensures taken { Taken key (slot_at rows.now) (named T.name side items.now) self.old self.new }
@@ -97,8 +103,15 @@ impl Index {
     }
 
     /// Puts the entries in of the references that the items name.
-    pub fn put_each<T: Names>(&mut self, rows: &Partitions, key: usize, items: &[T], side: Side)
-        requires keeps { (held : List RowRef) × (Keeps key (slot_at rows.now) held self.old) × KeysApart key (slot_at rows.now) (named T.name side items.now ++ held) }
+    pub(crate) fn put_each<T: Names>(
+        &mut self,
+        rows: &Partitions,
+        key: usize,
+        items: &[T],
+        side: Side,
+    )
+        requires keeps { (held : List RowRef) × (Keeps key (slot_at rows.now) held self.old)
+            × KeysApart key (slot_at rows.now) (named T.name side items.now ++ held) }
         requires wide { All (IsWide (column_of self.old) key (slot_at rows.now)) (named T.name side items.now) }
         requires spare { length (named T.name side items.now) ≤ spare_of self.old }
         ensures put { Put key (slot_at rows.now) (named T.name side items.now) self.old self.new }

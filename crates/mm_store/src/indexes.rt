@@ -36,7 +36,8 @@ pub fn put_into_all<T: Names>(
     items: &[T],
     side: Side,
 )
-    requires keep { (held : List RowRef) × (All (Keeps key (slot_at rows.now) held) indexes.old.items) × KeysApart key (slot_at rows.now) (named T.name side items.now ++ held) }
+    requires keep { (held : List RowRef) × (All (Keeps key (slot_at rows.now) held) indexes.old.items)
+        × KeysApart key (slot_at rows.now) (named T.name side items.now ++ held) }
     requires wide { All (λ x. All (IsWide (column_of x) key (slot_at rows.now)) (named T.name side items.now)) indexes.old.items }
     requires spare { All (λ x. length (named T.name side items.now) ≤ spare_of x) indexes.old.items }
     ensures put { EachTurns (Put key (slot_at rows.now) (named T.name side items.now)) indexes.old.items indexes.new.items }

@@ -14,8 +14,8 @@ keep_matches-requires-clause-wide c =
     let old : List RowRef = c.args.out.now.items in
     let found = c.in_ok-matches.ensures.ok in
     let items : drop c.len-before.result c.matches.new.out.items ≡ found.behind =
-        ap (λ (n : ℕ). drop n c.matches.new.out.items) (c.len-before.ensures ∙ c.args.out.now.ok.0)
-        ∙ (ap (λ (l : List RowRef). drop (length old) l) found.appends ∙ drop-append_seam old found.behind)
+    ap (λ (n : ℕ). drop n c.matches.new.out.items) (c.len-before.ensures ∙ c.args.out.now.ok.0)
+    ∙ (ap (λ (l : List RowRef). drop (length old) l) found.appends ∙ drop-append_seam old found.behind)
     in
     subst (All (HasColumn c.args.column now)) (sym items)
     (All-found c.args.column now c.args.pairs.now.entries c.requires.0 c.requires.2 c.hash64.result found.behind found.same_bag
@@ -28,15 +28,16 @@ returns-clause-ok c = λ refs all.
     let test = has_value c.args.column now c.args.value.now in
     let found = c.in_ok-matches.ensures.ok in
     let front : take c.len-before.result c.matches.new.out.items ≡ old =
-        ap (λ (n : ℕ). take n c.matches.new.out.items) (c.len-before.ensures ∙ c.args.out.now.ok.0)
-        ∙ (ap (λ (l : List RowRef). take (length old) l) found.appends ∙ take-append_seam old found.behind)
+    ap (λ (n : ℕ). take n c.matches.new.out.items) (c.len-before.ensures ∙ c.args.out.now.ok.0)
+    ∙ (ap (λ (l : List RowRef). take (length old) l) found.appends ∙ take-append_seam old found.behind)
     in
     let back : drop c.len-before.result c.matches.new.out.items ≡ found.behind =
-        ap (λ (n : ℕ). drop n c.matches.new.out.items) (c.len-before.ensures ∙ c.args.out.now.ok.0)
-        ∙ (ap (λ (l : List RowRef). drop (length old) l) found.appends ∙ drop-append_seam old found.behind)
-    in
-    (filter test found.behind,
-    c.keep_matches.ensures
-    ∙ (ap (λ (l : List RowRef). l ++ filter test (drop c.len-before.result c.matches.new.out.items)) front
-    ∙ ap (λ (l : List RowRef). old ++ filter test l) back),
-    matches_found c.args.column now c.args.pairs.now.entries refs all c.hash64.result found.behind found.same_bag c.args.value.now c.hash64.ensures)
+    ap (λ (n : ℕ). drop n c.matches.new.out.items) (c.len-before.ensures ∙ c.args.out.now.ok.0)
+    ∙ (ap (λ (l : List RowRef). drop (length old) l) found.appends ∙ drop-append_seam old found.behind)
+    in (
+      filter test found.behind,
+      c.keep_matches.ensures
+          ∙ (ap (λ (l : List RowRef). l ++ filter test (drop c.len-before.result c.matches.new.out.items)) front
+          ∙ ap (λ (l : List RowRef). old ++ filter test l) back),
+      matches_found c.args.column now c.args.pairs.now.entries refs all c.hash64.result found.behind found.same_bag c.args.value.now c.hash64.ensures,
+    )

@@ -29,11 +29,11 @@ invariant_of-self-2 c =
     let within : c.args.column < c.self.inside.width = subst (λ (v : StoredRows). c.args.column < v.width) (sym c.self.view_is) c.requires.column in
     let columns : column_of c.in_ok-index.index < c.self.inside.width = rw c.in_ok-index.ensures.on.0 within in
     let keeps : Keeps c.self.inside.key now refs c.in_ok-index.index =
-        subst (λ (xs : List RowRef). Keeps c.self.inside.key now xs c.in_ok-index.index) (c.as_slice.ensures.value ∙ c.in_ok-refs.ensures)
-        c.in_ok-index.ensures.keeps
+    subst (λ (xs : List RowRef). Keeps c.self.inside.key now xs c.in_ok-index.index) (c.as_slice.ensures.value ∙ c.in_ok-refs.ensures)
+    c.in_ok-index.ensures.keeps
     in
     let items : c.push_reserved.new.self.items ≡ c.self.inside.indexes.items ++ c.in_ok-index.index ∷ [] =
-        c.push_reserved.ensures.items ∙ ap (λ (xs : List Index). xs ++ c.in_ok-index.index ∷ []) c.reserve.ensures.items
+    c.push_reserved.ensures.items ∙ ap (λ (xs : List Index). xs ++ c.in_ok-index.index ∷ []) c.reserve.ensures.items
     in
     subst (IsKept c.self.inside.width c.self.inside.key now refs) (sym items)
     (IsKept-added c.self.inside.width c.self.inside.key now refs c.self.inside.indexes.items c.self.invariant c.in_ok-index.index columns keeps)

@@ -287,7 +287,7 @@ returns-clause-indexes c =
     let outs : List RowRef = named edit_name Old c.as_slice-2.result.now in
     let ins : List RowRef = named entry_name New c.entries-2.result.now in
     let same : EachTurns SameIndex c.self.inside.indexes.items c.put_into_all.new.indexes.items =
-        indexes_changed c.self.inside.key old new outs ins c.self.inside.indexes.items c.take_from_all.new.indexes.items
-        c.put_into_all.new.indexes.items c.take_from_all.ensures.taken c.put_into_all.ensures.put
+    indexes_changed c.self.inside.key old new outs ins c.self.inside.indexes.items c.take_from_all.new.indexes.items
+    c.put_into_all.new.indexes.items c.take_from_all.ensures.taken c.put_into_all.ensures.put
     in
     subst (λ (v : StoredRows). EachTurns SameIndex v.indexes c.put_into_all.new.indexes.items) c.self.view_is same

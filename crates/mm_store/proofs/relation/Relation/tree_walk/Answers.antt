@@ -11,10 +11,10 @@ iter-requires c =
     let now = slot_at c.self.inside.rows in
     let refs = c.self.inside.by_key.refs in
     let within : c.args.index < length c.self.inside.indexes.items =
-        subst (λ (v : StoredRows). c.args.index < length v.indexes) (sym c.self.view_is) c.requires.tree.1.0
+    subst (λ (v : StoredRows). c.args.index < length v.indexes) (sym c.self.view_is) c.requires.tree.1.0
     in
     let keeps : Keeps c.self.inside.key now refs c.index.result.now =
-        subst (Keeps c.self.inside.key now refs) (sym c.index.ensures) (c.self.invariant.keep c.args.index c.index.result.now within)
+    subst (Keeps c.self.inside.key now refs) (sym c.index.ensures) (c.self.invariant.keep c.args.index c.index.result.now within)
     in
     let held : Keeps c.self.inside.key now refs (Tree c.in-Tree.column c.in-Tree.refs) = subst (Keeps c.self.inside.key now refs) c.in-Tree.is keeps in
     let few : length refs ≤ 1048576 = subst (λ (v : StoredRows). length v.refs ≤ 1048576) (sym c.self.view_is) c.requires.few in
