@@ -1,0 +1,15 @@
+pub mod Apply
+pub mod Bags
+pub mod Came
+pub mod Changed
+pub mod Indexing
+pub mod Made
+pub mod Matches
+pub mod Ordered
+pub mod RefTests
+pub mod Removed
+pub mod Rooms
+pub mod Seeks
+pub mod Steps
+pub mod Turning
+pub mod WaysBack

@@ -1,0 +1,11 @@
+pub mod Before
+pub mod Changes
+pub mod Differs
+pub mod Edits
+pub mod HashedPairs
+pub mod Index
+pub mod Kept
+pub mod LogEntries
+pub mod Orders
+pub mod Reads
+pub mod Refs

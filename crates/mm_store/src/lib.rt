@@ -1,0 +1,26 @@
+//! One table's rows with the index on its key and any further indexes.
+//!
+//! A call that may take memory is handed the allocator; no other call takes any.
+#![tactic(auto)]
+
+mod at_end;
+mod at_value;
+mod by_column;
+mod change;
+mod edits;
+mod hash_entries;
+mod hash_reads;
+mod index;
+mod indexes;
+mod log;
+mod names;
+mod relation;
+#[cfg(test)]
+mod tests;
+mod tree_entries;
+mod tree_reads;
+
+pub use edits::Edit;
+pub use index::{Index, IndexKind};
+pub use log::{Entry, Log};
+pub use relation::Relation;
