@@ -1,5 +1,5 @@
 -- The walk along a chain that collects the references of one hash.
-use Rattle.std.proofs.Common.{◌≡◌, ◌≢◌, ℕ, cond, eqb, List, [], ◌∷◌, ◌++◌, map, refl, sym, ap, ◌∙◌, append_assoc}
+use Rattle.std.proofs.Common.{◌≡◌, ◌≢◌, ℕ, cond, eqb, List, [], ◌∷◌, ◌++◌, map, sym, ap, ◌∙◌, append_assoc}
 use Rattle.std.specs.List.{filter}
 use Rattle.std.proofs.lemmas.Bool.{cond-true, cond-false, eq-eqb, ne_eqb}
 use Rattle.std.proofs.lemmas.List.{append-nil}
@@ -16,10 +16,6 @@ pub record IsCollecting (ns : List Node) (head hash : ℕ) (old : List RowRef) (
   pub added : List RowRef
   pub so_far : out ≡ old ++ added
   pub whole : added ++ refs_along ns at hash ≡ refs_along ns head hash
-
-pub IsCollecting-start : (ns : List Node) (head hash : ℕ) (old : List RowRef) → IsLinked ns head → IsCollecting ns head hash old head old
-IsCollecting-start ns head hash old linked =
-    record { linked = linked; added = []; so_far = sym (append-nil old); whole = refl }
 
 refs_along-step : (ns : List Node) (at hash : ℕ) → IsLinked ns at → at ≢ NIL
     → refs_along ns at hash

@@ -17,10 +17,6 @@ use Rattle.mlhash.proofs.BagLemmas.{filter-push_none, is_live, entries-set_in}
 use Rattle.mlhash.proofs.ChainLemmas.{chain_is, linked_by, chain_end, below_linked, chain_step, Keeps, keeps_frame, keeps_set, fronts_set}
 use Rattle.mlhash.proofs.DealLemmas.{among_along}
 
--- two nodes of which one holds an entry
-pub live_apart : (ns : List Node) (i j : ℕ) → (node_at ns i).live ≡ true → (node_at ns j).live ≡ false → i ≡ j → ⊥
-live_apart ns i j live dead e = false≢true (sym dead ∙ ap (λ k. (node_at ns k).live) (sym e) ∙ live)
-
 -- the head of the bucket of a hash
 pub bucket_in : (heads : List ℕ) (ns : List Node) (len : ℕ) (p : Place) (free : ℕ) → IsTable heads ns len p free → (h : ℕ) → bucket_of p h < length heads
 bucket_in heads ns len p free t h = omega (arith, t.size, bucket_below p h)

@@ -5,7 +5,8 @@ use Rattle.std.proofs.lemmas.List.{take-append-drop, get_or-drop, get_or-take, a
 use Rattle.std.proofs.lemmas.List.Elements.{All-append, All-cons, All-head, All-tail, filter-append}
 use Rattle.std.proofs.Math.Seq.{drop-cons}
 use Rattle.std.specs.List.{All, AllPairs, Contains, filter}
-use Rattle.std.specs.List.Sorted.{IsNonDecreasingBy}
+use Rattle.std.specs.List.Sorted.{IsNonDecreasingBy, IsPermutation}
+use Rattle.std.proofs.lemmas.List.Sorted.{IsPermutation-middle}
 use Rattle.std.specs.Ordering.{ordering_reverse, ordering_index, is_le, is_ge}
 use Rattle.std.specs.declared.cmp.Ordering.{Ordering}
 use Rattle.std.specs.declared.cmp.Ordering.TheVariants.{Less, Equal, Greater}
@@ -97,6 +98,12 @@ module _ (cmp : RowRef → RowRef → Ordering) (refs : List RowRef) (added : Ro
       let parts : All P (adds.front ++ added ∷ adds.back) = subst (All P) adds.more_are all in
       subst (All P) (sym adds.refs_are) (All-append P adds.front adds.back (All-append_left P adds.front (added ∷ adds.back) parts)
       (All-tail P added adds.back (All-append_right P adds.front (added ∷ adds.back) parts)))
+
+  -- the new list holds the new reference and the old ones
+  pub IsPermutation-added : IsPermutation more (added ∷ refs)
+  IsPermutation-added =
+      subst (λ xs. IsPermutation xs (added ∷ refs)) (sym adds.more_are)
+      (subst (λ xs. IsPermutation (adds.front ++ added ∷ adds.back) (added ∷ xs)) (sym adds.refs_are) (IsPermutation-middle adds.front added adds.back))
 
 module _ (Covers : RowRef → Type 0) (cmp : RowRef → RowRef → Ordering) where
   Below : RowRef → RowRef → Type 0

@@ -9,8 +9,8 @@ use Rattle.mm_partition.specs.Places.{Live}
 use Rattle.mm_store.specs.HashedPairs.{hashed_pair}
 use Rattle.mm_store.specs.declared.index.Index.{Index}
 use Rattle.mm_store.specs.declared.index.Index.TheVariants.{Tree, Hash}
-use Rattle.mm_store.specs.declared.index.IndexKind.{IndexKind}
-use Rattle.mm_store.specs.declared.index.IndexKind.TheVariants as kind
+use Rattle.mm_schema.specs.declared.index.IndexKind.{IndexKind}
+use Rattle.mm_schema.specs.declared.index.IndexKind.TheVariants as kind
 use Rattle.mm_store.specs.Refs.{Slots, IsWide, refs_by, row_at}
 
 -- references in the order of a column and the key

@@ -11,7 +11,7 @@ use Rattle.mm_store.specs.Refs.{Slots, place_by}
 use Rattle.mm_store.specs.Index.{InOrder, column_of, kind_of}
 use Rattle.mm_store.specs.Kept.{StoredRows}
 use Rattle.mm_store.specs.declared.index.Index.{Index}
-use Rattle.mm_store.specs.declared.index.IndexKind.{IndexKind}
+use Rattle.mm_schema.specs.declared.index.IndexKind.{IndexKind}
 
 -- the index has this column and is of this kind
 abbrev pub IsOn : ℕ → IndexKind → Index → Type 0

@@ -13,18 +13,10 @@ use crate::tree_entries::{put_each, take_each};
 use mlhash::HashRefs;
 use mm_order::OrderedRefs;
 use mm_partition::Partitions;
+use mm_schema::IndexKind;
 use mm_value::RowRef;
 use std::alloc::{AllocError, Global};
 use ttree::TTree;
-
-/// How an index finds rows.
-#[derive(Clone, Copy, Debug, PartialEq, Eq)]
-pub enum IndexKind {
-    /// In the order of the values.
-    Tree,
-    /// By the values' hashes.
-    Hash,
-}
 
 /// An index on one column.
 #[derive(Drop)]

@@ -21,6 +21,6 @@ mod tree_entries;
 mod tree_reads;
 
 pub use edits::Edit;
-pub use index::{Index, IndexKind};
+pub use index::Index;
 pub use log::{Entry, Log};
 pub use relation::Relation;

@@ -115,9 +115,7 @@ impl Window {
         ensures failed { OnErr result (has_failed reader.new ≡ true) }
     {
         let n = reader.read(&mut self.chunk[..most.min(CHUNK_BYTES)])?;
-        self.taken
-            .try_extend_from_slice(&self.chunk[..n])
-            .unwrap();
+        self.taken.try_extend_from_slice(&self.chunk[..n]).unwrap();
         Ok(n)
     }
 }

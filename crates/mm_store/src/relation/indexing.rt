@@ -4,8 +4,9 @@ ghost use Rattle.std.specs.List.{remove};
 ghost use Rattle.mm_store.specs.Reads.{AddsIndex};
 
 use super::Relation;
-use crate::index::{Index, IndexKind};
+use crate::index::Index;
 use crate::tree_reads::copy_refs;
+use mm_schema::IndexKind;
 use std::alloc::{AllocError, Global};
 
 impl Relation {

@@ -2,7 +2,7 @@
 ghost use Rattle.std.specs.Prelude.{◌≡◌, ℕ, ◌≤◌, length, OnOk, OnErr};
 ghost use Rattle.std.specs.Option.{option_copied};
 ghost use Rattle.mm_partition.specs.Places.{slot_at};
-ghost use Rattle.mm_store.specs.declared.index.IndexKind.TheVariants as kind;
+ghost use Rattle.mm_schema.specs.declared.index.IndexKind.TheVariants as kind;
 ghost use Rattle.mm_store.specs.Reads.{HasIndex, IsWalk, IsRange, AreMatches, Appends};
 
 use super::Relation;
