@@ -6,8 +6,9 @@ use Rattle.mm_value.specs.declared.values.Value.{Value}
 use Rattle.mm_partition.specs.Places.{Hidden, slot_at}
 use Rattle.mm_store.specs.Refs.{Slots, row_at}
 use Rattle.mm_store.specs.Differs.{Differs}
-use Rattle.mm_store.specs.Changes.{Standing}
+use Rattle.mm_store.specs.Changes.{Changes, Standing}
 use Rattle.mm_store.specs.declared.edits.Edit.{Edit}
+use Rattle.mm_store.specs.declared.log.Entry.{Entry}
 use Rattle.mm_store.specs.HashedPairs.{hashed_pair}
 use Rattle.mm_store.specs.Index.{InOrder, Keeps, EachTurns, Taken, Put, SameIndex, SameEntries, Grown, column_of, kind_of}
 use Rattle.mm_store.specs.Kept.{StoredRows, IsKept, SameButRoom, KeysStayApart, HasRowsAfter, Stay, rows_after, RowsApart}
@@ -73,6 +74,10 @@ module _ (old mid : StoredRows) (same : SameButRoom old mid) where
 
   pub Standing-same : (edits : List Edit) → Standing (slot_at old.places) edits → Standing (slot_at mid.places) edits
   Standing-same edits standing = subst (λ (now : Slots). Standing now edits) (sym slots_same) standing
+
+  pub Changes-same : (edits : List Edit) (entries : List Entry) (then : Slots) → Changes edits (slot_at mid.places) entries then
+      → Changes edits (slot_at old.places) entries then
+  Changes-same edits entries then changes = subst (λ (now : Slots). Changes edits now entries then) slots_same changes
 
   pub KeysStayApart-same : (edits : List Edit) → KeysStayApart old edits → KeysStayApart mid edits
   KeysStayApart-same edits keys kept stay =

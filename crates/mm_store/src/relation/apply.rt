@@ -7,7 +7,7 @@ ghost use Rattle.mm_store.specs.declared.names.Side.TheVariants.{New, Old};
 ghost use Rattle.mm_store.specs.Before.{before, StandsBack};
 ghost use Rattle.mm_store.specs.Differs.{Differs};
 ghost use Rattle.mm_store.specs.Edits.{named, entry_name, new_rows, added_count, removed};
-ghost use Rattle.mm_store.specs.Changes.{Standing, AreHidden};
+ghost use Rattle.mm_store.specs.Changes.{Changes, Standing, AreHidden};
 ghost use Rattle.mm_store.specs.Index.{InOrder, EachTurns, SameIndex, spare_of};
 ghost use Rattle.mm_store.specs.Kept.{SameButRoom, KeysStayApart, HasRowsAfter};
 
@@ -22,7 +22,8 @@ use mm_order::OrderedRefs;
 use std::alloc::{AllocError, Global};
 
 impl Relation {
-    /// Makes all edits, and notes each in an empty log. Every growth comes first: room for the rows that are
+    /// Makes all edits, and notes each in an empty log: a row that is changed keeps its reference, a new row gets a
+    /// free one, and a row that goes is hidden. Every growth comes first: room for the rows that are
     /// added, for an entry of each edit in the log, and for a reference of each in every index. Then the old
     /// references go out of every index, the rows are changed where they stand, and the new references come
     /// in. `AllocError` where memory is refused; then all is as before, but for spare room.
@@ -39,6 +40,8 @@ impl Relation {
         requires standing { Standing (slot_at self.old.places) edits.items }
         requires wide { All (λ row. length row ≡ self.old.width) (new_rows edits.items) }
         requires keys { KeysStayApart self.old edits.items }
+        ensures changes { OnOk result
+            (Changes edits.items (slot_at self.old.places) log.new.entries (slot_at self.new.places)) }
         ensures rows { OnOk result (HasRowsAfter self.old edits.items self.new) }
         ensures ordered { OnOk result
             (InOrder self.new.key self.new.key (slot_at self.new.places) self.new.refs) }
@@ -86,6 +89,7 @@ impl Relation {
         requires standing { Standing (slot_at self.old.places) edits.items }
         requires wide { All (λ row. length row ≡ self.old.width) (new_rows edits.items) }
         requires keys { KeysStayApart self.old edits.items }
+        ensures changes { Changes edits.items (slot_at self.old.places) log.new.entries (slot_at self.new.places) }
         ensures back { before log.new.entries (slot_at self.new.places) ≡ slot_at self.old.places }
         ensures stands { StandsBack log.new.entries (slot_at self.new.places) }
         ensures hidden { AreHidden (slot_at self.new.places) (removed log.new.entries) }

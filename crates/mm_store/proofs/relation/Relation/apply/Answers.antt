@@ -1,7 +1,7 @@
 use Rattle.mm_partition.specs.Places.{slot_at}
 use Rattle.mm_store.specs.Edits.{named, entry_name}
 use Rattle.mm_store.specs.declared.names.Side.TheVariants.{Old, New}
-use Rattle.mm_store.proofs.Rooms.{Standing-same, KeysStayApart-same, HasRowsAfter-same, Differs-same, hidden_same, indexes_same}
+use Rattle.mm_store.proofs.Rooms.{Standing-same, Changes-same, KeysStayApart-same, HasRowsAfter-same, Differs-same, hidden_same, indexes_same}
 use Rattle.mm_store.proofs.relation.Relation.apply.Goals as goal
 
 pub change-requires-clause-standing : goal.change-requires-clause-standing
@@ -11,6 +11,11 @@ change-requires-clause-standing c =
 pub change-requires-clause-keys : goal.change-requires-clause-keys
 change-requires-clause-keys c =
     KeysStayApart-same c.args.self.now c.make_room.new.self c.make_room.ensures.same c.args.edits.items c.requires.keys
+
+pub returns-clause-changes : goal.returns-clause-changes
+returns-clause-changes c =
+    Changes-same c.args.self.now c.make_room.new.self c.make_room.ensures.same c.args.edits.items c.change.new.log.entries
+    (slot_at c.change.new.self.places) c.change.ensures.changes
 
 pub returns-clause-rows : goal.returns-clause-rows
 returns-clause-rows c =

@@ -6,7 +6,7 @@ use Rattle.mm_value.specs.declared.row_ref.RowRef.{RowRef}
 use Rattle.mm_partition.specs.Places.{Hidden, slot_at}
 use Rattle.mm_store.specs.Refs.{row_at}
 use Rattle.mm_store.specs.Edits.{Among, named, edit_name, entry_name, new_rows}
-use Rattle.mm_store.specs.Changes.{Standing}
+use Rattle.mm_store.specs.Changes.{Changes, Standing}
 use Rattle.mm_store.specs.Index.{Taken, Put, EachTurns, SameIndex, spare_of}
 use Rattle.mm_store.specs.Kept.{StoredRows, Stay, rows_after, RowsApart}
 use Rattle.mm_store.specs.declared.log.Entry.{Entry}
@@ -224,6 +224,11 @@ invariant_of-self c =
     after c.self.inside.width c.self.inside.key (slot_at c.self.inside.rows) c.self.inside.by_key.refs c.self.inside.indexes.items c.self.invariant
     c.args.edits.items standing (slot_at c.change_each.new.rows) c.change_each.new.log.entries c.change_each.ensures.changes c.take_each.new.tree.refs
     stay sizes c.take_from_all.new.indexes.items taken c.put_each.new.tree.refs moved c.put_into_all.new.indexes.items put c.put_each.ensures.ordered
+
+pub returns-clause-changes : goal.returns-clause-changes
+returns-clause-changes c =
+    subst (λ (v : StoredRows). Changes c.args.edits.items (slot_at v.places) c.change_each.new.log.entries (slot_at c.change_each.new.rows))
+    c.self.view_is c.change_each.ensures.changes
 
 pub returns-clause-back : goal.returns-clause-back
 returns-clause-back c =
