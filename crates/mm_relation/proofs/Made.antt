@@ -1,0 +1,54 @@
+-- An index that is made over rows.
+use Rattle.std.proofs.Common.{◌≡◌, ◌≢◌, ℕ, ◌<◌, List, [], ◌∷◌, ◌++◌, length, get_or, refl, ap, ◌∙◌, append-nil, arith}
+use Rattle.std.specs.List.{All}
+use Rattle.std.proofs.lemmas.List.Elements.{All-append, All-nil, All-cons, Contains-get_or}
+use Rattle.std.specs.Ordering.{ordering_then}
+use Rattle.std.specs.declared.cmp.Ordering.{Ordering}
+use Rattle.std.specs.declared.cmp.Ordering.TheVariants.{Less, Equal, Greater}
+use Rattle.mm_value.specs.declared.row_ref.RowRef.{RowRef}
+use Rattle.mm_schema.specs.Rows.{column_cmp}
+use Rattle.mm_relation.specs.Refs.{Slots, HasRow, IsWide, row_at}
+use Rattle.mm_relation.specs.Edits.{named, ref_name}
+use Rattle.mm_relation.specs.Index.{KeysApart, Keeps, column_of}
+use Rattle.mm_relation.specs.Kept.{IsKept}
+use Rattle.mm_relation.specs.declared.index.Index.{Index}
+use Rattle.mm_relation.specs.declared.names.Side.{Side}
+
+-- references name themselves
+pub named-refs : (side : Side) (refs : List RowRef) → named ref_name side refs ≡ refs
+named-refs side [] = refl
+named-refs side (at ∷ rest) = ap (λ (xs : List RowRef). at ∷ xs) (named-refs side rest)
+
+pub named-refs-nil : (side : Side) (refs : List RowRef) → named ref_name side refs ++ [] ≡ refs
+named-refs-nil side refs = append-nil (named ref_name side refs) ∙ named-refs side refs
+
+not_equal : (o : Ordering) → ordering_then o o ≡ Less → o ≢ Equal
+not_equal Less e = λ f. cc
+not_equal Equal e = λ f. cc
+not_equal Greater e = λ f. cc
+
+module _ (width key : ℕ) (now : Slots) (refs : List RowRef) (indexes : List Index) (was : IsKept width key now refs indexes) where
+  pub wide_refs : (column : ℕ) → column < width → All (IsWide column key now) refs
+  wide_refs column within k d below =
+      let at : RowRef = get_or refs k d in
+      let live : HasRow now at = (was.held at).0 (Contains-get_or refs k d below) in
+      let size : length live.0 ≡ width = was.wide at live.0 live.1 in
+      record { row = live.0; live = live.1; column_in = omega arith; key_in = omega (arith, was.key_in) }
+
+  pub apart_refs : KeysApart key now refs
+  apart_refs i j d before below =
+      not_equal (column_cmp key (row_at now (get_or refs i d)) (row_at now (get_or refs j d))) (was.by_key.ascending i j d before below)
+
+  pub IsKept-added : (x : Index) → column_of x < width → Keeps key now refs x → IsKept width key now refs (indexes ++ x ∷ [])
+  IsKept-added x within keeps = record {
+    key_in = was.key_in;
+    columns =
+        All-append (λ y. column_of y < width) indexes (x ∷ []) was.columns
+        (All-cons (λ y. column_of y < width) x [] within (All-nil (λ y. column_of y < width)));
+    wide = was.wide;
+    held = was.held;
+    by_key = was.by_key;
+    keep =
+        All-append (Keeps key now refs) indexes (x ∷ []) was.keep
+        (All-cons (Keeps key now refs) x [] keeps (All-nil (Keeps key now refs)));
+  }

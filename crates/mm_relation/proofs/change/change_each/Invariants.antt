@@ -1,0 +1,20 @@
+use Rattle.std.proofs.Common.{◌≡◌, ◌≤◌, List, ◌++◌, length}
+use Rattle.mm_partition.specs.Places.{slot_at}
+use Rattle.mm_relation.specs.Edits.{added_count}
+use Rattle.mm_relation.specs.Refs.{Slots}
+use Rattle.mm_relation.specs.declared.log.Entry.{Entry}
+use Rattle.mm_relation.specs.Changes.{Standing, Changes}
+use Rattle.mm_relation.proofs.change.change_each.Given as goal
+
+-- whatever the edits that are left will note and make, joined to what was noted, is what all edits make
+abbrev pub invariant-loop-edit : goal.invariant-loop-edit
+invariant-loop-edit l = record {
+  goes : (goal.iterator-loop-edit).can_next l.edit-iterator;
+  ends : (goal.iterator-loop-edit).is_finite l.edit-iterator;
+  size : length l.edit-iterator.rest.items ≡ l.edit-iterator.rest.len;
+  room : added_count l.edit-iterator.rest.items ≤ l.rows.room;
+  log : length l.edit-iterator.rest.items ≤ l.log.room;
+  standing : Standing (slot_at l.rows) l.edit-iterator.rest.items;
+  changes : (ns : List Entry) (final : Slots) → Changes l.edit-iterator.rest.items (slot_at l.rows) ns final
+      → Changes l.fn.edits.items (slot_at l.fn.rows) (l.log.entries ++ ns) final;
+}

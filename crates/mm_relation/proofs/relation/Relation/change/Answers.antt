@@ -1,0 +1,298 @@
+use Rattle.std.proofs.Common.{◌≡◌, ◌≤◌, List, ◌++◌, length, sym, ap, ◌∙◌, subst, arith}
+use Rattle.std.specs.Prelude.{map, IsPermutation}
+use Rattle.std.specs.List.{All}
+use Rattle.std.proofs.lemmas.List.Sorted.{IsPermutation-trans, IsPermutation-sym, IsPermutation-append_right}
+use Rattle.mm_value.specs.declared.row_ref.RowRef.{RowRef}
+use Rattle.mm_partition.specs.Places.{Hidden, slot_at}
+use Rattle.mm_relation.specs.Refs.{row_at}
+use Rattle.mm_relation.specs.Edits.{Among, named, edit_name, entry_name, new_rows}
+use Rattle.mm_relation.specs.Changes.{Changes, Standing}
+use Rattle.mm_relation.specs.Index.{Taken, Put, EachTurns, SameIndex, spare_of}
+use Rattle.mm_relation.specs.Kept.{StoredRows, Stay, rows_after, RowsApart}
+use Rattle.mm_relation.specs.declared.log.Entry.{Entry}
+use Rattle.mm_relation.specs.declared.edits.Edit.{Edit}
+use Rattle.mm_relation.specs.declared.names.Side.TheVariants.{Old, New}
+use Rattle.mm_relation.proofs.Changed.{olds, before_changes}
+use Rattle.mm_relation.proofs.Came.{news}
+use Rattle.mm_relation.proofs.Rooms.{indexes_changed}
+use Rattle.mm_relation.proofs.Removed.{removed_hidden, hidden_stays}
+use Rattle.mm_relation.proofs.Indexing.{InOrder-stays}
+use Rattle.mm_relation.specs.Differs.{Differs}
+use Rattle.mm_relation.proofs.WaysBack.{StandsBack-changes, Differs-back, old_names}
+use Rattle.mm_relation.proofs.Apply.{split, keep_split, wide_olds, stays, few, keys_apart, rows_moved, wide_news, keep_some, wide_some, spare_some, after}
+use Rattle.mm_relation.proofs.relation.Relation.change.Goals as goal
+
+pub take_each-requires-clause-held : goal.take_each-requires-clause-held
+take_each-requires-clause-held c =
+    let standing : Standing (slot_at c.self.inside.rows) c.args.edits.items = subst (λ (v : StoredRows). Standing (slot_at v.places) c.args.edits.items)
+    (sym c.self.view_is) c.requires.standing in
+    rw c.as_slice.ensures.value (split c.self.inside.width c.self.inside.key (slot_at c.self.inside.rows) c.self.inside.by_key.refs
+    c.self.inside.indexes.items c.self.invariant c.args.edits.items standing)
+
+pub take_from_all-requires-clause-keep : goal.take_from_all-requires-clause-keep
+take_from_all-requires-clause-keep c =
+    let standing : Standing (slot_at c.self.inside.rows) c.args.edits.items = subst (λ (v : StoredRows). Standing (slot_at v.places) c.args.edits.items)
+    (sym c.self.view_is) c.requires.standing in
+    rw c.as_slice-2.ensures.value (
+      (split c.self.inside.width c.self.inside.key (slot_at c.self.inside.rows) c.self.inside.by_key.refs
+          c.self.inside.indexes.items c.self.invariant c.args.edits.items standing).0,
+      keep_split c.self.inside.width c.self.inside.key
+          (slot_at c.self.inside.rows) c.self.inside.by_key.refs c.self.inside.indexes.items c.self.invariant c.args.edits.items standing,
+    )
+
+pub take_from_all-requires-clause-wide : goal.take_from_all-requires-clause-wide
+take_from_all-requires-clause-wide c =
+    let standing : Standing (slot_at c.self.inside.rows) c.args.edits.items = subst (λ (v : StoredRows). Standing (slot_at v.places) c.args.edits.items)
+    (sym c.self.view_is) c.requires.standing in
+    rw c.as_slice-2.ensures.value (wide_olds c.self.inside.width c.self.inside.key (slot_at c.self.inside.rows) c.self.inside.by_key.refs
+    c.self.inside.indexes.items c.self.invariant c.args.edits.items standing)
+
+pub put_each-requires-clause-spare : goal.put_each-requires-clause-spare
+put_each-requires-clause-spare c =
+    let standing : Standing (slot_at c.self.inside.rows) c.args.edits.items = subst (λ (v : StoredRows). Standing (slot_at v.places) c.args.edits.items)
+    (sym c.self.view_is) c.requires.standing in
+    let parts : Among c.self.inside.by_key.refs (olds c.args.edits.items) = split c.self.inside.width c.self.inside.key (slot_at c.self.inside.rows)
+    c.self.inside.by_key.refs c.self.inside.indexes.items c.self.invariant c.args.edits.items standing in
+    let given : IsPermutation c.take_each.new.tree.refs parts.0 = c.take_each.ensures.refs parts.0
+    (subst (λ (es : List Edit). IsPermutation c.self.inside.by_key.refs (named edit_name Old es ++ parts.0)) (sym c.as_slice.ensures.value) parts.1) in
+    let stay : Stay c.self.inside.by_key.refs c.args.edits.items c.take_each.new.tree.refs = IsPermutation-trans c.self.inside.by_key.refs
+    (olds c.args.edits.items ++ parts.0) (olds c.args.edits.items ++ c.take_each.new.tree.refs) parts.1
+    (IsPermutation-append_right (olds c.args.edits.items) parts.0 c.take_each.new.tree.refs (IsPermutation-sym c.take_each.new.tree.refs parts.0 given))
+    in
+    let spare : length c.args.edits.items ≤ c.self.inside.by_key.spare = subst (λ (v : StoredRows). length c.args.edits.items ≤ v.spare) (sym c.self.view_is)
+    c.requires.spare in
+    let less : length (news c.change_each.new.log.entries) ≤ length c.args.edits.items = few c.self.inside.width c.self.inside.key
+    (slot_at c.self.inside.rows) c.self.inside.by_key.refs c.self.inside.indexes.items c.self.invariant c.args.edits.items standing
+    (slot_at c.change_each.new.rows) c.change_each.new.log.entries c.change_each.ensures.changes c.take_each.new.tree.refs stay in
+    rw c.entries.ensures (omega (arith, less, spare, c.take_each.ensures.spare))
+
+pub put_each-requires-clause-ordered : goal.put_each-requires-clause-ordered
+put_each-requires-clause-ordered c =
+    let standing : Standing (slot_at c.self.inside.rows) c.args.edits.items = subst (λ (v : StoredRows). Standing (slot_at v.places) c.args.edits.items)
+    (sym c.self.view_is) c.requires.standing in
+    let parts : Among c.self.inside.by_key.refs (olds c.args.edits.items) = split c.self.inside.width c.self.inside.key (slot_at c.self.inside.rows)
+    c.self.inside.by_key.refs c.self.inside.indexes.items c.self.invariant c.args.edits.items standing in
+    let given : IsPermutation c.take_each.new.tree.refs parts.0 = c.take_each.ensures.refs parts.0
+    (subst (λ (es : List Edit). IsPermutation c.self.inside.by_key.refs (named edit_name Old es ++ parts.0)) (sym c.as_slice.ensures.value) parts.1) in
+    let stay : Stay c.self.inside.by_key.refs c.args.edits.items c.take_each.new.tree.refs = IsPermutation-trans c.self.inside.by_key.refs
+    (olds c.args.edits.items ++ parts.0) (olds c.args.edits.items ++ c.take_each.new.tree.refs) parts.1
+    (IsPermutation-append_right (olds c.args.edits.items) parts.0 c.take_each.new.tree.refs (IsPermutation-sym c.take_each.new.tree.refs parts.0 given))
+    in
+    InOrder-stays c.self.inside.key c.self.inside.key (slot_at c.self.inside.rows) (slot_at c.change_each.new.rows) c.take_each.new.tree.refs
+    (stays c.self.inside.width c.self.inside.key (slot_at c.self.inside.rows) c.self.inside.by_key.refs c.self.inside.indexes.items c.self.invariant
+    c.args.edits.items standing (slot_at c.change_each.new.rows) c.change_each.new.log.entries c.change_each.ensures.changes c.take_each.new.tree.refs
+    stay) c.take_each.ensures.ordered
+
+pub put_each-requires-clause-wide : goal.put_each-requires-clause-wide
+put_each-requires-clause-wide c =
+    let standing : Standing (slot_at c.self.inside.rows) c.args.edits.items = subst (λ (v : StoredRows). Standing (slot_at v.places) c.args.edits.items)
+    (sym c.self.view_is) c.requires.standing in
+    let parts : Among c.self.inside.by_key.refs (olds c.args.edits.items) = split c.self.inside.width c.self.inside.key (slot_at c.self.inside.rows)
+    c.self.inside.by_key.refs c.self.inside.indexes.items c.self.invariant c.args.edits.items standing in
+    let given : IsPermutation c.take_each.new.tree.refs parts.0 = c.take_each.ensures.refs parts.0
+    (subst (λ (es : List Edit). IsPermutation c.self.inside.by_key.refs (named edit_name Old es ++ parts.0)) (sym c.as_slice.ensures.value) parts.1) in
+    let stay : Stay c.self.inside.by_key.refs c.args.edits.items c.take_each.new.tree.refs = IsPermutation-trans c.self.inside.by_key.refs
+    (olds c.args.edits.items ++ parts.0) (olds c.args.edits.items ++ c.take_each.new.tree.refs) parts.1
+    (IsPermutation-append_right (olds c.args.edits.items) parts.0 c.take_each.new.tree.refs (IsPermutation-sym c.take_each.new.tree.refs parts.0 given))
+    in
+    let sizes : All (λ row. length row ≡ c.self.inside.width) (new_rows c.args.edits.items) = subst
+    (λ (v : StoredRows). All (λ row. length row ≡ v.width) (new_rows c.args.edits.items)) (sym c.self.view_is) c.requires.wide in
+    rw c.entries.ensures (wide_news c.self.inside.width c.self.inside.key (slot_at c.self.inside.rows) c.self.inside.by_key.refs c.self.inside.indexes.items
+    c.self.invariant c.args.edits.items standing (slot_at c.change_each.new.rows) c.change_each.new.log.entries c.change_each.ensures.changes
+    c.take_each.new.tree.refs stay sizes c.self.inside.key c.self.invariant.key_in)
+
+pub put_each-requires-clause-apart : goal.put_each-requires-clause-apart
+put_each-requires-clause-apart c =
+    let standing : Standing (slot_at c.self.inside.rows) c.args.edits.items = subst (λ (v : StoredRows). Standing (slot_at v.places) c.args.edits.items)
+    (sym c.self.view_is) c.requires.standing in
+    let parts : Among c.self.inside.by_key.refs (olds c.args.edits.items) = split c.self.inside.width c.self.inside.key (slot_at c.self.inside.rows)
+    c.self.inside.by_key.refs c.self.inside.indexes.items c.self.invariant c.args.edits.items standing in
+    let given : IsPermutation c.take_each.new.tree.refs parts.0 = c.take_each.ensures.refs parts.0
+    (subst (λ (es : List Edit). IsPermutation c.self.inside.by_key.refs (named edit_name Old es ++ parts.0)) (sym c.as_slice.ensures.value) parts.1) in
+    let stay : Stay c.self.inside.by_key.refs c.args.edits.items c.take_each.new.tree.refs = IsPermutation-trans c.self.inside.by_key.refs
+    (olds c.args.edits.items ++ parts.0) (olds c.args.edits.items ++ c.take_each.new.tree.refs) parts.1
+    (IsPermutation-append_right (olds c.args.edits.items) parts.0 c.take_each.new.tree.refs (IsPermutation-sym c.take_each.new.tree.refs parts.0 given))
+    in
+    let keys = subst (λ (v : StoredRows). (kept : List RowRef) → Stay v.refs c.args.edits.items kept
+    → RowsApart v.key (rows_after (slot_at v.places) c.args.edits.items kept)) (sym c.self.view_is) c.requires.keys in
+    rw c.entries.ensures (keys_apart c.self.inside.width c.self.inside.key (slot_at c.self.inside.rows) c.self.inside.by_key.refs c.self.inside.indexes.items
+    c.self.invariant c.args.edits.items standing (slot_at c.change_each.new.rows) c.change_each.new.log.entries c.change_each.ensures.changes
+    c.take_each.new.tree.refs stay (keys c.take_each.new.tree.refs stay))
+
+pub put_into_all-requires-clause-keep : goal.put_into_all-requires-clause-keep
+put_into_all-requires-clause-keep c =
+    let standing : Standing (slot_at c.self.inside.rows) c.args.edits.items = subst (λ (v : StoredRows). Standing (slot_at v.places) c.args.edits.items)
+    (sym c.self.view_is) c.requires.standing in
+    let parts : Among c.self.inside.by_key.refs (olds c.args.edits.items) = split c.self.inside.width c.self.inside.key (slot_at c.self.inside.rows)
+    c.self.inside.by_key.refs c.self.inside.indexes.items c.self.invariant c.args.edits.items standing in
+    let given : IsPermutation c.take_each.new.tree.refs parts.0 = c.take_each.ensures.refs parts.0
+    (subst (λ (es : List Edit). IsPermutation c.self.inside.by_key.refs (named edit_name Old es ++ parts.0)) (sym c.as_slice.ensures.value) parts.1) in
+    let stay : Stay c.self.inside.by_key.refs c.args.edits.items c.take_each.new.tree.refs = IsPermutation-trans c.self.inside.by_key.refs
+    (olds c.args.edits.items ++ parts.0) (olds c.args.edits.items ++ c.take_each.new.tree.refs) parts.1
+    (IsPermutation-append_right (olds c.args.edits.items) parts.0 c.take_each.new.tree.refs (IsPermutation-sym c.take_each.new.tree.refs parts.0 given))
+    in
+    let sizes : All (λ row. length row ≡ c.self.inside.width) (new_rows c.args.edits.items) = subst
+    (λ (v : StoredRows). All (λ row. length row ≡ v.width) (new_rows c.args.edits.items)) (sym c.self.view_is) c.requires.wide in
+    let taken : EachTurns (Taken c.self.inside.key (slot_at c.self.inside.rows) (olds c.args.edits.items)) c.self.inside.indexes.items
+    c.take_from_all.new.indexes.items = subst
+    (λ (es : List Edit). EachTurns (Taken c.self.inside.key (slot_at c.self.inside.rows) (named edit_name Old es)) c.self.inside.indexes.items
+    c.take_from_all.new.indexes.items) c.as_slice-2.ensures.value c.take_from_all.ensures.taken in
+    let keys = subst (λ (v : StoredRows). (kept : List RowRef) → Stay v.refs c.args.edits.items kept
+    → RowsApart v.key (rows_after (slot_at v.places) c.args.edits.items kept)) (sym c.self.view_is) c.requires.keys in
+    rw c.entries-2.ensures (
+      c.take_each.new.tree.refs,
+      keep_some c.self.inside.width c.self.inside.key (slot_at c.self.inside.rows) c.self.inside.by_key.refs
+          c.self.inside.indexes.items c.self.invariant c.args.edits.items standing (slot_at c.change_each.new.rows) c.change_each.new.log.entries
+          c.change_each.ensures.changes c.take_each.new.tree.refs stay sizes c.take_from_all.new.indexes.items taken,
+      keys_apart c.self.inside.width
+          c.self.inside.key (slot_at c.self.inside.rows) c.self.inside.by_key.refs c.self.inside.indexes.items c.self.invariant c.args.edits.items standing
+          (slot_at c.change_each.new.rows) c.change_each.new.log.entries c.change_each.ensures.changes c.take_each.new.tree.refs stay
+          (keys c.take_each.new.tree.refs stay),
+    )
+
+pub put_into_all-requires-clause-wide : goal.put_into_all-requires-clause-wide
+put_into_all-requires-clause-wide c =
+    let standing : Standing (slot_at c.self.inside.rows) c.args.edits.items = subst (λ (v : StoredRows). Standing (slot_at v.places) c.args.edits.items)
+    (sym c.self.view_is) c.requires.standing in
+    let parts : Among c.self.inside.by_key.refs (olds c.args.edits.items) = split c.self.inside.width c.self.inside.key (slot_at c.self.inside.rows)
+    c.self.inside.by_key.refs c.self.inside.indexes.items c.self.invariant c.args.edits.items standing in
+    let given : IsPermutation c.take_each.new.tree.refs parts.0 = c.take_each.ensures.refs parts.0
+    (subst (λ (es : List Edit). IsPermutation c.self.inside.by_key.refs (named edit_name Old es ++ parts.0)) (sym c.as_slice.ensures.value) parts.1) in
+    let stay : Stay c.self.inside.by_key.refs c.args.edits.items c.take_each.new.tree.refs = IsPermutation-trans c.self.inside.by_key.refs
+    (olds c.args.edits.items ++ parts.0) (olds c.args.edits.items ++ c.take_each.new.tree.refs) parts.1
+    (IsPermutation-append_right (olds c.args.edits.items) parts.0 c.take_each.new.tree.refs (IsPermutation-sym c.take_each.new.tree.refs parts.0 given))
+    in
+    let sizes : All (λ row. length row ≡ c.self.inside.width) (new_rows c.args.edits.items) = subst
+    (λ (v : StoredRows). All (λ row. length row ≡ v.width) (new_rows c.args.edits.items)) (sym c.self.view_is) c.requires.wide in
+    let taken : EachTurns (Taken c.self.inside.key (slot_at c.self.inside.rows) (olds c.args.edits.items)) c.self.inside.indexes.items
+    c.take_from_all.new.indexes.items = subst
+    (λ (es : List Edit). EachTurns (Taken c.self.inside.key (slot_at c.self.inside.rows) (named edit_name Old es)) c.self.inside.indexes.items
+    c.take_from_all.new.indexes.items) c.as_slice-2.ensures.value c.take_from_all.ensures.taken in
+    rw c.entries-2.ensures (wide_some c.self.inside.width c.self.inside.key (slot_at c.self.inside.rows) c.self.inside.by_key.refs
+    c.self.inside.indexes.items c.self.invariant c.args.edits.items standing (slot_at c.change_each.new.rows) c.change_each.new.log.entries
+    c.change_each.ensures.changes c.take_each.new.tree.refs stay sizes c.take_from_all.new.indexes.items taken)
+
+pub put_into_all-requires-clause-spare : goal.put_into_all-requires-clause-spare
+put_into_all-requires-clause-spare c =
+    let standing : Standing (slot_at c.self.inside.rows) c.args.edits.items = subst (λ (v : StoredRows). Standing (slot_at v.places) c.args.edits.items)
+    (sym c.self.view_is) c.requires.standing in
+    let parts : Among c.self.inside.by_key.refs (olds c.args.edits.items) = split c.self.inside.width c.self.inside.key (slot_at c.self.inside.rows)
+    c.self.inside.by_key.refs c.self.inside.indexes.items c.self.invariant c.args.edits.items standing in
+    let given : IsPermutation c.take_each.new.tree.refs parts.0 = c.take_each.ensures.refs parts.0
+    (subst (λ (es : List Edit). IsPermutation c.self.inside.by_key.refs (named edit_name Old es ++ parts.0)) (sym c.as_slice.ensures.value) parts.1) in
+    let stay : Stay c.self.inside.by_key.refs c.args.edits.items c.take_each.new.tree.refs = IsPermutation-trans c.self.inside.by_key.refs
+    (olds c.args.edits.items ++ parts.0) (olds c.args.edits.items ++ c.take_each.new.tree.refs) parts.1
+    (IsPermutation-append_right (olds c.args.edits.items) parts.0 c.take_each.new.tree.refs (IsPermutation-sym c.take_each.new.tree.refs parts.0 given))
+    in
+    let sizes : All (λ row. length row ≡ c.self.inside.width) (new_rows c.args.edits.items) = subst
+    (λ (v : StoredRows). All (λ row. length row ≡ v.width) (new_rows c.args.edits.items)) (sym c.self.view_is) c.requires.wide in
+    let taken : EachTurns (Taken c.self.inside.key (slot_at c.self.inside.rows) (olds c.args.edits.items)) c.self.inside.indexes.items
+    c.take_from_all.new.indexes.items = subst
+    (λ (es : List Edit). EachTurns (Taken c.self.inside.key (slot_at c.self.inside.rows) (named edit_name Old es)) c.self.inside.indexes.items
+    c.take_from_all.new.indexes.items) c.as_slice-2.ensures.value c.take_from_all.ensures.taken in
+    let spares : All (λ x. length c.args.edits.items ≤ spare_of x) c.self.inside.indexes.items = subst
+    (λ (v : StoredRows). All (λ x. length c.args.edits.items ≤ spare_of x) v.indexes) (sym c.self.view_is) c.requires.spares in
+    rw c.entries-2.ensures (spare_some c.self.inside.width c.self.inside.key (slot_at c.self.inside.rows) c.self.inside.by_key.refs
+    c.self.inside.indexes.items c.self.invariant c.args.edits.items standing (slot_at c.change_each.new.rows) c.change_each.new.log.entries
+    c.change_each.ensures.changes c.take_each.new.tree.refs stay sizes c.take_from_all.new.indexes.items taken spares)
+
+pub invariant_of-self : goal.invariant_of-self
+invariant_of-self c =
+    let standing : Standing (slot_at c.self.inside.rows) c.args.edits.items = subst (λ (v : StoredRows). Standing (slot_at v.places) c.args.edits.items)
+    (sym c.self.view_is) c.requires.standing in
+    let parts : Among c.self.inside.by_key.refs (olds c.args.edits.items) = split c.self.inside.width c.self.inside.key (slot_at c.self.inside.rows)
+    c.self.inside.by_key.refs c.self.inside.indexes.items c.self.invariant c.args.edits.items standing in
+    let given : IsPermutation c.take_each.new.tree.refs parts.0 = c.take_each.ensures.refs parts.0
+    (subst (λ (es : List Edit). IsPermutation c.self.inside.by_key.refs (named edit_name Old es ++ parts.0)) (sym c.as_slice.ensures.value) parts.1) in
+    let stay : Stay c.self.inside.by_key.refs c.args.edits.items c.take_each.new.tree.refs = IsPermutation-trans c.self.inside.by_key.refs
+    (olds c.args.edits.items ++ parts.0) (olds c.args.edits.items ++ c.take_each.new.tree.refs) parts.1
+    (IsPermutation-append_right (olds c.args.edits.items) parts.0 c.take_each.new.tree.refs (IsPermutation-sym c.take_each.new.tree.refs parts.0 given))
+    in
+    let sizes : All (λ row. length row ≡ c.self.inside.width) (new_rows c.args.edits.items) = subst
+    (λ (v : StoredRows). All (λ row. length row ≡ v.width) (new_rows c.args.edits.items)) (sym c.self.view_is) c.requires.wide in
+    let taken : EachTurns (Taken c.self.inside.key (slot_at c.self.inside.rows) (olds c.args.edits.items)) c.self.inside.indexes.items
+    c.take_from_all.new.indexes.items = subst
+    (λ (es : List Edit). EachTurns (Taken c.self.inside.key (slot_at c.self.inside.rows) (named edit_name Old es)) c.self.inside.indexes.items
+    c.take_from_all.new.indexes.items) c.as_slice-2.ensures.value c.take_from_all.ensures.taken in
+    let moved : IsPermutation (news c.change_each.new.log.entries ++ c.take_each.new.tree.refs) c.put_each.new.tree.refs = subst
+    (λ (ns : List Entry). IsPermutation (named entry_name New ns ++ c.take_each.new.tree.refs) c.put_each.new.tree.refs) c.entries.ensures
+    c.put_each.ensures.refs in
+    let put : EachTurns (Put c.self.inside.key (slot_at c.change_each.new.rows) (news c.change_each.new.log.entries)) c.take_from_all.new.indexes.items
+    c.put_into_all.new.indexes.items = subst
+    (λ (ns : List Entry). EachTurns (Put c.self.inside.key (slot_at c.change_each.new.rows) (named entry_name New ns)) c.take_from_all.new.indexes.items
+    c.put_into_all.new.indexes.items) c.entries-2.ensures c.put_into_all.ensures.put in
+    after c.self.inside.width c.self.inside.key (slot_at c.self.inside.rows) c.self.inside.by_key.refs c.self.inside.indexes.items c.self.invariant
+    c.args.edits.items standing (slot_at c.change_each.new.rows) c.change_each.new.log.entries c.change_each.ensures.changes c.take_each.new.tree.refs
+    stay sizes c.take_from_all.new.indexes.items taken c.put_each.new.tree.refs moved c.put_into_all.new.indexes.items put c.put_each.ensures.ordered
+
+pub returns-clause-changes : goal.returns-clause-changes
+returns-clause-changes c =
+    subst (λ (v : StoredRows). Changes c.args.edits.items (slot_at v.places) c.change_each.new.log.entries (slot_at c.change_each.new.rows))
+    c.self.view_is c.change_each.ensures.changes
+
+pub returns-clause-back : goal.returns-clause-back
+returns-clause-back c =
+    before_changes c.args.edits.items c.change_each.new.log.entries (slot_at c.self.inside.rows) (slot_at c.change_each.new.rows)
+    c.change_each.ensures.changes ∙ ap (λ (v : StoredRows). slot_at v.places) c.self.view_is
+
+pub returns-clause-rows : goal.returns-clause-rows
+returns-clause-rows c =
+    let standing : Standing (slot_at c.self.inside.rows) c.args.edits.items = subst (λ (v : StoredRows). Standing (slot_at v.places) c.args.edits.items)
+    (sym c.self.view_is) c.requires.standing in
+    let parts : Among c.self.inside.by_key.refs (olds c.args.edits.items) = split c.self.inside.width c.self.inside.key (slot_at c.self.inside.rows)
+    c.self.inside.by_key.refs c.self.inside.indexes.items c.self.invariant c.args.edits.items standing in
+    let given : IsPermutation c.take_each.new.tree.refs parts.0 = c.take_each.ensures.refs parts.0
+    (subst (λ (es : List Edit). IsPermutation c.self.inside.by_key.refs (named edit_name Old es ++ parts.0)) (sym c.as_slice.ensures.value) parts.1) in
+    let stay : Stay c.self.inside.by_key.refs c.args.edits.items c.take_each.new.tree.refs = IsPermutation-trans c.self.inside.by_key.refs
+    (olds c.args.edits.items ++ parts.0) (olds c.args.edits.items ++ c.take_each.new.tree.refs) parts.1
+    (IsPermutation-append_right (olds c.args.edits.items) parts.0 c.take_each.new.tree.refs (IsPermutation-sym c.take_each.new.tree.refs parts.0 given))
+    in
+    let moved : IsPermutation (news c.change_each.new.log.entries ++ c.take_each.new.tree.refs) c.put_each.new.tree.refs = subst
+    (λ (ns : List Entry). IsPermutation (named entry_name New ns ++ c.take_each.new.tree.refs) c.put_each.new.tree.refs) c.entries.ensures
+    c.put_each.ensures.refs in
+    subst (λ (v : StoredRows). (kept : List RowRef) → Stay v.refs c.args.edits.items kept
+    → IsPermutation (rows_after (slot_at v.places) c.args.edits.items kept) (map (row_at (slot_at c.change_each.new.rows)) c.put_each.new.tree.refs))
+    c.self.view_is (λ kept same. rows_moved c.self.inside.width c.self.inside.key (slot_at c.self.inside.rows) c.self.inside.by_key.refs
+    c.self.inside.indexes.items c.self.invariant c.args.edits.items standing (slot_at c.change_each.new.rows) c.change_each.new.log.entries
+    c.change_each.ensures.changes c.take_each.new.tree.refs stay kept c.put_each.new.tree.refs same moved)
+
+pub returns-clause-stands : goal.returns-clause-stands
+returns-clause-stands c = StandsBack-changes c.args.edits.items c.change_each.new.log.entries (slot_at c.self.inside.rows) (slot_at c.change_each.new.rows)
+    c.change_each.ensures.changes
+
+pub returns-clause-differs : goal.returns-clause-differs
+returns-clause-differs c =
+    let standing : Standing (slot_at c.self.inside.rows) c.args.edits.items = subst (λ (v : StoredRows). Standing (slot_at v.places) c.args.edits.items)
+    (sym c.self.view_is) c.requires.standing in
+    let differs : Differs (slot_at c.change_each.new.rows) (slot_at c.self.inside.rows) (news c.change_each.new.log.entries) (olds c.args.edits.items)
+    = Differs-back c.args.edits.items c.change_each.new.log.entries (slot_at c.self.inside.rows) (slot_at c.change_each.new.rows) standing
+    c.change_each.ensures.changes in
+    subst (λ (v : StoredRows). Differs (slot_at c.change_each.new.rows) (slot_at v.places) (news c.change_each.new.log.entries)
+    (named entry_name Old c.change_each.new.log.entries)) c.self.view_is
+    (subst (λ (xs : List RowRef). Differs (slot_at c.change_each.new.rows) (slot_at c.self.inside.rows) (news c.change_each.new.log.entries) xs)
+    (sym (old_names c.args.edits.items c.change_each.new.log.entries (slot_at c.self.inside.rows) (slot_at c.change_each.new.rows)
+    c.change_each.ensures.changes)) differs)
+
+pub returns-clause-hidden : goal.returns-clause-hidden
+returns-clause-hidden c =
+    let standing : Standing (slot_at c.self.inside.rows) c.args.edits.items = subst (λ (v : StoredRows). Standing (slot_at v.places) c.args.edits.items)
+    (sym c.self.view_is) c.requires.standing in
+    removed_hidden c.args.edits.items c.change_each.new.log.entries (slot_at c.self.inside.rows) (slot_at c.change_each.new.rows) standing
+    c.change_each.ensures.changes
+
+pub returns-clause-still_hidden : goal.returns-clause-still_hidden
+returns-clause-still_hidden c = λ at row is.
+    hidden_stays c.args.edits.items c.change_each.new.log.entries (slot_at c.self.inside.rows) (slot_at c.change_each.new.rows) at row
+    c.change_each.ensures.changes (subst (λ (v : StoredRows). slot_at v.places at ≡ Hidden row) (sym c.self.view_is) is)
+
+pub returns-clause-indexes : goal.returns-clause-indexes
+returns-clause-indexes c =
+    let old = slot_at c.self.inside.rows in
+    let new = slot_at c.change_each.new.rows in
+    let outs : List RowRef = named edit_name Old c.as_slice-2.result.now in
+    let ins : List RowRef = named entry_name New c.entries-2.result.now in
+    let same : EachTurns SameIndex c.self.inside.indexes.items c.put_into_all.new.indexes.items =
+    indexes_changed c.self.inside.key old new outs ins c.self.inside.indexes.items c.take_from_all.new.indexes.items
+    c.put_into_all.new.indexes.items c.take_from_all.ensures.taken c.put_into_all.ensures.put
+    in
+    subst (λ (v : StoredRows). EachTurns SameIndex v.indexes c.put_into_all.new.indexes.items) c.self.view_is same

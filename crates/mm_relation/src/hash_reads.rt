@@ -1,0 +1,62 @@
+//! Reading by hash.
+ghost use Rattle.std.specs.Prelude.{◌≡◌, ◌≤◌, ◌++◌, List, length, map, take, drop, filter, All, IsPermutation, OnOk, OnErr};
+ghost use Rattle.mm_value.specs.declared.row_ref.RowRef.{RowRef};
+ghost use Rattle.mm_partition.specs.Places.{slot_at};
+ghost use Rattle.mm_relation.specs.HashedPairs.{hashed_pair};
+ghost use Rattle.mm_relation.specs.Index.{HasColumn};
+ghost use Rattle.mm_relation.specs.Reads.{has_value, AreMatches, Appends};
+
+use mlhash::HashRefs;
+use mm_partition::Partitions;
+use mm_value::{RowRef, Value, compare, hash64};
+use std::alloc::{AllocError, Global};
+
+/// Whether a row has this value in a column.
+fn is_match(rows: &Partitions, column: usize, value: &Value, at: RowRef) -> bool
+    requires { HasColumn column (slot_at rows.now) at }
+    ensures { result ≡ has_value column (slot_at rows.now) value.now at }
+{
+    let row = rows.get(at);
+    compare(row.value(column), value).is_eq()
+}
+
+/// Keeps of the references from a place on those whose rows have this value, in their order.
+fn keep_matches(rows: &Partitions, column: usize, value: &Value, out: &mut Vec<RowRef>, from: usize)
+    requires from { from ≤ length out.old.items }
+    requires wide { All (HasColumn column (slot_at rows.now)) (drop from out.old.items) }
+    ensures { out.new.items ≡ take from out.old.items
+        ++ filter (has_value column (slot_at rows.now) value.now) (drop from out.old.items) }
+{
+    let mut kept = from;
+    for i in from..out.len() {
+        let at = out[i];
+        if is_match(rows, column, value, at) {
+            out[kept] = at;
+            kept += 1;
+        }
+    }
+    out.truncate(kept);
+}
+
+/// Appends the references of the rows that have this value, in no promised order. Rows whose values
+/// only have the same hash are left out.
+pub fn copy_matches(
+    alloc: Global,
+    rows: &Partitions,
+    column: usize,
+    pairs: &HashRefs,
+    value: &Value,
+    out: &mut Vec<RowRef>,
+) -> Result<(), AllocError>
+    requires { (refs : List RowRef) × (All (HasColumn column (slot_at rows.now)) refs)
+        × IsPermutation pairs.now.entries (map (hashed_pair column (slot_at rows.now)) refs) }
+    ensures ok { OnOk result ((refs : List RowRef)
+        → IsPermutation pairs.now.entries (map (hashed_pair column (slot_at rows.now)) refs)
+        → Appends (AreMatches column (slot_at rows.now) value.now refs) out.old.items out.new.items) }
+    ensures err { OnErr result (out.new.items ≡ out.old.items) }
+{
+    let before = out.len();
+    pairs.matches(alloc, hash64(value), out)?;
+    keep_matches(rows, column, value, out, before);
+    Ok(())
+}

@@ -1,0 +1,59 @@
+//! All further indexes of a table.
+ghost use Rattle.std.specs.Prelude.{◌≡◌, ◌+◌, ◌≤◌, ◌++◌, List, length, All, IsPermutation, OnOk};
+ghost use Rattle.mm_value.specs.declared.row_ref.RowRef.{RowRef};
+ghost use Rattle.mm_partition.specs.Places.{slot_at};
+ghost use Rattle.mm_relation.specs.Refs.{IsWide};
+ghost use Rattle.mm_relation.specs.Edits.{named};
+ghost use Rattle.mm_relation.specs.Index.{KeysApart, Keeps, Taken, Put, EachTurns, Grown, GrownTo, column_of, spare_of};
+
+use crate::index::Index;
+use crate::names::{Names, Side};
+use mm_partition::Partitions;
+use std::alloc::{AllocError, Global};
+
+/// Takes the entries out of each index.
+pub fn take_from_all<T: Names>(
+    rows: &Partitions,
+    key: usize,
+    indexes: &mut Vec<Index>,
+    items: &[T],
+    side: Side,
+)
+    requires keep { (kept : List RowRef) × All (Keeps key (slot_at rows.now) (named T.name side items.now ++ kept)) indexes.old.items }
+    requires wide { All (λ x. All (IsWide (column_of x) key (slot_at rows.now)) (named T.name side items.now)) indexes.old.items }
+    ensures taken { EachTurns (Taken key (slot_at rows.now) (named T.name side items.now)) indexes.old.items indexes.new.items }
+{
+    for index in indexes.iter_mut() {
+        index.take_each(rows, key, items, side);
+    }
+}
+
+/// Puts the entries into each index.
+pub fn put_into_all<T: Names>(
+    rows: &Partitions,
+    key: usize,
+    indexes: &mut Vec<Index>,
+    items: &[T],
+    side: Side,
+)
+    requires keep { (held : List RowRef) × (All (Keeps key (slot_at rows.now) held) indexes.old.items)
+        × KeysApart key (slot_at rows.now) (named T.name side items.now ++ held) }
+    requires wide { All (λ x. All (IsWide (column_of x) key (slot_at rows.now)) (named T.name side items.now)) indexes.old.items }
+    requires spare { All (λ x. length (named T.name side items.now) ≤ spare_of x) indexes.old.items }
+    ensures put { EachTurns (Put key (slot_at rows.now) (named T.name side items.now)) indexes.old.items indexes.new.items }
+{
+    for index in indexes.iter_mut() {
+        index.put_each(rows, key, items, side);
+    }
+}
+
+/// Makes room for at least `n` more entries in each index.
+pub fn reserve_all(alloc: Global, indexes: &mut Vec<Index>, n: usize) -> Result<(), AllocError>
+    ensures grown { EachTurns Grown indexes.old.items indexes.new.items }
+    ensures room { OnOk result (EachTurns (GrownTo n) indexes.old.items indexes.new.items) }
+{
+    for index in indexes.iter_mut() {
+        index.reserve(alloc, n)?;
+    }
+    Ok(())
+}

@@ -1,0 +1,94 @@
+//! One table's rows with the index on its key and any further indexes.
+ghost use Rattle.std.specs.Prelude.{◌≡◌, ◌<◌, ◌≤◌, [], length};
+ghost use Rattle.mm_value.specs.declared.row_ref.RowRef.{RowRef};
+ghost use Rattle.mm_partition.specs.Places.{Free, Live, IsLive, slot_at, extent_of};
+
+mod apply;
+mod indexing;
+mod lookup;
+mod reads;
+mod settle;
+
+use crate::index::Index;
+use mm_order::OrderedRefs;
+use mm_partition::Partitions;
+use mm_value::{Row, RowRef};
+use std::alloc::Global;
+use std::marker::Model;
+use ttree::{Iter, TTree};
+
+/// The rows of one table, found by references that stay as long as the rows live (tuple pointers of
+/// Lehman and Carey, SIGMOD 1986), with a T-tree over their key and any number of further indexes,
+/// which keep references alone (Lehman and Carey, VLDB 1986).
+#[derive(Drop)]
+pub struct Relation {
+    width: usize,
+    key: usize,
+    rows: Partitions,
+    by_key: TTree,
+    indexes: Vec<Index>,
+}
+
+impl Model for Relation {
+    ghost use Rattle.mm_partition.specs.Places.{slot_at};
+    ghost use Rattle.mm_relation.specs.Kept.{StoredRows, IsKept};
+
+    ghost Value = { StoredRows };
+
+    ghost view = { λ t. record {
+      width = t.width;
+      key = t.key;
+      places = t.rows;
+      refs = t.by_key.refs;
+      spare = t.by_key.spare;
+      indexes = t.indexes.items;
+    } };
+
+    ghost invariant = { λ t. IsKept t.width t.key (slot_at t.rows) t.by_key.refs t.indexes.items };
+}
+
+impl Relation {
+    /// No rows, of so many columns, with this one as the key, and no further index. It takes no memory.
+    pub fn new(alloc: Global, width: usize, key: usize) -> Relation
+        requires { key < width }
+        ensures width { result.width ≡ width }
+        ensures key { result.key ≡ key }
+        ensures places { (at : RowRef) → slot_at result.places at ≡ Free }
+        ensures extent { extent_of result.places ≡ 0 }
+        ensures room { result.places.room ≡ 0 }
+        ensures refs { result.refs ≡ [] }
+        ensures spare { result.spare ≡ 0 }
+        ensures indexes { result.indexes ≡ [] }
+    {
+        Relation {
+            width,
+            key,
+            rows: Partitions::new(alloc),
+            by_key: TTree::new(alloc),
+            indexes: Vec::new(alloc),
+        }
+    }
+
+    /// How many rows there are.
+    pub fn len(&self) -> usize
+        ensures { result ≡ length self.now.refs }
+    {
+        self.by_key.len()
+    }
+
+    /// The row of a live reference.
+    pub fn row(&self, at: RowRef) -> &Row
+        requires { IsLive self.now.places at }
+        ensures { slot_at self.now.places at ≡ Live result.now }
+    {
+        self.rows.get(at)
+    }
+
+    /// The references in the order of the key, without a copy, where there are at most 1,048,576.
+    pub fn by_key(&self) -> Iter<'_>
+        requires { length self.now.refs ≤ 1048576 }
+        ensures { result ≡ self.now.refs }
+    {
+        self.by_key.iter()
+    }
+}

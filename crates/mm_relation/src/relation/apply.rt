@@ -1,0 +1,138 @@
+//! Edits of a relation, all or none.
+ghost use Rattle.std.specs.Prelude.{◌≡◌, ◌≤◌, [], List, length, All, OnOk, OnErr};
+ghost use Rattle.mm_value.specs.declared.row_ref.RowRef.{RowRef};
+ghost use Rattle.mm_value.specs.declared.values.Value.{Value};
+ghost use Rattle.mm_partition.specs.Places.{Hidden, slot_at};
+ghost use Rattle.mm_relation.specs.declared.names.Side.TheVariants.{New, Old};
+ghost use Rattle.mm_relation.specs.Before.{before, StandsBack};
+ghost use Rattle.mm_relation.specs.Differs.{Differs};
+ghost use Rattle.mm_relation.specs.Edits.{named, entry_name, new_rows, added_count, removed};
+ghost use Rattle.mm_relation.specs.Changes.{Changes, Standing, AreHidden};
+ghost use Rattle.mm_relation.specs.Index.{InOrder, EachTurns, SameIndex, spare_of};
+ghost use Rattle.mm_relation.specs.Kept.{SameButRoom, KeysStayApart, HasRowsAfter};
+
+use super::Relation;
+use crate::change::change_each;
+use crate::edits::{Edit, count_added};
+use crate::indexes::{put_into_all, reserve_all, take_from_all};
+use crate::log::Log;
+use crate::names::Side;
+use crate::tree_entries::{put_each, take_each};
+use mm_order::OrderedRefs;
+use std::alloc::{AllocError, Global};
+
+impl Relation {
+    /// Makes all edits, and notes each in an empty log: a row that is changed keeps its reference, a new row gets a
+    /// free one, and a row that goes is hidden. Every growth comes first: room for the rows that are
+    /// added, for an entry of each edit in the log, and for a reference of each in every index. Then the old
+    /// references go out of every index, the rows are changed where they stand, and the new references come
+    /// in. `AllocError` where memory is refused; then all is as before, but for spare room.
+    ///
+    /// The edits have to stand: each names a live row, no two the same one; each new row has the relation's
+    /// width; and of the rows that are kept and the new ones no two have one key.
+    pub fn apply(
+        &mut self,
+        alloc: Global,
+        edits: Vec<Edit>,
+        log: &mut Log,
+    ) -> Result<(), AllocError>
+        requires empty { log.old.entries ≡ [] }
+        requires standing { Standing (slot_at self.old.places) edits.items }
+        requires wide { All (λ row. length row ≡ self.old.width) (new_rows edits.items) }
+        requires keys { KeysStayApart self.old edits.items }
+        ensures changes { OnOk result
+            (Changes edits.items (slot_at self.old.places) log.new.entries (slot_at self.new.places)) }
+        ensures rows { OnOk result (HasRowsAfter self.old edits.items self.new) }
+        ensures ordered { OnOk result
+            (InOrder self.new.key self.new.key (slot_at self.new.places) self.new.refs) }
+        ensures back { OnOk result
+            (before log.new.entries (slot_at self.new.places) ≡ slot_at self.old.places) }
+        ensures stands { OnOk result (StandsBack log.new.entries (slot_at self.new.places)) }
+        ensures hidden { OnOk result (AreHidden (slot_at self.new.places) (removed log.new.entries)) }
+        ensures still_hidden { OnOk result ((at : RowRef) (row : List Value)
+            → slot_at self.old.places at ≡ Hidden row → slot_at self.new.places at ≡ Hidden row) }
+        ensures differs { OnOk result (Differs (slot_at self.new.places) (slot_at self.old.places)
+            (named entry_name New log.new.entries) (named entry_name Old log.new.entries)) }
+        ensures key { OnOk result (self.new.key ≡ self.old.key) }
+        ensures width { OnOk result (self.new.width ≡ self.old.width) }
+        ensures indexes { OnOk result (EachTurns SameIndex self.old.indexes self.new.indexes) }
+        ensures err { OnErr result (SameButRoom self.old self.new) }
+        ensures err_log { OnErr result (log.new.entries ≡ log.old.entries) }
+    {
+        self.make_room(alloc, edits.as_slice(), log)?;
+        self.change(edits, log);
+        Ok(())
+    }
+
+    /// Makes room for all that the edits add to the rows, the log and the indexes.
+    fn make_room(&mut self, alloc: Global, edits: &[Edit], log: &mut Log) -> Result<(), AllocError>
+        ensures same { SameButRoom self.old self.new }
+        ensures entries { log.new.entries ≡ log.old.entries }
+        ensures room { OnOk result (added_count edits.now ≤ self.new.places.room) }
+        ensures log { OnOk result (length edits.now ≤ log.new.room) }
+        ensures spare { OnOk result (length edits.now ≤ self.new.spare) }
+        ensures spares { OnOk result (All (λ x. length edits.now ≤ spare_of x) self.new.indexes) }
+    {
+        self.rows.reserve(alloc, count_added(edits))?;
+        log.reserve(alloc, edits.len())?;
+        self.by_key.reserve(alloc, edits.len())?;
+        reserve_all(alloc, &mut self.indexes, edits.len())
+    }
+
+    /// Makes all edits in room that is there, and notes them.
+    fn change(&mut self, edits: Vec<Edit>, log: &mut Log)
+        requires room { added_count edits.items ≤ self.old.places.room }
+        requires log { length edits.items ≤ log.old.room }
+        requires empty { log.old.entries ≡ [] }
+        requires spare { length edits.items ≤ self.old.spare }
+        requires spares { All (λ x. length edits.items ≤ spare_of x) self.old.indexes }
+        requires standing { Standing (slot_at self.old.places) edits.items }
+        requires wide { All (λ row. length row ≡ self.old.width) (new_rows edits.items) }
+        requires keys { KeysStayApart self.old edits.items }
+        ensures changes { Changes edits.items (slot_at self.old.places) log.new.entries (slot_at self.new.places) }
+        ensures back { before log.new.entries (slot_at self.new.places) ≡ slot_at self.old.places }
+        ensures stands { StandsBack log.new.entries (slot_at self.new.places) }
+        ensures hidden { AreHidden (slot_at self.new.places) (removed log.new.entries) }
+        ensures still_hidden { (at : RowRef) (row : List Value)
+            → slot_at self.old.places at ≡ Hidden row → slot_at self.new.places at ≡ Hidden row }
+        ensures differs { Differs (slot_at self.new.places) (slot_at self.old.places)
+            (named entry_name New log.new.entries) (named entry_name Old log.new.entries) }
+        ensures rows { HasRowsAfter self.old edits.items self.new }
+        ensures ordered { InOrder self.new.key self.new.key (slot_at self.new.places) self.new.refs }
+        ensures key { self.new.key ≡ self.old.key }
+        ensures width { self.new.width ≡ self.old.width }
+        ensures indexes { EachTurns SameIndex self.old.indexes self.new.indexes }
+    {
+        take_each(
+            &self.rows,
+            self.key,
+            self.key,
+            &mut self.by_key,
+            edits.as_slice(),
+            Side::Old,
+        );
+        take_from_all(
+            &self.rows,
+            self.key,
+            &mut self.indexes,
+            edits.as_slice(),
+            Side::Old,
+        );
+        change_each(&mut self.rows, edits, log);
+        put_each(
+            &self.rows,
+            self.key,
+            self.key,
+            &mut self.by_key,
+            log.entries(),
+            Side::New,
+        );
+        put_into_all(
+            &self.rows,
+            self.key,
+            &mut self.indexes,
+            log.entries(),
+            Side::New,
+        );
+    }
+}

@@ -1,0 +1,35 @@
+//! Look-ups along the key.
+ghost use Rattle.std.specs.Prelude.{◌≡◌, ◌≢◌, Contains, All, IfSome, IfNone, Some, slice_get};
+ghost use Rattle.mm_partition.specs.Places.{slot_at};
+ghost use Rattle.mm_relation.specs.Refs.{row_at};
+
+use super::Relation;
+use crate::at_value::AtValue;
+use crate::by_column::ByColumn;
+use mm_order::Seek;
+use mm_value::{RowRef, Value};
+
+impl Relation {
+    /// The reference of the row that has this key, none where no row has it. It searches the T-tree
+    /// over the key (Lehman and Carey, VLDB 1986).
+    pub fn find(&self, key: &Value) -> Option<RowRef>
+        ensures held { IfSome result (Contains self.now.refs) }
+        ensures fits { IfSome result (λ at. slice_get (row_at (slot_at self.now.places) at) self.now.key ≡ Some key.now) }
+        ensures none { IfNone result
+            (All (λ at. slice_get (row_at (slot_at self.now.places) at) self.now.key ≢ Some key.now) self.now.refs) }
+    {
+        let order = ByColumn {
+            rows: &self.rows,
+            column: self.key,
+            key: self.key,
+        };
+        let probe = AtValue {
+            rows: &self.rows,
+            column: self.key,
+            key: self.key,
+            sought: key,
+        };
+        let mut seek = Seek::new(&probe);
+        self.by_key.find(&order, &mut seek)
+    }
+}

@@ -1,0 +1,79 @@
+//! Reading along the indexes.
+ghost use Rattle.std.specs.Prelude.{◌≡◌, ℕ, ◌≤◌, length, OnOk, OnErr};
+ghost use Rattle.std.specs.Option.{option_copied};
+ghost use Rattle.mm_partition.specs.Places.{slot_at};
+ghost use Rattle.mm_schema.specs.declared.index.IndexKind.TheVariants as kind;
+ghost use Rattle.mm_relation.specs.Reads.{HasIndex, IsWalk, IsRange, AreMatches, Appends};
+
+use super::Relation;
+use crate::hash_reads::copy_matches;
+use crate::index::Index;
+use crate::tree_reads::{Ends, copy_range};
+use mm_value::{RowRef, Value};
+use std::alloc::{AllocError, Global};
+use ttree::Iter;
+
+impl Relation {
+    /// The references of all rows along the TREE index at a place, counted from 0: in the order of its
+    /// column, those of one value in the order of the key. Without a copy, where there are at most
+    /// 1,048,576 rows.
+    pub fn tree_walk(&self, index: usize) -> Iter<'_>
+        requires tree { (column : ℕ) × HasIndex self.now.indexes index column kind.Tree }
+        requires few { length self.now.refs ≤ 1048576 }
+        ensures { (column : ℕ) → HasIndex self.now.indexes index column kind.Tree → IsWalk column self.now result }
+    {
+        match &self.indexes[index] {
+            Index::Tree { refs, .. } => refs.iter(),
+            Index::Hash { .. } => unreachable!(),
+        }
+    }
+
+    /// Appends the references of the rows whose values in the column of the TREE index at a place are
+    /// between two ends, these included, in the order of the walk along it. An end that is not given
+    /// leaves its side open. `AllocError` where memory is refused; then `out` holds what it held.
+    pub fn tree_range(
+        &self,
+        alloc: Global,
+        index: usize,
+        low: Option<&Value>,
+        high: Option<&Value>,
+        out: &mut Vec<RowRef>,
+    ) -> Result<(), AllocError>
+        requires { (column : ℕ) × HasIndex self.now.indexes index column kind.Tree }
+        ensures ok { OnOk result ((column : ℕ) → HasIndex self.now.indexes index column kind.Tree
+            → Appends (IsRange column self.now (option_copied low.entry) (option_copied high.entry)) out.old.items out.new.items) }
+        ensures err { OnErr result (out.new.items ≡ out.old.items) }
+    {
+        match &self.indexes[index] {
+            Index::Tree { column, refs } => {
+                let ends = Ends { low, high };
+                copy_range(alloc, &self.rows, *column, self.key, refs, ends, out)
+            }
+            Index::Hash { .. } => unreachable!(),
+        }
+    }
+
+    /// Appends the references of the rows whose value in the column of the HASH index at a place is this
+    /// one, in no promised order. A look-up by modified linear hashing (Lehman and Carey, VLDB 1986)
+    /// gives the rows whose values have its hash; of these the ones that have it are kept.
+    /// `AllocError` where memory is refused; then `out` holds what it held.
+    pub fn hash_matches(
+        &self,
+        alloc: Global,
+        index: usize,
+        value: &Value,
+        out: &mut Vec<RowRef>,
+    ) -> Result<(), AllocError>
+        requires { (column : ℕ) × HasIndex self.now.indexes index column kind.Hash }
+        ensures ok { OnOk result ((column : ℕ) → HasIndex self.now.indexes index column kind.Hash
+            → Appends (AreMatches column (slot_at self.now.places) value.now self.now.refs) out.old.items out.new.items) }
+        ensures err { OnErr result (out.new.items ≡ out.old.items) }
+    {
+        match &self.indexes[index] {
+            Index::Tree { .. } => unreachable!(),
+            Index::Hash { column, pairs } => {
+                copy_matches(alloc, &self.rows, *column, pairs, value, out)
+            }
+        }
+    }
+}

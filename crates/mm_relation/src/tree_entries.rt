@@ -1,0 +1,88 @@
+//! The references of many rows, out of a tree and into it.
+ghost use Rattle.std.specs.Prelude.{◌≡◌, ◌≢◌, ◌+◌, ◌≤◌, ◌++◌, List, length, All, Contains, IsPermutation};
+ghost use Rattle.std.specs.declared.cmp.Ordering.TheVariants.{Equal};
+ghost use Rattle.mm_value.specs.declared.row_ref.RowRef.{RowRef};
+ghost use Rattle.mm_order.specs.Refs.{AddsInOrder};
+ghost use Rattle.mm_partition.specs.Places.{slot_at};
+ghost use Rattle.mm_relation.specs.Refs.{IsWide, refs_by};
+ghost use Rattle.mm_relation.specs.Edits.{named, Among};
+ghost use Rattle.mm_relation.specs.Index.{InOrder, KeysApart};
+
+use crate::by_column::ByColumn;
+use crate::names::{Names, Side};
+use mm_order::OrderedRefs;
+use mm_partition::Partitions;
+use mm_value::RowRef;
+
+/// Puts a reference into a tree that orders rows by a column.
+fn put<L: OrderedRefs>(rows: &Partitions, column: usize, key: usize, tree: &mut L, at: RowRef)
+    requires spare { 1 ≤ L.spare tree.old }
+    requires ordered { InOrder column key (slot_at rows.now) (L.refs tree.old) }
+    requires wide { IsWide column key (slot_at rows.now) at }
+    requires apart { All (λ a. refs_by column key (slot_at rows.now) a at ≢ Equal) (L.refs tree.old) }
+    ensures refs { AddsInOrder (refs_by column key (slot_at rows.now)) (L.refs tree.old) at (L.refs tree.new) }
+    ensures ordered { InOrder column key (slot_at rows.now) (L.refs tree.new) }
+    ensures spare { L.spare tree.old ≤ L.spare tree.new + 1 }
+{
+    let order = ByColumn { rows, column, key };
+    tree.insert(&order, at);
+}
+
+/// Takes a reference out of a tree that orders rows by a column and has it.
+fn take<L: OrderedRefs>(rows: &Partitions, column: usize, key: usize, tree: &mut L, at: RowRef)
+    requires ordered { InOrder column key (slot_at rows.now) (L.refs tree.old) }
+    requires wide { IsWide column key (slot_at rows.now) at }
+    requires held { Contains (L.refs tree.old) at }
+    ensures refs { AddsInOrder (refs_by column key (slot_at rows.now)) (L.refs tree.new) at (L.refs tree.old) }
+    ensures ordered { InOrder column key (slot_at rows.now) (L.refs tree.new) }
+    ensures spare { L.spare tree.old ≤ L.spare tree.new }
+{
+    let order = ByColumn { rows, column, key };
+    tree.remove(&order, at);
+}
+
+/// Takes the references out that the items name, each of which the tree has.
+pub fn take_each<L: OrderedRefs, T: Names>(
+    rows: &Partitions,
+    column: usize,
+    key: usize,
+    tree: &mut L,
+    items: &[T],
+    side: Side,
+)
+    requires ordered { InOrder column key (slot_at rows.now) (L.refs tree.old) }
+    requires held { Among (L.refs tree.old) (named T.name side items.now) }
+    ensures refs { (kept : List RowRef) → IsPermutation (L.refs tree.old) (named T.name side items.now ++ kept) → IsPermutation (L.refs tree.new) kept }
+    ensures ordered { InOrder column key (slot_at rows.now) (L.refs tree.new) }
+    ensures spare { L.spare tree.old ≤ L.spare tree.new }
+{
+    for item in items {
+        if let Some(at) = item.name(side) {
+            take(rows, column, key, tree, at);
+        }
+    }
+}
+
+/// Puts the references in that the items name.
+pub fn put_each<L: OrderedRefs, T: Names>(
+    rows: &Partitions,
+    column: usize,
+    key: usize,
+    tree: &mut L,
+    items: &[T],
+    side: Side,
+)
+    requires spare { length (named T.name side items.now) ≤ L.spare tree.old }
+    requires ordered { InOrder column key (slot_at rows.now) (L.refs tree.old) }
+    requires wide { All (IsWide column key (slot_at rows.now)) (named T.name side items.now) }
+    requires apart { KeysApart key (slot_at rows.now) (named T.name side items.now ++ L.refs tree.old) }
+    ensures refs { IsPermutation (named T.name side items.now ++ L.refs tree.old) (L.refs tree.new) }
+    ensures ordered { InOrder column key (slot_at rows.now) (L.refs tree.new) }
+    ensures spare { L.spare tree.old ≤ L.spare tree.new + length (named T.name side items.now) }
+{
+    for item in items {
+        if let Some(at) = item.name(side) {
+            put(rows, column, key, tree, at);
+        }
+    }
+}

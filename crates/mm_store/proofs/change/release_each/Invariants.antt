@@ -1,8 +1,0 @@
-use Rattle.std.proofs.Common.{drop}
-use Rattle.mm_partition.specs.Places.{slot_at}
-use Rattle.mm_store.specs.Edits.{removed}
-use Rattle.mm_store.proofs.Removed.{Freeing}
-use Rattle.mm_store.proofs.change.release_each.Given as goal
-
-abbrev pub invariant-loop-entry : goal.invariant-loop-entry
-invariant-loop-entry l = Freeing (slot_at l.fn.rows) (slot_at l.rows) (removed l.entries) (removed (drop l.entry-index l.entries))
