@@ -13,6 +13,7 @@ use Rattle.mm_relation.specs.Index.{KeysApart, Keeps, column_of}
 use Rattle.mm_relation.specs.Kept.{IsKept}
 use Rattle.mm_relation.specs.declared.index.Index.{Index}
 use Rattle.mm_relation.specs.declared.names.Side.{Side}
+use Rattle.mm_relation.proofs.RowLists.{KeysApart-ordered}
 
 -- references name themselves
 pub named-refs : (side : Side) (refs : List RowRef) → named ref_name side refs ≡ refs
@@ -22,11 +23,6 @@ named-refs side (at ∷ rest) = ap (λ (xs : List RowRef). at ∷ xs) (named-ref
 pub named-refs-nil : (side : Side) (refs : List RowRef) → named ref_name side refs ++ [] ≡ refs
 named-refs-nil side refs = append-nil (named ref_name side refs) ∙ named-refs side refs
 
-not_equal : (o : Ordering) → ordering_then o o ≡ Less → o ≢ Equal
-not_equal Less e = λ f. cc
-not_equal Equal e = λ f. cc
-not_equal Greater e = λ f. cc
-
 module _ (width key : ℕ) (now : Slots) (refs : List RowRef) (indexes : List Index) (was : IsKept width key now refs indexes) where
   pub wide_refs : (column : ℕ) → column < width → All (IsWide column key now) refs
   wide_refs column within k d below =
@@ -35,9 +31,11 @@ module _ (width key : ℕ) (now : Slots) (refs : List RowRef) (indexes : List In
       let size : length live.0 ≡ width = was.wide at live.0 live.1 in
       record { row = live.0; live = live.1; column_in = omega arith; key_in = omega (arith, was.key_in) }
 
+  pub live_refs : All (HasRow now) refs
+  live_refs k d below = (was.held (get_or refs k d)).0 (Contains-get_or refs k d below)
+
   pub apart_refs : KeysApart key now refs
-  apart_refs i j d before below =
-      not_equal (column_cmp key (row_at now (get_or refs i d)) (row_at now (get_or refs j d))) (was.by_key.ascending i j d before below)
+  apart_refs = KeysApart-ordered key now refs was.by_key
 
   pub IsKept-added : (x : Index) → column_of x < width → Keeps key now refs x → IsKept width key now refs (indexes ++ x ∷ [])
   IsKept-added x within keeps = record {

@@ -128,11 +128,13 @@ module _ (width key : ℕ) (old new : Slots) (refs : List RowRef) (indexes : Lis
       (λ (absent : Contains gone at → ⊥). let it : HasRow old at = (live.0, sym (frees.others at absent) ∙ live.1) in it)
       (among gone at)
 
+  -- the rows stay as they are
+  pub stays_freed : IsKept width key old refs indexes → Same old new refs
+  stays_freed was k d within = live_stays (get_or refs k d) ((was.held (get_or refs k d)).0 (Contains-get_or refs k d within))
+
   pub IsKept-freed : IsKept width key old refs indexes → IsKept width key new refs indexes
   IsKept-freed was =
-      let same : Same old new refs = λ k d within.
-      live_stays (get_or refs k d) ((was.held (get_or refs k d)).0 (Contains-get_or refs k d within))
-      in
+      let same : Same old new refs = stays_freed was in
       record {
         key_in = was.key_in;
         columns = was.columns;

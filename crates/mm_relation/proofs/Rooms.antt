@@ -4,7 +4,9 @@ use Rattle.std.specs.Prelude.{map, IsPermutation}
 use Rattle.mm_value.specs.declared.row_ref.RowRef.{RowRef}
 use Rattle.mm_value.specs.declared.values.Value.{Value}
 use Rattle.mm_partition.specs.Places.{Hidden, slot_at}
+use Rattle.mm_schema.specs.Rows.{changed}
 use Rattle.mm_relation.specs.Refs.{Slots, row_at}
+use Rattle.mm_relation.specs.RowLists.{edit_pairs, rows_of}
 use Rattle.mm_relation.specs.Differs.{Differs}
 use Rattle.mm_relation.specs.Changes.{Changes, Standing}
 use Rattle.mm_relation.specs.declared.edits.Edit.{Edit}
@@ -91,6 +93,13 @@ module _ (old mid : StoredRows) (same : SameButRoom old mid) where
   HasRowsAfter-same edits new rows kept stay =
       subst (λ (now : Slots). IsPermutation (rows_after now edits kept) (map (row_at (slot_at new.places)) new.refs)) slots_same
       (rows kept (subst (λ (refs : List RowRef). Stay refs edits kept) (sym same.refs) stay))
+
+  pub row_list_same : (edits : List Edit) (new : StoredRows) → rows_of new ≡ changed mid.key (edit_pairs (slot_at mid.places) edits) (rows_of mid)
+      → rows_of new ≡ changed old.key (edit_pairs (slot_at old.places) edits) (rows_of old)
+  row_list_same edits new is =
+      let as_refs : map (row_at (slot_at mid.places)) mid.refs ≡ map (row_at (slot_at old.places)) old.refs =
+      (λ i. map (row_at (slots_same i)) (same.refs i)) in
+      is ∙ (λ i. changed (same.key i) (edit_pairs (slots_same i) edits) (as_refs i))
 
   pub Differs-same : (now : Slots) (outs ins : List RowRef) → Differs now (slot_at mid.places) outs ins
       → Differs now (slot_at old.places) outs ins

@@ -5,7 +5,10 @@ pub mod Edits
 pub mod HashedPairs
 pub mod Index
 pub mod Kept
+pub mod KeyRows
 pub mod LogEntries
 pub mod Orders
 pub mod Reads
 pub mod Refs
+pub mod RowLists
+pub mod Sample

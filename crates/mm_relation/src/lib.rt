@@ -12,6 +12,7 @@ mod hash_entries;
 mod hash_reads;
 mod index;
 mod indexes;
+mod key_rows;
 mod log;
 mod names;
 mod relation;

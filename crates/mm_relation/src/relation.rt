@@ -1,13 +1,16 @@
 //! One table's rows with the index on its key and any further indexes.
-ghost use Rattle.std.specs.Prelude.{◌≡◌, ◌<◌, ◌≤◌, [], length};
+ghost use Rattle.std.specs.Prelude.{◌≡◌, ◌<◌, ◌≤◌, [], length, All};
 ghost use Rattle.mm_value.specs.declared.row_ref.RowRef.{RowRef};
 ghost use Rattle.mm_partition.specs.Places.{Free, Live, IsLive, slot_at, extent_of};
 
 mod apply;
+mod checks;
 mod indexing;
+mod laws;
 mod lookup;
 mod reads;
 mod settle;
+mod twins;
 
 use crate::index::Index;
 use mm_order::OrderedRefs;
@@ -87,7 +90,8 @@ impl Relation {
     /// The references in the order of the key, without a copy, where there are at most 1,048,576.
     pub fn by_key(&self) -> Iter<'_>
         requires { length self.now.refs ≤ 1048576 }
-        ensures { result ≡ self.now.refs }
+        ensures refs { result ≡ self.now.refs }
+        ensures live { All (IsLive self.now.places) result }
     {
         self.by_key.iter()
     }

@@ -1,7 +1,218 @@
 //! What no clause says: that ample memory is never refused. And each call once on real rows.
-use crate::Relation;
-use mm_value::Value;
+ghost use Rattle.std.specs.Prelude.{◌≡◌, List, [], ◌∷◌, length, All, Contains, Some, IfSome, IfOk};
+ghost use Rattle.mm_value.specs.declared.row_ref.RowRef.{RowRef as Ref};
+ghost use Rattle.mm_relation.specs.declared.names.Side.TheVariants as side;
+ghost use Rattle.mm_relation.specs.Edits.{edit_name, named, new_rows};
+ghost use Rattle.mm_relation.specs.Kept.{Stay};
+ghost use Rattle.mm_relation.specs.Sample.{IsSample};
+
+use crate::{Edit, Log, Relation};
+use mm_schema::IndexKind;
+use mm_value::{Row, RowRef, Value};
+use std::alloc::{AllocError, Global};
 use std::test::Fail;
+
+/// No rows, with a TREE index on the second column at place 0, and a HASH index at place 1.
+fn sample(alloc: Global) -> Result<Relation, AllocError>
+    ensures { IfOk result IsSample }
+{
+    let mut relation = Relation::new(alloc, 2, 0);
+    relation.add_index(alloc, 1, IndexKind::Tree)?;
+    relation.add_index(alloc, 1, IndexKind::Hash)?;
+    Ok(relation)
+}
+
+/// A row of a key and its last decimal digit.
+fn row_of(alloc: Global, key: i64) -> Result<Row, AllocError>
+    ensures { IfOk result (λ row. length row ≡ 2) }
+{
+    let values = vec![in alloc; Value::Int(key), Value::Int(key % 10)]?;
+    Ok(Row::new(values))
+}
+
+/// The addition of a row for each key.
+fn additions(alloc: Global, keys: &[i64]) -> Result<Vec<Edit>, AllocError>
+    ensures none { IfOk result (λ edits. named edit_name side.Old edits.items ≡ []) }
+    ensures wide { IfOk result (λ edits. All (λ row. length row ≡ 2) (new_rows edits.items)) }
+{
+    let mut edits = Vec::new(alloc);
+    for key in keys {
+        edits.push(Edit::Add(row_of(alloc, *key)?))?;
+    }
+    Ok(edits)
+}
+
+/// The edit of a row into that of another key, or out.
+fn edit_of(alloc: Global, at: RowRef, to: Option<i64>) -> Result<Edit, AllocError>
+    ensures old { IfOk result (λ edit. edit_name edit side.Old ≡ Some at) }
+    ensures wide { IfOk result (λ edit. All (λ row. length row ≡ 2) (new_rows (edit ∷ []))) }
+{
+    match to {
+        None => Ok(Edit::Gone(at)),
+        Some(key) => Ok(Edit::Swap(at, row_of(alloc, key)?)),
+    }
+}
+
+/// Makes the edits for good, and says that it did, unless two rows would have one key then.
+fn make(relation: &mut Relation, alloc: Global, edits: Vec<Edit>) -> Result<bool, AllocError>
+    requires sample { IsSample relation.old }
+    requires stay { (kept : List Ref) × Stay relation.old.refs edits.items kept }
+    requires wide { All (λ row. length row ≡ 2) (new_rows edits.items) }
+    ensures { IsSample relation.new }
+{
+    relation.is_kept();
+    if relation.has_twins_after(alloc, edits.as_slice())? {
+        return Ok(false);
+    }
+    let mut log = Log::new(alloc);
+    relation.apply(alloc, edits, &mut log)?;
+    relation.settle(&mut log);
+    Ok(true)
+}
+
+/// Adds a row for each key.
+fn try_put(relation: &mut Relation, alloc: Global, keys: &[i64]) -> Result<bool, AllocError>
+    requires { IsSample relation.old }
+    ensures { IsSample relation.new }
+{
+    let edits = additions(alloc, keys)?;
+    make(relation, alloc, edits)
+}
+
+/// The same where memory is refused once at most.
+fn put(relation: &mut Relation, alloc: Global, keys: &[i64]) -> Result<bool, AllocError>
+    requires { IsSample relation.old }
+    ensures { IsSample relation.new }
+{
+    match try_put(relation, alloc, keys) {
+        Ok(done) => Ok(done),
+        Err(_) => try_put(relation, alloc, keys),
+    }
+}
+
+/// The reference of the row that has a key.
+fn at_key(relation: &Relation, key: i64) -> Option<RowRef>
+    ensures { IfSome result (Contains relation.now.refs) }
+{
+    relation.find(&Value::Int(key))
+}
+
+/// Turns the row of one key into that of another, or takes it out.
+fn try_turn(
+    relation: &mut Relation,
+    alloc: Global,
+    key: i64,
+    to: Option<i64>,
+) -> Result<bool, AllocError>
+    requires { IsSample relation.old }
+    ensures { IsSample relation.new }
+{
+    let Some(at) = at_key(relation, key) else {
+        return Ok(false);
+    };
+    let mut edits = Vec::new(alloc);
+    edits.push(edit_of(alloc, at, to)?)?;
+    make(relation, alloc, edits)
+}
+
+/// The same where memory is refused once at most.
+fn turn(
+    relation: &mut Relation,
+    alloc: Global,
+    key: i64,
+    to: Option<i64>,
+) -> Result<bool, AllocError>
+    requires { IsSample relation.old }
+    ensures { IsSample relation.new }
+{
+    match try_turn(relation, alloc, key, to) {
+        Ok(done) => Ok(done),
+        Err(_) => try_turn(relation, alloc, key, to),
+    }
+}
+
+/// Takes the row of one key out, and turns that of another into a row of that key.
+fn try_follow(
+    relation: &mut Relation,
+    alloc: Global,
+    gone: i64,
+    next: i64,
+) -> Result<bool, AllocError>
+    requires { IsSample relation.old }
+    ensures { IsSample relation.new }
+{
+    let Some(first) = at_key(relation, gone) else {
+        return Ok(false);
+    };
+    let Some(second) = at_key(relation, next) else {
+        return Ok(false);
+    };
+    if first == second {
+        return Ok(false);
+    }
+    let mut edits = Vec::new(alloc);
+    edits.push(edit_of(alloc, first, None)?)?;
+    edits.push(edit_of(alloc, second, Some(gone))?)?;
+    make(relation, alloc, edits)
+}
+
+/// The same where memory is refused once at most.
+fn follow(relation: &mut Relation, alloc: Global, gone: i64, next: i64) -> Result<bool, AllocError>
+    requires { IsSample relation.old }
+    ensures { IsSample relation.new }
+{
+    match try_follow(relation, alloc, gone, next) {
+        Ok(done) => Ok(done),
+        Err(_) => try_follow(relation, alloc, gone, next),
+    }
+}
+
+/// The last digit that stands beside a key, none where no row has the key.
+fn digit_of(relation: &Relation, key: i64) -> Option<i64> {
+    relation.is_kept();
+    let at = at_key(relation, key)?;
+    let row = relation.row(at);
+    if row.len() != 2 {
+        return None;
+    }
+    match row.value(1) {
+        Value::Int(number) => Some(*number),
+        Value::Text(_) => None,
+    }
+}
+
+/// How many rows have a digit between two ends, by the TREE index.
+fn count_between(
+    relation: &Relation,
+    alloc: Global,
+    low: i64,
+    high: i64,
+) -> Result<usize, AllocError>
+    requires { IsSample relation.now }
+{
+    let mut found = Vec::new(alloc);
+    let low = Value::Int(low);
+    let high = Value::Int(high);
+    if relation
+        .tree_range(alloc, 0, Some(&low), Some(&high), &mut found)
+        .is_err()
+    {
+        relation.tree_range(alloc, 0, Some(&low), Some(&high), &mut found)?;
+    }
+    Ok(found.len())
+}
+
+/// How many rows have a digit, by the HASH index.
+fn count_of(relation: &Relation, alloc: Global, digit: i64) -> Result<usize, AllocError>
+    requires { IsSample relation.now }
+{
+    let mut found = Vec::new(alloc);
+    let digit = Value::Int(digit);
+    if relation.hash_matches(alloc, 1, &digit, &mut found).is_err() {
+        relation.hash_matches(alloc, 1, &digit, &mut found)?;
+    }
+    Ok(found.len())
+}
 
 #[test]
 fn starts_empty(rt: HostRuntime) -> Result<(), Fail> {
@@ -9,5 +220,101 @@ fn starts_empty(rt: HostRuntime) -> Result<(), Fail> {
     let rows = Relation::new(alloc, 2, 0);
     assert_eq!(rt; rows.len(), 0);
     assert!(rt; rows.find(&Value::Int(3)).is_none());
+    Ok(())
+}
+
+/// The table of the tests, where memory is refused once at most.
+fn sample_again(alloc: Global) -> Result<Relation, AllocError>
+    ensures { IfOk result IsSample }
+{
+    match sample(alloc) {
+        Ok(relation) => Ok(relation),
+        Err(_) => sample(alloc),
+    }
+}
+
+#[test]
+fn refuses_twins(rt: HostRuntime) -> Result<(), Fail> {
+    let alloc = rt.alloc();
+    let mut relation = sample_again(alloc)?;
+    assert!(rt; put(&mut relation, alloc, &[3, 1, 2])?);
+    assert_eq!(rt; relation.len(), 3);
+
+    // Two new rows of one key, and a new row with the key of an old one.
+    assert!(rt; !put(&mut relation, alloc, &[5, 4, 5])?);
+    assert!(rt; !put(&mut relation, alloc, &[6, 2])?);
+    assert_eq!(rt; relation.len(), 3);
+    assert_eq!(rt; digit_of(&relation, 5), None);
+
+    assert!(rt; put(&mut relation, alloc, &[])?);
+    assert!(rt; put(&mut relation, alloc, &[14])?);
+    assert_eq!(rt; digit_of(&relation, 14), Some(4));
+    Ok(())
+}
+
+#[test]
+fn leaves_out_rows_that_go_or_change(rt: HostRuntime) -> Result<(), Fail> {
+    let alloc = rt.alloc();
+    let mut relation = sample_again(alloc)?;
+    assert!(rt; put(&mut relation, alloc, &[1, 2, 3])?);
+
+    // A row may keep its key or take a free one, but not that of a row that stays.
+    assert!(rt; turn(&mut relation, alloc, 1, Some(1))?);
+    assert!(rt; !turn(&mut relation, alloc, 1, Some(2))?);
+    assert!(rt; turn(&mut relation, alloc, 1, Some(17))?);
+    assert_eq!(rt; digit_of(&relation, 1), None);
+    assert_eq!(rt; digit_of(&relation, 17), Some(7));
+
+    // It may take the key of a row that goes with it.
+    assert!(rt; follow(&mut relation, alloc, 2, 3)?);
+    assert_eq!(rt; relation.len(), 2);
+    assert_eq!(rt; digit_of(&relation, 2), Some(2));
+    assert_eq!(rt; digit_of(&relation, 3), None);
+
+    assert!(rt; turn(&mut relation, alloc, 2, None)?);
+    assert_eq!(rt; relation.len(), 1);
+    assert!(rt; put(&mut relation, alloc, &[2, 3])?);
+    Ok(())
+}
+
+#[test]
+fn keeps_indexes(rt: HostRuntime) -> Result<(), Fail> {
+    let alloc = rt.alloc();
+    let mut relation = sample_again(alloc)?;
+    assert!(rt; put(&mut relation, alloc, &[1, 11, 22, 35, 21])?);
+    assert_eq!(rt; count_between(&relation, alloc, 1, 2)?, 4);
+    assert_eq!(rt; count_of(&relation, alloc, 1)?, 3);
+
+    assert!(rt; turn(&mut relation, alloc, 11, Some(15))?);
+    assert!(rt; turn(&mut relation, alloc, 22, None)?);
+    assert_eq!(rt; count_between(&relation, alloc, 1, 2)?, 2);
+    assert_eq!(rt; count_of(&relation, alloc, 1)?, 2);
+    assert_eq!(rt; count_of(&relation, alloc, 5)?, 2);
+    assert_eq!(rt; count_of(&relation, alloc, 2)?, 0);
+    Ok(())
+}
+
+#[test]
+fn finds_each_of_many_rows(rt: HostRuntime) -> Result<(), Fail> {
+    let alloc = rt.alloc();
+    let mut relation = sample_again(alloc)?;
+    // The multiples of 619 modulo the prime 1,009 go round all numbers.
+    let mut keys = Vec::new(alloc);
+    if keys.reserve(1000).is_err() {
+        keys.reserve(1000)?;
+    }
+    for k in 0..1000u32 {
+        keys.push(i64::from(k * 619 % 1009))?;
+    }
+    assert!(rt; put(&mut relation, alloc, keys.as_slice())?);
+    assert_eq!(rt; relation.len(), 1000);
+    assert!(rt; !put(&mut relation, alloc, &[2000, 619])?);
+
+    for key in &keys {
+        assert_eq!(rt; digit_of(&relation, *key), Some(*key % 10));
+        assert!(rt; turn(&mut relation, alloc, *key, None)?);
+        assert_eq!(rt; digit_of(&relation, *key), None);
+    }
+    assert_eq!(rt; relation.len(), 0);
     Ok(())
 }

@@ -9,6 +9,8 @@ ghost use Rattle.mm_relation.specs.Differs.{Differs};
 ghost use Rattle.mm_relation.specs.Edits.{named, entry_name, new_rows, added_count, removed};
 ghost use Rattle.mm_relation.specs.Changes.{Changes, Standing, AreHidden};
 ghost use Rattle.mm_relation.specs.Index.{InOrder, EachTurns, SameIndex, spare_of};
+ghost use Rattle.mm_schema.specs.Rows.{changed};
+ghost use Rattle.mm_relation.specs.RowLists.{edit_pairs, rows_of};
 ghost use Rattle.mm_relation.specs.Kept.{SameButRoom, KeysStayApart, HasRowsAfter};
 
 use super::Relation;
@@ -43,6 +45,8 @@ impl Relation {
         ensures changes { OnOk result
             (Changes edits.items (slot_at self.old.places) log.new.entries (slot_at self.new.places)) }
         ensures rows { OnOk result (HasRowsAfter self.old edits.items self.new) }
+        ensures row_list { OnOk result (rows_of self.new
+            ≡ changed self.old.key (edit_pairs (slot_at self.old.places) edits.items) (rows_of self.old)) }
         ensures ordered { OnOk result
             (InOrder self.new.key self.new.key (slot_at self.new.places) self.new.refs) }
         ensures back { OnOk result
@@ -98,6 +102,8 @@ impl Relation {
         ensures differs { Differs (slot_at self.new.places) (slot_at self.old.places)
             (named entry_name New log.new.entries) (named entry_name Old log.new.entries) }
         ensures rows { HasRowsAfter self.old edits.items self.new }
+        ensures row_list { rows_of self.new
+            ≡ changed self.old.key (edit_pairs (slot_at self.old.places) edits.items) (rows_of self.old) }
         ensures ordered { InOrder self.new.key self.new.key (slot_at self.new.places) self.new.refs }
         ensures key { self.new.key ≡ self.old.key }
         ensures width { self.new.width ≡ self.old.width }

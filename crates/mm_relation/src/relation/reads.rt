@@ -1,7 +1,7 @@
 //! Reading along the indexes.
-ghost use Rattle.std.specs.Prelude.{◌≡◌, ℕ, ◌≤◌, length, OnOk, OnErr};
+ghost use Rattle.std.specs.Prelude.{◌≡◌, ℕ, ◌≤◌, length, All, OnOk, OnErr};
 ghost use Rattle.std.specs.Option.{option_copied};
-ghost use Rattle.mm_partition.specs.Places.{slot_at};
+ghost use Rattle.mm_partition.specs.Places.{IsLive, slot_at};
 ghost use Rattle.mm_schema.specs.declared.index.IndexKind.TheVariants as kind;
 ghost use Rattle.mm_relation.specs.Reads.{HasIndex, IsWalk, IsRange, AreMatches, Appends};
 
@@ -20,7 +20,8 @@ impl Relation {
     pub fn tree_walk(&self, index: usize) -> Iter<'_>
         requires tree { (column : ℕ) × HasIndex self.now.indexes index column kind.Tree }
         requires few { length self.now.refs ≤ 1048576 }
-        ensures { (column : ℕ) → HasIndex self.now.indexes index column kind.Tree → IsWalk column self.now result }
+        ensures walk { (column : ℕ) → HasIndex self.now.indexes index column kind.Tree → IsWalk column self.now result }
+        ensures live { All (IsLive self.now.places) result }
     {
         match &self.indexes[index] {
             Index::Tree { refs, .. } => refs.iter(),

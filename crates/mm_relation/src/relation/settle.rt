@@ -4,6 +4,7 @@ ghost use Rattle.mm_value.specs.declared.row_ref.RowRef.{RowRef};
 ghost use Rattle.mm_partition.specs.Places.{Free, slot_at};
 ghost use Rattle.mm_relation.specs.Edits.{removed};
 ghost use Rattle.mm_relation.specs.Changes.{AreHidden};
+ghost use Rattle.mm_relation.specs.RowLists.{rows_of};
 
 use super::Relation;
 use crate::change::release_each;
@@ -19,6 +20,7 @@ impl Relation {
         ensures others { (at : RowRef) → (Contains (removed log.old.entries) at → ⊥)
             → slot_at self.new.places at ≡ slot_at self.old.places at }
         ensures refs { self.new.refs ≡ self.old.refs }
+        ensures row_list { rows_of self.new ≡ rows_of self.old }
         ensures indexes { self.new.indexes ≡ self.old.indexes }
         ensures width { self.new.width ≡ self.old.width }
         ensures key { self.new.key ≡ self.old.key }

@@ -1,7 +1,8 @@
+use Rattle.std.proofs.Common.{◌∙◌}
 use Rattle.mm_partition.specs.Places.{slot_at}
 use Rattle.mm_relation.specs.Edits.{named, entry_name}
 use Rattle.mm_relation.specs.declared.names.Side.TheVariants.{Old, New}
-use Rattle.mm_relation.proofs.Rooms.{Standing-same, Changes-same, KeysStayApart-same, HasRowsAfter-same, Differs-same, hidden_same, indexes_same}
+use Rattle.mm_relation.proofs.Rooms.{slots_same, Standing-same, Changes-same, KeysStayApart-same, HasRowsAfter-same, row_list_same, Differs-same, hidden_same, indexes_same}
 use Rattle.mm_relation.proofs.relation.Relation.apply.Goals as goal
 
 pub change-requires-clause-standing : goal.change-requires-clause-standing
@@ -21,6 +22,13 @@ pub returns-clause-rows : goal.returns-clause-rows
 returns-clause-rows c =
     HasRowsAfter-same c.args.self.now c.make_room.new.self c.make_room.ensures.same c.args.edits.items c.change.new.self
     c.change.ensures.rows
+
+pub returns-clause-back : goal.returns-clause-back
+returns-clause-back c = c.change.ensures.back ∙ slots_same c.args.self.now c.make_room.new.self c.make_room.ensures.same
+
+pub returns-clause-row_list : goal.returns-clause-row_list
+returns-clause-row_list c =
+    row_list_same c.args.self.now c.make_room.new.self c.make_room.ensures.same c.args.edits.items c.change.new.self c.change.ensures.row_list
 
 pub returns-clause-differs : goal.returns-clause-differs
 returns-clause-differs c =

@@ -8,6 +8,10 @@ use Rattle.mm_relation.specs.Refs.{row_at}
 use Rattle.mm_relation.specs.Edits.{Among, named, edit_name, entry_name, new_rows}
 use Rattle.mm_relation.specs.Changes.{Changes, Standing}
 use Rattle.mm_relation.specs.Index.{Taken, Put, EachTurns, SameIndex, spare_of}
+use Rattle.mm_value.specs.declared.values.Value.{Value}
+use Rattle.mm_schema.specs.Rows.{changed}
+use Rattle.mm_relation.specs.RowLists.{edit_pairs, rows_of}
+use Rattle.mm_relation.proofs.RowLists.{changed_is, in_key_order}
 use Rattle.mm_relation.specs.Kept.{StoredRows, Stay, rows_after, RowsApart}
 use Rattle.mm_relation.specs.declared.log.Entry.{Entry}
 use Rattle.mm_relation.specs.declared.edits.Edit.{Edit}
@@ -255,6 +259,30 @@ returns-clause-rows c =
     c.self.view_is (λ kept same. rows_moved c.self.inside.width c.self.inside.key (slot_at c.self.inside.rows) c.self.inside.by_key.refs
     c.self.inside.indexes.items c.self.invariant c.args.edits.items standing (slot_at c.change_each.new.rows) c.change_each.new.log.entries
     c.change_each.ensures.changes c.take_each.new.tree.refs stay kept c.put_each.new.tree.refs same moved)
+
+pub returns-clause-row_list : goal.returns-clause-row_list
+returns-clause-row_list c =
+    let standing : Standing (slot_at c.self.inside.rows) c.args.edits.items = subst (λ (v : StoredRows). Standing (slot_at v.places) c.args.edits.items)
+    (sym c.self.view_is) c.requires.standing in
+    let parts : Among c.self.inside.by_key.refs (olds c.args.edits.items) = split c.self.inside.width c.self.inside.key (slot_at c.self.inside.rows)
+    c.self.inside.by_key.refs c.self.inside.indexes.items c.self.invariant c.args.edits.items standing in
+    let given : IsPermutation c.take_each.new.tree.refs parts.0 = c.take_each.ensures.refs parts.0
+    (subst (λ (es : List Edit). IsPermutation c.self.inside.by_key.refs (named edit_name Old es ++ parts.0)) (sym c.as_slice.ensures.value) parts.1) in
+    let stay : Stay c.self.inside.by_key.refs c.args.edits.items c.take_each.new.tree.refs = IsPermutation-trans c.self.inside.by_key.refs
+    (olds c.args.edits.items ++ parts.0) (olds c.args.edits.items ++ c.take_each.new.tree.refs) parts.1
+    (IsPermutation-append_right (olds c.args.edits.items) parts.0 c.take_each.new.tree.refs (IsPermutation-sym c.take_each.new.tree.refs parts.0 given))
+    in
+    let moved : IsPermutation (news c.change_each.new.log.entries ++ c.take_each.new.tree.refs) c.put_each.new.tree.refs = subst
+    (λ (ns : List Entry). IsPermutation (named entry_name New ns ++ c.take_each.new.tree.refs) c.put_each.new.tree.refs) c.entries.ensures
+    c.put_each.ensures.refs in
+    let left : List RowRef = c.take_each.new.tree.refs in
+    let rows : List (List Value) = map (row_at (slot_at c.change_each.new.rows)) c.put_each.new.tree.refs in
+    let after_edits : IsPermutation (rows_after (slot_at c.self.inside.rows) c.args.edits.items left) rows = rows_moved c.self.inside.width
+    c.self.inside.key (slot_at c.self.inside.rows) c.self.inside.by_key.refs c.self.inside.indexes.items c.self.invariant c.args.edits.items standing
+    (slot_at c.change_each.new.rows) c.change_each.new.log.entries c.change_each.ensures.changes left stay left c.put_each.new.tree.refs stay moved in
+    subst (λ (v : StoredRows). rows ≡ changed v.key (edit_pairs (slot_at v.places) c.args.edits.items) (rows_of v)) c.self.view_is
+    (changed_is c.self.inside.key (slot_at c.self.inside.rows) c.self.inside.by_key.refs c.self.invariant.by_key c.args.edits.items left stay rows
+    after_edits (in_key_order c.self.inside.key (slot_at c.change_each.new.rows) c.put_each.new.tree.refs c.put_each.ensures.ordered))
 
 pub returns-clause-stands : goal.returns-clause-stands
 returns-clause-stands c = StandsBack-changes c.args.edits.items c.change_each.new.log.entries (slot_at c.self.inside.rows) (slot_at c.change_each.new.rows)

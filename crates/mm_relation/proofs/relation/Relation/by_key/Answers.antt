@@ -1,0 +1,13 @@
+use Rattle.std.proofs.Common.{List, sym, subst}
+use Rattle.std.specs.List.{All}
+use Rattle.mm_value.specs.declared.row_ref.RowRef.{RowRef}
+use Rattle.mm_partition.specs.Places.{IsLive, slot_at}
+use Rattle.mm_relation.specs.Kept.{StoredRows}
+use Rattle.mm_relation.proofs.Made.{live_refs}
+use Rattle.mm_relation.proofs.relation.Relation.by_key.Goals as goal
+
+pub returns-clause-live : goal.returns-clause-live
+returns-clause-live c =
+    subst (λ (v : StoredRows). All (IsLive v.places) c.iter.result) c.self.view_is
+    (subst (All (IsLive c.self.inside.rows)) (sym c.iter.ensures)
+    (live_refs c.self.inside.width c.self.inside.key (slot_at c.self.inside.rows) c.self.inside.by_key.refs c.self.inside.indexes.items c.self.invariant))

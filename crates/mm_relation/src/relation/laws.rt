@@ -1,0 +1,15 @@
+//! What always holds of a relation.
+ghost use Rattle.mm_partition.specs.Places.{slot_at};
+ghost use Rattle.mm_relation.specs.Kept.{IsKept};
+
+use super::Relation;
+
+impl Relation {
+    /// The references of a relation are those of its live rows, in key order and no two of one key; each live row has
+    /// the relation's width, and each index keeps the references. The call does nothing.
+    pub fn is_kept(&self)
+        ensures { IsKept self.now.width self.now.key (slot_at self.now.places) self.now.refs self.now.indexes }
+    {
+        let _rows = &self.rows;
+    }
+}

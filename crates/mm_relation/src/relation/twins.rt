@@ -1,0 +1,82 @@
+//! Whether edits keep the keys apart, and how many rows they leave.
+ghost use Rattle.std.specs.Prelude.{◌≡◌, ◌&&◌, ◌≤◌, List, length, map, not, IfOk};
+ghost use Rattle.std.specs.List.{list_any};
+ghost use Rattle.mm_value.specs.declared.row_ref.RowRef.{RowRef};
+ghost use Rattle.mm_schema.specs.Rows.{has_twin_keys, same_in_column};
+ghost use Rattle.mm_partition.specs.Places.{slot_at};
+ghost use Rattle.mm_relation.specs.KeyRows.{rows_of, AreByKey, removal_count};
+ghost use Rattle.mm_relation.specs.Kept.{Stay, rows_after};
+ghost use Rattle.mm_relation.specs.Refs.{row_at};
+
+use super::Relation;
+use crate::edits::{Edit, count_added};
+use crate::key_rows::{contains_key, has_equal_neighbours, new_rows, old_rows, sort_by_key};
+use mm_value::Row;
+use std::alloc::{AllocError, Global};
+
+impl Relation {
+    /// Whether two rows would have one key after the edits, each of which names another row of the relation or
+    /// none. It takes O(m log m + m log n) comparisons for m edits among n rows. `AllocError` where memory is
+    /// refused.
+    pub(crate) fn has_twins_after(&self, alloc: Global, edits: &[Edit]) -> Result<bool, AllocError>
+        requires { (kept : List RowRef) × Stay self.now.refs edits.now kept }
+        ensures { IfOk result (λ twins. (kept : List RowRef) → Stay self.now.refs edits.now kept
+            → twins ≡ has_twin_keys self.now.key (rows_after (slot_at self.now.places) edits.now kept)) }
+    {
+        let key = self.key;
+        let mut fresh = new_rows(alloc, edits)?;
+        if fresh.is_empty() {
+            return Ok(false);
+        }
+        sort_by_key(&mut fresh, key);
+        if has_equal_neighbours(fresh.as_slice(), key) {
+            return Ok(true);
+        }
+        let mut gone = old_rows(alloc, &self.rows, edits)?;
+        sort_by_key(&mut gone, key);
+        let twins = fresh
+            .iter()
+            .any(|row| self.has_key_beside(row, gone.as_slice()));
+        Ok(twins)
+    }
+
+    /// How many rows there would be after the edits, each of which names another row of the relation or none, where
+    /// there are at most 1,048,576 now.
+    pub(crate) fn len_after(&self, edits: &[Edit]) -> usize
+        requires stay { (kept : List RowRef) × Stay self.now.refs edits.now kept }
+        requires few { length self.now.refs ≤ 1048576 }
+        ensures { (kept : List RowRef) → Stay self.now.refs edits.now kept
+            → result ≡ length (rows_after (slot_at self.now.places) edits.now kept) }
+    {
+        self.len() - count_removals(edits) + count_added(edits)
+    }
+
+    /// Whether a row has the key of `row`, and none of those that go or change has it.
+    fn has_key_beside(&self, row: &Row, gone: &[&Row]) -> bool
+        requires { AreByKey self.now.key gone.now }
+        ensures { result ≡ (not (list_any (same_in_column self.now.key row.now) (rows_of gone.now))
+            && list_any (same_in_column self.now.key row.now) (map (row_at (slot_at self.now.places)) self.now.refs)) }
+    {
+        !contains_key(gone, row, self.key) && self.has_key_of(row)
+    }
+
+    /// Whether a row has the key of `row`.
+    fn has_key_of(&self, row: &Row) -> bool
+        ensures { result ≡ list_any (same_in_column self.now.key row.now) (map (row_at (slot_at self.now.places)) self.now.refs) }
+    {
+        match row.values().get(self.key) {
+            Some(key) => self.find(key).is_some(),
+            None => false,
+        }
+    }
+}
+
+/// How many of the edits take a row out.
+fn count_removals(edits: &[Edit]) -> usize
+    ensures { result ≡ removal_count edits.now }
+{
+    edits
+        .iter()
+        .filter(|edit| matches!(edit, Edit::Gone(_)))
+        .count()
+}
