@@ -8,7 +8,7 @@ mod LiteralOrder
 mod Literals
 pub mod Pieces
 mod Readings
-mod ReplyLemmas
+pub mod ReplyLemmas
 mod SpelledCommands
 mod SpelledWords
 mod Texts

@@ -15,7 +15,9 @@ pub use grammar::{grammar_is_exact, literals_are_in_written_order};
 pub use keyword::Keyword;
 pub use mm_query::{Command, Reply};
 pub use reading::{MAX_LINE_BYTES, parse};
-pub use reply_text::{replies_are_told_apart, write_reply, write_rows};
+pub use reply_text::{
+    replies_are_told_apart, write_reply, write_row_count, write_row_line, write_rows,
+};
 pub use token::Symbol;
 
 #[cfg(test)]

@@ -37,7 +37,7 @@ pub fn write_rows<W: Write>(rows: &[Row], writer: &mut Watched<W>) -> Result<(),
     for row in rows {
         write_row_line(row, writer)?;
     }
-    write_count(b"rows ", rows.len(), writer)
+    write_row_count(rows.len(), writer)
 }
 
 /// A reader of replies can tell lines and refusals: each reply ends with a line feed, and just the refusals begin
@@ -49,12 +49,23 @@ pub fn replies_are_told_apart()
         → (refusal : Refusal) × (reply ≡ Refused refusal) }
 {}
 
-fn write_row_line<W: Write>(row: &Row, writer: &mut Watched<W>) -> Result<(), WriteFault>
+/// Writes the line of a row in a reply of rows. Takes no memory. After `WriteFault` the writer has failed, and a front of
+/// the line was written.
+pub fn write_row_line<W: Write>(row: &Row, writer: &mut Watched<W>) -> Result<(), WriteFault>
     requires { has_failed writer.old ≡ false }
     ensures { Writes W.contents writer.old writer.new result (row_text row.now ++ 10 ∷ []) }
 {
     write_row(row, writer)?;
     put_all(writer, b"\n")
+}
+
+/// Writes the line that stands behind the rows of a reply: how many there are. Takes no memory. After `WriteFault` the
+/// writer has failed, and a front of the line was written.
+pub fn write_row_count<W: Write>(count: usize, writer: &mut Watched<W>) -> Result<(), WriteFault>
+    requires { has_failed writer.old ≡ false }
+    ensures { Writes W.contents writer.old writer.new result (codes "rows " ++ decimal count ++ 10 ∷ []) }
+{
+    write_count(b"rows ", count, writer)
 }
 
 // A line that ends with a count.

@@ -1,13 +1,11 @@
-pub mod Additions
 pub mod Answering
 pub mod DatabaseSteps
 pub mod FeedLemmas
 pub mod Inputs
 pub mod LawLemmas
 pub mod LongLines
-pub mod Merging
 pub mod Outcomes
 pub mod RowsBeside
 pub mod Runs
 pub mod Scanning
-pub mod Searching
+pub mod Walks

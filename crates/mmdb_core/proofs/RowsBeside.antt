@@ -1,4 +1,4 @@
--- A catalog's tables, and the rows beside them.
+-- A catalog's tables, and the relations beside them.
 use Rattle.std.proofs.Common.{◌≡◌, ℕ, zero, suc, ◌+◌, Bool, true, false, cond, not, List, [], ◌∷◌, ◌++◌, Some, length, map, slice_get, slice_set, refl, sym, ap, subst, ◌∙◌, arith}
 use Rattle.std.specs.List.{IsDistinct, position_or_len}
 use Rattle.std.proofs.lemmas.Map.Keys.{IsDistinct-tail}
@@ -9,17 +9,19 @@ use Rattle.mm_schema.specs.Rows.{Pair, changed}
 use Rattle.mm_schema.specs.declared.table.Table.{Table}
 use Rattle.mm_schema.proofs.Instances.{AreBeside, changed_instance-others, edits_of_one, name_of, others_lack, pairs_of-other, pairs_of-own}
 use Rattle.mm_schema.proofs.Twins.{Row}
-use Rattle.mmdb_core.specs.steps.Database.{AreRowsOf, rows_of}
-use Rattle.mmdb_core.specs.steps.KeyedRows.{KeyedList}
+use Rattle.mmdb_core.specs.steps.Database.{AreOf, IsOf, instance_of}
+use Rattle.mm_relation.specs.Kept.{StoredRows}
+use Rattle.mm_relation.specs.RowLists.{rows_of}
+use Rattle.mm_store.specs.Tables.{HasRows}
 
 -- There are as many rows as tables.
-pub as_many_rows : (ts : List Table) (rs : List KeyedList) → AreRowsOf ts rs → length rs ≡ length ts
+pub as_many_rows : (ts : List Table) (rs : List StoredRows) → AreOf ts rs → length rs ≡ length ts
 as_many_rows [] [] are = refl
 as_many_rows (t ∷ ts) (r ∷ rs) are = ap (λ n. suc n) (as_many_rows ts rs are.1)
 as_many_rows [] (r ∷ rs) are = absurd are
 as_many_rows (t ∷ ts) [] are = absurd are
 
-are_beside : (ts : List Table) (rs : List KeyedList) → AreRowsOf ts rs → AreBeside ts (rows_of rs)
+are_beside : (ts : List Table) (rs : List StoredRows) → AreOf ts rs → AreBeside ts (instance_of rs)
 are_beside [] [] are = tt
 are_beside (t ∷ ts) (r ∷ rs) are = are_beside ts rs are.1
 are_beside [] (r ∷ rs) are = absurd are
@@ -28,71 +30,95 @@ are_beside (t ∷ ts) [] are = absurd are
 -- ---- at a place
 
 -- The rows at a place are those of a table there, whose key is theirs.
-pub record IsBeside (ts : List Table) (place : ℕ) (keyed : KeyedList) : Type 0 where
+pub record IsBeside (ts : List Table) (place : ℕ) (stored : StoredRows) : Type 0 where
   pub table : Table
-  pub key : keyed.key ≡ key_place table.definition.columns
+  pub is_of : IsOf table stored
   pub there : slice_get ts place ≡ Some table
 
-pub beside : (ts : List Table) (rs : List KeyedList) (place : ℕ) (keyed : KeyedList) → AreRowsOf ts rs → slice_get rs place ≡ Some keyed
-    → IsBeside ts place keyed
-beside (t ∷ ts) (r ∷ rs) zero keyed are h =
-    let same : r ≡ keyed = cc in
-    record { table = t; key = sym (ap (λ k. k.key) same) ∙ are.0; there = refl }
-beside (t ∷ ts) (r ∷ rs) (suc place) keyed are h =
-    let later = beside ts rs place keyed are.1 h in record { table = later.table; key = later.key; there = later.there }
-beside ts [] place keyed are h = cc
-beside [] (r ∷ rs) place keyed are h = absurd are
+pub beside : (ts : List Table) (rs : List StoredRows) (place : ℕ) (stored : StoredRows) → AreOf ts rs → slice_get rs place ≡ Some stored
+    → IsBeside ts place stored
+beside (t ∷ ts) (r ∷ rs) zero stored are h =
+    let same : r ≡ stored = cc in
+    record { table = t; is_of = subst (IsOf t) same are.0; there = refl }
+beside (t ∷ ts) (r ∷ rs) (suc place) stored are h =
+    let later = beside ts rs place stored are.1 h in record { table = later.table; is_of = later.is_of; there = later.there }
+beside ts [] place stored are h = cc
+beside [] (r ∷ rs) place stored are h = absurd are
 
-first_or_later : (b : Bool) (r keyed : KeyedList) (rs : List KeyedList) (n : ℕ) (others : List Row)
-    → slice_get (r ∷ rs) (cond (not b) (1 + n) 0) ≡ Some keyed → (slice_get rs n ≡ Some keyed → others ≡ keyed.rows) → cond b r.rows others ≡ keyed.rows
-first_or_later true r keyed rs n others here rest = let same : r ≡ keyed = cc in ap (λ k. k.rows) same
-first_or_later false r keyed rs n others here rest =
-    let next : 1 + n ≡ suc n = omega arith in rest (subst (λ k. slice_get (r ∷ rs) k ≡ Some keyed) next here)
+first_or_later : (b : Bool) (r stored : StoredRows) (rs : List StoredRows) (n : ℕ) (others : List Row)
+    → slice_get (r ∷ rs) (cond (not b) (1 + n) 0) ≡ Some stored → (slice_get rs n ≡ Some stored → others ≡ rows_of stored) → cond b (rows_of r) others ≡ rows_of stored
+first_or_later true r stored rs n others here rest = let same : r ≡ stored = cc in ap rows_of same
+first_or_later false r stored rs n others here rest =
+    let next : 1 + n ≡ suc n = omega arith in rest (subst (λ k. slice_get (r ∷ rs) k ≡ Some stored) next here)
 
 -- The rows of a name are those at its table's place.
-pub rows_at_place : (name : List ℕ) (ts : List Table) (rs : List KeyedList) (keyed : KeyedList) → AreRowsOf ts rs
-    → slice_get rs (position_or_len (λ t. same_name name (name_of t)) ts) ≡ Some keyed → rows_named name ts (rows_of rs) ≡ keyed.rows
-rows_at_place name (t ∷ ts) (r ∷ rs) keyed are here =
-    first_or_later (same_name name (name_of t)) r keyed rs (position_or_len (λ u. same_name name (name_of u)) ts) (rows_named name ts (rows_of rs)) here
-    (rows_at_place name ts rs keyed are.1)
-rows_at_place name [] [] keyed are here = cc
-rows_at_place name [] (r ∷ rs) keyed are here = absurd are
-rows_at_place name (t ∷ ts) [] keyed are here = cc
+pub rows_at_place : (name : List ℕ) (ts : List Table) (rs : List StoredRows) (stored : StoredRows) → AreOf ts rs
+    → slice_get rs (position_or_len (λ t. same_name name (name_of t)) ts) ≡ Some stored → rows_named name ts (instance_of rs) ≡ rows_of stored
+rows_at_place name (t ∷ ts) (r ∷ rs) stored are here =
+    first_or_later (same_name name (name_of t)) r stored rs (position_or_len (λ u. same_name name (name_of u)) ts) (rows_named name ts (instance_of rs)) here
+    (rows_at_place name ts rs stored are.1)
+rows_at_place name [] [] stored are here = cc
+rows_at_place name [] (r ∷ rs) stored are here = absurd are
+rows_at_place name (t ∷ ts) [] stored are here = cc
 
 -- ---- other rows at a place
 
--- They are rows of the same tables where they have the same key.
-pub AreRowsOf-set : (ts : List Table) (rs : List KeyedList) (place : ℕ) (old new : KeyedList) → slice_get rs place ≡ Some old → new.key ≡ old.key
-    → AreRowsOf ts rs
-    → AreRowsOf ts (slice_set rs place new)
-AreRowsOf-set (t ∷ ts) (r ∷ rs) zero old new h same are =
-    let was : r ≡ old = cc in (same ∙ sym (ap (λ k. k.key) was) ∙ are.0, are.1)
-AreRowsOf-set (t ∷ ts) (r ∷ rs) (suc place) old new h same are = (are.0, AreRowsOf-set ts rs place old new h same are.1)
-AreRowsOf-set ts [] place old new h same are = cc
-AreRowsOf-set [] (r ∷ rs) place old new h same are = absurd are
+-- They are rows of the same tables where they have the same columns and key.
+pub AreOf-set : (ts : List Table) (rs : List StoredRows) (place : ℕ) (old new : StoredRows) → slice_get rs place ≡ Some old → new.key ≡ old.key
+    → new.width ≡ old.width → AreOf ts rs → AreOf ts (slice_set rs place new)
+AreOf-set (t ∷ ts) (r ∷ rs) zero old new h key width are =
+    let was : r ≡ old = cc in
+    let is_of : IsOf t old = subst (IsOf t) was are.0 in
+    (record { key = key ∙ is_of.key; width = width ∙ is_of.width }, are.1)
+AreOf-set (t ∷ ts) (r ∷ rs) (suc place) old new h key width are = (are.0, AreOf-set ts rs place old new h key width are.1)
+AreOf-set ts [] place old new h key width are = cc
+AreOf-set [] (r ∷ rs) place old new h key width are = absurd are
 
-module _ (name : List ℕ) (pairs : List Pair) (old new : KeyedList) (is : new.rows ≡ changed old.key pairs old.rows) where
-  own_or_others : (t : Table) (ts : List Table) (r : KeyedList) (rs : List KeyedList) (n : ℕ) (b : Bool) → same_name name (name_of t) ≡ b
-      → AreRowsOf (t ∷ ts) (r ∷ rs) → IsDistinct same_name (map name_of (t ∷ ts)) → slice_get (r ∷ rs) (cond (not b) (1 + n) 0) ≡ Some old
-      → (slice_get rs n ≡ Some old → changed_instance ts (edits_of_one name pairs) (rows_of rs) ≡ rows_of (slice_set rs n new))
-      → changed_instance (t ∷ ts) (edits_of_one name pairs) (rows_of (r ∷ rs)) ≡ rows_of (slice_set (r ∷ rs) (cond (not b) (1 + n) 0) new)
+-- What stands at a place may be put there.
+pub set_itself : (rs : List StoredRows) (place : ℕ) (stored : StoredRows) → slice_get rs place ≡ Some stored → rs ≡ slice_set rs place stored
+set_itself [] place stored h = cc
+set_itself (r ∷ rs) zero stored h = let was : r ≡ stored = cc in ap (λ first. first ∷ rs) was
+set_itself (r ∷ rs) (suc place) stored h = ap (λ others. r ∷ others) (set_itself rs place stored h)
+
+pub HasRows-itself : (stored : StoredRows) → HasRows stored (rows_of stored) stored
+HasRows-itself stored = record {
+  rows_are = refl;
+  width = refl;
+  key = refl;
+  indexes = record { size = refl; each = λ k d below. (refl, refl) };
+}
+
+-- Where they are the same rows, all rows are.
+pub instance_of-set : (rs : List StoredRows) (place : ℕ) (old new : StoredRows) → slice_get rs place ≡ Some old → rows_of new ≡ rows_of old
+    → instance_of (slice_set rs place new) ≡ instance_of rs
+instance_of-set [] place old new h same = cc
+instance_of-set (r ∷ rs) zero old new h same =
+    let was : r ≡ old = cc in
+    λ i. (same ∙ sym (ap rows_of was)) i ∷ instance_of rs
+instance_of-set (r ∷ rs) (suc place) old new h same = ap (λ others. rows_of r ∷ others) (instance_of-set rs place old new h same)
+
+module _ (name : List ℕ) (pairs : List Pair) (old new : StoredRows) (is : rows_of new ≡ changed old.key pairs (rows_of old)) where
+  own_or_others : (t : Table) (ts : List Table) (r : StoredRows) (rs : List StoredRows) (n : ℕ) (b : Bool) → same_name name (name_of t) ≡ b
+      → AreOf (t ∷ ts) (r ∷ rs) → IsDistinct same_name (map name_of (t ∷ ts)) → slice_get (r ∷ rs) (cond (not b) (1 + n) 0) ≡ Some old
+      → (slice_get rs n ≡ Some old → changed_instance ts (edits_of_one name pairs) (instance_of rs) ≡ instance_of (slice_set rs n new))
+      → changed_instance (t ∷ ts) (edits_of_one name pairs) (instance_of (r ∷ rs)) ≡ instance_of (slice_set (r ∷ rs) (cond (not b) (1 + n) 0) new)
   own_or_others t ts r rs n true own are distinct here rest =
       let same : r ≡ old = cc in
-      let becomes : changed (key_place t.definition.columns) (pairs_of (name_of t) (edits_of_one name pairs)) r.rows ≡ new.rows =
-      ap (λ key. changed key (pairs_of (name_of t) (edits_of_one name pairs)) r.rows) (sym are.0)
-      ∙ ap (λ ps. changed r.key ps r.rows) (pairs_of-own name pairs (name_of t) own)
-      ∙ ap (λ (k : KeyedList). changed k.key pairs k.rows) same ∙ sym is in
-      λ i. becomes i ∷ changed_instance-others name pairs ts (rows_of rs) (are_beside ts rs are.1) (others_lack name t ts own distinct) i
+      let becomes : changed (key_place t.definition.columns) (pairs_of (name_of t) (edits_of_one name pairs)) (rows_of r) ≡ rows_of new =
+      ap (λ key. changed key (pairs_of (name_of t) (edits_of_one name pairs)) (rows_of r)) (sym are.0.key)
+      ∙ ap (λ ps. changed r.key ps (rows_of r)) (pairs_of-own name pairs (name_of t) own)
+      ∙ ap (λ (k : StoredRows). changed k.key pairs (rows_of k)) same ∙ sym is in
+      λ i. becomes i ∷ changed_instance-others name pairs ts (instance_of rs) (are_beside ts rs are.1) (others_lack name t ts own distinct) i
   own_or_others t ts r rs n false other are distinct here rest =
       let next : 1 + n ≡ suc n = omega arith in
-      (λ i. changed (key_place t.definition.columns) (pairs_of-other name pairs (name_of t) other i) r.rows
+      (λ i. changed (key_place t.definition.columns) (pairs_of-other name pairs (name_of t) other i) (rows_of r)
       ∷ rest (subst (λ k. slice_get (r ∷ rs) k ≡ Some old) next here) i)
-      ∙ ap (λ k. rows_of (slice_set (r ∷ rs) k new)) (sym next)
+      ∙ ap (λ k. instance_of (slice_set (r ∷ rs) k new)) (sym next)
 
   -- The rows at the place of a name are changed by its pairs, and no others.
-  pub changed_at_place : (ts : List Table) (rs : List KeyedList) → AreRowsOf ts rs → IsDistinct same_name (map name_of ts)
+  pub changed_at_place : (ts : List Table) (rs : List StoredRows) → AreOf ts rs → IsDistinct same_name (map name_of ts)
       → slice_get rs (position_or_len (λ t. same_name name (name_of t)) ts) ≡ Some old
-      → changed_instance ts (edits_of_one name pairs) (rows_of rs) ≡ rows_of (slice_set rs (position_or_len (λ t. same_name name (name_of t)) ts) new)
+      → changed_instance ts (edits_of_one name pairs) (instance_of rs) ≡ instance_of (slice_set rs (position_or_len (λ t. same_name name (name_of t)) ts) new)
   changed_at_place (t ∷ ts) (r ∷ rs) are distinct here =
       own_or_others t ts r rs (position_or_len (λ u. same_name name (name_of u)) ts) (same_name name (name_of t)) refl are distinct here
       (changed_at_place ts rs are.1 (IsDistinct-tail same_name (name_of t) (map name_of ts) distinct))
@@ -100,13 +126,37 @@ module _ (name : List ℕ) (pairs : List Pair) (old new : KeyedList) (is : new.r
   changed_at_place [] (r ∷ rs) are distinct here = absurd are
   changed_at_place (t ∷ ts) [] are distinct here = absurd are
 
+module _ (name : List ℕ) (pairs : List Pair) (old : StoredRows) where
+  its_own_or_others : (t : Table) (ts : List Table) (r : StoredRows) (rs : List StoredRows) (n : ℕ) (b : Bool) → same_name name (name_of t) ≡ b
+      → AreOf (t ∷ ts) (r ∷ rs) → slice_get (r ∷ rs) (cond (not b) (1 + n) 0) ≡ Some old → (others : List Row)
+      → (slice_get rs n ≡ Some old → others ≡ changed old.key pairs (rows_of old))
+      → cond b (changed (key_place t.definition.columns) (pairs_of (name_of t) (edits_of_one name pairs)) (rows_of r)) others
+      ≡ changed old.key pairs (rows_of old)
+  its_own_or_others t ts r rs n true own are here others rest =
+      let same : r ≡ old = cc in
+      ap (λ key. changed key (pairs_of (name_of t) (edits_of_one name pairs)) (rows_of r)) (sym are.0.key)
+      ∙ ap (λ ps. changed r.key ps (rows_of r)) (pairs_of-own name pairs (name_of t) own)
+      ∙ ap (λ (k : StoredRows). changed k.key pairs (rows_of k)) same
+  its_own_or_others t ts r rs n false other are here others rest =
+      let next : 1 + n ≡ suc n = omega arith in rest (subst (λ k. slice_get (r ∷ rs) k ≡ Some old) next here)
+
+  -- The rows that the name has then are those rows, changed.
+  pub rows_after_change : (ts : List Table) (rs : List StoredRows) → AreOf ts rs
+      → slice_get rs (position_or_len (λ t. same_name name (name_of t)) ts) ≡ Some old
+      → rows_named name ts (changed_instance ts (edits_of_one name pairs) (instance_of rs)) ≡ changed old.key pairs (rows_of old)
+  rows_after_change (t ∷ ts) (r ∷ rs) are here =
+      its_own_or_others t ts r rs (position_or_len (λ u. same_name name (name_of u)) ts) (same_name name (name_of t)) refl are here
+      (rows_named name ts (changed_instance ts (edits_of_one name pairs) (instance_of rs))) (rows_after_change ts rs are.1)
+  rows_after_change [] [] are here = cc
+  rows_after_change [] (r ∷ rs) are here = absurd are
+  rows_after_change (t ∷ ts) [] are here = absurd are
+
 -- ---- one more table
 
 -- A new table's rows come last.
-pub AreRowsOf-push : (ts : List Table) (rs : List KeyedList) (table : Table) (keyed : KeyedList) → keyed.key ≡ key_place table.definition.columns
-    → AreRowsOf ts rs
-    → AreRowsOf (ts ++ table ∷ []) (rs ++ keyed ∷ [])
-AreRowsOf-push [] [] table keyed key are = (key, tt)
-AreRowsOf-push (t ∷ ts) (r ∷ rs) table keyed key are = (are.0, AreRowsOf-push ts rs table keyed key are.1)
-AreRowsOf-push [] (r ∷ rs) table keyed key are = absurd are
-AreRowsOf-push (t ∷ ts) [] table keyed key are = absurd are
+pub AreOf-push : (ts : List Table) (rs : List StoredRows) (table : Table) (stored : StoredRows) → IsOf table stored → AreOf ts rs
+    → AreOf (ts ++ table ∷ []) (rs ++ stored ∷ [])
+AreOf-push [] [] table stored is_of are = (is_of, tt)
+AreOf-push (t ∷ ts) (r ∷ rs) table stored is_of are = (are.0, AreOf-push ts rs table stored is_of are.1)
+AreOf-push [] (r ∷ rs) table stored is_of are = absurd are
+AreOf-push (t ∷ ts) [] table stored is_of are = absurd are

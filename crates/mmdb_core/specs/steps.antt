@@ -2,7 +2,6 @@
 pub mod Database
 pub mod Feeds
 pub mod Input
-pub mod KeyedRows
 pub mod Respond
 pub mod Taken
 pub mod Window

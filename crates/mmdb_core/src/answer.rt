@@ -1,7 +1,9 @@
 //! One line and its reply.
-ghost use Rattle.std.specs.Prelude.{◌≡◌, Some, None, Ok, false, true, IfOk, OnOk, is_err, IsErr};
+ghost use Rattle.std.specs.Prelude.{◌≡◌, ◌≤◌, Some, None, Ok, false, true, All, IfOk, OnOk, is_err, IsErr, length, map};
 ghost use Rattle.std.specs.Io.KnownBytes.{Keeps};
-ghost use Rattle.mm_lang.specs.ReplyText.{reply_text};
+ghost use Rattle.mm_lang.specs.ReplyText.{reply_text, rows_text};
+ghost use Rattle.mm_partition.specs.Places.{IsLive, slot_at};
+ghost use Rattle.mm_relation.specs.Refs.{row_at};
 ghost use Rattle.mm_lang.specs.Lines.{without_return};
 ghost use Rattle.mm_value.specs.Device.{Writes};
 ghost use Rattle.mm_value.specs.Watched.{inner_of, has_failed};
@@ -11,12 +13,14 @@ ghost use Rattle.mmdb_core.specs.steps.Respond.{RepliesToLine, IsStep, RepliesTo
 ghost use Rattle.mmdb_core.specs.Run.{is_error};
 
 use crate::database::Database;
-use mm_lang::{Command, Reply, parse, write_reply, write_rows};
+use mm_lang::{Command, Reply, parse, write_reply, write_row_count, write_row_line};
 use mm_query::{Definition, Mutation};
+use mm_relation::Relation;
 use mm_schema::Name;
-use mm_value::{Refusal, Row, Watched, WriteFault};
+use mm_value::{Refusal, Watched, WriteFault};
 use std::alloc::Global;
 use std::io::Write;
+use ttree::Iter;
 
 /// A line without the carriage return at its end.
 pub(crate) fn without_return(line: &[u8]) -> &[u8]
@@ -57,7 +61,7 @@ fn respond<W: Write>(
         Ok(Command::Nothing) => return Ok(false),
         Ok(Command::Scan(table)) => return answer_scan(database, &table, writer),
         Ok(Command::Define(definition)) => define(alloc, database, definition),
-        Ok(Command::Change(mutation)) => change(database, mutation),
+        Ok(Command::Change(mutation)) => change(alloc, database, mutation),
         Err(refusal) => Reply::Refused(refusal),
     };
     send(&reply, writer)
@@ -77,10 +81,10 @@ fn define(alloc: Global, database: &mut Database, definition: Definition) -> Rep
 }
 
 /// Changes rows.
-fn change(database: &mut Database, mutation: Mutation) -> Reply
+fn change(alloc: Global, database: &mut Database, mutation: Mutation) -> Reply
     ensures { IsStep (Change mutation) database.old (record { reply = Some result; state = database.new }) }
 {
-    match database.change(mutation) {
+    match database.change(alloc, mutation) {
         Ok(count) => Reply::Count(count),
         Err(refusal) => Reply::Refused(refusal),
     }
@@ -96,7 +100,7 @@ fn answer_scan<W: Write>(
     ensures { RepliesToReading W.contents writer.old writer.new (Ok (Scan table.now)) database.now database.now result }
 {
     match database.scan(table) {
-        Ok(rows) => send_rows(rows, writer),
+        Ok(relation) => send_rows(relation, relation.by_key(), writer),
         Err(refusal) => send(&Reply::Refused(refusal), writer),
     }
 }
@@ -112,15 +116,40 @@ pub(crate) fn send<W: Write>(reply: &Reply, writer: &mut Watched<W>) -> Result<b
     Ok(matches!(reply, Reply::Refused(_)))
 }
 
-/// Writes the reply of a scan and flushes it. It is no `error`.
-fn send_rows<W: Write>(rows: &[Row], writer: &mut Watched<W>) -> Result<bool, WriteFault>
-    requires { has_failed writer.old ≡ false }
-    ensures written { Writes W.contents writer.old writer.new result (reply_text (Rows rows.now)) }
+/// Writes the reply of a scan, the rows that a walk meets, from where they lie, and flushes it. It is no `error`.
+fn send_rows<W: Write>(
+    relation: &Relation,
+    walk: Iter,
+    writer: &mut Watched<W>,
+) -> Result<bool, WriteFault>
+    requires unfailed { has_failed writer.old ≡ false }
+    requires live { All (IsLive relation.now.places) walk }
+    requires few { length walk ≤ 1048576 }
+    ensures written { Writes W.contents writer.old writer.new result (reply_text (Rows (map (row_at (slot_at relation.now.places)) walk.entry))) }
     ensures refused { IfOk result (λ refused. refused ≡ false) }
 {
-    write_rows(rows, writer)?;
+    write_walk(relation, walk, writer)?;
     flush(writer)?;
     Ok(false)
+}
+
+/// Writes the lines of the rows that a walk meets, and how many they are.
+fn write_walk<W: Write>(
+    relation: &Relation,
+    walk: Iter,
+    writer: &mut Watched<W>,
+) -> Result<(), WriteFault>
+    requires unfailed { has_failed writer.old ≡ false }
+    requires live { All (IsLive relation.now.places) walk }
+    requires few { length walk ≤ 1048576 }
+    ensures { Writes W.contents writer.old writer.new result (rows_text (map (row_at (slot_at relation.now.places)) walk.entry)) }
+{
+    let mut count = 0usize;
+    for at in walk {
+        write_row_line(relation.row(at), writer)?;
+        count += 1;
+    }
+    write_row_count(count, writer)
 }
 
 /// Flushes what was written.

@@ -1,35 +1,42 @@
 //! The database: its calls are steps of the machine of row lists.
-ghost use Rattle.std.specs.Prelude.{◌≡◌, Some, None, IfOk, OnOk, OnErr, MatchResult, length};
+ghost use Rattle.std.specs.Prelude.{◌≡◌, ◌<◌, ◌≤◌, Some, None, IfOk, OnOk, OnErr, MatchResult, length, map};
+ghost use Rattle.mm_relation.specs.Kept.{StoredRows};
+ghost use Rattle.mm_relation.specs.RowLists.{rows_of};
+ghost use Rattle.mm_relation.specs.declared.edits.Edit.TheVariants.{Add};
 ghost use Rattle.mm_schema.specs.Refused.{AnswersDue, first_refusal};
+ghost use Rattle.mm_schema.specs.Rows.{table_rows_conditions};
+ghost use Rattle.mm_store.specs.Tables.{AreFit, HasRows, IsAt, Turns, rows_with};
 ghost use Rattle.mm_query.specs.Edits.{own_pairs};
 ghost use Rattle.mm_query.specs.Machine.{conditions, state_after};
 ghost use Rattle.mm_query.specs.State.{first_state, rows_in};
 ghost use Rattle.mm_query.specs.declared.command.Command.TheVariants.{Define, Change, Scan};
 ghost use Rattle.mm_query.specs.declared.command.Definition.TheVariants as define;
 
-use crate::keyed_rows::KeyedRows;
 use mm_query::{BoundChange, Mutation, bind_change};
+use mm_relation::{Edit, Relation};
 use mm_schema::{Catalog, Name, TableDef};
+use mm_store::{Store, Undo};
 use mm_value::{Refusal, Row};
-use std::alloc::Global;
+use std::alloc::{AllocError, Global};
 use std::marker::Model;
 
-/// The tables and their rows. A refused call changes nothing.
+/// The catalog, and beside it the rows of its tables. A refused call changes nothing.
 #[derive(Drop)]
 pub(crate) struct Database {
     catalog: Catalog,
-    rows: Vec<KeyedRows>,
+    store: Store,
+    undo: Undo,
 }
 
 impl Model for Database {
     ghost use Rattle.mm_query.specs.State.{State};
-    ghost use Rattle.mmdb_core.specs.steps.Database.{AreRowsOf, rows_of};
+    ghost use Rattle.mmdb_core.specs.steps.Database.{AreOf, instance_of};
 
     ghost Value = { State };
 
-    ghost view = { λ d. record { schema = d.catalog; rows = rows_of d.rows.items } };
+    ghost view = { λ d. record { schema = d.catalog; rows = instance_of d.store.tables } };
 
-    ghost invariant = { λ d. AreRowsOf d.catalog.tables d.rows.items };
+    ghost invariant = { λ d. AreOf d.catalog.tables d.store.tables };
 }
 
 impl Database {
@@ -39,7 +46,8 @@ impl Database {
     {
         Database {
             catalog: Catalog::new(alloc),
-            rows: Vec::new(alloc),
+            store: Store::new(alloc),
+            undo: Undo::new(alloc),
         }
     }
 
@@ -49,16 +57,18 @@ impl Database {
         ensures ok { OnOk result (self.new ≡ state_after (Define (define.Table definition)) self.old) }
         ensures err { OnErr result (self.new ≡ self.old) }
     {
-        self.rows.reserve(1)?;
-        let key = definition.columns.key();
-        self.catalog.add_table(definition)?;
-        self.rows.push(KeyedRows::new(alloc, key)).unwrap();
+        let width = definition.columns.as_slice().len();
+        self.store.add_table(alloc, width, definition.columns.key())?;
+        if let Err(refusal) = self.catalog.add_table(definition) {
+            self.store.drop_table(self.store.len() - 1);
+            return Err(refusal);
+        }
         Ok(())
     }
 
     /// Changes the rows of a table, and tells how many rows that concerned. The first refusal that is due is answered:
     /// those of `bind_change`, `DuplicateKey`, `TableFull`; or `Memory` in its place or in that of success.
-    pub(crate) fn change(&mut self, mutation: Mutation) -> Result<usize, Refusal>
+    pub(crate) fn change(&mut self, alloc: Global, mutation: Mutation) -> Result<usize, Refusal>
         ensures due { AnswersDue (first_refusal (conditions (Change mutation) self.old)) result }
         ensures ok { OnOk result (self.new ≡ state_after (Change mutation) self.old) }
         ensures count { IfOk result (λ count. count ≡ length (own_pairs mutation self.old)) }
@@ -66,22 +76,51 @@ impl Database {
     {
         match bind_change(&self.catalog, mutation)? {
             BoundChange::Insert { table, tuples } => {
-                let fresh = tuples.into_vec();
-                let count = fresh.len();
-                self.rows[table].add_all(fresh)?;
+                let edits = additions(alloc, tuples.into_vec())?;
+                let count = edits.len();
+                make_edits(alloc, &mut self.store, table, edits, &mut self.undo)?;
                 Ok(count)
             }
         }
     }
 
-    /// The rows of a table in key order. `NoSuchTable` where the catalog has no table of the name.
-    pub(crate) fn scan(&self, table: &Name) -> Result<&[Row], Refusal>
+    /// The relation of a table. `NoSuchTable` where the catalog has no table of the name.
+    pub(crate) fn scan(&self, table: &Name) -> Result<&Relation, Refusal>
         ensures due { MatchResult result (λ _. first_refusal (conditions (Scan table.now) self.now) ≡ None)
             (λ refusal. first_refusal (conditions (Scan table.now) self.now) ≡ Some refusal) }
-        ensures rows { IfOk result (λ rows. rows.now ≡ rows_in self.now table.now) }
+        ensures rows { IfOk result (λ relation. rows_of relation.now ≡ rows_in self.now table.now) }
+        ensures few { IfOk result (λ relation. length relation.now.refs ≤ 1048576) }
     {
         let place = self.catalog.place_of(table).ok_or(Refusal::NoSuchTable)?;
-        let rows = &self.rows[place];
-        Ok(rows.as_slice())
+        Ok(self.store.table(place))
     }
+}
+
+/// Makes all edits of a table that its rows allow, or none. The refusals are those of [`Store::check`].
+fn make_edits(
+    alloc: Global,
+    store: &mut Store,
+    table: usize,
+    edits: Vec<Edit>,
+    undo: &mut Undo,
+) -> Result<(), Refusal>
+    requires there { table < length store.old.tables }
+    requires fit { (stored : StoredRows) → IsAt store.old table stored → AreFit stored edits.items }
+    ensures due { (stored : StoredRows) → IsAt store.old table stored
+        → AnswersDue (first_refusal (table_rows_conditions stored.key (rows_with stored edits.items))) result }
+    ensures ok { OnOk result ((stored : StoredRows) → IsAt store.old table stored
+        → (new : StoredRows) × Turns store.old table new store.new × HasRows stored (rows_with stored edits.items) new) }
+    ensures err { OnErr result ((stored : StoredRows) → IsAt store.old table stored
+        → (new : StoredRows) × Turns store.old table new store.new × HasRows stored (rows_of stored) new) }
+{
+    store.check(alloc, table, edits.as_slice())?;
+    store.apply(alloc, table, edits, undo)?;
+    Ok(())
+}
+
+/// Edits that add these rows. `AllocError` where memory is refused.
+fn additions(alloc: Global, rows: Vec<Row>) -> Result<Vec<Edit>, AllocError>
+    ensures { IfOk result (λ edits. edits.items ≡ map Add rows.items) }
+{
+    rows.into_iter().map(Edit::Add).collect(alloc)
 }

@@ -5,11 +5,8 @@ mod answer;
 mod database;
 mod fault;
 mod input;
-mod key_order;
-mod keyed_rows;
 mod laws;
 mod limits;
-mod merge;
 mod run_script;
 mod window;
 

@@ -1,17 +1,23 @@
--- How the database keeps the machine's state: a catalog, and beside each of its tables the rows.
-use Rattle.std.specs.Prelude.{◌≡◌, List, [], ◌∷◌, map}
+-- How the database keeps the machine's state: a catalog, and beside each of its tables a relation.
+use Rattle.std.specs.Prelude.{◌≡◌, List, [], ◌∷◌, length, map}
+use Rattle.mm_relation.specs.Kept.{StoredRows}
+use Rattle.mm_relation.specs.RowLists.{rows_of}
 use Rattle.mm_schema.specs.Columns.{key_place}
 use Rattle.mm_schema.specs.Instance.{Instance}
 use Rattle.mm_schema.specs.declared.table.Table.{Table}
-use Rattle.mmdb_core.specs.steps.KeyedRows.{KeyedList}
 
--- The rows of each table.
-abbrev pub rows_of : List KeyedList → Instance
-rows_of keyed = map (λ (k : KeyedList). k.rows) keyed
+-- The rows of each relation.
+abbrev pub instance_of : List StoredRows → Instance
+instance_of stored = map rows_of stored
 
--- There are rows for each table and no others, and their key is the table's.
-abbrev pub AreRowsOf : List Table → List KeyedList → Type 0
-AreRowsOf [] [] = Unit {0}
-AreRowsOf (t ∷ ts) (r ∷ rs) = (r.key ≡ key_place t.definition.columns) × AreRowsOf ts rs
-AreRowsOf [] (r ∷ rs) = ⊥
-AreRowsOf (t ∷ ts) [] = ⊥
+-- The relation has the columns of the table, and its key.
+pub record IsOf (table : Table) (stored : StoredRows) : Type 0 where
+  pub key : stored.key ≡ key_place table.definition.columns
+  pub width : stored.width ≡ length table.definition.columns
+
+-- There is a relation for each table and no others.
+abbrev pub AreOf : List Table → List StoredRows → Type 0
+AreOf [] [] = Unit {0}
+AreOf (t ∷ ts) (r ∷ rs) = IsOf t r × AreOf ts rs
+AreOf [] (r ∷ rs) = ⊥
+AreOf (t ∷ ts) [] = ⊥

@@ -15,4 +15,4 @@ returns-in_err-write_row_line g c =
 
 pub returns : goal.returns
 returns g c =
-    Writes-then (rows_text_all c.args.rows.now c.loop-row.row-index c.loop-row-test.false) c.loop-row.invariant c.write_count.ensures
+    Writes-then (rows_text_all c.args.rows.now c.loop-row.row-index c.loop-row-test.false) c.loop-row.invariant c.write_row_count.ensures

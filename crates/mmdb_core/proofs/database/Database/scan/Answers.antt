@@ -1,6 +1,5 @@
 -- The rows at the place of a name are those of that name.
 use Rattle.std.proofs.Common.{◌≡◌, true, false, cond, Some, None, sym, ap, ◌∙◌, arith}
-use Rattle.std.proofs.lemmas.Option.{slice_get_read}
 use Rattle.std.proofs.lemmas.Result.{err_from_is_err_and}
 use Rattle.mm_schema.specs.Schema.{lacks_table}
 use Rattle.mm_value.specs.declared.refusal.Refusal.{Refusal}
@@ -20,19 +19,15 @@ returns-in_err-place-clause-due c =
     let told : NoSuchTable ≡ c.in_err-place.field-0.0 = grind arith in
     rw (p.1, p.2) (ap (λ b. cond b (Some NoSuchTable) None) lacks_now ∙ ap (λ (r : Refusal). Some r) told)
 
-pub index-rows-requires : goal.index-rows-requires
-index-rows-requires c =
-    let there = rows_there c.self.inside.catalog c.self.inside.rows.items c.self.invariant c.args.table.now c.in_ok-place.place
-    (sym c.place_of.ensures.place ∙ c.in_ok-place.ensures.ok_part) in
-    omega (arith, c.self.inside.rows.ok.0)
+pub table-requires : goal.table-requires
+table-requires c =
+    rows_there c.self.inside.catalog c.self.inside.store.tables c.self.invariant c.args.table.now c.in_ok-place.place
+    (sym c.place_of.ensures.place ∙ c.in_ok-place.ensures.ok_part)
 
 pub returns-clause-due : goal.returns-clause-due
 returns-clause-due c =
     let placed = sym c.place_of.ensures.place ∙ c.in_ok-place.ensures.ok_part in
-    let rows = c.self.inside.rows in
-    let within = rows_there c.self.inside.catalog rows.items c.self.invariant c.args.table.now c.in_ok-place.place placed in
-    let there = slice_get_read rows.items rows.len c.in_ok-place.place c.index-rows.result.now rows.ok.0 (omega (arith, rows.ok.0)) c.index-rows.ensures in
-    let at = beside c.self.inside.catalog.tables rows.items c.in_ok-place.place c.index-rows.result.now c.self.invariant there in
+    let at = beside c.self.inside.catalog.tables c.self.inside.store.tables c.in_ok-place.place c.table.result.now c.self.invariant c.table.ensures.at in
     let found = not_lacking c.args.table.now c.self.inside.catalog c.in_ok-place.place at.table placed at.there in
     let found_now : lacks_table c.args.table.now
     c.args.self.now.schema ≡ false = sym (ap (λ (s : State). lacks_table c.args.table.now s.schema) c.self.view_is) ∙ found in
@@ -41,9 +36,6 @@ returns-clause-due c =
 pub returns-clause-rows : goal.returns-clause-rows
 returns-clause-rows c =
     let placed = sym c.place_of.ensures.place ∙ c.in_ok-place.ensures.ok_part in
-    let rows = c.self.inside.rows in
-    let within = rows_there c.self.inside.catalog rows.items c.self.invariant c.args.table.now c.in_ok-place.place placed in
-    let there = slice_get_read rows.items rows.len c.in_ok-place.place c.index-rows.result.now rows.ok.0 (omega (arith, rows.ok.0)) c.index-rows.ensures in
-    c.as_slice.ensures.rows
-    ∙ sym (rows_of_name c.self.inside.catalog rows.items c.self.invariant c.args.table.now c.in_ok-place.place placed c.index-rows.result.now there)
+    sym (rows_of_name c.self.inside.catalog c.self.inside.store.tables c.self.invariant c.args.table.now c.in_ok-place.place placed c.table.result.now
+    c.table.ensures.at)
     ∙ ap (λ (s : State). rows_in s c.args.table.now) c.self.view_is
