@@ -243,8 +243,7 @@ module _ (schema : Schema) (rs : List StoredRows) (are : AreOf schema.tables rs)
         let stored = stored_there.0 in
         let there = stored_there.1 in
         let new = each stored there in
-        let rows : rows_of new.0 ≡ changed stored.key (additions tuples) (rows_of stored) = new.2.rows_are ∙ with_is stored in
-        (
+        let rows : rows_of new.0 ≡ changed stored.key (additions tuples) (rows_of stored) = new.2.rows_are ∙ with_is stored in (
           ap (state_of schema) new.1 ∙ change_is schema rs are mutation place placed stored there (additions tuples) are_pairs distinct new.0 rows,
           subst (AreOf schema.tables) (sym new.1) (AreOf-set schema.tables rs place stored new.0 there new.2.key new.2.width are),
         )
@@ -255,8 +254,7 @@ module _ (schema : Schema) (rs : List StoredRows) (are : AreOf schema.tables rs)
     insert_refused each =
         let stored = stored_there.0 in
         let there = stored_there.1 in
-        let new = each stored there in
-        (
+        let new = each stored there in (
           ap (λ rows. record { schema = schema; rows = rows })
               (ap instance_of new.1 ∙ instance_of-set rs place stored new.0 there new.2.rows_are),
           subst (AreOf schema.tables) (sym new.1) (AreOf-set schema.tables rs place stored new.0 there new.2.key new.2.width are),

@@ -58,7 +58,8 @@ impl Database {
         ensures err { OnErr result (self.new ≡ self.old) }
     {
         let width = definition.columns.as_slice().len();
-        self.store.add_table(alloc, width, definition.columns.key())?;
+        self.store
+            .add_table(alloc, width, definition.columns.key())?;
         if let Err(refusal) = self.catalog.add_table(definition) {
             self.store.drop_table(self.store.len() - 1);
             return Err(refusal);
