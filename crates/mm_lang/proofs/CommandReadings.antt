@@ -1,10 +1,11 @@
 -- Commands, read by their parts.
-use Rattle.std.proofs.Common.{◌≡◌, ◌≢◌, inl, ℕ, eqb, List, [], ◌∷◌, ◌++◌, Some, None, refl, sym, ap, ◌∙◌, arith}
+use Rattle.std.proofs.Common.{◌≡◌, ◌≢◌, inl, ℕ, Bool, true, false, eqb, List, [], ◌∷◌, ◌++◌, Some, None, Result, refl, sym, ap, ◌∙◌, arith}
 use Rattle.std.specs.List.{flat_map}
 use Rattle.std.specs.Option.{option_and_then, option_or}
 use Rattle.std.proofs.lemmas.Bool.{cond-true, cond-false, eq-eqb, ne_eqb}
 use Rattle.mm_schema.specs.Columns.{key_count}
 use Rattle.mm_schema.specs.declared.column.Column.{Column}
+use Rattle.mm_schema.specs.declared.index.IndexKind.{IndexKind}
 use Rattle.mm_value.specs.declared.refusal.Refusal.{Refusal}
 use Rattle.mm_value.specs.declared.refusal.Refusal.TheVariants.{Syntax}
 use Rattle.mm_value.specs.declared.values.Value.{Value}
@@ -12,29 +13,143 @@ use Rattle.mm_query.specs.declared.command.Command.{Command}
 use Rattle.mm_query.specs.declared.command.Command.TheVariants as command
 use Rattle.mm_query.specs.declared.command.Definition.TheVariants as define
 use Rattle.mm_query.specs.declared.command.Mutation.TheVariants as change
+use Rattle.mm_lang.specs.declared.keyword.Keyword.{Keyword}
+use Rattle.mm_lang.specs.declared.keyword.Keyword.TheVariants as keyword
 use Rattle.mm_lang.specs.declared.reader.Reader.{Reader}
-use Rattle.mm_lang.specs.Grammar.{name, column, tuple, comma_list, table, insert, scan}
-use Rattle.mm_lang.specs.Phrases.{Phrase, ◌>>=◌, say, only_if, in_parentheses}
+use Rattle.mm_lang.specs.Grammar.{name, column, index_kind, tuple, comma_list, table, drop, dropped, index, insert, scan, scan_of}
+use Rattle.mm_lang.specs.Phrases.{Phrase, ◌>>=◌, ◌>>◌, say, one_word, only_if, the_keyword, has_keyword, in_parentheses}
 use Rattle.mm_lang.specs.Reading.{first_fault, literals_of}
 use Rattle.mm_lang.specs.Tokens.{tokens}
-use Rattle.mm_lang.specs.steps.Parsing.{Fails, Gives, GivesItems, no_literals}
+use Rattle.mm_lang.specs.Words.{keyword_named}
+use Rattle.mm_lang.specs.steps.Parsing.{Fails, Gives, GivesItems, ReadsPhrase, Skips, no_literals}
 use Rattle.mm_lang.specs.steps.Parts.{Front}
-use Rattle.mm_lang.proofs.Readings.{Took, took, or_none, took_then, took_say, fails_first, fails_next}
+use Rattle.mm_lang.proofs.Readings.{Took, took, or_none, took_then, took_say, fails_first, fails_next, reads_behind, keyword_stands}
+
+-- A command without literals was read.
+command_took : (phrase : Phrase Command) (old new : Reader) (c : Command) → literals_of c ≡ [] → Took phrase old new c → Gives phrase literals_of old new c
+command_took phrase old new c none t = record {
+  said = c;
+  read = t.is;
+  fault = t.fault ∙ sym (ap (λ l. option_or old.fault (first_fault l)) none ∙ or_none old.fault);
+  same = λ _. refl;
+  shorter = t.shorter;
+}
 
 -- SCAN
 
-say_scan : List ℕ → Phrase Command
-say_scan t = say (command.Scan t)
+say_scan : Bool → List ℕ → Phrase Command
+say_scan by_index n = say (scan_of by_index n)
 
-pub scan_no_name : (old : Reader) (e : Refusal) → Fails name old e → Fails scan old e
-unfolding scan say_scan
-scan_no_name old e h = fails_first name say_scan old e h
+after_scan : Bool → Phrase Command
+after_scan by_index = name >>= say_scan by_index
 
-pub scan_given : (old new : Reader) (t : List ℕ) → Gives name no_literals old new t → Gives scan literals_of old new (command.Scan t)
-unfolding scan say_scan
-scan_given old new t g =
-    let h : Took scan old new (command.Scan t) = took_then say_scan (took g) (took_say (command.Scan t) new) in
-    record { said = command.Scan t; read = h.is; fault = h.fault ∙ sym (or_none old.fault); same = λ _. refl; shorter = h.shorter }
+no_literal_scanned : (by_index : Bool) (n : List ℕ) → literals_of (scan_of by_index n) ≡ []
+no_literal_scanned true n = refl
+no_literal_scanned false n = refl
+
+module _ (old mid : Reader) (by_index : Bool) (skips : Skips (the_keyword keyword.Index) old mid by_index) where
+  pub scan_no_name : (e : Refusal) → Fails name mid e → Fails scan old e
+  unfolding scan after_scan say_scan
+  scan_no_name e h =
+      let k = keyword_stands keyword.Index old mid by_index skips in
+      fails_next (has_keyword keyword.Index) after_scan old mid by_index e k.is (fails_first name (say_scan by_index) mid e h)
+
+  pub scan_given : (new : Reader) (n : List ℕ) → Gives name no_literals mid new n → Gives scan literals_of old new (scan_of by_index n)
+  unfolding scan after_scan say_scan
+  scan_given new n g =
+      command_took scan old new (scan_of by_index n) (no_literal_scanned by_index n)
+      (took_then after_scan (keyword_stands keyword.Index old mid by_index skips)
+      (took_then (say_scan by_index) (took g) (took_say (scan_of by_index n) new)))
+
+-- DROP
+
+pub drop_no_keyword : (old : Reader) (e : Refusal) → Fails (one_word keyword_named) old e → Fails drop old e
+unfolding drop
+drop_no_keyword old e h = fails_first (one_word keyword_named) dropped old e h
+
+pub drop_behind : (old mid new : Reader) (k : Keyword) (r : Result Command Refusal) → Gives (one_word keyword_named) no_literals old mid k
+    → ReadsPhrase (dropped k) literals_of mid new r → ReadsPhrase drop literals_of old new r
+unfolding drop
+drop_behind old mid new k r g h = reads_behind (one_word keyword_named) dropped literals_of old mid new k r (took g) h
+
+module _ (make : List ℕ → Command) (none : (n : List ℕ) → literals_of (make n) ≡ []) where
+  say_made : List ℕ → Phrase Command
+  say_made n = say (make n)
+
+  pub made_no_name : (old : Reader) (e : Refusal) → Fails name old e → Fails (name >>= (λ n. say (make n))) old e
+  unfolding say_made
+  made_no_name old e h = fails_first name say_made old e h
+
+  pub made_given : (old new : Reader) (n : List ℕ) → Gives name no_literals old new n → Gives (name >>= (λ n. say (make n))) literals_of old new (make n)
+  unfolding say_made
+  made_given old new n g = command_took (name >>= say_made) old new (make n) (none n) (took_then say_made (took g) (took_say (make n) new))
+
+-- INDEX
+
+the_index : List ℕ → List ℕ → List ℕ → IndexKind → Command
+the_index n t c k = command.Define (define.Index (record { name = n; table = t; column = c; kind = k }))
+
+say_index : List ℕ → List ℕ → List ℕ → IndexKind → Phrase Command
+say_index n t c k = say (command.Define (define.Index (record { name = n; table = t; column = c; kind = k })))
+
+after_column : List ℕ → List ℕ → List ℕ → Phrase Command
+after_column n t c = index_kind >>= say_index n t c
+
+after_indexed : List ℕ → List ℕ → Phrase Command
+after_indexed n t = in_parentheses name >>= after_column n t
+
+after_on : List ℕ → Phrase Command
+after_on n = name >>= after_indexed n
+
+after_index : List ℕ → Phrase Command
+after_index n = the_keyword keyword.On >> after_on n
+
+pub index_no_name : (old : Reader) (e : Refusal) → Fails name old e → Fails index old e
+unfolding index after_index after_on after_indexed after_column say_index
+index_no_name old e h = fails_first name after_index old e h
+
+module _ (old named : Reader) (n : List ℕ) (a : Gives name no_literals old named n) where
+  fails_named : (e : Refusal) → Fails (after_index n) named e → Fails index old e
+  unfolding index after_index after_on after_indexed after_column say_index
+  fails_named e h = let t = took a in fails_next name after_index old named n e t.is h
+
+  pub index_no_on : (e : Refusal) → Fails (the_keyword keyword.On) named e → Fails index old e
+  unfolding after_index
+  index_no_on e h = fails_named e (fails_first (the_keyword keyword.On) (λ u. after_on n) named e h)
+
+  module _ (on : Reader) (b : Gives (the_keyword keyword.On) no_literals named on tt) where
+    fails_on : (e : Refusal) → Fails (after_on n) on e → Fails index old e
+    unfolding after_index
+    fails_on e h = let t = took b in fails_named e (fails_next (the_keyword keyword.On) (λ u. after_on n) named on tt e t.is h)
+
+    pub index_no_table : (e : Refusal) → Fails name on e → Fails index old e
+    unfolding after_on
+    index_no_table e h = fails_on e (fails_first name (after_indexed n) on e h)
+
+    module _ (tabled : Reader) (table : List ℕ) (c : Gives name no_literals on tabled table) where
+      fails_tabled : (e : Refusal) → Fails (after_indexed n table) tabled e → Fails index old e
+      unfolding after_on
+      fails_tabled e h = let t = took c in fails_on e (fails_next name (after_indexed n) on tabled table e t.is h)
+
+      pub index_no_column : (e : Refusal) → Fails (in_parentheses name) tabled e → Fails index old e
+      unfolding after_indexed
+      index_no_column e h = fails_tabled e (fails_first (in_parentheses name) (after_column n table) tabled e h)
+
+      module _ (behind : Reader) (column : List ℕ) (d : Gives (in_parentheses name) no_literals tabled behind column) where
+        pub index_no_kind : (e : Refusal) → Fails index_kind behind e → Fails index old e
+        unfolding after_indexed after_column
+        index_no_kind e h =
+            let t = took d in
+            fails_tabled e
+            (fails_next (in_parentheses name) (after_column n table) tabled behind column e t.is (fails_first index_kind (say_index n table column) behind e h))
+
+        pub index_given : (new : Reader) (k : IndexKind) → Gives index_kind no_literals behind new k
+            → Gives index literals_of old new (command.Define (define.Index (record { name = n; table = table; column = column; kind = k })))
+        unfolding index after_index after_on after_indexed after_column say_index the_index
+        index_given new k g =
+            command_took index old new (the_index n table column k) refl
+            (took_then after_index (took a) (took_then (λ u. after_on n) (took b) (took_then (after_indexed n) (took c)
+            (took_then (after_column n table) (took d) (took_then (say_index n table column) (took g) (took_say (the_index n table column k) new))))))
 
 -- INSERT
 

@@ -10,6 +10,8 @@ use Rattle.mm_schema.specs.Name.{IsName, is_lower, is_name_byte, is_name_text}
 use Rattle.mm_schema.specs.declared.column.Column.{Column}
 use Rattle.mm_schema.specs.declared.column.Role.{Role}
 use Rattle.mm_schema.specs.declared.column.Role.TheVariants.{Plain, Key, Reference}
+use Rattle.mm_schema.specs.declared.index.IndexKind.{IndexKind}
+use Rattle.mm_schema.specs.declared.index.IndexKind.TheVariants as kind
 use Rattle.mm_value.specs.Literal.{is_numeral, is_within_limit}
 use Rattle.mm_value.specs.declared.col_type.ColType.{ColType}
 use Rattle.mm_value.specs.declared.col_type.ColType.TheVariants as type
@@ -19,10 +21,11 @@ use Rattle.mm_query.specs.declared.command.Command.{Command}
 use Rattle.mm_query.specs.declared.command.Command.TheVariants as command
 use Rattle.mm_query.specs.declared.command.Definition.TheVariants as define
 use Rattle.mm_query.specs.declared.command.Mutation.TheVariants as change
-use Rattle.mm_lang.specs.declared.token.Symbol.TheVariants.{Close, Comma}
+use Rattle.mm_lang.specs.declared.keyword.Keyword.TheVariants as keyword
+use Rattle.mm_lang.specs.declared.token.Symbol.TheVariants.{Open, Close, Comma}
 use Rattle.mm_lang.specs.Grammar.{literal_of, command_of}
 use Rattle.mm_lang.specs.Reading.{first_fault, literals_of, past_limit}
-use Rattle.mm_lang.specs.Spelling.{word, type_word, SpellsLiteral, SpellsOne, SpellsList, SpellsInParentheses, SpellsTuple, SpellsRole, SpellsColumn, SpellsCommand}
+use Rattle.mm_lang.specs.Spelling.{word, type_word, kind_word, SpellsLiteral, SpellsOne, SpellsList, SpellsInParentheses, SpellsTuple, SpellsRole, SpellsColumn, SpellsCommand}
 use Rattle.mm_lang.specs.Tokens.{Token, Word, Mark}
 use Rattle.mm_lang.specs.steps.Parsing.{no_literals, only_literal}
 use Rattle.mm_lang.proofs.SpelledWords.{literal_spelled}
@@ -81,6 +84,10 @@ type_no_literal : (t : ColType) (ts : List Token) → among (word (type_word t) 
 type_no_literal type.Int ts = refl
 type_no_literal type.Text ts = refl
 
+kind_no_literal : (k : IndexKind) → among (word (kind_word k) ∷ []) ≡ []
+kind_no_literal kind.Tree = refl
+kind_no_literal kind.Hash = refl
+
 role_no_literal : (ts : List Token) (r : Role) → SpellsRole ts r → among ts ≡ []
 role_no_literal ts Key spelled = ap among spelled
 role_no_literal ts Plain spelled = ap among spelled
@@ -105,11 +112,20 @@ spelled_literals ts (command.Define (define.Table definition)) h =
     ∙ in_parentheses_literals (SpellsList (Mark Comma) SpellsColumn) (flat_map no_literals)
     (λ us cs k. list_literals (Mark Comma) SpellsColumn no_literals refl column_literals cs us k) h.0 definition.columns h.3
     ∙ none_at_all definition.columns)
+spelled_literals ts (command.Define (define.DropTable n)) h = sym (ap among h.1 ∙ behind_name n [] h.0)
+spelled_literals ts (command.Define (define.Index i)) h =
+    let behind = Word i.column ∷ Mark Close ∷ word (kind_word i.kind) ∷ [] in
+    sym (
+    ap among h.3 ∙ behind_name i.name (word keyword.On ∷ Word i.table ∷ Mark Open ∷ behind) h.0
+    ∙ behind_name i.table (Mark Open ∷ behind) h.1
+    ∙ behind_name i.column (Mark Close ∷ word (kind_word i.kind) ∷ []) h.2 ∙ kind_no_literal i.kind)
+spelled_literals ts (command.Define (define.DropIndex n)) h = sym (ap among h.1 ∙ behind_name n [] h.0)
 spelled_literals ts (command.Change (change.Insert table tuples)) h =
     sym (
     ap among h.3 ∙ behind_name table h.0 h.1
     ∙ list_literals (Mark Comma) SpellsTuple (λ values. values) refl tuple_literals tuples h.0 h.2)
 spelled_literals ts (command.Scan table) h = sym (ap among h.1 ∙ behind_name table [] h.0)
+spelled_literals ts (command.ScanIndex i) h = sym (ap among h.1 ∙ behind_name i [] h.0)
 
 pub read_literals : (ts : List Token) (c : Command) → command_of ts ≡ Some c → literals_of c ≡ among ts
 read_literals ts c e = spelled_literals ts c (command_read ts c e)

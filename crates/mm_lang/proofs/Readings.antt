@@ -1,5 +1,5 @@
 -- Phrases put together, read one after the other.
-use Rattle.std.proofs.Common.{◌≡◌, ◌≤◌, inl, inr, ℕ, true, false, List, Option, Some, None, length, refl, sym, ap, ◌∙◌, arith}
+use Rattle.std.proofs.Common.{◌≡◌, ◌≤◌, inl, inr, ℕ, Bool, true, false, List, Option, Some, None, Result, Ok, Err, length, refl, sym, ap, ◌∙◌, arith}
 use Rattle.std.specs.Option.{option_map, option_and_then, option_or, ok_or}
 use Rattle.mm_schema.specs.declared.column.Column.{Column}
 use Rattle.mm_schema.specs.declared.column.Role.{Role}
@@ -7,10 +7,13 @@ use Rattle.mm_schema.specs.declared.column.Role.TheVariants.{Plain, Key}
 use Rattle.mm_value.specs.declared.col_type.ColType.{ColType}
 use Rattle.mm_value.specs.declared.refusal.Refusal.{Refusal}
 use Rattle.mm_value.specs.declared.refusal.Refusal.TheVariants.{Syntax}
+use Rattle.mm_value.specs.declared.values.Value.{Value}
+use Rattle.mm_lang.specs.declared.keyword.Keyword.{Keyword}
 use Rattle.mm_lang.specs.declared.keyword.Keyword.TheVariants as keyword
 use Rattle.mm_lang.specs.declared.reader.Reader.{Reader}
 use Rattle.mm_lang.specs.Grammar.{name, col_type, column}
-use Rattle.mm_lang.specs.Phrases.{Phrase, ◌>>=◌, ◌>>◌, say, one, one_word, word_of, the_keyword, optional}
+use Rattle.mm_lang.specs.Phrases.{Phrase, ◌>>=◌, ◌>>◌, say, one, one_word, word_of, the_keyword, has_keyword, optional}
+use Rattle.mm_lang.specs.Reading.{first_fault}
 use Rattle.mm_lang.specs.Tokens.{Token, Word, tokens}
 use Rattle.mm_lang.specs.steps.Parsing.{Fails, Follows, Gives, ReadsPhrase, Skips, no_literals}
 use Rattle.mm_lang.specs.steps.Parts.{Front, one_parts}
@@ -57,6 +60,36 @@ module _ {A B : Type 0} (first : Phrase A) (next : A → Phrase B) (old : Reader
       → Fails (first >>= next) old e
   fails_next mid x e is (inl h) = inl (h.0, ap (option_and_then (λ (r : Front A). next r.0 r.1)) is ∙ h.1)
   fails_next mid x e is (inr h) = inr h
+
+-- A phrase stands behind one without literals.
+pub reads_behind : {A B : Type 0} (first : Phrase A) (next : A → Phrase B) (literals : B → List Value) (old mid new : Reader) (x : A) (r : Result B Refusal)
+    → Took first old mid x → ReadsPhrase (next x) literals mid new r → ReadsPhrase (first >>= next) literals old new r
+reads_behind {A} first next literals old mid new x (Ok y) t g = record {
+  said = g.said;
+  read = ap (option_and_then (λ (r : Front A). next r.0 r.1)) t.is ∙ g.read;
+  fault = g.fault ∙ ap (λ f. option_or f (first_fault (literals g.said))) t.fault;
+  same = g.same;
+  shorter = omega (arith, t.shorter, g.shorter);
+}
+reads_behind first next literals old mid new x (Err e) t h = fails_next first next old mid x e t.is h
+
+-- Whether a keyword stands there was read.
+pub keyword_stands : (k : Keyword) (old new : Reader) (b : Bool) → Skips (the_keyword k) old new b → Took (has_keyword k) old new b
+keyword_stands k old new true h =
+    let t = took h.0 in
+    record {
+      is = ap (λ (o : Option (Front (Unit {0}))). option_or (option_and_then (λ (r : Front (Unit {0})). say true r.1) o)
+          (Some (false, tokens old.rest.now))) t.is;
+      fault = t.fault;
+      shorter = t.shorter;
+    }
+keyword_stands k old new false h = record {
+  is =
+      ap (λ (o : Option (Front (Unit {0}))). option_or (option_and_then (λ (r : Front (Unit {0})). say true r.1) o) (Some (false, tokens old.rest.now))) h.0
+      ∙ ap (λ (r : Reader). Some (false, tokens r.rest.now)) (sym h.1);
+  fault = ap (λ (r : Reader). r.fault) h.1;
+  shorter = omega (arith, ap (λ (r : Reader). length r.rest.now) h.1);
+}
 
 -- A word was read.
 pub word_given : (old new : Reader) (word : List ℕ) → Follows old.rest.now (Word word) new.rest.now → new.fault ≡ old.fault

@@ -1,5 +1,5 @@
 -- Commands: what is read is spelled so, and what is spelled is read.
-use Rattle.std.proofs.Common.{◌≡◌, ⊎_elim, ℕ, eqb, List, [], ◌∷◌, ◌++◌, Option, Some, None, refl, sym, ap, subst, ◌∙◌, append-nil}
+use Rattle.std.proofs.Common.{◌≡◌, ⊎_elim, ℕ, Bool, true, false, eqb, List, [], ◌∷◌, ◌++◌, Option, Some, None, refl, sym, ap, subst, ◌∙◌, append-nil}
 use Rattle.std.specs.Option.{option_and_then, option_or}
 use Rattle.std.proofs.lemmas.Bool.{cond-true, eqb-true, eq-eqb}
 use Rattle.std.proofs.lemmas.Option.{none-some, same_Some}
@@ -8,6 +8,8 @@ use Rattle.mm_schema.specs.Name.{IsName}
 use Rattle.mm_schema.specs.declared.column.Column.{Column}
 use Rattle.mm_schema.specs.declared.column.Role.{Role}
 use Rattle.mm_schema.specs.declared.column.Role.TheVariants.{Plain, Key, Reference}
+use Rattle.mm_schema.specs.declared.index.IndexKind.{IndexKind}
+use Rattle.mm_schema.specs.declared.index.IndexKind.TheVariants as kind
 use Rattle.mm_value.specs.declared.col_type.ColType.{ColType}
 use Rattle.mm_value.specs.declared.col_type.ColType.TheVariants as type
 use Rattle.mm_value.specs.declared.values.Value.{Value}
@@ -17,14 +19,14 @@ use Rattle.mm_query.specs.declared.command.Definition.TheVariants as define
 use Rattle.mm_query.specs.declared.command.Mutation.TheVariants as change
 use Rattle.mm_lang.specs.declared.keyword.Keyword.{Keyword}
 use Rattle.mm_lang.specs.declared.keyword.Keyword.TheVariants as keyword
-use Rattle.mm_lang.specs.declared.token.Symbol.TheVariants.{Comma}
-use Rattle.mm_lang.specs.Grammar.{literal_of, name, type_named, col_type, column, tuple, comma_list, table, insert, scan, command_behind, command_of}
-use Rattle.mm_lang.specs.Phrases.{Phrase, ◌>>=◌, ◌>>◌, say, one, one_word, the_symbol, the_keyword, only_if, optional, in_parentheses, alone}
-use Rattle.mm_lang.specs.Spelling.{word, type_word, SpellsLiteral, SpellsOne, SpellsList, SpellsInParentheses, SpellsTuple, SpellsRole, SpellsColumn, SpellsCommand}
+use Rattle.mm_lang.specs.declared.token.Symbol.TheVariants.{Open, Close, Comma}
+use Rattle.mm_lang.specs.Grammar.{literal_of, name, type_named, col_type, column, kind_named, index_kind, tuple, comma_list, table, drop, dropped, index, insert, scan, scan_of, command_behind, command_of}
+use Rattle.mm_lang.specs.Phrases.{Phrase, ◌>>=◌, ◌>>◌, say, one, one_word, the_symbol, the_keyword, has_keyword, only_if, optional, in_parentheses, alone}
+use Rattle.mm_lang.specs.Spelling.{word, type_word, kind_word, SpellsLiteral, SpellsOne, SpellsList, SpellsInParentheses, SpellsTuple, SpellsRole, SpellsColumn, SpellsCommand}
 use Rattle.mm_lang.specs.Tokens.{Token, Word, Mark}
 use Rattle.mm_lang.specs.Words.{keyword_named}
-use Rattle.mm_lang.specs.steps.Parts.{Front, said_same, tested, chained, then_parts, word_parts, optional_parts}
-use Rattle.mm_lang.proofs.SpelledWords.{symbol_read, keyword_read, named_read, name_read, name_spelled, literal_read, literal_spelled}
+use Rattle.mm_lang.specs.steps.Parts.{Front, said_same, tested, chained, then_parts, word_parts, optional_parts, in_parentheses_parts}
+use Rattle.mm_lang.proofs.SpelledWords.{symbol_read, keyword_read, named_read, has_keyword_read, name_no_keyword, name_read, name_spelled, literal_read, literal_spelled}
 use Rattle.mm_lang.proofs.Exactness.{IsExact, IsToken, Always, one_exact, list_exact, parentheses_exact}
 
 comma : IsToken (the_symbol Comma) (Mark Comma)
@@ -157,22 +159,151 @@ insert_spelled t tuples inner named h =
     ∙ ap (option_and_then (λ (r : Front (List (List Value))). say_insert t r.0 r.1))
     (ap (comma_list tuple) (sym (append-nil inner)) ∙ tuples_exact.complete inner tuples [] h (tt, refl))
 
+-- a name alone behind what makes a command of it
+
+module _ (make : List ℕ → Command) where
+  say_made : List ℕ → Phrase Command
+  say_made n = say (make n)
+
+  made_read : (ts : List Token) (c : Command) → (name >>= (λ n. say (make n))) ts ≡ Some (c, [])
+      → (n : List ℕ) × IsName n × (ts ≡ Word n ∷ []) × (make n ≡ c)
+  unfolding say_made
+  made_read ts c e =
+      let p = then_parts name say_made ts c [] e in
+      let r = said_same (make p.0) c p.1 [] p.3 in
+      let n = name_read ts p.0 p.1 p.2 in
+      (p.0, n.1, n.0 ∙ ap (λ l. Word p.0 ∷ l) r.1, r.0)
+
+  made_spelled : (n : List ℕ) → IsName n → (name >>= (λ n. say (make n))) (Word n ∷ []) ≡ Some (make n, [])
+  made_spelled n named = ap (option_and_then (λ (r : Front (List ℕ)). say (make r.0) r.1)) (name_spelled n [] named)
+
 -- SCAN
 
-say_scan : List ℕ → Phrase Command
-say_scan t = say (command.Scan t)
+after_scan : Bool → Phrase Command
+after_scan by_index = name >>= (λ n. say (scan_of by_index n))
 
 scan_read : (ts : List Token) (c : Command) → scan ts ≡ Some (c, []) → SpellsCommand (word keyword.Scan ∷ ts) c
-unfolding scan say_scan
+unfolding scan after_scan
 scan_read ts c e =
-    let p = then_parts name say_scan ts c [] e in
-    let r = said_same (command.Scan p.0) c p.1 [] p.3 in
-    let n = name_read ts p.0 p.1 p.2 in
-    subst (SpellsCommand (word keyword.Scan ∷ ts)) r.0 (n.1, ap (λ l. word keyword.Scan ∷ l) (n.0 ∙ ap (λ l. Word p.0 ∷ l) r.1))
+    let p = then_parts (has_keyword keyword.Index) after_scan ts c [] e in
+    let q = made_read (scan_of p.0) p.1 c p.3 in
+    ⊎_elim
+    (λ there. subst (SpellsCommand (word keyword.Scan ∷ ts)) (ap (λ b. scan_of b q.0) (sym there.0) ∙ q.3)
+    (q.1, ap (λ l. word keyword.Scan ∷ l) (there.1 ∙ ap (λ l. word keyword.Index ∷ l) q.2)))
+    (λ not_there. subst (SpellsCommand (word keyword.Scan ∷ ts)) (ap (λ b. scan_of b q.0) (sym not_there.0) ∙ q.3)
+    (q.1, ap (λ l. word keyword.Scan ∷ l) (not_there.1 ∙ q.2)))
+    (has_keyword_read keyword.Index ts p.0 p.1 p.2)
 
 scan_spelled : (t : List ℕ) → IsName t → scan (Word t ∷ []) ≡ Some (command.Scan t, [])
-unfolding scan say_scan
-scan_spelled t named = ap (option_and_then (λ (r : Front (List ℕ)). say_scan r.0 r.1)) (name_spelled t [] named)
+unfolding scan
+scan_spelled t named =
+    ap (λ (o : Option (Front (Unit {0}))). option_and_then (λ (r : Front Bool). (name >>= (λ n. say (scan_of r.0 n))) r.1)
+    (option_or (option_and_then (λ (s : Front (Unit {0})). say true s.1) o) (Some (false, Word t ∷ []))))
+    (name_no_keyword keyword.Index refl t [] named)
+    ∙ made_spelled (scan_of false) t named
+
+scan_index_spelled : (i : List ℕ) → IsName i → scan (word keyword.Index ∷ Word i ∷ []) ≡ Some (command.ScanIndex i, [])
+unfolding scan
+scan_index_spelled i named = made_spelled (scan_of true) i named
+
+-- DROP
+
+dropped_read : (k : Keyword) (ts : List Token) (c : Command) → dropped k ts ≡ Some (c, []) → SpellsCommand (word keyword.Drop ∷ word k ∷ ts) c
+dropped_read keyword.Table ts c e =
+    let p = made_read (λ n. command.Define (define.DropTable n)) ts c e in
+    subst (SpellsCommand (word keyword.Drop ∷ word keyword.Table ∷ ts)) p.3
+    (p.1, ap (λ l. word keyword.Drop ∷ word keyword.Table ∷ l) p.2)
+dropped_read keyword.Index ts c e =
+    let p = made_read (λ n. command.Define (define.DropIndex n)) ts c e in
+    subst (SpellsCommand (word keyword.Drop ∷ word keyword.Index ∷ ts)) p.3
+    (p.1, ap (λ l. word keyword.Drop ∷ word keyword.Index ∷ l) p.2)
+dropped_read _ ts c e = let answer : Front Command = (c, []) in absurd (none-some answer e)
+
+drop_read : (ts : List Token) (c : Command) → drop ts ≡ Some (c, []) → SpellsCommand (word keyword.Drop ∷ ts) c
+unfolding drop
+drop_read ts c e =
+    let p = then_parts (one_word keyword_named) dropped ts c [] e in
+    let s = word_parts keyword_named ts p.0 p.1 p.2 in
+    subst (λ l. SpellsCommand (word keyword.Drop ∷ l) c) (sym (s.1 ∙ ap (λ t. t ∷ p.1) (named_read s.0 p.0 s.2))) (dropped_read p.0 p.1 c p.3)
+
+drop_table_spelled : (n : List ℕ) → IsName n → drop (word keyword.Table ∷ Word n ∷ []) ≡ Some (command.Define (define.DropTable n), [])
+unfolding drop
+drop_table_spelled n named = made_spelled (λ n. command.Define (define.DropTable n)) n named
+
+drop_index_spelled : (n : List ℕ) → IsName n → drop (word keyword.Index ∷ Word n ∷ []) ≡ Some (command.Define (define.DropIndex n), [])
+unfolding drop
+drop_index_spelled n named = made_spelled (λ n. command.Define (define.DropIndex n)) n named
+
+-- INDEX
+
+kind_word_of : (k : Keyword) (i : IndexKind) → kind_named k ≡ Some i → k ≡ kind_word i
+kind_word_of keyword.Tree i e = ap kind_word (same_Some kind.Tree i e)
+kind_word_of keyword.Hash i e = ap kind_word (same_Some kind.Hash i e)
+kind_word_of _ i e = absurd (none-some i e)
+
+kind_read : (ts : List Token) (i : IndexKind) (us : List Token) → index_kind ts ≡ Some (i, us) → ts ≡ word (kind_word i) ∷ us
+kind_read ts i us e =
+    let p = word_parts (λ w. option_and_then kind_named (keyword_named w)) ts i us e in
+    let q = chained kind_named (keyword_named p.0) i p.2 in
+    p.1 ∙ ap (λ w. w ∷ us) (named_read p.0 q.0 q.1 ∙ ap word (kind_word_of q.0 i q.2))
+
+kind_spelled : (i : IndexKind) (us : List Token) → index_kind (word (kind_word i) ∷ us) ≡ Some (i, us)
+kind_spelled kind.Tree us = refl
+kind_spelled kind.Hash us = refl
+
+the_index : List ℕ → List ℕ → List ℕ → IndexKind → Command
+the_index n t c k = command.Define (define.Index (record { name = n; table = t; column = c; kind = k }))
+
+say_index : List ℕ → List ℕ → List ℕ → IndexKind → Phrase Command
+say_index n t c k = say (the_index n t c k)
+
+after_column : List ℕ → List ℕ → List ℕ → Phrase Command
+after_column n t c = index_kind >>= say_index n t c
+
+after_indexed : List ℕ → List ℕ → Phrase Command
+after_indexed n t = in_parentheses name >>= after_column n t
+
+after_on : List ℕ → Phrase Command
+after_on n = name >>= after_indexed n
+
+after_index : List ℕ → Phrase Command
+after_index n = the_keyword keyword.On >> after_on n
+
+index_read : (ts : List Token) (c : Command) → index ts ≡ Some (c, []) → SpellsCommand (word keyword.Index ∷ ts) c
+unfolding index after_index after_on after_indexed after_column say_index the_index
+index_read ts c e =
+    let p = then_parts name after_index ts c [] e in
+    let q = then_parts (the_keyword keyword.On) (λ u. after_on p.0) p.1 c [] p.3 in
+    let r = then_parts name (after_indexed p.0) q.1 c [] q.3 in
+    let s = then_parts (in_parentheses name) (after_column p.0 r.0) r.1 c [] r.3 in
+    let k = then_parts index_kind (say_index p.0 r.0 s.0) s.1 c [] s.3 in
+    let u = said_same (the_index p.0 r.0 s.0 k.0) c k.1 [] k.3 in
+    let inside = in_parentheses_parts name r.1 s.0 s.1 s.2 in
+    let n = name_read ts p.0 p.1 p.2 in
+    let t = name_read q.1 r.0 r.1 r.2 in
+    let m = name_read inside.0 s.0 inside.1 inside.3 in
+    let kind_is = kind_read s.1 k.0 k.1 k.2 ∙ ap (λ l. word (kind_word k.0) ∷ l) u.1 in
+    let column_is = m.0 ∙ ap (λ l. Word s.0 ∷ l) (symbol_read Close inside.1 s.1 inside.4 ∙ ap (λ l. Mark Close ∷ l) kind_is) in
+    let table_is = t.0 ∙ ap (λ l. Word r.0 ∷ l) (symbol_read Open r.1 inside.0 inside.2 ∙ ap (λ l. Mark Open ∷ l) column_is) in
+    let all = n.0 ∙ ap (λ l. Word p.0 ∷ l) (keyword_read keyword.On p.1 q.1 q.2 ∙ ap (λ l. word keyword.On ∷ l) table_is) in
+    subst (SpellsCommand (word keyword.Index ∷ ts)) u.0 (n.1, t.1, m.1, ap (λ l. word keyword.Index ∷ l) all)
+
+module _ (n t c : List ℕ) (k : IndexKind) (named : IsName n) (indexed : IsName t) (by : IsName c) where
+  behind_column : List Token
+  behind_column = Mark Close ∷ word (kind_word k) ∷ []
+
+  behind_table : List Token
+  behind_table = Mark Open ∷ Word c ∷ Mark Close ∷ word (kind_word k) ∷ []
+
+  index_spelled : index (Word n ∷ word keyword.On ∷ Word t ∷ Mark Open ∷ Word c ∷ Mark Close ∷ word (kind_word k) ∷ [])
+      ≡ Some (command.Define (define.Index (record { name = n; table = t; column = c; kind = k })), [])
+  unfolding index after_index after_on after_indexed after_column say_index the_index behind_column behind_table
+  index_spelled =
+      ap (option_and_then (λ (r : Front (List ℕ)). after_index r.0 r.1)) (name_spelled n (word keyword.On ∷ Word t ∷ behind_table) named)
+      ∙ ap (option_and_then (λ (r : Front (List ℕ)). after_indexed n r.0 r.1)) (name_spelled t behind_table indexed)
+      ∙ ap (λ (o : Option (Front (List ℕ))). option_and_then (λ (r : Front (List ℕ)). after_column n t r.0 r.1)
+      (option_and_then (λ (r : Front (List ℕ)). (the_symbol Close >>= (λ u. say r.0)) r.1) o)) (name_spelled c behind_column by)
+      ∙ ap (option_and_then (λ (r : Front IndexKind). say_index n t c r.0 r.1)) (kind_spelled k [])
 
 -- TABLE
 
@@ -208,6 +339,8 @@ table_spelled n columns inner named one h =
 -- all commands
 
 behind_read : (k : Keyword) (ts : List Token) (c : Command) → command_behind k ts ≡ Some (c, []) → SpellsCommand (word k ∷ ts) c
+behind_read keyword.Drop ts c e = drop_read ts c e
+behind_read keyword.Index ts c e = index_read ts c e
 behind_read keyword.Insert ts c e = insert_read ts c e
 behind_read keyword.Scan ts c e = scan_read ts c e
 behind_read keyword.Table ts c e = table_read ts c e
@@ -232,9 +365,16 @@ unfolding command_of
 command_spelled ts command.Nothing h = absurd h
 command_spelled ts (command.Define (define.Table definition)) h =
     ap command_of h.4 ∙ ap (option_and_then (λ (r : Front Command). alone r.0 r.1)) (table_spelled definition.name definition.columns h.0 h.1 h.2 h.3)
+command_spelled ts (command.Define (define.DropTable n)) h =
+    ap command_of h.1 ∙ ap (option_and_then (λ (r : Front Command). alone r.0 r.1)) (drop_table_spelled n h.0)
+command_spelled ts (command.Define (define.Index i)) h =
+    ap command_of h.3 ∙ ap (option_and_then (λ (r : Front Command). alone r.0 r.1)) (index_spelled i.name i.table i.column i.kind h.0 h.1 h.2)
+command_spelled ts (command.Define (define.DropIndex n)) h =
+    ap command_of h.1 ∙ ap (option_and_then (λ (r : Front Command). alone r.0 r.1)) (drop_index_spelled n h.0)
 command_spelled ts (command.Change (change.Insert t tuples)) h =
     ap command_of h.3 ∙ ap (option_and_then (λ (r : Front Command). alone r.0 r.1)) (insert_spelled t tuples h.0 h.1 h.2)
 command_spelled ts (command.Scan t) h = ap command_of h.1 ∙ ap (option_and_then (λ (r : Front Command). alone r.0 r.1)) (scan_spelled t h.0)
+command_spelled ts (command.ScanIndex i) h = ap command_of h.1 ∙ ap (option_and_then (λ (r : Front Command). alone r.0 r.1)) (scan_index_spelled i h.0)
 
 pub command_one : (ts : List Token) (c d : Command) → SpellsCommand ts c → SpellsCommand ts d → c ≡ d
 command_one ts c d h k = same_Some c d (sym (command_spelled ts c h) ∙ command_spelled ts d k)

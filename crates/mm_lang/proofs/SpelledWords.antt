@@ -1,9 +1,9 @@
 -- Symbols, keywords, names and literals: what a single token is read as, and what the grammar says.
-use Rattle.std.proofs.Common.{◌≡◌, ℕ, Bool, true, false, cond, List, [], ◌∷◌, Some, None, Decides, pos, neg_ℤ, refl, sym, ap, subst, ◌∙◌}
+use Rattle.std.proofs.Common.{◌≡◌, ◌⊎◌, inl, inr, ⊎_elim, ℕ, Bool, true, false, cond, List, [], ◌∷◌, Some, None, Decides, pos, neg_ℤ, refl, sym, ap, subst, ◌∙◌}
 use Rattle.std.specs.List.{find}
 use Rattle.std.specs.Option.{option_map}
 use Rattle.std.specs.Str.Parse.{digits_value}
-use Rattle.std.proofs.lemmas.Bool.{cond-true, false≢true}
+use Rattle.std.proofs.lemmas.Bool.{cond-true, false≢true, cases_Bool}
 use Rattle.std.proofs.lemmas.Option.{none-some, same_Some}
 use Rattle.std.proofs.lemmas.Slice.Eq.{bytes_eq-Decides}
 use Rattle.mm_schema.specs.Name.{is_name, IsName}
@@ -15,11 +15,11 @@ use Rattle.mm_lang.specs.declared.keyword.TheConstants.{KEYWORDS}
 use Rattle.mm_lang.specs.declared.token.Symbol.{Symbol}
 use Rattle.mm_lang.specs.declared.token.Symbol.TheVariants.{Open, Close, Comma, Dot, Equal, Less, AtMost, Greater, AtLeast, Plus, Minus}
 use Rattle.mm_lang.specs.Grammar.{literal_of, name}
-use Rattle.mm_lang.specs.Phrases.{is_mark, the_keyword, the_symbol}
+use Rattle.mm_lang.specs.Phrases.{◌>>◌, say, is_mark, the_keyword, the_symbol, has_keyword}
 use Rattle.mm_lang.specs.Spelling.{word, SpellsLiteral}
 use Rattle.mm_lang.specs.Tokens.{Token, Word, Signed, Quoted, Mark, Unreadable}
 use Rattle.mm_lang.specs.Words.{is_symbol, is_word, keyword_named, keyword_text}
-use Rattle.mm_lang.specs.steps.Parts.{Front, tested, one_parts, word_parts}
+use Rattle.mm_lang.specs.steps.Parts.{Front, said_same, tested, then_parts, one_parts, word_parts, optional_parts}
 
 symbol_same : (a b : Symbol) → is_symbol a b ≡ true → b ≡ a
 symbol_same Open Open h = refl
@@ -50,6 +50,25 @@ keyword_read k ts us e =
     let p = word_parts _ ts tt us e in
     let q = tested (is_word k p.0) (Some tt) tt p.2 in
     p.1 ∙ ap (λ w. Word w ∷ us) ((is_word-Decides k p.0).0 q.0)
+
+-- A keyword that is no name stands at none.
+pub name_no_keyword : (k : Keyword) → is_name (keyword_text k) ≡ false → (n : List ℕ) (us : List Token) → IsName n → the_keyword k (Word n ∷ us) ≡ None
+name_no_keyword k upper n us named =
+    ⊎_elim
+    (λ is. absurd (false≢true (sym upper ∙ ap is_name (sym ((is_word-Decides k n).0 is)) ∙ named)))
+    (λ other. let pair : Unit {0} → Front (Unit {0}) = λ x. (x, us) in ap (λ b. option_map pair (cond b (Some tt) None)) other)
+    (cases_Bool (is_word k n))
+
+-- Whether a keyword stands there, as it was read.
+pub has_keyword_read : (k : Keyword) (ts : List Token) (b : Bool) (us : List Token) → has_keyword k ts ≡ Some (b, us)
+    → ((b ≡ true) × (ts ≡ word k ∷ us)) ⊎ ((b ≡ false) × (ts ≡ us))
+has_keyword_read k ts b us e =
+    ⊎_elim
+    (λ there. let p = then_parts (the_keyword k) (λ u. say true) ts b us there in
+    let q = said_same true b p.1 us p.3 in
+    inl (sym q.0, keyword_read k ts p.1 p.2 ∙ ap (λ l. word k ∷ l) q.1))
+    (λ not_there. inr (sym not_there.1, not_there.2))
+    (optional_parts false (the_keyword k >> say true) ts b us e)
 
 find_passes : {A : Type 0} (p : A → Bool) (xs : List A) (x : A) → find p xs ≡ Some x → p x ≡ true
 find_passes p [] x e = absurd (none-some x e)

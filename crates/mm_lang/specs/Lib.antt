@@ -12,6 +12,7 @@ pub use Rattle.mm_query.specs.Edits
 pub use Rattle.mm_query.specs.Machine
 pub use Rattle.mm_query.specs.State
 pub use Rattle.mm_schema.specs.Columns
+pub use Rattle.mm_schema.specs.Indexes
 pub use Rattle.mm_schema.specs.Instance
 pub use Rattle.mm_schema.specs.Name
 pub use Rattle.mm_schema.specs.Refused

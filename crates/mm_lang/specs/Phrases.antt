@@ -1,5 +1,5 @@
 -- Phrases: what the front of some tokens says, and how phrases are put together.
-use Rattle.std.specs.Prelude.{ℕ, zero, suc, Bool, if◌then◌else◌, List, [], ◌∷◌, Option, Some, None, length}
+use Rattle.std.specs.Prelude.{ℕ, zero, suc, Bool, true, false, if◌then◌else◌, List, [], ◌∷◌, Option, Some, None, length}
 use Rattle.std.specs.Option.{option_map, option_and_then, option_or}
 use Rattle.mm_lang.specs.declared.keyword.Keyword.{Keyword}
 use Rattle.mm_lang.specs.declared.token.Symbol.{Symbol}
@@ -62,6 +62,10 @@ only_if condition phrase ts = if condition then phrase ts else None
 -- A phrase, or no token, which says the absent thing.
 abbrev pub optional : {A : Type 0} → A → Phrase A → Phrase A
 optional absent phrase ts = option_or (phrase ts) (Some (absent, ts))
+
+-- Whether this keyword stands there; if it does, it is read.
+abbrev pub has_keyword : Keyword → Phrase Bool
+has_keyword keyword = optional false (the_keyword keyword >> say true)
 
 -- What follows an item of a list: no separator and nothing more of the list, or a separator and other items.
 abbrev pub behind_item : {A : Type 0} → Option (Unit {0} × List Token) → Phrase (List A) → Phrase (List A)

@@ -8,7 +8,7 @@ use Rattle.mm_value.specs.declared.refusal.Refusal.TheVariants.{LineTooLong, Syn
 use Rattle.mm_value.specs.declared.values.Value.{Value}
 use Rattle.mm_value.specs.declared.values.Value.TheVariants.{Int, Text}
 use Rattle.mm_query.specs.declared.command.Command.{Command}
-use Rattle.mm_query.specs.declared.command.Command.TheVariants.{Nothing, Define, Change, Scan}
+use Rattle.mm_query.specs.declared.command.Command.TheVariants.{Nothing, Define, Change, Scan, ScanIndex}
 use Rattle.mm_query.specs.declared.command.Mutation.TheVariants.{Insert}
 use Rattle.mm_lang.specs.Grammar.{command_of}
 use Rattle.mm_lang.specs.Tokens.{tokens, is_blank}
@@ -32,6 +32,7 @@ literals_of Nothing = []
 literals_of (Define definition) = []
 literals_of (Change (Insert table tuples)) = flat_map (λ tuple. tuple) tuples
 literals_of (Scan table) = []
+literals_of (ScanIndex index) = []
 
 -- a thing, unless it has a fault
 abbrev pub unless : {A : Type 0} → A → Option Refusal → Result A Refusal
@@ -69,6 +70,7 @@ command_takes_memory Nothing = false
 command_takes_memory (Define definition) = true
 command_takes_memory (Change mutation) = true
 command_takes_memory (Scan table) = true
+command_takes_memory (ScanIndex index) = true
 
 -- What a line reads as takes memory, unless it is such a command or the line is too long.
 abbrev pub reading_takes_memory : Result Command Refusal → Bool

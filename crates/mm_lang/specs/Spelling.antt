@@ -7,6 +7,8 @@ use Rattle.mm_schema.specs.Name.{IsName}
 use Rattle.mm_schema.specs.declared.column.Column.{Column}
 use Rattle.mm_schema.specs.declared.column.Role.{Role}
 use Rattle.mm_schema.specs.declared.column.Role.TheVariants as role
+use Rattle.mm_schema.specs.declared.index.IndexKind.{IndexKind}
+use Rattle.mm_schema.specs.declared.index.IndexKind.TheVariants as kind
 use Rattle.mm_value.specs.Literal.{IsNumeral}
 use Rattle.mm_value.specs.declared.col_type.ColType.{ColType}
 use Rattle.mm_value.specs.declared.col_type.ColType.TheVariants as type
@@ -66,15 +68,31 @@ abbrev pub SpellsColumn : List Token → Column → Type 0
 SpellsColumn ts column =
     (behind : List Token) × IsName column.name × SpellsRole behind column.role × (ts ≡ Word column.name ∷ word (type_word column.col_type) ∷ behind)
 
+-- kind = TREE | HASH
+abbrev pub kind_word : IndexKind → Keyword
+kind_word kind.Tree = keyword.Tree
+kind_word kind.Hash = keyword.Hash
+
 -- command = TABLE name ( coldef, .. ) with exactly one KEY
+--         | DROP TABLE name
+--         | INDEX name ON name ( name ) kind
+--         | DROP INDEX name
 --         | INSERT name tuple, ..
 --         | SCAN name
+--         | SCAN INDEX name
 abbrev pub SpellsCommand : List Token → Command → Type 0
 SpellsCommand ts command.Nothing = ⊥
 SpellsCommand ts (command.Define (define.Table definition)) =
     (columns : List Token) × IsName definition.name × (key_count definition.columns ≡ 1)
     × SpellsInParentheses (SpellsList (Mark Comma) SpellsColumn) columns definition.columns
     × (ts ≡ word keyword.Table ∷ Word definition.name ∷ columns)
+SpellsCommand ts (command.Define (define.DropTable name)) = IsName name × (ts ≡ word keyword.Drop ∷ word keyword.Table ∷ Word name ∷ [])
+SpellsCommand ts (command.Define (define.Index index)) =
+    IsName index.name × IsName index.table × IsName index.column
+    × (ts ≡ word keyword.Index ∷ Word index.name ∷ word keyword.On ∷ Word index.table ∷ Mark Open ∷ Word index.column ∷ Mark Close
+    ∷ word (kind_word index.kind) ∷ [])
+SpellsCommand ts (command.Define (define.DropIndex name)) = IsName name × (ts ≡ word keyword.Drop ∷ word keyword.Index ∷ Word name ∷ [])
 SpellsCommand ts (command.Change (change.Insert table tuples)) =
     (inner : List Token) × IsName table × SpellsList (Mark Comma) SpellsTuple inner tuples × (ts ≡ word keyword.Insert ∷ Word table ∷ inner)
 SpellsCommand ts (command.Scan table) = IsName table × (ts ≡ word keyword.Scan ∷ Word table ∷ [])
+SpellsCommand ts (command.ScanIndex index) = IsName index × (ts ≡ word keyword.Scan ∷ word keyword.Index ∷ Word index ∷ [])

@@ -1,8 +1,8 @@
 //! Reading of a line from left to right.
 ghost use Rattle.std.specs.Prelude.{◌≡◌, Some, None, MatchOption, MatchResult};
 ghost use Rattle.std.specs.Option.{option_or};
-ghost use Rattle.mm_lang.specs.Grammar.{col_type, literal_of, name};
-ghost use Rattle.mm_lang.specs.Phrases.{one, one_word, the_keyword, the_symbol, word_of};
+ghost use Rattle.mm_lang.specs.Grammar.{col_type, index_kind, literal_of, name};
+ghost use Rattle.mm_lang.specs.Phrases.{in_parentheses, one, one_word, the_keyword, the_symbol, word_of};
 ghost use Rattle.mm_lang.specs.Words.{keyword_named};
 ghost use Rattle.mm_lang.specs.steps.Parsing.{AnswersOrMemory, BeginsNoWord, BeginsNot, Fails, Finishes, Follows, Gives, ReadsPhrase, Skips, is_limit, no_literals, only_literal};
 ghost use Rattle.mm_lang.specs.steps.Splitting.{Shows};
@@ -11,7 +11,7 @@ ghost use Rattle.mm_lang.specs.Tokens.{Token as Tok, Word, Mark as MarkToken, to
 
 use crate::keyword::Keyword;
 use crate::token::{Symbol, Token, split_token};
-use mm_schema::Name;
+use mm_schema::{IndexKind, Name};
 use mm_value::{ColType, Refusal, Value, read_literal};
 use std::alloc::Global;
 
@@ -79,6 +79,17 @@ impl<'a> Reader<'a> {
         }
     }
 
+    /// Reads this keyword. `Syntax` where anything else stands there.
+    pub(crate) fn expect_keyword(&mut self, keyword: Keyword) -> Result<(), Refusal>
+        ensures { ReadsPhrase (the_keyword keyword) no_literals self.old self.new result }
+    {
+        if self.skip_keyword(keyword) {
+            Ok(())
+        } else {
+            Err(Refusal::Syntax)
+        }
+    }
+
     /// Reads a keyword, and gives it. `Syntax` where no word stands there, or one that is no keyword.
     pub(crate) fn keyword(&mut self) -> Result<Keyword, Refusal>
         ensures { ReadsPhrase (one_word keyword_named) no_literals self.old self.new result }
@@ -93,6 +104,27 @@ impl<'a> Reader<'a> {
     {
         let word = self.word()?;
         Name::new(word).ok_or(Refusal::Syntax)
+    }
+
+    /// Reads a name in parentheses, and gives it. `Syntax` where one of the three does not stand there.
+    pub(crate) fn name_in_parentheses(&mut self) -> Result<Name, Refusal>
+        ensures { ReadsPhrase (in_parentheses name) no_literals self.old self.new result }
+    {
+        self.symbol(Symbol::Open)?;
+        let name = self.name()?;
+        self.symbol(Symbol::Close)?;
+        Ok(name)
+    }
+
+    /// Reads `TREE` or `HASH`, and gives the kind of index. `Syntax` where neither stands there.
+    pub(crate) fn index_kind(&mut self) -> Result<IndexKind, Refusal>
+        ensures { ReadsPhrase index_kind no_literals self.old self.new result }
+    {
+        match self.keyword()? {
+            Keyword::Tree => Ok(IndexKind::Tree),
+            Keyword::Hash => Ok(IndexKind::Hash),
+            _ => Err(Refusal::Syntax),
+        }
     }
 
     /// Reads `INT` or `TEXT`, and gives the type. `Syntax` where neither stands there.

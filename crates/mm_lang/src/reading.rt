@@ -1,7 +1,7 @@
 //! What a line reads as.
 ghost use Rattle.std.specs.Prelude.{◌≡◌};
 ghost use Rattle.std.specs.List.{list_all};
-ghost use Rattle.mm_lang.specs.Grammar.{command_behind, command_of, insert, scan, table};
+ghost use Rattle.mm_lang.specs.Grammar.{command_behind, command_of, drop, dropped, index, insert, scan, table};
 ghost use Rattle.mm_lang.specs.Reading.{Reads, is_comment, is_nothing, literals_of, read_as};
 ghost use Rattle.mm_lang.specs.Tokens.{tokens, is_blank};
 ghost use Rattle.mm_lang.specs.steps.Parsing.{AnswersOrMemory, ReadsPhrase};
@@ -13,7 +13,7 @@ use crate::reader::Reader;
 use crate::token::is_blank;
 use crate::tuples::TuplePhrase;
 use mm_query::{Command, Definition, Mutation, RowList};
-use mm_schema::{Columns, TableDef};
+use mm_schema::{Columns, IndexDef, TableDef};
 use mm_value::Refusal;
 use std::alloc::Global;
 
@@ -22,7 +22,8 @@ pub const MAX_LINE_BYTES: usize = 4096;
 
 /// Reads a line, without its line feed and carriage return, as a command. A line of blanks alone, of no bytes or that
 /// begins with `--` reads as `Nothing`. Else the line is one of `TABLE name (name type, ..)`, where a type is `INT` or
-/// `TEXT` and just one column has `KEY` behind it, `INSERT name (literal, ..), ..` and `SCAN name`.
+/// `TEXT` and just one column has `KEY` behind it, `DROP TABLE name`, `INDEX name ON name (name) kind`, where a kind is
+/// `TREE` or `HASH`, `DROP INDEX name`, `INSERT name (literal, ..), ..`, `SCAN name` and `SCAN INDEX name`.
 /// `LineTooLong` where the line has more than 4,096 bytes, `Syntax` where it has no reading, else `NumberOutOfRange` or
 /// `TextTooLong` where its first literal from the left past its limit is a number or a text. `Memory` may come in place
 /// of any answer but `LineTooLong` and `Nothing`. Nothing is taken but what the command keeps.
@@ -71,11 +72,48 @@ fn read_behind(keyword: Keyword, reader: &mut Reader<'_>) -> Result<Command, Ref
     ensures { ReadsPhrase (command_behind keyword) literals_of reader.old reader.new result }
 {
     match keyword {
+        Keyword::Drop => read_drop(reader),
+        Keyword::Index => read_index(reader),
         Keyword::Insert => read_insert(reader),
         Keyword::Scan => read_scan(reader),
         Keyword::Table => read_table(reader),
         _ => Err(Refusal::Syntax),
     }
+}
+
+fn read_drop(reader: &mut Reader<'_>) -> Result<Command, Refusal>
+    ensures { ReadsPhrase drop literals_of reader.old reader.new result }
+{
+    let keyword = reader.keyword()?;
+    read_dropped(keyword, reader)
+}
+
+// What stands behind the keyword that says what is dropped.
+fn read_dropped(keyword: Keyword, reader: &mut Reader<'_>) -> Result<Command, Refusal>
+    ensures { ReadsPhrase (dropped keyword) literals_of reader.old reader.new result }
+{
+    match keyword {
+        Keyword::Table => Ok(Command::Define(Definition::DropTable(reader.name()?))),
+        Keyword::Index => Ok(Command::Define(Definition::DropIndex(reader.name()?))),
+        _ => Err(Refusal::Syntax),
+    }
+}
+
+fn read_index(reader: &mut Reader<'_>) -> Result<Command, Refusal>
+    ensures { ReadsPhrase index literals_of reader.old reader.new result }
+{
+    let name = reader.name()?;
+    reader.expect_keyword(Keyword::On)?;
+    let table = reader.name()?;
+    let column = reader.name_in_parentheses()?;
+    let kind = reader.index_kind()?;
+    let index = IndexDef {
+        name,
+        table,
+        column,
+        kind,
+    };
+    Ok(Command::Define(Definition::Index(index)))
 }
 
 fn read_insert(reader: &mut Reader<'_>) -> Result<Command, Refusal>
@@ -91,7 +129,13 @@ fn read_insert(reader: &mut Reader<'_>) -> Result<Command, Refusal>
 fn read_scan(reader: &mut Reader<'_>) -> Result<Command, Refusal>
     ensures { ReadsPhrase scan literals_of reader.old reader.new result }
 {
-    Ok(Command::Scan(reader.name()?))
+    let by_index = reader.skip_keyword(Keyword::Index);
+    let name = reader.name()?;
+    if by_index {
+        Ok(Command::ScanIndex(name))
+    } else {
+        Ok(Command::Scan(name))
+    }
 }
 
 fn read_table(reader: &mut Reader<'_>) -> Result<Command, Refusal>

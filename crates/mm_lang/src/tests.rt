@@ -1,7 +1,7 @@
 //! Lines and their readings, from the language's description.
 use crate::{Command, MAX_LINE_BYTES, parse};
 use mm_query::{Definition, Mutation};
-use mm_schema::{Column, Role};
+use mm_schema::{Column, IndexDef, IndexKind, Role};
 use mm_value::{ColType, Refusal, Row, Value};
 use std::alloc::Global;
 
@@ -66,6 +66,35 @@ fn reads_scan(alloc: Global, line: &[u8]) -> bool {
     }
 }
 
+fn is_index(index: &IndexDef, kind: IndexKind) -> bool {
+    index.name.bytes() == b"i_1".as_slice()
+        && index.table.bytes() == b"t".as_slice()
+        && index.column.bytes() == b"k".as_slice()
+        && index.kind == kind
+}
+
+fn reads_index(alloc: Global, line: &[u8], kind: IndexKind) -> bool {
+    match &parse(alloc, line) {
+        Ok(Command::Define(Definition::Index(index))) => is_index(index, kind),
+        _ => false,
+    }
+}
+
+fn reads_drop(alloc: Global, line: &[u8]) -> bool {
+    match &parse(alloc, line) {
+        Ok(Command::Define(Definition::DropTable(name))) => name.bytes() == b"t".as_slice(),
+        Ok(Command::Define(Definition::DropIndex(name))) => name.bytes() == b"i".as_slice(),
+        _ => false,
+    }
+}
+
+fn reads_index_scan(alloc: Global, line: &[u8]) -> bool {
+    match &parse(alloc, line) {
+        Ok(Command::ScanIndex(index)) => index.bytes() == b"i".as_slice(),
+        _ => false,
+    }
+}
+
 fn reads_nothing(alloc: Global, line: &[u8]) -> bool {
     matches!(parse(alloc, line), Ok(Command::Nothing))
 }
@@ -83,6 +112,18 @@ fn reads_commands(rt: HostRuntime) {
 }
 
 #[test]
+fn reads_indexes_and_drops(rt: HostRuntime) {
+    let alloc = rt.alloc();
+    assert!(rt; reads_index(alloc, b"INDEX i_1 ON t (k) TREE", IndexKind::Tree));
+    assert!(rt; reads_index(alloc, b"INDEX\ti_1 ON t(k)HASH ", IndexKind::Hash));
+    assert!(rt; reads_drop(alloc, b"DROP TABLE t"));
+    assert!(rt; reads_drop(alloc, b"DROP INDEX i"));
+    assert!(rt; !reads_drop(alloc, b"DROP INDEX t"));
+    assert!(rt; reads_index_scan(alloc, b"SCAN INDEX i"));
+    assert!(rt; reads_scan(alloc, b"SCAN t"));
+}
+
+#[test]
 fn reads_empty_lines_and_comments(rt: HostRuntime) {
     let alloc = rt.alloc();
     let blanks = [b' '; MAX_LINE_BYTES + 1];
@@ -96,7 +137,7 @@ fn reads_empty_lines_and_comments(rt: HostRuntime) {
 
 #[test]
 fn refuses_lines_without_a_reading(rt: HostRuntime) {
-    let lines: [&[u8]; 24] = [
+    let lines: [&[u8]; 35] = [
         b"SCAN t x",
         b"SCAN",
         b"scan t",
@@ -114,6 +155,17 @@ fn refuses_lines_without_a_reading(rt: HostRuntime) {
         b"INSERT t (1x)",
         b"INSERT t ('a)",
         b"INSERT t ('a\n')",
+        b"SCAN INDEX",
+        b"SCAN INDEX INDEX",
+        b"SCAN TABLE t",
+        b"DROP t",
+        b"DROP TABLE",
+        b"DROP TABLE t, u",
+        b"DROP INDEX i ON t",
+        b"INDEX i ON t (k)",
+        b"INDEX i ON t (k, j) TREE",
+        b"INDEX i ON t k TREE",
+        b"INDEX i ON t (k) LIST",
         b"TABLE x (id INT)",
         b"TABLE x (id INT KEY, k INT KEY)",
         b"TABLE x (id INT KEY KEY)",

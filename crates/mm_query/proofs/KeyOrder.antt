@@ -1,16 +1,19 @@
 -- Every state that commands lead to has each table's rows strictly in key order.
-use Rattle.std.proofs.Common.{◌≡◌, ℕ, true, false, List, [], ◌∷◌, length, Option, Some, None, refl}
+use Rattle.std.proofs.Common.{◌≡◌, ℕ, true, false, List, [], ◌∷◌, length, map, Option, Some, None, refl, subst, sym}
 use Rattle.std.specs.List.{IsDistinct}
 use Rattle.std.specs.Prelude.{nat_lt}
 use Rattle.mm_schema.specs.Columns.{key_place}
+use Rattle.mm_schema.specs.Indexes.{table_with_index, table_without_index}
 use Rattle.mm_schema.specs.Instance.{AreInKeyOrder}
+use Rattle.mm_schema.specs.Name.{same_name}
 use Rattle.mm_schema.specs.Refused.{ascend, first_refusal}
 use Rattle.mm_schema.specs.Rows.{has_twin_keys, table_rows_conditions}
 use Rattle.mm_schema.specs.Schema.{HasDistinctNames, key_named}
 use Rattle.mm_schema.specs.declared.table.Table.{Table}
 use Rattle.mm_schema.specs.declared.table.TableDef.{TableDef}
 use Rattle.mm_schema.proofs.Dues.{neither_due, none_due_behind}
-use Rattle.mm_schema.proofs.Instances.{AreInKeyOrder-changed, AreInKeyOrder-push, IsDistinct-push}
+use Rattle.mm_schema.proofs.Instances.{AreInKeyOrder-changed, AreInKeyOrder-kept, AreInKeyOrder-push, AreInKeyOrder-without, IsDistinct-push, IsDistinct-without, names_kept}
+use Rattle.mm_schema.proofs.References.{same_with, same_without}
 use Rattle.mm_schema.proofs.Places.{new_name_is_free}
 use Rattle.mm_schema.proofs.StrictOrder.{IsStrictlySortedBy-nil}
 use Rattle.mm_schema.proofs.Twins.{Row, column_cmp_total}
@@ -21,7 +24,8 @@ use Rattle.mm_query.specs.Edits.{changed_table, own_pairs}
 use Rattle.mm_query.specs.Machine.{Outcome, after_all, after_change, after_definition, conditions, reply_to, row_conditions, state_after, step, unless_refused}
 use Rattle.mm_query.specs.State.{State, first_state, rows_in}
 use Rattle.mm_query.specs.declared.command.Command.{Command}
-use Rattle.mm_query.specs.declared.command.Command.TheVariants.{Nothing, Define, Change, Scan}
+use Rattle.mm_query.specs.declared.command.Command.TheVariants.{Nothing, Define, Change, Scan, ScanIndex}
+use Rattle.mm_query.specs.declared.command.Definition.{Definition}
 use Rattle.mm_query.specs.declared.command.Definition.TheVariants as define
 use Rattle.mm_query.specs.declared.command.Mutation.{Mutation}
 use Rattle.mm_query.specs.declared.command.Mutation.TheVariants.{Insert}
@@ -30,8 +34,12 @@ use Rattle.mm_query.specs.declared.command.Mutation.TheVariants.{Insert}
 pub ascending : (command : Command) (state : State) → ascend (conditions command state) ≡ true
 ascending Nothing state = refl
 ascending (Define (define.Table definition)) state = refl
+ascending (Define (define.DropTable name)) state = refl
+ascending (Define (define.Index index)) state = refl
+ascending (Define (define.DropIndex name)) state = refl
 ascending (Change (Insert table tuples)) state = refl
 ascending (Scan table) state = refl
+ascending (ScanIndex index) state = refl
 
 -- what each step keeps of a state: no two tables have one name, and the rows of each are in key order
 record IsKept (state : State) : Type 0 where
@@ -47,6 +55,27 @@ kept_by_table definition state due kept =
       order = AreInKeyOrder-push state.schema.tables state.rows table [] kept.order
           (IsStrictlySortedBy-nil (column_cmp_total (key_place definition.columns)));
     }
+
+kept_by_drop_table : (name : List ℕ) (state : State) → IsKept state → IsKept (after_definition (define.DropTable name) state)
+kept_by_drop_table name state kept = record {
+  distinct = IsDistinct-without name state.schema.tables kept.distinct;
+  order = AreInKeyOrder-without name state.schema.tables state.rows kept.order;
+}
+
+-- Where each table keeps its definition and all rows stay, names are distinct still and rows in key order.
+kept_with_definitions : (change : Table → Table) → ((t : Table) → (change t).definition ≡ t.definition) → (state : State) → IsKept state
+    → IsKept (record state { schema = record { tables = map change state.schema.tables } })
+kept_with_definitions change same state kept = record {
+  distinct = subst (IsDistinct same_name) (sym (names_kept change same state.schema.tables)) kept.distinct;
+  order = AreInKeyOrder-kept change same state.schema.tables state.rows kept.order;
+}
+
+kept_by_definition : (definition : Definition) (state : State) → first_refusal (conditions (Define definition) state) ≡ None → IsKept state
+    → IsKept (after_definition definition state)
+kept_by_definition (define.Table definition) state due kept = kept_by_table definition state due kept
+kept_by_definition (define.DropTable name) state due kept = kept_by_drop_table name state kept
+kept_by_definition (define.Index index) state due kept = kept_with_definitions (table_with_index index) (same_with index) state kept
+kept_by_definition (define.DropIndex name) state due kept = kept_with_definitions (table_without_index name) (same_without name) state kept
 
 no_twins : (key : ℕ) (rows : List Row) → first_refusal (table_rows_conditions key rows) ≡ None → has_twin_keys key rows ≡ false
 no_twins key rows due = (neither_due (has_twin_keys key rows) (nat_lt 1048576 (length rows)) DuplicateKey TableFull due).0
@@ -64,9 +93,10 @@ kept_by_change mutation state due kept = record {
 
 kept_by_command : (command : Command) (state : State) → first_refusal (conditions command state) ≡ None → IsKept state → IsKept (state_after command state)
 kept_by_command Nothing state due kept = kept
-kept_by_command (Define (define.Table definition)) state due kept = kept_by_table definition state due kept
+kept_by_command (Define definition) state due kept = kept_by_definition definition state due kept
 kept_by_command (Change mutation) state due kept = kept_by_change mutation state due kept
 kept_by_command (Scan table) state due kept = kept
+kept_by_command (ScanIndex index) state due kept = kept
 
 kept_unless_refused : (due : Option Refusal) (old : State) (done : Outcome) → (due ≡ None → IsKept done.state) → IsKept old
     → IsKept (unless_refused due old done).state

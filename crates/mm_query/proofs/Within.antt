@@ -1,6 +1,6 @@
 -- The places of names that are there lie within the columns.
-use Rattle.std.proofs.Common.{◌≡◌, ℕ, ◌<◌, Bool, true, false, ◌||◌, List, [], ◌∷◌, Option, Some, None, is_none, length, map, refl, sym, ap, subst, ◌∙◌}
-use Rattle.std.specs.List.{All, list_any, position}
+use Rattle.std.proofs.Common.{◌≡◌, ℕ, ◌<◌, Bool, true, false, ◌||◌, List, [], ◌∷◌, Option, Some, None, is_none, length, map, refl}
+use Rattle.std.specs.List.{All, list_any}
 use Rattle.std.specs.Option.{unwrap_or}
 use Rattle.std.proofs.lemmas.List.Elements.{All-cons, All-nil}
 use Rattle.mm_schema.proofs.Places.{within_from_some}

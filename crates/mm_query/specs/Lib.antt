@@ -5,6 +5,7 @@ pub mod Machine
 pub mod Placing
 pub mod State
 pub use Rattle.mm_schema.specs.Columns
+pub use Rattle.mm_schema.specs.Indexes
 pub use Rattle.mm_schema.specs.Instance
 pub use Rattle.mm_schema.specs.Name
 pub use Rattle.mm_schema.specs.Refused

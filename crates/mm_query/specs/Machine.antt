@@ -1,16 +1,21 @@
 -- The machine that keeps only lists of rows: what refuses each command, what it answers, and the state that it leaves.
 use Rattle.std.specs.Prelude.{ℕ, List, [], ◌∷◌, ◌++◌, Option, Some, None, length}
-use Rattle.mm_schema.specs.Instance.{changed_instance}
+use Rattle.std.specs.Option.{option_map_or}
+use Rattle.mm_schema.specs.Indexes.{drop_index_conditions, index_conditions, index_named, lacks_index, with_index, without_index}
+use Rattle.mm_schema.specs.Instance.{changed_instance, without_rows}
 use Rattle.mm_schema.specs.Refused.{Condition, first_refusal}
-use Rattle.mm_schema.specs.Rows.{table_rows_conditions}
-use Rattle.mm_schema.specs.Schema.{key_named, lacks_table, table_conditions, with_table}
+use Rattle.mm_schema.specs.Rows.{rows_by, table_rows_conditions}
+use Rattle.mm_schema.specs.Schema.{column_place_in, drop_table_conditions, key_named, lacks_table, table_conditions, with_table, without_table}
+use Rattle.mm_schema.specs.Sorting.{in_order}
+use Rattle.mm_schema.specs.declared.index.IndexDef.{IndexDef}
 use Rattle.mm_value.specs.declared.refusal.Refusal.{Refusal}
-use Rattle.mm_value.specs.declared.refusal.Refusal.TheVariants.{NoSuchTable}
+use Rattle.mm_value.specs.declared.refusal.Refusal.TheVariants.{NoSuchIndex, NoSuchTable}
+use Rattle.mm_value.specs.declared.values.Value.{Value}
 use Rattle.mm_query.specs.Binding.{binding_conditions}
 use Rattle.mm_query.specs.Edits.{changed_table, edits, own_pairs}
 use Rattle.mm_query.specs.State.{State, rows_in}
 use Rattle.mm_query.specs.declared.command.Command.{Command}
-use Rattle.mm_query.specs.declared.command.Command.TheVariants.{Nothing, Define, Change, Scan}
+use Rattle.mm_query.specs.declared.command.Command.TheVariants.{Nothing, Define, Change, Scan, ScanIndex}
 use Rattle.mm_query.specs.declared.command.Definition.{Definition}
 use Rattle.mm_query.specs.declared.command.Definition.TheVariants as define
 use Rattle.mm_query.specs.declared.command.Mutation.{Mutation}
@@ -22,11 +27,19 @@ use Rattle.mm_query.specs.declared.reply.Reply.TheVariants.{Done, Count, Rows, R
 -- What refuses a change of the catalog, in the one order.
 abbrev pub definition_conditions : Definition → State → List Condition
 definition_conditions (define.Table definition) state = table_conditions definition state.schema
+definition_conditions (define.DropTable name) state = drop_table_conditions name state.schema
+definition_conditions (define.Index index) state = index_conditions index state.schema
+definition_conditions (define.DropIndex name) state = drop_index_conditions name state.schema
 
--- The state after a change of the catalog: a new table comes last and has no rows.
+-- The state after a change of the catalog: a new table comes last and has no rows, a table that is dropped takes its rows with
+-- it, and an index leaves all rows as they are.
 abbrev pub after_definition : Definition → State → State
 after_definition (define.Table definition) state =
     record state { schema = with_table definition state.schema; rows = state.rows ++ [] ∷ [] }
+after_definition (define.DropTable name) state =
+    record state { schema = without_table name state.schema; rows = without_rows name state.schema.tables state.rows }
+after_definition (define.Index index) state = record state { schema = with_index index state.schema }
+after_definition (define.DropIndex name) state = record state { schema = without_index name state.schema }
 
 -- ---- changes of rows
 
@@ -43,6 +56,17 @@ abbrev pub change_conditions : Mutation → State → List Condition
 change_conditions mutation state =
     binding_conditions mutation state.schema ++ row_conditions (changed_table mutation) state (after_change mutation state)
 
+-- ---- rows by an index
+
+-- The rows of an index's table, by the value in its column, and by key where these are equal.
+abbrev pub index_rows : State → IndexDef → List (List Value)
+index_rows state index =
+    in_order (rows_by (column_place_in index.table index.column state.schema) (key_named index.table state.schema)) (rows_in state index.table)
+
+-- The rows of the table of the index of a name in that order, and none where there is no such index.
+abbrev pub rows_by_index : State → List ℕ → List (List Value)
+rows_by_index state name = option_map_or (index_rows state) (index_named name state.schema) []
+
 -- ---- the step
 
 -- What refuses a command, in the one order.
@@ -51,14 +75,16 @@ conditions Nothing state = []
 conditions (Define definition) state = definition_conditions definition state
 conditions (Change mutation) state = change_conditions mutation state
 conditions (Scan table) state = record { holds = lacks_table table state.schema; refusal = NoSuchTable } ∷ []
+conditions (ScanIndex index) state = record { holds = lacks_index index state.schema; refusal = NoSuchIndex } ∷ []
 
 -- What a command answers that nothing refuses; an empty line has no reply. A change tells how many pairs its own table has,
--- and SCAN gives the rows of its table in key order.
+-- SCAN gives the rows of its table in key order, and SCAN INDEX those of its index's table in the order of the index.
 abbrev pub reply_to : Command → State → Option Reply
 reply_to Nothing state = None
 reply_to (Define definition) state = Some Done
 reply_to (Change mutation) state = Some (Count (length (own_pairs mutation state)))
 reply_to (Scan table) state = Some (Rows (rows_in state table))
+reply_to (ScanIndex index) state = Some (Rows (rows_by_index state index))
 
 -- The state that a command leaves that nothing refuses.
 abbrev pub state_after : Command → State → State
@@ -66,6 +92,7 @@ state_after Nothing state = state
 state_after (Define definition) state = after_definition definition state
 state_after (Change mutation) state = after_change mutation state
 state_after (Scan table) state = state
+state_after (ScanIndex index) state = state
 
 -- What a command answers, if it has a reply, and the state after it.
 pub record Outcome : Type 0 where

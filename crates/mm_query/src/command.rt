@@ -1,6 +1,6 @@
 //! Commands, with all names as written.
 use crate::row_list::RowList;
-use mm_schema::{Name, TableDef};
+use mm_schema::{IndexDef, Name, TableDef};
 
 /// A change of the rows of tables.
 #[derive(Debug, Drop)]
@@ -19,6 +19,12 @@ pub enum Mutation {
 pub enum Definition {
     /// Makes a new table, which has no rows.
     Table(TableDef),
+    /// Drops the table of this name, with its rows and its indexes.
+    DropTable(Name),
+    /// Makes a new index of a table.
+    Index(IndexDef),
+    /// Drops the index of this name.
+    DropIndex(Name),
 }
 
 /// A command: what a line reads as.
@@ -32,4 +38,7 @@ pub enum Command {
     Change(Mutation),
     /// Asks for all rows of the table of this name, in key order.
     Scan(Name),
+    /// Asks for all rows of the table of the index of this name, in the order of the values in the index's column, and by
+    /// key where these are equal.
+    ScanIndex(Name),
 }

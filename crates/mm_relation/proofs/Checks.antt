@@ -1,6 +1,5 @@
 -- Edits by the rows that there would be: what holds however the references that stay are listed.
-use Rattle.std.proofs.Common.{◌≡◌, ℕ, Bool, false, List, length, Ok, Result, sym, ◌∙◌}
-use Rattle.std.specs.Prelude.{IfOk}
+use Rattle.std.proofs.Common.{◌≡◌, ℕ, Bool, false, List, length, sym, ◌∙◌}
 use Rattle.std.proofs.lemmas.List.Sorted.{length_permutation}
 use Rattle.mm_value.specs.declared.row_ref.RowRef.{RowRef}
 use Rattle.mm_partition.specs.Places.{slot_at}

@@ -19,4 +19,5 @@ pub mod Steps
 pub mod Turning
 pub mod Twins
 pub mod TwinsAfter
+pub mod WalkRows
 pub mod WaysBack

@@ -1,13 +1,9 @@
 -- An index that is made over rows.
-use Rattle.std.proofs.Common.{◌≡◌, ◌≢◌, ℕ, ◌<◌, List, [], ◌∷◌, ◌++◌, length, get_or, refl, ap, ◌∙◌, append-nil, arith}
+use Rattle.std.proofs.Common.{◌≡◌, ℕ, ◌<◌, List, [], ◌∷◌, ◌++◌, length, get_or, refl, ap, ◌∙◌, append-nil, arith}
 use Rattle.std.specs.List.{All}
 use Rattle.std.proofs.lemmas.List.Elements.{All-append, All-nil, All-cons, Contains-get_or}
-use Rattle.std.specs.Ordering.{ordering_then}
-use Rattle.std.specs.declared.cmp.Ordering.{Ordering}
-use Rattle.std.specs.declared.cmp.Ordering.TheVariants.{Less, Equal, Greater}
 use Rattle.mm_value.specs.declared.row_ref.RowRef.{RowRef}
-use Rattle.mm_schema.specs.Rows.{column_cmp}
-use Rattle.mm_relation.specs.Refs.{Slots, HasRow, IsWide, row_at}
+use Rattle.mm_relation.specs.Refs.{Slots, HasRow, IsWide}
 use Rattle.mm_relation.specs.Edits.{named, ref_name}
 use Rattle.mm_relation.specs.Index.{KeysApart, Keeps, column_of}
 use Rattle.mm_relation.specs.Kept.{IsKept}

@@ -1,8 +1,7 @@
 -- What edits make of a relation is what their pairs make of its list of rows.
-use Rattle.std.proofs.Common.{◌≡◌, ◌≢◌, ℕ, suc, ◌+◌, ◌<◌, Bool, true, false, cond, not, ◌||◌, List, [], ◌∷◌, ◌++◌, length, get_or, refl, sym, ap, ◌∙◌, subst, arith}
+use Rattle.std.proofs.Common.{◌≡◌, ◌≢◌, ℕ, suc, ◌<◌, Bool, true, false, cond, not, ◌||◌, List, [], ◌∷◌, ◌++◌, length, get_or, refl, sym, ap, ◌∙◌, subst, arith}
 use Rattle.std.specs.Prelude.{map, IsPermutation}
-use Rattle.std.specs.List.{All, AllPairs, Contains, filter, filter_map, list_any}
-use Rattle.std.specs.List.Sorted.{IsStrictlySortedBy}
+use Rattle.std.specs.List.{All, filter, filter_map, list_any}
 use Rattle.std.specs.Ordering.{is_eq, ordering_reverse, ordering_then}
 use Rattle.std.specs.declared.cmp.Ordering.{Ordering}
 use Rattle.std.specs.declared.cmp.Ordering.TheVariants.{Less, Equal, Greater}
@@ -18,18 +17,17 @@ use Rattle.std.proofs.lemmas.List.Sorted.{IsPermutation-sym, IsPermutation-trans
 use Rattle.mm_value.specs.declared.row_ref.RowRef.{RowRef}
 use Rattle.mm_value.specs.declared.values.Value.{Value}
 use Rattle.mm_schema.specs.Rows.{IsInKeyOrder, Pair, changed, column_cmp, goes, has_twin_keys, same_in_column, unsorted}
-use Rattle.mm_schema.specs.Sorting.{in_order}
 use Rattle.mm_schema.proofs.InOrder.{IsPermutation-in_order, in_order_is}
 use Rattle.mm_schema.proofs.StrictOrder.{IsStrictlySortedBy-from_neighbours}
 use Rattle.mm_schema.proofs.Twins.{column_cmp_total, has_twin_keys-IsPermutation}
 use Rattle.mm_order.proofs.Filtered.{filter-all, filter-none}
 use Rattle.mm_order.proofs.Pairs.{AllPairs-append_across}
-use Rattle.mm_relation.specs.Refs.{Slots, row_in, row_at, refs_by}
+use Rattle.mm_relation.specs.Refs.{Slots, row_in, row_at}
 use Rattle.mm_relation.specs.Before.{same_ref}
 use Rattle.mm_relation.specs.Edits.{new_rows}
 use Rattle.mm_relation.specs.Index.{InOrder, KeysApart}
 use Rattle.mm_relation.specs.Kept.{RowsApart, Stay, rows_after}
-use Rattle.mm_relation.specs.RowLists.{edit_pair, edit_pairs}
+use Rattle.mm_relation.specs.RowLists.{edit_pairs}
 use Rattle.mm_relation.specs.declared.edits.Edit.{Edit}
 use Rattle.mm_relation.specs.declared.edits.Edit.TheVariants.{Add, Swap, Gone}
 use Rattle.mm_relation.proofs.Bags.{IsPermutation-filter}
@@ -53,10 +51,17 @@ equal_turned Less e = cc
 equal_turned Equal e = refl
 equal_turned Greater e = cc
 
-not_tied : (o : Ordering) → o ≢ Equal → is_eq o ≡ false
+pub not_tied : (o : Ordering) → o ≢ Equal → is_eq o ≡ false
 not_tied Less differ = refl
 not_tied Equal differ = absurd (differ refl)
 not_tied Greater differ = refl
+
+-- the row at a place is that of the reference there, whatever stands behind the ends
+pub at_place : (now : Slots) (refs : List RowRef) (r : RowRef) (i : ℕ) (d : List Value) → i < length refs
+    → get_or (map (row_at now) refs) i d ≡ row_at now (get_or refs i r)
+at_place now refs r i d within =
+    get_or_default (map (row_at now) refs) i d (row_at now r) (omega (arith, within, length-map refs (row_at now)))
+    ∙ get_or-map (row_at now) refs i r
 
 module _ (key : ℕ) (now : Slots) (refs : List RowRef) (ordered : InOrder key key now refs) where
   key_less : (i j : ℕ) (d : RowRef) → i < j → j < length refs → column_cmp key (row_at now (get_or refs i d)) (row_at now (get_or refs j d)) ≡ Less
@@ -68,18 +73,13 @@ module _ (key : ℕ) (now : Slots) (refs : List RowRef) (ordered : InOrder key k
   KeysApart-ordered i j d before within =
       not_equal_from_less (column_cmp key (row_at now (get_or refs i d)) (row_at now (get_or refs j d))) (key_less i j d before within)
 
-  at_place : (r : RowRef) (i : ℕ) (d : List Value) → i < length refs → get_or (map (row_at now) refs) i d ≡ row_at now (get_or refs i r)
-  at_place r i d within =
-      get_or_default (map (row_at now) refs) i d (row_at now r) (omega (arith, within, length-map refs (row_at now)))
-      ∙ get_or-map (row_at now) refs i r
-
   -- .. and they are in key order
   pub in_key_order : IsInKeyOrder key (map (row_at now) refs)
   in_key_order = IsStrictlySortedBy-from_neighbours (column_cmp_total key) (map (row_at now) refs)
       (λ k d within.
       let below : suc k < length refs = omega (arith, within, length-map refs (row_at now)) in
       let r : RowRef = record { part = 0; slot = 0 } in
-      rw (at_place r k d (omega (arith, below)), at_place r (suc k) d below) (key_less k (suc k) r (omega arith) below))
+      rw (at_place now refs r k d (omega (arith, below)), at_place now refs r (suc k) d below) (key_less k (suc k) r (omega arith) below))
 
 -- rows without twins have keys that are apart
 pub RowsApart-from_twins : (key : ℕ) (rows : List (List Value)) → has_twin_keys key rows ≡ false → RowsApart key rows

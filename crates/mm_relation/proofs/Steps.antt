@@ -148,7 +148,7 @@ first_wide column key now names before left refs at all_names all_before moved =
     (All-append (IsWide column key now) names before all_names all_before))
 
 -- the second of two comparisons ties where both together do
-then_second : (a b : Ordering) → ordering_then a b ≡ Equal → b ≡ Equal
+pub then_second : (a b : Ordering) → ordering_then a b ≡ Equal → b ≡ Equal
 then_second Less b p = cc
 then_second Equal b p = p
 then_second Greater b p = cc

@@ -7,6 +7,7 @@ ghost use Rattle.mm_relation.specs.Kept.{Stay};
 ghost use Rattle.mm_relation.specs.Sample.{IsSample};
 
 use crate::{Edit, Log, Relation};
+use mm_order::OrderedRefs;
 use mm_schema::IndexKind;
 use mm_value::{Row, RowRef, Value};
 use std::alloc::{AllocError, Global};
@@ -214,6 +215,20 @@ fn count_of(relation: &Relation, alloc: Global, digit: i64) -> Result<usize, All
     Ok(found.len())
 }
 
+/// How many rows there are in the order of the digits, of at most 1,000.
+fn count_by_digit(relation: &Relation, alloc: Global) -> Result<usize, AllocError>
+    requires { IsSample relation.now }
+{
+    if relation.len() > 1000 {
+        return Ok(0);
+    }
+    let ordered = match relation.ordered_by(alloc, 1) {
+        Ok(ordered) => ordered,
+        Err(_) => relation.ordered_by(alloc, 1)?,
+    };
+    Ok(ordered.len())
+}
+
 #[test]
 fn starts_empty(rt: HostRuntime) -> Result<(), Fail> {
     let alloc = rt.alloc();
@@ -284,6 +299,7 @@ fn keeps_indexes(rt: HostRuntime) -> Result<(), Fail> {
     assert!(rt; put(&mut relation, alloc, &[1, 11, 22, 35, 21])?);
     assert_eq!(rt; count_between(&relation, alloc, 1, 2)?, 4);
     assert_eq!(rt; count_of(&relation, alloc, 1)?, 3);
+    assert_eq!(rt; count_by_digit(&relation, alloc)?, 5);
 
     assert!(rt; turn(&mut relation, alloc, 11, Some(15))?);
     assert!(rt; turn(&mut relation, alloc, 22, None)?);

@@ -133,7 +133,7 @@ not_taken true h = cc
 not_taken false h = refl
 
 -- An index that nothing refuses has a new name.
-new_index_is_free : (index : IndexDef) (schema : Schema) → first_refusal (index_conditions index schema) ≡ None
+pub new_index_is_free : (index : IndexDef) (schema : Schema) → first_refusal (index_conditions index schema) ≡ None
     → is_taken index.name (indexes_of schema.tables) ≡ false
 new_index_is_free index schema due =
     not_taken _ (sym (none_is_found (λ (i : IndexDef). same_name index.name i.name) (indexes_of schema.tables))

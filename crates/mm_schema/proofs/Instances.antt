@@ -1,11 +1,11 @@
 -- Changes of the rows of one table among those of all.
-use Rattle.std.proofs.Common.{◌≡◌, ℕ, Bool, true, false, cond, List, [], ◌∷◌, ◌++◌, Option, Some, None, find, map, refl, sym, ap, subst, ◌∙◌}
+use Rattle.std.proofs.Common.{◌≡◌, ℕ, Bool, true, false, cond, not, List, [], ◌∷◌, ◌++◌, Option, Some, None, filter, find, map, refl, sym, ap, subst, ◌∙◌}
 use Rattle.std.specs.List.{AllByRecursion, IsDistinct, flat_map}
 use Rattle.std.specs.Option.{option_map_or}
 use Rattle.std.proofs.lemmas.List.{append-nil}
 use Rattle.std.proofs.lemmas.Map.Keys.{IsDistinct-cons, IsDistinct-head, IsDistinct-tail}
 use Rattle.mm_schema.specs.Columns.{key_place}
-use Rattle.mm_schema.specs.Instance.{AreInKeyOrder, Instance, TableEdits, changed_instance, pairs_of, rows_named}
+use Rattle.mm_schema.specs.Instance.{AreInKeyOrder, Instance, TableEdits, changed_instance, pairs_of, rows_named, without_rows}
 use Rattle.mm_schema.specs.Name.{same_name}
 use Rattle.mm_schema.specs.Rows.{IsInKeyOrder, Pair, changed, has_twin_keys}
 use Rattle.mm_schema.specs.declared.table.Table.{Table}
@@ -134,3 +134,59 @@ module _ (table : Table) where
       IsDistinct-cons same_name (name_of t) (map name_of (ts ++ table ∷ []))
       (names_before (name_of t) ts (IsDistinct-head same_name (name_of t) (map name_of ts) distinct) (differs_back (name_of table) (name_of t) others.0))
       (IsDistinct-push ts others.1 (IsDistinct-tail same_name (name_of t) (map name_of ts) distinct))
+
+-- ---- a table that goes
+
+module _ (gone : List ℕ) where
+  abbrev stays : Table → Bool
+  stays t = not (same_name gone (name_of t))
+
+  lack_still : (name : List ℕ) (tables : List Table) → LackName name tables → LackName name (filter stays tables)
+  lack_still name [] lack = tt
+  lack_still name (t ∷ ts) lack = by (same_name gone (name_of t)) (lack_still name ts lack.1)
+    where
+      by : (b : Bool) → LackName name (filter stays ts) → LackName name (cond (not b) (t ∷ filter stays ts) (filter stays ts))
+      by true later = later
+      by false later = (lack.0, later)
+
+  -- The names of the others are distinct still, ..
+  pub IsDistinct-without : (tables : List Table) → IsDistinct same_name (map name_of tables) → IsDistinct same_name (map name_of (filter stays tables))
+  IsDistinct-without [] distinct = distinct
+  IsDistinct-without (t ∷ ts) distinct =
+      by (same_name gone (name_of t)) (IsDistinct-without ts (IsDistinct-tail same_name (name_of t) (map name_of ts) distinct))
+    where
+      by : (b : Bool) → IsDistinct same_name (map name_of (filter stays ts))
+          → IsDistinct same_name (map name_of (cond (not b) (t ∷ filter stays ts) (filter stays ts)))
+      by true later = later
+      by false later =
+          IsDistinct-cons same_name (name_of t) (map name_of (filter stays ts))
+          (lack_still (name_of t) ts (IsDistinct-head same_name (name_of t) (map name_of ts) distinct)) later
+
+  -- .. and their rows are in key order still.
+  pub AreInKeyOrder-without : (tables : List Table) (rows : Instance) → AreInKeyOrder tables rows
+      → AreInKeyOrder (filter stays tables) (without_rows gone tables rows)
+  AreInKeyOrder-without [] [] order = tt
+  AreInKeyOrder-without (t ∷ ts) (r ∷ rs) order = by (same_name gone (name_of t)) (AreInKeyOrder-without ts rs order.1)
+    where
+      by : (b : Bool) → AreInKeyOrder (filter stays ts) (without_rows gone ts rs)
+          → AreInKeyOrder (cond (not b) (t ∷ filter stays ts) (filter stays ts)) (cond b (without_rows gone ts rs) (r ∷ without_rows gone ts rs))
+      by true later = later
+      by false later = (order.0, later)
+  AreInKeyOrder-without [] (r ∷ rs) order = absurd order
+  AreInKeyOrder-without (t ∷ ts) [] order = absurd order
+
+-- ---- other indexes
+
+module _ (change : Table → Table) (same : (t : Table) → (change t).definition ≡ t.definition) where
+  -- Tables that keep their definitions keep their names, ..
+  pub names_kept : (tables : List Table) → map name_of (map change tables) ≡ map name_of tables
+  names_kept [] = refl
+  names_kept (t ∷ ts) = λ i. (same t i).name ∷ names_kept ts i
+
+  -- .. and their rows are in key order still.
+  pub AreInKeyOrder-kept : (tables : List Table) (rows : Instance) → AreInKeyOrder tables rows → AreInKeyOrder (map change tables) rows
+  AreInKeyOrder-kept [] [] order = tt
+  AreInKeyOrder-kept (t ∷ ts) (r ∷ rs) order =
+      (subst (λ d. IsInKeyOrder (key_place d.columns) r) (sym (same t)) order.0, AreInKeyOrder-kept ts rs order.1)
+  AreInKeyOrder-kept [] (r ∷ rs) order = absurd order
+  AreInKeyOrder-kept (t ∷ ts) [] order = absurd order

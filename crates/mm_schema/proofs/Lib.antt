@@ -2,7 +2,7 @@ mod CatalogLemmas
 pub mod ChangedRows
 pub mod Dues
 pub mod InOrder
-mod IndexLemmas
+pub mod IndexLemmas
 pub mod Instances
 pub mod Keys
 pub mod NameLemmas

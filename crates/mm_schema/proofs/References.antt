@@ -93,7 +93,8 @@ module _ (change : Table → Table) (same : (t : Table) → (change t).definitio
       (λ t there. ap (λ d. list_any (lacks_target new) d.columns) (same t)
       ∙ targets_stay schema new (λ name is. as_there name schema.tables ∙ is) t.definition.columns there) schema.tables whole)
 
-same_with : (index : IndexDef) (t : Table) → (table_with_index index t).definition ≡ t.definition
+-- An index changes no definition, ..
+pub same_with : (index : IndexDef) (t : Table) → (table_with_index index t).definition ≡ t.definition
 same_with index t = by (same_name index.table (name_of t))
   where
     by : (b : Bool) → (cond b (record t { indexes = t.indexes ++ index ∷ [] }) t).definition ≡ t.definition
@@ -103,8 +104,12 @@ same_with index t = by (same_name index.table (name_of t))
 pub targets_indexed : (index : IndexDef) (schema : Schema) → HasTargets schema → HasTargets (with_index index schema)
 targets_indexed index schema whole = targets_kept (table_with_index index) (same_with index) schema whole
 
+-- .. and neither does one that goes.
+pub same_without : (name : List ℕ) (t : Table) → (table_without_index name t).definition ≡ t.definition
+same_without name t = refl
+
 pub targets_unindexed : (name : List ℕ) (schema : Schema) → HasTargets schema → HasTargets (without_index name schema)
-targets_unindexed name schema whole = targets_kept (table_without_index name) (λ t. refl) schema whole
+targets_unindexed name schema whole = targets_kept (table_without_index name) (same_without name) schema whole
 
 -- ---- a table dropped
 

@@ -1,5 +1,5 @@
 -- Indexes of one name: what keeps a list free of them.
-use Rattle.std.proofs.Common.{◌≡◌, ℕ, ◌||◌, Bool, true, false, cond, not, List, [], ◌∷◌, ◌++◌, ◌⊎◌, filter, map, inl, inr, refl, sym, ap, ◌∙◌, append_assoc}
+use Rattle.std.proofs.Common.{◌≡◌, ℕ, ◌||◌, Bool, true, false, cond, not, List, [], ◌∷◌, ◌++◌, ◌⊎◌, filter, map, inl, inr, refl, sym, ap, ◌∙◌, append_assoc, append-nil}
 use Rattle.std.specs.List.{IsDistinct, list_any}
 use Rattle.std.proofs.lemmas.Bool.{or_parts, or_from}
 use Rattle.std.proofs.lemmas.List.Elements.{filter-append}
@@ -10,7 +10,7 @@ use Rattle.mm_schema.specs.Name.{same_name}
 use Rattle.mm_schema.specs.declared.index.IndexDef.{IndexDef}
 use Rattle.mm_schema.specs.declared.table.Table.{Table}
 use Rattle.mm_schema.proofs.Instances.{LackName, name_of, others_lack}
-use Rattle.mm_schema.proofs.NameLemmas.{differs_back, same_bytes}
+use Rattle.mm_schema.proofs.NameLemmas.{differs_back, same_bytes, same_name_refl}
 
 -- Some index has the name.
 abbrev pub is_taken : List ℕ → List IndexDef → Bool
@@ -135,7 +135,7 @@ module _ (name : List ℕ) where
   abbrev keeps : IndexDef → Bool
   keeps index = not (same_name name index.name)
 
-  all_kept : (xs : List IndexDef) → is_taken name xs ≡ false → filter keeps xs ≡ xs
+  pub all_kept : (xs : List IndexDef) → is_taken name xs ≡ false → filter keeps xs ≡ xs
   all_kept [] free = refl
   all_kept (x ∷ xs) free =
       let p = or_parts (same_name name x.name) (is_taken name xs) free in
@@ -150,6 +150,26 @@ module _ (name : List ℕ) where
   stay_without [] free = refl
   stay_without (t ∷ ts) free =
       let p = is_taken-append name t.indexes (indexes_of ts) free in λ i. stays_without t p.0 i ∷ stay_without ts p.1 i
+
+  -- An index that comes and goes again leaves all tables as they were.
+  pub with_and_without : (index : IndexDef) (tables : List Table) → name ≡ index.name → is_taken name (indexes_of tables) ≡ false
+      → map (table_without_index name) (map (table_with_index index) tables) ≡ tables
+  with_and_without index [] is free = refl
+  with_and_without index (t ∷ ts) is free =
+      let p = is_taken-append name t.indexes (indexes_of ts) free in
+      let first = by (same_name index.table (name_of t)) p.0 in
+      λ i. first i ∷ with_and_without index ts is p.1 i
+    where
+      itself : same_name name index.name ≡ true
+      itself = ap (λ n. same_name name n) (sym is) ∙ same_name_refl name
+
+      by : (b : Bool) → is_taken name t.indexes ≡ false
+          → table_without_index name (cond b (record t { indexes = t.indexes ++ index ∷ [] }) t) ≡ t
+      by true free_here =
+          ap (λ is. record t { indexes = is })
+          (filter-append keeps t.indexes (index ∷ []) ∙ ap (λ b. filter keeps t.indexes ++ cond (not b) (index ∷ []) []) itself
+          ∙ append-nil (filter keeps t.indexes) ∙ all_kept t.indexes free_here)
+      by false free_here = stays_without t free_here
 
   -- A name that is taken in front is free behind.
   pub free_behind : (xs ys : List IndexDef) → is_taken name xs ≡ true → has_twin_indexes (xs ++ ys) ≡ false → is_taken name ys ≡ false

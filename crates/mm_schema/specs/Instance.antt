@@ -17,6 +17,13 @@ rows_named name (table ∷ tables) (rows ∷ others) = if same_name name table.d
 rows_named name (table ∷ tables) [] = []
 rows_named name [] others = []
 
+-- The rows of all tables but the one of a name; the others stay in order.
+abbrev pub without_rows : List ℕ → List Table → Instance → Instance
+without_rows name (table ∷ tables) (rows ∷ others) =
+    if same_name name table.definition.name then without_rows name tables others else rows ∷ without_rows name tables others
+without_rows name (table ∷ tables) [] = []
+without_rows name [] others = []
+
 -- A table, and the pairs of a change that concern it.
 pub record TableEdits : Type 0 where
   pub table : List ℕ

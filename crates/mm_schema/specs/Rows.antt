@@ -3,7 +3,7 @@ use Rattle.std.specs.Prelude.{ℕ, Bool, false, not, ◌||◌, List, [], ◌∷�
 use Rattle.std.specs.List.{list_any, filter_map}
 use Rattle.std.specs.List.Sorted.{IsStrictlySortedBy}
 use Rattle.std.specs.Option.{option_cmp}
-use Rattle.std.specs.Ordering.{is_eq}
+use Rattle.std.specs.Ordering.{is_eq, ordering_then}
 use Rattle.std.specs.declared.cmp.Ordering.{Ordering}
 use Rattle.mm_value.specs.Order.{value_cmp}
 use Rattle.mm_value.specs.declared.refusal.Refusal.TheVariants.{DuplicateKey, TableFull}
@@ -18,6 +18,10 @@ column_cmp column a b = option_cmp value_cmp (slice_get a column) (slice_get b c
 -- Two rows have the same value in the column.
 abbrev pub same_in_column : ℕ → List Value → List Value → Bool
 same_in_column column a b = is_eq (column_cmp column a b)
+
+-- Rows compare by their values in one column, and where these are equal by their keys.
+abbrev pub rows_by : ℕ → ℕ → List Value → List Value → Ordering
+rows_by column key a b = ordering_then (column_cmp column a b) (column_cmp key a b)
 
 -- Each row's key is less than those of all rows after it, so no two rows have one key.
 abbrev pub IsInKeyOrder : ℕ → List (List Value) → Type 0

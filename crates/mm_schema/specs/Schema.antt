@@ -1,9 +1,9 @@
 -- The catalog: its tables in order of creation, and what refuses that one is made or dropped.
 use Rattle.std.specs.Prelude.{ℕ, Bool, false, not, List, [], ◌∷◌, ◌++◌, Option, filter, length, map, find, position, is_some, is_none, nat_lt, nat_le, ◌||◌, ◌&&◌}
 use Rattle.std.specs.List.{IsDistinct, list_any}
-use Rattle.std.specs.Option.{option_map_or}
+use Rattle.std.specs.Option.{option_map_or, unwrap_or}
 use Rattle.mm_schema.specs.Name.{same_name}
-use Rattle.mm_schema.specs.Columns.{differs_from_key, has_twin_names, key_place, refers_to, target_of}
+use Rattle.mm_schema.specs.Columns.{column_place, differs_from_key, has_twin_names, key_place, refers_to, target_of}
 use Rattle.mm_schema.specs.Refused.{Condition}
 use Rattle.mm_schema.specs.declared.column.Column.{Column}
 use Rattle.mm_schema.specs.declared.table.Table.{Table}
@@ -37,6 +37,10 @@ table_passes test name schema = option_map_or test (table_named name schema) fal
 -- The place of the key column in the table of a name, and 0 where there is none.
 abbrev pub key_named : List ℕ → Schema → ℕ
 key_named name schema = option_map_or (λ table. key_place table.definition.columns) (table_named name schema) 0
+
+-- The place of a column in the table of a name, and 0 where one of them is missing.
+abbrev pub column_place_in : List ℕ → List ℕ → Schema → ℕ
+column_place_in table column schema = option_map_or (λ t. unwrap_or (column_place column t.definition.columns) 0) (table_named table schema) 0
 
 -- At most 64 tables, of at most 16 columns each.
 abbrev pub passes_table_limits : TableDef → Schema → Bool

@@ -230,9 +230,11 @@ impl Catalog {
             .find(|index| *name == index.name)
     }
 
-    /// The place of the table that has the index of a name.
-    fn place_with_index(&self, name: &Name) -> Option<usize>
-        ensures { result ≡ position (λ t. list_any (λ i. same_name name.now i.name) t.indexes) self.now.tables }
+    /// The place of the table that has the index of a name, in the order of creation, counted from 0; none where no index
+    /// has it. It looks through the indexes of all tables, at most 1,024.
+    pub fn place_with_index(&self, name: &Name) -> Option<usize>
+        ensures place { result ≡ position (λ t. list_any (λ i. same_name name.now i.name) t.indexes) self.now.tables }
+        ensures distinct { HasDistinctIndexes self.now }
     {
         self.tables()
             .iter()

@@ -1,5 +1,5 @@
 //! Indexes as the catalog has them.
-ghost use Rattle.std.specs.Prelude.{◌≡◌, ◌++◌, [], ◌∷◌, not, filter, IfErr, OnOk, OnErr};
+ghost use Rattle.std.specs.Prelude.{◌≡◌, ◌++◌, [], ◌∷◌, not, filter, position, IfErr, OnOk, OnErr};
 ghost use Rattle.std.specs.List.{list_any};
 ghost use Rattle.mm_schema.specs.Name.{same_name};
 ghost use Rattle.mm_value.specs.declared.refusal.Refusal.TheVariants.{Memory};
@@ -77,6 +77,13 @@ impl Indexes {
         ensures { result ≡ list_any (λ index. same_name name.now index.name) self.now }
     {
         self.items.iter().any(|index| *name == index.name)
+    }
+
+    /// The place of the index of a name, counted from 0; none where no index has it.
+    pub fn place_of(&self, name: &Name) -> Option<usize>
+        ensures { result ≡ position (λ index. same_name name.now index.name) self.now }
+    {
+        self.items.iter().position(|index| *name == index.name)
     }
 
     /// Puts an index at the end. It is refused for want of memory alone, and then nothing changes.

@@ -1,6 +1,6 @@
 -- The database's calls as steps of the machine, by the catalog and the rows beside its tables.
 use Rattle.std.proofs.Common.{◌≡◌, ◌≢◌, ℕ, ◌<◌, ◌==◌, Bool, true, false, cond, not, Result, List, [], ◌∷◌, ◌++◌, Some, None, zero, suc, length, get_or, map, slice_get, slice_set, refl, sym, ap, subst, ◌∙◌, arith}
-use Rattle.std.specs.List.{All, AllPairs, list_any, position_or_len}
+use Rattle.std.specs.List.{All, AllPairs, list_any, position_or_len, remove}
 use Rattle.std.proofs.lemmas.Bool.{eqb-true, or_parts}
 use Rattle.std.proofs.lemmas.List.{map-append}
 use Rattle.std.proofs.lemmas.List.Elements.{All-nil}
@@ -17,7 +17,7 @@ use Rattle.mm_schema.specs.Name.{same_name}
 use Rattle.mm_schema.specs.Instance.{changed_instance, rows_named}
 use Rattle.mm_schema.specs.Refused.{AnswersDue, first_refusal}
 use Rattle.mm_schema.specs.Rows.{Pair, additions, changed, table_rows_conditions}
-use Rattle.mm_schema.specs.Schema.{HasDistinctNames, Schema, key_named, lacks_table, table_passes, table_place, with_table}
+use Rattle.mm_schema.specs.Schema.{HasDistinctNames, Schema, key_named, lacks_table, table_passes, table_place, with_table, without_table}
 use Rattle.mm_schema.specs.declared.table.Table.{Table}
 use Rattle.mm_schema.specs.declared.table.TableDef.{TableDef}
 use Rattle.mm_schema.proofs.Instances.{edits_of_one}
@@ -37,8 +37,8 @@ use Rattle.mm_query.specs.declared.command.Mutation.{Mutation}
 use Rattle.mm_query.specs.declared.command.Mutation.TheVariants as written
 use Rattle.mm_query.proofs.Binds.{bound_pairs, bound_place}
 use Rattle.mm_query.proofs.Due.{due_by_rows, key_at_place, passes_at_place}
-use Rattle.mmdb_core.specs.steps.Database.{AreOf, instance_of}
-use Rattle.mmdb_core.proofs.RowsBeside.{AreOf-push, AreOf-set, as_many_rows, beside, changed_at_place, instance_of-set, rows_after_change, rows_at_place}
+use Rattle.mmdb_core.specs.steps.Database.{AreIndexes, AreOf, instance_of}
+use Rattle.mmdb_core.proofs.RowsBeside.{AreOf-push, AreOf-set, as_many_rows, beside, changed_at_place, dropped_at_place, instance_of-set, rows_after_change, rows_at_place}
 
 -- ---- rows that come
 
@@ -99,16 +99,17 @@ module _ (schema : Schema) (rs : List StoredRows) (are : AreOf schema.tables rs)
 
   -- .. and those are its rows.
   pub rows_added : (definition : TableDef) (stored : StoredRows) → stored.key ≡ key_place definition.columns → stored.width ≡ length definition.columns
-      → AreOf (with_table definition schema).tables (rs ++ stored ∷ [])
-  rows_added definition stored key width =
-      AreOf-push schema.tables rs (record { definition = definition; indexes = [] }) stored (record { key = key; width = width }) are
+      → stored.indexes ≡ [] → AreOf (with_table definition schema).tables (rs ++ stored ∷ [])
+  rows_added definition stored key width none =
+      AreOf-push schema.tables rs (record { definition = definition; indexes = [] }) stored
+      (record { key = key; width = width; indexes = subst (AreIndexes definition.columns []) (sym none) tt }) are
 
   module _ (name : List ℕ) (place : ℕ) (placed : table_place name schema ≡ Some place) where
     -- There are rows at the place of a name.
     pub rows_there : place < length rs
     rows_there = omega (arith, as_many_rows schema.tables rs are, place_within name schema place placed)
 
-    place_found : place ≡ position_or_len (λ t. same_name name t.definition.name) schema.tables
+    pub place_found : place ≡ position_or_len (λ t. same_name name t.definition.name) schema.tables
     place_found = place_from_some _ schema.tables place placed
 
     -- They are the rows that the state has for the name.
@@ -131,6 +132,17 @@ module _ (schema : Schema) (rs : List StoredRows) (are : AreOf schema.tables rs)
       rows_changed distinct new pairs is =
           changed_at_place name pairs stored new is schema.tables rs are distinct there_by_name
           ∙ ap (λ p. instance_of (slice_set rs p new)) (sym place_found)
+
+  -- A table that is dropped takes its relation with it, and no other.
+  pub table_dropped : (name : List ℕ) (place : ℕ) → table_place name schema ≡ Some place → HasDistinctNames schema
+      → (state_of (without_table name schema) (remove rs place) ≡ after_definition (define.DropTable name) (state_of schema rs))
+      × AreOf (without_table name schema).tables (remove rs place)
+  table_dropped name place placed distinct =
+      let found : place ≡ position_or_len (λ t. same_name name t.definition.name) schema.tables = place_found name place placed in
+      let both = dropped_at_place name schema.tables rs are distinct (subst (λ p. p < length rs) found (rows_there name place placed)) in (
+        ap (λ rows. record { schema = without_table name schema; rows = rows }) (ap (λ p. instance_of (remove rs p)) found ∙ sym both.0),
+        subst (λ p. AreOf (without_table name schema).tables (remove rs p)) (sym found) both.1,
+      )
 
   -- A change of the rows of one table: its name, its relation, and its pairs.
   module _ (mutation : Mutation) (place : ℕ) (placed : table_place (changed_table mutation) schema ≡ Some place) (stored : StoredRows)
@@ -177,7 +189,7 @@ pairs_are : (schema : Schema) (mutation : Mutation) (change : BoundChange) (stat
     → own_pairs mutation state ≡ additions (tuples_in change)
 pairs_are schema mutation (bound.Insert place tuples) state binds = bound_pairs schema mutation place tuples state binds
 
-some_there : (rs : List StoredRows) (place : ℕ) → place < length rs → (stored : StoredRows) × (slice_get rs place ≡ Some stored)
+pub some_there : (rs : List StoredRows) (place : ℕ) → place < length rs → (stored : StoredRows) × (slice_get rs place ≡ Some stored)
 some_there [] place within = absurd (omega arith)
 some_there (r ∷ rs) zero within = (r, refl)
 some_there (r ∷ rs) (suc place) within = some_there rs place (omega arith)
@@ -245,7 +257,7 @@ module _ (schema : Schema) (rs : List StoredRows) (are : AreOf schema.tables rs)
         let new = each stored there in
         let rows : rows_of new.0 ≡ changed stored.key (additions tuples) (rows_of stored) = new.2.rows_are ∙ with_is stored in (
           ap (state_of schema) new.1 ∙ change_is schema rs are mutation place placed stored there (additions tuples) are_pairs distinct new.0 rows,
-          subst (AreOf schema.tables) (sym new.1) (AreOf-set schema.tables rs place stored new.0 there new.2.key new.2.width are),
+          subst (AreOf schema.tables) (sym new.1) (AreOf-set schema.tables rs place stored new.0 there new.2.key new.2.width new.2.indexes are),
         )
 
     pub insert_refused : ((stored : StoredRows) → slice_get rs place ≡ Some stored
@@ -257,5 +269,5 @@ module _ (schema : Schema) (rs : List StoredRows) (are : AreOf schema.tables rs)
         let new = each stored there in (
           ap (λ rows. record { schema = schema; rows = rows })
               (ap instance_of new.1 ∙ instance_of-set rs place stored new.0 there new.2.rows_are),
-          subst (AreOf schema.tables) (sym new.1) (AreOf-set schema.tables rs place stored new.0 there new.2.key new.2.width are),
+          subst (AreOf schema.tables) (sym new.1) (AreOf-set schema.tables rs place stored new.0 there new.2.key new.2.width new.2.indexes are),
         )

@@ -1,6 +1,8 @@
 pub mod Answering
 pub mod DatabaseSteps
 pub mod FeedLemmas
+pub mod IndexSteps
+pub mod IndexesBeside
 pub mod Inputs
 pub mod LawLemmas
 pub mod LongLines

@@ -1,16 +1,20 @@
 -- A catalog's tables, and the relations beside them.
-use Rattle.std.proofs.Common.{◌≡◌, ℕ, zero, suc, ◌+◌, Bool, true, false, cond, not, List, [], ◌∷◌, ◌++◌, Some, length, map, slice_get, slice_set, refl, sym, ap, subst, ◌∙◌, arith}
-use Rattle.std.specs.List.{IsDistinct, position_or_len}
+use Rattle.std.proofs.Common.{◌≡◌, ℕ, zero, suc, ◌+◌, ◌<◌, Bool, true, false, cond, not, List, [], ◌∷◌, ◌++◌, Some, length, map, slice_get, slice_set, refl, sym, ap, subst, ◌∙◌, arith}
+use Rattle.std.specs.List.{IsDistinct, filter, position_or_len, remove}
 use Rattle.std.proofs.lemmas.Map.Keys.{IsDistinct-tail}
 use Rattle.mm_schema.specs.Columns.{key_place}
-use Rattle.mm_schema.specs.Instance.{changed_instance, pairs_of, rows_named}
+use Rattle.mm_schema.specs.Instance.{changed_instance, pairs_of, rows_named, without_rows}
 use Rattle.mm_schema.specs.Name.{same_name}
 use Rattle.mm_schema.specs.Rows.{Pair, changed}
 use Rattle.mm_schema.specs.declared.table.Table.{Table}
-use Rattle.mm_schema.proofs.Instances.{AreBeside, changed_instance-others, edits_of_one, name_of, others_lack, pairs_of-other, pairs_of-own}
+use Rattle.mm_schema.proofs.Instances.{AreBeside, LackName, changed_instance-others, edits_of_one, name_of, others_lack, pairs_of-other, pairs_of-own}
 use Rattle.mm_schema.proofs.Twins.{Row}
-use Rattle.mmdb_core.specs.steps.Database.{AreOf, IsOf, instance_of}
+use Rattle.mmdb_core.specs.steps.Database.{AreIndexes, AreOf, IsOf, instance_of}
+use Rattle.mm_relation.specs.Index.{EachTurns, SameIndex}
 use Rattle.mm_relation.specs.Kept.{StoredRows}
+use Rattle.mm_relation.specs.declared.index.Index.{Index}
+use Rattle.mm_schema.specs.declared.column.Column.{Column}
+use Rattle.mm_schema.specs.declared.index.IndexDef.{IndexDef}
 use Rattle.mm_relation.specs.RowLists.{rows_of}
 use Rattle.mm_store.specs.Tables.{HasRows}
 
@@ -63,16 +67,39 @@ rows_at_place name (t ∷ ts) [] stored are here = cc
 
 -- ---- other rows at a place
 
--- They are rows of the same tables where they have the same columns and key.
+-- ---- indexes
+
+-- Indexes that turned into others of their columns and kinds are those of the same definitions.
+pub AreIndexes-turned : (columns : List Column) (ds : List IndexDef) (xs ys : List Index) → EachTurns SameIndex xs ys → AreIndexes columns ds xs
+    → AreIndexes columns ds ys
+AreIndexes-turned columns [] [] [] turned are = tt
+AreIndexes-turned columns [] [] (y ∷ ys) turned are = absurd (let size = turned.size in omega arith)
+AreIndexes-turned columns [] (x ∷ xs) ys turned are = absurd are
+AreIndexes-turned columns (d ∷ ds) [] ys turned are = absurd are
+AreIndexes-turned columns (d ∷ ds) (x ∷ xs) [] turned are = absurd (let size = turned.size in omega arith)
+AreIndexes-turned columns (d ∷ ds) (x ∷ xs) (y ∷ ys) turned are =
+    let first : SameIndex x y = turned.each 0 x (omega arith) in
+    let later : EachTurns SameIndex xs ys = record { size = (let size = turned.size in omega arith); each = λ k e below. turned.each (suc k) e (omega arith) } in (
+      record { column = are.0.column ∙ ap (λ c. Some c) (sym first.0); kind = first.1 ∙ are.0.kind },
+      AreIndexes-turned columns ds xs ys later are.1,
+    )
+
+-- They are rows of the same tables where they have the same columns, key and indexes.
 pub AreOf-set : (ts : List Table) (rs : List StoredRows) (place : ℕ) (old new : StoredRows) → slice_get rs place ≡ Some old → new.key ≡ old.key
-    → new.width ≡ old.width → AreOf ts rs → AreOf ts (slice_set rs place new)
-AreOf-set (t ∷ ts) (r ∷ rs) zero old new h key width are =
+    → new.width ≡ old.width → EachTurns SameIndex old.indexes new.indexes → AreOf ts rs → AreOf ts (slice_set rs place new)
+AreOf-set (t ∷ ts) (r ∷ rs) zero old new h key width indexes are =
     let was : r ≡ old = cc in
-    let is_of : IsOf t old = subst (IsOf t) was are.0 in
-    (record { key = key ∙ is_of.key; width = width ∙ is_of.width }, are.1)
-AreOf-set (t ∷ ts) (r ∷ rs) (suc place) old new h key width are = (are.0, AreOf-set ts rs place old new h key width are.1)
-AreOf-set ts [] place old new h key width are = cc
-AreOf-set [] (r ∷ rs) place old new h key width are = absurd are
+    let is_of : IsOf t old = subst (IsOf t) was are.0 in (
+      record {
+        key = key ∙ is_of.key;
+        width = width ∙ is_of.width;
+        indexes = AreIndexes-turned t.definition.columns t.indexes old.indexes new.indexes indexes is_of.indexes;
+      },
+      are.1,
+    )
+AreOf-set (t ∷ ts) (r ∷ rs) (suc place) old new h key width indexes are = (are.0, AreOf-set ts rs place old new h key width indexes are.1)
+AreOf-set ts [] place old new h key width indexes are = cc
+AreOf-set [] (r ∷ rs) place old new h key width indexes are = absurd are
 
 -- What stands at a place may be put there.
 pub set_itself : (rs : List StoredRows) (place : ℕ) (stored : StoredRows) → slice_get rs place ≡ Some stored → rs ≡ slice_set rs place stored
@@ -160,3 +187,42 @@ AreOf-push [] [] table stored is_of are = (is_of, tt)
 AreOf-push (t ∷ ts) (r ∷ rs) table stored is_of are = (are.0, AreOf-push ts rs table stored is_of are.1)
 AreOf-push [] (r ∷ rs) table stored is_of are = absurd are
 AreOf-push (t ∷ ts) [] table stored is_of are = absurd are
+
+-- ---- one table less
+
+module _ (name : List ℕ) where
+  -- Tables of other names stay with their rows, ..
+  others_stay : (ts : List Table) (rs : List StoredRows) → AreOf ts rs → LackName name ts
+      → (without_rows name ts (instance_of rs) ≡ instance_of rs) × AreOf (filter (λ t. not (same_name name (name_of t))) ts) rs
+  others_stay [] [] are lack = (refl, tt)
+  others_stay (t ∷ ts) (r ∷ rs) are lack =
+      let later = others_stay ts rs are.1 lack.1 in
+      rw (lack.0) (ap (λ others. rows_of r ∷ others) later.0, (are.0, later.1))
+  others_stay [] (r ∷ rs) are lack = absurd are
+  others_stay (t ∷ ts) [] are lack = absurd are
+
+  one_less : (t : Table) (ts : List Table) (r : StoredRows) (rs : List StoredRows) (n : ℕ) (b : Bool) → same_name name (name_of t) ≡ b
+      → AreOf (t ∷ ts) (r ∷ rs) → IsDistinct same_name (map name_of (t ∷ ts)) → cond (not b) (1 + n) 0 < length (r ∷ rs)
+      → (n < length rs → (without_rows name ts (instance_of rs) ≡ instance_of (remove rs n))
+      × AreOf (filter (λ u. not (same_name name (name_of u))) ts) (remove rs n))
+      → (cond b (without_rows name ts (instance_of rs)) (rows_of r ∷ without_rows name ts (instance_of rs))
+      ≡ instance_of (remove (r ∷ rs) (cond (not b) (1 + n) 0)))
+      × AreOf (cond (not b) (t ∷ filter (λ u. not (same_name name (name_of u))) ts) (filter (λ u. not (same_name name (name_of u))) ts))
+      (remove (r ∷ rs) (cond (not b) (1 + n) 0))
+  one_less t ts r rs n true own are distinct within rest = others_stay ts rs are.1 (others_lack name t ts own distinct)
+  one_less t ts r rs n false other are distinct within rest =
+      let later = rest (omega arith) in
+      let next : 1 + n ≡ suc n = omega arith in
+      rw (next) (ap (λ others. rows_of r ∷ others) later.0, (are.0, later.1))
+
+  -- .. and the table of the name goes with its own.
+  pub dropped_at_place : (ts : List Table) (rs : List StoredRows) → AreOf ts rs → IsDistinct same_name (map name_of ts)
+      → position_or_len (λ t. same_name name (name_of t)) ts < length rs
+      → (without_rows name ts (instance_of rs) ≡ instance_of (remove rs (position_or_len (λ t. same_name name (name_of t)) ts)))
+      × AreOf (filter (λ t. not (same_name name (name_of t))) ts) (remove rs (position_or_len (λ t. same_name name (name_of t)) ts))
+  dropped_at_place (t ∷ ts) (r ∷ rs) are distinct within =
+      one_less t ts r rs (position_or_len (λ u. same_name name (name_of u)) ts) (same_name name (name_of t)) refl are distinct within
+      (dropped_at_place ts rs are.1 (IsDistinct-tail same_name (name_of t) (map name_of ts) distinct))
+  dropped_at_place [] [] are distinct within = absurd (omega arith)
+  dropped_at_place [] (r ∷ rs) are distinct within = absurd are
+  dropped_at_place (t ∷ ts) [] are distinct within = absurd are

@@ -7,18 +7,18 @@ ghost use Rattle.mm_relation.specs.Refs.{row_at};
 ghost use Rattle.mm_lang.specs.Lines.{without_return};
 ghost use Rattle.mm_value.specs.Device.{Writes};
 ghost use Rattle.mm_value.specs.Watched.{inner_of, has_failed};
-ghost use Rattle.mm_query.specs.declared.command.Command.TheVariants.{Define, Change, Scan};
+ghost use Rattle.mm_query.specs.declared.command.Command.TheVariants.{Define, Change, Scan, ScanIndex};
 ghost use Rattle.mm_query.specs.declared.reply.Reply.TheVariants.{Rows};
 ghost use Rattle.mmdb_core.specs.steps.Respond.{RepliesToLine, IsStep, RepliesToReading};
 ghost use Rattle.mmdb_core.specs.Run.{is_error};
 
-use crate::database::Database;
+use crate::database::{Along, Database};
 use mm_lang::{Command, Reply, parse, write_reply, write_row_count, write_row_line};
 use mm_query::{Definition, Mutation};
 use mm_relation::Relation;
-use mm_schema::Name;
+use mm_schema::{IndexKind, Name};
 use mm_value::{Refusal, Watched, WriteFault};
-use std::alloc::Global;
+use std::alloc::{AllocError, Global};
 use std::io::Write;
 use ttree::Iter;
 
@@ -60,6 +60,7 @@ fn respond<W: Write>(
     let reply = match command {
         Ok(Command::Nothing) => return Ok(false),
         Ok(Command::Scan(table)) => return answer_scan(database, &table, writer),
+        Ok(Command::ScanIndex(index)) => return answer_index_scan(alloc, database, &index, writer),
         Ok(Command::Define(definition)) => define(alloc, database, definition),
         Ok(Command::Change(mutation)) => change(alloc, database, mutation),
         Err(refusal) => Reply::Refused(refusal),
@@ -71,10 +72,13 @@ fn respond<W: Write>(
 fn define(alloc: Global, database: &mut Database, definition: Definition) -> Reply
     ensures { IsStep (Define definition) database.old (record { reply = Some result; state = database.new }) }
 {
-    let added = match definition {
+    let done = match definition {
         Definition::Table(definition) => database.add_table(alloc, definition),
+        Definition::DropTable(name) => database.drop_table(&name),
+        Definition::Index(index) => database.add_index(alloc, index),
+        Definition::DropIndex(name) => database.drop_index(&name),
     };
-    match added {
+    match done {
         Ok(()) => Reply::Done,
         Err(refusal) => Reply::Refused(refusal),
     }
@@ -102,6 +106,35 @@ fn answer_scan<W: Write>(
     match database.scan(table) {
         Ok(relation) => send_rows(relation, relation.by_key(), writer),
         Err(refusal) => send(&Reply::Refused(refusal), writer),
+    }
+}
+
+/// Answers the rows of the table of an index in the order of the index. A TREE index has that order; for a HASH index the
+/// references are put in order first, which may be refused memory.
+fn answer_index_scan<W: Write>(
+    alloc: Global,
+    database: &Database,
+    index: &Name,
+    writer: &mut Watched<W>,
+) -> Result<bool, WriteFault>
+    requires { has_failed writer.old ≡ false }
+    ensures { RepliesToReading W.contents writer.old writer.new (Ok (ScanIndex index.now)) database.now database.now result }
+{
+    let Along {
+        relation,
+        place,
+        column,
+        kind,
+    } = match database.index(index) {
+        Ok(along) => along,
+        Err(refusal) => return send(&Reply::Refused(refusal), writer),
+    };
+    match kind {
+        IndexKind::Tree => send_rows(relation, relation.tree_walk(place), writer),
+        IndexKind::Hash => match relation.ordered_by(alloc, column) {
+            Ok(tree) => send_rows(relation, tree.iter(), writer),
+            Err(AllocError) => send(&Reply::Refused(Refusal::Memory), writer),
+        },
     }
 }
 

@@ -7,14 +7,15 @@ ghost use Rattle.mm_schema.specs.Refused.{AnswersDue, first_refusal};
 ghost use Rattle.mm_schema.specs.Rows.{table_rows_conditions};
 ghost use Rattle.mm_store.specs.Tables.{AreFit, HasRows, IsAt, Turns, rows_with};
 ghost use Rattle.mm_query.specs.Edits.{own_pairs};
-ghost use Rattle.mm_query.specs.Machine.{conditions, state_after};
+ghost use Rattle.mm_query.specs.Machine.{conditions, rows_by_index, state_after};
 ghost use Rattle.mm_query.specs.State.{first_state, rows_in};
-ghost use Rattle.mm_query.specs.declared.command.Command.TheVariants.{Define, Change, Scan};
+ghost use Rattle.mm_query.specs.declared.command.Command.TheVariants.{Define, Change, Scan, ScanIndex};
 ghost use Rattle.mm_query.specs.declared.command.Definition.TheVariants as define;
+ghost use Rattle.mmdb_core.specs.steps.Along.{IsAlong};
 
 use mm_query::{BoundChange, Mutation, bind_change};
 use mm_relation::{Edit, Relation};
-use mm_schema::{Catalog, Name, TableDef};
+use mm_schema::{Catalog, IndexDef, IndexKind, Name, TableDef};
 use mm_store::{Store, Undo};
 use mm_value::{Refusal, Row};
 use std::alloc::{AllocError, Global};
@@ -67,6 +68,58 @@ impl Database {
         Ok(())
     }
 
+    /// Drops a table with its rows and indexes; those behind it move up. The refusals are those of the catalog.
+    pub(crate) fn drop_table(&mut self, name: &Name) -> Result<(), Refusal>
+        ensures due { AnswersDue (first_refusal (conditions (Define (define.DropTable name.now)) self.old)) result }
+        ensures ok { OnOk result (self.new ≡ state_after (Define (define.DropTable name.now)) self.old) }
+        ensures err { OnErr result (self.new ≡ self.old) }
+    {
+        let place = self.catalog.place_of(name).ok_or(Refusal::NoSuchTable)?;
+        self.catalog.drop_table(name)?;
+        self.store.drop_table(place);
+        Ok(())
+    }
+
+    /// Makes an index over the rows that are there. The refusals are those of the catalog, and `Memory`.
+    pub(crate) fn add_index(&mut self, alloc: Global, index: IndexDef) -> Result<(), Refusal>
+        ensures due { AnswersDue (first_refusal (conditions (Define (define.Index index)) self.old)) result }
+        ensures ok { OnOk result (self.new ≡ state_after (Define (define.Index index)) self.old) }
+        ensures err { OnErr result (self.new ≡ self.old) }
+    {
+        let place = self
+            .catalog
+            .place_of(&index.table)
+            .ok_or(Refusal::NoSuchTable)?;
+        let columns = &self.catalog.table_at(place).definition.columns;
+        let column = columns
+            .place_of(&index.column)
+            .ok_or(Refusal::NoSuchColumn)?;
+        let (name, kind) = (index.name.copy(), index.kind);
+        self.catalog.add_index(index)?;
+        if let Err(AllocError) = self.store.add_index(alloc, place, column, kind) {
+            let _ = self.catalog.drop_index(&name);
+            return Err(Refusal::Memory);
+        }
+        Ok(())
+    }
+
+    /// Drops an index. `NoSuchIndex` where none has the name.
+    pub(crate) fn drop_index(&mut self, name: &Name) -> Result<(), Refusal>
+        ensures due { AnswersDue (first_refusal (conditions (Define (define.DropIndex name.now)) self.old)) result }
+        ensures ok { OnOk result (self.new ≡ state_after (Define (define.DropIndex name.now)) self.old) }
+        ensures err { OnErr result (self.new ≡ self.old) }
+    {
+        let table = self
+            .catalog
+            .place_with_index(name)
+            .ok_or(Refusal::NoSuchIndex)?;
+        let indexes = &self.catalog.table_at(table).indexes;
+        let index = indexes.place_of(name).ok_or(Refusal::NoSuchIndex)?;
+        self.catalog.drop_index(name)?;
+        self.store.drop_index(table, index);
+        Ok(())
+    }
+
     /// Changes the rows of a table, and tells how many rows that concerned. The first refusal that is due is answered:
     /// those of `bind_change`, `DuplicateKey`, `TableFull`; or `Memory` in its place or in that of success.
     pub(crate) fn change(&mut self, alloc: Global, mutation: Mutation) -> Result<usize, Refusal>
@@ -85,6 +138,29 @@ impl Database {
         }
     }
 
+    /// The index of a name, with the rows of its table. `NoSuchIndex` where none has the name.
+    pub(crate) fn index(&self, name: &Name) -> Result<Along<'_>, Refusal>
+        ensures due { MatchResult result (λ _. first_refusal (conditions (ScanIndex name.now) self.now) ≡ None)
+            (λ refusal. first_refusal (conditions (ScanIndex name.now) self.now) ≡ Some refusal) }
+        ensures along { IfOk result (λ along. IsAlong along (rows_by_index self.now name.now)) }
+    {
+        let index = self.catalog.find_index(name).ok_or(Refusal::NoSuchIndex)?;
+        let at = self
+            .catalog
+            .place_of(&index.table)
+            .ok_or(Refusal::NoSuchIndex)?;
+        let table = self.catalog.table_at(at);
+        let place = table.indexes.place_of(name).ok_or(Refusal::NoSuchIndex)?;
+        let columns = &table.definition.columns;
+        let column = columns.place_of(&index.column).ok_or(Refusal::NoSuchIndex)?;
+        Ok(Along {
+            relation: self.store.table(at),
+            place,
+            column,
+            kind: index.kind,
+        })
+    }
+
     /// The relation of a table. `NoSuchTable` where the catalog has no table of the name.
     pub(crate) fn scan(&self, table: &Name) -> Result<&Relation, Refusal>
         ensures due { MatchResult result (λ _. first_refusal (conditions (Scan table.now) self.now) ≡ None)
@@ -95,6 +171,18 @@ impl Database {
         let place = self.catalog.place_of(table).ok_or(Refusal::NoSuchTable)?;
         Ok(self.store.table(place))
     }
+}
+
+/// An index of a table, and the rows that it finds.
+pub(crate) struct Along<'a> {
+    /// The rows.
+    pub(crate) relation: &'a Relation,
+    /// The place of the index among the relation's, counted from 0.
+    pub(crate) place: usize,
+    /// The place of its column, counted from 0.
+    pub(crate) column: usize,
+    /// How it finds rows.
+    pub(crate) kind: IndexKind,
 }
 
 /// Makes all edits of a table that its rows allow, or none. The refusals are those of [`Store::check`].

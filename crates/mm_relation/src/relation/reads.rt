@@ -1,17 +1,24 @@
 //! Reading along the indexes.
-ghost use Rattle.std.specs.Prelude.{◌≡◌, ℕ, ◌≤◌, length, All, OnOk, OnErr};
+ghost use Rattle.std.specs.Prelude.{◌≡◌, ℕ, ◌<◌, ◌≤◌, length, map, All, IfOk, OnOk, OnErr};
 ghost use Rattle.std.specs.Option.{option_copied};
 ghost use Rattle.mm_partition.specs.Places.{IsLive, slot_at};
+ghost use Rattle.mm_schema.specs.Rows.{rows_by};
+ghost use Rattle.mm_schema.specs.Sorting.{in_order};
 ghost use Rattle.mm_schema.specs.declared.index.IndexKind.TheVariants as kind;
 ghost use Rattle.mm_relation.specs.Reads.{HasIndex, IsWalk, IsRange, AreMatches, Appends};
+ghost use Rattle.mm_relation.specs.Refs.{row_at};
+ghost use Rattle.mm_relation.specs.RowLists.{rows_of};
 
 use super::Relation;
 use crate::hash_reads::copy_matches;
 use crate::index::Index;
-use crate::tree_reads::{Ends, copy_range};
+use crate::names::Side;
+use crate::tree_entries::put_each;
+use crate::tree_reads::{Ends, copy_range, copy_refs};
+use mm_order::OrderedRefs;
 use mm_value::{RowRef, Value};
 use std::alloc::{AllocError, Global};
-use ttree::Iter;
+use ttree::{Iter, TTree};
 
 impl Relation {
     /// The references of all rows along the TREE index at a place, counted from 0: in the order of its
@@ -21,12 +28,38 @@ impl Relation {
         requires tree { (column : ℕ) × HasIndex self.now.indexes index column kind.Tree }
         requires few { length self.now.refs ≤ 1048576 }
         ensures walk { (column : ℕ) → HasIndex self.now.indexes index column kind.Tree → IsWalk column self.now result }
+        ensures rows { (column : ℕ) → HasIndex self.now.indexes index column kind.Tree
+            → map (row_at (slot_at self.now.places)) result ≡ in_order (rows_by column self.now.key) (rows_of self.now) }
         ensures live { All (IsLive self.now.places) result }
     {
         match &self.indexes[index] {
             Index::Tree { refs, .. } => refs.iter(),
             Index::Hash { .. } => unreachable!(),
         }
+    }
+
+    /// The references of all rows, of which there are at most 1,048,576, by the values in a column and those of one value by
+    /// their keys, in a tree of their own. It takes O(n log n) comparisons for n rows. `AllocError` where memory is refused.
+    pub fn ordered_by(&self, alloc: Global, column: usize) -> Result<TTree, AllocError>
+        requires column { column < self.now.width }
+        requires few { length self.now.refs ≤ 1048576 }
+        ensures rows { IfOk result (λ tree. map (row_at (slot_at self.now.places)) tree.refs
+            ≡ in_order (rows_by column self.now.key) (rows_of self.now)) }
+        ensures live { IfOk result (λ tree. All (IsLive self.now.places) tree.refs) }
+        ensures few { IfOk result (λ tree. length tree.refs ≤ 1048576) }
+    {
+        let refs = copy_refs(alloc, &self.by_key)?;
+        let mut tree = TTree::new(alloc);
+        tree.reserve(alloc, refs.len())?;
+        put_each(
+            &self.rows,
+            column,
+            self.key,
+            &mut tree,
+            refs.as_slice(),
+            Side::New,
+        );
+        Ok(tree)
     }
 
     /// Appends the references of the rows whose values in the column of the TREE index at a place are

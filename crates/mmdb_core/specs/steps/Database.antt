@@ -1,19 +1,36 @@
 -- How the database keeps the machine's state: a catalog, and beside each of its tables a relation.
-use Rattle.std.specs.Prelude.{◌≡◌, List, [], ◌∷◌, length, map}
+use Rattle.std.specs.Prelude.{◌≡◌, List, [], ◌∷◌, Some, length, map}
+use Rattle.mm_relation.specs.Index.{column_of, kind_of}
 use Rattle.mm_relation.specs.Kept.{StoredRows}
 use Rattle.mm_relation.specs.RowLists.{rows_of}
-use Rattle.mm_schema.specs.Columns.{key_place}
+use Rattle.mm_relation.specs.declared.index.Index.{Index}
+use Rattle.mm_schema.specs.Columns.{column_place, key_place}
 use Rattle.mm_schema.specs.Instance.{Instance}
+use Rattle.mm_schema.specs.declared.column.Column.{Column}
+use Rattle.mm_schema.specs.declared.index.IndexDef.{IndexDef}
 use Rattle.mm_schema.specs.declared.table.Table.{Table}
 
 -- The rows of each relation.
 abbrev pub instance_of : List StoredRows → Instance
 instance_of stored = map rows_of stored
 
--- The relation has the columns of the table, and its key.
+-- The index is on the column that is named, and of the kind.
+pub record IsIndex (columns : List Column) (definition : IndexDef) (index : Index) : Type 0 where
+  pub column : column_place definition.column columns ≡ Some (column_of index)
+  pub kind : kind_of index ≡ definition.kind
+
+-- The indexes are those that are defined, in the same order.
+abbrev pub AreIndexes : List Column → List IndexDef → List Index → Type 0
+AreIndexes columns [] [] = Unit {0}
+AreIndexes columns (d ∷ ds) (x ∷ xs) = IsIndex columns d x × AreIndexes columns ds xs
+AreIndexes columns [] (x ∷ xs) = ⊥
+AreIndexes columns (d ∷ ds) [] = ⊥
+
+-- The relation has the columns of the table, its key and its indexes.
 pub record IsOf (table : Table) (stored : StoredRows) : Type 0 where
   pub key : stored.key ≡ key_place table.definition.columns
   pub width : stored.width ≡ length table.definition.columns
+  pub indexes : AreIndexes table.definition.columns table.indexes stored.indexes
 
 -- There is a relation for each table and no others.
 abbrev pub AreOf : List Table → List StoredRows → Type 0

@@ -1,8 +1,8 @@
-use Rattle.std.proofs.Common.{◌≡◌, subst}
+use Rattle.std.proofs.Common.{subst}
 use Rattle.std.proofs.lemmas.Result.{IfOk-weaker}
 use Rattle.mm_partition.specs.Places.{slot_at}
 use Rattle.mm_relation.specs.Kept.{IsKept, StoredRows}
-use Rattle.mm_relation.proofs.Checks.{apart_with, len_with, stays, twins_with}
+use Rattle.mm_relation.proofs.Checks.{apart_with, stays, twins_with}
 use Rattle.mm_relation.proofs.relation.Relation.has_twins_with.Goals as goal
 
 pub has_twins_after-requires : goal.has_twins_after-requires

@@ -1,7 +1,7 @@
-use Rattle.std.proofs.Common.{◌≡◌, subst}
+use Rattle.std.proofs.Common.{subst}
 use Rattle.mm_partition.specs.Places.{slot_at}
 use Rattle.mm_relation.specs.Kept.{IsKept, StoredRows}
-use Rattle.mm_relation.proofs.Checks.{apart_with, len_with, stays, twins_with}
+use Rattle.mm_relation.proofs.Checks.{len_with, stays}
 use Rattle.mm_relation.proofs.relation.Relation.len_with.Goals as goal
 
 pub len_after-requires-clause-stay : goal.len_after-requires-clause-stay

@@ -1,6 +1,5 @@
 use Rattle.std.proofs.Common.{◌≡◌, List, sym, ap, ◌∙◌, subst}
 use Rattle.std.specs.Prelude.{map}
-use Rattle.mm_value.specs.declared.values.Value.{Value}
 use Rattle.mm_relation.specs.Refs.{row_at}
 use Rattle.mm_relation.specs.RowLists.{rows_of}
 use Rattle.mm_value.specs.declared.row_ref.RowRef.{RowRef}

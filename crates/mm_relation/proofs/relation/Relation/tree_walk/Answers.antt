@@ -1,12 +1,14 @@
-use Rattle.std.proofs.Common.{◌≤◌, ◌<◌, List, length, sym, subst, arith}
+use Rattle.std.proofs.Common.{◌≡◌, ◌≤◌, ◌<◌, length, sym, subst, arith}
 use Rattle.std.specs.List.{All}
+use Rattle.std.specs.Prelude.{slice_index_or}
 use Rattle.std.proofs.lemmas.List.Sorted.{All-permutation, IsPermutation-sym, length_permutation}
-use Rattle.mm_value.specs.declared.row_ref.RowRef.{RowRef}
 use Rattle.mm_partition.specs.Places.{IsLive, slot_at}
 use Rattle.mm_relation.specs.Index.{Keeps}
-use Rattle.mm_relation.specs.Kept.{StoredRows}
+use Rattle.mm_relation.specs.Kept.{IsKept, StoredRows}
+use Rattle.mm_relation.specs.Reads.{IsWalk}
 use Rattle.mm_relation.specs.declared.index.Index.TheVariants.{Tree}
 use Rattle.mm_relation.proofs.Made.{live_refs}
+use Rattle.mm_relation.proofs.WalkRows.{kept_walk, walk_rows}
 use Rattle.mm_relation.proofs.relation.Relation.tree_walk.Goals as goal
 
 pub iter-requires : goal.iter-requires
@@ -22,6 +24,19 @@ iter-requires c =
     let held : Keeps c.self.inside.key now refs (Tree c.in-Tree.column c.in-Tree.refs) = subst (Keeps c.self.inside.key now refs) c.in-Tree.is keeps in
     let few : length refs ≤ 1048576 = subst (λ (v : StoredRows). length v.refs ≤ 1048576) (sym c.self.view_is) c.requires.few in
     omega (arith, few, length_permutation c.in-Tree.refs.refs refs held.1)
+
+pub returns-clause-rows : goal.returns-clause-rows
+returns-clause-rows c = λ column has.
+    let stored : StoredRows = c.args.self.now in
+    let kept : IsKept stored.width stored.key (slot_at stored.places) stored.refs stored.indexes =
+    subst (λ (v : StoredRows). IsKept v.width v.key (slot_at v.places) v.refs v.indexes) c.self.view_is c.self.invariant
+    in
+    let there : c.index.result.now ≡ slice_index_or stored.indexes c.args.index c.index.result.now =
+    subst (λ (v : StoredRows). c.index.result.now ≡ slice_index_or v.indexes c.args.index c.index.result.now) c.self.view_is c.index.ensures
+    in
+    walk_rows column stored c.iter.result kept.by_key
+    (subst (IsWalk column stored) (sym c.iter.ensures)
+    (kept_walk stored kept column c.args.index c.index.result.now c.in-Tree.column c.in-Tree.refs has there c.in-Tree.is))
 
 pub returns-clause-live : goal.returns-clause-live
 returns-clause-live c =
