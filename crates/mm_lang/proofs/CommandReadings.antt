@@ -1,5 +1,5 @@
 -- Commands, read by their parts.
-use Rattle.std.proofs.Common.{◌≡◌, ◌≢◌, inl, ℕ, Bool, true, false, eqb, List, [], ◌∷◌, ◌++◌, Some, None, Result, refl, sym, ap, ◌∙◌, arith}
+use Rattle.std.proofs.Common.{◌≡◌, ◌≢◌, inl, ℕ, Bool, true, false, eqb, List, [], ◌∷◌, ◌++◌, Some, None, Result, Ok, refl, subst, sym, ap, ◌∙◌, arith}
 use Rattle.std.specs.List.{flat_map}
 use Rattle.std.specs.Option.{option_and_then, option_or}
 use Rattle.std.proofs.lemmas.Bool.{cond-true, cond-false, eq-eqb, ne_eqb}
@@ -9,6 +9,8 @@ use Rattle.mm_schema.specs.declared.index.IndexKind.{IndexKind}
 use Rattle.mm_value.specs.declared.refusal.Refusal.{Refusal}
 use Rattle.mm_value.specs.declared.refusal.Refusal.TheVariants.{Syntax}
 use Rattle.mm_value.specs.declared.values.Value.{Value}
+use Rattle.mm_query.specs.declared.atom.Assignment.{Assignment}
+use Rattle.mm_query.specs.declared.atom.Atom.{Atom}
 use Rattle.mm_query.specs.declared.command.Command.{Command}
 use Rattle.mm_query.specs.declared.command.Command.TheVariants as command
 use Rattle.mm_query.specs.declared.command.Definition.TheVariants as define
@@ -16,14 +18,14 @@ use Rattle.mm_query.specs.declared.command.Mutation.TheVariants as change
 use Rattle.mm_lang.specs.declared.keyword.Keyword.{Keyword}
 use Rattle.mm_lang.specs.declared.keyword.Keyword.TheVariants as keyword
 use Rattle.mm_lang.specs.declared.reader.Reader.{Reader}
-use Rattle.mm_lang.specs.Grammar.{name, column, index_kind, tuple, comma_list, table, drop, dropped, index, insert, scan, scan_of}
+use Rattle.mm_lang.specs.Grammar.{name, column, index_kind, tuple, comma_list, table, drop, dropped, index, insert, scan, scan_of, assignment, tests, update, delete}
 use Rattle.mm_lang.specs.Phrases.{Phrase, ◌>>=◌, ◌>>◌, say, one_word, only_if, the_keyword, has_keyword, in_parentheses}
-use Rattle.mm_lang.specs.Reading.{first_fault, literals_of}
+use Rattle.mm_lang.specs.Reading.{assignment_literals, first_fault, literals_of, test_literals}
 use Rattle.mm_lang.specs.Tokens.{tokens}
 use Rattle.mm_lang.specs.Words.{keyword_named}
 use Rattle.mm_lang.specs.steps.Parsing.{Fails, Gives, GivesItems, ReadsPhrase, Skips, no_literals}
 use Rattle.mm_lang.specs.steps.Parts.{Front}
-use Rattle.mm_lang.proofs.Readings.{Took, took, or_none, took_then, took_say, fails_first, fails_next, reads_behind, keyword_stands}
+use Rattle.mm_lang.proofs.Readings.{Took, took, or_none, took_then, took_say, fails_first, fails_next, reads_behind, keyword_stands, given_made, given_both, listed}
 
 -- A command without literals was read.
 command_took : (phrase : Phrase Command) (old new : Reader) (c : Command) → literals_of c ≡ [] → Took phrase old new c → Gives phrase literals_of old new c
@@ -75,10 +77,6 @@ drop_behind old mid new k r g h = reads_behind (one_word keyword_named) dropped 
 module _ (make : List ℕ → Command) (none : (n : List ℕ) → literals_of (make n) ≡ []) where
   say_made : List ℕ → Phrase Command
   say_made n = say (make n)
-
-  pub made_no_name : (old : Reader) (e : Refusal) → Fails name old e → Fails (name >>= (λ n. say (make n))) old e
-  unfolding say_made
-  made_no_name old e h = fails_first name say_made old e h
 
   pub made_given : (old new : Reader) (n : List ℕ) → Gives name no_literals old new n → Gives (name >>= (λ n. say (make n))) literals_of old new (make n)
   unfolding say_made
@@ -183,6 +181,91 @@ insert_given old mid new t before after tuples g none items same =
       same = λ fits. ap (λ l. command.Change (change.Insert t l)) (same ∙ items.joined ∙ ap (λ l. l ++ items.items) none ∙ h.same fits);
       shorter = omega (arith, n.shorter, h.shorter);
     }
+
+-- DELETE
+
+say_delete : List ℕ → List (Atom (List ℕ)) → Command
+say_delete t asked = command.Change (change.Delete t asked)
+
+asked_in : List ℕ → Phrase Command
+asked_in t = tests >>= (λ asked. say (command.Change (change.Delete t asked)))
+
+pub delete_no_name : (old : Reader) (e : Refusal) → Fails name old e → Fails delete old e
+unfolding delete asked_in
+delete_no_name old e h = fails_first name asked_in old e h
+
+module _ (old mid : Reader) (t : List ℕ) (g : Gives name no_literals old mid t) where
+  pub delete_no_tests : (e : Refusal) → Fails tests mid e → Fails delete old e
+  unfolding delete asked_in
+  delete_no_tests e h =
+      let n = took g in
+      fails_next name asked_in old mid t e n.is (fails_first tests (λ asked. say (command.Change (change.Delete t asked))) mid e h)
+
+  pub delete_given : (new : Reader) (asked : List (Atom (List ℕ))) → Gives tests (flat_map test_literals) mid new asked
+      → Gives delete literals_of old new (command.Change (change.Delete t asked))
+  unfolding delete asked_in say_delete
+  delete_given new asked h =
+      reads_behind name asked_in literals_of old mid new t (Ok (say_delete t asked)) (took g)
+      (given_made tests (say_delete t) (flat_map test_literals) literals_of (λ x. refl) h)
+
+-- UPDATE
+
+abbrev Assignments : Type 0
+Assignments = List (Assignment (List ℕ))
+
+say_update : List ℕ → Assignments → List (Atom (List ℕ)) → Command
+say_update t assignments asked = command.Change (change.Update t assignments asked)
+
+after_assignments : List ℕ → Assignments → Phrase Command
+after_assignments t assignments = tests >>= (λ asked. say (command.Change (change.Update t assignments asked)))
+
+after_set : List ℕ → Phrase Command
+after_set t = comma_list assignment >>= after_assignments t
+
+after_updated : List ℕ → Phrase Command
+after_updated t = the_keyword keyword.Set >> after_set t
+
+pub update_no_name : (old : Reader) (e : Refusal) → Fails name old e → Fails update old e
+unfolding update after_updated after_set after_assignments
+update_no_name old e h = fails_first name after_updated old e h
+
+module _ (old named : Reader) (t : List ℕ) (a : Gives name no_literals old named t) where
+  pub update_no_set : (e : Refusal) → Fails (the_keyword keyword.Set) named e → Fails update old e
+  unfolding update after_updated after_set after_assignments
+  update_no_set e h = let n = took a in fails_next name after_updated old named t e n.is (fails_first (the_keyword keyword.Set) (λ u. after_set t) named e h)
+
+  module _ (set : Reader) (b : Gives (the_keyword keyword.Set) no_literals named set tt) where
+    fails_set : (e : Refusal) → Fails (after_set t) set e → Fails update old e
+    unfolding update after_updated after_set after_assignments
+    fails_set e h =
+        let n = took a in
+        let k = took b in
+        fails_next name after_updated old named t e n.is (fails_next (the_keyword keyword.Set) (λ u. after_set t) named set tt e k.is h)
+
+    pub update_no_assignments : (e : Refusal) → Fails (comma_list assignment) set e → Fails update old e
+    unfolding after_set
+    update_no_assignments e h = fails_set e (fails_first (comma_list assignment) (after_assignments t) set e h)
+
+    module _ (mid : Reader) (before after : Assignments) (none : before ≡ [])
+        (items : GivesItems (comma_list assignment) (flat_map assignment_literals) set mid before after) where
+      pub update_no_tests : (e : Refusal) → Fails tests mid e → Fails update old e
+      unfolding after_set after_assignments
+      update_no_tests e h =
+          let all = items.given in
+          fails_set e
+          (fails_next (comma_list assignment) (after_assignments t) set mid all.said e all.read
+          (fails_first tests (λ asked. say (command.Change (change.Update t all.said asked))) mid e h))
+
+      pub update_given : (new : Reader) (assignments : Assignments) (asked : List (Atom (List ℕ))) → assignments ≡ after
+          → Gives tests (flat_map test_literals) mid new asked
+          → Gives update literals_of old new (command.Change (change.Update t assignments asked))
+      unfolding update after_updated after_set after_assignments say_update
+      update_given new assignments asked is h =
+          subst (λ l. Gives update literals_of old new (command.Change (change.Update t l asked))) (sym is)
+          (reads_behind name after_updated literals_of old named new t (Ok (say_update t after asked)) (took a)
+          (reads_behind (the_keyword keyword.Set) (λ u. after_set t) literals_of named set new tt (Ok (say_update t after asked)) (took b)
+          (given_both (comma_list assignment) tests (say_update t) (flat_map assignment_literals) (flat_map test_literals) literals_of
+          (λ x y. refl) set mid new after asked (listed none items) h)))
 
 -- TABLE
 

@@ -6,9 +6,11 @@ mod Lexing
 mod Lists
 mod LiteralOrder
 mod Literals
+mod Operands
 pub mod Pieces
 mod Readings
 pub mod ReplyLemmas
+mod SpelledAtoms
 mod SpelledCommands
 mod SpelledWords
 mod Texts

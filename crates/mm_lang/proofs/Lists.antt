@@ -6,14 +6,14 @@ use Rattle.std.proofs.lemmas.List.Concat.{flat_map-append}
 use Rattle.mm_value.specs.declared.refusal.Refusal.{Refusal}
 use Rattle.mm_value.specs.declared.values.Value.{Value}
 use Rattle.mm_lang.specs.declared.reader.Reader.{Reader}
-use Rattle.mm_lang.specs.declared.token.Symbol.TheVariants.{Comma}
-use Rattle.mm_lang.specs.Grammar.{comma_list}
-use Rattle.mm_lang.specs.Phrases.{Phrase, the_symbol, behind_item, at_most, list_of}
-use Rattle.mm_lang.specs.Reading.{first_fault, literal_fault}
+use Rattle.mm_lang.specs.declared.phrase.Separator.{Separator}
+use Rattle.mm_lang.specs.declared.phrase.Separator.TheVariants.{Comma, And}
+use Rattle.mm_lang.specs.Phrases.{Phrase, the_separator, behind_item, at_most, list_of}
+use Rattle.mm_lang.specs.Reading.{first_fault}
 use Rattle.mm_lang.specs.Tokens.{Token, tokens}
 use Rattle.mm_lang.specs.steps.Parsing.{Fails, Gives, GivesItems, NeverLonger, Skips}
 use Rattle.mm_lang.specs.steps.Parts.{Front, one_parts}
-use Rattle.mm_lang.proofs.Readings.{took, or_none}
+use Rattle.mm_lang.proofs.Readings.{took, or_none, or_assoc, fault-append, or_none_parts}
 
 and_then_same : {A B : Type 0} (o : Option A) (f g : A → Option B) → ((x : A) → o ≡ Some x → f x ≡ g x) → option_and_then f o ≡ option_and_then g o
 and_then_same None f g h = refl
@@ -63,22 +63,9 @@ module _ {A : Type 0} (separator : Phrase (Unit {0})) (item : Phrase A) where
         ∙ ap (λ (o : Option (Front (Unit {0}))). option_and_then (onto x) (behind_item o (at_most (length ts) separator item) us)) more
         ∙ ap (option_and_then (onto x)) (at_most_same (length ts) (suc (length vs)) vs (omega (arith, left, next)) (omega arith))
 
-pub comma_shorter : (ts us : List Token) → the_symbol Comma ts ≡ Some (tt, us) → length us < length ts
-comma_shorter ts us e = let p = one_parts _ ts tt us e in omega (arith, ap length p.1)
-
--- The first fault of two lists of literals.
-
-or_assoc : (a b c : Option Refusal) → option_or a (option_or b c) ≡ option_or (option_or a b) c
-or_assoc None b c = refl
-or_assoc (Some e) b c = refl
-
-fault-append : (xs ys : List Value) → first_fault (xs ++ ys) ≡ option_or (first_fault xs) (first_fault ys)
-fault-append [] ys = refl
-fault-append (x ∷ xs) ys = ap (option_or (literal_fault x)) (fault-append xs ys) ∙ or_assoc (literal_fault x) (first_fault xs) (first_fault ys)
-
-or_none_parts : (a b : Option Refusal) → option_or a b ≡ None → (a ≡ None) × (b ≡ None)
-or_none_parts None b e = (refl, e)
-or_none_parts (Some x) b e = absurd (cc)
+separator_shorter : (separator : Separator) (ts us : List Token) → the_separator separator ts ≡ Some (tt, us) → length us < length ts
+separator_shorter Comma ts us e = let p = one_parts _ ts tt us e in omega (arith, ap length p.1)
+separator_shorter And ts us e = let p = one_parts _ ts tt us e in omega (arith, ap length p.1)
 
 -- Some items of a list were read, with a reader that began elsewhere.
 pub record Gathered {A : Type 0} (literals : A → List Value) (old now : Reader) (said before after : List A) : Type 0 where
@@ -93,26 +80,27 @@ abbrev pub in_front : {A : Type 0} → List A → Front (List A) → Front (List
 in_front said r = (said ++ r.0, r.1)
 
 -- The list goes on behind them.
-pub record InItems {A : Type 0} (item : Phrase A) (literals : A → List Value) (old now : Reader) (before after : List A) : Type 0 where
+pub record InItems {A : Type 0} (separator : Separator) (item : Phrase A) (literals : A → List Value) (old now : Reader) (before after : List A) : Type 0 where
   pub said : List A
   pub so_far : Gathered literals old now said before after
-  pub goes_on : comma_list item (tokens old.rest.now) ≡ option_map (in_front said) (comma_list item (tokens now.rest.now))
+  pub goes_on : list_of (the_separator separator) item (tokens old.rest.now)
+      ≡ option_map (in_front said) (list_of (the_separator separator) item (tokens now.rest.now))
 
-module _ {A : Type 0} (item : Phrase A) (literals : A → List Value) (old : Reader) (before : List A) where
-  pub items_begin : InItems item literals old old before before
+module _ {A : Type 0} (separator : Separator) (item : Phrase A) (literals : A → List Value) (old : Reader) (before : List A) where
+  pub items_begin : InItems separator item literals old old before before
   items_begin = record {
     said = [];
     so_far = record { items = []; joined = sym (append-nil before); fault = sym (or_none old.fault); same = λ _. refl; shorter = omega arith };
-    goes_on = same (comma_list item (tokens old.rest.now));
+    goes_on = same (list_of (the_separator separator) item (tokens old.rest.now));
   }
     where
       same : (o : Option (Front (List A))) → o ≡ option_map (in_front []) o
       same None = refl
       same (Some r) = refl
 
-  module _ (now : Reader) (after : List A) (h : InItems item literals old now before after) where
-    pub items_fail : (e : Refusal) → Fails item now e → Fails (comma_list item) old e
-    items_fail e (inl f) = inl (f.0, h.goes_on ∙ ap (option_map (in_front h.said)) (list_none (the_symbol Comma) item (tokens now.rest.now) f.1))
+  module _ (now : Reader) (after : List A) (h : InItems separator item literals old now before after) where
+    pub items_fail : (e : Refusal) → Fails item now e → Fails (list_of (the_separator separator) item) old e
+    items_fail e (inl f) = inl (f.0, h.goes_on ∙ ap (option_map (in_front h.said)) (list_none (the_separator separator) item (tokens now.rest.now) f.1))
     items_fail e (inr f) = inr f
 
     module _ (mid : Reader) (x : A) (g : Gives item literals now mid x) (more : List A) (pushed : more ≡ after ++ x ∷ []) where
@@ -136,7 +124,8 @@ module _ {A : Type 0} (item : Phrase A) (literals : A → List Value) (old : Rea
         shorter = omega (arith, g.shorter, h.so_far.shorter);
       }
 
-      pub items_end : (new : Reader) → Skips (the_symbol Comma) mid new false → GivesItems (comma_list item) (flat_map literals) old new before more
+      pub items_end : (new : Reader) → Skips (the_separator separator) mid new false
+          → GivesItems (list_of (the_separator separator) item) (flat_map literals) old new before more
       items_end new s =
           let end : ◌≡◌ {A = Reader} mid new = sym s.1 in
           let all : Gathered literals old new (h.said ++ g.said ∷ []) before
@@ -148,7 +137,7 @@ module _ {A : Type 0} (item : Phrase A) (literals : A → List Value) (old : Rea
               said = h.said ++ g.said ∷ [];
               read =
                   h.goes_on ∙ ap (option_map (in_front h.said))
-                  (list_last (the_symbol Comma) item (tokens now.rest.now) g.said (tokens mid.rest.now) g.read s.0)
+                  (list_last (the_separator separator) item (tokens now.rest.now) g.said (tokens mid.rest.now) g.read s.0)
                   ∙ ap (λ (r : Reader). Some (h.said ++ g.said ∷ [], tokens r.rest.now)) end;
               fault = all.fault;
               same = all.same;
@@ -156,7 +145,7 @@ module _ {A : Type 0} (item : Phrase A) (literals : A → List Value) (old : Rea
             };
           }
 
-      pub items_more : NeverLonger item → (new : Reader) → Skips (the_symbol Comma) mid new true → InItems item literals old new before more
+      pub items_more : NeverLonger item → (new : Reader) → Skips (the_separator separator) mid new true → InItems separator item literals old new before more
       items_more never_longer new s =
           let t = took s.0 in
           record {
@@ -171,9 +160,9 @@ module _ {A : Type 0} (item : Phrase A) (literals : A → List Value) (old : Rea
             goes_on =
                 h.goes_on
                 ∙ ap (option_map (in_front h.said))
-                (list_more (the_symbol Comma) item comma_shorter never_longer (tokens now.rest.now) g.said (tokens mid.rest.now)
+                (list_more (the_separator separator) item (separator_shorter separator) never_longer (tokens now.rest.now) g.said (tokens mid.rest.now)
                 (tokens new.rest.now) g.read t.is)
-                ∙ regroup (comma_list item (tokens new.rest.now));
+                ∙ regroup (list_of (the_separator separator) item (tokens new.rest.now));
           }
         where
           regroup : (o : Option (Front (List A)))

@@ -1,13 +1,11 @@
 -- The literals of a command stand in its tokens, in their order.
-use Rattle.std.proofs.Common.{◌≡◌, ◌≤◌, ⊎_elim, ℕ, true, false, cond, leb, ltb, List, [], ◌∷◌, ◌++◌, Some, None, length, pos, refl, sym, ap, ◌∙◌, arith, append-nil}
-use Rattle.std.specs.Char.{is_ascii_digit}
-use Rattle.std.specs.List.{filter_map, flat_map, list_all, cons_option}
+use Rattle.std.proofs.Common.{◌≡◌, ⊎_elim, ℕ, true, false, cond, List, [], ◌∷◌, ◌++◌, Some, None, pos, refl, sym, ap, ◌∙◌, append_assoc, append-nil}
+use Rattle.std.specs.List.{flat_map, list_all, cons_option}
+use Rattle.std.specs.Prelude.{ℤ}
 use Rattle.std.specs.Option.{option_or}
 use Rattle.std.specs.Str.Parse.{digits_value}
-use Rattle.std.proofs.lemmas.Bool.{cases_Bool, and_parts, leb-true}
-use Rattle.std.proofs.lemmas.List.Elements.{filter_map-append}
-use Rattle.mm_schema.specs.Name.{IsName, is_lower, is_name_byte, is_name_text}
-use Rattle.mm_schema.specs.declared.column.Column.{Column}
+use Rattle.std.proofs.lemmas.Bool.{cases_Bool, and_parts}
+use Rattle.mm_schema.specs.Name.{IsName}
 use Rattle.mm_schema.specs.declared.column.Role.{Role}
 use Rattle.mm_schema.specs.declared.column.Role.TheVariants.{Plain, Key, Reference}
 use Rattle.mm_schema.specs.declared.index.IndexKind.{IndexKind}
@@ -16,64 +14,64 @@ use Rattle.mm_value.specs.Literal.{is_numeral, is_within_limit}
 use Rattle.mm_value.specs.declared.col_type.ColType.{ColType}
 use Rattle.mm_value.specs.declared.col_type.ColType.TheVariants as type
 use Rattle.mm_value.specs.declared.values.Value.{Value}
-use Rattle.mm_value.specs.declared.values.Value.TheVariants.{Int}
+use Rattle.mm_value.specs.declared.values.Value.TheVariants.{Int, Text}
+use Rattle.mm_query.specs.declared.atom.Atom.{Atom}
+use Rattle.mm_query.specs.declared.atom.Comparison.{Comparison}
+use Rattle.mm_query.specs.declared.atom.Comparison.TheVariants as compared
+use Rattle.mm_query.specs.declared.atom.Operand.TheVariants as kind_of
 use Rattle.mm_query.specs.declared.command.Command.{Command}
 use Rattle.mm_query.specs.declared.command.Command.TheVariants as command
 use Rattle.mm_query.specs.declared.command.Definition.TheVariants as define
 use Rattle.mm_query.specs.declared.command.Mutation.TheVariants as change
 use Rattle.mm_lang.specs.declared.keyword.Keyword.TheVariants as keyword
-use Rattle.mm_lang.specs.declared.token.Symbol.TheVariants.{Open, Close, Comma}
+use Rattle.mm_lang.specs.declared.token.Symbol.TheVariants.{Open, Close, Comma, Equal}
 use Rattle.mm_lang.specs.Grammar.{literal_of, command_of}
-use Rattle.mm_lang.specs.Reading.{first_fault, literals_of, past_limit}
-use Rattle.mm_lang.specs.Spelling.{word, type_word, kind_word, SpellsLiteral, SpellsOne, SpellsList, SpellsInParentheses, SpellsTuple, SpellsRole, SpellsColumn, SpellsCommand}
-use Rattle.mm_lang.specs.Tokens.{Token, Word, Mark}
+use Rattle.mm_lang.specs.Reading.{assignment_literals, first_fault, literals_among, literals_of, operand_literals, past_limit, test_literals}
+use Rattle.mm_lang.specs.Spelling.{word, type_word, kind_word, comparison_symbol, SpellsLiteral, SpellsOne, SpellsList, SpellsInParentheses, SpellsTuple, SpellsRole, SpellsColumn, SpellsShift, SpellsOperand, SpellsTest, SpellsAssignment, SpellsTests, SpellsCommand}
+use Rattle.mm_lang.specs.Tokens.{Token, Word, Signed, Quoted, Mark}
 use Rattle.mm_lang.specs.steps.Parsing.{no_literals, only_literal}
-use Rattle.mm_lang.proofs.SpelledWords.{literal_spelled}
+use Rattle.mm_lang.proofs.SpelledWords.{literal_spelled, name_no_numeral}
 use Rattle.mm_lang.proofs.SpelledCommands.{command_read}
 use Rattle.mm_lang.proofs.TupleValues.{all_literals}
 
 -- the literals among some tokens
 abbrev among : List Token → List Value
-among ts = filter_map literal_of ts
+among ts = literals_among ts
 
-one_literal : (ts : List Token) (v : Value) → SpellsOne SpellsLiteral ts v → among ts ≡ only_literal v
-one_literal ts v h = ap among h.2 ∙ ap (λ o. cons_option o []) (literal_spelled h.0 v h.1)
+-- In front of any tokens, what spells a thing has its literals.
+abbrev HasLiterals : {A : Type 0} → (List Token → A → Type 0) → (A → List Value) → Type 0
+HasLiterals {A} Spells literals = (ts : List Token) (x : A) (us : List Token) → Spells ts x → among (ts ++ us) ≡ literals x ++ among us
 
-list_literals : {A : Type 0} (separator : Token) (Spells : List Token → A → Type 0) (literals : A → List Value) → literal_of separator ≡ None
-    → ((ts : List Token) (x : A) → Spells ts x → among ts ≡ literals x) → (xs : List A) (ts : List Token) → SpellsList separator Spells ts xs
-    → among ts ≡ flat_map literals xs
-list_literals separator Spells literals none each [] ts h = absurd h
-list_literals separator Spells literals none each (x ∷ []) ts h = each ts x h ∙ sym (append-nil (literals x))
-list_literals separator Spells literals none each (x ∷ y ∷ xs) ts h =
-    ap among h.4 ∙ filter_map-append literal_of h.0 (separator ∷ h.1)
-    ∙ ap (λ o. among h.0 ++ cons_option o (among h.1)) none
-    ∙ ap (λ l. l ++ among h.1) (each h.0 x h.2)
-    ∙ ap (λ l. literals x ++ l) (list_literals separator Spells literals none each (y ∷ xs) h.1 h.3)
+literal_front : (t : Token) (v : Value) (us : List Token) → SpellsLiteral t v → among (t ∷ us) ≡ v ∷ among us
+literal_front (Word w) (Int z) us h = ap (λ o. cons_option o (among us)) (literal_spelled (Word w) (Int z) h)
+literal_front (Signed w) (Int z) us h = ap (λ o. cons_option o (among us)) (literal_spelled (Signed w) (Int z) h)
+literal_front (Quoted text) (Text said) us h = ap (λ o. cons_option o (among us)) (literal_spelled (Quoted text) (Text said) h)
+literal_front _ _ us h = absurd h
 
-in_parentheses_literals : {A : Type 0} (Spells : List Token → A → Type 0) (literals : A → List Value)
-    → ((ts : List Token) (x : A) → Spells ts x → among ts ≡ literals x) → (ts : List Token) (x : A) → SpellsInParentheses Spells ts x → among ts ≡ literals x
-in_parentheses_literals Spells literals each ts x h =
-    ap among h.2 ∙ filter_map-append literal_of h.0 (Mark Close ∷ []) ∙ append-nil (among h.0) ∙ each h.0 x h.1
+one_literal : HasLiterals (SpellsOne SpellsLiteral) only_literal
+one_literal ts v us h = ap (λ l. among (l ++ us)) h.2 ∙ literal_front h.0 v us h.1
 
-tuple_literals : (ts : List Token) (values : List Value) → SpellsTuple ts values → among ts ≡ values
-tuple_literals ts values h =
+list_literals : {A : Type 0} (separator : Token) (Spells : List Token → A → Type 0) (literals : A → List Value)
+    → ((us : List Token) → among (separator ∷ us) ≡ among us) → HasLiterals Spells literals → (xs : List A) (ts us : List Token)
+    → SpellsList separator Spells ts xs → among (ts ++ us) ≡ flat_map literals xs ++ among us
+list_literals separator Spells literals none each [] ts us h = absurd h
+list_literals separator Spells literals none each (x ∷ []) ts us h = each ts x us h ∙ ap (λ l. l ++ among us) (sym (append-nil (literals x)))
+list_literals separator Spells literals none each (x ∷ y ∷ xs) ts us h =
+    ap (λ l. among (l ++ us)) h.4 ∙ ap among (append_assoc h.0 (separator ∷ h.1) us)
+    ∙ each h.0 x (separator ∷ h.1 ++ us) h.2
+    ∙ ap (λ l. literals x ++ l) (none (h.1 ++ us) ∙ list_literals separator Spells literals none each (y ∷ xs) h.1 us h.3)
+    ∙ sym (append_assoc (literals x) (flat_map literals (y ∷ xs)) (among us))
+
+in_parentheses_literals : {A : Type 0} (Spells : List Token → A → Type 0) (literals : A → List Value) → HasLiterals Spells literals
+    → HasLiterals (SpellsInParentheses Spells) literals
+in_parentheses_literals Spells literals each ts x us h =
+    ap (λ l. among (l ++ us)) h.2 ∙ ap among (append_assoc h.0 (Mark Close ∷ []) us) ∙ each h.0 x (Mark Close ∷ us) h.1
+
+tuple_literals : HasLiterals SpellsTuple (λ values. values)
+tuple_literals ts values us h =
     in_parentheses_literals (SpellsList (Mark Comma) (SpellsOne SpellsLiteral)) (flat_map only_literal)
-    (λ us vs k. list_literals (Mark Comma) (SpellsOne SpellsLiteral) only_literal refl one_literal vs us k) ts values h
-    ∙ all_literals values
-
--- a name is no numeral
-name_no_numeral : (name : List ℕ) → IsName name → is_numeral name ≡ true → ⊥
-name_no_numeral [] named numeral = let p = and_parts (is_name_text []) (leb 0 32) named in absurd (cc (p.0))
-name_no_numeral (b ∷ bs) named numeral =
-    let p = and_parts (is_name_text (b ∷ bs)) (leb (length (b ∷ bs)) 32) named in
-    let lower = and_parts (is_lower b) (list_all is_name_byte bs) p.0 in
-    let letter = and_parts (leb 97 b) (leb b 122) lower.0 in
-    let q = and_parts (ltb 0 (length (b ∷ bs))) (list_all is_ascii_digit (b ∷ bs)) numeral in
-    let digits = and_parts (is_ascii_digit b) (list_all is_ascii_digit bs) q.1 in
-    let digit = and_parts (leb 48 b) (leb b 57) digits.0 in
-    let low : 97 ≤ b = leb-true 97 b letter.0 in
-    let high : b ≤ 57 = leb-true b 57 digit.1 in
-    omega arith
+    (λ ts vs us k. list_literals (Mark Comma) (SpellsOne SpellsLiteral) only_literal (λ us. refl) one_literal vs ts us k) ts values us h
+    ∙ ap (λ l. l ++ among us) (all_literals values)
 
 name_no_literal : (name : List ℕ) → IsName name → literal_of (Word name) ≡ None
 name_no_literal name named =
@@ -88,30 +86,74 @@ kind_no_literal : (k : IndexKind) → among (word (kind_word k) ∷ []) ≡ []
 kind_no_literal kind.Tree = refl
 kind_no_literal kind.Hash = refl
 
-role_no_literal : (ts : List Token) (r : Role) → SpellsRole ts r → among ts ≡ []
-role_no_literal ts Key spelled = ap among spelled
-role_no_literal ts Plain spelled = ap among spelled
-role_no_literal ts (Reference table) spelled = absurd spelled
-
 behind_name : (name : List ℕ) (ts : List Token) → IsName name → among (Word name ∷ ts) ≡ among ts
 behind_name name ts named = ap (λ o. cons_option o (among ts)) (name_no_literal name named)
 
-column_literals : (ts : List Token) (c : Column) → SpellsColumn ts c → among ts ≡ no_literals c
-column_literals ts c h =
-    ap among h.3 ∙ behind_name c.name (word (type_word c.col_type) ∷ h.0) h.1 ∙ type_no_literal c.col_type h.0 ∙ role_no_literal h.0 c.role h.2
+role_no_literal : (ts : List Token) (r : Role) (us : List Token) → SpellsRole ts r → among (ts ++ us) ≡ among us
+role_no_literal ts Key us spelled = ap (λ l. among (l ++ us)) spelled
+role_no_literal ts Plain us spelled = ap (λ l. among (l ++ us)) spelled
+role_no_literal ts (Reference target) us spelled = ap (λ l. among (l ++ us)) spelled.1 ∙ behind_name target us spelled.0
+
+column_literals : HasLiterals SpellsColumn no_literals
+column_literals ts c us h =
+    ap (λ l. among (l ++ us)) h.3 ∙ behind_name c.name (word (type_word c.col_type) ∷ h.0 ++ us) h.1 ∙ type_no_literal c.col_type (h.0 ++ us)
+    ∙ role_no_literal h.0 c.role us h.2
 
 none_at_all : {A : Type 0} (xs : List A) → flat_map no_literals xs ≡ []
 none_at_all [] = refl
 none_at_all (x ∷ xs) = none_at_all xs
 
+-- tests and assignments
+
+shift_literal : (ts : List Token) (z : ℤ) (us : List Token) → SpellsShift ts z → among (ts ++ us) ≡ Int z ∷ among us
+shift_literal ts z us h =
+    ⊎_elim
+    (λ plus. ap (λ l. among (l ++ us)) plus.0 ∙ ap (λ o. cons_option o (among us)) (literal_spelled (Word h.0) (Int z) (h.1, plus.1)))
+    (λ minus.
+    ⊎_elim
+    (λ apart. ap (λ l. among (l ++ us)) apart ∙ ap (λ o. cons_option o (among us)) (literal_spelled (Signed h.0) (Int z) (h.1, minus.1)))
+    (λ joined. ap (λ l. among (l ++ us)) joined ∙ ap (λ o. cons_option o (among us)) (literal_spelled (Signed h.0) (Int z) (h.1, minus.1)))
+    minus.0)
+    h.2
+
+operand_among : HasLiterals SpellsOperand operand_literals
+operand_among ts (kind_of.Literal v) us h = one_literal ts v us h
+operand_among ts (kind_of.Column n) us h = ap (λ l. among (l ++ us)) h.1 ∙ behind_name n us h.0
+operand_among ts (kind_of.Shifted n z) us h = ap (λ l. among (l ++ us)) h.3 ∙ behind_name n (h.0 ++ us) h.1 ∙ shift_literal h.0 z us h.2
+
+comparison_no_literal : (c : Comparison) (us : List Token) → among (Mark (comparison_symbol c) ∷ us) ≡ among us
+comparison_no_literal compared.Equal us = refl
+comparison_no_literal compared.Less us = refl
+comparison_no_literal compared.LessOrEqual us = refl
+comparison_no_literal compared.Greater us = refl
+comparison_no_literal compared.GreaterOrEqual us = refl
+
+test_among : HasLiterals SpellsTest test_literals
+test_among ts a us h =
+    ap (λ l. among (l ++ us)) h.3 ∙ behind_name a.left (Mark (comparison_symbol a.comparison) ∷ h.0 ++ us) h.1
+    ∙ comparison_no_literal a.comparison (h.0 ++ us) ∙ operand_among h.0 a.right us h.2
+
+assignment_among : HasLiterals SpellsAssignment assignment_literals
+assignment_among ts a us h =
+    ap (λ l. among (l ++ us)) h.3 ∙ behind_name a.column (Mark Equal ∷ h.0 ++ us) h.1 ∙ operand_among h.0 a.source us h.2
+
+tests_among : (asked : List (Atom (List ℕ))) (ts : List Token) → SpellsTests ts asked → among ts ≡ flat_map test_literals asked
+tests_among [] ts h = ap among h
+tests_among (a ∷ others) ts h =
+    ap among h.2 ∙ ap among (sym (append-nil h.0))
+    ∙ list_literals (word keyword.And) SpellsTest test_literals (λ us. refl) test_among (a ∷ others) h.0 [] h.1
+    ∙ append-nil (flat_map test_literals (a ∷ others))
+
+-- commands
+
 spelled_literals : (ts : List Token) (c : Command) → SpellsCommand ts c → literals_of c ≡ among ts
 spelled_literals ts command.Nothing h = absurd h
 spelled_literals ts (command.Define (define.Table definition)) h =
     sym (
-    ap among h.4 ∙ behind_name definition.name h.0 h.1
+    ap among h.4 ∙ behind_name definition.name h.0 h.1 ∙ ap among (sym (append-nil h.0))
     ∙ in_parentheses_literals (SpellsList (Mark Comma) SpellsColumn) (flat_map no_literals)
-    (λ us cs k. list_literals (Mark Comma) SpellsColumn no_literals refl column_literals cs us k) h.0 definition.columns h.3
-    ∙ none_at_all definition.columns)
+    (λ ts cs us k. list_literals (Mark Comma) SpellsColumn no_literals (λ us. refl) column_literals cs ts us k) h.0 definition.columns [] h.3
+    ∙ ap (λ l. l ++ []) (none_at_all definition.columns))
 spelled_literals ts (command.Define (define.DropTable n)) h = sym (ap among h.1 ∙ behind_name n [] h.0)
 spelled_literals ts (command.Define (define.Index i)) h =
     let behind = Word i.column ∷ Mark Close ∷ word (kind_word i.kind) ∷ [] in
@@ -122,8 +164,16 @@ spelled_literals ts (command.Define (define.Index i)) h =
 spelled_literals ts (command.Define (define.DropIndex n)) h = sym (ap among h.1 ∙ behind_name n [] h.0)
 spelled_literals ts (command.Change (change.Insert table tuples)) h =
     sym (
-    ap among h.3 ∙ behind_name table h.0 h.1
-    ∙ list_literals (Mark Comma) SpellsTuple (λ values. values) refl tuple_literals tuples h.0 h.2)
+    ap among h.3 ∙ behind_name table h.0 h.1 ∙ ap among (sym (append-nil h.0))
+    ∙ list_literals (Mark Comma) SpellsTuple (λ values. values) (λ us. refl) tuple_literals tuples h.0 [] h.2
+    ∙ append-nil (flat_map (λ values. values) tuples))
+spelled_literals ts (command.Change (change.Update table set asked)) h =
+    sym (
+    ap among h.5 ∙ behind_name table (word keyword.Set ∷ h.0 ++ h.1) h.2
+    ∙ list_literals (Mark Comma) SpellsAssignment assignment_literals (λ us. refl) assignment_among set h.0 h.1 h.3
+    ∙ ap (λ l. flat_map assignment_literals set ++ l) (tests_among asked h.1 h.4))
+spelled_literals ts (command.Change (change.Delete table asked)) h =
+    sym (ap among h.3 ∙ behind_name table h.0 h.1 ∙ tests_among asked h.0 h.2)
 spelled_literals ts (command.Scan table) h = sym (ap among h.1 ∙ behind_name table [] h.0)
 spelled_literals ts (command.ScanIndex i) h = sym (ap among h.1 ∙ behind_name i [] h.0)
 

@@ -1,9 +1,9 @@
 -- Phrases put together, read one after the other.
-use Rattle.std.proofs.Common.{◌≡◌, ◌≤◌, inl, inr, ℕ, Bool, true, false, List, Option, Some, None, Result, Ok, Err, length, refl, sym, ap, ◌∙◌, arith}
+use Rattle.std.proofs.Common.{◌≡◌, ◌≤◌, inl, inr, ℕ, Bool, true, false, List, [], ◌∷◌, ◌++◌, Option, Some, None, Result, Ok, Err, length, refl, sym, ap, ◌∙◌, arith}
 use Rattle.std.specs.Option.{option_map, option_and_then, option_or, ok_or}
 use Rattle.mm_schema.specs.declared.column.Column.{Column}
 use Rattle.mm_schema.specs.declared.column.Role.{Role}
-use Rattle.mm_schema.specs.declared.column.Role.TheVariants.{Plain, Key}
+use Rattle.mm_schema.specs.declared.column.Role.TheVariants.{Plain, Key, Reference}
 use Rattle.mm_value.specs.declared.col_type.ColType.{ColType}
 use Rattle.mm_value.specs.declared.refusal.Refusal.{Refusal}
 use Rattle.mm_value.specs.declared.refusal.Refusal.TheVariants.{Syntax}
@@ -11,12 +11,26 @@ use Rattle.mm_value.specs.declared.values.Value.{Value}
 use Rattle.mm_lang.specs.declared.keyword.Keyword.{Keyword}
 use Rattle.mm_lang.specs.declared.keyword.Keyword.TheVariants as keyword
 use Rattle.mm_lang.specs.declared.reader.Reader.{Reader}
-use Rattle.mm_lang.specs.Grammar.{name, col_type, column}
-use Rattle.mm_lang.specs.Phrases.{Phrase, ◌>>=◌, ◌>>◌, say, one, one_word, word_of, the_keyword, has_keyword, optional}
-use Rattle.mm_lang.specs.Reading.{first_fault}
+use Rattle.mm_lang.specs.Grammar.{name, col_type, reference, role_behind, role, column}
+use Rattle.mm_lang.specs.Phrases.{Phrase, ◌>>=◌, say, one, one_word, word_of, the_keyword, has_keyword}
+use Rattle.mm_lang.specs.Reading.{first_fault, literal_fault}
 use Rattle.mm_lang.specs.Tokens.{Token, Word, tokens}
-use Rattle.mm_lang.specs.steps.Parsing.{Fails, Follows, Gives, ReadsPhrase, Skips, no_literals}
+use Rattle.mm_lang.specs.steps.Parsing.{Fails, Follows, Gives, GivesItems, ReadsPhrase, Skips, no_literals}
 use Rattle.mm_lang.specs.steps.Parts.{Front, one_parts}
+
+-- The first fault of two lists of literals.
+
+pub or_assoc : (a b c : Option Refusal) → option_or a (option_or b c) ≡ option_or (option_or a b) c
+or_assoc None b c = refl
+or_assoc (Some e) b c = refl
+
+pub fault-append : (xs ys : List Value) → first_fault (xs ++ ys) ≡ option_or (first_fault xs) (first_fault ys)
+fault-append [] ys = refl
+fault-append (x ∷ xs) ys = ap (option_or (literal_fault x)) (fault-append xs ys) ∙ or_assoc (literal_fault x) (first_fault xs) (first_fault ys)
+
+pub or_none_parts : (a b : Option Refusal) → option_or a b ≡ None → (a ≡ None) × (b ≡ None)
+or_none_parts None b e = (refl, e)
+or_none_parts (Some x) b e = absurd (cc)
 
 pub or_none : (fault : Option Refusal) → option_or fault None ≡ fault
 or_none None = refl
@@ -73,6 +87,52 @@ reads_behind {A} first next literals old mid new x (Ok y) t g = record {
 }
 reads_behind first next literals old mid new x (Err e) t h = fails_next first next old mid x e t.is h
 
+-- A thing was made of what was read.
+pub given_made : {A B : Type 0} (phrase : Phrase A) (make : A → B) (literals : A → List Value) (all : B → List Value)
+    → ((x : A) → all (make x) ≡ literals x) → {old new : Reader} {x : A} → Gives phrase literals old new x
+    → Gives (phrase >>= (λ y. say (make y))) all old new (make x)
+given_made {A} phrase make literals all same {old = old} {new = new} g = record {
+  said = make g.said;
+  read = ap (option_and_then (λ (r : Front A). say (make r.0) r.1)) g.read;
+  fault = g.fault ∙ ap (λ l. option_or old.fault (first_fault l)) (sym (same g.said));
+  same = λ none. ap make (g.same (ap first_fault (sym (same g.said)) ∙ none));
+  shorter = g.shorter;
+}
+
+-- A thing was made of two phrases, one behind the other.
+pub given_both : {A B C : Type 0} (first : Phrase A) (second : Phrase B) (make : A → B → C) (a : A → List Value) (b : B → List Value) (all : C → List Value)
+    → ((x : A) (y : B) → all (make x y) ≡ a x ++ b y) → (old mid new : Reader) (x : A) (y : B) → Gives first a old mid x → Gives second b mid new y
+    → Gives (first >>= (λ u. second >>= (λ v. say (make u v)))) all old new (make x y)
+given_both {A} {B} first second make a b all same old mid new x y g h =
+    let faults : first_fault (all (make g.said h.said)) ≡ option_or (first_fault (a g.said)) (first_fault (b h.said)) =
+    ap first_fault (same g.said h.said) ∙ fault-append (a g.said) (b h.said) in
+    record {
+      said = make g.said h.said;
+      read =
+          ap (option_and_then (λ (r : Front A). (second >>= (λ v. say (make r.0 v))) r.1)) g.read
+          ∙ ap (option_and_then (λ (r : Front B). say (make g.said r.0) r.1)) h.read;
+      fault =
+          h.fault ∙ ap (λ f. option_or f (first_fault (b h.said))) g.fault
+          ∙ sym (or_assoc old.fault (first_fault (a g.said)) (first_fault (b h.said))) ∙ ap (option_or old.fault) (sym faults);
+      same =
+          λ none. let p = or_none_parts (first_fault (a g.said)) (first_fault (b h.said)) (sym faults ∙ none) in
+          λ i. make (g.same p.0 i) (h.same p.1 i);
+      shorter = omega (arith, g.shorter, h.shorter);
+    }
+
+-- The items of a list with none in front are the list.
+pub listed : {A : Type 0} {phrase : Phrase (List A)} {literals : List A → List Value} {old new : Reader} {before after : List A} → before ≡ []
+    → GivesItems phrase literals old new before after → Gives phrase literals old new after
+listed {before = before} none items =
+    let h = items.given in
+    record {
+      said = h.said;
+      read = h.read;
+      fault = h.fault;
+      same = λ fits. items.joined ∙ ap (λ l. l ++ items.items) none ∙ h.same fits;
+      shorter = h.shorter;
+    }
+
 -- Whether a keyword stands there was read.
 pub keyword_stands : (k : Keyword) (old new : Reader) (b : Bool) → Skips (the_keyword k) old new b → Took (has_keyword k) old new b
 keyword_stands k old new true h =
@@ -119,29 +179,24 @@ word_reads {A} says old new word g = by (says word) refl
         gives (record
         { is = word_says says (tokens old.rest.now) word (tokens new.rest.now) t.is ∙ ap (option_map pair) is; fault = t.fault; shorter = t.shorter })
 
--- The role of a column.
-
-abbrev pub role : Phrase Role
-role = optional Plain (the_keyword keyword.Key >> say Key)
+-- The role of a column: KEY, ..
 
 pub role_key : (old new : Reader) → Skips (the_keyword keyword.Key) old new true → Took role old new Key
-role_key old new h =
-    let t = took h.0 in
-    record {
-      is = ap (λ (o : Option (Front (Unit {0}))). option_or (option_and_then (λ (r : Front (Unit {0})). say Key r.1) o)
-          (Some (Plain, tokens old.rest.now))) t.is;
-      fault = t.fault;
-      shorter = t.shorter;
-    }
+role_key old new h = took_then role_behind (keyword_stands keyword.Key old new true h) (took_say Key new)
 
-pub role_plain : (old new : Reader) → Skips (the_keyword keyword.Key) old new false → Took role old new Plain
-role_plain old new h = record {
-  is =
-      ap (λ (o : Option (Front (Unit {0}))). option_or (option_and_then (λ (r : Front (Unit {0})). say Key r.1) o) (Some (Plain, tokens old.rest.now))) h.0
-      ∙ ap (λ (r : Reader). Some (Plain, tokens r.rest.now)) (sym h.1);
-  fault = ap (λ (r : Reader). r.fault) h.1;
-  shorter = omega (arith, ap (λ (r : Reader). length r.rest.now) h.1);
-}
+module _ (old mid new : Reader) (key : Skips (the_keyword keyword.Key) old mid false) where
+  -- .. nothing, ..
+  pub role_plain : Skips (the_keyword keyword.Ref) mid new false → Took role old new Plain
+  role_plain h =
+      took_then role_behind (keyword_stands keyword.Key old mid false key) (took_then reference (keyword_stands keyword.Ref mid new false h) (took_say Plain new))
+
+  -- .. or REF and the name of a table.
+  pub role_reference : (behind : Reader) (table : List ℕ) → Skips (the_keyword keyword.Ref) mid behind true → Gives name no_literals behind new table
+      → Took role old new (Reference table)
+  role_reference behind table h g =
+      took_then role_behind (keyword_stands keyword.Key old mid false key)
+      (took_then reference (keyword_stands keyword.Ref mid behind true h)
+      (took_then (λ (t : List ℕ). say (Reference t)) (took g) (took_say (Reference table) new)))
 
 -- A column.
 
@@ -162,10 +217,19 @@ pub column_no_type : (old mid : Reader) (n : List ℕ) (e : Refusal) → Gives n
 unfolding column after_name after_type say_column
 column_no_type old mid n e g h = let t = took g in fails_next name after_name old mid n e t.is (fails_first col_type (after_type n) mid e h)
 
+pub column_no_role : (old mid behind : Reader) (n : List ℕ) (t : ColType) (e : Refusal) → Gives name no_literals old mid n
+    → Gives col_type no_literals mid behind t → Fails role behind e → Fails column old e
+unfolding column after_name after_type say_column
+column_no_role old mid behind n t e a b h =
+    let first = took a in
+    let second = took b in
+    fails_next name after_name old mid n e first.is
+    (fails_next col_type (after_type n) mid behind t e second.is (fails_first role (say_column n t) behind e h))
+
 pub column_given : (old mid behind new : Reader) (n : List ℕ) (t : ColType) (r : Role) → Gives name no_literals old mid n
     → Gives col_type no_literals mid behind t
-    → Took role behind new r → Gives column no_literals old new (record { name = n; col_type = t; role = r })
+    → Gives role no_literals behind new r → Gives column no_literals old new (record { name = n; col_type = t; role = r })
 unfolding column after_name after_type say_column
 column_given old mid behind new n t r a b c =
     gives (took_then after_name (took a)
-    (took_then (after_type n) (took b) (took_then (say_column n t) c (took_say (record { name = n; col_type = t; role = r }) new))))
+    (took_then (after_type n) (took b) (took_then (say_column n t) (took c) (took_say (record { name = n; col_type = t; role = r }) new))))

@@ -1,7 +1,7 @@
 -- Commands: what is read is spelled so, and what is spelled is read.
-use Rattle.std.proofs.Common.{◌≡◌, ⊎_elim, ℕ, Bool, true, false, eqb, List, [], ◌∷◌, ◌++◌, Option, Some, None, refl, sym, ap, subst, ◌∙◌, append-nil}
+use Rattle.std.proofs.Common.{◌≡◌, ◌⊎◌, inl, inr, ⊎_elim, ℕ, Bool, true, false, eqb, List, [], ◌∷◌, ◌++◌, Option, Some, None, refl, sym, ap, subst, ◌∙◌, append-nil}
 use Rattle.std.specs.Option.{option_and_then, option_or}
-use Rattle.std.proofs.lemmas.Bool.{cond-true, eqb-true, eq-eqb}
+use Rattle.std.proofs.lemmas.Bool.{cond-true, eqb-true, eq-eqb, false≢true}
 use Rattle.std.proofs.lemmas.Option.{none-some, same_Some}
 use Rattle.mm_schema.specs.Columns.{key_count}
 use Rattle.mm_schema.specs.Name.{IsName}
@@ -20,17 +20,15 @@ use Rattle.mm_query.specs.declared.command.Mutation.TheVariants as change
 use Rattle.mm_lang.specs.declared.keyword.Keyword.{Keyword}
 use Rattle.mm_lang.specs.declared.keyword.Keyword.TheVariants as keyword
 use Rattle.mm_lang.specs.declared.token.Symbol.TheVariants.{Open, Close, Comma}
-use Rattle.mm_lang.specs.Grammar.{literal_of, name, type_named, col_type, column, kind_named, index_kind, tuple, comma_list, table, drop, dropped, index, insert, scan, scan_of, command_behind, command_of}
-use Rattle.mm_lang.specs.Phrases.{Phrase, ◌>>=◌, ◌>>◌, say, one, one_word, the_symbol, the_keyword, has_keyword, only_if, optional, in_parentheses, alone}
+use Rattle.mm_lang.specs.Grammar.{literal_of, name, type_named, col_type, reference, role_behind, role, column, kind_named, index_kind, tuple, comma_list, table, drop, dropped, index, insert, scan, scan_of, command_behind, command_of}
+use Rattle.mm_lang.specs.Phrases.{Phrase, ◌>>=◌, ◌>>◌, say, one, one_word, the_symbol, the_keyword, has_keyword, only_if, in_parentheses, alone}
 use Rattle.mm_lang.specs.Spelling.{word, type_word, kind_word, SpellsLiteral, SpellsOne, SpellsList, SpellsInParentheses, SpellsTuple, SpellsRole, SpellsColumn, SpellsCommand}
 use Rattle.mm_lang.specs.Tokens.{Token, Word, Mark}
 use Rattle.mm_lang.specs.Words.{keyword_named}
-use Rattle.mm_lang.specs.steps.Parts.{Front, said_same, tested, chained, then_parts, word_parts, optional_parts, in_parentheses_parts}
+use Rattle.mm_lang.specs.steps.Parts.{Front, said_same, tested, chained, then_parts, word_parts, in_parentheses_parts}
 use Rattle.mm_lang.proofs.SpelledWords.{symbol_read, keyword_read, named_read, has_keyword_read, name_no_keyword, name_read, name_spelled, literal_read, literal_spelled}
-use Rattle.mm_lang.proofs.Exactness.{IsExact, IsToken, Always, one_exact, list_exact, parentheses_exact}
-
-comma : IsToken (the_symbol Comma) (Mark Comma)
-comma = record { sound = symbol_read Comma; complete = λ us. refl }
+use Rattle.mm_lang.proofs.SpelledAtoms.{comma, delete_read, delete_spelled, update_read, update_spelled}
+use Rattle.mm_lang.proofs.Exactness.{IsExact, Always, one_exact, list_exact, parentheses_exact}
 
 -- tuples
 
@@ -66,26 +64,49 @@ type_spelled : (t : ColType) (us : List Token) → col_type (word (type_word t) 
 type_spelled type.Int us = refl
 type_spelled type.Text us = refl
 
-abbrev role : Phrase Role
-role = optional Plain (the_keyword keyword.Key >> say Key)
+abbrev IsRole : List Token → Role → List Token → Type 0
+IsRole ts r us = (front : List Token) × SpellsRole front r × (ts ≡ front ++ us)
 
-role_read : (ts : List Token) (r : Role) (us : List Token) → role ts ≡ Some (r, us) → (front : List Token) × SpellsRole front r × (ts ≡ front ++ us)
-role_read ts r us e =
-    ⊎_elim
-    (λ there. let p = then_parts (the_keyword keyword.Key) (λ u. say Key) ts r us there in
-    let q = said_same Key r p.1 us p.3 in
+reference_read : (there : Bool) (ts : List Token) (r : Role) (us : List Token) → reference there ts ≡ Some (r, us)
+    → (ms : List Token) → ((there ≡ true) × (ms ≡ word keyword.Ref ∷ ts)) ⊎ ((there ≡ false) × (ms ≡ ts)) → IsRole ms r us
+reference_read true ts r us e ms (inl h) =
+    let p = then_parts name (λ t. say (Reference t)) ts r us e in
+    let q = said_same (Reference p.0) r p.1 us p.3 in
+    let n = name_read ts p.0 p.1 p.2 in
+    let front = word keyword.Ref ∷ Word p.0 ∷ [] in
+    (front, subst (SpellsRole front) q.0 (n.1, refl), h.1 ∙ ap (λ l. word keyword.Ref ∷ l) (n.0 ∙ ap (λ l. Word p.0 ∷ l) q.1))
+reference_read false ts r us e ms (inr h) = let q = said_same Plain r ts us e in ([], subst (SpellsRole []) q.0 refl, h.1 ∙ q.1)
+reference_read true ts r us e ms (inr h) = absurd (false≢true (sym h.0))
+reference_read false ts r us e ms (inl h) = absurd (false≢true h.0)
+
+role_behind_read : (there : Bool) (ts : List Token) (r : Role) (us : List Token) → role_behind there ts ≡ Some (r, us)
+    → (ms : List Token) → ((there ≡ true) × (ms ≡ word keyword.Key ∷ ts)) ⊎ ((there ≡ false) × (ms ≡ ts)) → IsRole ms r us
+role_behind_read true ts r us e ms (inl h) =
+    let q = said_same Key r ts us e in
     let front = word keyword.Key ∷ [] in
-    (front, subst (SpellsRole front) q.0 refl, keyword_read keyword.Key ts p.1 p.2 ∙ ap (λ l. word keyword.Key ∷ l) q.1))
-    (λ not_there. ([], subst (SpellsRole []) not_there.1 refl, not_there.2))
-    (optional_parts Plain (the_keyword keyword.Key >> say Key) ts r us e)
+    (front, subst (SpellsRole front) q.0 refl, h.1 ∙ ap (λ l. word keyword.Key ∷ l) q.1)
+role_behind_read false ts r us e ms (inr h) =
+    let p = then_parts (has_keyword keyword.Ref) reference ts r us e in
+    let s = reference_read p.0 p.1 r us p.3 ts (has_keyword_read keyword.Ref ts p.0 p.1 p.2) in
+    (s.0, s.1, h.1 ∙ s.2)
+role_behind_read true ts r us e ms (inr h) = absurd (false≢true (sym h.0))
+role_behind_read false ts r us e ms (inl h) = absurd (false≢true h.0)
 
-role_spelled : (front : List Token) (r : Role) (us : List Token) → SpellsRole front r → the_keyword keyword.Key us ≡ None
-    → role (front ++ us) ≡ Some (r, us)
+role_read : (ts : List Token) (r : Role) (us : List Token) → role ts ≡ Some (r, us) → IsRole ts r us
+role_read ts r us e =
+    let p = then_parts (has_keyword keyword.Key) role_behind ts r us e in
+    role_behind_read p.0 p.1 r us p.3 ts (has_keyword_read keyword.Key ts p.0 p.1 p.2)
+
+-- no role stands in front
+abbrev NoRole : List Token → Type 0
+NoRole us = role us ≡ Some (Plain, us)
+
+role_spelled : (front : List Token) (r : Role) (us : List Token) → SpellsRole front r → NoRole us → role (front ++ us) ≡ Some (r, us)
 role_spelled front Key us spelled end = ap (λ l. role (l ++ us)) spelled
-role_spelled front Plain us spelled end =
-    ap (λ l. role (l ++ us)) spelled
-    ∙ ap (λ (o : Option (Front (Unit {0}))). option_or (option_and_then (λ (s : Front (Unit {0})). say Key s.1) o) (Some (Plain, us))) end
-role_spelled front (Reference table) us spelled end = absurd spelled
+role_spelled front Plain us spelled end = ap (λ l. role (l ++ us)) spelled ∙ end
+role_spelled front (Reference target) us spelled end =
+    ap (λ l. role (l ++ us)) spelled.1
+    ∙ ap (option_and_then (λ (r : Front (List ℕ)). say (Reference r.0) r.1)) (name_spelled target us spelled.0)
 
 say_column : List ℕ → ColType → Role → Phrase Column
 say_column n t r = say (record { name = n; col_type = t; role = r })
@@ -112,7 +133,7 @@ column_read ts c us e =
           (type_read p.1 q.0 q.1 q.2 ∙ ap (λ l. word (type_word q.0) ∷ l) (behind.2 ∙ ap (λ l. behind.0 ++ l) s.1)),
     )
 
-column_spelled : (front : List Token) (c : Column) (us : List Token) → SpellsColumn front c → the_keyword keyword.Key us ≡ None
+column_spelled : (front : List Token) (c : Column) (us : List Token) → SpellsColumn front c → NoRole us
     → column (front ++ us) ≡ Some (c, us)
 unfolding column say_column after_type after_name
 column_spelled front c us h end =
@@ -122,16 +143,13 @@ column_spelled front c us h end =
     ∙ ap (option_and_then (λ (r : Front ColType). after_type c.name r.0 r.1)) (type_spelled c.col_type (h.0 ++ us))
     ∙ ap (option_and_then (λ (r : Front Role). say_column c.name c.col_type r.0 r.1)) (role_spelled h.0 c.role us h.2 end)
 
-abbrev NoKey : List Token → Type 0
-NoKey us = the_keyword keyword.Key us ≡ None
-
-columns_exact : IsExact (comma_list column) (SpellsList (Mark Comma) SpellsColumn) (λ us. NoKey us × (the_symbol Comma us ≡ None))
+columns_exact : IsExact (comma_list column) (SpellsList (Mark Comma) SpellsColumn) (λ us. NoRole us × (the_symbol Comma us ≡ None))
 columns_exact =
-    list_exact (the_symbol Comma) (Mark Comma) column SpellsColumn NoKey comma (record { sound = column_read; complete = column_spelled }) (λ us. refl)
+    list_exact (the_symbol Comma) (Mark Comma) column SpellsColumn NoRole comma (record { sound = column_read; complete = column_spelled }) (λ us. refl)
 
 table_columns_exact : IsExact (in_parentheses (comma_list column)) (SpellsInParentheses (SpellsList (Mark Comma) SpellsColumn)) Always
 table_columns_exact =
-    parentheses_exact (comma_list column) (SpellsList (Mark Comma) SpellsColumn) (λ us. NoKey us × (the_symbol Comma us ≡ None)) columns_exact
+    parentheses_exact (comma_list column) (SpellsList (Mark Comma) SpellsColumn) (λ us. NoRole us × (the_symbol Comma us ≡ None)) columns_exact
     (λ us. (refl, refl))
 
 -- INSERT
@@ -339,11 +357,13 @@ table_spelled n columns inner named one h =
 -- all commands
 
 behind_read : (k : Keyword) (ts : List Token) (c : Command) → command_behind k ts ≡ Some (c, []) → SpellsCommand (word k ∷ ts) c
+behind_read keyword.Delete ts c e = delete_read ts c e
 behind_read keyword.Drop ts c e = drop_read ts c e
 behind_read keyword.Index ts c e = index_read ts c e
 behind_read keyword.Insert ts c e = insert_read ts c e
 behind_read keyword.Scan ts c e = scan_read ts c e
 behind_read keyword.Table ts c e = table_read ts c e
+behind_read keyword.Update ts c e = update_read ts c e
 behind_read _ ts c e = let answer : Front Command = (c, []) in absurd (none-some answer e)
 
 alone_read : (x c : Command) (us : List Token) → alone x us ≡ Some c → (x ≡ c) × (us ≡ [])
@@ -373,6 +393,10 @@ command_spelled ts (command.Define (define.DropIndex n)) h =
     ap command_of h.1 ∙ ap (option_and_then (λ (r : Front Command). alone r.0 r.1)) (drop_index_spelled n h.0)
 command_spelled ts (command.Change (change.Insert t tuples)) h =
     ap command_of h.3 ∙ ap (option_and_then (λ (r : Front Command). alone r.0 r.1)) (insert_spelled t tuples h.0 h.1 h.2)
+command_spelled ts (command.Change (change.Update t set asked)) h =
+    ap command_of h.5 ∙ ap (option_and_then (λ (r : Front Command). alone r.0 r.1)) (update_spelled t set asked h.0 h.1 h.2 h.3 h.4)
+command_spelled ts (command.Change (change.Delete t asked)) h =
+    ap command_of h.3 ∙ ap (option_and_then (λ (r : Front Command). alone r.0 r.1)) (delete_spelled t asked h.0 h.1 h.2)
 command_spelled ts (command.Scan t) h = ap command_of h.1 ∙ ap (option_and_then (λ (r : Front Command). alone r.0 r.1)) (scan_spelled t h.0)
 command_spelled ts (command.ScanIndex i) h = ap command_of h.1 ∙ ap (option_and_then (λ (r : Front Command). alone r.0 r.1)) (scan_index_spelled i h.0)
 

@@ -1,12 +1,13 @@
 -- Symbols, keywords, names and literals: what a single token is read as, and what the grammar says.
-use Rattle.std.proofs.Common.{◌≡◌, ◌⊎◌, inl, inr, ⊎_elim, ℕ, Bool, true, false, cond, List, [], ◌∷◌, Some, None, Decides, pos, neg_ℤ, refl, sym, ap, subst, ◌∙◌}
-use Rattle.std.specs.List.{find}
+use Rattle.std.proofs.Common.{◌≡◌, ◌≤◌, ◌⊎◌, inl, inr, ⊎_elim, ℕ, Bool, true, false, cond, List, [], ◌∷◌, Some, None, Decides, leb, ltb, length, pos, neg_ℤ, refl, sym, ap, subst, ◌∙◌, arith}
+use Rattle.std.specs.Char.{is_ascii_digit}
+use Rattle.std.specs.List.{find, list_all}
 use Rattle.std.specs.Option.{option_map}
 use Rattle.std.specs.Str.Parse.{digits_value}
-use Rattle.std.proofs.lemmas.Bool.{cond-true, false≢true, cases_Bool}
+use Rattle.std.proofs.lemmas.Bool.{cond-true, false≢true, cases_Bool, and_parts, leb-true}
 use Rattle.std.proofs.lemmas.Option.{none-some, same_Some}
 use Rattle.std.proofs.lemmas.Slice.Eq.{bytes_eq-Decides}
-use Rattle.mm_schema.specs.Name.{is_name, IsName}
+use Rattle.mm_schema.specs.Name.{is_name, IsName, is_lower, is_name_byte, is_name_text}
 use Rattle.mm_value.specs.Literal.{is_numeral}
 use Rattle.mm_value.specs.declared.values.Value.{Value}
 use Rattle.mm_value.specs.declared.values.Value.TheVariants.{Int, Text}
@@ -108,3 +109,17 @@ literal_spelled (Word w) (Int z) h = cond-true (is_numeral w) (Some (Int (pos (d
 literal_spelled (Signed w) (Int z) h = cond-true (is_numeral w) (Some (Int (neg_ℤ (pos (digits_value 10 w))))) None h.0 ∙ ap (λ n. Some (Int n)) (sym h.1)
 literal_spelled (Quoted text) (Text said) h = ap (λ t. Some (Text t)) (sym h)
 literal_spelled _ _ h = absurd h
+
+-- a name is no numeral
+pub name_no_numeral : (name : List ℕ) → IsName name → is_numeral name ≡ true → ⊥
+name_no_numeral [] named numeral = let p = and_parts (is_name_text []) (leb 0 32) named in absurd (cc (p.0))
+name_no_numeral (b ∷ bs) named numeral =
+    let p = and_parts (is_name_text (b ∷ bs)) (leb (length (b ∷ bs)) 32) named in
+    let lower = and_parts (is_lower b) (list_all is_name_byte bs) p.0 in
+    let letter = and_parts (leb 97 b) (leb b 122) lower.0 in
+    let q = and_parts (ltb 0 (length (b ∷ bs))) (list_all is_ascii_digit (b ∷ bs)) numeral in
+    let digits = and_parts (is_ascii_digit b) (list_all is_ascii_digit bs) q.1 in
+    let digit = and_parts (leb 48 b) (leb b 57) digits.0 in
+    let low : 97 ≤ b = leb-true 97 b letter.0 in
+    let high : b ≤ 57 = leb-true b 57 digit.1 in
+    omega arith

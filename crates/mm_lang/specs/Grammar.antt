@@ -1,27 +1,37 @@
 -- What tokens read as, from left to right.
-use Rattle.std.specs.Prelude.{ℕ, ◌==◌, Bool, true, false, if◌then◌else◌, List, Option, Some, None, pos}
+use Rattle.std.specs.Prelude.{ℕ, ◌==◌, Bool, true, false, if◌then◌else◌, List, [], ◌∷◌, Option, Some, None, ℤ, pos}
 use Rattle.std.specs.Option.{option_and_then}
 use Rattle.std.specs.Str.Parse.{digits_value}
 use Rattle.std.proofs.Math.IntN.{neg_ℤ}
 use Rattle.mm_schema.specs.Columns.{key_count}
 use Rattle.mm_schema.specs.Name.{is_name}
 use Rattle.mm_schema.specs.declared.column.Column.{Column}
-use Rattle.mm_schema.specs.declared.column.Role.TheVariants.{Plain, Key}
+use Rattle.mm_schema.specs.declared.column.Role.{Role}
+use Rattle.mm_schema.specs.declared.column.Role.TheVariants.{Plain, Key, Reference}
 use Rattle.mm_schema.specs.declared.index.IndexKind.{IndexKind}
 use Rattle.mm_schema.specs.declared.index.IndexKind.TheVariants as kind
 use Rattle.mm_value.specs.Literal.{is_numeral}
+use Rattle.mm_value.specs.Reading.{signed_value}
 use Rattle.mm_value.specs.declared.col_type.ColType.{ColType}
 use Rattle.mm_value.specs.declared.col_type.ColType.TheVariants as type
 use Rattle.mm_value.specs.declared.values.Value.{Value}
 use Rattle.mm_value.specs.declared.values.Value.TheVariants as value
+use Rattle.mm_query.specs.declared.atom.Assignment.{Assignment}
+use Rattle.mm_query.specs.declared.atom.Atom.{Atom}
+use Rattle.mm_query.specs.declared.atom.Comparison.{Comparison}
+use Rattle.mm_query.specs.declared.atom.Comparison.TheVariants as compared
+use Rattle.mm_query.specs.declared.atom.Operand.{Operand}
+use Rattle.mm_query.specs.declared.atom.Operand.TheVariants as kind_of
 use Rattle.mm_query.specs.declared.command.Command.{Command}
 use Rattle.mm_query.specs.declared.command.Command.TheVariants as command
 use Rattle.mm_query.specs.declared.command.Definition.TheVariants as define
 use Rattle.mm_query.specs.declared.command.Mutation.TheVariants as change
 use Rattle.mm_lang.specs.declared.keyword.Keyword.{Keyword}
 use Rattle.mm_lang.specs.declared.keyword.Keyword.TheVariants as keyword
-use Rattle.mm_lang.specs.declared.token.Symbol.TheVariants.{Comma}
-use Rattle.mm_lang.specs.Phrases.{Phrase, ◌>>=◌, ◌>>◌, say, never, one, one_word, the_symbol, the_keyword, only_if, optional, has_keyword, list_of, in_parentheses, whole}
+use Rattle.mm_lang.specs.declared.phrase.Separator.TheVariants.{And}
+use Rattle.mm_lang.specs.declared.token.Symbol.{Symbol}
+use Rattle.mm_lang.specs.declared.token.Symbol.TheVariants as symbol
+use Rattle.mm_lang.specs.Phrases.{Phrase, ◌>>=◌, ◌>>◌, say, never, one, one_word, word_of, mark_of, the_symbol, the_keyword, the_separator, only_if, maybe, has_keyword, list_of, in_parentheses, whole}
 use Rattle.mm_lang.specs.Tokens.{Token, Word, Signed, Quoted, Mark, Unreadable}
 use Rattle.mm_lang.specs.Words.{keyword_named}
 
@@ -34,7 +44,7 @@ abbrev pub literal_of : Token → Option Value
 literal_of (Word word) = if is_numeral word then Some (value.Int (pos (digits_value 10 word))) else None
 literal_of (Signed word) = if is_numeral word then Some (value.Int (neg_ℤ (pos (digits_value 10 word)))) else None
 literal_of (Quoted text) = Some (value.Text text)
-literal_of (Mark symbol) = None
+literal_of (Mark mark) = None
 literal_of Unreadable = None
 
 -- The type that a keyword names.
@@ -59,15 +69,96 @@ index_kind = one_word (λ word. option_and_then kind_named (keyword_named word))
 
 -- x, .. : one or more, a comma between each two
 abbrev pub comma_list : {A : Type 0} → Phrase A → Phrase (List A)
-comma_list item = list_of (the_symbol Comma) item
+comma_list item = list_of (the_symbol symbol.Comma) item
 
--- coldef = name type [KEY]
+-- The comparison that a symbol writes.
+abbrev pub comparison_of : Symbol → Option Comparison
+comparison_of symbol.Equal = Some compared.Equal
+comparison_of symbol.Less = Some compared.Less
+comparison_of symbol.AtMost = Some compared.LessOrEqual
+comparison_of symbol.Greater = Some compared.Greater
+comparison_of symbol.AtLeast = Some compared.GreaterOrEqual
+comparison_of _ = None
+
+-- op = = | < | <= | > | >=
+abbrev pub comparison : Phrase Comparison
+comparison = one (λ t. option_and_then comparison_of (mark_of t))
+
+-- The number of a word of digits that was read, of any size, with a minus or without.
+abbrev pub numbered : Bool → List ℕ → Phrase (Option ℤ)
+numbered is_negative word = only_if (is_numeral word) (say (Some (signed_value is_negative word)))
+
+-- Digits as a number of any size, with a minus or without.
+abbrev pub digits : Bool → Phrase (Option ℤ)
+digits is_negative = one word_of >>= numbered is_negative
+
+-- [+ digits | - digits]: the minus may stand directly before its digits or not.
+unfoldable pub shift : Phrase (Option ℤ)
+shift (Mark symbol.Plus ∷ ts) = digits false ts
+shift (Mark symbol.Minus ∷ ts) = digits true ts
+shift (Signed word ∷ ts) = numbered true word ts
+shift ts = Some (None, ts)
+
+-- A column, or a column with a shift.
+abbrev pub with_shift : List ℕ → Option ℤ → Operand (List ℕ)
+with_shift name None = kind_of.Column name
+with_shift name (Some by) = kind_of.Shifted name by
+
+-- [shift], where a name stands in front, and else a literal.
+abbrev pub operand_behind : Option (List ℕ) → Phrase (Operand (List ℕ))
+operand_behind (Some name) = shift >>= (λ by. say (with_shift name by))
+operand_behind None = one literal_of >>= (λ value. say (kind_of.Literal value))
+
+-- literal | name [shift]
+unfoldable pub operand : Phrase (Operand (List ℕ))
+operand = maybe name >>= operand_behind
+
+-- test = name op literal | name op name [shift]
+unfoldable pub test : Phrase (Atom (List ℕ))
+test = do
+  left ← name
+  how ← comparison
+  right ← operand
+  say (record { left = left; comparison = how; right = right })
+
+-- assign = name = literal | name = name [shift]
+unfoldable pub assignment : Phrase (Assignment (List ℕ))
+assignment = do
+  column ← name
+  the_symbol symbol.Equal
+  source ← operand
+  say (record { column = column; source = source })
+
+-- test AND test .., where WHERE stands in front
+abbrev pub tests_behind : Bool → Phrase (List (Atom (List ℕ)))
+tests_behind true = list_of (the_separator And) test
+tests_behind false = say []
+
+-- [WHERE test AND test ..]
+unfoldable pub tests : Phrase (List (Atom (List ℕ)))
+tests = has_keyword keyword.Where >>= tests_behind
+
+-- name, where REF stands in front, and else nothing
+abbrev pub reference : Bool → Phrase Role
+reference true = name >>= (λ table. say (Reference table))
+reference false = say Plain
+
+-- nothing, where KEY stands in front, and else [REF name]
+abbrev pub role_behind : Bool → Phrase Role
+role_behind true = say Key
+role_behind false = has_keyword keyword.Ref >>= reference
+
+-- [KEY | REF name]
+abbrev pub role : Phrase Role
+role = has_keyword keyword.Key >>= role_behind
+
+-- coldef = name type [KEY | REF name]
 unfoldable pub column : Phrase Column
 column = do
   name ← name
   type ← col_type
-  role ← optional Plain (the_keyword keyword.Key >> say Key)
-  say (record { name = name; col_type = type; role = role })
+  its_role ← role
+  say (record { name = name; col_type = type; role = its_role })
 
 -- tuple = ( literal, .. )
 unfoldable pub tuple : Phrase (List Value)
@@ -116,6 +207,22 @@ abbrev pub scan_of : Bool → List ℕ → Command
 scan_of true index = command.ScanIndex index
 scan_of false table = command.Scan table
 
+-- UPDATE, and behind it: name SET assign, .. [WHERE test AND test ..]
+unfoldable pub update : Phrase Command
+update = do
+  table ← name
+  the_keyword keyword.Set
+  assignments ← comma_list assignment
+  asked ← tests
+  say (command.Change (change.Update table assignments asked))
+
+-- DELETE, and behind it: name [WHERE test AND test ..]
+unfoldable pub delete : Phrase Command
+delete = do
+  table ← name
+  asked ← tests
+  say (command.Change (change.Delete table asked))
+
 -- SCAN, and behind it: name | INDEX name
 unfoldable pub scan : Phrase Command
 scan = do
@@ -125,11 +232,13 @@ scan = do
 
 -- what stands behind the keyword that a command begins with
 abbrev pub command_behind : Keyword → Phrase Command
+command_behind keyword.Delete = delete
 command_behind keyword.Drop = drop
 command_behind keyword.Index = index
 command_behind keyword.Insert = insert
 command_behind keyword.Scan = scan
 command_behind keyword.Table = table
+command_behind keyword.Update = update
 command_behind _ = never
 
 -- The command that tokens read as, its numbers and texts of any size.

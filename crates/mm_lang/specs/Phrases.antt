@@ -2,8 +2,12 @@
 use Rattle.std.specs.Prelude.{ℕ, zero, suc, Bool, true, false, if◌then◌else◌, List, [], ◌∷◌, Option, Some, None, length}
 use Rattle.std.specs.Option.{option_map, option_and_then, option_or}
 use Rattle.mm_lang.specs.declared.keyword.Keyword.{Keyword}
+use Rattle.mm_lang.specs.declared.keyword.Keyword.TheVariants as keyword
 use Rattle.mm_lang.specs.declared.token.Symbol.{Symbol}
 use Rattle.mm_lang.specs.declared.token.Symbol.TheVariants.{Open, Close}
+use Rattle.mm_lang.specs.declared.token.Symbol.TheVariants as symbol
+use Rattle.mm_lang.specs.declared.phrase.Separator.{Separator}
+use Rattle.mm_lang.specs.declared.phrase.Separator.TheVariants.{Comma, And}
 use Rattle.mm_lang.specs.Tokens.{Token, Word, Mark}
 use Rattle.mm_lang.specs.Words.{is_symbol, is_word}
 
@@ -35,12 +39,17 @@ one says (t ∷ ts) = option_map (λ x. (x, ts)) (says t)
 
 -- a token that is this symbol
 abbrev pub is_mark : Symbol → Token → Option (Unit {0})
-is_mark symbol (Mark other) = if is_symbol symbol other then Some tt else None
-is_mark symbol _ = None
+is_mark mark (Mark other) = if is_symbol mark other then Some tt else None
+is_mark mark _ = None
+
+-- the symbol that a token is
+abbrev pub mark_of : Token → Option Symbol
+mark_of (Mark mark) = Some mark
+mark_of _ = None
 
 -- This symbol.
 abbrev pub the_symbol : Symbol → Phrase (Unit {0})
-the_symbol symbol = one (is_mark symbol)
+the_symbol mark = one (is_mark mark)
 
 -- the bytes of a word
 abbrev pub word_of : Token → Option (List ℕ)
@@ -53,7 +62,7 @@ one_word says = one (λ t. option_and_then says (word_of t))
 
 -- This keyword.
 abbrev pub the_keyword : Keyword → Phrase (Unit {0})
-the_keyword keyword = one_word (λ word. if is_word keyword word then Some tt else None)
+the_keyword wanted = one_word (λ word. if is_word wanted word then Some tt else None)
 
 -- A phrase where a condition holds, and none elsewhere.
 abbrev pub only_if : {A : Type 0} → Bool → Phrase A → Phrase A
@@ -65,7 +74,16 @@ optional absent phrase ts = option_or (phrase ts) (Some (absent, ts))
 
 -- Whether this keyword stands there; if it does, it is read.
 abbrev pub has_keyword : Keyword → Phrase Bool
-has_keyword keyword = optional false (the_keyword keyword >> say true)
+has_keyword wanted = optional false (the_keyword wanted >> say true)
+
+-- A phrase, if it stands there.
+abbrev pub maybe : {A : Type 0} → Phrase A → Phrase (Option A)
+maybe phrase = optional None (phrase >>= (λ x. say (Some x)))
+
+-- This separator.
+abbrev pub the_separator : Separator → Phrase (Unit {0})
+the_separator Comma = the_symbol symbol.Comma
+the_separator And = the_keyword keyword.And
 
 -- What follows an item of a list: no separator and nothing more of the list, or a separator and other items.
 abbrev pub behind_item : {A : Type 0} → Option (Unit {0} × List Token) → Phrase (List A) → Phrase (List A)

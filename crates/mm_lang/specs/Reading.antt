@@ -1,17 +1,22 @@
 -- What a line reads as.
-use Rattle.std.specs.Prelude.{◌≡◌, ◌⊎◌, ℕ, ◌==◌, Bool, true, false, ◌||◌, ◌&&◌, if◌then◌else◌, List, [], ◌∷◌, Option, Some, None, Result, Ok, Err, length, nat_lt, IsTrue}
-use Rattle.std.specs.List.{list_all, flat_map}
+use Rattle.std.specs.Prelude.{◌≡◌, ◌⊎◌, ℕ, ◌==◌, Bool, true, false, ◌||◌, ◌&&◌, if◌then◌else◌, List, [], ◌∷◌, ◌++◌, Option, Some, None, Result, Ok, Err, length, nat_lt, IsTrue}
+use Rattle.std.specs.List.{cons_option, list_all, flat_map}
 use Rattle.std.specs.Option.{option_or}
 use Rattle.mm_value.specs.Literal.{is_within_limit}
 use Rattle.mm_value.specs.declared.refusal.Refusal.{Refusal}
 use Rattle.mm_value.specs.declared.refusal.Refusal.TheVariants.{LineTooLong, Syntax, NumberOutOfRange, TextTooLong, Memory}
 use Rattle.mm_value.specs.declared.values.Value.{Value}
 use Rattle.mm_value.specs.declared.values.Value.TheVariants.{Int, Text}
+use Rattle.mm_query.specs.declared.atom.Assignment.{Assignment}
+use Rattle.mm_query.specs.declared.atom.Atom.{Atom}
+use Rattle.mm_query.specs.declared.atom.Operand.{Operand}
+use Rattle.mm_query.specs.declared.atom.Operand.TheVariants.{Literal, Column, Shifted}
 use Rattle.mm_query.specs.declared.command.Command.{Command}
 use Rattle.mm_query.specs.declared.command.Command.TheVariants.{Nothing, Define, Change, Scan, ScanIndex}
-use Rattle.mm_query.specs.declared.command.Mutation.TheVariants.{Insert}
-use Rattle.mm_lang.specs.Grammar.{command_of}
-use Rattle.mm_lang.specs.Tokens.{tokens, is_blank}
+use Rattle.mm_query.specs.declared.command.Mutation.TheVariants.{Insert, Update, Delete}
+use Rattle.mm_lang.specs.Grammar.{command_of, literal_of}
+use Rattle.mm_lang.specs.Tokens.{Token, Word, Signed, Mark, tokens, is_blank}
+use Rattle.mm_lang.specs.declared.token.Symbol.TheVariants.{Minus}
 
 -- the refusal of a value past its limit
 abbrev pub past_limit : Value → Refusal
@@ -26,11 +31,33 @@ abbrev pub first_fault : List Value → Option Refusal
 first_fault [] = None
 first_fault (v ∷ vs) = option_or (literal_fault v) (first_fault vs)
 
+-- the literals of an operand: a shift's number is one
+abbrev pub operand_literals : Operand (List ℕ) → List Value
+operand_literals (Literal v) = v ∷ []
+operand_literals (Column name) = []
+operand_literals (Shifted name by) = Int by ∷ []
+
+-- the literals of a test
+abbrev pub test_literals : Atom (List ℕ) → List Value
+test_literals test = operand_literals test.right
+
+-- the literals of an assignment
+abbrev pub assignment_literals : Assignment (List ℕ) → List Value
+assignment_literals assignment = operand_literals assignment.source
+
+-- The literals among tokens, from left to right: a minus in front of a word belongs to it.
+abbrev pub literals_among : List Token → List Value
+literals_among [] = []
+literals_among (Mark Minus ∷ Word word ∷ ts) = cons_option (literal_of (Signed word)) (literals_among ts)
+literals_among (t ∷ ts) = cons_option (literal_of t) (literals_among ts)
+
 -- the literals of a command, from left to right
 abbrev pub literals_of : Command → List Value
 literals_of Nothing = []
 literals_of (Define definition) = []
 literals_of (Change (Insert table tuples)) = flat_map (λ tuple. tuple) tuples
+literals_of (Change (Update table assignments tests)) = flat_map assignment_literals assignments ++ flat_map test_literals tests
+literals_of (Change (Delete table tests)) = flat_map test_literals tests
 literals_of (Scan table) = []
 literals_of (ScanIndex index) = []
 

@@ -1,5 +1,5 @@
 -- The grammar: how commands are spelled.
-use Rattle.std.specs.Prelude.{◌≡◌, List, [], ◌∷◌, ◌++◌, pos}
+use Rattle.std.specs.Prelude.{◌≡◌, ◌⊎◌, ℕ, List, [], ◌∷◌, ◌++◌, ℤ, pos}
 use Rattle.std.specs.Str.Parse.{digits_value}
 use Rattle.std.proofs.Math.IntN.{neg_ℤ}
 use Rattle.mm_schema.specs.Columns.{key_count}
@@ -14,13 +14,20 @@ use Rattle.mm_value.specs.declared.col_type.ColType.{ColType}
 use Rattle.mm_value.specs.declared.col_type.ColType.TheVariants as type
 use Rattle.mm_value.specs.declared.values.Value.{Value}
 use Rattle.mm_value.specs.declared.values.Value.TheVariants as value
+use Rattle.mm_query.specs.declared.atom.Assignment.{Assignment}
+use Rattle.mm_query.specs.declared.atom.Atom.{Atom}
+use Rattle.mm_query.specs.declared.atom.Comparison.{Comparison}
+use Rattle.mm_query.specs.declared.atom.Comparison.TheVariants as compared
+use Rattle.mm_query.specs.declared.atom.Operand.{Operand}
+use Rattle.mm_query.specs.declared.atom.Operand.TheVariants as operand
 use Rattle.mm_query.specs.declared.command.Command.{Command}
 use Rattle.mm_query.specs.declared.command.Command.TheVariants as command
 use Rattle.mm_query.specs.declared.command.Definition.TheVariants as define
 use Rattle.mm_query.specs.declared.command.Mutation.TheVariants as change
 use Rattle.mm_lang.specs.declared.keyword.Keyword.{Keyword}
 use Rattle.mm_lang.specs.declared.keyword.Keyword.TheVariants as keyword
-use Rattle.mm_lang.specs.declared.token.Symbol.TheVariants.{Open, Close, Comma}
+use Rattle.mm_lang.specs.declared.token.Symbol.{Symbol}
+use Rattle.mm_lang.specs.declared.token.Symbol.TheVariants.{Open, Close, Comma, Equal, Less, AtMost, Greater, AtLeast, Plus, Minus}
 use Rattle.mm_lang.specs.Tokens.{Token, Word, Signed, Quoted, Mark}
 use Rattle.mm_lang.specs.Words.{keyword_text}
 
@@ -58,11 +65,11 @@ abbrev pub type_word : ColType → Keyword
 type_word type.Int = keyword.Int
 type_word type.Text = keyword.Text
 
--- coldef = name type [KEY]; a foreign key has no spelling yet
+-- coldef = name type [KEY | REF name]
 abbrev pub SpellsRole : List Token → Role → Type 0
 SpellsRole ts role.Key = ts ≡ word keyword.Key ∷ []
 SpellsRole ts role.Plain = ts ≡ []
-SpellsRole ts (role.Reference table) = ⊥
+SpellsRole ts (role.Reference table) = IsName table × (ts ≡ word keyword.Ref ∷ Word table ∷ [])
 
 abbrev pub SpellsColumn : List Token → Column → Type 0
 SpellsColumn ts column =
@@ -73,11 +80,51 @@ abbrev pub kind_word : IndexKind → Keyword
 kind_word kind.Tree = keyword.Tree
 kind_word kind.Hash = keyword.Hash
 
+-- shift = + digits | - digits, where the minus may stand directly before its digits
+abbrev pub SpellsShift : List Token → ℤ → Type 0
+SpellsShift ts z = (digits : List ℕ) × IsNumeral digits
+    × (((ts ≡ Mark Plus ∷ Word digits ∷ []) × (z ≡ pos (digits_value 10 digits)))
+    ⊎ (((ts ≡ Mark Minus ∷ Word digits ∷ []) ⊎ (ts ≡ Signed digits ∷ [])) × (z ≡ neg_ℤ (pos (digits_value 10 digits)))))
+
+-- literal | name [shift]
+abbrev pub SpellsOperand : List Token → Operand (List ℕ) → Type 0
+SpellsOperand ts (operand.Literal value) = SpellsOne SpellsLiteral ts value
+SpellsOperand ts (operand.Column name) = IsName name × (ts ≡ Word name ∷ [])
+SpellsOperand ts (operand.Shifted name by) = (behind : List Token) × IsName name × SpellsShift behind by × (ts ≡ Word name ∷ behind)
+
+-- op = = | < | <= | > | >=
+abbrev pub comparison_symbol : Comparison → Symbol
+comparison_symbol compared.Equal = Equal
+comparison_symbol compared.Less = Less
+comparison_symbol compared.LessOrEqual = AtMost
+comparison_symbol compared.Greater = Greater
+comparison_symbol compared.GreaterOrEqual = AtLeast
+
+-- test = name op literal | name op name [shift]
+abbrev pub SpellsTest : List Token → Atom (List ℕ) → Type 0
+SpellsTest ts test =
+    (right : List Token) × IsName test.left × SpellsOperand right test.right
+    × (ts ≡ Word test.left ∷ Mark (comparison_symbol test.comparison) ∷ right)
+
+-- assign = name = literal | name = name [shift]
+abbrev pub SpellsAssignment : List Token → Assignment (List ℕ) → Type 0
+SpellsAssignment ts assignment =
+    (source : List Token) × IsName assignment.column × SpellsOperand source assignment.source
+    × (ts ≡ Word assignment.column ∷ Mark Equal ∷ source)
+
+-- [WHERE test AND test ..]
+abbrev pub SpellsTests : List Token → List (Atom (List ℕ)) → Type 0
+SpellsTests ts [] = ts ≡ []
+SpellsTests ts (test ∷ others) =
+    (inner : List Token) × SpellsList (word keyword.And) SpellsTest inner (test ∷ others) × (ts ≡ word keyword.Where ∷ inner)
+
 -- command = TABLE name ( coldef, .. ) with exactly one KEY
 --         | DROP TABLE name
 --         | INDEX name ON name ( name ) kind
 --         | DROP INDEX name
 --         | INSERT name tuple, ..
+--         | UPDATE name SET assign, .. [WHERE test AND test ..]
+--         | DELETE name [WHERE test AND test ..]
 --         | SCAN name
 --         | SCAN INDEX name
 abbrev pub SpellsCommand : List Token → Command → Type 0
@@ -94,5 +141,10 @@ SpellsCommand ts (command.Define (define.Index index)) =
 SpellsCommand ts (command.Define (define.DropIndex name)) = IsName name × (ts ≡ word keyword.Drop ∷ word keyword.Index ∷ Word name ∷ [])
 SpellsCommand ts (command.Change (change.Insert table tuples)) =
     (inner : List Token) × IsName table × SpellsList (Mark Comma) SpellsTuple inner tuples × (ts ≡ word keyword.Insert ∷ Word table ∷ inner)
+SpellsCommand ts (command.Change (change.Update table assignments tests)) =
+    (set where_tests : List Token) × IsName table × SpellsList (Mark Comma) SpellsAssignment set assignments × SpellsTests where_tests tests
+    × (ts ≡ word keyword.Update ∷ Word table ∷ word keyword.Set ∷ set ++ where_tests)
+SpellsCommand ts (command.Change (change.Delete table tests)) =
+    (where_tests : List Token) × IsName table × SpellsTests where_tests tests × (ts ≡ word keyword.Delete ∷ Word table ∷ where_tests)
 SpellsCommand ts (command.Scan table) = IsName table × (ts ≡ word keyword.Scan ∷ Word table ∷ [])
 SpellsCommand ts (command.ScanIndex index) = IsName index × (ts ≡ word keyword.Scan ∷ word keyword.Index ∷ Word index ∷ [])

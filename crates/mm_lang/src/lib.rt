@@ -1,6 +1,7 @@
 //! The command language: what a line reads as, and the text of a reply.
 #![tactic(auto)]
 
+mod atoms;
 mod columns;
 mod grammar;
 mod keyword;

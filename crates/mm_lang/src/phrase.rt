@@ -2,13 +2,22 @@
 ghost use Rattle.std.specs.Prelude.{◌≡◌, List, Option};
 ghost use Rattle.std.specs.List.{flat_map};
 ghost use Rattle.mm_lang.specs.Grammar.{comma_list};
-ghost use Rattle.mm_lang.specs.Phrases.{Phrase as Phr, in_parentheses};
+ghost use Rattle.mm_lang.specs.Phrases.{Phrase as Phr, in_parentheses, list_of, the_separator};
 ghost use Rattle.mm_lang.specs.steps.Parsing.{NeverLonger, ReadsItems, ReadsPhrase};
 ghost use Rattle.mm_value.specs.declared.values.Value.{Value as Val};
 
 use crate::reader::Reader;
 use crate::token::Symbol;
 use mm_value::Refusal;
+
+/// What stands between each two items of a list.
+#[derive(Clone, Copy)]
+pub(crate) enum Separator {
+    /// `,`
+    Comma,
+    /// `AND`
+    And,
+}
 
 /// How an item of a list is read.
 pub(crate) trait Phrase {
@@ -27,24 +36,26 @@ pub(crate) trait Phrase {
     ghost never_longer: { NeverLonger reading };
 }
 
-/// Reads one or more items, with a comma between each two, and puts them behind those that are there. `Syntax` where no
-/// item stands there or behind a comma, `Memory` where memory was refused.
+/// Reads one or more items, with the separator between each two, and puts them behind those that are there. `Syntax` where
+/// no item stands there or behind a separator, `Memory` where memory was refused.
 pub(crate) fn read_list<P: Phrase>(
     phrase: &mut P,
+    separator: Separator,
     reader: &mut Reader<'_>,
     items: &mut Vec<P::Item>,
 ) -> Result<(), Refusal>
-    ensures { ReadsItems (comma_list P.reading) (flat_map P.literals) reader.old reader.new items.old.items items.new.items result }
+    ensures { ReadsItems (list_of (the_separator separator) P.reading) (flat_map P.literals) reader.old reader.new items.old.items items.new.items result }
 {
     loop {
         items.push(phrase.read(reader)?)?;
-        if !reader.skip(Symbol::Comma) {
+        if !reader.skip_separator(separator) {
             return Ok(());
         }
     }
 }
 
-/// Reads a list in parentheses, as `read_list` does. `Syntax` also where one of the parentheses does not stand there.
+/// Reads a list with commas in parentheses, as `read_list` does. `Syntax` also where one of the parentheses does not stand
+/// there.
 pub(crate) fn read_in_parentheses<P: Phrase>(
     phrase: &mut P,
     reader: &mut Reader<'_>,
@@ -53,6 +64,6 @@ pub(crate) fn read_in_parentheses<P: Phrase>(
     ensures { ReadsItems (in_parentheses (comma_list P.reading)) (flat_map P.literals) reader.old reader.new items.old.items items.new.items result }
 {
     reader.symbol(Symbol::Open)?;
-    read_list(phrase, reader, items)?;
+    read_list(phrase, Separator::Comma, reader, items)?;
     reader.symbol(Symbol::Close)
 }

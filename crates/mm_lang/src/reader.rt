@@ -1,18 +1,20 @@
 //! Reading of a line from left to right.
 ghost use Rattle.std.specs.Prelude.{◌≡◌, Some, None, MatchOption, MatchResult};
 ghost use Rattle.std.specs.Option.{option_or};
-ghost use Rattle.mm_lang.specs.Grammar.{col_type, index_kind, literal_of, name};
-ghost use Rattle.mm_lang.specs.Phrases.{in_parentheses, one, one_word, the_keyword, the_symbol, word_of};
+ghost use Rattle.mm_lang.specs.Grammar.{col_type, comparison, comparison_of, digits, index_kind, literal_of, name, numbered, shift};
+ghost use Rattle.mm_lang.specs.Phrases.{in_parentheses, maybe, one, one_word, the_keyword, the_separator, the_symbol, word_of};
 ghost use Rattle.mm_lang.specs.Words.{keyword_named};
-ghost use Rattle.mm_lang.specs.steps.Parsing.{AnswersOrMemory, BeginsNoWord, BeginsNot, Fails, Finishes, Follows, Gives, ReadsPhrase, Skips, is_limit, no_literals, only_literal};
+ghost use Rattle.mm_lang.specs.steps.Parsing.{AnswersOrMemory, BeginsNoMark, BeginsNoWord, BeginsNot, BeginsNotSigned, Fails, Finishes, Follows, Gives, ReadsPhrase, Skips, is_limit, no_literals, only_literal, shift_literals};
 ghost use Rattle.mm_lang.specs.steps.Splitting.{Shows};
 ghost use Rattle.mm_lang.specs.Reading.{checked, literal_fault};
-ghost use Rattle.mm_lang.specs.Tokens.{Token as Tok, Word, Mark as MarkToken, tokens};
+ghost use Rattle.mm_lang.specs.Tokens.{Token as Tok, Word, Signed, Mark as MarkToken, tokens};
 
 use crate::keyword::Keyword;
+use crate::phrase::Separator;
 use crate::token::{Symbol, Token, split_token};
+use mm_query::Comparison;
 use mm_schema::{IndexKind, Name};
-use mm_value::{ColType, Refusal, Value, read_literal};
+use mm_value::{ColType, Refusal, Value, read_int, read_literal};
 use std::alloc::Global;
 
 /// What is left of a line to be read, and the first literal past its limit. Its calls read what stands first in the
@@ -66,6 +68,26 @@ impl<'a> Reader<'a> {
             }
             _ => false,
         }
+    }
+
+    /// Takes this separator, and tells whether it stood there. Where it did not, nothing is taken.
+    pub(crate) fn skip_separator(&mut self, separator: Separator) -> bool
+        ensures { Skips (the_separator separator) self.old self.new result }
+    {
+        match separator {
+            Separator::Comma => self.skip(Symbol::Comma),
+            Separator::And => self.skip_keyword(Keyword::And),
+        }
+    }
+
+    /// Takes a name, and gives it. Where none stood there, nothing is taken.
+    pub(crate) fn skip_name(&mut self) -> Option<Name>
+        ensures { Gives (maybe name) no_literals self.old self.new result }
+    {
+        let (word, rest) = split_word(self.rest)?;
+        let name = Name::new(word)?;
+        self.rest = rest;
+        Some(name)
     }
 
     /// Reads this symbol. `Syntax` where anything else stands there.
@@ -138,6 +160,37 @@ impl<'a> Reader<'a> {
         }
     }
 
+    /// Reads `=`, `<`, `<=`, `>` or `>=`, and gives the comparison. `Syntax` where anything else stands there.
+    pub(crate) fn comparison(&mut self) -> Result<Comparison, Refusal>
+        ensures { ReadsPhrase comparison no_literals self.old self.new result }
+    {
+        let (symbol, rest) = split_symbol(self.rest).ok_or(Refusal::Syntax)?;
+        let comparison = comparison_of(symbol).ok_or(Refusal::Syntax)?;
+        self.rest = rest;
+        Ok(comparison)
+    }
+
+    /// Reads a sign and digits behind it, and gives the number; none where no sign stands there, and then nothing is taken.
+    /// Where the number passes its limit that is noted, and a zero stands in its place. `Syntax` where no digits stand
+    /// behind the sign.
+    pub(crate) fn shift(&mut self) -> Result<Option<i64>, Refusal>
+        ensures { ReadsPhrase shift shift_literals self.old self.new result }
+    {
+        if self.skip(Symbol::Plus) {
+            return self.digits(false);
+        }
+        if self.skip(Symbol::Minus) {
+            return self.digits(true);
+        }
+        match split_signed(self.rest) {
+            Some((word, rest)) => {
+                self.rest = rest;
+                self.number(true, word)
+            }
+            None => Ok(None),
+        }
+    }
+
     /// Reads a literal, and gives its value. Where it passes its limit that is noted, and a zero stands in its place.
     /// `Syntax` where no literal stands there, `Memory` where memory was refused for a text.
     pub(crate) fn literal(&mut self) -> Result<Value, Refusal>
@@ -174,6 +227,29 @@ impl<'a> Reader<'a> {
         }
     }
 
+    // Reads digits, and gives their number. Where that passes its limit it is noted, and a zero stands in its place.
+    // `Syntax` where no digits stand there.
+    fn digits(&mut self, is_negative: bool) -> Result<Option<i64>, Refusal>
+        ensures { ReadsPhrase (digits is_negative) shift_literals self.old self.new result }
+    {
+        let word = self.word()?;
+        self.number(is_negative, word)
+    }
+
+    // The number of a word that was taken, as `digits` gives it.
+    fn number(&mut self, is_negative: bool, word: &[u8]) -> Result<Option<i64>, Refusal>
+        ensures { ReadsPhrase (numbered is_negative word.now) shift_literals self.old self.new result }
+    {
+        match read_int(is_negative, word) {
+            Ok(number) => Ok(Some(number)),
+            Err(past) if is_limit(past) => {
+                self.fault = self.fault.or(Some(past));
+                Ok(Some(0))
+            }
+            Err(refusal) => Err(refusal),
+        }
+    }
+
     // Reads a word, and gives its bytes. `Syntax` where none stands there.
     fn word(&mut self) -> Result<&'a [u8], Refusal>
         ensures { MatchResult result (λ word. Gives (one word_of) no_literals self.old self.new word.now) (Fails (one word_of) self.old) }
@@ -204,6 +280,40 @@ fn split_mark(bytes: &[u8], symbol: Symbol) -> Option<&[u8]>
 {
     match split_token(bytes) {
         Some((Token::Mark(mark), rest)) if mark == symbol => Some(rest),
+        _ => None,
+    }
+}
+
+// The bytes behind the minus of the signed word that stands first, and the bytes behind that word.
+fn split_signed(bytes: &[u8]) -> Option<(&[u8], &[u8])>
+    ensures { MatchOption result (BeginsNotSigned (tokens bytes.now)) (λ r. Follows bytes.now (Signed r.0.now) r.1.now) }
+{
+    match split_token(bytes) {
+        Some((Token::Signed(signed), rest)) => Some((signed.get(1..)?, rest)),
+        _ => None,
+    }
+}
+
+// The symbol that stands first, and the bytes behind it.
+fn split_symbol(bytes: &[u8]) -> Option<(Symbol, &[u8])>
+    ensures { MatchOption result (BeginsNoMark (tokens bytes.now)) (λ r. Follows bytes.now (MarkToken r.0) r.1.now) }
+{
+    match split_token(bytes) {
+        Some((Token::Mark(symbol), rest)) => Some((symbol, rest)),
+        _ => None,
+    }
+}
+
+// The comparison that a symbol writes.
+fn comparison_of(symbol: Symbol) -> Option<Comparison>
+    ensures { result ≡ comparison_of symbol }
+{
+    match symbol {
+        Symbol::Equal => Some(Comparison::Equal),
+        Symbol::Less => Some(Comparison::Less),
+        Symbol::AtMost => Some(Comparison::LessOrEqual),
+        Symbol::Greater => Some(Comparison::Greater),
+        Symbol::AtLeast => Some(Comparison::GreaterOrEqual),
         _ => None,
     }
 }

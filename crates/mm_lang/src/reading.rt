@@ -1,18 +1,19 @@
 //! What a line reads as.
 ghost use Rattle.std.specs.Prelude.{◌≡◌};
 ghost use Rattle.std.specs.List.{list_all};
-ghost use Rattle.mm_lang.specs.Grammar.{command_behind, command_of, drop, dropped, index, insert, scan, table};
+ghost use Rattle.mm_lang.specs.Grammar.{command_behind, command_of, delete, drop, dropped, index, insert, scan, table, update};
 ghost use Rattle.mm_lang.specs.Reading.{Reads, is_comment, is_nothing, literals_of, read_as};
 ghost use Rattle.mm_lang.specs.Tokens.{tokens, is_blank};
 ghost use Rattle.mm_lang.specs.steps.Parsing.{AnswersOrMemory, ReadsPhrase};
 
+use crate::atoms::{AssignmentPhrase, read_tests};
 use crate::columns::ColumnPhrase;
 use crate::keyword::Keyword;
-use crate::phrase::{read_in_parentheses, read_list};
+use crate::phrase::{Separator, read_in_parentheses, read_list};
 use crate::reader::Reader;
 use crate::token::is_blank;
 use crate::tuples::TuplePhrase;
-use mm_query::{Command, Definition, Mutation, RowList};
+use mm_query::{Command, Definition, ItemList, Mutation, RowList};
 use mm_schema::{Columns, IndexDef, TableDef};
 use mm_value::Refusal;
 use std::alloc::Global;
@@ -21,12 +22,16 @@ use std::alloc::Global;
 pub const MAX_LINE_BYTES: usize = 4096;
 
 /// Reads a line, without its line feed and carriage return, as a command. A line of blanks alone, of no bytes or that
-/// begins with `--` reads as `Nothing`. Else the line is one of `TABLE name (name type, ..)`, where a type is `INT` or
-/// `TEXT` and just one column has `KEY` behind it, `DROP TABLE name`, `INDEX name ON name (name) kind`, where a kind is
-/// `TREE` or `HASH`, `DROP INDEX name`, `INSERT name (literal, ..), ..`, `SCAN name` and `SCAN INDEX name`.
+/// begins with `--` reads as `Nothing`. Else the line is one of these, where `[ ]` is optional:
+/// `TABLE name (column, ..)`, where a column is `name type [KEY | REF name]`, a type is `INT` or `TEXT`, and just one column
+/// has `KEY`; `DROP TABLE name`; `INDEX name ON name (name) kind`, where a kind is `TREE` or `HASH`; `DROP INDEX name`;
+/// `INSERT name (literal, ..), ..`; `UPDATE name SET name = value, .. [WHERE test AND ..]`; `DELETE name [WHERE test AND ..]`,
+/// where a test is `name op value`, an op one of `=`, `<`, `<=`, `>` and `>=`, and a value `literal`, `name`, `name + digits`
+/// or `name - digits`; `SCAN name` and `SCAN INDEX name`.
 /// `LineTooLong` where the line has more than 4,096 bytes, `Syntax` where it has no reading, else `NumberOutOfRange` or
-/// `TextTooLong` where its first literal from the left past its limit is a number or a text. `Memory` may come in place
-/// of any answer but `LineTooLong` and `Nothing`. Nothing is taken but what the command keeps.
+/// `TextTooLong` where its first literal from the left past its limit is a number or a text; digits behind a minus count
+/// as the negative number. `Memory` may come in place of any answer but `LineTooLong` and `Nothing`. Nothing is taken but
+/// what the command keeps.
 pub fn parse(alloc: Global, line: &[u8]) -> Result<Command, Refusal>
     ensures { Reads line.now result }
 {
@@ -72,13 +77,39 @@ fn read_behind(keyword: Keyword, reader: &mut Reader<'_>) -> Result<Command, Ref
     ensures { ReadsPhrase (command_behind keyword) literals_of reader.old reader.new result }
 {
     match keyword {
+        Keyword::Delete => read_delete(reader),
         Keyword::Drop => read_drop(reader),
         Keyword::Index => read_index(reader),
         Keyword::Insert => read_insert(reader),
         Keyword::Scan => read_scan(reader),
         Keyword::Table => read_table(reader),
+        Keyword::Update => read_update(reader),
         _ => Err(Refusal::Syntax),
     }
+}
+
+fn read_delete(reader: &mut Reader<'_>) -> Result<Command, Refusal>
+    ensures { ReadsPhrase delete literals_of reader.old reader.new result }
+{
+    let table = reader.name()?;
+    let tests = read_tests(reader)?;
+    Ok(Command::Change(Mutation::Delete { table, tests }))
+}
+
+fn read_update(reader: &mut Reader<'_>) -> Result<Command, Refusal>
+    ensures { ReadsPhrase update literals_of reader.old reader.new result }
+{
+    let table = reader.name()?;
+    reader.expect_keyword(Keyword::Set)?;
+    let mut items = Vec::new(reader.alloc());
+    read_list(&mut AssignmentPhrase, Separator::Comma, reader, &mut items)?;
+    let assignments = ItemList::new(items);
+    let tests = read_tests(reader)?;
+    Ok(Command::Change(Mutation::Update {
+        table,
+        assignments,
+        tests,
+    }))
 }
 
 fn read_drop(reader: &mut Reader<'_>) -> Result<Command, Refusal>
@@ -121,7 +152,12 @@ fn read_insert(reader: &mut Reader<'_>) -> Result<Command, Refusal>
 {
     let table = reader.name()?;
     let mut tuples = Vec::new(reader.alloc());
-    read_list(&mut TuplePhrase::new(reader.alloc()), reader, &mut tuples)?;
+    read_list(
+        &mut TuplePhrase::new(reader.alloc()),
+        Separator::Comma,
+        reader,
+        &mut tuples,
+    )?;
     let tuples = RowList::new(tuples);
     Ok(Command::Change(Mutation::Insert { table, tuples }))
 }

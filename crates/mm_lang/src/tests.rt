@@ -1,7 +1,7 @@
 //! Lines and their readings, from the language's description.
 use crate::{Command, MAX_LINE_BYTES, parse};
-use mm_query::{Definition, Mutation};
-use mm_schema::{Column, IndexDef, IndexKind, Role};
+use mm_query::{Atom, Comparison, Definition, Mutation, Operand};
+use mm_schema::{Column, IndexDef, IndexKind, Name, Role};
 use mm_value::{ColType, Refusal, Row, Value};
 use std::alloc::Global;
 
@@ -28,6 +28,19 @@ fn reads_table(alloc: Global, line: &[u8]) -> bool {
         _ => false,
     };
     columns && table.name.bytes() == b"t".as_slice()
+}
+
+fn reads_reference(alloc: Global, line: &[u8]) -> bool {
+    match &parse(alloc, line) {
+        Ok(Command::Define(Definition::Table(table))) => match table.columns.as_slice() {
+            [id, r] => match (&id.role, &r.role) {
+                (Role::Key, Role::Reference(target)) => target.bytes() == b"u".as_slice(),
+                _ => false,
+            },
+            _ => false,
+        },
+        _ => false,
+    }
 }
 
 fn reads_pairs(alloc: Global, line: &[u8]) -> bool {
@@ -95,6 +108,74 @@ fn reads_index_scan(alloc: Global, line: &[u8]) -> bool {
     }
 }
 
+fn is_shifted(operand: &Operand<Name>, name: &[u8], by: i64) -> bool {
+    match operand {
+        Operand::Shifted(column, shift) => column.bytes() == name && *shift == by,
+        _ => false,
+    }
+}
+
+fn is_text(operand: &Operand<Name>, bytes: &[u8]) -> bool {
+    match operand {
+        Operand::Literal(Value::Text(text)) => text.bytes() == bytes,
+        _ => false,
+    }
+}
+
+fn is_column_operand(operand: &Operand<Name>, name: &[u8]) -> bool {
+    match operand {
+        Operand::Column(column) => column.bytes() == name,
+        _ => false,
+    }
+}
+
+fn are_two_tests(tests: &[Atom<Name>], by: i64) -> bool {
+    match tests {
+        [first, second] => {
+            first.left.bytes() == b"id".as_slice()
+                && first.comparison == Comparison::GreaterOrEqual
+                && is_shifted(&first.right, b"k", by)
+                && second.comparison == Comparison::Less
+                && is_column_operand(&second.right, b"id")
+        }
+        _ => false,
+    }
+}
+
+fn reads_update(alloc: Global, line: &[u8], by: i64) -> bool {
+    match &parse(alloc, line) {
+        Ok(
+            Command::Change(
+                Mutation::Update {
+                    table,
+                    assignments,
+                    tests,
+                },
+            ),
+        ) => {
+            let set = match assignments.as_slice() {
+                [first, second] => {
+                    first.column.bytes() == b"k".as_slice()
+                        && is_shifted(&first.source, b"j", by)
+                        && is_text(&second.source, b"x")
+                }
+                _ => false,
+            };
+            set && table.bytes() == b"t".as_slice() && are_two_tests(tests.as_slice(), by)
+        }
+        _ => false,
+    }
+}
+
+fn reads_delete(alloc: Global, line: &[u8], count: usize) -> bool {
+    match &parse(alloc, line) {
+        Ok(Command::Change(Mutation::Delete { table, tests })) => {
+            table.bytes() == b"t".as_slice() && tests.as_slice().len() == count
+        }
+        _ => false,
+    }
+}
+
 fn reads_nothing(alloc: Global, line: &[u8]) -> bool {
     matches!(parse(alloc, line), Ok(Command::Nothing))
 }
@@ -104,6 +185,8 @@ fn reads_commands(rt: HostRuntime) {
     let alloc = rt.alloc();
     assert!(rt; reads_table(alloc, b"TABLE t (id INT KEY, k_2 TEXT)"));
     assert!(rt; reads_table(alloc, b"\t TABLE\tt(id\tINT KEY ,k_2 TEXT )\t "));
+    assert!(rt; reads_reference(alloc, b"TABLE t (id INT KEY, r TEXT REF u)"));
+    assert!(rt; reads_reference(alloc, b"TABLE t(id INT KEY,r TEXT\tREF u)"));
     assert!(rt; reads_pairs(alloc, b"INSERT t (2, 5), (1, -5)"));
     assert!(rt; reads_pairs(alloc, b"INSERT\tt(2\t,005)  ,\t( 1 ,-5\t) \t"));
     assert!(rt; reads_literals(alloc, b"INSERT t(-00,'''','-- (x',9223372036854775807)"));
@@ -124,6 +207,54 @@ fn reads_indexes_and_drops(rt: HostRuntime) {
 }
 
 #[test]
+fn reads_updates_and_deletes(rt: HostRuntime) {
+    let alloc = rt.alloc();
+    let apart = b"UPDATE t SET k = j - 5, s = 'x' WHERE id >= k - 5 AND k < id";
+    assert!(rt; reads_update(alloc, apart, -5));
+    let joined = b"UPDATE t SET k=j-5,s='x'WHERE id>=k -005 AND k<id";
+    assert!(rt; reads_update(alloc, joined, -5));
+    let nothing = b"UPDATE t SET k=j+0,s='x'WHERE id>=k-0 AND k<id";
+    assert!(rt; reads_update(alloc, nothing, 0));
+    let least =
+        b"UPDATE t SET k = j - 9223372036854775808, s = 'x' WHERE id >= k -9223372036854775808 AND k < id";
+    assert!(rt; reads_update(alloc, least, i64::MIN));
+    assert!(rt; reads_delete(alloc, b"DELETE t", 0));
+    assert!(rt; reads_delete(alloc, b"DELETE t WHERE k = -5", 1));
+    assert!(rt; reads_delete(alloc, b"DELETE t WHERE s='a'AND s>'b'AND k<=5", 3));
+}
+
+#[test]
+fn refuses_updates_and_deletes_without_a_reading(rt: HostRuntime) {
+    let lines: [&[u8]; 18] = [
+        b"UPDATE t",
+        b"UPDATE t SET",
+        b"UPDATE t SET k",
+        b"UPDATE t SET k = - 5",
+        b"UPDATE t SET k = +5",
+        b"UPDATE t SET k = j + -5",
+        b"UPDATE t SET k = j - -5",
+        b"UPDATE t SET k = j +",
+        b"UPDATE t SET k = j -x",
+        b"UPDATE t SET k < 5",
+        b"UPDATE t SET k = 1 AND j = 2",
+        b"UPDATE t SET k = j + 9223372036854775808 WHERE",
+        b"DELETE t WHERE 5 = k",
+        b"DELETE t WHERE k = 1, j = 2",
+        b"DELETE t WHERE k == 1",
+        b"DELETE t WHERE k = 'a' + 1",
+        b"DELETE t AND k = 1",
+        b"DELETE t WHERE k = 1 AND",
+    ];
+    for line in lines {
+        assert_eq!(rt;
+            parse(rt.alloc(), line).err(),
+            Some(Refusal::Syntax),
+            "at {line:?}"
+        );
+    }
+}
+
+#[test]
 fn reads_empty_lines_and_comments(rt: HostRuntime) {
     let alloc = rt.alloc();
     let blanks = [b' '; MAX_LINE_BYTES + 1];
@@ -137,7 +268,7 @@ fn reads_empty_lines_and_comments(rt: HostRuntime) {
 
 #[test]
 fn refuses_lines_without_a_reading(rt: HostRuntime) {
-    let lines: [&[u8]; 35] = [
+    let lines: [&[u8]; 39] = [
         b"SCAN t x",
         b"SCAN",
         b"scan t",
@@ -170,6 +301,10 @@ fn refuses_lines_without_a_reading(rt: HostRuntime) {
         b"TABLE x (id INT KEY, k INT KEY)",
         b"TABLE x (id INT KEY KEY)",
         b"TABLE x (id REAL KEY)",
+        b"TABLE x (id INT KEY REF u)",
+        b"TABLE x (id INT KEY, r INT REF u KEY)",
+        b"TABLE x (id INT KEY, r INT REF)",
+        b"TABLE x (id INT KEY, r REF u INT)",
         b"SCAN t\x00",
         b"SCAN \xfft",
         b"SELECT a.id FROM t a",
@@ -199,4 +334,11 @@ fn refuses_literals_past_their_limits(rt: HostRuntime) {
         parse(alloc, number_first).err(),
         Some(Refusal::NumberOutOfRange)
     );
+    let shift = b"UPDATE t SET k = j + 9223372036854775808";
+    assert_eq!(rt; parse(alloc, shift).err(), Some(Refusal::NumberOutOfRange));
+    let below = b"DELETE t WHERE k < j - 9223372036854775809";
+    assert_eq!(rt; parse(alloc, below).err(), Some(Refusal::NumberOutOfRange));
+    let text_in_set =
+        b"UPDATE t SET s = 'aaaaaaaaaaaaaaaaaaaaaaaaaaaaaaaaaaaaaaaaaaaaaaaaaaaaaaaaaaaaaaaaa' WHERE k = j + 9223372036854775808";
+    assert_eq!(rt; parse(alloc, text_in_set).err(), Some(Refusal::TextTooLong));
 }

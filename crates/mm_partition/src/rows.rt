@@ -62,6 +62,13 @@ impl Partitions {
         }
     }
 
+    /// How many slots have been in use so far.
+    pub fn extent(&self) -> usize
+        ensures { result ≡ extent_of self.now }
+    {
+        self.slots.as_slice().len()
+    }
+
     /// The row of a reference.
     pub fn get(&self, at: RowRef) -> &Row
         requires { IsLive self.now at }

@@ -1,5 +1,5 @@
 -- What refuses a command: by names that are there or are not, and by one list of conditions behind another.
-use Rattle.std.proofs.Common.{◌≡◌, ℕ, Bool, true, false, List, Some, None, is_none, slice_get, ap, ◌∙◌}
+use Rattle.std.proofs.Common.{◌≡◌, ℕ, Bool, true, false, List, ◌++◌, Some, None, is_none, slice_get, sym, ap, ◌∙◌, append_assoc}
 use Rattle.std.specs.Option.{option_map_or}
 use Rattle.mm_schema.specs.Refused.{first_refusal}
 use Rattle.mm_schema.specs.Schema.{Schema, key_named, lacks_table, table_named, table_passes, table_place}
@@ -9,7 +9,7 @@ use Rattle.mm_schema.proofs.Dues.{due_behind, due_in_front}
 use Rattle.mm_schema.proofs.Places.{no_table, table_at_place}
 use Rattle.mm_value.specs.declared.refusal.Refusal.{Refusal}
 use Rattle.mm_query.specs.Binding.{binding_conditions}
-use Rattle.mm_query.specs.Edits.{changed_table}
+use Rattle.mm_query.specs.Edits.{changed_table, own_pairs, value_conditions}
 use Rattle.mm_query.specs.Machine.{after_change, change_conditions, conditions, reply_to, row_conditions, state_after, step, unless_refused}
 use Rattle.mm_query.specs.State.{State}
 use Rattle.mm_query.specs.declared.command.Command.{Command}
@@ -37,15 +37,22 @@ module _ (name : List ℕ) (schema : Schema) (place : ℕ) (table : Table) (plac
   pub key_at_place : key_named name schema ≡ key_place table.definition.columns
   key_at_place = ap (λ t. option_map_or (λ u. key_place u.definition.columns) t 0) named
 
--- What the catalog refuses is refused.
-pub due_by_catalog : (mutation : Mutation) (state : State) (refusal : Refusal) → first_refusal (binding_conditions mutation state.schema) ≡ Some refusal
+-- What the catalog or the new values refuse is refused, ..
+pub due_in_front_of_rows : (mutation : Mutation) (state : State) (refusal : Refusal)
+    → first_refusal (binding_conditions mutation state.schema ++ value_conditions mutation state) ≡ Some refusal
     → first_refusal (change_conditions mutation state) ≡ Some refusal
-due_by_catalog mutation state refusal h = due_in_front (binding_conditions mutation state.schema) _ refusal h
+due_in_front_of_rows mutation state refusal h =
+    ap first_refusal (sym (append_assoc (binding_conditions mutation state.schema) (value_conditions mutation state) _))
+    ∙ due_in_front (binding_conditions mutation state.schema ++ value_conditions mutation state) _ refusal h
 
--- What the catalog doesn't refuse is refused by the rows, if at all.
-pub due_by_rows : (mutation : Mutation) (state : State) → first_refusal (binding_conditions mutation state.schema) ≡ None
-    → first_refusal (change_conditions mutation state) ≡ first_refusal (row_conditions (changed_table mutation) state (after_change mutation state))
-due_by_rows mutation state h = due_behind (binding_conditions mutation state.schema) _ h
+-- .. and what neither refuses by the rows, if at all.
+pub due_behind_values : (mutation : Mutation) (state : State)
+    → first_refusal (binding_conditions mutation state.schema ++ value_conditions mutation state) ≡ None
+    → first_refusal (change_conditions mutation state)
+    ≡ first_refusal (row_conditions (changed_table mutation) (own_pairs mutation state) state (after_change mutation state))
+due_behind_values mutation state none =
+    ap first_refusal (sym (append_assoc (binding_conditions mutation state.schema) (value_conditions mutation state) _))
+    ∙ due_behind (binding_conditions mutation state.schema ++ value_conditions mutation state) _ none
 
 -- A command that is refused leaves the state, ..
 pub step-refused : (command : Command) (state : State) (refusal : Refusal) → first_refusal (conditions command state) ≡ Some refusal

@@ -1,7 +1,6 @@
 -- Every state that commands lead to has each table's rows strictly in key order.
-use Rattle.std.proofs.Common.{◌≡◌, ℕ, true, false, List, [], ◌∷◌, length, map, Option, Some, None, refl, subst, sym}
+use Rattle.std.proofs.Common.{◌≡◌, ℕ, Bool, true, false, List, [], ◌∷◌, ◌++◌, map, Option, Some, None, refl, subst, sym}
 use Rattle.std.specs.List.{IsDistinct}
-use Rattle.std.specs.Prelude.{nat_lt}
 use Rattle.mm_schema.specs.Columns.{key_place}
 use Rattle.mm_schema.specs.Indexes.{table_with_index, table_without_index}
 use Rattle.mm_schema.specs.Instance.{AreInKeyOrder}
@@ -11,24 +10,24 @@ use Rattle.mm_schema.specs.Rows.{has_twin_keys, table_rows_conditions}
 use Rattle.mm_schema.specs.Schema.{HasDistinctNames, key_named}
 use Rattle.mm_schema.specs.declared.table.Table.{Table}
 use Rattle.mm_schema.specs.declared.table.TableDef.{TableDef}
-use Rattle.mm_schema.proofs.Dues.{neither_due, none_due_behind}
+use Rattle.mm_schema.proofs.Dues.{none_due_behind}
 use Rattle.mm_schema.proofs.Instances.{AreInKeyOrder-changed, AreInKeyOrder-kept, AreInKeyOrder-push, AreInKeyOrder-without, IsDistinct-push, IsDistinct-without, names_kept}
-use Rattle.mm_schema.proofs.References.{same_with, same_without}
+use Rattle.mm_schema.proofs.References.{first_none, same_with, same_without}
 use Rattle.mm_schema.proofs.Places.{new_name_is_free}
 use Rattle.mm_schema.proofs.StrictOrder.{IsStrictlySortedBy-nil}
 use Rattle.mm_schema.proofs.Twins.{Row, column_cmp_total}
 use Rattle.mm_value.specs.declared.refusal.Refusal.{Refusal}
-use Rattle.mm_value.specs.declared.refusal.Refusal.TheVariants.{DuplicateKey, TableFull}
+use Rattle.mm_value.specs.declared.refusal.Refusal.TheVariants.{DuplicateKey}
 use Rattle.mm_query.specs.Binding.{binding_conditions}
-use Rattle.mm_query.specs.Edits.{changed_table, own_pairs}
-use Rattle.mm_query.specs.Machine.{Outcome, after_all, after_change, after_definition, conditions, reply_to, row_conditions, state_after, step, unless_refused}
+use Rattle.mm_query.specs.Edits.{changed_table, own_pairs, value_conditions}
+use Rattle.mm_query.specs.Machine.{Outcome, after_all, after_change, after_definition, conditions, reply_to, row_conditions, some_is_referred, some_lacks_target, state_after, step, unless_refused}
 use Rattle.mm_query.specs.State.{State, first_state, rows_in}
 use Rattle.mm_query.specs.declared.command.Command.{Command}
 use Rattle.mm_query.specs.declared.command.Command.TheVariants.{Nothing, Define, Change, Scan, ScanIndex}
 use Rattle.mm_query.specs.declared.command.Definition.{Definition}
 use Rattle.mm_query.specs.declared.command.Definition.TheVariants as define
 use Rattle.mm_query.specs.declared.command.Mutation.{Mutation}
-use Rattle.mm_query.specs.declared.command.Mutation.TheVariants.{Insert}
+use Rattle.mm_query.specs.declared.command.Mutation.TheVariants.{Insert, Update, Delete}
 
 -- Each command's conditions stand in the one order.
 pub ascending : (command : Command) (state : State) → ascend (conditions command state) ≡ true
@@ -38,13 +37,15 @@ ascending (Define (define.DropTable name)) state = refl
 ascending (Define (define.Index index)) state = refl
 ascending (Define (define.DropIndex name)) state = refl
 ascending (Change (Insert table tuples)) state = refl
+ascending (Change (Update table assignments tests)) state = refl
+ascending (Change (Delete table tests)) state = refl
 ascending (Scan table) state = refl
 ascending (ScanIndex index) state = refl
 
 -- what each step keeps of a state: no two tables have one name, and the rows of each are in key order
-record IsKept (state : State) : Type 0 where
-  distinct : HasDistinctNames state.schema
-  order : AreInKeyOrder state.schema.tables state.rows
+pub record IsKept (state : State) : Type 0 where
+  pub distinct : HasDistinctNames state.schema
+  pub order : AreInKeyOrder state.schema.tables state.rows
 
 kept_by_table : (definition : TableDef) (state : State) → first_refusal (conditions (Define (define.Table definition)) state) ≡ None → IsKept state
     → IsKept (after_definition (define.Table definition) state)
@@ -77,8 +78,9 @@ kept_by_definition (define.DropTable name) state due kept = kept_by_drop_table n
 kept_by_definition (define.Index index) state due kept = kept_with_definitions (table_with_index index) (same_with index) state kept
 kept_by_definition (define.DropIndex name) state due kept = kept_with_definitions (table_without_index name) (same_without name) state kept
 
-no_twins : (key : ℕ) (rows : List Row) → first_refusal (table_rows_conditions key rows) ≡ None → has_twin_keys key rows ≡ false
-no_twins key rows due = (neither_due (has_twin_keys key rows) (nat_lt 1048576 (length rows)) DuplicateKey TableFull due).0
+no_twins : (key : ℕ) (rows : List Row) (lacks referred : Bool) → first_refusal (table_rows_conditions key rows lacks referred) ≡ None
+    → has_twin_keys key rows ≡ false
+no_twins key rows lacks referred due = first_none (has_twin_keys key rows) DuplicateKey _ due
 
 kept_by_change : (mutation : Mutation) (state : State) → first_refusal (conditions (Change mutation) state) ≡ None → IsKept state
     → IsKept (after_change mutation state)
@@ -86,34 +88,42 @@ kept_by_change mutation state due kept = record {
   distinct = kept.distinct;
   order = AreInKeyOrder-changed (changed_table mutation) (own_pairs mutation state) state.schema.tables state.rows kept.order kept.distinct
       (no_twins (key_named (changed_table mutation) state.schema) (rows_in (after_change mutation state) (changed_table mutation))
-      (none_due_behind (binding_conditions mutation state.schema) (row_conditions (changed_table mutation) state (after_change mutation state)) due));
+      (some_lacks_target (changed_table mutation) (after_change mutation state)) (some_is_referred (changed_table mutation) (own_pairs mutation state) state)
+      (none_due_behind (value_conditions mutation state)
+      (row_conditions (changed_table mutation) (own_pairs mutation state) state (after_change mutation state))
+      (none_due_behind (binding_conditions mutation state.schema)
+      (value_conditions mutation state ++ row_conditions (changed_table mutation) (own_pairs mutation state) state (after_change mutation state)) due)));
 }
 
--- ---- every step
-
-kept_by_command : (command : Command) (state : State) → first_refusal (conditions command state) ≡ None → IsKept state → IsKept (state_after command state)
+pub kept_by_command : (command : Command) (state : State) → first_refusal (conditions command state) ≡ None → IsKept state → IsKept (state_after command state)
 kept_by_command Nothing state due kept = kept
 kept_by_command (Define definition) state due kept = kept_by_definition definition state due kept
 kept_by_command (Change mutation) state due kept = kept_by_change mutation state due kept
 kept_by_command (Scan table) state due kept = kept
 kept_by_command (ScanIndex index) state due kept = kept
 
-kept_unless_refused : (due : Option Refusal) (old : State) (done : Outcome) → (due ≡ None → IsKept done.state) → IsKept old
-    → IsKept (unless_refused due old done).state
-kept_unless_refused (Some refusal) old done new kept = kept
-kept_unless_refused None old done new kept = new refl
+-- ---- every step
 
--- A step keeps rows in key order, ..
-kept_by_step : (command : Command) (state : State) → IsKept state → IsKept (step command state).state
-kept_by_step command state kept =
-    kept_unless_refused (first_refusal (conditions command state)) state (record { reply = reply_to command state; state = state_after command state })
-    (λ due. kept_by_command command state due kept) kept
+module _ (P : State → Type 0)
+    (by_command : (command : Command) (state : State) → first_refusal (conditions command state) ≡ None → P state → P (state_after command state)) where
+  by_outcome : (due : Option Refusal) (old : State) (done : Outcome) → (due ≡ None → P done.state) → P old → P (unless_refused due old done).state
+  by_outcome (Some refusal) old done new kept = kept
+  by_outcome None old done new kept = new refl
 
-kept_by_all : (commands : List Command) (state : State) → IsKept state → IsKept (after_all commands state)
-kept_by_all [] state kept = kept
-kept_by_all (command ∷ commands) state kept = kept_by_all commands (step command state).state (kept_by_step command state kept)
+  by_step : (command : Command) (state : State) → P state → P (step command state).state
+  by_step command state kept =
+      by_outcome (first_refusal (conditions command state)) state (record { reply = reply_to command state; state = state_after command state })
+      (λ due. by_command command state due kept) kept
 
--- .. so they are in every state that commands lead to from the first.
-pub reached_in_order : (commands : List Command) → AreInKeyOrder (after_all commands first_state).schema.tables (after_all commands first_state).rows
+  -- What each command that nothing refuses keeps, commands keep one after another.
+  pub kept_by_all : (commands : List Command) (state : State) → P state → P (after_all commands state)
+  kept_by_all [] state kept = kept
+  kept_by_all (command ∷ commands) state kept = kept_by_all commands (step command state).state (by_step command state kept)
+
+pub kept_at_first : IsKept first_state
 unfolding IsDistinct
-reached_in_order commands = (kept_by_all commands first_state (record { distinct = tt; order = tt })).order
+kept_at_first = record { distinct = tt; order = tt }
+
+-- So rows are in key order in every state that commands lead to from the first.
+pub reached_in_order : (commands : List Command) → AreInKeyOrder (after_all commands first_state).schema.tables (after_all commands first_state).rows
+reached_in_order commands = (kept_by_all IsKept kept_by_command commands first_state kept_at_first).order

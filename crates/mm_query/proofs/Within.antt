@@ -22,7 +22,8 @@ module _ (columns : List Column) where
   -- A name that is there has a place within them, ..
   pub placed_within : (name : List ℕ) → lacks_column columns name ≡ false → placed columns name < length columns
   placed_within name there =
-      elim (column_place name columns) as (λ (found : Option ℕ). (column_place name columns ≡ found) → is_none found ≡ false → unwrap_or found 0 < length columns) [
+      elim (column_place name columns)
+      as (λ (found : Option ℕ). (column_place name columns ≡ found) → is_none found ≡ false → unwrap_or found 0 < length columns) [
         | None ↦ λ e h. cc
         | Some i ↦ λ e h. within_from_some (λ column. same_name name column.name) columns i e
       ] refl there

@@ -1,13 +1,17 @@
 -- What refuses a change by the catalog alone, and what its names stand for.
-use Rattle.std.specs.Prelude.{◌≡◌, ◌==◌, Bool, false, not, ◌||◌, List, [], ◌∷◌, Some, length}
+use Rattle.std.specs.Prelude.{◌≡◌, ◌==◌, ℕ, Bool, false, not, ◌||◌, All, List, [], ◌∷◌, Some, length, map}
 use Rattle.std.specs.List.{list_any}
 use Rattle.mm_schema.specs.Columns.{same_type}
 use Rattle.mm_schema.specs.Refused.{Condition}
-use Rattle.mm_schema.specs.Schema.{Schema, lacks_table, table_passes, table_place}
+use Rattle.mm_schema.specs.Schema.{Schema, columns_named, lacks_table, table_passes, table_place}
 use Rattle.mm_schema.specs.declared.column.Column.{Column}
 use Rattle.mm_value.specs.Types.{type_of}
 use Rattle.mm_value.specs.declared.refusal.Refusal.TheVariants.{NoSuchTable, TypeMismatch, WrongNumberOfValues}
 use Rattle.mm_value.specs.declared.values.Value.{Value}
+use Rattle.mm_query.specs.Atoms.{IsWithin, ReadsWithin}
+use Rattle.mm_query.specs.Placing.{column_conditions, placed_assignment, placed_atom}
+use Rattle.mm_query.specs.declared.atom.Assignment.{Assignment}
+use Rattle.mm_query.specs.declared.atom.Atom.{Atom}
 use Rattle.mm_query.specs.declared.bind.BoundChange.{BoundChange}
 use Rattle.mm_query.specs.declared.bind.BoundChange.TheVariants as bound
 use Rattle.mm_query.specs.declared.command.Mutation.{Mutation}
@@ -30,7 +34,45 @@ binding_conditions (written.Insert table tuples) schema =
     ∷ record { holds = table_passes (λ t. list_any (has_type_mismatch t.definition.columns) tuples) table schema; refusal = TypeMismatch }
     ∷ record { holds = table_passes (λ t. list_any (has_other_length t.definition.columns) tuples) table schema; refusal = WrongNumberOfValues }
     ∷ []
+binding_conditions (written.Update table assignments tests) schema =
+    record { holds = lacks_table table schema; refusal = NoSuchTable } ∷ column_conditions (columns_named table schema) assignments tests
+binding_conditions (written.Delete table tests) schema =
+    record { holds = lacks_table table schema; refusal = NoSuchTable } ∷ column_conditions (columns_named table schema) [] tests
 
--- The change with the place of its table in the catalog in place of the table's name.
+-- The assignments of a change of the table of a name, with places in place of the names of columns.
+abbrev pub assignments_for : List ℕ → Schema → List (Assignment (List ℕ)) → List (Assignment ℕ)
+assignments_for table schema assignments = map (placed_assignment (columns_named table schema)) assignments
+
+-- Its tests with places in place of the names of columns.
+abbrev pub tests_for : List ℕ → Schema → List (Atom (List ℕ)) → List (Atom ℕ)
+tests_for table schema tests = map (placed_atom (columns_named table schema)) tests
+
+-- All columns that tests name are among the first ones of a row.
+abbrev pub TestsWithin : ℕ → List (Atom ℕ) → Type 0
+TestsWithin width tests = All (λ (t : Atom ℕ). ReadsWithin width t.left t.right) tests
+
+-- All columns that the right sides of assignments name are among the first ones of a row.
+abbrev pub AssignmentsWithin : ℕ → List (Assignment ℕ) → Type 0
+AssignmentsWithin width assignments = All (λ (a : Assignment ℕ). IsWithin width a.source) assignments
+
+-- An UPDATE that is bound: its table has this place, and its columns have these, which lie in the table.
+pub record BindsUpdate (schema : Schema) (name : List ℕ) (assignments : List (Assignment (List ℕ))) (tests : List (Atom (List ℕ)))
+    (place : ℕ) (placed : List (Assignment ℕ)) (asked : List (Atom ℕ)) : Type 0 where
+  pub table : table_place name schema ≡ Some place
+  pub assignments_placed : placed ≡ assignments_for name schema assignments
+  pub tests_placed : asked ≡ tests_for name schema tests
+  pub assignments_within : AssignmentsWithin (length (columns_named name schema)) placed
+  pub tests_within : TestsWithin (length (columns_named name schema)) asked
+
+-- A DELETE that is bound.
+pub record BindsDelete (schema : Schema) (name : List ℕ) (tests : List (Atom (List ℕ))) (place : ℕ) (asked : List (Atom ℕ)) : Type 0 where
+  pub table : table_place name schema ≡ Some place
+  pub tests_placed : asked ≡ tests_for name schema tests
+  pub tests_within : TestsWithin (length (columns_named name schema)) asked
+
+-- The change with places in place of the names of its table and its columns.
 abbrev pub Binds : Schema → Mutation → BoundChange → Type 0
 Binds schema (written.Insert name tuples) (bound.Insert place rows) = (table_place name schema ≡ Some place) × (rows ≡ tuples)
+Binds schema (written.Update name assignments tests) (bound.Update place placed asked) = BindsUpdate schema name assignments tests place placed asked
+Binds schema (written.Delete name tests) (bound.Delete place asked) = BindsDelete schema name tests place asked
+Binds schema _ _ = ⊥

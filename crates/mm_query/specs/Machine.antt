@@ -1,18 +1,22 @@
 -- The machine that keeps only lists of rows: what refuses each command, what it answers, and the state that it leaves.
-use Rattle.std.specs.Prelude.{ℕ, List, [], ◌∷◌, ◌++◌, Option, Some, None, length}
+use Rattle.std.specs.Prelude.{ℕ, Bool, ◌&&◌, List, [], ◌∷◌, ◌++◌, Option, Some, None, length}
+use Rattle.std.specs.List.{list_any}
 use Rattle.std.specs.Option.{option_map_or}
 use Rattle.mm_schema.specs.Indexes.{drop_index_conditions, index_conditions, index_named, lacks_index, with_index, without_index}
 use Rattle.mm_schema.specs.Instance.{changed_instance, without_rows}
+use Rattle.mm_schema.specs.Name.{same_name}
+use Rattle.mm_schema.specs.References.{lacks_target_row, lose_targets, references_of}
 use Rattle.mm_schema.specs.Refused.{Condition, first_refusal}
-use Rattle.mm_schema.specs.Rows.{rows_by, table_rows_conditions}
-use Rattle.mm_schema.specs.Schema.{column_place_in, drop_table_conditions, key_named, lacks_table, table_conditions, with_table, without_table}
+use Rattle.mm_schema.specs.Rows.{Pair, rows_by, table_rows_conditions}
+use Rattle.mm_schema.specs.Schema.{column_place_in, columns_named, drop_table_conditions, key_named, lacks_table, table_conditions, with_table, without_table}
 use Rattle.mm_schema.specs.Sorting.{in_order}
 use Rattle.mm_schema.specs.declared.index.IndexDef.{IndexDef}
+use Rattle.mm_schema.specs.declared.table.Table.{Table}
 use Rattle.mm_value.specs.declared.refusal.Refusal.{Refusal}
 use Rattle.mm_value.specs.declared.refusal.Refusal.TheVariants.{NoSuchIndex, NoSuchTable}
 use Rattle.mm_value.specs.declared.values.Value.{Value}
 use Rattle.mm_query.specs.Binding.{binding_conditions}
-use Rattle.mm_query.specs.Edits.{changed_table, edits, own_pairs}
+use Rattle.mm_query.specs.Edits.{changed_table, edits, own_pairs, value_conditions}
 use Rattle.mm_query.specs.State.{State, rows_in}
 use Rattle.mm_query.specs.declared.command.Command.{Command}
 use Rattle.mm_query.specs.declared.command.Command.TheVariants.{Nothing, Define, Change, Scan, ScanIndex}
@@ -47,14 +51,28 @@ after_definition (define.DropIndex name) state = record state { schema = without
 abbrev pub after_change : Mutation → State → State
 after_change mutation state = record state { rows = changed_instance state.schema.tables (edits mutation state) state.rows }
 
--- What refuses a change by the rows before it and after it, in the one order. The table is the one that it names.
-abbrev pub row_conditions : List ℕ → State → State → List Condition
-row_conditions table before after = table_rows_conditions (key_named table before.schema) (rows_in after table)
+-- Some row of a table has in a REF column a value that is no key of the table that the column refers to.
+abbrev pub some_lacks_target : List ℕ → State → Bool
+some_lacks_target table state =
+    list_any (λ (r : ℕ × List ℕ). list_any (lacks_target_row r.0 (key_named r.1 state.schema) (rows_in state r.1)) (rows_in state table))
+    (references_of (columns_named table state.schema))
 
--- What refuses a change of rows, in the one order: first by the catalog alone.
+-- Some pair of a table takes away the key of a row that a row of a table refers to. No table refers to itself.
+abbrev pub some_is_referred : List ℕ → List Pair → State → Bool
+some_is_referred table pairs state =
+    list_any (λ (t : Table). list_any (λ (r : ℕ × List ℕ). same_name r.1 table
+    && lose_targets r.0 (key_named table state.schema) (rows_in state t.definition.name) pairs) (references_of t.definition.columns)) state.schema.tables
+
+-- What refuses a change by the rows of a table before it and after it, in the one order, where these are its pairs.
+abbrev pub row_conditions : List ℕ → List Pair → State → State → List Condition
+row_conditions table pairs before after =
+    table_rows_conditions (key_named table before.schema) (rows_in after table) (some_lacks_target table after) (some_is_referred table pairs before)
+
+-- What refuses a change of rows, in the one order: first by the catalog alone, then by the values that it computes.
 abbrev pub change_conditions : Mutation → State → List Condition
 change_conditions mutation state =
-    binding_conditions mutation state.schema ++ row_conditions (changed_table mutation) state (after_change mutation state)
+    binding_conditions mutation state.schema ++ (value_conditions mutation state
+    ++ row_conditions (changed_table mutation) (own_pairs mutation state) state (after_change mutation state))
 
 -- ---- rows by an index
 

@@ -1,4 +1,6 @@
 //! Commands, with all names as written.
+use crate::atom::{Assignment, Atom};
+use crate::item_list::ItemList;
 use crate::row_list::RowList;
 use mm_schema::{IndexDef, Name, TableDef};
 
@@ -11,6 +13,22 @@ pub enum Mutation {
         table: Name,
         /// One row for each tuple.
         tuples: RowList,
+    },
+    /// Changes the rows of a table that meet all tests.
+    Update {
+        /// The name of the table.
+        table: Name,
+        /// The columns that get new values.
+        assignments: ItemList<Assignment<Name>>,
+        /// What a row is asked, as it was before the change.
+        tests: ItemList<Atom<Name>>,
+    },
+    /// Takes the rows that meet all tests out of a table.
+    Delete {
+        /// The name of the table.
+        table: Name,
+        /// What a row is asked.
+        tests: ItemList<Atom<Name>>,
     },
 }
 

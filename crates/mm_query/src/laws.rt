@@ -1,8 +1,8 @@
 //! Laws of the machine of row lists.
-ghost use Rattle.std.specs.Prelude.{List, IsTrue};
+ghost use Rattle.std.specs.Prelude.{◌≡◌, ℕ, false, List, IsTrue};
 ghost use Rattle.mm_schema.specs.Instance.{AreInKeyOrder};
 ghost use Rattle.mm_schema.specs.Refused.{ascend};
-ghost use Rattle.mm_query.specs.Machine.{after_all, conditions};
+ghost use Rattle.mm_query.specs.Machine.{after_all, conditions, some_lacks_target};
 ghost use Rattle.mm_query.specs.State.{State, first_state};
 ghost use Rattle.mm_query.specs.declared.command.Command.{Command};
 
@@ -16,4 +16,10 @@ pub fn conditions_ascend()
 /// of their keys. So no two rows of a table have one key.
 pub fn rows_stay_in_key_order()
     ensures { (commands : List Command) → let reached = after_all commands first_state in AreInKeyOrder reached.schema.tables reached.rows }
+{}
+
+/// In every state that commands can lead to from the first, whatever they are, each value of a foreign key is the key of a
+/// row of the table that it refers to.
+pub fn rows_keep_their_targets()
+    ensures { (commands : List Command) (table : List ℕ) → some_lacks_target table (after_all commands first_state) ≡ false }
 {}

@@ -22,7 +22,7 @@ pub picked : (b : Bool) (x y z : Content) → (b ≡ true → x ≡ z) → (b �
 picked true x y z on_true on_false = on_true refl
 picked false x y z on_true on_false = on_false refl
 
-same_number : (i j : ℕ) → (i ≡ j) ⊎ (i ≢ j)
+pub same_number : (i j : ℕ) → (i ≡ j) ⊎ (i ≢ j)
 same_number i j =
     ⊎_elim (λ (e : i ≡ j). inl e) (λ (o : (i < j) ⊎ (j < i)). inr
     (λ (e : i ≡ j). ⊎_elim (λ (h : i < j). let no : ⊥ = omega arith in no) (λ (h : j < i). let no : ⊥ = omega arith in no) o)) (cases_order i j)

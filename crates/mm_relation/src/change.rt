@@ -1,6 +1,6 @@
 //! Edits of the slots, noted so that they can be taken back.
 ghost use Rattle.std.specs.Prelude.{◌≡◌, ◌+◌, ◌≤◌, [], ◌∷◌, length};
-ghost use Rattle.mm_partition.specs.Places.{slot_at};
+ghost use Rattle.mm_partition.specs.Places.{slot_at, extent_of};
 ghost use Rattle.std.specs.Prelude.{Contains};
 ghost use Rattle.mm_value.specs.declared.row_ref.RowRef.{RowRef};
 ghost use Rattle.mm_partition.specs.Places.{Free};
@@ -17,6 +17,7 @@ fn change(rows: &mut Partitions, edit: Edit) -> Entry
     requires standing { Standing (slot_at rows.old) (edit ∷ []) }
     ensures step { Step edit (slot_at rows.old) result (slot_at rows.new) }
     ensures room { rows.old.room ≤ rows.new.room + added_count (edit ∷ []) }
+    ensures extent { extent_of rows.new ≤ extent_of rows.old + added_count (edit ∷ []) }
 {
     match edit {
         Edit::Add(row) => Entry::Added(rows.place(row)),
@@ -35,6 +36,7 @@ pub fn change_each(rows: &mut Partitions, edits: Vec<Edit>, log: &mut Log)
     requires empty { log.old.entries ≡ [] }
     requires standing { Standing (slot_at rows.old) edits.items }
     ensures changes { Changes edits.items (slot_at rows.old) log.new.entries (slot_at rows.new) }
+    ensures extent { extent_of rows.new ≤ extent_of rows.old + added_count edits.items }
 {
     for edit in edits {
         log.note(change(rows, edit));
@@ -47,6 +49,7 @@ pub fn release_each(rows: &mut Partitions, entries: &[Entry])
     ensures freed { (at : RowRef) → Contains (removed entries.now) at → slot_at rows.new at ≡ Free }
     ensures others { (at : RowRef) → (Contains (removed entries.now) at → ⊥)
         → slot_at rows.new at ≡ slot_at rows.old at }
+    ensures extent { extent_of rows.new ≡ extent_of rows.old }
 {
     for entry in entries {
         if let Some(at) = entry.removed() {

@@ -21,7 +21,7 @@ mod tests;
 mod tree_entries;
 mod tree_reads;
 
-pub use edits::Edit;
+pub use edits::{Edit, count_added};
 pub use index::Index;
 pub use log::{Entry, Log};
 pub use relation::Relation;

@@ -79,6 +79,20 @@ impl Relation {
         self.by_key.len()
     }
 
+    /// The place of the key column, counted from 0.
+    pub fn key(&self) -> usize
+        ensures { result ≡ self.now.key }
+    {
+        self.key
+    }
+
+    /// How many slots of rows have been in use so far: the slot index of each live reference is below it.
+    pub fn extent(&self) -> usize
+        ensures { result ≡ extent_of self.now.places }
+    {
+        self.rows.extent()
+    }
+
     /// The row of a live reference.
     pub fn row(&self, at: RowRef) -> &Row
         requires { IsLive self.now.places at }

@@ -62,7 +62,7 @@ module _ (name : List ℕ) (pairs : List Pair) where
 
 -- ---- in key order
 
-beside_from_order : (tables : List Table) (rows : Instance) → AreInKeyOrder tables rows → AreBeside tables rows
+pub beside_from_order : (tables : List Table) (rows : Instance) → AreInKeyOrder tables rows → AreBeside tables rows
 beside_from_order [] [] order = tt
 beside_from_order (t ∷ ts) (r ∷ rs) order = beside_from_order ts rs order.1
 beside_from_order [] (r ∷ rs) order = absurd order

@@ -1,3 +1,4 @@
+pub mod AllReferences
 mod CatalogLemmas
 pub mod ChangedRows
 pub mod Dues

@@ -19,7 +19,7 @@ use Rattle.mm_schema.proofs.Instances.{name_of}
 use Rattle.mm_schema.proofs.NameLemmas.{same_bytes}
 
 -- no table has the name
-abbrev lacks : List ℕ → List Table → Bool
+abbrev pub lacks : List ℕ → List Table → Bool
 lacks name tables = is_none (find (λ t. same_name name (name_of t)) tables)
 
 -- ---- tables that lack no name which others have
@@ -38,17 +38,17 @@ module _ (old new : Schema) where
       let p = or_parts (lacks_target old c) (list_any (lacks_target old) cs) there in
       or_from _ _ (by_target more (target_of c) p.0) (targets_stay more cs p.1)
 
-first_none : (b : Bool) (refusal : Refusal) (rest : Option Refusal) → cond b (Some refusal) rest ≡ None → b ≡ false
+pub first_none : (b : Bool) (refusal : Refusal) (rest : Option Refusal) → cond b (Some refusal) rest ≡ None → b ≡ false
 first_none true refusal rest h = cc
 first_none false refusal rest h = refl
 
-second_none : (a b : Bool) (r s : Refusal) (rest : Option Refusal) → cond a (Some r) (cond b (Some s) rest) ≡ None → b ≡ false
+pub second_none : (a b : Bool) (r s : Refusal) (rest : Option Refusal) → cond a (Some r) (cond b (Some s) rest) ≡ None → b ≡ false
 second_none true b r s rest h = cc
 second_none false b r s rest h = first_none b s rest h
 
 -- ---- a new table
 
-there_behind : (name : List ℕ) (tables : List Table) (table : Table) → lacks name tables ≡ false → lacks name (tables ++ table ∷ []) ≡ false
+pub there_behind : (name : List ℕ) (tables : List Table) (table : Table) → lacks name tables ≡ false → lacks name (tables ++ table ∷ []) ≡ false
 there_behind name [] table there = cc
 there_behind name (t ∷ ts) table there = by (same_name name (name_of t)) there (there_behind name ts table)
   where
@@ -118,7 +118,7 @@ module _ (gone : List ℕ) where
   stays t = not (same_name gone (name_of t))
 
   -- Another name keeps its table.
-  there_still : (name : List ℕ) (tables : List Table) → same_name gone name ≡ false → lacks name tables ≡ false → lacks name (filter stays tables) ≡ false
+  pub there_still : (name : List ℕ) (tables : List Table) → same_name gone name ≡ false → lacks name tables ≡ false → lacks name (filter stays tables) ≡ false
   there_still name [] other there = there
   there_still name (t ∷ ts) other there = by (same_name name (name_of t)) refl (same_name gone (name_of t)) refl there (there_still name ts other)
     where

@@ -6,7 +6,7 @@ use Rattle.std.specs.Option.{option_cmp}
 use Rattle.std.specs.Ordering.{is_eq, ordering_then}
 use Rattle.std.specs.declared.cmp.Ordering.{Ordering}
 use Rattle.mm_value.specs.Order.{value_cmp}
-use Rattle.mm_value.specs.declared.refusal.Refusal.TheVariants.{DuplicateKey, TableFull}
+use Rattle.mm_value.specs.declared.refusal.Refusal.TheVariants.{DuplicateKey, NoTargetRow, RowIsReferenced, TableFull}
 use Rattle.mm_value.specs.declared.values.Value.{Value}
 use Rattle.mm_schema.specs.Refused.{Condition}
 use Rattle.mm_schema.specs.Sorting.{in_order}
@@ -56,9 +56,12 @@ abbrev pub has_twin_keys : ℕ → List (List Value) → Bool
 has_twin_keys key [] = false
 has_twin_keys key (r ∷ rs) = list_any (same_in_column key r) rs || has_twin_keys key rs
 
--- What refuses a change by the rows that its table would have, in the one order: two of one key, or more than 1,048,576.
-abbrev pub table_rows_conditions : ℕ → List (List Value) → List Condition
-table_rows_conditions key rows =
+-- What refuses a change by rows, in the one order: two rows that its table would have are of one key; one lacks a target; a
+-- row that another one refers to would go or have another key; or there would be more than 1,048,576 rows.
+abbrev pub table_rows_conditions : ℕ → List (List Value) → Bool → Bool → List Condition
+table_rows_conditions key rows some_lacks_target some_is_referred =
     record { holds = has_twin_keys key rows; refusal = DuplicateKey }
+    ∷ record { holds = some_lacks_target; refusal = NoTargetRow }
+    ∷ record { holds = some_is_referred; refusal = RowIsReferenced }
     ∷ record { holds = nat_lt 1048576 (length rows); refusal = TableFull }
     ∷ []

@@ -38,6 +38,10 @@ table_passes test name schema = option_map_or test (table_named name schema) fal
 abbrev pub key_named : List ℕ → Schema → ℕ
 key_named name schema = option_map_or (λ table. key_place table.definition.columns) (table_named name schema) 0
 
+-- The columns of the table of a name, and none where there is no such table.
+abbrev pub columns_named : List ℕ → Schema → List Column
+columns_named name schema = option_map_or (λ table. table.definition.columns) (table_named name schema) []
+
 -- The place of a column in the table of a name, and 0 where one of them is missing.
 abbrev pub column_place_in : List ℕ → List ℕ → Schema → ℕ
 column_place_in table column schema = option_map_or (λ t. unwrap_or (column_place column t.definition.columns) 0) (table_named table schema) 0

@@ -1,20 +1,22 @@
 //! The catalog.
-ghost use Rattle.std.specs.Prelude.{◌≡◌, ◌<◌, ◌||◌, is_some, [], Some, None, length, position, slice_get, MatchResult, OnOk, OnErr};
+ghost use Rattle.std.specs.Prelude.{◌≡◌, ◌<◌, ◌||◌, is_some, [], Some, None, length, map, position, slice_get, IfOk, MatchResult, OnOk, OnErr};
 ghost use Rattle.std.specs.List.{list_any};
 ghost use Rattle.std.specs.Option.{option_copied};
 ghost use Rattle.mm_schema.specs.Columns.{has_twin_names};
 ghost use Rattle.mm_schema.specs.Indexes.{HasDistinctIndexes, HasIndexesInPlace, drop_index_conditions, index_conditions, index_named, with_index, without_index};
 ghost use Rattle.mm_schema.specs.Name.{same_name};
+ghost use Rattle.mm_schema.specs.References.{reference_at, references_of};
 ghost use Rattle.mm_schema.specs.Refused.{AnswersDue, first_refusal};
 ghost use Rattle.mm_schema.specs.Schema.{HasDistinctNames, drop_table_conditions, is_other_referring_to, lacks_target, mismatches_target, passes_table_limits, table_conditions, table_named, table_place, with_table, without_table};
 
-use crate::column::Column;
+use crate::column::{Column, Columns};
 use crate::index::{IndexDef, Indexes};
 use crate::name::Name;
+use crate::reference::Reference;
 use crate::table::{Table, TableDef};
 use indexmap::IndexMap;
 use mm_value::Refusal;
-use std::alloc::Global;
+use std::alloc::{AllocError, Global};
 use std::marker::Model;
 
 /// The most tables that a catalog has.
@@ -74,8 +76,9 @@ impl Catalog {
         Ok(())
     }
 
-    /// What refuses a new table.
-    fn table_refusal(&self, definition: &TableDef) -> Option<Refusal>
+    /// What refuses a new table: the refusal that `add_table` answers where memory suffices, or none where it would be
+    /// added. It takes no memory.
+    pub fn table_refusal(&self, definition: &TableDef) -> Option<Refusal>
         ensures { result ≡ first_refusal (table_conditions definition.now self.now) }
     {
         if self.lacks_some_target(definition) {
@@ -275,12 +278,28 @@ impl Catalog {
     {
         self.tables.get_index_of(name)
     }
+
+    /// The foreign keys of a table that is to come last, one for each of its columns that refers to a table, in the order
+    /// of the columns. The place of a target that isn't there is 0. An error where memory is refused.
+    pub fn references(&self, alloc: Global, columns: &Columns) -> Result<Vec<Reference>, AllocError>
+        ensures { IfOk result (λ found. found.items ≡ map (reference_at self.now (length self.now.tables)) (references_of columns.now)) }
+    {
+        let from = self.tables().len();
+        let mut found = Vec::new(alloc);
+        for (column, item) in columns.as_slice().iter().enumerate() {
+            if let Some(target) = item.target() {
+                let to = self.place_of(target).unwrap_or(0);
+                found.push(Reference { from, column, to })?;
+            }
+        }
+        Ok(found)
+    }
 }
 
 #[cfg(test)]
 mod tests {
     use super::*;
-    use crate::column::{Column, Columns, Role};
+    use crate::column::Role;
     use crate::index::IndexKind;
     use mm_value::ColType;
     use std::process::Abort;
@@ -452,6 +471,43 @@ mod tests {
         assert_eq!(rt; catalog.drop_table(&name_of(&rt, 1)), Ok(()));
         assert_eq!(rt; catalog.drop_table(&name_of(&rt, 0)), Ok(()));
         assert!(rt; catalog.tables().is_empty());
+    }
+
+    #[test]
+    fn lists_references_by_places(rt: HostRuntime) {
+        let mut catalog = Catalog::new(rt.alloc());
+        for i in 0..3 {
+            assert_eq!(rt; add(&rt, &mut catalog, i, 1), Ok(()));
+        }
+        let roles = [
+            Role::Plain,
+            Role::Reference(name_of(&rt, 2)),
+            Role::Key,
+            Role::Reference(name_of(&rt, 1)),
+            Role::Reference(name_of(&rt, 9)),
+        ];
+        let mut items = Vec::new(rt.alloc());
+        for (number, role) in (0..5).zip(roles) {
+            put(&rt, &mut items, number, ColType::Int, role);
+        }
+        let columns = Columns::new(items).expect(&rt, "a key");
+        let found = match catalog.references(rt.alloc(), &columns) {
+            Ok(found) => found,
+            Err(AllocError) => catalog
+                .references(rt.alloc(), &columns)
+                .expect(&rt, "memory"),
+        };
+        assert_eq!(rt; found.len(), 3);
+        for (reference, (column, to)) in found.iter().zip([(1, 2), (3, 1), (4, 0)]) {
+            assert_eq!(rt;
+                *reference,
+                Reference {
+                    from: 3,
+                    column,
+                    to
+                }
+            );
+        }
     }
 
     #[test]

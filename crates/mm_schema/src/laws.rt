@@ -6,7 +6,7 @@ ghost use Rattle.std.specs.declared.cmp.Ordering.{Ordering};
 ghost use Rattle.std.specs.declared.cmp.Ordering.TheVariants.{Equal};
 ghost use Rattle.mm_value.specs.declared.values.Value.{Value};
 ghost use Rattle.mm_schema.specs.Indexes.{with_index, without_index};
-ghost use Rattle.mm_schema.specs.References.{HasTargets};
+ghost use Rattle.mm_schema.specs.References.{HasTargets, RefersToOthers};
 ghost use Rattle.mm_schema.specs.Refused.{first_refusal};
 ghost use Rattle.mm_schema.specs.Rows.{Pair, changed, column_cmp};
 ghost use Rattle.mm_schema.specs.Schema.{Schema, drop_table_conditions, table_conditions, with_table, without_table};
@@ -43,4 +43,14 @@ pub fn references_have_targets()
         → HasTargets (without_table name schema) }
     ensures index { (index : IndexDef) (schema : Schema) → HasTargets schema → HasTargets (with_index index schema) }
     ensures no_index { (name : List ℕ) (schema : Schema) → HasTargets schema → HasTargets (without_index name schema) }
+{}
+
+/// Tables refer to others: where no column refers to its own table, that is so after each change of the catalog that
+/// nothing refuses.
+pub fn tables_refer_to_others()
+    ensures table { (definition : TableDef) (schema : Schema) → RefersToOthers schema → first_refusal (table_conditions definition schema) ≡ None
+        → RefersToOthers (with_table definition schema) }
+    ensures no_table { (name : List ℕ) (schema : Schema) → RefersToOthers schema → RefersToOthers (without_table name schema) }
+    ensures index { (index : IndexDef) (schema : Schema) → RefersToOthers schema → RefersToOthers (with_index index schema) }
+    ensures no_index { (name : List ℕ) (schema : Schema) → RefersToOthers schema → RefersToOthers (without_index name schema) }
 {}

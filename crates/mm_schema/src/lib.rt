@@ -6,11 +6,15 @@ mod column;
 mod index;
 mod laws;
 mod name;
+mod reference;
 mod table;
 
 pub use catalog::{Catalog, MAX_COLUMNS, MAX_INDEXES, MAX_TABLES};
 pub use column::{Column, Columns, Role};
 pub use index::{IndexDef, IndexId, IndexKind, Indexes};
-pub use laws::{changes_are_exact, in_order_sorts, references_have_targets};
+pub use laws::{
+    changes_are_exact, in_order_sorts, references_have_targets, tables_refer_to_others,
+};
 pub use name::Name;
+pub use reference::Reference;
 pub use table::{Table, TableDef};

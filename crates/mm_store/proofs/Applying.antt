@@ -6,12 +6,14 @@ use Rattle.mm_relation.specs.RowLists.{rows_of}
 use Rattle.mm_relation.proofs.Rooms.{column_same, kind_same, row_list_same}
 use Rattle.mm_value.specs.declared.values.Value.{Value}
 use Rattle.mm_store.specs.Tables.{HasRows, IsAt, Tables}
+use Rattle.mm_schema.specs.declared.reference.Reference.{Reference}
 
 one_value : (a b : StoredRows) → Some a ≡ Some b → a ≡ b
 one_value a b same = cc
 
 -- the relation at a place of a store that has these relations
-module _ (items : List StoredRows) (len place : ℕ) (counted : len ≡ length items) (view : Tables) (is : record { tables = items } ≡ view)
+module _ (items : List StoredRows) (links : List Reference) (len place : ℕ) (counted : len ≡ length items) (view : Tables)
+    (is : record { tables = items; links = links } ≡ view)
     (within : place < length view.tables) where
   below : place < len
   below = omega (arith, within, counted, ap (λ (v : Tables). length v.tables) is)

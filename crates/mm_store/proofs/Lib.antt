@@ -1,2 +1,10 @@
+pub mod Applied
 pub mod Applying
+pub mod EditLists
+pub mod Edited
+pub mod Following
+pub mod Joining
+pub mod Lists
+pub mod Moving
+pub mod Referring
 pub mod Samples

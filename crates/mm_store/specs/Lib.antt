@@ -1,2 +1,5 @@
+pub mod Behind
+pub mod Joined
+pub mod Links
 pub mod Sample
 pub mod Tables

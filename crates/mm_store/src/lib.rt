@@ -3,6 +3,8 @@
 //! A call that may take memory is handed the allocator; no other call takes any.
 #![tactic(auto)]
 
+mod link;
+mod links;
 mod store;
 #[cfg(test)]
 mod tests;

@@ -1,17 +1,24 @@
 //! The relations of all tables.
-ghost use Rattle.std.specs.Prelude.{◌≡◌, ◌<◌, ◌≤◌, ◌++◌, [], ◌∷◌, length, IfOk, OnOk, OnErr};
+ghost use Rattle.std.specs.Prelude.{◌≡◌, ◌≢◌, ℕ, ◌+◌, ◌<◌, ◌≤◌, ◌++◌, [], ◌∷◌, length, All, Contains, IfOk, OnOk, OnErr};
 ghost use Rattle.std.specs.List.{remove};
 ghost use Rattle.mm_schema.specs.Refused.{AnswersDue, first_refusal};
-ghost use Rattle.mm_schema.specs.Rows.{table_rows_conditions};
 ghost use Rattle.mm_relation.specs.Kept.{StoredRows};
 ghost use Rattle.mm_relation.specs.Reads.{AddsIndex};
-ghost use Rattle.mm_relation.specs.RowLists.{rows_of};
-ghost use Rattle.mm_store.specs.Tables.{IsAt, Turns, AreFit, AreLawful, HasRows, rows_with};
+ghost use Rattle.mm_relation.specs.RowLists.{edit_pairs, rows_of};
+ghost use Rattle.mm_relation.specs.Edits.{added_count};
+ghost use Rattle.mm_relation.specs.Refs.{row_at};
+ghost use Rattle.mm_partition.specs.Places.{IsLive, slot_at};
+ghost use Rattle.mm_store.specs.Links.{RefersTo};
+ghost use Rattle.mm_store.specs.Tables.{IsAt, Turns, AreFit, AreLawful, HasRows, rows_with, IsFrom, links_without, edit_conditions, has_orphans, makes_orphans};
 
+use crate::link::Link;
+use crate::links::{
+    drop_links, follow, left_orphans, new_links, new_orphans, reserve_all, retie_all,
+};
 use crate::undo::Undo;
-use mm_relation::{Edit, Relation};
-use mm_schema::IndexKind;
-use mm_value::Refusal;
+use mm_relation::{Edit, Relation, count_added};
+use mm_schema::{IndexKind, Reference};
+use mm_value::{Refusal, RowRef};
 use std::alloc::{AllocError, Global};
 use std::marker::Model;
 
@@ -23,26 +30,31 @@ const MAX_ROWS: usize = 1_048_576;
 #[derive(Drop)]
 pub struct Store {
     tables: Vec<Relation>,
+    /// The foreign keys of all tables, in the order of creation.
+    links: Vec<Link>,
 }
 
 impl Model for Store {
-    ghost use Rattle.std.specs.Prelude.{◌≤◌, length, All};
+    ghost use Rattle.std.specs.Prelude.{map};
+    ghost use Rattle.mm_store.specs.Joined.{IsSound};
     ghost use Rattle.mm_store.specs.Tables.{Tables};
 
     ghost Value = { Tables };
 
-    ghost view = { λ s. record { tables = s.tables.items } };
+    ghost view = { λ s. record { tables = s.tables.items; links = map (λ link. link.reference) s.links.items } };
 
-    ghost invariant = { λ s. All (λ t. length t.refs ≤ 1048576) s.tables.items };
+    ghost invariant = { λ s. IsSound s.tables.items s.links.items };
 }
 
 impl Store {
     /// No tables. It takes no memory.
     pub fn new(alloc: Global) -> Store
-        ensures { result.tables ≡ [] }
+        ensures tables { result.tables ≡ [] }
+        ensures links { result.links ≡ [] }
     {
         Store {
             tables: Vec::new(alloc),
+            links: Vec::new(alloc),
         }
     }
 
@@ -53,25 +65,40 @@ impl Store {
         self.tables.len()
     }
 
-    /// Adds a table of so many columns with no rows, which comes last; the key stands in this column. `AllocError`
-    /// where memory is refused, and then all is as before.
-    pub fn add_table(&mut self, alloc: Global, width: usize, key: usize) -> Result<(), AllocError>
-        requires { key < width }
+    /// Adds a table of so many columns with no rows, which comes last; the key stands in this column, and these references are
+    /// those of its columns, each to a table that is there. `AllocError` where memory is refused, and then all is as before.
+    pub fn add_table(
+        &mut self,
+        alloc: Global,
+        width: usize,
+        key: usize,
+        references: &[Reference],
+    ) -> Result<(), AllocError>
+        requires key { key < width }
+        requires references { All (IsFrom (length self.old.tables) width) references.now }
         ensures ok { OnOk result ((new : StoredRows) × (self.new.tables ≡ self.old.tables ++ new ∷ [])
             × (rows_of new ≡ []) × (new.width ≡ width) × (new.key ≡ key) × (new.indexes ≡ [])) }
-        ensures err { OnErr result (self.new.tables ≡ self.old.tables) }
+        ensures links { OnOk result (self.new.links ≡ self.old.links ++ references.now) }
+        ensures err { OnErr result (self.new ≡ self.old) }
     {
+        let mut links = new_links(alloc, self.tables.as_slice(), references)?;
         self.tables.reserve(1)?;
-        self.tables.push_reserved(Relation::new(alloc, width, key));
+        self.links.append(&mut links)?;
+        let relation = Relation::new(alloc, width, key);
+        relation.is_kept();
+        self.tables.push_reserved(relation);
         Ok(())
     }
 
-    /// Drops the table at a place, with its rows. Those behind it move up.
+    /// Drops the table at a place, to which no table refers, with its rows and its references. Those behind it move up.
     pub fn drop_table(&mut self, table: usize)
-        requires { table < length self.old.tables }
-        ensures { self.new.tables ≡ remove self.old.tables table }
+        requires there { table < length self.old.tables }
+        requires unused { All (λ reference. reference.to ≢ table) self.old.links }
+        ensures tables { self.new.tables ≡ remove self.old.tables table }
+        ensures links { self.new.links ≡ links_without table self.old.links }
     {
         self.tables.remove(table);
+        drop_links(&mut self.links, table);
     }
 
     /// The relation of the table at a place.
@@ -83,19 +110,43 @@ impl Store {
         &self.tables[table]
     }
 
-    /// Whether the edits of a table may be made, by the rows that it would have. The first refusal that is due is
-    /// answered: `DuplicateKey` where two rows would have one key, `TableFull` where there would be more than 1,048,576;
-    /// or `Memory` in its place or in that of success.
+    /// The row that a row refers to by a column, without a search.
+    pub fn follow(&self, table: usize, column: usize, at: RowRef) -> RowRef
+        requires refers { (to : ℕ) × Contains self.now.links (record { from = table; column = column; to = to }) }
+        requires live { (stored : StoredRows) → IsAt self.now table stored → IsLive stored.places at }
+        ensures { (stored : StoredRows) → IsAt self.now table stored
+            → (target : StoredRows) × (to : ℕ) × Contains self.now.links (record { from = table; column = column; to = to })
+            × IsAt self.now to target × RefersTo column target.key (slot_at target.places) (row_at (slot_at stored.places) at) result }
+    {
+        follow(
+            self.links.as_slice(),
+            self.tables.as_slice(),
+            table,
+            column,
+            at,
+        )
+    }
+
+    /// Whether the edits of a table may be made. The first refusal that is due is answered: `DuplicateKey` where two rows
+    /// would have one key, `NoTargetRow` where a row would refer to none, `RowIsReferenced` where a row goes, or its key, to
+    /// which a row of another table refers, `TableFull` where there would be more than 1,048,576 rows; or `Memory` in its
+    /// place or in that of success.
     pub fn check(&self, alloc: Global, table: usize, edits: &[Edit]) -> Result<(), Refusal>
         requires there { table < length self.now.tables }
         requires fit { (stored : StoredRows) → IsAt self.now table stored → AreFit stored edits.now }
         ensures due { (stored : StoredRows) → IsAt self.now table stored
-            → AnswersDue (first_refusal (table_rows_conditions stored.key (rows_with stored edits.now))) result }
-        ensures lawful { IfOk result (λ _. (stored : StoredRows) → IsAt self.now table stored → AreLawful stored edits.now) }
+            → AnswersDue (first_refusal (edit_conditions self.now table stored edits.now)) result }
+        ensures lawful { IfOk result (λ _. (stored : StoredRows) → IsAt self.now table stored → AreLawful self.now table stored edits.now) }
     {
         let relation = self.table(table);
         if relation.has_twins_with(alloc, edits)? {
             return Err(Refusal::DuplicateKey);
+        }
+        if self.has_orphans_with(table, edits) {
+            return Err(Refusal::NoTargetRow);
+        }
+        if self.makes_orphans_with(table, edits) {
+            return Err(Refusal::RowIsReferenced);
         }
         if relation.len_with(edits) > MAX_ROWS {
             return Err(Refusal::TableFull);
@@ -103,7 +154,26 @@ impl Store {
         Ok(())
     }
 
-    /// Makes all edits of a table. `AllocError` where memory is refused; then all rows are as before.
+    /// Whether a row of a table would refer to none with the edits made.
+    fn has_orphans_with(&self, table: usize, edits: &[Edit]) -> bool
+        requires there { table < length self.now.tables }
+        requires fit { (stored : StoredRows) → IsAt self.now table stored → AreFit stored edits.now }
+        ensures { (stored : StoredRows) → IsAt self.now table stored → result ≡ has_orphans self.now table (rows_with stored edits.now) }
+    {
+        new_orphans(self.links.as_slice(), self.tables.as_slice(), table, edits)
+    }
+
+    /// Whether the edits of a table take a row, or its key, to which a row of another table refers.
+    fn makes_orphans_with(&self, table: usize, edits: &[Edit]) -> bool
+        requires fit { (stored : StoredRows) → IsAt self.now table stored → AreFit stored edits.now }
+        ensures { (stored : StoredRows) → IsAt self.now table stored
+            → result ≡ makes_orphans self.now table stored.key (edit_pairs (slot_at stored.places) edits.now) }
+    {
+        left_orphans(self.links.as_slice(), self.tables.as_slice(), table, edits)
+    }
+
+    /// Makes all edits of a table. `AllocError` where memory is refused; then all rows are as before, and each refers to the row
+    /// that it referred to. Every growth comes first.
     pub fn apply(
         &mut self,
         alloc: Global,
@@ -112,17 +182,27 @@ impl Store {
         undo: &mut Undo,
     ) -> Result<(), AllocError>
         requires there { table < length self.old.tables }
-        requires lawful { (stored : StoredRows) → IsAt self.old table stored → AreLawful stored edits.items }
+        requires lawful { (stored : StoredRows) → IsAt self.old table stored → AreLawful self.old table stored edits.items }
         ensures ok { OnOk result ((stored : StoredRows) → IsAt self.old table stored
             → (new : StoredRows) × Turns self.old table new self.new × HasRows stored (rows_with stored edits.items) new) }
         ensures err { OnErr result ((stored : StoredRows) → IsAt self.old table stored
             → (new : StoredRows) × Turns self.old table new self.new × HasRows stored (rows_of stored) new) }
+        ensures links { self.new.links ≡ self.old.links }
     {
-        let relation = &mut self.tables[table];
-        relation.apply(alloc, edits, &mut undo.log)?;
-        relation.settle(&mut undo.log);
+        let extent = most_slots(self.tables[table].extent(), edits.as_slice())?;
+        reserve_all(alloc, &mut self.links, table, extent)?;
+        self.tables[table].apply(alloc, edits, &mut undo.log)?;
+        retie_all(
+            &mut self.links,
+            self.tables.as_slice(),
+            table,
+            undo.log.entries(),
+        );
+        self.tables[table].settle(&mut undo.log);
+        self.tables[table].is_kept();
         Ok(())
     }
+
     /// Adds an index on a column of a table, over the rows that are there, behind the table's others. `AllocError` where
     /// memory is refused, and then all is as before.
     pub fn add_index(
@@ -137,18 +217,30 @@ impl Store {
         ensures ok { OnOk result ((stored : StoredRows) → IsAt self.old table stored
             → (new : StoredRows) × Turns self.old table new self.new × (new ≡ record stored { indexes = new.indexes })
             × AddsIndex column kind stored.indexes new.indexes) }
+        ensures links { self.new.links ≡ self.old.links }
         ensures err { OnErr result (self.new.tables ≡ self.old.tables) }
     {
-        self.tables[table].add_index(alloc, column, kind)
+        self.tables[table].add_index(alloc, column, kind)?;
+        self.tables[table].is_kept();
+        Ok(())
     }
 
     /// Drops the index at a place of a table's, counted from 0. Those behind it move up.
     pub fn drop_index(&mut self, table: usize, index: usize)
         requires there { table < length self.old.tables }
         requires index { (stored : StoredRows) → IsAt self.old table stored → index < length stored.indexes }
-        ensures { (stored : StoredRows) → IsAt self.old table stored
+        ensures tables { (stored : StoredRows) → IsAt self.old table stored
             → Turns self.old table (record stored { indexes = remove stored.indexes index }) self.new }
+        ensures links { self.new.links ≡ self.old.links }
     {
         self.tables[table].drop_index(index);
+        self.tables[table].is_kept();
     }
+}
+
+/// The most slots that a relation of this extent has in use with the edits made. `AllocError` where no number counts them.
+fn most_slots(extent: usize, edits: &[Edit]) -> Result<usize, AllocError>
+    ensures { IfOk result (λ most. most ≡ extent + added_count edits.now) }
+{
+    extent.checked_add(count_added(edits)).ok_or(AllocError)
 }

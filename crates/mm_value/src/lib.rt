@@ -15,7 +15,7 @@ mod values;
 
 pub use col_type::ColType;
 pub use device::{MAX_RETRIES, Watched, WriteFault, put_all};
-pub use literals::{literals_are_exact, read_literal};
+pub use literals::{literals_are_exact, read_int, read_literal};
 pub use printed::write_row;
 pub use refusal::Refusal;
 pub use row_ref::RowRef;

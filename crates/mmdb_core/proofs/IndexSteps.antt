@@ -3,7 +3,7 @@ use Rattle.std.proofs.Common.{◌≡◌, ℕ, zero, suc, ◌+◌, ◌<◌, ◌�
 use Rattle.std.specs.Prelude.{MatchResult, OnOk, find, position}
 use Rattle.std.specs.List.{All, AllByRecursion, IsDistinct, list_any, position_or_len, remove}
 use Rattle.std.specs.Option.{option_map_or, unwrap_or}
-use Rattle.std.proofs.lemmas.Bool.{false≢true, lt-ltb}
+use Rattle.std.proofs.lemmas.Bool.{false≢true}
 use Rattle.std.proofs.lemmas.Map.Keys.{IsDistinct-head, IsDistinct-tail}
 use Rattle.std.proofs.lemmas.Option.{slice_get-get_or}
 use Rattle.std.proofs.lemmas.List.Elements.{All-head, All-tail}
@@ -118,7 +118,7 @@ as_many_indexes columns (d ∷ ds) [] are = absurd are
 
 -- ---- the index of a name
 
-slice_get_within : {X : Type 0} (xs : List X) (i : ℕ) (x : X) → slice_get xs i ≡ Some x → i < length xs
+pub slice_get_within : {X : Type 0} (xs : List X) (i : ℕ) (x : X) → slice_get xs i ≡ Some x → i < length xs
 slice_get_within [] i x here = cc
 slice_get_within (y ∷ ys) zero x here = omega arith
 slice_get_within (y ∷ ys) (suc i) x here = omega (arith, slice_get_within ys i x here)
@@ -163,7 +163,7 @@ held name (t ∷ ts) d found own =
         record { place = suc rest.place; table = rest.table; there = rest.there; here = rest.here; own = rest.own }
 
 -- A table stands at the place of its own name.
-own_place : (ts : List Table) (place : ℕ) (t : Table) → slice_get ts place ≡ Some t → IsDistinct same_name (map name_of ts)
+pub own_place : (ts : List Table) (place : ℕ) (t : Table) → slice_get ts place ≡ Some t → IsDistinct same_name (map name_of ts)
     → position_or_len (λ u. same_name (name_of t) (name_of u)) ts ≡ place
 own_place [] place t here distinct = cc
 own_place (u ∷ us) zero t here distinct =

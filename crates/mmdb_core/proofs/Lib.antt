@@ -1,12 +1,15 @@
 pub mod Answering
+pub mod ChangeSteps
 pub mod DatabaseSteps
 pub mod FeedLemmas
 pub mod IndexSteps
 pub mod IndexesBeside
 pub mod Inputs
+pub mod KeptReferences
 pub mod LawLemmas
 pub mod LongLines
 pub mod Outcomes
+pub mod ReferenceRows
 pub mod RowsBeside
 pub mod Runs
 pub mod Scanning

@@ -1,11 +1,9 @@
 //! The database: its calls are steps of the machine of row lists.
-ghost use Rattle.std.specs.Prelude.{◌≡◌, ◌<◌, ◌≤◌, Some, None, IfOk, OnOk, OnErr, MatchResult, length, map};
+ghost use Rattle.std.specs.Prelude.{◌≡◌, ◌<◌, ◌≤◌, Some, None, IfOk, OnOk, OnErr, MatchResult, length};
 ghost use Rattle.mm_relation.specs.Kept.{StoredRows};
 ghost use Rattle.mm_relation.specs.RowLists.{rows_of};
-ghost use Rattle.mm_relation.specs.declared.edits.Edit.TheVariants.{Add};
 ghost use Rattle.mm_schema.specs.Refused.{AnswersDue, first_refusal};
-ghost use Rattle.mm_schema.specs.Rows.{table_rows_conditions};
-ghost use Rattle.mm_store.specs.Tables.{AreFit, HasRows, IsAt, Turns, rows_with};
+ghost use Rattle.mm_store.specs.Tables.{AreFit, HasRows, IsAt, Turns, edit_conditions, rows_with};
 ghost use Rattle.mm_query.specs.Edits.{own_pairs};
 ghost use Rattle.mm_query.specs.Machine.{conditions, rows_by_index, state_after};
 ghost use Rattle.mm_query.specs.State.{first_state, rows_in};
@@ -13,11 +11,12 @@ ghost use Rattle.mm_query.specs.declared.command.Command.TheVariants.{Define, Ch
 ghost use Rattle.mm_query.specs.declared.command.Definition.TheVariants as define;
 ghost use Rattle.mmdb_core.specs.steps.Along.{IsAlong};
 
-use mm_query::{BoundChange, Mutation, bind_change};
+use crate::edits::{TableEdits, edits_of};
+use mm_query::Mutation;
 use mm_relation::{Edit, Relation};
 use mm_schema::{Catalog, IndexDef, IndexKind, Name, TableDef};
 use mm_store::{Store, Undo};
-use mm_value::{Refusal, Row};
+use mm_value::Refusal;
 use std::alloc::{AllocError, Global};
 use std::marker::Model;
 
@@ -31,13 +30,13 @@ pub(crate) struct Database {
 
 impl Model for Database {
     ghost use Rattle.mm_query.specs.State.{State};
-    ghost use Rattle.mmdb_core.specs.steps.Database.{AreOf, instance_of};
+    ghost use Rattle.mmdb_core.specs.steps.Database.{AreKept, instance_of};
 
     ghost Value = { State };
 
     ghost view = { λ d. record { schema = d.catalog; rows = instance_of d.store.tables } };
 
-    ghost invariant = { λ d. AreOf d.catalog.tables d.store.tables };
+    ghost invariant = { λ d. AreKept d.catalog d.store };
 }
 
 impl Database {
@@ -58,9 +57,14 @@ impl Database {
         ensures ok { OnOk result (self.new ≡ state_after (Define (define.Table definition)) self.old) }
         ensures err { OnErr result (self.new ≡ self.old) }
     {
+        if let Some(refusal) = self.catalog.table_refusal(&definition) {
+            return Err(refusal);
+        }
+        let references = self.catalog.references(alloc, &definition.columns)?;
         let width = definition.columns.as_slice().len();
+        let key = definition.columns.key();
         self.store
-            .add_table(alloc, width, definition.columns.key())?;
+            .add_table(alloc, width, key, references.as_slice())?;
         if let Err(refusal) = self.catalog.add_table(definition) {
             self.store.drop_table(self.store.len() - 1);
             return Err(refusal);
@@ -121,21 +125,17 @@ impl Database {
     }
 
     /// Changes the rows of a table, and tells how many rows that concerned. The first refusal that is due is answered:
-    /// those of `bind_change`, `DuplicateKey`, `TableFull`; or `Memory` in its place or in that of success.
+    /// those of [`edits_of`] and of [`Store::check`]; or `Memory` in its place or in that of success.
     pub(crate) fn change(&mut self, alloc: Global, mutation: Mutation) -> Result<usize, Refusal>
         ensures due { AnswersDue (first_refusal (conditions (Change mutation) self.old)) result }
         ensures ok { OnOk result (self.new ≡ state_after (Change mutation) self.old) }
         ensures count { IfOk result (λ count. count ≡ length (own_pairs mutation self.old)) }
         ensures err { OnErr result (self.new ≡ self.old) }
     {
-        match bind_change(&self.catalog, mutation)? {
-            BoundChange::Insert { table, tuples } => {
-                let edits = additions(alloc, tuples.into_vec())?;
-                let count = edits.len();
-                make_edits(alloc, &mut self.store, table, edits, &mut self.undo)?;
-                Ok(count)
-            }
-        }
+        let TableEdits { table, edits } = edits_of(alloc, &self.catalog, &self.store, mutation)?;
+        let count = edits.len();
+        make_edits(alloc, &mut self.store, table, edits, &mut self.undo)?;
+        Ok(count)
     }
 
     /// The index of a name, with the rows of its table. `NoSuchIndex` where none has the name.
@@ -196,20 +196,14 @@ fn make_edits(
     requires there { table < length store.old.tables }
     requires fit { (stored : StoredRows) → IsAt store.old table stored → AreFit stored edits.items }
     ensures due { (stored : StoredRows) → IsAt store.old table stored
-        → AnswersDue (first_refusal (table_rows_conditions stored.key (rows_with stored edits.items))) result }
+        → AnswersDue (first_refusal (edit_conditions store.old table stored edits.items)) result }
     ensures ok { OnOk result ((stored : StoredRows) → IsAt store.old table stored
         → (new : StoredRows) × Turns store.old table new store.new × HasRows stored (rows_with stored edits.items) new) }
     ensures err { OnErr result ((stored : StoredRows) → IsAt store.old table stored
         → (new : StoredRows) × Turns store.old table new store.new × HasRows stored (rows_of stored) new) }
+    ensures links { store.new.links ≡ store.old.links }
 {
     store.check(alloc, table, edits.as_slice())?;
     store.apply(alloc, table, edits, undo)?;
     Ok(())
-}
-
-/// Edits that add these rows. `AllocError` where memory is refused.
-fn additions(alloc: Global, rows: Vec<Row>) -> Result<Vec<Edit>, AllocError>
-    ensures { IfOk result (λ edits. edits.items ≡ map Add rows.items) }
-{
-    rows.into_iter().map(Edit::Add).collect(alloc)
 }

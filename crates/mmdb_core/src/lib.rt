@@ -3,6 +3,7 @@
 
 mod answer;
 mod database;
+mod edits;
 mod fault;
 mod input;
 mod laws;

@@ -1,14 +1,15 @@
 -- What the steps of reading a command give.
-use Rattle.std.specs.Prelude.{◌≡◌, ◌≢◌, ◌⊎◌, ℕ, ◌<◌, ◌≤◌, Bool, true, false, List, [], ◌∷◌, ◌++◌, length, Some, None, Result, Ok, Err, MatchResult}
+use Rattle.std.specs.Prelude.{◌≡◌, ◌≢◌, ◌⊎◌, ℕ, ◌<◌, ◌≤◌, Bool, true, false, List, [], ◌∷◌, ◌++◌, length, ℤ, Option, Some, None, Result, Ok, Err, MatchResult}
 use Rattle.std.specs.Option.{option_or}
 use Rattle.mm_value.specs.declared.refusal.Refusal.{Refusal}
 use Rattle.mm_value.specs.declared.refusal.Refusal.TheVariants.{Syntax, NumberOutOfRange, TextTooLong, Memory}
 use Rattle.mm_value.specs.declared.values.Value.{Value}
+use Rattle.mm_value.specs.declared.values.Value.TheVariants.{Int}
 use Rattle.mm_lang.specs.declared.reader.Reader.{Reader}
 use Rattle.mm_lang.specs.declared.token.Symbol.{Symbol}
 use Rattle.mm_lang.specs.Phrases.{Phrase}
 use Rattle.mm_lang.specs.Reading.{first_fault}
-use Rattle.mm_lang.specs.Tokens.{Token, Word, Mark, tokens}
+use Rattle.mm_lang.specs.Tokens.{Token, Word, Signed, Mark, tokens}
 
 -- A call gives this answer, or want of memory in its place.
 abbrev pub AnswersOrMemory : {T : Type 0} → Result T Refusal → Result T Refusal → Type 0
@@ -25,6 +26,16 @@ abbrev pub BeginsNot : Symbol → List Token → Type 0
 BeginsNot symbol (Mark other ∷ ts) = other ≢ symbol
 BeginsNot symbol ts = Unit {0}
 
+-- The tokens begin with no word that a minus stands directly before.
+abbrev pub BeginsNotSigned : List Token → Type 0
+BeginsNotSigned (Signed word ∷ ts) = ⊥
+BeginsNotSigned ts = Unit {0}
+
+-- The tokens begin with no symbol.
+abbrev pub BeginsNoMark : List Token → Type 0
+BeginsNoMark (Mark symbol ∷ ts) = ⊥
+BeginsNoMark ts = Unit {0}
+
 -- Behind the first token of the bytes stand fewer bytes with the others.
 pub record Follows (bytes : List ℕ) (first : Token) (rest : List ℕ) : Type 0 where
   pub in_front : tokens bytes ≡ first ∷ tokens rest
@@ -37,6 +48,11 @@ no_literals x = []
 -- A literal is its only one.
 abbrev pub only_literal : Value → List Value
 only_literal v = v ∷ []
+
+-- The number of a shift, if there is one.
+abbrev pub shift_literals : Option ℤ → List Value
+shift_literals None = []
+shift_literals (Some z) = Int z ∷ []
 
 -- A literal past its limit is refused so.
 abbrev pub is_limit : Refusal → Bool

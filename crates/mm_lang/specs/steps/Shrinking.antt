@@ -1,14 +1,17 @@
 -- A phrase leaves no more tokens than there were.
-use Rattle.std.proofs.Common.{◌≡◌, ◌≤◌, ⊎_elim, ℕ, zero, suc, List, [], ◌∷◌, Option, Some, None, length, refl, ap, arith}
+use Rattle.std.proofs.Common.{◌≡◌, ◌≤◌, ⊎_elim, ℕ, Bool, true, false, zero, suc, List, [], ◌∷◌, Option, Some, None, length, refl, ap, arith}
 use Rattle.std.proofs.lemmas.Option.{none-some}
 use Rattle.mm_schema.specs.declared.column.Role.TheVariants.{Plain, Key}
+use Rattle.mm_lang.specs.declared.keyword.Keyword.{Keyword}
 use Rattle.mm_lang.specs.declared.keyword.Keyword.TheVariants as keyword
 use Rattle.mm_lang.specs.declared.token.Symbol.TheVariants.{Open, Close, Comma}
-use Rattle.mm_lang.specs.Grammar.{literal_of, name, col_type, column, comma_list, tuple}
-use Rattle.mm_lang.specs.Phrases.{Phrase, ◌>>=◌, ◌>>◌, say, one, the_symbol, the_keyword, behind_item, at_most, list_of, optional, in_parentheses}
-use Rattle.mm_lang.specs.Tokens.{Token}
+use Rattle.mm_lang.specs.declared.token.Symbol.TheVariants as symbol
+use Rattle.mm_value.specs.Literal.{is_numeral}
+use Rattle.mm_lang.specs.Grammar.{literal_of, name, col_type, reference, role_behind, role, column, comma_list, tuple, comparison, numbered, digits, shift, operand_behind, operand, test, assignment}
+use Rattle.mm_lang.specs.Phrases.{Phrase, ◌>>=◌, say, one, word_of, the_symbol, the_keyword, behind_item, at_most, list_of, only_if, optional, maybe, has_keyword, in_parentheses}
+use Rattle.mm_lang.specs.Tokens.{Token, Signed, Mark}
 use Rattle.mm_lang.specs.steps.Parsing.{NeverLonger}
-use Rattle.mm_lang.specs.steps.Parts.{Front, said_same, then_parts, one_parts, optional_parts}
+use Rattle.mm_lang.specs.steps.Parts.{Front, said_same, tested, then_parts, one_parts, optional_parts}
 
 pub one_never_longer : {A : Type 0} (says : Token → Option A) → NeverLonger (one says)
 one_never_longer says ts x us e = let p = one_parts says ts x us e in omega (arith, ap length p.1)
@@ -56,11 +59,61 @@ unfolding tuple
 tuple_never_longer =
     parentheses_never_longer (comma_list (one literal_of)) (list_never_longer (the_symbol Comma) (one literal_of) (one_never_longer _) (one_never_longer _))
 
+has_keyword_never_longer : (k : Keyword) → NeverLonger (has_keyword k)
+has_keyword_never_longer k =
+    optional_never_longer false _ (then_never_longer (the_keyword k) (λ u. say true) (one_never_longer _) (λ u. say_never_longer true))
+
+reference_never_longer : (there : Bool) → NeverLonger (reference there)
+reference_never_longer true = then_never_longer name _ (one_never_longer _) (λ n. say_never_longer _)
+reference_never_longer false = say_never_longer Plain
+
+role_behind_never_longer : (there : Bool) → NeverLonger (role_behind there)
+role_behind_never_longer true = say_never_longer Key
+role_behind_never_longer false =
+    then_never_longer (has_keyword keyword.Ref) reference (has_keyword_never_longer keyword.Ref) reference_never_longer
+
 pub column_never_longer : NeverLonger column
 unfolding column
 column_never_longer =
     then_never_longer name _ (one_never_longer _)
     (λ n. then_never_longer col_type _ (one_never_longer _)
-    (λ t. then_never_longer (optional Plain (the_keyword keyword.Key >> say Key)) _
-    (optional_never_longer Plain _ (then_never_longer (the_keyword keyword.Key) (λ u. say Key) (one_never_longer _) (λ u. say_never_longer Key)))
+    (λ t. then_never_longer role _ (then_never_longer (has_keyword keyword.Key) role_behind (has_keyword_never_longer keyword.Key) role_behind_never_longer)
     (λ r. say_never_longer _)))
+
+only_if_never_longer : {A : Type 0} (condition : Bool) (phrase : Phrase A) → NeverLonger phrase → NeverLonger (only_if condition phrase)
+only_if_never_longer {A} condition phrase h ts x us e = let answer : Front A = (x, us) in h ts x us (tested condition (phrase ts) answer e).1
+
+numbered_never_longer : (is_negative : Bool) (digits : List ℕ) → NeverLonger (numbered is_negative digits)
+numbered_never_longer is_negative digits = only_if_never_longer (is_numeral digits) _ (say_never_longer _)
+
+digits_never_longer : (is_negative : Bool) → NeverLonger (digits is_negative)
+digits_never_longer is_negative = then_never_longer (one word_of) _ (one_never_longer _) (numbered_never_longer is_negative)
+
+shift_never_longer : NeverLonger shift
+unfolding shift
+shift_never_longer (Mark symbol.Plus ∷ ts) x us e = let h = digits_never_longer false ts x us e in omega (arith, h)
+shift_never_longer (Mark symbol.Minus ∷ ts) x us e = let h = digits_never_longer true ts x us e in omega (arith, h)
+shift_never_longer (Signed word ∷ ts) x us e = let h = numbered_never_longer true word ts x us e in omega (arith, h)
+shift_never_longer ts x us e = say_never_longer None ts x us e
+
+behind_never_longer_of : (found : Option (List ℕ)) → NeverLonger (operand_behind found)
+behind_never_longer_of (Some n) = then_never_longer shift _ shift_never_longer (λ by. say_never_longer _)
+behind_never_longer_of None = then_never_longer (one literal_of) _ (one_never_longer _) (λ v. say_never_longer _)
+
+operand_never_longer : NeverLonger operand
+unfolding operand
+operand_never_longer =
+    then_never_longer (maybe name) operand_behind
+    (optional_never_longer None _ (then_never_longer name _ (one_never_longer _) (λ n. say_never_longer _))) behind_never_longer_of
+
+pub test_never_longer : NeverLonger test
+unfolding test
+test_never_longer =
+    then_never_longer name _ (one_never_longer _)
+    (λ n. then_never_longer comparison _ (one_never_longer _) (λ c. then_never_longer operand _ operand_never_longer (λ o. say_never_longer _)))
+
+pub assignment_never_longer : NeverLonger assignment
+unfolding assignment
+assignment_never_longer =
+    then_never_longer name _ (one_never_longer _)
+    (λ n. then_never_longer (the_symbol symbol.Equal) _ (one_never_longer _) (λ u. then_never_longer operand _ operand_never_longer (λ o. say_never_longer _)))

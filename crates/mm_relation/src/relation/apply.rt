@@ -1,8 +1,8 @@
 //! Edits of a relation, all or none.
-ghost use Rattle.std.specs.Prelude.{◌≡◌, ◌≤◌, [], List, length, All, OnOk, OnErr};
+ghost use Rattle.std.specs.Prelude.{◌≡◌, ◌+◌, ◌≤◌, [], List, length, All, OnOk, OnErr};
 ghost use Rattle.mm_value.specs.declared.row_ref.RowRef.{RowRef};
 ghost use Rattle.mm_value.specs.declared.values.Value.{Value};
-ghost use Rattle.mm_partition.specs.Places.{Hidden, slot_at};
+ghost use Rattle.mm_partition.specs.Places.{Hidden, slot_at, extent_of};
 ghost use Rattle.mm_relation.specs.declared.names.Side.TheVariants.{New, Old};
 ghost use Rattle.mm_relation.specs.Before.{before, StandsBack};
 ghost use Rattle.mm_relation.specs.Differs.{Differs};
@@ -31,7 +31,8 @@ impl Relation {
     /// in. `AllocError` where memory is refused; then all is as before, but for spare room.
     ///
     /// The edits have to stand: each names a live row, no two the same one; each new row has the relation's
-    /// width; and of the rows that are kept and the new ones no two have one key.
+    /// width; and of the rows that are kept and the new ones no two have one key. The extent grows by at most the number of
+    /// rows that are added.
     pub fn apply(
         &mut self,
         alloc: Global,
@@ -60,6 +61,7 @@ impl Relation {
         ensures key { OnOk result (self.new.key ≡ self.old.key) }
         ensures width { OnOk result (self.new.width ≡ self.old.width) }
         ensures indexes { OnOk result (EachTurns SameIndex self.old.indexes self.new.indexes) }
+        ensures extent { OnOk result (extent_of self.new.places ≤ extent_of self.old.places + added_count edits.items) }
         ensures err { OnErr result (SameButRoom self.old self.new) }
         ensures err_log { OnErr result (log.new.entries ≡ log.old.entries) }
     {
@@ -108,6 +110,7 @@ impl Relation {
         ensures key { self.new.key ≡ self.old.key }
         ensures width { self.new.width ≡ self.old.width }
         ensures indexes { EachTurns SameIndex self.old.indexes self.new.indexes }
+        ensures extent { extent_of self.new.places ≤ extent_of self.old.places + added_count edits.items }
     {
         take_each(
             &self.rows,

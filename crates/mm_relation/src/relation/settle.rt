@@ -1,7 +1,7 @@
 //! The end of a command that is not to be taken back any more.
 ghost use Rattle.std.specs.Prelude.{◌≡◌, [], Contains};
 ghost use Rattle.mm_value.specs.declared.row_ref.RowRef.{RowRef};
-ghost use Rattle.mm_partition.specs.Places.{Free, slot_at};
+ghost use Rattle.mm_partition.specs.Places.{Free, slot_at, extent_of};
 ghost use Rattle.mm_relation.specs.Edits.{removed};
 ghost use Rattle.mm_relation.specs.Changes.{AreHidden};
 ghost use Rattle.mm_relation.specs.RowLists.{rows_of};
@@ -24,6 +24,7 @@ impl Relation {
         ensures indexes { self.new.indexes ≡ self.old.indexes }
         ensures width { self.new.width ≡ self.old.width }
         ensures key { self.new.key ≡ self.old.key }
+        ensures extent { extent_of self.new.places ≡ extent_of self.old.places }
         ensures spare { self.new.spare ≡ self.old.spare }
         ensures log { log.new.entries ≡ [] }
     {

@@ -17,6 +17,7 @@ loop-edit-init c =
       ends = tt;
       size = omega (arith, sizes, given.1);
       room = subst (λ (es : List Edit). added_count es ≤ c.args.rows.now.room) (sym is) c.requires.room;
+      extent = omega (arith, ap (λ (es : List Edit). added_count es) is);
       log = omega (arith, sizes, c.requires.log);
       standing = subst (Standing (slot_at c.args.rows.now)) (sym is) c.requires.standing;
       changes = λ ns final all. subst (λ (xs : List Entry). Changes c.args.edits.items (slot_at c.args.rows.now) (xs ++ ns) final) (sym c.requires.empty)
@@ -49,6 +50,10 @@ loop-edit-preserved c =
           let counts : added_count c.loop-edit.edit-iterator.rest.items ≡ added_count (c.in-Some.edit ∷ []) + added_count c.next.new.self.rest.items =
           ap (λ (es : List Edit). added_count es) steps.0 ∙ added_count-cons c.in-Some.edit c.next.new.self.rest.items in
           omega (arith, counts, c.loop-edit.invariant.room, c.change.ensures.room);
+      extent =
+          let counts : added_count c.loop-edit.edit-iterator.rest.items ≡ added_count (c.in-Some.edit ∷ []) + added_count c.next.new.self.rest.items =
+          ap (λ (es : List Edit). added_count es) steps.0 ∙ added_count-cons c.in-Some.edit c.next.new.self.rest.items in
+          omega (arith, counts, c.loop-edit.invariant.extent, c.change.ensures.extent);
       log = omega (arith, sizes, c.loop-edit.invariant.log, c.note.ensures.room);
       standing = Standing-rest (slot_at c.loop-edit.rows) (slot_at c.change.new.rows) c.in-Some.edit c.change.result c.next.new.self.rest.items
           (subst (Standing (slot_at c.loop-edit.rows)) steps.0 c.loop-edit.invariant.standing) c.change.ensures.step;
@@ -77,4 +82,5 @@ returns c =
           (append-nil c.loop-edit.log.entries)
           (c.loop-edit.invariant.changes [] (slot_at c.loop-edit.rows)
           (subst (λ (es : List Edit). Changes es (slot_at c.loop-edit.rows) [] (slot_at c.loop-edit.rows)) (sym none) end));
+      extent = omega (arith, c.loop-edit.invariant.extent);
     }

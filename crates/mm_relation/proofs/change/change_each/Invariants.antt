@@ -1,5 +1,5 @@
-use Rattle.std.proofs.Common.{◌≡◌, ◌≤◌, List, ◌++◌, length}
-use Rattle.mm_partition.specs.Places.{slot_at}
+use Rattle.std.proofs.Common.{◌≡◌, ◌+◌, ◌≤◌, List, ◌++◌, length}
+use Rattle.mm_partition.specs.Places.{slot_at, extent_of}
 use Rattle.mm_relation.specs.Edits.{added_count}
 use Rattle.mm_relation.specs.Refs.{Slots}
 use Rattle.mm_relation.specs.declared.log.Entry.{Entry}
@@ -13,6 +13,7 @@ invariant-loop-edit l = record {
   ends : (goal.iterator-loop-edit).is_finite l.edit-iterator;
   size : length l.edit-iterator.rest.items ≡ l.edit-iterator.rest.len;
   room : added_count l.edit-iterator.rest.items ≤ l.rows.room;
+  extent : extent_of l.rows + added_count l.edit-iterator.rest.items ≤ extent_of l.fn.rows + added_count l.fn.edits.items;
   log : length l.edit-iterator.rest.items ≤ l.log.room;
   standing : Standing (slot_at l.rows) l.edit-iterator.rest.items;
   changes : (ns : List Entry) (final : Slots) → Changes l.edit-iterator.rest.items (slot_at l.rows) ns final

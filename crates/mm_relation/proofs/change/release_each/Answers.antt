@@ -1,4 +1,4 @@
-use Rattle.std.proofs.Common.{◌≡◌, ◌+◌, List, [], ◌∷◌, drop, sym, ap, ◌∙◌, subst}
+use Rattle.std.proofs.Common.{◌≡◌, ◌+◌, List, [], ◌∷◌, drop, refl, sym, ap, ◌∙◌, subst}
 use Rattle.std.proofs.lemmas.List.{drop_all}
 use Rattle.std.proofs.lemmas.List.Elements.{All-head}
 use Rattle.mm_value.specs.declared.row_ref.RowRef.{RowRef}
@@ -22,7 +22,7 @@ release-requires c =
     named-some (λ (e : Entry) (s : Side). removed_by e) Old c.args.entries.now c.loop-entry.entry-index c.entry-item.result c.in-Some.at
     c.loop-entry-test.true c.entry-item.is (sym c.removed.ensures ∙ c.in-Some.is)
     in
-    let hidden : AreHidden now (c.in-Some.at ∷ rest) = subst (AreHidden now) names c.loop-entry.invariant.hidden in
+    let hidden : AreHidden now (c.in-Some.at ∷ rest) = subst (AreHidden now) names c.loop-entry.invariant.freeing.hidden in
     All-head (λ at. (row : List Value) × (now at ≡ Hidden row)) c.in-Some.at rest hidden.hidden
 
 pub loop-entry-preserved : goal.loop-entry-preserved
@@ -37,9 +37,12 @@ loop-entry-preserved c =
           c.loop-entry-test.true c.entry-item.is (sym c.removed.ensures ∙ w.in-Some.is)
           in
           rw w.rows-is
-          (Freeing-step old (slot_at c.loop-entry.rows) (slot_at w.release.new.self) all rest w.in-Some.at
-          (subst (Freeing old (slot_at c.loop-entry.rows) all) names c.loop-entry.invariant)
-          (record { changed = w.release.ensures.freed.changed; others = w.release.ensures.freed.others }))
+          (record {
+            freeing = Freeing-step old (slot_at c.loop-entry.rows) (slot_at w.release.new.self) all rest w.in-Some.at
+                (subst (Freeing old (slot_at c.loop-entry.rows) all) names c.loop-entry.invariant.freeing)
+                (record { changed = w.release.ensures.freed.changed; others = w.release.ensures.freed.others });
+            extent = w.release.ensures.extent ∙ c.loop-entry.invariant.extent;
+          })
       | in_default w ↦
           let names : removed (drop c.loop-entry.entry-index c.args.entries.now) ≡ removed (drop (c.loop-entry.entry-index + 1) c.args.entries.now) =
           named-none (λ (e : Entry) (s : Side). removed_by e) Old c.args.entries.now c.loop-entry.entry-index c.entry-item.result
@@ -49,13 +52,16 @@ loop-entry-preserved c =
     ]
 
 pub loop-entry-init : goal.loop-entry-init
-loop-entry-init c = Freeing-start (slot_at c.args.rows.now) (removed c.args.entries.now) c.requires
+loop-entry-init c = record {
+  freeing = Freeing-start (slot_at c.args.rows.now) (removed c.args.entries.now) c.requires;
+  extent = refl;
+}
 
 pub returns : goal.returns
 returns c =
     let none : drop c.loop-entry.entry-index c.args.entries.now ≡ [] = drop_all c.loop-entry.entry-index c.args.entries.now c.loop-entry-test.false in
     let end : Frees (slot_at c.args.rows.now) (slot_at c.loop-entry.rows) (removed c.args.entries.now) =
     Freeing-end (slot_at c.args.rows.now) (slot_at c.loop-entry.rows) (removed c.args.entries.now)
-    (removed (drop c.loop-entry.entry-index c.args.entries.now)) (ap (λ (es : List Entry). removed es) none) c.loop-entry.invariant
+    (removed (drop c.loop-entry.entry-index c.args.entries.now)) (ap (λ (es : List Entry). removed es) none) c.loop-entry.invariant.freeing
     in
-    record { freed = end.freed; others = end.others }
+    record { freed = end.freed; others = end.others; extent = c.loop-entry.invariant.extent }

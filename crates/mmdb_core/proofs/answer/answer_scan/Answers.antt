@@ -1,4 +1,4 @@
-use Rattle.std.proofs.Common.{◌≡◌, List, Ok, inl, map, ap, sym, ◌∙◌}
+use Rattle.std.proofs.Common.{◌≡◌, List, Ok, inl, map, ap, ◌∙◌}
 use Rattle.mm_partition.specs.Places.{slot_at}
 use Rattle.mm_relation.specs.Refs.{row_at}
 use Rattle.mm_value.specs.declared.row_ref.RowRef.{RowRef}

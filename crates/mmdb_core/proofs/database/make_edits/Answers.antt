@@ -1,5 +1,4 @@
 use Rattle.std.proofs.lemmas.Result.{err_from_is_err_and}
-use Rattle.mm_relation.specs.RowLists.{rows_of}
 use Rattle.mmdb_core.proofs.RowsBeside.{HasRows-itself, set_itself}
 use Rattle.mmdb_core.proofs.database.make_edits.Goals as goal
 

@@ -2,7 +2,7 @@
 use Rattle.std.proofs.Common.{◌≡◌, List, Err, Some, inl, sym, ap, subst, ◌∙◌, arith}
 use Rattle.std.proofs.lemmas.Result.{err_from_is_err_and}
 use Rattle.mm_relation.specs.Kept.{StoredRows}
-use Rattle.mm_schema.specs.Indexes.{index_conditions, with_index}
+use Rattle.mm_schema.specs.Indexes.{index_conditions}
 use Rattle.mm_schema.specs.Refused.{AnswersDue, first_refusal}
 use Rattle.mm_schema.specs.Schema.{Schema}
 use Rattle.mm_value.specs.declared.refusal.Refusal.{Refusal}
@@ -11,9 +11,10 @@ use Rattle.mm_query.specs.Machine.{after_definition}
 use Rattle.mm_query.specs.State.{State}
 use Rattle.mm_query.specs.declared.command.Definition.TheVariants as define
 use Rattle.mm_query.proofs.Due.{lacks_nowhere}
-use Rattle.mmdb_core.specs.steps.Database.{AreOf, instance_of}
+use Rattle.mmdb_core.specs.steps.Database.{AreKept, AreOf}
 use Rattle.mmdb_core.proofs.DatabaseSteps.{rows_there, state_of}
 use Rattle.mmdb_core.proofs.IndexSteps.{column_within, index_added, no_column_due, no_table_due, taken_back}
+use Rattle.mmdb_core.proofs.KeptReferences.{kept_by_index, kept_by_rows}
 use Rattle.mmdb_core.proofs.database.Database.add_index.Goals as goal
 
 pub returns-in_err-place-clause-due : goal.returns-in_err-place-clause-due
@@ -41,28 +42,30 @@ returns-in_err-add_index-clause-due c =
 
 pub add_index-requires-2-clause-there : goal.add_index-requires-2-clause-there
 add_index-requires-2-clause-there c =
-    rows_there c.self.inside.catalog c.self.inside.store.tables c.self.invariant c.args.index.table c.in_ok-place.place
+    rows_there c.self.inside.catalog c.self.inside.store.tables c.self.invariant.relations c.args.index.table c.in_ok-place.place
     (sym c.place_of.ensures.place ∙ c.in_ok-place.ensures.ok_part)
 
 pub add_index-requires-2-clause-column : goal.add_index-requires-2-clause-column
 add_index-requires-2-clause-column c =
-    column_within c.self.inside.catalog c.self.inside.store.tables c.self.invariant c.args.index c.in_ok-place.place
+    column_within c.self.inside.catalog c.self.inside.store.tables c.self.invariant.relations c.args.index c.in_ok-place.place
     (sym c.place_of.ensures.place ∙ c.in_ok-place.ensures.ok_part) c.table_at.result.now c.table_at.ensures c.in_ok-column.column
     (sym c.place_of-2.ensures ∙ c.in_ok-column.ensures.ok_part)
 
 pub invariant_of-self-in-Err : goal.invariant_of-self-in-Err
 invariant_of-self-in-Err c =
-    let back = taken_back c.self.inside.catalog c.self.inside.store.tables c.self.invariant c.args.index c.in_ok-place.place
+    let back = taken_back c.self.inside.catalog c.self.inside.store.tables c.self.invariant.relations c.args.index c.in_ok-place.place
     (sym c.place_of.ensures.place ∙ c.in_ok-place.ensures.ok_part) c.table_at.result.now c.table_at.ensures c.in_ok-column.column
     (sym c.place_of-2.ensures ∙ c.in_ok-column.ensures.ok_part)
     c.copy-name.result c.add_index.new.self c.drop_index.new.self c.drop_index.result c.copy-name.ensures c.in_ok-add_index.ensures.ok
     c.in_ok-add_index.ensures.due c.drop_index.ensures.due c.drop_index.ensures.ok in
-    subst (λ (schema : Schema). AreOf schema.tables c.add_index-2.new.self.tables) (sym back)
-    (subst (λ (rs : List StoredRows). AreOf c.self.inside.catalog.tables rs) (sym c.in-Err.ensures.err) c.self.invariant)
+    subst (λ (schema : Schema). AreKept schema c.add_index-2.new.self) (sym back)
+    (kept_by_rows c.self.inside.catalog c.self.inside.store c.add_index-2.new.self c.self.invariant
+    (subst (λ (rs : List StoredRows). AreOf c.self.inside.catalog.tables rs) (sym c.in-Err.ensures.err) c.self.invariant.relations)
+    c.add_index-2.ensures.links)
 
 pub returns-in-Err-clause-err : goal.returns-in-Err-clause-err
 returns-in-Err-clause-err c =
-    let back = taken_back c.self.inside.catalog c.self.inside.store.tables c.self.invariant c.args.index c.in_ok-place.place
+    let back = taken_back c.self.inside.catalog c.self.inside.store.tables c.self.invariant.relations c.args.index c.in_ok-place.place
     (sym c.place_of.ensures.place ∙ c.in_ok-place.ensures.ok_part) c.table_at.result.now c.table_at.ensures c.in_ok-column.column
     (sym c.place_of-2.ensures ∙ c.in_ok-column.ensures.ok_part)
     c.copy-name.result c.add_index.new.self c.drop_index.new.self c.drop_index.result c.copy-name.ensures c.in_ok-add_index.ensures.ok
@@ -71,15 +74,16 @@ returns-in-Err-clause-err c =
 
 pub invariant_of-self-in_default : goal.invariant_of-self-in_default
 invariant_of-self-in_default c =
-    let added = index_added c.self.inside.catalog c.self.inside.store.tables c.self.invariant c.args.index c.in_ok-place.place
+    let added = index_added c.self.inside.catalog c.self.inside.store.tables c.self.invariant.relations c.args.index c.in_ok-place.place
     (sym c.place_of.ensures.place ∙ c.in_ok-place.ensures.ok_part) c.table_at.result.now c.table_at.ensures c.in_ok-column.column
     (sym c.place_of-2.ensures ∙ c.in_ok-column.ensures.ok_part)
     c.place_of.ensures.distinct c.add_index-2.new.self.tables c.in_default.ensures.ok in
-    subst (λ (schema : Schema). AreOf schema.tables c.add_index-2.new.self.tables) (sym c.in_ok-add_index.ensures.ok) added.1
+    subst (λ (schema : Schema). AreKept schema c.add_index-2.new.self) (sym c.in_ok-add_index.ensures.ok)
+    (kept_by_index c.self.inside.catalog c.self.inside.store c.add_index-2.new.self c.self.invariant c.args.index added.1 c.add_index-2.ensures.links)
 
 pub returns-clause-ok : goal.returns-clause-ok
 returns-clause-ok c =
-    let added = index_added c.self.inside.catalog c.self.inside.store.tables c.self.invariant c.args.index c.in_ok-place.place
+    let added = index_added c.self.inside.catalog c.self.inside.store.tables c.self.invariant.relations c.args.index c.in_ok-place.place
     (sym c.place_of.ensures.place ∙ c.in_ok-place.ensures.ok_part) c.table_at.result.now c.table_at.ensures c.in_ok-column.column
     (sym c.place_of-2.ensures ∙ c.in_ok-column.ensures.ok_part)
     c.place_of.ensures.distinct c.add_index-2.new.self.tables c.in_default.ensures.ok in

@@ -1,7 +1,7 @@
 -- The index goes from the catalog and from the relation of its table.
 use Rattle.std.proofs.Common.{◌≡◌, true, cond, Some, None, inl, sym, ap, subst, ◌∙◌, arith}
 use Rattle.std.proofs.lemmas.Result.{err_from_is_err_and}
-use Rattle.mm_schema.specs.Indexes.{lacks_index, without_index}
+use Rattle.mm_schema.specs.Indexes.{lacks_index}
 use Rattle.mm_schema.specs.Schema.{Schema}
 use Rattle.mm_schema.proofs.IndexLemmas.{lacks_nowhere}
 use Rattle.mm_value.specs.declared.refusal.Refusal.{Refusal}
@@ -9,8 +9,9 @@ use Rattle.mm_value.specs.declared.refusal.Refusal.TheVariants.{NoSuchIndex}
 use Rattle.mm_query.specs.Machine.{after_definition}
 use Rattle.mm_query.specs.State.{State}
 use Rattle.mm_query.specs.declared.command.Definition.TheVariants as define
-use Rattle.mmdb_core.specs.steps.Database.{AreOf}
+use Rattle.mmdb_core.specs.steps.Database.{AreKept}
 use Rattle.mmdb_core.proofs.IndexSteps.{index_dropped, index_not_missing, index_there, with_index_there}
+use Rattle.mmdb_core.proofs.KeptReferences.{kept_by_no_index}
 use Rattle.mmdb_core.proofs.database.Database.drop_index.Goals as goal
 
 pub returns-in_err-table-clause-due : goal.returns-in_err-table-clause-due
@@ -24,31 +25,32 @@ returns-in_err-table-clause-due c =
 
 pub returns-in_err-index-clause-due : goal.returns-in_err-index-clause-due
 returns-in_err-index-clause-due c =
-    absurd (index_not_missing c.self.inside.catalog c.self.inside.store.tables c.self.invariant c.args.name.now c.in_ok-table.table
+    absurd (index_not_missing c.self.inside.catalog c.self.inside.store.tables c.self.invariant.relations c.args.name.now c.in_ok-table.table
     (sym c.place_with_index.ensures.place ∙ c.in_ok-table.ensures.ok_part) c.table_at.result.now c.table_at.ensures
     (sym c.place_of.ensures ∙ c.in_err-index.ensures.ok_part))
 
 pub drop_index-requires-2-clause-there : goal.drop_index-requires-2-clause-there
 drop_index-requires-2-clause-there c =
-    with_index_there c.self.inside.catalog c.self.inside.store.tables c.self.invariant c.args.name.now c.in_ok-table.table
+    with_index_there c.self.inside.catalog c.self.inside.store.tables c.self.invariant.relations c.args.name.now c.in_ok-table.table
     (sym c.place_with_index.ensures.place ∙ c.in_ok-table.ensures.ok_part) c.table_at.result.now c.table_at.ensures
 
 pub drop_index-requires-2-clause-index : goal.drop_index-requires-2-clause-index
 drop_index-requires-2-clause-index c =
-    index_there c.self.inside.catalog c.self.inside.store.tables c.self.invariant c.args.name.now c.in_ok-table.table
+    index_there c.self.inside.catalog c.self.inside.store.tables c.self.invariant.relations c.args.name.now c.in_ok-table.table
     (sym c.place_with_index.ensures.place ∙ c.in_ok-table.ensures.ok_part) c.table_at.result.now c.table_at.ensures c.in_ok-index.index
     (sym c.place_of.ensures ∙ c.in_ok-index.ensures.ok_part)
 
 pub invariant_of-self-2 : goal.invariant_of-self-2
 invariant_of-self-2 c =
-    let dropped = index_dropped c.self.inside.catalog c.self.inside.store.tables c.self.invariant c.args.name.now c.in_ok-table.table
+    let dropped = index_dropped c.self.inside.catalog c.self.inside.store.tables c.self.invariant.relations c.args.name.now c.in_ok-table.table
     (sym c.place_with_index.ensures.place ∙ c.in_ok-table.ensures.ok_part) c.table_at.result.now c.table_at.ensures
-    c.place_with_index.ensures.distinct c.in_ok-index.index (sym c.place_of.ensures ∙ c.in_ok-index.ensures.ok_part) c.drop_index-2.new.self.tables c.drop_index-2.ensures in
-    subst (λ (schema : Schema). AreOf schema.tables c.drop_index-2.new.self.tables) (sym c.in_ok-drop_index.ensures.ok) dropped.1
+    c.place_with_index.ensures.distinct c.in_ok-index.index (sym c.place_of.ensures ∙ c.in_ok-index.ensures.ok_part) c.drop_index-2.new.self.tables c.drop_index-2.ensures.tables in
+    subst (λ (schema : Schema). AreKept schema c.drop_index-2.new.self) (sym c.in_ok-drop_index.ensures.ok)
+    (kept_by_no_index c.self.inside.catalog c.self.inside.store c.drop_index-2.new.self c.self.invariant c.args.name.now dropped.1 c.drop_index-2.ensures.links)
 
 pub returns-clause-ok : goal.returns-clause-ok
 returns-clause-ok c =
-    let dropped = index_dropped c.self.inside.catalog c.self.inside.store.tables c.self.invariant c.args.name.now c.in_ok-table.table
+    let dropped = index_dropped c.self.inside.catalog c.self.inside.store.tables c.self.invariant.relations c.args.name.now c.in_ok-table.table
     (sym c.place_with_index.ensures.place ∙ c.in_ok-table.ensures.ok_part) c.table_at.result.now c.table_at.ensures
-    c.place_with_index.ensures.distinct c.in_ok-index.index (sym c.place_of.ensures ∙ c.in_ok-index.ensures.ok_part) c.drop_index-2.new.self.tables c.drop_index-2.ensures in
+    c.place_with_index.ensures.distinct c.in_ok-index.index (sym c.place_of.ensures ∙ c.in_ok-index.ensures.ok_part) c.drop_index-2.new.self.tables c.drop_index-2.ensures.tables in
     (λ i. record { schema = c.in_ok-drop_index.ensures.ok i; rows = dropped.0 i }) ∙ ap (after_definition (define.DropIndex c.args.name.now)) c.self.view_is

@@ -3,10 +3,10 @@ use Rattle.mm_relation.specs.Kept.{StoredRows}
 use Rattle.mm_relation.specs.RowLists.{rows_of}
 use Rattle.mm_store.specs.Tables.{AreLawful, rows_with}
 use Rattle.mm_store.proofs.Samples.{kept}
-use Rattle.mm_store.proofs.tests.try_put.Goals as goal
+use Rattle.mm_store.proofs.tests.make.Goals as goal
 
 pub apply-requires-clause-lawful : goal.apply-requires-clause-lawful
-apply-requires-clause-lawful c = λ stored at. subst (AreLawful stored) c.as_slice.ensures.value (c.in-Ok.ensures.lawful stored at)
+apply-requires-clause-lawful c = λ stored at. subst (AreLawful c.args.store.now c.args.table stored) c.as_slice.ensures.value (c.in-Ok.ensures.lawful stored at)
 
 pub returns-in_err-apply-clause-count : goal.returns-in_err-apply-clause-count
 returns-in_err-apply-clause-count c =
@@ -19,9 +19,9 @@ returns-in_err-apply-clause-plain c =
 pub returns-clause-count : goal.returns-clause-count
 returns-clause-count c =
     (kept c.args.store.now c.apply.new.self c.args.table c.requires.there c.requires.plain
-    (λ (s : StoredRows). rows_with s c.in_ok-edits.edits.items) c.in_ok-apply.ensures.ok).0
+    (λ (s : StoredRows). rows_with s c.args.edits.items) c.in_ok-apply.ensures.ok).0
 
 pub returns-clause-plain : goal.returns-clause-plain
 returns-clause-plain c =
     (kept c.args.store.now c.apply.new.self c.args.table c.requires.there c.requires.plain
-    (λ (s : StoredRows). rows_with s c.in_ok-edits.edits.items) c.in_ok-apply.ensures.ok).1
+    (λ (s : StoredRows). rows_with s c.args.edits.items) c.in_ok-apply.ensures.ok).1

@@ -1,0 +1,4 @@
+mod ByKey
+mod Made
+mod Selected
+mod Values

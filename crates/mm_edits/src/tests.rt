@@ -1,0 +1,203 @@
+//! What no clause says: that ample memory is never refused. And each call once on real rows.
+ghost use Rattle.std.specs.Prelude.{◌≡◌, length, All, Contains, IfOk, IfSome};
+ghost use Rattle.mm_partition.specs.Places.{slot_at};
+ghost use Rattle.mm_query.specs.Atoms.{ReadsWithin};
+ghost use Rattle.mm_query.specs.Binding.{TestsWithin};
+ghost use Rattle.mm_relation.specs.Changes.{Standing};
+ghost use Rattle.mm_relation.specs.Edits.{new_rows};
+
+use crate::{additions, removals, updates};
+use mm_query::{Assignment, Atom, Comparison, Operand};
+use mm_relation::{Edit, Log, Relation};
+use mm_value::{Refusal, Row, RowRef, Value};
+use std::alloc::{AllocError, Global};
+use std::test::Fail;
+
+/// Makes the edits for good, and says that it did, unless two rows would have one key then.
+fn make(relation: &mut Relation, alloc: Global, edits: Vec<Edit>) -> Result<bool, AllocError>
+    requires standing { Standing (slot_at relation.old.places) edits.items }
+    requires wide { All (λ row. length row ≡ relation.old.width) (new_rows edits.items) }
+    ensures { relation.new.width ≡ relation.old.width }
+{
+    if relation.has_twins_with(alloc, edits.as_slice())? {
+        return Ok(false);
+    }
+    let mut log = Log::new(alloc);
+    relation.apply(alloc, edits, &mut log)?;
+    relation.settle(&mut log);
+    Ok(true)
+}
+
+/// A row of a key and ten times the key.
+fn row_of(alloc: Global, key: u8) -> Result<Row, AllocError>
+    ensures { IfOk result (λ row. length row ≡ 2) }
+{
+    let key = i64::from(key);
+    let values = vec![in alloc; Value::Int(key), Value::Int(10 * key)]?;
+    Ok(Row::new(values))
+}
+
+/// The rows of the keys 1, 2 and 3.
+fn try_three(alloc: Global) -> Result<Relation, AllocError>
+    ensures { IfOk result (λ relation. relation.width ≡ 2) }
+{
+    let mut relation = Relation::new(alloc, 2, 0);
+    let rows = vec![in alloc; row_of(alloc, 1)?, row_of(alloc, 2)?, row_of(alloc, 3)?]?;
+    let edits = additions(alloc, rows)?;
+    make(&mut relation, alloc, edits)?;
+    Ok(relation)
+}
+
+/// The same where memory is refused once at most.
+fn three(alloc: Global) -> Result<Relation, AllocError>
+    ensures { IfOk result (λ relation. relation.width ≡ 2) }
+{
+    match try_three(alloc) {
+        Ok(relation) => Ok(relation),
+        Err(_) => try_three(alloc),
+    }
+}
+
+/// The test that a key is at least this one.
+fn at_least(key: i64) -> Atom<usize>
+    ensures { ReadsWithin 2 result.left result.right }
+{
+    Atom {
+        left: 0,
+        comparison: Comparison::GreaterOrEqual,
+        right: Operand::Literal(Value::Int(key)),
+    }
+}
+
+/// Adds a number to the second value of each row that meets the tests, among at most 1,000 rows.
+fn try_shift(
+    relation: &mut Relation,
+    alloc: Global,
+    by: i64,
+    tests: &[Atom<usize>],
+) -> Result<bool, Refusal>
+    requires width { relation.old.width ≡ 2 }
+    requires tests { TestsWithin 2 tests.now }
+    ensures { relation.new.width ≡ 2 }
+{
+    if relation.len() > 1000 {
+        return Ok(false);
+    }
+    let shifted = Assignment {
+        column: 1,
+        source: Operand::Shifted(1, by),
+    };
+    let edits = updates(alloc, relation, &[shifted], tests)?;
+    Ok(make(relation, alloc, edits)?)
+}
+
+/// The same where memory is refused once at most.
+fn shift(
+    relation: &mut Relation,
+    alloc: Global,
+    by: i64,
+    tests: &[Atom<usize>],
+) -> Result<bool, Refusal>
+    requires width { relation.old.width ≡ 2 }
+    requires tests { TestsWithin 2 tests.now }
+    ensures { relation.new.width ≡ 2 }
+{
+    match try_shift(relation, alloc, by, tests) {
+        Err(Refusal::Memory) => try_shift(relation, alloc, by, tests),
+        done => done,
+    }
+}
+
+/// Takes out each row that meets the tests, among at most 1,000 rows.
+fn try_take(
+    relation: &mut Relation,
+    alloc: Global,
+    tests: &[Atom<usize>],
+) -> Result<bool, AllocError>
+    requires width { relation.old.width ≡ 2 }
+    requires tests { TestsWithin 2 tests.now }
+    ensures { relation.new.width ≡ 2 }
+{
+    if relation.len() > 1000 {
+        return Ok(false);
+    }
+    let edits = removals(alloc, relation, tests)?;
+    make(relation, alloc, edits)
+}
+
+/// The same where memory is refused once at most.
+fn take(relation: &mut Relation, alloc: Global, tests: &[Atom<usize>]) -> Result<bool, AllocError>
+    requires width { relation.old.width ≡ 2 }
+    requires tests { TestsWithin 2 tests.now }
+    ensures { relation.new.width ≡ 2 }
+{
+    match try_take(relation, alloc, tests) {
+        Ok(done) => Ok(done),
+        Err(_) => try_take(relation, alloc, tests),
+    }
+}
+
+/// The reference of the row that has a key.
+fn at_key(relation: &Relation, key: i64) -> Option<RowRef>
+    ensures { IfSome result (Contains relation.now.refs) }
+{
+    relation.find(&Value::Int(key))
+}
+
+/// The number that stands beside a key, none where no row has the key.
+fn number_of(relation: &Relation, key: i64) -> Option<i64> {
+    relation.is_kept();
+    let at = at_key(relation, key)?;
+    let row = relation.row(at);
+    if row.len() != 2 {
+        return None;
+    }
+    match row.value(1) {
+        Value::Int(number) => Some(*number),
+        Value::Text(_) => None,
+    }
+}
+
+/// The numbers beside the keys 1, 2 and 3.
+fn numbers(relation: &Relation) -> [Option<i64>; 3] {
+    [
+        number_of(relation, 1),
+        number_of(relation, 2),
+        number_of(relation, 3),
+    ]
+}
+
+#[test]
+fn updates_the_rows_that_meet_tests(rt: HostRuntime) -> Result<(), Fail> {
+    let alloc = rt.alloc();
+    let mut relation = three(alloc)?;
+    assert_eq!(rt; numbers(&relation), [Some(10), Some(20), Some(30)]);
+    assert_eq!(rt; shift(&mut relation, alloc, 5, &[at_least(2)]), Ok(true));
+    assert_eq!(rt; numbers(&relation), [Some(10), Some(25), Some(35)]);
+    assert_eq!(rt; shift(&mut relation, alloc, -35, &[]), Ok(true));
+    assert_eq!(rt; numbers(&relation), [Some(-25), Some(-10), Some(0)]);
+    Ok(())
+}
+
+#[test]
+fn refuses_a_number_past_the_range(rt: HostRuntime) -> Result<(), Fail> {
+    let alloc = rt.alloc();
+    let mut relation = three(alloc)?;
+    let refused = Err(Refusal::ArithmeticOutOfRange);
+    assert_eq!(rt; shift(&mut relation, alloc, i64::MAX - 29, &[]), refused);
+    assert_eq!(rt; numbers(&relation), [Some(10), Some(20), Some(30)]);
+    assert_eq!(rt; shift(&mut relation, alloc, i64::MAX - 30, &[]), Ok(true));
+    assert_eq!(rt; number_of(&relation, 3), Some(i64::MAX));
+    Ok(())
+}
+
+#[test]
+fn removes_the_rows_that_meet_tests(rt: HostRuntime) -> Result<(), Fail> {
+    let alloc = rt.alloc();
+    let mut relation = three(alloc)?;
+    assert!(rt; take(&mut relation, alloc, &[at_least(2)])?);
+    assert_eq!(rt; numbers(&relation), [Some(10), None, None]);
+    assert!(rt; take(&mut relation, alloc, &[])?);
+    assert_eq!(rt; relation.len(), 0);
+    Ok(())
+}

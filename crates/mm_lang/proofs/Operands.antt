@@ -1,0 +1,287 @@
+-- Numbers, shifts, operands, tests and assignments, read by their parts.
+use Rattle.std.proofs.Common.{◌≡◌, ◌≤◌, inl, inr, ⊎_elim, ℕ, Bool, true, false, cond, List, [], ◌∷◌, Option, Some, None, Result, Ok, Err, length, refl, subst, sym, ap, ◌∙◌, arith}
+use Rattle.std.specs.Prelude.{ℤ, FitsSigned}
+use Rattle.std.specs.Int.{w64}
+use Rattle.std.specs.List.{flat_map}
+use Rattle.std.specs.Option.{option_or}
+use Rattle.std.proofs.lemmas.Bool.{cases_Bool, cond-true}
+use Rattle.mm_value.specs.Literal.{IsNumeral, is_numeral, is_within_limit}
+use Rattle.mm_value.specs.Reading.{signed_value}
+use Rattle.mm_value.specs.declared.refusal.Refusal.{Refusal}
+use Rattle.mm_value.specs.declared.refusal.Refusal.TheVariants.{NumberOutOfRange}
+use Rattle.mm_value.specs.declared.values.Value.{Value}
+use Rattle.mm_value.specs.declared.values.Value.TheVariants.{Int}
+use Rattle.mm_value.proofs.Limits.{int_within, within_int}
+use Rattle.mm_query.specs.declared.atom.Assignment.{Assignment}
+use Rattle.mm_query.specs.declared.atom.Atom.{Atom}
+use Rattle.mm_query.specs.declared.atom.Comparison.{Comparison}
+use Rattle.mm_query.specs.declared.atom.Operand.{Operand}
+use Rattle.mm_query.specs.declared.atom.Operand.TheVariants as kind_of
+use Rattle.mm_lang.specs.declared.keyword.Keyword.TheVariants as keyword
+use Rattle.mm_lang.specs.declared.reader.Reader.{Reader}
+use Rattle.mm_lang.specs.declared.token.Symbol.TheVariants as symbol
+use Rattle.mm_lang.specs.Grammar.{literal_of, name, comparison, numbered, digits, shift, with_shift, operand_behind, operand, test, assignment, tests_behind, tests}
+use Rattle.mm_lang.specs.Phrases.{Phrase, ◌>>=◌, ◌>>◌, say, one, the_symbol, the_keyword, maybe, has_keyword}
+use Rattle.mm_lang.specs.Reading.{assignment_literals, first_fault, operand_literals, test_literals}
+use Rattle.mm_lang.specs.Tokens.{Token, Signed, Mark, tokens}
+use Rattle.mm_lang.specs.steps.Parsing.{BeginsNotSigned, Fails, Follows, Gives, GivesItems, ReadsPhrase, Skips, no_literals, only_literal, shift_literals}
+use Rattle.mm_lang.proofs.SpelledWords.{symbol_read}
+use Rattle.mm_lang.proofs.Readings.{took, or_none, fails_first, fails_next, reads_behind, given_made, listed, keyword_stands}
+
+-- ---- numbers
+
+not_within : (z : ℤ) → ¬ FitsSigned w64 z → is_within_limit (Int z) ≡ false
+not_within z past = ⊎_elim (λ fits. absurd (past (within_int z fits))) (λ other. other) (cases_Bool (is_within_limit (Int z)))
+
+module _ (is_negative : Bool) (word : List ℕ) (old : Reader) where
+  abbrev number : ℤ
+  number = signed_value is_negative word
+
+  numbered_is : IsNumeral word → numbered is_negative word (tokens old.rest.now) ≡ Some (Some number, tokens old.rest.now)
+  numbered_is numeral = cond-true (is_numeral word) _ _ numeral
+
+  -- A number within its limit is given, ..
+  pub number_within : (z : ℤ) → IsNumeral word → z ≡ signed_value is_negative word → FitsSigned w64 z
+      → Gives (numbered is_negative word) shift_literals old old (Some z)
+  number_within z numeral is fits =
+      let within : is_within_limit (Int (signed_value is_negative word)) ≡ true = ap (λ n. is_within_limit (Int n)) (sym is) ∙ int_within z fits in
+      record {
+        said = Some (signed_value is_negative word);
+        read = numbered_is numeral;
+        fault = sym (ap (λ b. option_or old.fault (option_or (cond b None (Some NumberOutOfRange)) None)) within ∙ or_none old.fault);
+        same = λ none. ap (λ (n : ℤ). Some n) is;
+        shorter = omega arith;
+      }
+
+  -- .. and one past its limit is noted.
+  pub number_past : (fault : Option Refusal) (placeholder : ℤ) → IsNumeral word → ¬ FitsSigned w64 (signed_value is_negative word)
+      → fault ≡ option_or old.fault (Some NumberOutOfRange)
+      → Gives (numbered is_negative word) shift_literals old (record old { fault = fault }) (Some placeholder)
+  number_past fault placeholder numeral past noted =
+      let out : is_within_limit (Int (signed_value is_negative word)) ≡ false = not_within (signed_value is_negative word) past in
+      record {
+        said = Some (signed_value is_negative word);
+        read = numbered_is numeral;
+        fault = noted ∙ sym (ap (λ b. option_or old.fault (option_or (cond b None (Some NumberOutOfRange)) None)) out);
+        same =
+            λ none. let some : ◌≡◌ {A = Option Refusal} (Some NumberOutOfRange) None =
+            sym (ap (λ b. option_or (cond b None (Some NumberOutOfRange)) None) out) ∙ none in absurd (cc);
+        shorter = omega arith;
+      }
+
+-- ---- shifts
+
+-- The tokens of a shift go on with this phrase, ..
+pub record GoesOnWith (old mid : Reader) (number : Phrase (Option ℤ)) : Type 0 where
+  pub is : shift (tokens old.rest.now) ≡ number (tokens mid.rest.now)
+  pub fault : mid.fault ≡ old.fault
+  pub shorter : length mid.rest.now ≤ length old.rest.now
+
+-- .. which it does behind a plus, ..
+pub plus_goes_on : (old mid : Reader) → Skips (the_symbol symbol.Plus) old mid true → GoesOnWith old mid (digits false)
+unfolding shift
+plus_goes_on old mid h =
+    let t = took h.0 in
+    record { is = ap shift (symbol_read symbol.Plus (tokens old.rest.now) (tokens mid.rest.now) t.is); fault = t.fault; shorter = t.shorter }
+
+module _ (old now mid : Reader) (same : ◌≡◌ {A = Reader} now old) where
+  -- .. behind a minus ..
+  pub minus_goes_on : Skips (the_symbol symbol.Minus) now mid true → GoesOnWith old mid (digits true)
+  unfolding shift
+  minus_goes_on h =
+      let t = took h.0 in
+      record {
+        is =
+            ap (λ (r : Reader). shift (tokens r.rest.now)) (sym same)
+            ∙ ap shift (symbol_read symbol.Minus (tokens now.rest.now) (tokens mid.rest.now) t.is);
+        fault = t.fault ∙ ap (λ (r : Reader). r.fault) same;
+        shorter = omega (arith, t.shorter, ap (λ (r : Reader). length r.rest.now) same);
+      }
+
+  -- .. and with a word that a minus stands directly before.
+  pub signed_goes_on : (word : List ℕ) → Follows now.rest.now (Signed word) mid.rest.now → mid.fault ≡ now.fault → GoesOnWith old mid (numbered true word)
+  unfolding shift
+  signed_goes_on word f faults = record {
+    is = ap (λ (r : Reader). shift (tokens r.rest.now)) (sym same) ∙ ap shift f.in_front;
+    fault = faults ∙ ap (λ (r : Reader). r.fault) same;
+    shorter = omega (arith, f.shorter, ap (λ (r : Reader). length r.rest.now) same);
+  }
+
+-- What reading that phrase gives is what reading the shift gives.
+pub shift_reads : (old mid new : Reader) (number : Phrase (Option ℤ)) (r : Result (Option ℤ) Refusal) → GoesOnWith old mid number
+    → ReadsPhrase number shift_literals mid new r → ReadsPhrase shift shift_literals old new r
+shift_reads old mid new number (Ok x) on g = record {
+  said = g.said;
+  read = on.is ∙ g.read;
+  fault = g.fault ∙ ap (λ f. option_or f (first_fault (shift_literals g.said))) on.fault;
+  same = g.same;
+  shorter = omega (arith, g.shorter, on.shorter);
+}
+shift_reads old mid new number (Err e) on (inl none) = inl (none.0, on.is ∙ none.1)
+shift_reads old mid new number (Err e) on (inr memory) = inr memory
+
+some-none : {A : Type 0} {x : A} → Some x ≡ None → ⊥
+some-none e = cc
+
+no_sign : (ts : List Token) → the_symbol symbol.Plus ts ≡ None → the_symbol symbol.Minus ts ≡ None → BeginsNotSigned ts → shift ts ≡ Some (None, ts)
+unfolding shift
+no_sign (Mark symbol.Plus ∷ ts) plus minus signed = absurd (some-none plus)
+no_sign (Mark symbol.Minus ∷ ts) plus minus signed = absurd (some-none minus)
+no_sign (Signed word ∷ ts) plus minus signed = absurd signed
+no_sign ts plus minus signed = refl
+
+-- Where no sign stands there is no shift.
+pub shift_none : (old now new : Reader) → Skips (the_symbol symbol.Plus) old now false → Skips (the_symbol symbol.Minus) now new false
+    → BeginsNotSigned (tokens new.rest.now) → Gives shift shift_literals old new None
+shift_none old now new plus minus signed =
+    let same : ◌≡◌ {A = Reader} new old = minus.1 ∙ plus.1 in
+    let tokens_are : tokens new.rest.now ≡ tokens old.rest.now = ap (λ (r : Reader). tokens r.rest.now) same in
+    record {
+      said = None;
+      read =
+          no_sign (tokens old.rest.now) plus.0 (ap (λ (r : Reader). the_symbol symbol.Minus (tokens r.rest.now)) (sym plus.1) ∙ minus.0)
+          (subst BeginsNotSigned tokens_are signed)
+          ∙ ap (λ ts. Some (None, ts)) (sym tokens_are);
+      fault = ap (λ (r : Reader). r.fault) same ∙ sym (or_none old.fault);
+      same = λ none. refl;
+      shorter = omega (arith, ap (λ (r : Reader). length r.rest.now) same);
+    }
+
+-- ---- operands
+
+literals_shifted : (n : List ℕ) (by : Option ℤ) → operand_literals (with_shift n by) ≡ shift_literals by
+literals_shifted n None = refl
+literals_shifted n (Some z) = refl
+
+module _ (old mid : Reader) (n : List ℕ) (g : Gives (maybe name) no_literals old mid (Some n)) where
+  pub operand_no_shift : (e : Refusal) → Fails shift mid e → Fails operand old e
+  unfolding operand
+  operand_no_shift e h =
+      let t = took g in
+      fails_next (maybe name) operand_behind old mid (Some n) e t.is (fails_first shift (λ by. say (with_shift n by)) mid e h)
+
+  pub operand_column : (new : Reader) (by : Option ℤ) (o : Operand (List ℕ)) → Gives shift shift_literals mid new by → o ≡ with_shift n by
+      → Gives operand operand_literals old new o
+  unfolding operand
+  operand_column new by o h is =
+      subst (Gives operand operand_literals old new) (sym is)
+      (reads_behind (maybe name) operand_behind operand_literals old mid new (Some n) (Ok (with_shift n by)) (took g)
+      (given_made shift (with_shift n) shift_literals operand_literals (literals_shifted n) h))
+
+module _ (old mid : Reader) (g : Gives (maybe name) no_literals old mid None) where
+  pub operand_no_literal : (e : Refusal) → Fails (one literal_of) mid e → Fails operand old e
+  unfolding operand
+  operand_no_literal e h =
+      let t = took g in
+      fails_next (maybe name) operand_behind old mid None e t.is (fails_first (one literal_of) (λ v. say (kind_of.Literal v)) mid e h)
+
+  pub operand_literal : (new : Reader) (v : Value) → Gives (one literal_of) only_literal mid new v → Gives operand operand_literals old new (kind_of.Literal v)
+  unfolding operand
+  operand_literal new v h =
+      reads_behind (maybe name) operand_behind operand_literals old mid new None (Ok (kind_of.Literal v)) (took g)
+      (given_made (one literal_of) (λ (x : Value). kind_of.Literal x) only_literal operand_literals (λ x. refl) h)
+
+-- ---- tests
+
+make_test : List ℕ → Comparison → Operand (List ℕ) → Atom (List ℕ)
+make_test n c o = record { left = n; comparison = c; right = o }
+
+after_how : List ℕ → Comparison → Phrase (Atom (List ℕ))
+after_how n c = operand >>= (λ o. say (record { left = n; comparison = c; right = o }))
+
+after_left : List ℕ → Phrase (Atom (List ℕ))
+after_left n = comparison >>= after_how n
+
+pub test_no_name : (old : Reader) (e : Refusal) → Fails name old e → Fails test old e
+unfolding test after_left after_how
+test_no_name old e h = fails_first name after_left old e h
+
+module _ (old named : Reader) (n : List ℕ) (a : Gives name no_literals old named n) where
+  pub test_no_comparison : (e : Refusal) → Fails comparison named e → Fails test old e
+  unfolding test after_left after_how
+  test_no_comparison e h = let t = took a in fails_next name after_left old named n e t.is (fails_first comparison (after_how n) named e h)
+
+  module _ (mid : Reader) (c : Comparison) (b : Gives comparison no_literals named mid c) where
+    pub test_no_operand : (e : Refusal) → Fails operand mid e → Fails test old e
+    unfolding test after_left after_how
+    test_no_operand e h =
+        let t = took a in
+        let u = took b in
+        fails_next name after_left old named n e t.is
+        (fails_next comparison (after_how n) named mid c e u.is
+        (fails_first operand (λ o. say (record { left = n; comparison = c; right = o })) mid e h))
+
+    pub test_given : (new : Reader) (o : Operand (List ℕ)) → Gives operand operand_literals mid new o
+        → Gives test test_literals old new (record { left = n; comparison = c; right = o })
+    unfolding test after_left after_how make_test
+    test_given new o g =
+        reads_behind name after_left test_literals old named new n (Ok (make_test n c o)) (took a)
+        (reads_behind comparison (after_how n) test_literals named mid new c (Ok (make_test n c o)) (took b)
+        (given_made operand (make_test n c) operand_literals test_literals (λ x. refl) g))
+
+-- ---- assignments
+
+make_assignment : List ℕ → Operand (List ℕ) → Assignment (List ℕ)
+make_assignment n o = record { column = n; source = o }
+
+after_equal : List ℕ → Phrase (Assignment (List ℕ))
+after_equal n = operand >>= (λ o. say (record { column = n; source = o }))
+
+after_column : List ℕ → Phrase (Assignment (List ℕ))
+after_column n = the_symbol symbol.Equal >> after_equal n
+
+pub assignment_no_name : (old : Reader) (e : Refusal) → Fails name old e → Fails assignment old e
+unfolding assignment after_column after_equal
+assignment_no_name old e h = fails_first name after_column old e h
+
+module _ (old named : Reader) (n : List ℕ) (a : Gives name no_literals old named n) where
+  pub assignment_no_equal : (e : Refusal) → Fails (the_symbol symbol.Equal) named e → Fails assignment old e
+  unfolding assignment after_column after_equal
+  assignment_no_equal e h =
+      let t = took a in fails_next name after_column old named n e t.is (fails_first (the_symbol symbol.Equal) (λ u. after_equal n) named e h)
+
+  module _ (mid : Reader) (b : Gives (the_symbol symbol.Equal) no_literals named mid tt) where
+    pub assignment_no_operand : (e : Refusal) → Fails operand mid e → Fails assignment old e
+    unfolding assignment after_column after_equal
+    assignment_no_operand e h =
+        let t = took a in
+        let u = took b in
+        fails_next name after_column old named n e t.is
+        (fails_next (the_symbol symbol.Equal) (λ u. after_equal n) named mid tt e u.is
+        (fails_first operand (λ o. say (record { column = n; source = o })) mid e h))
+
+    pub assignment_given : (new : Reader) (o : Operand (List ℕ)) → Gives operand operand_literals mid new o
+        → Gives assignment assignment_literals old new (record { column = n; source = o })
+    unfolding assignment after_column after_equal make_assignment
+    assignment_given new o g =
+        reads_behind name after_column assignment_literals old named new n (Ok (make_assignment n o)) (took a)
+        (reads_behind (the_symbol symbol.Equal) (λ u. after_equal n) assignment_literals named mid new tt (Ok (make_assignment n o)) (took b)
+        (given_made operand (make_assignment n) operand_literals assignment_literals (λ x. refl) g))
+
+-- ---- WHERE
+
+abbrev all_tests : List (Atom (List ℕ)) → List Value
+all_tests asked = flat_map test_literals asked
+
+module _ (old mid : Reader) where
+  pub tests_none : Skips (the_keyword keyword.Where) old mid false → (asked : List (Atom (List ℕ))) → asked ≡ [] → Gives tests all_tests old mid asked
+  unfolding tests
+  tests_none skips asked none =
+      subst (Gives tests all_tests old mid) (sym none)
+      (reads_behind (has_keyword keyword.Where) tests_behind all_tests old mid mid false (Ok []) (keyword_stands keyword.Where old mid false skips)
+      (record { said = []; read = refl; fault = sym (or_none mid.fault); same = λ fits. refl; shorter = omega arith }))
+
+  module _ (skips : Skips (the_keyword keyword.Where) old mid true) where
+    pub tests_fail : (e : Refusal) → Fails (tests_behind true) mid e → Fails tests old e
+    unfolding tests
+    tests_fail e h =
+        let t = keyword_stands keyword.Where old mid true skips in
+        fails_next (has_keyword keyword.Where) tests_behind old mid true e t.is h
+
+    pub tests_given : (new : Reader) (before after asked : List (Atom (List ℕ))) → before ≡ []
+        → GivesItems (tests_behind true) all_tests mid new before after → asked ≡ after → Gives tests all_tests old new asked
+    unfolding tests
+    tests_given new before after asked none items is =
+        subst (Gives tests all_tests old new) (sym is)
+        (reads_behind (has_keyword keyword.Where) tests_behind all_tests old mid new true (Ok after) (keyword_stands keyword.Where old mid true skips)
+        (listed none items))

@@ -1,0 +1,41 @@
+//! Lists of what a command holds.
+ghost use Rattle.std.specs.Prelude.{◌≡◌};
+
+use std::marker::Model;
+
+/// Items, one after another: the tests of a WHERE, or the assignments of a SET.
+#[derive(Debug, Drop)]
+pub struct ItemList<T> {
+    items: Vec<T>,
+}
+
+impl<T> Model for ItemList<T> {
+    ghost use Rattle.std.specs.Prelude.{List};
+
+    ghost Value = { List T };
+
+    ghost view = { λ l. l.items.items };
+}
+
+impl<T> ItemList<T> {
+    /// The list of these items, in their order. It takes no memory.
+    pub fn new(items: Vec<T>) -> ItemList<T>
+        ensures { result ≡ items.items }
+    {
+        ItemList { items }
+    }
+
+    /// The items, in their order.
+    pub fn as_slice(&self) -> &[T]
+        ensures { result.now ≡ self.now }
+    {
+        &self.items
+    }
+
+    /// The items as a vector, which takes no memory.
+    pub fn into_vec(self) -> Vec<T>
+        ensures { result.items ≡ self }
+    {
+        self.items
+    }
+}

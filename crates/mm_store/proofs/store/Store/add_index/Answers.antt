@@ -1,0 +1,55 @@
+use Rattle.std.proofs.Common.{◌≡◌, ◌<◌, length, Some, sym, ap, ◌∙◌, subst, arith}
+use Rattle.std.specs.Prelude.{slice_get, slice_set}
+use Rattle.std.proofs.lemmas.List.{length-set}
+use Rattle.mm_partition.specs.Places.{extent_of, slot_at}
+use Rattle.mm_relation.specs.Kept.{IsKept, StoredRows}
+use Rattle.mm_relation.specs.Reads.{AddsIndex}
+use Rattle.mm_store.specs.Joined.{IsTable}
+use Rattle.mm_store.specs.Tables.{Tables}
+use Rattle.mm_store.proofs.Applied.{IsSound-same, table_at}
+use Rattle.mm_store.proofs.Edited.{SameRows}
+use Rattle.mm_store.proofs.Joining.{at_index, get_set_same, one_relation}
+use Rattle.mm_store.proofs.store.Store.add_index.Goals as goal
+
+pub invariant_of-self-2 : goal.invariant_of-self-2
+invariant_of-self-2 c =
+    let items = c.self.inside.tables.items in
+    let links = c.self.inside.links.items in
+    let place = c.args.table in
+    let relation = c.index_mut.result.now in
+    let within : place < length items = subst (λ (v : Tables). place < length v.tables) (sym c.self.view_is) c.requires.there in
+    let there : slice_get items place ≡ Some relation = at_index items place relation within c.index_mut.ensures.value in
+    let new = c.add_index.new.self in
+    let rest = c.in_ok-add_index.ensures.rest in
+    let was : IsTable relation = table_at items place relation c.self.invariant.all there in
+    let last : c.index.result.now ≡ new =
+    one_relation c.index.result.now new
+    (sym (at_index (slice_set items place new) place c.index.result.now (omega (arith, within, length-set items place new)) c.index.ensures)
+    ∙ get_set_same items place new within) in
+    let same : SameRows relation new = record {
+      width = ap (λ (s : StoredRows). s.width) rest;
+      key = ap (λ (s : StoredRows). s.key) rest;
+      slots = ap (λ (s : StoredRows). slot_at s.places) rest;
+      extent = ap (λ (s : StoredRows). extent_of s.places) rest;
+    } in
+    let is_table : IsTable new = record {
+      few = omega (arith, was.few, ap (λ (s : StoredRows). length s.refs) rest);
+      kept = subst (λ (s : StoredRows). IsKept s.width s.key (slot_at s.places) s.refs s.indexes) last c.is_kept.ensures;
+    } in
+    IsSound-same items links place relation new there same is_table c.self.invariant
+
+pub returns-clause-ok : goal.returns-clause-ok
+returns-clause-ok c =
+    let items = c.self.inside.tables.items in
+    let links = c.self.inside.links.items in
+    let place = c.args.table in
+    let relation = c.index_mut.result.now in
+    let within : place < length items = subst (λ (v : Tables). place < length v.tables) (sym c.self.view_is) c.requires.there in
+    let there : slice_get items place ≡ Some relation = at_index items place relation within c.index_mut.ensures.value in
+    let new = c.add_index.new.self in
+    λ stored at.
+    let here : slice_get items place ≡ Some stored = ap (λ (v : Tables). slice_get v.tables place) c.self.view_is ∙ at in
+    let one : relation ≡ stored = one_relation relation stored (sym there ∙ here) in
+    subst (λ (s : StoredRows). (x : StoredRows) × (slice_set items place new ≡ slice_set c.args.self.now.tables place x)
+    × (x ≡ record s { indexes = x.indexes }) × AddsIndex c.args.column c.args.kind s.indexes x.indexes) one
+    (new, ap (λ (v : Tables). slice_set v.tables place new) c.self.view_is, c.in_ok-add_index.ensures.rest, c.in_ok-add_index.ensures.added)
