@@ -1,10 +1,11 @@
 //! Rows selected by tests.
-ghost use Rattle.std.specs.Prelude.{◌≡◌, ◌≤◌, Contains, filter, length, IfOk, IfSome};
+ghost use Rattle.std.specs.Prelude.{◌≡◌, ◌≤◌, Contains, filter, length, IfOk, IfSome, IfNone};
 ghost use Rattle.mm_partition.specs.Places.{slot_at};
 ghost use Rattle.mm_query.specs.Binding.{TestsWithin};
 ghost use Rattle.mm_query.specs.Edits.{meets};
 ghost use Rattle.mm_relation.specs.Refs.{row_at};
 ghost use Rattle.mm_edits.specs.Asked.{asks_for};
+ghost use Rattle.mm_value.specs.declared.values.Value.{Value as Sought};
 
 use mm_query::{Atom, Comparison, Operand};
 use mm_relation::Relation;
@@ -39,7 +40,8 @@ pub(crate) fn select(
 
 /// The value that the first test of this kind asks the key to be, if there is one.
 fn sought_key(key: usize, tests: &[Atom<usize>]) -> Option<&Value>
-    ensures { IfSome result (λ value. Contains tests.now (asks_for key value.now)) }
+    ensures asked { IfSome result (λ value. Contains tests.now (asks_for key value.now)) }
+    ensures none { IfNone result ((value : Sought) → Contains tests.now (asks_for key value) → ⊥) }
 {
     for test in tests {
         if let Some(value) = key_asked(key, test) {
@@ -51,7 +53,8 @@ fn sought_key(key: usize, tests: &[Atom<usize>]) -> Option<&Value>
 
 /// The value that a test asks the key to be, if it is of that kind.
 fn key_asked(key: usize, test: &Atom<usize>) -> Option<&Value>
-    ensures { IfSome result (λ value. test.now ≡ asks_for key value.now) }
+    ensures asked { IfSome result (λ value. test.now ≡ asks_for key value.now) }
+    ensures none { IfNone result ((value : Sought) → test.now ≡ asks_for key value → ⊥) }
 {
     match &test.right {
         Operand::Literal(value) if test.left == key && test.comparison == Comparison::Equal => {

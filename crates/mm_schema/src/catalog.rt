@@ -280,7 +280,7 @@ impl Catalog {
     }
 
     /// The foreign keys of a table that is to come last, one for each of its columns that refers to a table, in the order
-    /// of the columns. The place of a target that isn't there is 0. An error where memory is refused.
+    /// of the columns. The place of a target that isn't there is 0. `AllocError` where memory is refused.
     pub fn references(&self, alloc: Global, columns: &Columns) -> Result<Vec<Reference>, AllocError>
         ensures { IfOk result (λ found. found.items ≡ map (reference_at self.now (length self.now.tables)) (references_of columns.now)) }
     {

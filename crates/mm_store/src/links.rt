@@ -18,7 +18,7 @@ use mm_schema::Reference;
 use mm_value::RowRef;
 use std::alloc::{AllocError, Global};
 
-/// Makes room in each link for so many slots of a table.
+/// Makes room in each link for so many slots of a table. `AllocError` where memory is refused; then each row is tied as it was.
 pub fn reserve_all(
     alloc: Global,
     links: &mut Vec<Link>,
@@ -110,7 +110,7 @@ fn leaves_orphan(link: &Link, tables: &[Relation], table: usize, edits: &[Edit])
     to == table && link.leaves_orphans(&tables[from], &tables[to], edits)
 }
 
-/// Links of no rows between a new table and these, where the new one comes last.
+/// Links of no rows between a new table and these, where the new one comes last. `AllocError` where memory is refused.
 pub fn new_links(
     alloc: Global,
     tables: &[Relation],
