@@ -20,6 +20,3 @@ pub use reply_text::{
     replies_are_told_apart, write_reply, write_row_count, write_row_line, write_rows,
 };
 pub use token::Symbol;
-
-#[cfg(test)]
-mod tests;

@@ -103,16 +103,3 @@ impl Indexes {
         self.items.retain(|index| *name != index.name);
     }
 }
-
-#[cfg(test)]
-mod tests {
-    use super::*;
-
-    #[test]
-    fn ids_are_told_apart(rt: HostRuntime) {
-        let name = Name::new(b"a").expect(&rt, "a name");
-        assert_eq!(rt; IndexId::Named(name.copy()), IndexId::Named(name.copy()));
-        assert_ne!(rt; IndexId::Named(name), IndexId::Key);
-        assert_ne!(rt; IndexKind::Tree, IndexKind::Hash);
-    }
-}

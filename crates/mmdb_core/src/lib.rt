@@ -15,6 +15,3 @@ pub use fault::{RunFault, exit_status};
 pub use laws::{answers_follow_the_choice, commands_take_memory, runs_take_within_their_limit};
 pub use limits::{Limits, MAX_MAX_INPUT, Totals};
 pub use run_script::run;
-
-#[cfg(test)]
-mod tests;

@@ -1,7 +1,7 @@
 //! What no clause says: worked runs with their replies, devices that fail or take little, and that ample memory is
 //! never refused.
-use crate::{Limits, MAX_MAX_INPUT, RunFault, Totals, exit_status, run};
 use mm_value::Watched;
+use mmdb_core::{Limits, MAX_MAX_INPUT, RunFault, Totals, exit_status, run};
 use std::alloc::Global;
 use std::io;
 use std::io::{Read, Write};

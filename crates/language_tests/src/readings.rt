@@ -1,5 +1,5 @@
 //! Lines and their readings, from the language's description.
-use crate::{Command, MAX_LINE_BYTES, parse};
+use mm_lang::{Command, MAX_LINE_BYTES, parse};
 use mm_query::{Atom, Comparison, Definition, Mutation, Operand};
 use mm_schema::{Column, IndexDef, IndexKind, Name, Role};
 use mm_value::{ColType, Refusal, Row, Value};
