@@ -1,2 +1,4 @@
 mod LinkLemmas
 mod PlaceLemmas
+mod StoredLemmas
+mod TrackLemmas

@@ -1,2 +1,4 @@
 pub mod Links
 pub mod Places
+pub mod Prefixes
+pub mod Tracked

@@ -5,8 +5,10 @@
 
 mod rows;
 mod slots;
+mod tracked;
 
 pub use rows::Partitions;
+pub use slots::index_of;
 
 #[cfg(test)]
 mod tests;

@@ -1,9 +1,14 @@
 //! Rows by reference.
 ghost use Rattle.std.specs.Prelude.{◌≡◌, ◌+◌, ◌<◌, ◌≤◌, max, List, OnOk};
+ghost use Rattle.std.specs.Option.{ForSome};
 ghost use Rattle.mm_value.specs.declared.values.Value.{Value};
+ghost use Rattle.mm_partition.specs.Prefixes.{ArePrefixes};
 ghost use Rattle.mm_partition.specs.Places.{Free, Live, Hidden, slot_index_of, extent_of, slot_at, IsLive, IsHidden, IsUnchanged, ChangesOnly};
 
 use crate::slots::{SLOTS, Slot, index_of, reference_to};
+use crate::tracked::{
+    Tracked, find_column, push_each, reserve_each, set_each, track_column, untrack_column,
+};
 use mm_value::{Row, RowRef};
 use std::alloc::{AllocError, Global};
 use std::marker::Model;
@@ -22,6 +27,9 @@ use std::mem;
 /// The links stand in the freed slots themselves, so that `release` needs no room for one: a stack
 /// of indices beside the slots would have to grow with them, for the case that all are freed. Room
 /// that no row has had yet is capacity behind the last slot, and nothing is written there.
+///
+/// A column can be tracked: then the prefixes of its values are kept too, in a vector with an entry for
+/// each slot, by which most rows are put in order without a look at them. The rows are the same with it.
 #[derive(Drop)]
 pub struct Partitions {
     slots: Vec<Slot>,
@@ -29,23 +37,27 @@ pub struct Partitions {
     first_free: Option<usize>,
     /// How many freed slots there are.
     free_count: usize,
+    /// For how many more slots there is room, in `slots` and in each tracked column.
+    spare: usize,
+    tracked: Vec<Tracked>,
 }
 
 impl Model for Partitions {
-    ghost use Rattle.std.specs.Prelude.{◌+◌, ◌-◌, map, vec_len};
+    ghost use Rattle.std.specs.Prelude.{◌+◌, map};
     ghost use Rattle.std.specs.Vec.{vec_capacity};
     ghost use Rattle.mm_partition.specs.Places.{Places};
 
     ghost Value = { Places };
 
-    ghost use Rattle.mm_partition.specs.Links.{content_of, LinksFree};
+    ghost use Rattle.mm_partition.specs.Links.{content_of};
+    ghost use Rattle.mm_partition.specs.Tracked.{IsStored};
 
     ghost view = { λ p. record {
       slots = map content_of p.slots.items;
-      room = p.free_count + (vec_capacity p.slots - vec_len p.slots);
+      room = p.free_count + p.spare;
     } };
 
-    ghost invariant = { λ p. LinksFree p.slots.items p.first_free p.free_count };
+    ghost invariant = { λ p. IsStored p.slots.items p.first_free p.free_count (vec_capacity p.slots) p.spare p.tracked.items };
 }
 
 impl Partitions {
@@ -59,6 +71,8 @@ impl Partitions {
             slots: Vec::new(alloc),
             first_free: None,
             free_count: 0,
+            spare: 0,
+            tracked: Vec::new(alloc),
         }
     }
 
@@ -80,6 +94,35 @@ impl Partitions {
         }
     }
 
+    /// Keeps the prefixes of a column from now on, in a pass over the rows where they are not kept yet.
+    /// `AllocError` where memory is refused; then they are kept as before.
+    pub fn track(&mut self, alloc: Global, column: usize) -> Result<(), AllocError>
+        ensures { self.new ≡ self.old }
+    {
+        if self.prefixes(column).is_some() {
+            return Ok(());
+        }
+        self.tracked.reserve(1)?;
+        let tracked = track_column(alloc, self.slots.as_slice(), self.spare, column)?;
+        self.tracked.push_reserved(tracked);
+        Ok(())
+    }
+
+    /// Drops the prefixes of a column, if they are kept.
+    pub fn untrack(&mut self, column: usize)
+        ensures { self.new ≡ self.old }
+    {
+        untrack_column(&mut self.tracked, column);
+    }
+
+    /// The prefixes of a column, by the index of the slot, if they are kept: the `order_prefix` of what the
+    /// row has there, and 0 where it is too short.
+    pub fn prefixes(&self, column: usize) -> Option<&[u64]>
+        ensures { ForSome result (λ prefixes. ArePrefixes column self.now prefixes.now) }
+    {
+        find_column(self.tracked.as_slice(), column)
+    }
+
     /// Makes room for at least `n` rows more, in whole partitions. Every row stays as it is, and so
     /// does the room that was there; `AllocError` where memory is refused. The extent stays.
     pub fn reserve(&mut self, _alloc: Global, n: usize) -> Result<(), AllocError>
@@ -88,14 +131,17 @@ impl Partitions {
         ensures room { self.old.room ≤ self.new.room }
         ensures extent { extent_of self.new ≡ extent_of self.old }
     {
-        let spare = self.slots.capacity() - self.slots.len();
-        let room = self.free_count + spare;
+        let room = self.free_count + self.spare;
         if n <= room {
             return Ok(());
         }
         let partitions = (n - room).div_ceil(SLOTS);
         let more = partitions.checked_mul(SLOTS).ok_or(AllocError)?;
-        self.slots.reserve(spare.saturating_add(more))
+        let spare = self.spare.checked_add(more).ok_or(AllocError)?;
+        self.slots.reserve(spare)?;
+        reserve_each(&mut self.tracked, spare)?;
+        self.spare = spare;
+        Ok(())
     }
 
     /// Puts a row into a free slot and gives its reference, whose slot is below 64. The index of that
@@ -111,9 +157,12 @@ impl Partitions {
     {
         let Some(index) = self.first_free else {
             let index = self.slots.len();
+            push_each(&mut self.tracked, &row);
             self.slots.push_reserved(Slot::Live(row));
+            self.spare -= 1;
             return reference_to(index);
         };
+        set_each(&mut self.tracked, index, &row);
         let Slot::Free(next) = mem::replace(&mut self.slots[index], Slot::Live(row)) else {
             unreachable!()
         };
@@ -130,6 +179,7 @@ impl Partitions {
         ensures room { self.new.room ≡ self.old.room }
         ensures extent { extent_of self.new ≡ extent_of self.old }
     {
+        set_each(&mut self.tracked, index_of(at), &row);
         match mem::replace(&mut self.slots[index_of(at)], Slot::Live(row)) {
             Slot::Live(old) => old,
             _ => unreachable!(),

@@ -17,7 +17,7 @@ pub enum Slot {
     Hidden(Row),
 }
 
-/// Where the slot of a reference lies among all slots.
+/// Where the slot of a reference lies among all slots: its index in a vector with an entry for each slot.
 pub fn index_of(at: RowRef) -> usize
     requires { 64 * at.part + at.slot < 2 ^ 64 }
     ensures { result ≡ 64 * at.part + at.slot }

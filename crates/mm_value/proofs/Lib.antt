@@ -3,6 +3,7 @@ pub mod Limits
 pub mod Numerals
 pub mod Orders
 pub mod Outcomes
+pub mod Prefixes
 pub mod Quotes
 pub mod RowTexts
 pub mod Spelling

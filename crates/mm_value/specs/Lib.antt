@@ -2,6 +2,7 @@ pub mod Device
 pub mod Hash
 pub mod Literal
 pub mod Order
+pub mod Prefix
 pub mod Reading
 pub mod Refusals
 pub mod Storable

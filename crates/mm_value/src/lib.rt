@@ -4,6 +4,7 @@
 mod col_type;
 mod device;
 mod literals;
+mod prefix;
 mod printed;
 mod refusal;
 mod row_ref;
@@ -16,6 +17,7 @@ mod values;
 pub use col_type::ColType;
 pub use device::{MAX_RETRIES, Watched, WriteFault, put_all};
 pub use literals::{literals_are_exact, read_int, read_literal};
+pub use prefix::{order_prefix, prefixes_keep_order};
 pub use printed::write_row;
 pub use refusal::Refusal;
 pub use row_ref::RowRef;

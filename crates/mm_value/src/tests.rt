@@ -1,7 +1,8 @@
 //! What no clause says: outside vectors, printed text, and that ample memory is never refused.
 use crate::{
     ColType, MAX_TEXT_BYTES, Refusal, Row, Text, Value, Watched, compare, hash64,
-    literals_are_exact, orders_are_total, put_all, read_literal, write_row,
+    literals_are_exact, order_prefix, orders_are_total, prefixes_keep_order, put_all, read_literal,
+    write_row,
 };
 use std::alloc::Global;
 use std::cmp::Ordering;
@@ -36,6 +37,43 @@ fn hashes_are_fnv_1a(rt: HostRuntime) -> Result<(), Fail> {
     ] {
         assert_eq!(rt; hash64(&Value::Int(number)), want);
     }
+    Ok(())
+}
+
+#[test]
+fn prefixes_of_numbers_are_clipped(rt: HostRuntime) -> Result<(), Fail> {
+    for (number, want) in [
+        (i64::MIN, 0u64),
+        (-0x4000000000000001, 0),
+        (-0x4000000000000000, 0),
+        (-0x3fffffffffffffff, 1),
+        (-1, 0x3fffffffffffffff),
+        (0, 0x4000000000000000),
+        (0x3fffffffffffffff, 0x7fffffffffffffff),
+        (0x4000000000000000, 0x7fffffffffffffff),
+        (i64::MAX, 0x7fffffffffffffff),
+    ] {
+        assert_eq!(rt; order_prefix(&Value::Int(number)), want);
+    }
+    Ok(())
+}
+
+#[test]
+fn prefixes_of_texts_have_eight_bytes(rt: HostRuntime) -> Result<(), Fail> {
+    for (bytes, want) in [
+        (b"".as_slice(), 0x8000000000000000u64),
+        (b"\x00", 0x8000000000000000),
+        (b"\x01", 0x8080000000000000),
+        (b"abcdefgh", 0xb0b131b232b333b4),
+        // The last bit of the eighth byte is lost, and so is all behind it.
+        (b"abcdefgi", 0xb0b131b232b333b4),
+        (b"abcdefgj", 0xb0b131b232b333b5),
+        (b"abcdefghijkl", 0xb0b131b232b333b4),
+        (b"\xff\xff\xff\xff\xff\xff\xff\xff", 0xffffffffffffffff),
+    ] {
+        assert_eq!(rt; order_prefix(&text(rt.alloc(), bytes)?), want);
+    }
+    prefixes_keep_order();
     Ok(())
 }
 

@@ -1,17 +1,21 @@
-use Rattle.std.proofs.Common.{◌≡◌, List, refl, sym, ap, ◌∙◌}
+use Rattle.std.proofs.Common.{◌≡◌, List, refl, sym, ap, ◌∙◌, subst}
 use Rattle.std.specs.Prelude.{map}
 use Rattle.mm_partition.specs.declared.slots.Slot.{Slot}
 use Rattle.mm_partition.specs.Links.{content_of, is_taken}
 use Rattle.mm_partition.specs.Places.{Live, Hidden}
+use Rattle.mm_partition.specs.Tracked.{IsPrefixIn}
 use Rattle.mm_partition.proofs.LinkLemmas.{LinksFree-kept}
 use Rattle.mm_partition.proofs.PlaceLemmas.{Refers, IsHidden-refers, slot_at-is, ChangesOnly-set}
+use Rattle.mm_partition.proofs.StoredLemmas.{IsStored-kept}
 use Rattle.mm_partition.proofs.rows.Partitions.unhide.Goals as goal
 
 pub invariant_of-self : goal.invariant_of-self
 invariant_of-self c =
     let here : Refers c.self.inside.slots.items c.args.at c.index_of.result = IsHidden-refers c.args.self.now _ c.args.at _
     (ap (λ p. p.slots) c.self.view_is) c.index_of.ensures c.requires in
-    LinksFree-kept _ _ _ _ _ _ here.within c.index_mut-slot.ensures.value (ap is_taken (sym c.in-Hidden.ensures.value)) refl c.self.invariant
+    let free = LinksFree-kept _ _ _ _ _ _ here.within c.index_mut-slot.ensures.value (ap is_taken (sym c.in-Hidden.ensures.value)) refl c.self.invariant.free in
+    IsStored-kept _ _ _ _ _ _ _ _ _ _ _ here.within c.index_mut-slot.ensures.value
+    (λ column n same. subst (λ x. IsPrefixIn column (content_of x) n) (sym c.in-Hidden.ensures.value) same) free c.self.invariant
 
 pub returns-clause-back : goal.returns-clause-back
 returns-clause-back c row is =

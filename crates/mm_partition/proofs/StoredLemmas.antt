@@ -1,0 +1,83 @@
+-- What partitions keep, after a slot is appended or written.
+use Rattle.std.proofs.Common.{◌≡◌, ℕ, zero, suc, ◌+◌, ◌-◌, ◌<◌, ◌≤◌, cond, List, [], ◌∷◌, ◌++◌, Option, Some, None, length, map, get_or, set, refl, sym, ap, ◌∙◌, subst, arith, length-append, length-set}
+use Rattle.std.specs.Prelude.{All, slice_get}
+use Rattle.std.proofs.lemmas.Option.{get_or_from_slice_get}
+use Rattle.std.proofs.lemmas.List.{get_or-map, length-map, map-append, map-set}
+use Rattle.std.proofs.lemmas.List.Sums.{sum_by-append}
+use Rattle.mm_value.specs.declared.values.Value.{Value}
+use Rattle.mm_partition.specs.Links.{content_of, is_taken, Leads, LinksFree}
+use Rattle.mm_partition.specs.Places.{Free}
+use Rattle.mm_partition.specs.Places.{Live as Alive}
+use Rattle.mm_partition.specs.Tracked.{IsPrefixIn, Tracks, IsStored}
+use Rattle.mm_partition.specs.declared.slots.Slot.{Slot}
+use Rattle.mm_partition.specs.declared.slots.Slot.TheVariants.{Live}
+use Rattle.mm_partition.specs.declared.slots.Slot.TheVariants.{Free as Empty}
+use Rattle.mm_partition.specs.declared.tracked.Tracked.{Tracked}
+use Rattle.mm_partition.proofs.TrackLemmas.{Tracks-kept}
+
+-- A slot is written so that the prefixes still stand for it.
+pub IsStored-kept : (slots : List Slot) (first after : Option ℕ) (count more capacity spare at : ℕ) (was slot : Slot) (columns : List Tracked)
+    → at < length slots → was ≡ get_or slots at was
+    → ((column n : ℕ) → IsPrefixIn column (content_of was) n → IsPrefixIn column (content_of slot) n)
+    → LinksFree (set slots at slot) after more → IsStored slots first count capacity spare columns
+    → IsStored (set slots at slot) after more capacity spare columns
+IsStored-kept slots first after count more capacity spare at was slot columns within read still free old =
+    let held : get_or (map content_of slots) at Free ≡ content_of was = get_or-map content_of slots at was Free within ∙ ap content_of (sym read) in
+    record {
+      free = free;
+      room = omega (arith, length-set slots at slot, old.room);
+      tracked = λ k d h. subst (λ xs. Tracks xs spare (get_or columns k d)) (sym (map-set content_of slots at slot))
+          (Tracks-kept (map content_of slots) spare at (content_of slot) (get_or columns k d)
+          (λ n p. still (get_or columns k d).column n (subst (λ x. IsPrefixIn (get_or columns k d).column x n) held p))
+          (omega (arith, length-map slots content_of, within)) (old.tracked k d h));
+    }
+
+-- A row is written into a slot, and its prefixes into the columns.
+pub IsStored-set : (slots : List Slot) (first after : Option ℕ) (count more capacity spare at : ℕ) (row : List Value) (columns changed : List Tracked)
+    → LinksFree (set slots at (Live row)) after more → All (Tracks (set (map content_of slots) at (Alive row)) spare) changed
+    → IsStored slots first count capacity spare columns → IsStored (set slots at (Live row)) after more capacity spare changed
+IsStored-set slots first after count more capacity spare at row columns changed free tracked old = record {
+  free = free;
+  room = omega (arith, length-set slots at (Live row), old.room);
+  tracked = subst (λ xs. All (Tracks xs spare) changed) (sym (map-set content_of slots at (Live row))) tracked;
+}
+
+-- A row is appended, where there is no free slot.
+LinksFree-pushed : (slots : List Slot) (count : ℕ) (row : List Value) → LinksFree slots None count → LinksFree (slots ++ Live row ∷ []) None count
+LinksFree-pushed slots zero row free = record {
+  links = refl;
+  counted = omega (
+    arith,
+    free.counted,
+    length-append slots (Live row ∷ []),
+    sum_by-append (λ slot. cond (is_taken slot) 1 0) slots (Live row ∷ []),
+  );
+}
+LinksFree-pushed slots (suc count) row free =
+    let (at, next, is, there, rest) = free.links in
+    let none : Some at ≡ None = sym is in cc
+
+pub IsStored-pushed : (slots : List Slot) (count capacity spare : ℕ) (row : List Value) (columns pushed : List Tracked)
+    → All (Tracks (map content_of slots ++ Alive row ∷ []) (spare - 1)) pushed → 1 ≤ spare
+    → IsStored slots None count capacity spare columns → IsStored (slots ++ Live row ∷ []) None count capacity (spare - 1) pushed
+IsStored-pushed slots count capacity spare row columns pushed tracked some old = record {
+  free = LinksFree-pushed slots count row old.free;
+  room = omega (arith, old.room, length-append slots (Live row ∷ []));
+  tracked = subst (λ xs. All (Tracks xs (spare - 1)) pushed) (sym (map-append content_of slots (Live row ∷ []))) tracked;
+}
+
+-- No slot is free where there is no first one.
+pub none_free : (slots : List Slot) (count : ℕ) → LinksFree slots None count → count ≡ 0
+none_free slots zero free = refl
+none_free slots (suc count) free =
+    let (at, next, is, there, rest) = free.links in
+    let none : Some at ≡ None = sym is in cc
+
+-- The first of the free slots is free.
+pub first_is_free : (slots : List Slot) (count i : ℕ) (slot : Slot) → LinksFree slots (Some i) count → slot ≡ get_or slots i slot
+    → (next : Option ℕ) × (slot ≡ Empty next)
+first_is_free slots zero i slot free read = let none : Some i ≡ None = free.links in cc
+first_is_free slots (suc count) i slot free read =
+    let (at, next, is, there, rest) = free.links in
+    let same : at ≡ i = cc in
+    (next, read ∙ get_or_from_slice_get slots i (Empty next) slot (ap (slice_get slots) (sym same) ∙ there))
