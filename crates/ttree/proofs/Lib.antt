@@ -1,6 +1,7 @@
 mod Halving
 pub mod Parts
 pub mod Leaves
+pub mod Lowest
 pub mod Taken
 pub mod Sizes
 pub mod Between

@@ -1,6 +1,7 @@
 pub mod Balanced
 pub mod Decides
 pub mod Held
+pub mod Lowest
 pub mod Path
 pub mod Searchable
 pub mod Whole

@@ -2,6 +2,7 @@
 #![tactic(auto)]
 
 mod balance;
+mod builds;
 mod inserts;
 mod iters;
 mod lookup;

@@ -1,6 +1,6 @@
 //! What no clause says: that ample memory is never refused, and where entries stand in the nodes.
 //! And each call once at concrete types.
-ghost use Rattle.std.specs.Prelude.{◌≡◌, ◌≤◌, OnOk};
+ghost use Rattle.std.specs.Prelude.{◌≡◌, ◌≤◌, length, IfOk, OnOk};
 ghost use Rattle.std.specs.Ordering.{nat_cmp, ordering_then};
 ghost use Rattle.std.specs.Cmp.{then_total, on_total, nat_cmp_total};
 ghost use Rattle.std.specs.declared.cmp.Ordering.TheVariants.{Equal};
@@ -320,5 +320,55 @@ fn holds_what_the_sorted_list_holds(rt: HostRuntime) -> Result<(), Fail> {
         }
     }
     assert_same(&rt, alloc, &tree, &sorted)?;
+    Ok(())
+}
+
+/// Asserts that a tree over the first so many references holds them all in order, and has this height.
+fn assert_built(
+    rt: &impl Abort,
+    alloc: Global,
+    count: usize,
+    height: usize,
+) -> Result<TTree, AllocError>
+    requires { count ≤ 1048576 }
+    ensures { IfOk result (λ tree. length tree.refs ≤ 1048576) }
+{
+    let mut refs = Vec::new(alloc);
+    for part in 0..count {
+        refs.push(entry(part))?;
+    }
+    let tree = TTree::from_sorted(alloc, refs.as_slice())?;
+    assert_eq!(rt; tree.len(), count);
+    assert_eq!(rt; tree.height(), height);
+    assert_eq!(rt; tree.spare(), 0);
+    assert_eq!(rt; tree.iter().count(), count);
+    for (held, want) in tree.iter().zip(refs.iter()) {
+        assert_eq!(rt; held, *want);
+    }
+    Ok(tree)
+}
+
+#[test]
+fn a_list_in_order_fills_the_nodes(rt: HostRuntime) -> Result<(), Fail> {
+    let alloc = rt.alloc();
+    assert_built(&rt, alloc, 0, 0)?;
+    assert_built(&rt, alloc, 1, 1)?;
+    assert_built(&rt, alloc, 16, 1)?;
+    assert_built(&rt, alloc, 17, 2)?;
+    assert_built(&rt, alloc, 48, 2)?;
+    assert_built(&rt, alloc, 112, 3)?;
+    assert_built(&rt, alloc, 113, 4)?;
+    assert_built(&rt, alloc, 1_048_576, 17)?;
+    let tree = assert_built(&rt, alloc, 40, 2)?;
+    let root = tree.root().expect(&rt, "the tree has a root");
+    let left = root.left().expect(&rt, "the root has a left leaf");
+    let right = root.right().expect(&rt, "the root has a right leaf");
+    assert_eq!(rt; left.entries().len(), 16);
+    assert_eq!(rt; root.entries().len(), 16);
+    assert_parts(
+        &rt,
+        right.entries(),
+        [32, 33, 34, 35, 36, 37, 38, 39].as_slice(),
+    );
     Ok(())
 }

@@ -1,9 +1,12 @@
 //! The T-tree.
-ghost use Rattle.std.specs.Prelude.{◌≡◌, ◌≢◌, ◌+◌, ◌*◌, ◌≤◌, min, [], length, All, Contains, IfSome, IfNone};
+ghost use Rattle.std.specs.Prelude.{◌≡◌, ◌≢◌, ◌+◌, ◌*◌, ◌≤◌, min, [], length, All, Contains, IfSome, IfNone, IfOk};
+ghost use Rattle.std.specs.Int.{div_ceil};
 ghost use Rattle.std.specs.declared.cmp.Ordering.TheVariants.{Equal};
 ghost use Rattle.mm_order.specs.Order.{IsOrdered};
 ghost use Rattle.mm_order.specs.Probe.{IsMonotone};
+ghost use Rattle.ttree.specs.Lowest.{IsLowest};
 
+use crate::builds::{FULL, build};
 use crate::inserts::insert_into;
 use crate::iters::Iter;
 use crate::lookup::find_in;
@@ -49,6 +52,27 @@ impl TTree {
             spares: Spares::new(alloc),
             len: 0,
         }
+    }
+
+    /// The references of a list that is in order, which it keeps to. It asks for no comparison, and its nodes are full but
+    /// for the last. `AllocError` where memory is refused.
+    #[tactic(auto, using(crate::proofs::Sizes::height_at_most_nodes))]
+    pub fn from_sorted(alloc: Global, refs: &[RowRef]) -> Result<TTree, AllocError>
+        ensures refs { IfOk result (λ tree. tree.refs ≡ refs.now) }
+        ensures lowest { IfOk result (λ tree. IsLowest (div_ceil (length refs.now) 16) tree.height) }
+    {
+        let nodes = refs.len().div_ceil(FULL);
+        if nodes > MAX_NODES {
+            return Err(AllocError);
+        }
+        let mut spares = Spares::new(alloc);
+        spares.reserve(alloc, nodes)?;
+        let root = build(refs, nodes, &mut spares);
+        Ok(TTree {
+            root,
+            spares,
+            len: refs.len(),
+        })
     }
 
     /// The number of nodes on a longest path from the root.
