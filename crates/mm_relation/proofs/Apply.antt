@@ -4,10 +4,10 @@ use Rattle.std.specs.Prelude.{map, ◌↔◌, IsPermutation}
 use Rattle.std.specs.List.{All, AllPairs, Contains, remove}
 use Rattle.std.proofs.Math.ListN.{get_or-map}
 use Rattle.std.proofs.lemmas.List.{map-append, length-map}
-use Rattle.std.proofs.lemmas.List.Elements.{All-contains, All-head, All-tail, All-weaker, Contains-get_or, Contains-append_left}
+use Rattle.std.proofs.lemmas.List.Elements.{All-append, All-contains, All-head, All-tail, All-weaker, Contains-get_or, Contains-append_left}
 use Rattle.std.proofs.lemmas.List.Elements.{Contains-append_right, Contains-append_cases}
 use Rattle.std.proofs.lemmas.List.Sorted.{IsPermutation-refl, IsPermutation-cons, IsPermutation-trans, IsPermutation-sym, IsPermutation-remove}
-use Rattle.std.proofs.lemmas.List.Sorted.{IsPermutation-map, IsPermutation-append_right, Contains-permutation}
+use Rattle.std.proofs.lemmas.List.Sorted.{IsPermutation-map, IsPermutation-append_right, Contains-permutation, All-permutation}
 use Rattle.std.specs.declared.cmp.Ordering.TheVariants.{Less, Equal}
 use Rattle.mm_value.specs.declared.row_ref.RowRef.{RowRef}
 use Rattle.mm_value.specs.declared.values.Value.{Value}
@@ -16,19 +16,22 @@ use Rattle.mm_partition.specs.Places.{Live}
 use Rattle.mm_order.proofs.Pairs.{AllPairs-append_right, AllPairs-append_across}
 use Rattle.mm_relation.specs.Orders.{refs_by_total}
 use Rattle.mm_relation.specs.Refs.{Slots, HasRow, row_in, row_at, refs_by, IsWide}
-use Rattle.mm_relation.specs.Edits.{Among, new_rows}
+use Rattle.mm_relation.specs.Edits.{Among, edit_name, edit_other, entry_name, entry_other, new_rows}
 use Rattle.mm_relation.specs.Changes.{Changes, Standing}
-use Rattle.mm_relation.specs.Index.{InOrder, KeysApart, Keeps, Taken, Put, EachTurns, column_of, spare_of}
+use Rattle.mm_relation.specs.Index.{InOrder, KeysApart, Keeps, Taken, Put, EachTurns, column_of, spare_of, tie_column, unmoved}
 use Rattle.mm_relation.specs.Kept.{IsKept, Stay, rows_after, RowsApart}
 use Rattle.mm_relation.specs.declared.log.Entry.{Entry}
 use Rattle.mm_relation.specs.declared.edits.Edit.{Edit}
 use Rattle.mm_relation.specs.declared.index.Index.{Index}
+use Rattle.mm_relation.specs.declared.names.Side.TheVariants.{Old, New}
 use Rattle.mm_relation.proofs.RefTests.{only}
 use Rattle.mm_relation.proofs.Ordered.{less_than_itself}
 use Rattle.mm_relation.proofs.Steps.{AllPairs-permutation, refs_cancel}
 use Rattle.mm_relation.proofs.Changed.{olds, first_absent, row_stays, new_rows_stand, rows_from}
 use Rattle.mm_relation.proofs.Came.{news, came, length-new_rows, length_same, wide_from, live_from}
-use Rattle.mm_relation.proofs.Indexing.{Same, Keeps-permutation, Keeps-stays}
+use Rattle.mm_relation.proofs.Indexing.{Same, Keeps-permutation}
+use Rattle.mm_relation.proofs.Staying.{staying, All-staying}
+use Rattle.mm_relation.proofs.Unmoved.{ArePaired, ArePaired-changes, IsLevel, levels, levels_same, same_stay, InOrder-level, Keeps-level, unmoved_same}
 use Rattle.mm_relation.proofs.Turning.{All-turned}
 
 -- a new row has the table's width
@@ -104,6 +107,16 @@ module _ (width key : ℕ) (old : Slots) (refs : List RowRef) (indexes : List In
         let here : Contains left (get_or left k d) = Contains-get_or left k d within in
         row_stays edits noted old new (get_or left k d) changes (live_left (get_or left k d) here) (apart (get_or left k d) here)
 
+    wide_left : (column : ℕ) → column < width → All (IsWide column key new) left
+    wide_left column within k d below =
+        let at : RowRef = get_or left k d in
+        let live : HasRow old at = live_left at (Contains-get_or left k d below) in
+        let size : length live.0 ≡ width = was.wide at live.0 live.1 in
+        record { row = live.0; live = stays k d below ∙ live.1; column_in = omega arith; key_in = omega (arith, was.key_in) }
+
+    paired : ArePaired old new edits noted
+    paired = ArePaired-changes old new edits noted standing changes
+
     stand : map new (news noted) ≡ map Live (new_rows edits)
     stand = new_rows_stand edits noted old new standing changes
 
@@ -145,26 +158,64 @@ module _ (width key : ℕ) (old : Slots) (refs : List RowRef) (indexes : List In
       pub wide_news : (column : ℕ) → column < width → All (IsWide column key new) (news noted)
       wide_news column within = wide_from width column key new (news noted) (new_rows edits) within was.key_in stand sizes
 
-      module _ (some : List Index) (taken : EachTurns (Taken key old (olds edits)) indexes some) where
+      -- the rows that keep their places beside those that stay: both have the values that they had
+      beside_level : (column tie : ℕ) → All (IsLevel column tie old new) (staying edit_name edit_other column tie old Old edits ++ left)
+      beside_level column tie =
+          All-append (IsLevel column tie old new) (staying edit_name edit_other column tie old Old edits) left
+          (levels column tie old new edits noted paired) (levels_same column tie old new left stays)
+
+      beside_wide : (column tie : ℕ) → column < width
+          → All (IsWide column key new) (staying edit_name edit_other column tie old Old edits ++ left)
+      beside_wide column tie within =
+          All-append (IsWide column key new) (staying edit_name edit_other column tie old Old edits) left
+          (subst (All (IsWide column key new)) (sym (same_stay column tie old new edits noted paired))
+          (All-staying entry_name entry_other column tie new New (IsWide column key new) noted (wide_news column within))) (wide_left column within)
+
+      module _ (held : List RowRef) (holds : IsPermutation held (staying edit_name edit_other key key old Old edits ++ left)) where
+        -- the key's order of what is held stands, and those that keep their places are named by the entries too
+        pub order_stands : InOrder key key old held → InOrder key key new held
+        order_stands ordered =
+            let back : IsPermutation (staying edit_name edit_other key key old Old edits ++ left) held =
+            IsPermutation-sym held (staying edit_name edit_other key key old Old edits ++ left) holds in
+            InOrder-level key key old new held
+            (All-permutation (IsLevel key key old new) (staying edit_name edit_other key key old Old edits ++ left) held back (beside_level key key))
+            (All-permutation (IsWide key key new) (staying edit_name edit_other key key old Old edits ++ left) held back
+            (beside_wide key key was.key_in)) ordered
+
+        pub held_beside : IsPermutation held (staying entry_name entry_other key key new New noted ++ left)
+        held_beside = subst (λ xs. IsPermutation held (xs ++ left)) (same_stay key key old new edits noted paired) holds
+
+      module _ (some : List Index)
+          (taken : EachTurns (λ x. Taken key old (olds edits) (unmoved edit_name edit_other key old Old edits x) x) indexes some) where
         pub columns_some : All (λ x. column_of x < width) some
-        columns_some = All-turned (Taken key old (olds edits)) (λ x. column_of x < width) (λ x. column_of x < width) indexes some taken
+        columns_some = All-turned (λ x. Taken key old (olds edits) (unmoved edit_name edit_other key old Old edits x) x) (λ x. column_of x < width) (λ x. column_of x < width) indexes some taken
             (λ x y within t. omega (arith, within, t.column)) was.columns
 
-        pub keep_some : All (Keeps key new left) some
-        keep_some =
-            All-turned (Taken key old (olds edits)) (Keeps key old (olds edits ++ left)) (Keeps key new left) indexes some taken
-            (λ x y keeps t. Keeps-stays key old new left stays y (t.keeps left keeps))
+        keep_old : All (λ y. Keeps key old (unmoved edit_name edit_other key old Old edits y ++ left) y) some
+        keep_old =
+            All-turned (λ x. Taken key old (olds edits) (unmoved edit_name edit_other key old Old edits x) x) (Keeps key old (olds edits ++ left))
+            (λ y. Keeps key old (unmoved edit_name edit_other key old Old edits y ++ left) y) indexes some taken
+            (λ x y keeps t.
+            subst (λ xs. Keeps key old (xs ++ left) y) (sym (unmoved_same edit_name edit_other key old Old edits x y t.column t.kind))
+            (t.keeps left keeps))
             (All-weaker (Keeps key old refs) (Keeps key old (olds edits ++ left)) (Keeps-permutation key old refs (olds edits ++ left) stay) indexes was.keep)
+
+        pub keep_some : All (λ y. Keeps key new (unmoved entry_name entry_other key new New noted y ++ left) y) some
+        keep_some k d below =
+            let y : Index = get_or some k d in
+            subst (λ xs. Keeps key new (xs ++ left) y) (same_stay (column_of y) (tie_column key y) old new edits noted paired)
+            (Keeps-level key old new (unmoved edit_name edit_other key old Old edits y ++ left) y (beside_level (column_of y) (tie_column key y))
+            (beside_wide (column_of y) (tie_column key y) (columns_some k d below)) (keep_old k d below))
 
         pub wide_some : All (λ x. All (IsWide (column_of x) key new) (news noted)) some
         wide_some k d within = wide_news (column_of (get_or some k d)) (columns_some k d within)
 
         pub spare_some : All (λ x. length edits ≤ spare_of x) indexes → All (λ x. length (news noted) ≤ spare_of x) some
-        spare_some all = All-turned (Taken key old (olds edits)) (λ x. length edits ≤ spare_of x) (λ x. length (news noted) ≤ spare_of x) indexes some taken
+        spare_some all = All-turned (λ x. Taken key old (olds edits) (unmoved edit_name edit_other key old Old edits x) x) (λ x. length edits ≤ spare_of x) (λ x. length (news noted) ≤ spare_of x) indexes some taken
             (λ x y enough t. omega (arith, enough, t.spare, few)) all
 
         module _ (more : List RowRef) (moved : IsPermutation (news noted ++ left) more) (full : List Index)
-            (put : EachTurns (Put key new (news noted)) some full) where
+            (put : EachTurns (λ x. Put key new (news noted) (unmoved entry_name entry_other key new New noted x) x) some full) where
           held_after : (at : RowRef) → Contains more at ↔ HasRow new at
           held_after at = (
             λ here.
@@ -196,11 +247,12 @@ module _ (width key : ℕ) (old : Slots) (refs : List RowRef) (indexes : List In
           pub after : InOrder key key new more → IsKept width key new more full
           after ordered = record {
             key_in = was.key_in;
-            columns = All-turned (Put key new (news noted)) (λ x. column_of x < width) (λ x. column_of x < width) some full put
+            columns = All-turned (λ x. Put key new (news noted) (unmoved entry_name entry_other key new New noted x) x) (λ x. column_of x < width) (λ x. column_of x < width) some full put
                 (λ x y within t. omega (arith, within, t.column)) columns_some;
             wide = wide_after ordered;
             held = held_after;
             by_key = ordered;
-            keep = All-turned (Put key new (news noted)) (Keeps key new left) (Keeps key new more) some full put
+            keep = All-turned (λ x. Put key new (news noted) (unmoved entry_name entry_other key new New noted x) x)
+                (λ y. Keeps key new (unmoved entry_name entry_other key new New noted y ++ left) y) (Keeps key new more) some full put
                 (λ x y keeps t. Keeps-permutation key new (news noted ++ left) more moved y (t.keeps left keeps)) keep_some;
           }

@@ -108,7 +108,7 @@ before_changes (e ∷ es) (n ∷ ns) old new changes = ap (step_back n) (before_
 pub single : (at x : RowRef) → x ≡ at → Contains (at ∷ []) x
 single at x same = subst (Contains (at ∷ [])) (sym same) (Contains-push [] at)
 
-step_others : (old mid : Slots) (e : Edit) (n : Entry) (x : RowRef) → Step e old n mid → HasRow old x → (Contains (olds (e ∷ [])) x → ⊥) → mid x ≡ old x
+pub step_others : (old mid : Slots) (e : Edit) (n : Entry) (x : RowRef) → Step e old n mid → HasRow old x → (Contains (olds (e ∷ [])) x → ⊥) → mid x ≡ old x
 step_others old mid (Add row) (Added r) x step live absent = step.turns.others x
     (λ same. let both : Live live.0 ≡ Free = sym live.1 ∙ (ap old same ∙ step.was) in cc)
 step_others old mid (Add row) (Changed r was) x step live absent = absurd step

@@ -3,7 +3,7 @@ use Rattle.std.proofs.Common.{◌≡◌, ℕ, zero, suc, ◌+◌, ◌<◌, List,
 use Rattle.std.specs.Prelude.{filter_map}
 use Rattle.std.specs.List.{All, cons_option}
 use Rattle.std.proofs.lemmas.List.{take_more}
-use Rattle.std.proofs.lemmas.List.Elements.{All-head, All-tail, filter_map-append}
+use Rattle.std.proofs.lemmas.List.Elements.{All-cons, All-head, All-nil, All-tail, filter_map-append}
 
 module _ {X Y : Type 0} (h : X → Option Y) where
   -- after one item more
@@ -40,3 +40,12 @@ module _ {X Y : Type 0} (h : X → Option Y) where
       rest : (o : Option Y) → All P (cons_option o (filter_map h xs)) → All P (filter_map h xs)
       rest None all = all
       rest (Some z) all = All-tail P z (filter_map h xs) all
+
+  -- .. and of the list of what one item gives
+  pub All-one_gathered : (P : Y → Type 0) (items : List X) (i : ℕ) (x : X) → i < length items → x ≡ get_or items i x → All P (filter_map h items)
+      → All P (filter_map h (x ∷ []))
+  All-one_gathered P items i x within is all = of_one (h x) refl
+    where
+      of_one : (o : Option Y) → h x ≡ o → All P (cons_option o [])
+      of_one None gives = All-nil P
+      of_one (Some y) gives = All-cons P y [] (All-gathered P items i x y within (ap h (sym is) ∙ gives) all) (All-nil P)

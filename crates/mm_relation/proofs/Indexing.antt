@@ -2,9 +2,8 @@
 use Rattle.std.proofs.Common.{◌≡◌, ℕ, ◌+◌, ◌≤◌, List, [], ◌∷◌, ◌++◌, length, get_or, sym, ap, ◌∙◌, subst, refl}
 use Rattle.std.specs.Prelude.{IsPermutation, map, slice_get}
 use Rattle.std.specs.List.{All}
-use Rattle.std.proofs.lemmas.List.{map-append}
 use Rattle.std.proofs.lemmas.List.Elements.{Contains-get_or, All-contains, All-head, All-tail}
-use Rattle.std.proofs.lemmas.List.Sorted.{IsPermutation-trans, IsPermutation-sym, IsPermutation-append_right, IsPermutation-map, Contains-permutation}
+use Rattle.std.proofs.lemmas.List.Sorted.{IsPermutation-trans, IsPermutation-map, Contains-permutation}
 use Rattle.mm_value.specs.declared.row_ref.RowRef.{RowRef}
 use Rattle.ttree.specs.Held.{Held}
 use Rattle.mlhash.specs.Bag.{Bag}
@@ -53,31 +52,19 @@ Keeps-stays key old new held same (Tree column refs) keeps =
     (InOrder-stays column key old new refs.refs own keeps.0, keeps.1)
 Keeps-stays key old new held same (Hash column pairs) keeps = subst (IsPermutation pairs.entries) (sym (pairs_stay column old new held same)) keeps
 
-pub tree_put : (key column : ℕ) (now : Slots) (names : List RowRef) (old new : Held) → IsPermutation (names ++ old.refs) new.refs
-    → InOrder column key now new.refs → old.spare ≤ new.spare + length names → Put key now names (Tree column old) (Tree column new)
-tree_put key column now names old new moved ordered spare = record {
-  keeps = λ held was. (
-    ordered,
-    IsPermutation-trans new.refs (names ++ old.refs) (names ++ held) (IsPermutation-sym (names ++ old.refs) new.refs moved)
-        (IsPermutation-append_right names old.refs held was.1),
-  );
+-- a tree that took the references in is an index that did, and so are pairs
+pub tree_put : (key column : ℕ) (now : Slots) (names stay : List RowRef) (old new : Held)
+    → ((held : List RowRef) → IsPermutation old.refs (stay ++ held) → IsPermutation new.refs (names ++ held))
+    → InOrder column key now new.refs → old.spare ≤ new.spare + length names → Put key now names stay (Tree column old) (Tree column new)
+tree_put key column now names stay old new moved ordered spare = record {
+  keeps = λ held was. (ordered, moved held was.1);
   column = refl;
   kind = refl;
   spare = spare;
 }
 
-pub hash_put : (key column : ℕ) (now : Slots) (names : List RowRef) (old new : Bag)
-    → IsPermutation (map (hashed_pair column now) names ++ old.entries) new.entries → old.spare ≤ new.spare + length names
-    → Put key now names (Hash column old) (Hash column new)
-hash_put key column now names old new moved spare = record {
-  keeps = λ held was.
-      let pair = hashed_pair column now in
-      let inside : IsPermutation (map pair names ++ old.entries) (map pair names ++ map pair held) = IsPermutation-append_right (map pair names) old.entries
-      (map pair held) was in
-      subst (IsPermutation new.entries) (sym (map-append pair names held))
-      (IsPermutation-trans new.entries (map pair names ++ old.entries) (map pair names ++ map pair held)
-      (IsPermutation-sym (map pair names ++ old.entries) new.entries moved) inside);
-  column = refl;
-  kind = refl;
-  spare = spare;
-}
+pub hash_put : (key column : ℕ) (now : Slots) (names stay : List RowRef) (old new : Bag)
+    → ((held : List RowRef) → IsPermutation old.entries (map (hashed_pair column now) (stay ++ held))
+    → IsPermutation new.entries (map (hashed_pair column now) (names ++ held)))
+    → old.spare ≤ new.spare + length names → Put key now names stay (Hash column old) (Hash column new)
+hash_put key column now names stay old new moved spare = record { keeps = moved; column = refl; kind = refl; spare = spare }

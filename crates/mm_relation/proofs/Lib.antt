@@ -4,6 +4,7 @@ pub mod Came
 pub mod Changed
 pub mod Checks
 pub mod Gathered
+pub mod InColumn
 pub mod Indexing
 pub mod KeyLookups
 pub mod Made
@@ -15,9 +16,13 @@ pub mod Rooms
 pub mod RowLists
 pub mod Samples
 pub mod Seeks
+mod Served
+pub mod SortedRows
+pub mod Staying
 pub mod Steps
 pub mod Turning
 pub mod Twins
 pub mod TwinsAfter
+pub mod Unmoved
 pub mod WalkRows
 pub mod WaysBack

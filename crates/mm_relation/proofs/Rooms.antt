@@ -115,8 +115,9 @@ module _ (old mid : StoredRows) (same : SameButRoom old mid) where
       old.indexes mid.indexes now same.indexes turned
 
 -- an index taken from and put into is the same index
-pub indexes_changed : (key : ℕ) (old new : Slots) (outs ins : List RowRef) (start some full : List Index)
-    → EachTurns (Taken key old outs) start some → EachTurns (Put key new ins) some full → EachTurns SameIndex start full
-indexes_changed key old new outs ins start some full taken put =
-    EachTurns-twice (Taken key old outs) (Put key new ins) SameIndex
+pub indexes_changed : (key : ℕ) (old new : Slots) (outs ins : List RowRef) (stay stayed : Index → List RowRef) (start some full : List Index)
+    → EachTurns (λ x. Taken key old outs (stay x) x) start some → EachTurns (λ x. Put key new ins (stayed x) x) some full
+    → EachTurns SameIndex start full
+indexes_changed key old new outs ins stay stayed start some full taken put =
+    EachTurns-twice (λ x. Taken key old outs (stay x) x) (λ x. Put key new ins (stayed x) x) SameIndex
     (λ x y z t p. (p.column ∙ t.column, p.kind ∙ t.kind)) start some full taken put

@@ -1,5 +1,5 @@
 -- Edits that the tests make.
-use Rattle.std.proofs.Common.{◌≡◌, zero, suc, List, [], ◌∷◌, ◌++◌, length, Some, sym, ap, ◌∙◌, subst, arith}
+use Rattle.std.proofs.Common.{◌≡◌, ℕ, zero, suc, List, [], ◌∷◌, ◌++◌, length, Some, sym, ap, ◌∙◌, subst, arith}
 use Rattle.std.specs.Prelude.{◌≢◌}
 use Rattle.std.specs.List.{All, AllPairs, Contains}
 use Rattle.std.proofs.lemmas.List.Elements.{All-cons, All-append, All-push, filter_map-append}
@@ -13,21 +13,21 @@ use Rattle.mm_relation.specs.Edits.{edit_name, Among, new_row, new_rows}
 use Rattle.mm_relation.proofs.Apply.{split_off}
 use Rattle.mm_relation.proofs.Changed.{olds}
 
--- rows of two values
-abbrev pub Pairs : List (List Value) → Type 0
-Pairs rows = All (λ row. length row ≡ 2) rows
+-- rows of so many values
+abbrev pub AreWide : ℕ → List (List Value) → Type 0
+AreWide n rows = All (λ row. length row ≡ n) rows
 
 -- one row more
 pub none_named : (edits : List Edit) (row : List Value) → olds edits ≡ [] → olds (edits ++ Add row ∷ []) ≡ []
 none_named edits row none = filter_map-append (λ e. edit_name e Old) edits (Add row ∷ []) ∙ ap (λ (xs : List RowRef). xs ++ []) none
 
-pub pairs_more : (edits more : List Edit) → Pairs (new_rows edits) → Pairs (new_rows more) → Pairs (new_rows (edits ++ more))
-pairs_more edits more first second =
-    subst Pairs (sym (filter_map-append new_row edits more)) (All-append (λ row. length row ≡ 2) (new_rows edits) (new_rows more) first second)
+pub wide_more : (n : ℕ) (edits more : List Edit) → AreWide n (new_rows edits) → AreWide n (new_rows more) → AreWide n (new_rows (edits ++ more))
+wide_more n edits more first second =
+    subst (AreWide n) (sym (filter_map-append new_row edits more)) (All-append (λ row. length row ≡ n) (new_rows edits) (new_rows more) first second)
 
-pub pairs_added : (edits : List Edit) (row : List Value) → Pairs (new_rows edits) → length row ≡ 2 → Pairs (new_rows (edits ++ Add row ∷ []))
-pairs_added edits row first size =
-    subst Pairs (sym (filter_map-append new_row edits (Add row ∷ []))) (All-push (λ row. length row ≡ 2) (new_rows edits) row first size)
+pub wide_added : (n : ℕ) (edits : List Edit) (row : List Value) → AreWide n (new_rows edits) → length row ≡ n → AreWide n (new_rows (edits ++ Add row ∷ []))
+wide_added n edits row first size =
+    subst (AreWide n) (sym (filter_map-append new_row edits (Add row ∷ []))) (All-push (λ row. length row ≡ n) (new_rows edits) row first size)
 
 -- the rows of no edit
 pub none_among : (refs : List RowRef) (edits : List Edit) → olds edits ≡ [] → Among refs (olds edits)

@@ -34,6 +34,17 @@ module _ {X : Type 0} (R : X → X → Type 0) where
       let size : length now ≡ length start = t.size in
       step (get_or start k d) (get_or now k d) (all k d (omega arith)) (t.each k d (omega arith))
 
+-- a vector that is written back whole is what was written
+pub written_back : {X : Type 0} (ys zs : List X) (n : ℕ) → n ≡ length ys → take n (ys ++ zs) ≡ ys
+written_back ys zs n e = ap (λ (m : ℕ). take m (ys ++ zs)) e ∙ take-append_seam ys zs
+
+-- a loop that went over all elements, whose list is written back
+pub EachTurns-written_back : {X : Type 0} (R : X → X → Type 0) (i : ℕ) (start now rest : List X) (n : ℕ) → TurnedTo R i start now
+    → length now ≤ i → n ≡ length start → EachTurns R start (take n (now ++ rest))
+EachTurns-written_back R i start now rest n t past all =
+    let turned : EachTurns R start now = record { size = t.size; each = λ k d within. t.done k d (omega (arith, t.size)) within } in
+    subst (EachTurns R start) (sym (written_back now rest n (omega (arith, t.size)))) turned
+
 -- a loop that stops early: the element where it stopped has turned in the weaker way, the rest stays
 pub EachTurns-stopped : {X : Type 0} (R S : X → X → Type 0) → ((x y : X) → R x y → S x y) → ((x : X) → S x x) → (i : ℕ) (start now : List X) (d y : X)
     → i < length start → TurnedTo R i start now → S (get_or now i d) y → EachTurns S start (slice_set now i y)
@@ -53,10 +64,6 @@ SameEntries-refl (Hash column pairs) = (refl, refl)
 
 pub Grown-refl : (x : Index) → Grown x x
 Grown-refl x = record { same = SameEntries-refl x; spare = omega arith }
-
--- a vector that is written back whole is what was written
-pub written_back : {X : Type 0} (ys zs : List X) (n : ℕ) → n ≡ length ys → take n (ys ++ zs) ≡ ys
-written_back ys zs n e = ap (λ (m : ℕ). take m (ys ++ zs)) e ∙ take-append_seam ys zs
 
 -- a turn upon a turn
 pub EachTurns-twice : {X : Type 0} (R S T : X → X → Type 0) → ((x y z : X) → R x y → S y z → T x z)

@@ -1,12 +1,12 @@
 -- The rows along an index are the relation's rows, put in the index's order.
-use Rattle.std.proofs.Common.{◌≡◌, ◌≢◌, ℕ, suc, ◌<◌, false, List, [], ◌++◌, length, get_or, sym, ap, ◌∙◌, subst, arith, add-one}
+use Rattle.std.proofs.Common.{◌≡◌, ◌≢◌, ℕ, suc, ◌<◌, false, List, length, get_or, sym, ap, ◌∙◌, subst, arith, add-one}
 use Rattle.std.specs.Prelude.{map, slice_index_or, IsPermutation}
 use Rattle.std.specs.Cmp.{IsTotalOrder, then_total}
 use Rattle.std.specs.List.Sorted.{IsStrictlySortedBy}
 use Rattle.std.specs.Ordering.{is_lt, ordering_reverse}
 use Rattle.std.specs.declared.cmp.Ordering.TheVariants.{Equal}
 use Rattle.std.proofs.lemmas.List.{length-map}
-use Rattle.std.proofs.lemmas.List.Sorted.{Contains-permutation, IsPermutation-map, IsPermutation-sym, IsPermutation-trans}
+use Rattle.std.proofs.lemmas.List.Sorted.{Contains-permutation, IsPermutation-map, IsPermutation-refl, IsPermutation-sym, IsPermutation-trans}
 use Rattle.mm_value.specs.declared.row_ref.RowRef.{RowRef}
 use Rattle.mm_value.specs.declared.values.Value.{Value}
 use Rattle.mm_partition.specs.Places.{slot_at}
@@ -18,7 +18,6 @@ use Rattle.mm_schema.proofs.StrictOrder.{Contains-from_IsIn, IsIn, IsIn-from_Con
 use Rattle.mm_schema.proofs.Twins.{column_cmp_total}
 use Rattle.mm_schema.specs.declared.index.IndexKind.TheVariants as kind
 use Rattle.ttree.specs.Held.{Held}
-use Rattle.mm_relation.specs.Edits.{named, ref_name}
 use Rattle.mm_relation.specs.Index.{InOrder, Keeps, KeysApart, column_of}
 use Rattle.mm_relation.specs.Kept.{IsKept, RowsApart, StoredRows}
 use Rattle.mm_relation.specs.Reads.{HasIndex, IsWalk}
@@ -26,8 +25,6 @@ use Rattle.mm_relation.specs.Refs.{Slots, row_at}
 use Rattle.mm_relation.specs.RowLists.{rows_of}
 use Rattle.mm_relation.specs.declared.index.Index.{Index}
 use Rattle.mm_relation.specs.declared.index.Index.TheVariants.{Tree}
-use Rattle.mm_relation.specs.declared.names.Side.TheVariants.{New}
-use Rattle.mm_relation.proofs.Made.{named-refs-nil}
 use Rattle.mm_relation.proofs.RowLists.{KeysApart-ordered, at_place, not_tied}
 use Rattle.mm_relation.proofs.Steps.{AllPairs-permutation, then_second}
 
@@ -92,10 +89,3 @@ kept_walk stored kept column place x own tree has there is =
     let keeps : Keeps stored.key now stored.refs (Tree own tree) = subst (Keeps stored.key now stored.refs) (sym there ∙ is) (kept.keep place x has.0) in
     let same : own ≡ column = ap column_of (sym is ∙ there) ∙ (has.1 x).0 in
     record { ordered = subst (λ (n : ℕ). InOrder n stored.key now tree.refs) same keeps.0; same = keeps.1 }
-
--- references put into a tree that has none are those that it has
-pub put_alone : (names refs held : List RowRef) → names ≡ refs → held ≡ [] → named ref_name New names ++ held ≡ refs
-put_alone names refs held are empty = ap (λ (xs : List RowRef). named ref_name New names ++ xs) empty ∙ named-refs-nil New names ∙ are
-
-pub put_all : (names refs held put : List RowRef) → names ≡ refs → held ≡ [] → IsPermutation (named ref_name New names ++ held) put → IsPermutation refs put
-put_all names refs held put are empty moved = subst (λ (xs : List RowRef). IsPermutation xs put) (put_alone names refs held are empty) moved

@@ -28,6 +28,20 @@ entry_name (Removed at) New = None
 abbrev pub ref_name : RowRef → Side → Option RowRef
 ref_name at side = Some at
 
+-- the row on the other side of a change that an edit keeps before it, an entry after it, and a reference never
+abbrev pub edit_other : Edit → Option (List Value)
+edit_other (Add row) = None
+edit_other (Swap at row) = Some row
+edit_other (Gone at) = None
+
+abbrev pub entry_other : Entry → Option (List Value)
+entry_other (Added at) = None
+entry_other (Changed at was) = Some was
+entry_other (Removed at) = None
+
+abbrev pub ref_other : RowRef → Option (List Value)
+ref_other at = None
+
 -- the references that a list names
 abbrev pub named : {T : Type 0} → (T → Side → Option RowRef) → Side → List T → List RowRef
 named {T} name side items = filter_map (λ e. name e side) items

@@ -1,12 +1,15 @@
 -- One index, over what stands at each reference.
-use Rattle.std.specs.Prelude.{◌≡◌, ◌≢◌, ℕ, ◌+◌, ◌<◌, ◌≤◌, List, ◌++◌, length, map, AllPairs, IsPermutation, slice_index_or}
+use Rattle.std.specs.Prelude.{◌≡◌, ◌≢◌, ℕ, ◌+◌, ◌<◌, ◌≤◌, List, ◌++◌, Option, length, map, AllPairs, IsPermutation, slice_index_or}
 use Rattle.std.specs.declared.cmp.Ordering.TheVariants.{Equal}
 use Rattle.mm_value.specs.declared.row_ref.RowRef.{RowRef}
 use Rattle.mm_schema.specs.Rows.{column_cmp}
 use Rattle.mm_order.specs.Order.{IsOrdered}
 use Rattle.mm_value.specs.declared.values.Value.{Value}
 use Rattle.mm_partition.specs.Places.{Live}
+use Rattle.mm_relation.specs.Edits.{named}
 use Rattle.mm_relation.specs.HashedPairs.{hashed_pair}
+use Rattle.mm_relation.specs.Moves.{stayed}
+use Rattle.mm_relation.specs.declared.names.Side.{Side}
 use Rattle.mm_relation.specs.declared.index.Index.{Index}
 use Rattle.mm_relation.specs.declared.index.Index.TheVariants.{Tree, Hash}
 use Rattle.mm_schema.specs.declared.index.IndexKind.{IndexKind}
@@ -37,6 +40,15 @@ abbrev pub kind_of : Index → IndexKind
 kind_of (Tree column refs) = kind.Tree
 kind_of (Hash column pairs) = kind.Hash
 
+-- the column that orders rows of one value in an index's column: a HASH index has none but its own
+abbrev pub tie_column : ℕ → Index → ℕ
+tie_column key (Tree column refs) = key
+tie_column key (Hash column pairs) = column
+
+-- the references that items name, of the rows that keep their places in an index
+abbrev pub unmoved : {T : Type 0} → (T → Side → Option RowRef) → (T → Option (List Value)) → ℕ → Slots → Side → List T → Index → List RowRef
+unmoved {T} name other key now side items x = named (stayed name other (column_of x) (tie_column key x) now) side items
+
 -- how many more entries an index takes without growing
 abbrev pub spare_of : Index → ℕ
 spare_of (Tree column refs) = refs.spare
@@ -48,16 +60,16 @@ abbrev pub Keeps : ℕ → Slots → List RowRef → Index → Type 0
 Keeps key now held (Tree column refs) = InOrder column key now refs.refs × IsPermutation refs.refs held
 Keeps key now held (Hash column pairs) = IsPermutation pairs.entries (map (hashed_pair column now) held)
 
--- the entries of these references went out of an index, and nothing else
-pub record Taken (key : ℕ) (now : Slots) (names : List RowRef) (old new : Index) : Type 0 where
-  pub keeps : (kept : List RowRef) → Keeps key now (names ++ kept) old → Keeps key now kept new
+-- the entries of these references went out of an index, but for those that stay, and nothing else
+pub record Taken (key : ℕ) (now : Slots) (names stay : List RowRef) (old new : Index) : Type 0 where
+  pub keeps : (kept : List RowRef) → Keeps key now (names ++ kept) old → Keeps key now (stay ++ kept) new
   pub column : column_of new ≡ column_of old
   pub kind : kind_of new ≡ kind_of old
   pub spare : spare_of old ≤ spare_of new
 
--- the entries of these references came into an index, and nothing else
-pub record Put (key : ℕ) (now : Slots) (names : List RowRef) (old new : Index) : Type 0 where
-  pub keeps : (held : List RowRef) → Keeps key now held old → Keeps key now (names ++ held) new
+-- the entries of these references came into an index, but for those that stayed in it, and nothing else
+pub record Put (key : ℕ) (now : Slots) (names stay : List RowRef) (old new : Index) : Type 0 where
+  pub keeps : (held : List RowRef) → Keeps key now (stay ++ held) old → Keeps key now (names ++ held) new
   pub column : column_of new ≡ column_of old
   pub kind : kind_of new ≡ kind_of old
   pub spare : spare_of old ≤ spare_of new + length names

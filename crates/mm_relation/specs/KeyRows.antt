@@ -1,15 +1,16 @@
 -- Rows that lie elsewhere, and their order by the key.
 use denote.Ref.{Bor}
-use Rattle.std.specs.Prelude.{ℕ, Bool, true, false, List, map, count_by}
+use Rattle.std.specs.Prelude.{ℕ, Bool, true, false, cond, List, Option, Some, None, filter_map, map, count_by}
 use Rattle.std.specs.List.Sorted.{IsSortedByKey}
 use Rattle.mm_value.specs.declared.values.Value.{Value}
-use Rattle.mm_schema.specs.Rows.{column_cmp}
+use Rattle.mm_schema.specs.Rows.{column_cmp, same_in_column}
 use Rattle.mm_partition.specs.Places.{Places, slot_at}
 use Rattle.mm_relation.specs.declared.edits.Edit.{Edit}
 use Rattle.mm_relation.specs.declared.edits.Edit.TheVariants.{Add, Swap, Gone}
 use Rattle.mm_relation.specs.declared.names.Side.TheVariants.{Old}
-use Rattle.mm_relation.specs.Edits.{edit_name, named}
-use Rattle.mm_relation.specs.Refs.{row_at}
+use Rattle.mm_relation.specs.Edits.{edit_name, edit_other, named}
+use Rattle.mm_relation.specs.Moves.{moved}
+use Rattle.mm_relation.specs.Refs.{Slots, row_at}
 
 -- The rows that are referred to.
 abbrev pub rows_of : List (Bor (List Value)) → List (List Value)
@@ -19,9 +20,20 @@ rows_of rows = map (λ r. r.now) rows
 abbrev pub AreByKey : ℕ → List (Bor (List Value)) → Type 0
 AreByKey key rows = IsSortedByKey (λ r. r.now) (column_cmp key) rows
 
--- The rows that go or change, as they stand before the edits.
-abbrev pub old_rows : Places → List Edit → List (List Value)
-old_rows places edits = map (row_at (slot_at places)) (named edit_name Old edits)
+-- The new row of an edit, unless it has the key of the row that it replaces.
+abbrev pub row_with_new_key : ℕ → Slots → Edit → Option (List Value)
+row_with_new_key key now (Add row) = Some row
+row_with_new_key key now (Swap at row) = cond (same_in_column key row (row_at now at)) None (Some row)
+row_with_new_key key now (Gone at) = None
+
+-- The new rows of all edits but those that leave a row its key.
+abbrev pub rows_with_new_keys : ℕ → Slots → List Edit → List (List Value)
+rows_with_new_keys key now edits = filter_map (row_with_new_key key now) edits
+
+-- The rows that go or whose key changes, as they stand before the edits.
+abbrev pub rows_that_free_keys : ℕ → Places → List Edit → List (List Value)
+rows_that_free_keys key places edits =
+    map (row_at (slot_at places)) (named (moved edit_name edit_other key key (slot_at places)) Old edits)
 
 -- the edit takes a row out
 abbrev pub is_removal : Edit → Bool

@@ -7,8 +7,11 @@ pub mod Index
 pub mod Kept
 pub mod KeyRows
 pub mod LogEntries
+pub mod Moves
 pub mod Orders
 pub mod Reads
 pub mod Refs
 pub mod RowLists
 pub mod Sample
+pub mod Served
+pub mod Sorting

@@ -1,12 +1,16 @@
 //! The ends of a range along the order of an index.
-ghost use Rattle.std.specs.Option.{option_copied};
+ghost use Rattle.std.specs.Prelude.{◌≡◌};
+ghost use Rattle.std.specs.Option.{ForSome, option_copied};
+ghost use Rattle.mm_value.specs.Prefix.{order_prefix};
 ghost use Rattle.mm_relation.specs.Refs.{IsWide};
 ghost use Rattle.mm_relation.specs.Reads.{end_place};
 ghost use Rattle.mm_partition.specs.Places.{slot_at};
+ghost use Rattle.mm_partition.specs.Prefixes.{ArePrefixes};
 
+use crate::in_column::place_in;
 use mm_order::Probe;
 use mm_partition::Partitions;
-use mm_value::{RowRef, Value, compare};
+use mm_value::{RowRef, Value, order_prefix};
 use std::cmp::Ordering;
 
 /// An end of a range of values, or no end, which every row meets.
@@ -16,6 +20,20 @@ pub struct AtEnd<'a> {
     pub column: usize,
     pub key: usize,
     pub end: Option<&'a Value>,
+    pub prefix: u64,
+    pub prefixes: Option<&'a [u64]>,
+    ghost same: { ForSome end (λ value. prefix ≡ order_prefix value.now) },
+    ghost agrees: { ForSome prefixes (λ p. ArePrefixes column rows.now p.now) },
+}
+
+/// The prefix of an end, 0 where there is none.
+pub fn prefix_of_end(end: Option<&Value>) -> u64
+    ensures { ForSome end.entry (λ value. result ≡ order_prefix value.now) }
+{
+    match end {
+        Some(value) => order_prefix(value),
+        None => 0,
+    }
 }
 
 impl<'a> Probe for AtEnd<'a> {
@@ -25,12 +43,10 @@ impl<'a> Probe for AtEnd<'a> {
 
     fn place(&self, at: RowRef) -> Ordering {
         let rows = self.rows;
+        let prefixes = self.prefixes;
         match self.end {
             None => Ordering::Equal,
-            Some(end) => {
-                let row = rows.get(at);
-                compare(row.value(self.column), end)
-            }
+            Some(end) => place_in(rows, self.column, prefixes, at, end, self.prefix),
         }
     }
 }

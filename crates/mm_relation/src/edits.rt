@@ -1,6 +1,6 @@
 //! Edits of a table's rows.
 ghost use Rattle.std.specs.Prelude.{◌≡◌, ◌≤◌, length};
-ghost use Rattle.mm_relation.specs.Edits.{edit_name, added_count};
+ghost use Rattle.mm_relation.specs.Edits.{edit_name, edit_other, added_count};
 
 use crate::names::{Names, Side};
 use mm_value::{Row, RowRef};
@@ -19,6 +19,8 @@ pub enum Edit {
 impl Names for Edit {
     ghost name = { edit_name };
 
+    ghost other = { edit_other };
+
     fn name(&self, side: Side) -> Option<RowRef> {
         match self {
             Edit::Add(_) => None,
@@ -27,6 +29,13 @@ impl Names for Edit {
                 Side::Old => Some(*at),
                 Side::New => None,
             },
+        }
+    }
+
+    fn other_side(&self) -> Option<&Row> {
+        match self {
+            Edit::Swap(_, row) => Some(row),
+            Edit::Add(_) | Edit::Gone(_) => None,
         }
     }
 }

@@ -6,7 +6,9 @@ ghost use Rattle.mm_relation.specs.Refs.{row_at};
 ghost use Rattle.mm_relation.specs.HashedPairs.{hash_of, hashed_pair};
 ghost use Rattle.mm_relation.specs.Edits.{named};
 ghost use Rattle.mm_relation.specs.Index.{HasColumn};
+ghost use Rattle.mm_relation.specs.Moves.{stayed};
 
+use crate::moves::moved_name;
 use crate::names::{Names, Side};
 use mlhash::HashRefs;
 use mm_partition::Partitions;
@@ -43,7 +45,7 @@ fn put_pair(rows: &Partitions, column: usize, pairs: &mut HashRefs, at: RowRef)
     pairs.insert(hash, at);
 }
 
-/// Takes the pairs out of the references that the items name.
+/// Takes the pairs out of the references that the items name, but for those of rows that keep their value in the column.
 pub fn take_pairs<T: Names>(
     rows: &Partitions,
     column: usize,
@@ -54,17 +56,18 @@ pub fn take_pairs<T: Names>(
     requires wide { All (HasColumn column (slot_at rows.now)) (named T.name side items.now) }
     requires held { (kept : List RowRef) × IsPermutation pairs.old.entries (map (hashed_pair column (slot_at rows.now)) (named T.name side items.now ++ kept)) }
     ensures pairs { (kept : List RowRef) → IsPermutation pairs.old.entries (map (hashed_pair column (slot_at rows.now)) (named T.name side items.now ++ kept))
-        → IsPermutation pairs.new.entries (map (hashed_pair column (slot_at rows.now)) kept) }
+        → IsPermutation pairs.new.entries (map (hashed_pair column (slot_at rows.now))
+        (named (stayed T.name T.other column column (slot_at rows.now)) side items.now ++ kept)) }
     ensures spare { pairs.old.spare ≤ pairs.new.spare }
 {
     for item in items {
-        if let Some(at) = item.name(side) {
+        if let Some(at) = moved_name(rows, column, column, item, side) {
             take_pair(rows, column, pairs, at);
         }
     }
 }
 
-/// Puts the pairs in of the references that the items name.
+/// Puts the pairs in of the references that the items name, but for those of rows that keep their value in the column.
 pub fn put_pairs<T: Names>(
     rows: &Partitions,
     column: usize,
@@ -74,11 +77,13 @@ pub fn put_pairs<T: Names>(
 )
     requires wide { All (HasColumn column (slot_at rows.now)) (named T.name side items.now) }
     requires spare { length (named T.name side items.now) ≤ pairs.old.spare }
-    ensures pairs { IsPermutation (map (hashed_pair column (slot_at rows.now)) (named T.name side items.now) ++ pairs.old.entries) pairs.new.entries }
+    ensures pairs { (held : List RowRef) → IsPermutation pairs.old.entries (map (hashed_pair column (slot_at rows.now))
+        (named (stayed T.name T.other column column (slot_at rows.now)) side items.now ++ held))
+        → IsPermutation pairs.new.entries (map (hashed_pair column (slot_at rows.now)) (named T.name side items.now ++ held)) }
     ensures spare { pairs.old.spare ≤ pairs.new.spare + length (named T.name side items.now) }
 {
     for item in items {
-        if let Some(at) = item.name(side) {
+        if let Some(at) = moved_name(rows, column, column, item, side) {
             put_pair(rows, column, pairs, at);
         }
     }

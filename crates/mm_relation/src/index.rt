@@ -1,14 +1,15 @@
 //! The indexes of a table beside its key's.
-ghost use Rattle.std.specs.Prelude.{◌≡◌, ◌+◌, ◌≤◌, ◌++◌, List, length, All, IsPermutation, ℕ, [], IfOk, OnOk};
+ghost use Rattle.std.specs.Prelude.{◌≡◌, ◌+◌, ◌≤◌, ◌++◌, List, length, All, IsPermutation, IfOk, OnOk};
 ghost use Rattle.mm_value.specs.declared.row_ref.RowRef.{RowRef};
 ghost use Rattle.mm_partition.specs.Places.{slot_at};
-ghost use Rattle.mm_relation.specs.Refs.{Slots, IsWide};
+ghost use Rattle.mm_relation.specs.Refs.{IsWide};
 ghost use Rattle.mm_relation.specs.Edits.{named};
 ghost use Rattle.mm_relation.specs.Reads.{IsOn};
-ghost use Rattle.mm_relation.specs.Index.{KeysApart, Keeps, Taken, Put, EachTurns, Grown, GrownTo, column_of, spare_of};
+ghost use Rattle.mm_relation.specs.Index.{KeysApart, Keeps, Taken, Put, EachTurns, Grown, GrownTo, column_of, spare_of, unmoved};
 
 use crate::hash_entries::{put_pairs, take_pairs};
 use crate::names::{Names, Side};
+use crate::sorting::sorted_refs;
 use crate::tree_entries::{put_each, take_each};
 use mlhash::HashRefs;
 use mm_order::OrderedRefs;
@@ -28,7 +29,8 @@ pub enum Index {
 }
 
 impl Index {
-    /// An index on a column over these rows.
+    /// An index on a column over these rows. A tree is made of the references in order, with no search; into a hash table
+    /// they go one by one. `AllocError` where memory is refused.
     pub(crate) fn over(
         alloc: Global,
         rows: &Partitions,
@@ -42,27 +44,34 @@ impl Index {
         ensures keeps { IfOk result (Keeps key (slot_at rows.now) refs.now) }
         ensures on { IfOk result (IsOn column kind) }
     {
-        let mut index = Index::new(alloc, column, kind);
-        index.reserve(alloc, refs.len())?;
-        index.put_each(rows, key, refs, Side::New);
-        Ok(index)
+        match kind {
+            IndexKind::Tree => {
+                let sorted = sorted_refs(alloc, rows, column, key, refs)?;
+                let refs = TTree::from_sorted(alloc, sorted.as_slice())?;
+                Ok(Index::Tree { column, refs })
+            }
+            IndexKind::Hash => {
+                let pairs = HashRefs::new(alloc);
+                let mut index = Index::Hash { column, pairs };
+                index.reserve(alloc, refs.len())?;
+                index.put_each(rows, key, refs, Side::New);
+                Ok(index)
+            }
+        }
     }
 
-    /// An index on a column that has no entries. It takes no memory.
-    fn new(alloc: Global, column: usize, kind: IndexKind) -> Index
-        ensures empty { (key : ℕ) (now : Slots) → Keeps key now [] result }
-        ensures on { IsOn column kind result }
+    /// The column that it is on, counted from 0.
+    pub(crate) fn column(&self) -> usize
+        ensures { result ≡ column_of self.now }
     {
-        match kind {
-            IndexKind::Tree => Index::Tree {
-                column,
-                refs: TTree::new(alloc),
-            },
-            IndexKind::Hash => Index::Hash {
-                column,
-                pairs: HashRefs::new(alloc),
-            },
+        match self {
+            Index::Tree { column, .. } | Index::Hash { column, .. } => *column,
         }
+    }
+
+    /// It is a TREE index on this column.
+    pub(crate) fn is_tree_on(&self, column: usize) -> bool {
+        matches!(self, Index::Tree { .. }) && self.column() == column
     }
 
     /// Makes room for at least `n` more entries.
@@ -76,7 +85,7 @@ impl Index {
         }
     }
 
-    /// Takes the entries out of the references that the items name.
+    /// Takes the entries out of the references that the items name, but for those of rows that keep their places.
     pub(crate) fn take_each<T: Names>(
         &mut self,
         rows: &Partitions,
@@ -86,7 +95,8 @@ impl Index {
     )
         requires keeps { (kept : List RowRef) × Keeps key (slot_at rows.now) (named T.name side items.now ++ kept) self.old }
         requires wide { All (IsWide (column_of self.old) key (slot_at rows.now)) (named T.name side items.now) }
-        ensures taken { Taken key (slot_at rows.now) (named T.name side items.now) self.old self.new }
+        ensures taken { Taken key (slot_at rows.now) (named T.name side items.now)
+            (unmoved T.name T.other key (slot_at rows.now) side items.now self.old) self.old self.new }
     {
         match self {
             Index::Tree { column, refs } => take_each(rows, *column, key, refs, items, side),
@@ -94,7 +104,7 @@ impl Index {
         }
     }
 
-    /// Puts the entries in of the references that the items name.
+    /// Puts the entries in of the references that the items name, but for those of rows that keep their places.
     pub(crate) fn put_each<T: Names>(
         &mut self,
         rows: &Partitions,
@@ -102,11 +112,13 @@ impl Index {
         items: &[T],
         side: Side,
     )
-        requires keeps { (held : List RowRef) × (Keeps key (slot_at rows.now) held self.old)
+        requires keeps { (held : List RowRef)
+            × (Keeps key (slot_at rows.now) (unmoved T.name T.other key (slot_at rows.now) side items.now self.old ++ held) self.old)
             × KeysApart key (slot_at rows.now) (named T.name side items.now ++ held) }
         requires wide { All (IsWide (column_of self.old) key (slot_at rows.now)) (named T.name side items.now) }
         requires spare { length (named T.name side items.now) ≤ spare_of self.old }
-        ensures put { Put key (slot_at rows.now) (named T.name side items.now) self.old self.new }
+        ensures put { Put key (slot_at rows.now) (named T.name side items.now)
+            (unmoved T.name T.other key (slot_at rows.now) side items.now self.old) self.old self.new }
     {
         match self {
             Index::Tree { column, refs } => put_each(rows, *column, key, refs, items, side),

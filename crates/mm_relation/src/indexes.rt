@@ -4,14 +4,14 @@ ghost use Rattle.mm_value.specs.declared.row_ref.RowRef.{RowRef};
 ghost use Rattle.mm_partition.specs.Places.{slot_at};
 ghost use Rattle.mm_relation.specs.Refs.{IsWide};
 ghost use Rattle.mm_relation.specs.Edits.{named};
-ghost use Rattle.mm_relation.specs.Index.{KeysApart, Keeps, Taken, Put, EachTurns, Grown, GrownTo, column_of, spare_of};
+ghost use Rattle.mm_relation.specs.Index.{KeysApart, Keeps, Taken, Put, EachTurns, Grown, GrownTo, column_of, spare_of, unmoved};
 
 use crate::index::Index;
 use crate::names::{Names, Side};
 use mm_partition::Partitions;
 use std::alloc::{AllocError, Global};
 
-/// Takes the entries out of each index.
+/// Takes the entries out of each index, but for those of rows that keep their places in it.
 pub fn take_from_all<T: Names>(
     rows: &Partitions,
     key: usize,
@@ -21,14 +21,15 @@ pub fn take_from_all<T: Names>(
 )
     requires keep { (kept : List RowRef) × All (Keeps key (slot_at rows.now) (named T.name side items.now ++ kept)) indexes.old.items }
     requires wide { All (λ x. All (IsWide (column_of x) key (slot_at rows.now)) (named T.name side items.now)) indexes.old.items }
-    ensures taken { EachTurns (Taken key (slot_at rows.now) (named T.name side items.now)) indexes.old.items indexes.new.items }
+    ensures taken { EachTurns (λ x. Taken key (slot_at rows.now) (named T.name side items.now)
+        (unmoved T.name T.other key (slot_at rows.now) side items.now x) x) indexes.old.items indexes.new.items }
 {
     for index in indexes.iter_mut() {
         index.take_each(rows, key, items, side);
     }
 }
 
-/// Puts the entries into each index.
+/// Puts the entries into each index, but for those of rows that keep their places in it.
 pub fn put_into_all<T: Names>(
     rows: &Partitions,
     key: usize,
@@ -36,11 +37,13 @@ pub fn put_into_all<T: Names>(
     items: &[T],
     side: Side,
 )
-    requires keep { (held : List RowRef) × (All (Keeps key (slot_at rows.now) held) indexes.old.items)
+    requires keep { (held : List RowRef)
+        × (All (λ x. Keeps key (slot_at rows.now) (unmoved T.name T.other key (slot_at rows.now) side items.now x ++ held) x) indexes.old.items)
         × KeysApart key (slot_at rows.now) (named T.name side items.now ++ held) }
     requires wide { All (λ x. All (IsWide (column_of x) key (slot_at rows.now)) (named T.name side items.now)) indexes.old.items }
     requires spare { All (λ x. length (named T.name side items.now) ≤ spare_of x) indexes.old.items }
-    ensures put { EachTurns (Put key (slot_at rows.now) (named T.name side items.now)) indexes.old.items indexes.new.items }
+    ensures put { EachTurns (λ x. Put key (slot_at rows.now) (named T.name side items.now)
+        (unmoved T.name T.other key (slot_at rows.now) side items.now x) x) indexes.old.items indexes.new.items }
 {
     for index in indexes.iter_mut() {
         index.put_each(rows, key, items, side);

@@ -10,12 +10,15 @@ mod change;
 mod edits;
 mod hash_entries;
 mod hash_reads;
+mod in_column;
 mod index;
 mod indexes;
 mod key_rows;
 mod log;
+mod moves;
 mod names;
 mod relation;
+mod sorting;
 #[cfg(test)]
 mod tests;
 mod tree_entries;

@@ -1,6 +1,6 @@
 //! What one command changed, so that it can be taken back.
 ghost use Rattle.std.specs.Prelude.{◌≡◌, ◌+◌, ◌≤◌, [], ◌∷◌, ◌++◌, IsOk, OnOk};
-ghost use Rattle.mm_relation.specs.Edits.{entry_name, removed_by};
+ghost use Rattle.mm_relation.specs.Edits.{entry_name, entry_other, removed_by};
 
 use crate::names::{Names, Side};
 use mm_value::{Row, RowRef};
@@ -33,6 +33,8 @@ impl Entry {
 impl Names for Entry {
     ghost name = { entry_name };
 
+    ghost other = { entry_other };
+
     fn name(&self, side: Side) -> Option<RowRef> {
         match self {
             Entry::Added(at) => match side {
@@ -44,6 +46,13 @@ impl Names for Entry {
                 Side::Old => Some(*at),
                 Side::New => None,
             },
+        }
+    }
+
+    fn other_side(&self) -> Option<&Row> {
+        match self {
+            Entry::Changed(_, old) => Some(old),
+            Entry::Added(_) | Entry::Removed(_) => None,
         }
     }
 }

@@ -9,6 +9,7 @@ mod indexing;
 mod laws;
 mod lookup;
 mod reads;
+mod served;
 mod settle;
 mod twins;
 

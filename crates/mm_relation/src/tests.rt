@@ -17,40 +17,40 @@ use std::test::Fail;
 fn sample(alloc: Global) -> Result<Relation, AllocError>
     ensures { IfOk result IsSample }
 {
-    let mut relation = Relation::new(alloc, 2, 0);
+    let mut relation = Relation::new(alloc, 3, 0);
     relation.add_index(alloc, 1, IndexKind::Tree)?;
     relation.add_index(alloc, 1, IndexKind::Hash)?;
     Ok(relation)
 }
 
-/// A row of a key and its last decimal digit.
-fn row_of(alloc: Global, key: i64) -> Result<Row, AllocError>
-    ensures { IfOk result (λ row. length row ≡ 2) }
+/// A row of a key, a digit and a mark.
+fn row_of(alloc: Global, key: i64, digit: i64, mark: i64) -> Result<Row, AllocError>
+    ensures { IfOk result (λ row. length row ≡ 3) }
 {
-    let values = vec![in alloc; Value::Int(key), Value::Int(key % 10)]?;
+    let values = vec![in alloc; Value::Int(key), Value::Int(digit), Value::Int(mark)]?;
     Ok(Row::new(values))
 }
 
-/// The addition of a row for each key.
+/// The addition of a row for each key, with its last decimal digit and the mark 0.
 fn additions(alloc: Global, keys: &[i64]) -> Result<Vec<Edit>, AllocError>
     ensures none { IfOk result (λ edits. named edit_name side.Old edits.items ≡ []) }
-    ensures wide { IfOk result (λ edits. All (λ row. length row ≡ 2) (new_rows edits.items)) }
+    ensures wide { IfOk result (λ edits. All (λ row. length row ≡ 3) (new_rows edits.items)) }
 {
     let mut edits = Vec::new(alloc);
     for key in keys {
-        edits.push(Edit::Add(row_of(alloc, *key)?))?;
+        edits.push(Edit::Add(row_of(alloc, *key, *key % 10, 0)?))?;
     }
     Ok(edits)
 }
 
-/// The edit of a row into that of another key, or out.
+/// The edit of a row into one of another key and that key's last decimal digit, or out.
 fn edit_of(alloc: Global, at: RowRef, to: Option<i64>) -> Result<Edit, AllocError>
     ensures old { IfOk result (λ edit. edit_name edit side.Old ≡ Some at) }
-    ensures wide { IfOk result (λ edit. All (λ row. length row ≡ 2) (new_rows (edit ∷ []))) }
+    ensures wide { IfOk result (λ edit. All (λ row. length row ≡ 3) (new_rows (edit ∷ []))) }
 {
     match to {
         None => Ok(Edit::Gone(at)),
-        Some(key) => Ok(Edit::Swap(at, row_of(alloc, key)?)),
+        Some(key) => Ok(Edit::Swap(at, row_of(alloc, key, key % 10, 0)?)),
     }
 }
 
@@ -58,7 +58,7 @@ fn edit_of(alloc: Global, at: RowRef, to: Option<i64>) -> Result<Edit, AllocErro
 fn make(relation: &mut Relation, alloc: Global, edits: Vec<Edit>) -> Result<bool, AllocError>
     requires sample { IsSample relation.old }
     requires stay { (kept : List Ref) × Stay relation.old.refs edits.items kept }
-    requires wide { All (λ row. length row ≡ 2) (new_rows edits.items) }
+    requires wide { All (λ row. length row ≡ 3) (new_rows edits.items) }
     ensures { IsSample relation.new }
 {
     relation.is_kept();
@@ -132,11 +132,13 @@ fn turn(
     }
 }
 
-/// Takes the row of one key out, and turns that of another into a row of that key.
+/// Turns the row of one key into that of another, or takes it out, and turns the row of the next key into a row of that
+/// one's key.
 fn try_follow(
     relation: &mut Relation,
     alloc: Global,
     gone: i64,
+    to: Option<i64>,
     next: i64,
 ) -> Result<bool, AllocError>
     requires { IsSample relation.old }
@@ -152,34 +154,84 @@ fn try_follow(
         return Ok(false);
     }
     let mut edits = Vec::new(alloc);
-    edits.push(edit_of(alloc, first, None)?)?;
+    edits.push(edit_of(alloc, first, to)?)?;
     edits.push(edit_of(alloc, second, Some(gone))?)?;
     make(relation, alloc, edits)
 }
 
 /// The same where memory is refused once at most.
-fn follow(relation: &mut Relation, alloc: Global, gone: i64, next: i64) -> Result<bool, AllocError>
+fn follow(
+    relation: &mut Relation,
+    alloc: Global,
+    gone: i64,
+    to: Option<i64>,
+    next: i64,
+) -> Result<bool, AllocError>
     requires { IsSample relation.old }
     ensures { IsSample relation.new }
 {
-    match try_follow(relation, alloc, gone, next) {
+    match try_follow(relation, alloc, gone, to, next) {
         Ok(done) => Ok(done),
-        Err(_) => try_follow(relation, alloc, gone, next),
+        Err(_) => try_follow(relation, alloc, gone, to, next),
     }
 }
 
-/// The last digit that stands beside a key, none where no row has the key.
-fn digit_of(relation: &Relation, key: i64) -> Option<i64> {
+/// Turns the row of one key into one of these values.
+fn try_set(
+    relation: &mut Relation,
+    alloc: Global,
+    key: i64,
+    to: i64,
+    digit: i64,
+    mark: i64,
+) -> Result<bool, AllocError>
+    requires { IsSample relation.old }
+    ensures { IsSample relation.new }
+{
+    let Some(at) = at_key(relation, key) else {
+        return Ok(false);
+    };
+    let mut edits = Vec::new(alloc);
+    edits.push(Edit::Swap(at, row_of(alloc, to, digit, mark)?))?;
+    make(relation, alloc, edits)
+}
+
+/// The same where memory is refused once at most.
+fn set(
+    relation: &mut Relation,
+    alloc: Global,
+    key: i64,
+    to: i64,
+    digit: i64,
+    mark: i64,
+) -> Result<bool, AllocError>
+    requires { IsSample relation.old }
+    ensures { IsSample relation.new }
+{
+    match try_set(relation, alloc, key, to, digit, mark) {
+        Ok(done) => Ok(done),
+        Err(_) => try_set(relation, alloc, key, to, digit, mark),
+    }
+}
+
+/// The number in a column beside a key, none where no row has the key.
+fn number_of(relation: &Relation, key: i64, column: usize) -> Option<i64> {
     relation.is_kept();
     let at = at_key(relation, key)?;
-    let row = relation.row(at);
-    if row.len() != 2 {
-        return None;
+    match relation.row(at).values().get(column) {
+        Some(Value::Int(number)) => Some(*number),
+        _ => None,
     }
-    match row.value(1) {
-        Value::Int(number) => Some(*number),
-        Value::Text(_) => None,
-    }
+}
+
+/// The digit that stands beside a key.
+fn digit_of(relation: &Relation, key: i64) -> Option<i64> {
+    number_of(relation, key, 1)
+}
+
+/// The mark that stands beside a key.
+fn mark_of(relation: &Relation, key: i64) -> Option<i64> {
+    number_of(relation, key, 2)
 }
 
 /// How many rows have a digit between two ends, by the TREE index.
@@ -232,7 +284,7 @@ fn count_by_digit(relation: &Relation, alloc: Global) -> Result<usize, AllocErro
 #[test]
 fn starts_empty(rt: HostRuntime) -> Result<(), Fail> {
     let alloc = rt.alloc();
-    let rows = Relation::new(alloc, 2, 0);
+    let rows = Relation::new(alloc, 3, 0);
     assert_eq!(rt; rows.len(), 0);
     assert!(rt; rows.find(&Value::Int(3)).is_none());
     Ok(())
@@ -281,7 +333,7 @@ fn leaves_out_rows_that_go_or_change(rt: HostRuntime) -> Result<(), Fail> {
     assert_eq!(rt; digit_of(&relation, 17), Some(7));
 
     // It may take the key of a row that goes with it.
-    assert!(rt; follow(&mut relation, alloc, 2, 3)?);
+    assert!(rt; follow(&mut relation, alloc, 2, None, 3)?);
     assert_eq!(rt; relation.len(), 2);
     assert_eq!(rt; digit_of(&relation, 2), Some(2));
     assert_eq!(rt; digit_of(&relation, 3), None);
@@ -311,10 +363,58 @@ fn keeps_indexes(rt: HostRuntime) -> Result<(), Fail> {
 }
 
 #[test]
-fn finds_each_of_many_rows(rt: HostRuntime) -> Result<(), Fail> {
+fn keeps_places_that_stay(rt: HostRuntime) -> Result<(), Fail> {
     let alloc = rt.alloc();
     let mut relation = sample_again(alloc)?;
-    // The multiples of 619 modulo the prime 1,009 go round all numbers.
+    assert!(rt; put(&mut relation, alloc, &[1, 11, 22, 35, 21])?);
+
+    // Neither the key nor the digit changes.
+    assert!(rt; set(&mut relation, alloc, 11, 11, 1, 7)?);
+    assert_eq!(rt; mark_of(&relation, 11), Some(7));
+    assert_eq!(rt; count_between(&relation, alloc, 1, 2)?, 4);
+    assert_eq!(rt; count_of(&relation, alloc, 1)?, 3);
+    assert_eq!(rt; count_by_digit(&relation, alloc)?, 5);
+
+    // The key alone changes: the row moves among those of its digit.
+    assert!(rt; set(&mut relation, alloc, 1, 51, 1, 0)?);
+    assert_eq!(rt; digit_of(&relation, 1), None);
+    assert_eq!(rt; digit_of(&relation, 51), Some(1));
+    assert_eq!(rt; count_between(&relation, alloc, 1, 1)?, 3);
+    assert_eq!(rt; count_of(&relation, alloc, 1)?, 3);
+
+    // The digit alone changes.
+    assert!(rt; set(&mut relation, alloc, 21, 21, 5, 0)?);
+    assert_eq!(rt; digit_of(&relation, 21), Some(5));
+    assert_eq!(rt; count_between(&relation, alloc, 1, 1)?, 2);
+    assert_eq!(rt; count_of(&relation, alloc, 1)?, 2);
+    assert_eq!(rt; count_of(&relation, alloc, 5)?, 2);
+    Ok(())
+}
+
+#[test]
+fn exchanges_two_keys(rt: HostRuntime) -> Result<(), Fail> {
+    let alloc = rt.alloc();
+    let mut relation = sample_again(alloc)?;
+    assert!(rt; put(&mut relation, alloc, &[1, 11, 22])?);
+    assert!(rt; set(&mut relation, alloc, 1, 1, 1, 7)?);
+
+    // Two keys of one digit, and two of different digits.
+    assert!(rt; follow(&mut relation, alloc, 1, Some(11), 11)?);
+    assert_eq!(rt; count_of(&relation, alloc, 1)?, 2);
+    assert_eq!(rt; mark_of(&relation, 1), Some(0));
+    assert!(rt; follow(&mut relation, alloc, 11, Some(22), 22)?);
+    assert_eq!(rt; count_between(&relation, alloc, 1, 1)?, 2);
+    assert_eq!(rt; count_between(&relation, alloc, 2, 2)?, 1);
+    assert_eq!(rt; count_of(&relation, alloc, 2)?, 1);
+
+    // Both rows may not have one key.
+    assert!(rt; !follow(&mut relation, alloc, 1, Some(1), 22)?);
+    assert_eq!(rt; relation.len(), 3);
+    Ok(())
+}
+
+/// A thousand keys in an order that looks random: the multiples of 619 modulo the prime 1,009 go round all numbers.
+fn shuffled_keys(alloc: Global) -> Result<Vec<i64>, AllocError> {
     let mut keys = Vec::new(alloc);
     if keys.reserve(1000).is_err() {
         keys.reserve(1000)?;
@@ -322,6 +422,38 @@ fn finds_each_of_many_rows(rt: HostRuntime) -> Result<(), Fail> {
     for k in 0..1000u32 {
         keys.push(i64::from(k * 619 % 1009))?;
     }
+    Ok(keys)
+}
+
+#[test]
+fn builds_full_trees_over_rows(rt: HostRuntime) -> Result<(), Fail> {
+    let alloc = rt.alloc();
+    let mut relation = sample_again(alloc)?;
+    let keys = shuffled_keys(alloc)?;
+    assert!(rt; put(&mut relation, alloc, keys.as_slice())?);
+    assert!(rt; relation.len() <= 1000);
+    let ordered = match relation.ordered_by(alloc, 1) {
+        Ok(ordered) => ordered,
+        Err(_) => relation.ordered_by(alloc, 1)?,
+    };
+    // 63 nodes, as many as six levels have.
+    assert_eq!(rt; ordered.len(), 1000);
+    assert_eq!(rt; ordered.height(), 6);
+    if relation.add_index(alloc, 1, IndexKind::Tree).is_err() {
+        relation.add_index(alloc, 1, IndexKind::Tree)?;
+    }
+    if relation.add_index(alloc, 0, IndexKind::Tree).is_err() {
+        relation.add_index(alloc, 0, IndexKind::Tree)?;
+    }
+    assert_eq!(rt; relation.len(), 1000);
+    Ok(())
+}
+
+#[test]
+fn finds_each_of_many_rows(rt: HostRuntime) -> Result<(), Fail> {
+    let alloc = rt.alloc();
+    let mut relation = sample_again(alloc)?;
+    let keys = shuffled_keys(alloc)?;
     assert!(rt; put(&mut relation, alloc, keys.as_slice())?);
     assert_eq!(rt; relation.len(), 1000);
     assert!(rt; !put(&mut relation, alloc, &[2000, 619])?);

@@ -7,8 +7,10 @@ ghost use Rattle.mm_partition.specs.Places.{slot_at};
 ghost use Rattle.mm_relation.specs.Refs.{IsWide, refs_by};
 ghost use Rattle.mm_relation.specs.Edits.{named, Among};
 ghost use Rattle.mm_relation.specs.Index.{InOrder, KeysApart};
+ghost use Rattle.mm_relation.specs.Moves.{stayed};
 
 use crate::by_column::ByColumn;
+use crate::moves::moved_name;
 use crate::names::{Names, Side};
 use mm_order::OrderedRefs;
 use mm_partition::Partitions;
@@ -24,7 +26,12 @@ fn put<L: OrderedRefs>(rows: &Partitions, column: usize, key: usize, tree: &mut 
     ensures ordered { InOrder column key (slot_at rows.now) (L.refs tree.new) }
     ensures spare { L.spare tree.old ≤ L.spare tree.new + 1 }
 {
-    let order = ByColumn { rows, column, key };
+    let order = ByColumn {
+        rows,
+        column,
+        key,
+        prefixes: rows.prefixes(column),
+    };
     tree.insert(&order, at);
 }
 
@@ -37,11 +44,17 @@ fn take<L: OrderedRefs>(rows: &Partitions, column: usize, key: usize, tree: &mut
     ensures ordered { InOrder column key (slot_at rows.now) (L.refs tree.new) }
     ensures spare { L.spare tree.old ≤ L.spare tree.new }
 {
-    let order = ByColumn { rows, column, key };
+    let order = ByColumn {
+        rows,
+        column,
+        key,
+        prefixes: rows.prefixes(column),
+    };
     tree.remove(&order, at);
 }
 
-/// Takes the references out that the items name, each of which the tree has.
+/// Takes the references out that the items name, each of which the tree has, but for those of rows that keep their
+/// values in the column and the key.
 pub fn take_each<L: OrderedRefs, T: Names>(
     rows: &Partitions,
     column: usize,
@@ -52,18 +65,20 @@ pub fn take_each<L: OrderedRefs, T: Names>(
 )
     requires ordered { InOrder column key (slot_at rows.now) (L.refs tree.old) }
     requires held { Among (L.refs tree.old) (named T.name side items.now) }
-    ensures refs { (kept : List RowRef) → IsPermutation (L.refs tree.old) (named T.name side items.now ++ kept) → IsPermutation (L.refs tree.new) kept }
+    ensures refs { (kept : List RowRef) → IsPermutation (L.refs tree.old) (named T.name side items.now ++ kept)
+        → IsPermutation (L.refs tree.new) (named (stayed T.name T.other column key (slot_at rows.now)) side items.now ++ kept) }
     ensures ordered { InOrder column key (slot_at rows.now) (L.refs tree.new) }
     ensures spare { L.spare tree.old ≤ L.spare tree.new }
 {
     for item in items {
-        if let Some(at) = item.name(side) {
+        if let Some(at) = moved_name(rows, column, key, item, side) {
             take(rows, column, key, tree, at);
         }
     }
 }
 
-/// Puts the references in that the items name.
+/// Puts the references in that the items name, but for those of rows that keep their values in the column and the key,
+/// which the tree has.
 pub fn put_each<L: OrderedRefs, T: Names>(
     rows: &Partitions,
     column: usize,
@@ -75,13 +90,17 @@ pub fn put_each<L: OrderedRefs, T: Names>(
     requires spare { length (named T.name side items.now) ≤ L.spare tree.old }
     requires ordered { InOrder column key (slot_at rows.now) (L.refs tree.old) }
     requires wide { All (IsWide column key (slot_at rows.now)) (named T.name side items.now) }
-    requires apart { KeysApart key (slot_at rows.now) (named T.name side items.now ++ L.refs tree.old) }
-    ensures refs { IsPermutation (named T.name side items.now ++ L.refs tree.old) (L.refs tree.new) }
+    requires apart { (held : List RowRef)
+        × IsPermutation (L.refs tree.old) (named (stayed T.name T.other column key (slot_at rows.now)) side items.now ++ held)
+        × KeysApart key (slot_at rows.now) (named T.name side items.now ++ held) }
+    ensures refs { (held : List RowRef)
+        → IsPermutation (L.refs tree.old) (named (stayed T.name T.other column key (slot_at rows.now)) side items.now ++ held)
+        → IsPermutation (L.refs tree.new) (named T.name side items.now ++ held) }
     ensures ordered { InOrder column key (slot_at rows.now) (L.refs tree.new) }
     ensures spare { L.spare tree.old ≤ L.spare tree.new + length (named T.name side items.now) }
 {
     for item in items {
-        if let Some(at) = item.name(side) {
+        if let Some(at) = moved_name(rows, column, key, item, side) {
             put(rows, column, key, tree, at);
         }
     }

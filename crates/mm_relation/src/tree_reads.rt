@@ -6,7 +6,7 @@ ghost use Rattle.mm_partition.specs.Places.{slot_at};
 ghost use Rattle.mm_relation.specs.Index.{InOrder};
 ghost use Rattle.mm_relation.specs.Reads.{end_place};
 
-use crate::at_end::AtEnd;
+use crate::at_end::{AtEnd, prefix_of_end};
 use crate::by_column::ByColumn;
 use mm_order::OrderedRefs;
 use mm_partition::Partitions;
@@ -37,18 +37,28 @@ pub fn copy_range(
         (end_place column (slot_at rows.now) (option_copied ends.entry.high)) tree.now.refs) }
     ensures err { OnErr result (out.new.items ≡ out.old.items) }
 {
-    let order = ByColumn { rows, column, key };
+    let prefixes = rows.prefixes(column);
+    let order = ByColumn {
+        rows,
+        column,
+        key,
+        prefixes,
+    };
     let low = AtEnd {
         rows,
         column,
         key,
         end: ends.low,
+        prefix: prefix_of_end(ends.low),
+        prefixes,
     };
     let high = AtEnd {
         rows,
         column,
         key,
         end: ends.high,
+        prefix: prefix_of_end(ends.high),
+        prefixes,
     };
     tree.copy_range(alloc, &order, &low, &high, out)
 }

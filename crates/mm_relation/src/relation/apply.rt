@@ -79,6 +79,7 @@ impl Relation {
         ensures spare { OnOk result (length edits.now ≤ self.new.spare) }
         ensures spares { OnOk result (All (λ x. length edits.now ≤ spare_of x) self.new.indexes) }
     {
+        self.rows.track(alloc, self.key)?;
         self.rows.reserve(alloc, count_added(edits))?;
         log.reserve(alloc, edits.len())?;
         self.by_key.reserve(alloc, edits.len())?;

@@ -6,6 +6,7 @@ ghost use Rattle.mm_relation.specs.Reads.{AddsIndex};
 use super::Relation;
 use crate::index::Index;
 use crate::tree_reads::copy_refs;
+use mm_partition::Partitions;
 use mm_schema::IndexKind;
 use std::alloc::{AllocError, Global};
 
@@ -26,9 +27,17 @@ impl Relation {
     {
         self.indexes.reserve(1)?;
         let refs = copy_refs(alloc, &self.by_key)?;
-        let index = Index::over(alloc, &self.rows, column, self.key, kind, refs.as_slice())?;
-        self.indexes.push_reserved(index);
-        Ok(())
+        track_for(alloc, &mut self.rows, column, kind)?;
+        match Index::over(alloc, &self.rows, column, self.key, kind, refs.as_slice()) {
+            Ok(index) => {
+                self.indexes.push_reserved(index);
+                Ok(())
+            }
+            Err(refused) => {
+                untrack_unused(&mut self.rows, self.key, self.indexes.as_slice(), column);
+                Err(refused)
+            }
+        }
     }
 
     /// Drops the index at a place, counted from 0. Those behind it move up.
@@ -36,6 +45,36 @@ impl Relation {
         requires { index < length self.old.indexes }
         ensures { self.new ≡ record self.old { indexes = remove self.old.indexes index } }
     {
-        self.indexes.remove(index);
+        let dropped = self.indexes.remove(index);
+        untrack_unused(
+            &mut self.rows,
+            self.key,
+            self.indexes.as_slice(),
+            dropped.column(),
+        );
+    }
+}
+
+/// Keeps the prefixes of the column of a TREE index, in which it is searched. A HASH index needs none.
+fn track_for(
+    alloc: Global,
+    rows: &mut Partitions,
+    column: usize,
+    kind: IndexKind,
+) -> Result<(), AllocError>
+    ensures { rows.new ≡ rows.old }
+{
+    match kind {
+        IndexKind::Tree => rows.track(alloc, column),
+        IndexKind::Hash => Ok(()),
+    }
+}
+
+/// Drops the prefixes of a column that is not the key and has no TREE index.
+fn untrack_unused(rows: &mut Partitions, key: usize, indexes: &[Index], column: usize)
+    ensures { rows.new ≡ rows.old }
+{
+    if column != key && !indexes.iter().any(|index| index.is_tree_on(column)) {
+        rows.untrack(column);
     }
 }

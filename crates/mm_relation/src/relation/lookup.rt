@@ -7,7 +7,7 @@ use super::Relation;
 use crate::at_value::AtValue;
 use crate::by_column::ByColumn;
 use mm_order::Seek;
-use mm_value::{RowRef, Value};
+use mm_value::{RowRef, Value, order_prefix};
 
 impl Relation {
     /// The reference of the row that has this key, none where no row has it. It searches the T-tree
@@ -18,16 +18,20 @@ impl Relation {
         ensures none { IfNone result
             (All (λ at. slice_get (row_at (slot_at self.now.places) at) self.now.key ≢ Some key.now) self.now.refs) }
     {
+        let prefixes = self.rows.prefixes(self.key);
         let order = ByColumn {
             rows: &self.rows,
             column: self.key,
             key: self.key,
+            prefixes,
         };
         let probe = AtValue {
             rows: &self.rows,
             column: self.key,
             key: self.key,
             sought: key,
+            prefix: order_prefix(key),
+            prefixes,
         };
         let mut seek = Seek::new(&probe);
         self.by_key.find(&order, &mut seek)

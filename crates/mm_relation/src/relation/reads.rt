@@ -12,10 +12,8 @@ ghost use Rattle.mm_relation.specs.RowLists.{rows_of};
 use super::Relation;
 use crate::hash_reads::copy_matches;
 use crate::index::Index;
-use crate::names::Side;
-use crate::tree_entries::put_each;
+use crate::sorting::sorted_refs;
 use crate::tree_reads::{Ends, copy_range, copy_refs};
-use mm_order::OrderedRefs;
 use mm_value::{RowRef, Value};
 use std::alloc::{AllocError, Global};
 use ttree::{Iter, TTree};
@@ -49,17 +47,8 @@ impl Relation {
         ensures few { IfOk result (λ tree. length tree.refs ≤ 1048576) }
     {
         let refs = copy_refs(alloc, &self.by_key)?;
-        let mut tree = TTree::new(alloc);
-        tree.reserve(alloc, refs.len())?;
-        put_each(
-            &self.rows,
-            column,
-            self.key,
-            &mut tree,
-            refs.as_slice(),
-            Side::New,
-        );
-        Ok(tree)
+        let sorted = sorted_refs(alloc, &self.rows, column, self.key, refs.as_slice())?;
+        TTree::from_sorted(alloc, sorted.as_slice())
     }
 
     /// Appends the references of the rows whose values in the column of the TREE index at a place are

@@ -10,21 +10,23 @@ ghost use Rattle.mm_relation.specs.Refs.{row_at};
 
 use super::Relation;
 use crate::edits::{Edit, count_added};
-use crate::key_rows::{contains_key, has_equal_neighbours, new_rows, old_rows, sort_by_key};
+use crate::key_rows::{
+    contains_key, has_equal_neighbours, rows_that_free_keys, rows_with_new_keys, sort_by_key,
+};
 use mm_value::Row;
 use std::alloc::{AllocError, Global};
 
 impl Relation {
     /// Whether two rows would have one key after the edits, each of which names another row of the relation or
-    /// none. It takes O(m log m + m log n) comparisons for m edits among n rows. `AllocError` where memory is
-    /// refused.
+    /// none. For m edits, of which k bring another key than their row has, among n rows it takes
+    /// O(m + k log k + k log n) comparisons, and memory only where k is not 0. `AllocError` where memory is refused.
     pub(crate) fn has_twins_after(&self, alloc: Global, edits: &[Edit]) -> Result<bool, AllocError>
         requires { (kept : List RowRef) × Stay self.now.refs edits.now kept }
         ensures { IfOk result (λ twins. (kept : List RowRef) → Stay self.now.refs edits.now kept
             → twins ≡ has_twin_keys self.now.key (rows_after (slot_at self.now.places) edits.now kept)) }
     {
         let key = self.key;
-        let mut fresh = new_rows(alloc, edits)?;
+        let mut fresh = rows_with_new_keys(alloc, &self.rows, key, edits)?;
         if fresh.is_empty() {
             return Ok(false);
         }
@@ -32,7 +34,7 @@ impl Relation {
         if has_equal_neighbours(fresh.as_slice(), key) {
             return Ok(true);
         }
-        let mut gone = old_rows(alloc, &self.rows, edits)?;
+        let mut gone = rows_that_free_keys(alloc, &self.rows, key, edits)?;
         sort_by_key(&mut gone, key);
         let twins = fresh
             .iter()

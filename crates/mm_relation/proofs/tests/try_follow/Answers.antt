@@ -4,7 +4,7 @@ use Rattle.mm_relation.specs.declared.edits.Edit.{Edit}
 use Rattle.mm_relation.specs.Edits.{Among, new_rows}
 use Rattle.mm_relation.proofs.Changed.{olds}
 use Rattle.mm_relation.proofs.RefTests.{test_from_same}
-use Rattle.mm_relation.proofs.Samples.{Pairs, two_named, pairs_more}
+use Rattle.mm_relation.proofs.Samples.{AreWide, two_named, wide_more}
 use Rattle.mm_relation.proofs.tests.try_follow.Goals as goal
 
 pub make-requires-clause-stay : goal.make-requires-clause-stay
@@ -22,7 +22,7 @@ pub make-requires-clause-wide : goal.make-requires-clause-wide
 make-requires-clause-wide c =
     let e = c.in_ok-edit_of.field-0 in
     let f = c.in_ok-edit_of-2.field-0 in
-    subst (λ (es : List Edit). Pairs (new_rows es))
+    subst (λ (es : List Edit). AreWide 3 (new_rows es))
     (sym (c.in_ok-push-2.ensures.items ∙ ap (λ (es : List Edit). es ++ f ∷ []) (c.in_ok-push.ensures.items
     ∙ ap (λ (es : List Edit). es ++ e ∷ []) c.new-edits.ensures.items)))
-    (pairs_more (e ∷ []) (f ∷ []) c.in_ok-edit_of.ensures.wide c.in_ok-edit_of-2.ensures.wide)
+    (wide_more 3 (e ∷ []) (f ∷ []) c.in_ok-edit_of.ensures.wide c.in_ok-edit_of-2.ensures.wide)

@@ -3,6 +3,7 @@ use Rattle.std.specs.Prelude.{IsPermutation}
 use Rattle.mm_value.specs.declared.row_ref.RowRef.{RowRef}
 use Rattle.mm_partition.specs.Places.{slot_at}
 use Rattle.mm_relation.specs.Edits.{named}
+use Rattle.mm_relation.proofs.Staying.{moving, staying}
 use Rattle.mm_relation.specs.Index.{InOrder}
 use Rattle.mm_relation.proofs.tree_entries.take_each.Given as goal
 
@@ -11,6 +12,8 @@ abbrev pub invariant-loop-item : goal.invariant-loop-item
 invariant-loop-item g l = record {
   ordered : InOrder l.column l.key (slot_at l.rows) (g.L.OrderedRefs.refs l.tree);
   rest : (kept : List RowRef) → IsPermutation (g.L.OrderedRefs.refs l.fn.tree) (named g.T.Names.name l.side l.items ++ kept)
-      → IsPermutation (g.L.OrderedRefs.refs l.tree) (named g.T.Names.name l.side (drop l.item-index l.items) ++ kept);
+      → IsPermutation (g.L.OrderedRefs.refs l.tree)
+      (moving g.T.Names.name g.T.Names.other l.column l.key (slot_at l.rows) l.side (drop l.item-index l.items)
+      ++ (staying g.T.Names.name g.T.Names.other l.column l.key (slot_at l.rows) l.side l.items ++ kept));
   spare : g.L.OrderedRefs.spare l.fn.tree ≤ g.L.OrderedRefs.spare l.tree;
 }

@@ -1,13 +1,13 @@
 use Rattle.std.proofs.Common.{◌≡◌, ◌≤◌, List, ◌++◌, length, sym, ap, ◌∙◌, subst, arith}
 use Rattle.std.specs.Prelude.{map, IsPermutation}
 use Rattle.std.specs.List.{All}
-use Rattle.std.proofs.lemmas.List.Sorted.{IsPermutation-trans, IsPermutation-sym, IsPermutation-append_right}
+use Rattle.std.proofs.lemmas.List.Sorted.{IsPermutation-sym}
 use Rattle.mm_value.specs.declared.row_ref.RowRef.{RowRef}
 use Rattle.mm_partition.specs.Places.{Hidden, slot_at}
 use Rattle.mm_relation.specs.Refs.{row_at}
-use Rattle.mm_relation.specs.Edits.{Among, named, edit_name, entry_name, new_rows}
+use Rattle.mm_relation.specs.Edits.{Among, named, edit_name, edit_other, entry_name, entry_other, new_rows}
 use Rattle.mm_relation.specs.Changes.{Changes, Standing}
-use Rattle.mm_relation.specs.Index.{Taken, Put, EachTurns, SameIndex, spare_of}
+use Rattle.mm_relation.specs.Index.{Taken, Put, EachTurns, SameIndex, spare_of, unmoved}
 use Rattle.mm_value.specs.declared.values.Value.{Value}
 use Rattle.mm_schema.specs.Rows.{changed}
 use Rattle.mm_relation.specs.RowLists.{edit_pairs, rows_of}
@@ -20,10 +20,10 @@ use Rattle.mm_relation.proofs.Changed.{olds, before_changes}
 use Rattle.mm_relation.proofs.Came.{news}
 use Rattle.mm_relation.proofs.Rooms.{indexes_changed}
 use Rattle.mm_relation.proofs.Removed.{removed_hidden, hidden_stays}
-use Rattle.mm_relation.proofs.Indexing.{InOrder-stays}
+use Rattle.mm_relation.proofs.Staying.{staying}
 use Rattle.mm_relation.specs.Differs.{Differs}
 use Rattle.mm_relation.proofs.WaysBack.{StandsBack-changes, Differs-back, old_names}
-use Rattle.mm_relation.proofs.Apply.{split, keep_split, wide_olds, stays, few, keys_apart, rows_moved, wide_news, keep_some, wide_some, spare_some, after}
+use Rattle.mm_relation.proofs.Apply.{split, keep_split, wide_olds, few, keys_apart, rows_moved, wide_news, order_stands, held_beside, keep_some, wide_some, spare_some, after}
 use Rattle.mm_relation.proofs.relation.Relation.change.Goals as goal
 
 pub take_each-requires-clause-held : goal.take_each-requires-clause-held
@@ -57,17 +57,11 @@ put_each-requires-clause-spare c =
     (sym c.self.view_is) c.requires.standing in
     let parts : Among c.self.inside.by_key.refs (olds c.args.edits.items) = split c.self.inside.width c.self.inside.key (slot_at c.self.inside.rows)
     c.self.inside.by_key.refs c.self.inside.indexes.items c.self.invariant c.args.edits.items standing in
-    let given : IsPermutation c.take_each.new.tree.refs parts.0 = c.take_each.ensures.refs parts.0
-    (subst (λ (es : List Edit). IsPermutation c.self.inside.by_key.refs (named edit_name Old es ++ parts.0)) (sym c.as_slice.ensures.value) parts.1) in
-    let stay : Stay c.self.inside.by_key.refs c.args.edits.items c.take_each.new.tree.refs = IsPermutation-trans c.self.inside.by_key.refs
-    (olds c.args.edits.items ++ parts.0) (olds c.args.edits.items ++ c.take_each.new.tree.refs) parts.1
-    (IsPermutation-append_right (olds c.args.edits.items) parts.0 c.take_each.new.tree.refs (IsPermutation-sym c.take_each.new.tree.refs parts.0 given))
-    in
     let spare : length c.args.edits.items ≤ c.self.inside.by_key.spare = subst (λ (v : StoredRows). length c.args.edits.items ≤ v.spare) (sym c.self.view_is)
     c.requires.spare in
     let less : length (news c.change_each.new.log.entries) ≤ length c.args.edits.items = few c.self.inside.width c.self.inside.key
     (slot_at c.self.inside.rows) c.self.inside.by_key.refs c.self.inside.indexes.items c.self.invariant c.args.edits.items standing
-    (slot_at c.change_each.new.rows) c.change_each.new.log.entries c.change_each.ensures.changes c.take_each.new.tree.refs stay in
+    (slot_at c.change_each.new.rows) c.change_each.new.log.entries c.change_each.ensures.changes parts.0 parts.1 in
     rw c.entries.ensures (omega (arith, less, spare, c.take_each.ensures.spare))
 
 pub put_each-requires-clause-ordered : goal.put_each-requires-clause-ordered
@@ -76,16 +70,17 @@ put_each-requires-clause-ordered c =
     (sym c.self.view_is) c.requires.standing in
     let parts : Among c.self.inside.by_key.refs (olds c.args.edits.items) = split c.self.inside.width c.self.inside.key (slot_at c.self.inside.rows)
     c.self.inside.by_key.refs c.self.inside.indexes.items c.self.invariant c.args.edits.items standing in
-    let given : IsPermutation c.take_each.new.tree.refs parts.0 = c.take_each.ensures.refs parts.0
-    (subst (λ (es : List Edit). IsPermutation c.self.inside.by_key.refs (named edit_name Old es ++ parts.0)) (sym c.as_slice.ensures.value) parts.1) in
-    let stay : Stay c.self.inside.by_key.refs c.args.edits.items c.take_each.new.tree.refs = IsPermutation-trans c.self.inside.by_key.refs
-    (olds c.args.edits.items ++ parts.0) (olds c.args.edits.items ++ c.take_each.new.tree.refs) parts.1
-    (IsPermutation-append_right (olds c.args.edits.items) parts.0 c.take_each.new.tree.refs (IsPermutation-sym c.take_each.new.tree.refs parts.0 given))
-    in
-    InOrder-stays c.self.inside.key c.self.inside.key (slot_at c.self.inside.rows) (slot_at c.change_each.new.rows) c.take_each.new.tree.refs
-    (stays c.self.inside.width c.self.inside.key (slot_at c.self.inside.rows) c.self.inside.by_key.refs c.self.inside.indexes.items c.self.invariant
-    c.args.edits.items standing (slot_at c.change_each.new.rows) c.change_each.new.log.entries c.change_each.ensures.changes c.take_each.new.tree.refs
-    stay) c.take_each.ensures.ordered
+    let sizes : All (λ row. length row ≡ c.self.inside.width) (new_rows c.args.edits.items) = subst
+    (λ (v : StoredRows). All (λ row. length row ≡ v.width) (new_rows c.args.edits.items)) (sym c.self.view_is) c.requires.wide in
+    let holds : IsPermutation c.take_each.new.tree.refs
+    (staying edit_name edit_other c.self.inside.key c.self.inside.key (slot_at c.self.inside.rows) Old c.args.edits.items ++ parts.0) = subst
+    (λ (es : List Edit). IsPermutation c.take_each.new.tree.refs
+    (staying edit_name edit_other c.self.inside.key c.self.inside.key (slot_at c.self.inside.rows) Old es ++ parts.0)) c.as_slice.ensures.value
+    (c.take_each.ensures.refs parts.0
+    (subst (λ (es : List Edit). IsPermutation c.self.inside.by_key.refs (named edit_name Old es ++ parts.0)) (sym c.as_slice.ensures.value) parts.1)) in
+    order_stands c.self.inside.width c.self.inside.key (slot_at c.self.inside.rows) c.self.inside.by_key.refs c.self.inside.indexes.items c.self.invariant
+    c.args.edits.items standing (slot_at c.change_each.new.rows) c.change_each.new.log.entries c.change_each.ensures.changes parts.0 parts.1 sizes
+    c.take_each.new.tree.refs holds c.take_each.ensures.ordered
 
 pub put_each-requires-clause-wide : goal.put_each-requires-clause-wide
 put_each-requires-clause-wide c =
@@ -93,17 +88,11 @@ put_each-requires-clause-wide c =
     (sym c.self.view_is) c.requires.standing in
     let parts : Among c.self.inside.by_key.refs (olds c.args.edits.items) = split c.self.inside.width c.self.inside.key (slot_at c.self.inside.rows)
     c.self.inside.by_key.refs c.self.inside.indexes.items c.self.invariant c.args.edits.items standing in
-    let given : IsPermutation c.take_each.new.tree.refs parts.0 = c.take_each.ensures.refs parts.0
-    (subst (λ (es : List Edit). IsPermutation c.self.inside.by_key.refs (named edit_name Old es ++ parts.0)) (sym c.as_slice.ensures.value) parts.1) in
-    let stay : Stay c.self.inside.by_key.refs c.args.edits.items c.take_each.new.tree.refs = IsPermutation-trans c.self.inside.by_key.refs
-    (olds c.args.edits.items ++ parts.0) (olds c.args.edits.items ++ c.take_each.new.tree.refs) parts.1
-    (IsPermutation-append_right (olds c.args.edits.items) parts.0 c.take_each.new.tree.refs (IsPermutation-sym c.take_each.new.tree.refs parts.0 given))
-    in
     let sizes : All (λ row. length row ≡ c.self.inside.width) (new_rows c.args.edits.items) = subst
     (λ (v : StoredRows). All (λ row. length row ≡ v.width) (new_rows c.args.edits.items)) (sym c.self.view_is) c.requires.wide in
     rw c.entries.ensures (wide_news c.self.inside.width c.self.inside.key (slot_at c.self.inside.rows) c.self.inside.by_key.refs c.self.inside.indexes.items
     c.self.invariant c.args.edits.items standing (slot_at c.change_each.new.rows) c.change_each.new.log.entries c.change_each.ensures.changes
-    c.take_each.new.tree.refs stay sizes c.self.inside.key c.self.invariant.key_in)
+    parts.0 parts.1 sizes c.self.inside.key c.self.invariant.key_in)
 
 pub put_each-requires-clause-apart : goal.put_each-requires-clause-apart
 put_each-requires-clause-apart c =
@@ -111,17 +100,26 @@ put_each-requires-clause-apart c =
     (sym c.self.view_is) c.requires.standing in
     let parts : Among c.self.inside.by_key.refs (olds c.args.edits.items) = split c.self.inside.width c.self.inside.key (slot_at c.self.inside.rows)
     c.self.inside.by_key.refs c.self.inside.indexes.items c.self.invariant c.args.edits.items standing in
-    let given : IsPermutation c.take_each.new.tree.refs parts.0 = c.take_each.ensures.refs parts.0
-    (subst (λ (es : List Edit). IsPermutation c.self.inside.by_key.refs (named edit_name Old es ++ parts.0)) (sym c.as_slice.ensures.value) parts.1) in
-    let stay : Stay c.self.inside.by_key.refs c.args.edits.items c.take_each.new.tree.refs = IsPermutation-trans c.self.inside.by_key.refs
-    (olds c.args.edits.items ++ parts.0) (olds c.args.edits.items ++ c.take_each.new.tree.refs) parts.1
-    (IsPermutation-append_right (olds c.args.edits.items) parts.0 c.take_each.new.tree.refs (IsPermutation-sym c.take_each.new.tree.refs parts.0 given))
-    in
     let keys = subst (λ (v : StoredRows). (kept : List RowRef) → Stay v.refs c.args.edits.items kept
     → RowsApart v.key (rows_after (slot_at v.places) c.args.edits.items kept)) (sym c.self.view_is) c.requires.keys in
-    rw c.entries.ensures (keys_apart c.self.inside.width c.self.inside.key (slot_at c.self.inside.rows) c.self.inside.by_key.refs c.self.inside.indexes.items
-    c.self.invariant c.args.edits.items standing (slot_at c.change_each.new.rows) c.change_each.new.log.entries c.change_each.ensures.changes
-    c.take_each.new.tree.refs stay (keys c.take_each.new.tree.refs stay))
+    let sizes : All (λ row. length row ≡ c.self.inside.width) (new_rows c.args.edits.items) = subst
+    (λ (v : StoredRows). All (λ row. length row ≡ v.width) (new_rows c.args.edits.items)) (sym c.self.view_is) c.requires.wide in
+    let holds : IsPermutation c.take_each.new.tree.refs
+    (staying edit_name edit_other c.self.inside.key c.self.inside.key (slot_at c.self.inside.rows) Old c.args.edits.items ++ parts.0) = subst
+    (λ (es : List Edit). IsPermutation c.take_each.new.tree.refs
+    (staying edit_name edit_other c.self.inside.key c.self.inside.key (slot_at c.self.inside.rows) Old es ++ parts.0)) c.as_slice.ensures.value
+    (c.take_each.ensures.refs parts.0
+    (subst (λ (es : List Edit). IsPermutation c.self.inside.by_key.refs (named edit_name Old es ++ parts.0)) (sym c.as_slice.ensures.value) parts.1)) in
+    let beside = held_beside c.self.inside.width c.self.inside.key (slot_at c.self.inside.rows) c.self.inside.by_key.refs c.self.inside.indexes.items c.self.invariant
+    c.args.edits.items standing (slot_at c.change_each.new.rows) c.change_each.new.log.entries c.change_each.ensures.changes parts.0 parts.1 sizes
+    c.take_each.new.tree.refs holds in
+    rw c.entries.ensures (
+      parts.0,
+      beside,
+      keys_apart c.self.inside.width c.self.inside.key (slot_at c.self.inside.rows) c.self.inside.by_key.refs c.self.inside.indexes.items
+          c.self.invariant c.args.edits.items standing (slot_at c.change_each.new.rows) c.change_each.new.log.entries
+          c.change_each.ensures.changes parts.0 parts.1 (keys parts.0 parts.1),
+    )
 
 pub put_into_all-requires-clause-keep : goal.put_into_all-requires-clause-keep
 put_into_all-requires-clause-keep c =
@@ -129,29 +127,25 @@ put_into_all-requires-clause-keep c =
     (sym c.self.view_is) c.requires.standing in
     let parts : Among c.self.inside.by_key.refs (olds c.args.edits.items) = split c.self.inside.width c.self.inside.key (slot_at c.self.inside.rows)
     c.self.inside.by_key.refs c.self.inside.indexes.items c.self.invariant c.args.edits.items standing in
-    let given : IsPermutation c.take_each.new.tree.refs parts.0 = c.take_each.ensures.refs parts.0
-    (subst (λ (es : List Edit). IsPermutation c.self.inside.by_key.refs (named edit_name Old es ++ parts.0)) (sym c.as_slice.ensures.value) parts.1) in
-    let stay : Stay c.self.inside.by_key.refs c.args.edits.items c.take_each.new.tree.refs = IsPermutation-trans c.self.inside.by_key.refs
-    (olds c.args.edits.items ++ parts.0) (olds c.args.edits.items ++ c.take_each.new.tree.refs) parts.1
-    (IsPermutation-append_right (olds c.args.edits.items) parts.0 c.take_each.new.tree.refs (IsPermutation-sym c.take_each.new.tree.refs parts.0 given))
-    in
     let sizes : All (λ row. length row ≡ c.self.inside.width) (new_rows c.args.edits.items) = subst
     (λ (v : StoredRows). All (λ row. length row ≡ v.width) (new_rows c.args.edits.items)) (sym c.self.view_is) c.requires.wide in
-    let taken : EachTurns (Taken c.self.inside.key (slot_at c.self.inside.rows) (olds c.args.edits.items)) c.self.inside.indexes.items
+    let taken : EachTurns (λ x. Taken c.self.inside.key (slot_at c.self.inside.rows) (olds c.args.edits.items)
+    (unmoved edit_name edit_other c.self.inside.key (slot_at c.self.inside.rows) Old c.args.edits.items x) x) c.self.inside.indexes.items
     c.take_from_all.new.indexes.items = subst
-    (λ (es : List Edit). EachTurns (Taken c.self.inside.key (slot_at c.self.inside.rows) (named edit_name Old es)) c.self.inside.indexes.items
+    (λ (es : List Edit). EachTurns (λ x. Taken c.self.inside.key (slot_at c.self.inside.rows) (named edit_name Old es)
+    (unmoved edit_name edit_other c.self.inside.key (slot_at c.self.inside.rows) Old es x) x) c.self.inside.indexes.items
     c.take_from_all.new.indexes.items) c.as_slice-2.ensures.value c.take_from_all.ensures.taken in
     let keys = subst (λ (v : StoredRows). (kept : List RowRef) → Stay v.refs c.args.edits.items kept
     → RowsApart v.key (rows_after (slot_at v.places) c.args.edits.items kept)) (sym c.self.view_is) c.requires.keys in
     rw c.entries-2.ensures (
-      c.take_each.new.tree.refs,
+      parts.0,
       keep_some c.self.inside.width c.self.inside.key (slot_at c.self.inside.rows) c.self.inside.by_key.refs
           c.self.inside.indexes.items c.self.invariant c.args.edits.items standing (slot_at c.change_each.new.rows) c.change_each.new.log.entries
-          c.change_each.ensures.changes c.take_each.new.tree.refs stay sizes c.take_from_all.new.indexes.items taken,
+          c.change_each.ensures.changes parts.0 parts.1 sizes c.take_from_all.new.indexes.items taken,
       keys_apart c.self.inside.width
           c.self.inside.key (slot_at c.self.inside.rows) c.self.inside.by_key.refs c.self.inside.indexes.items c.self.invariant c.args.edits.items standing
-          (slot_at c.change_each.new.rows) c.change_each.new.log.entries c.change_each.ensures.changes c.take_each.new.tree.refs stay
-          (keys c.take_each.new.tree.refs stay),
+          (slot_at c.change_each.new.rows) c.change_each.new.log.entries c.change_each.ensures.changes parts.0 parts.1
+          (keys parts.0 parts.1),
     )
 
 pub put_into_all-requires-clause-wide : goal.put_into_all-requires-clause-wide
@@ -160,21 +154,17 @@ put_into_all-requires-clause-wide c =
     (sym c.self.view_is) c.requires.standing in
     let parts : Among c.self.inside.by_key.refs (olds c.args.edits.items) = split c.self.inside.width c.self.inside.key (slot_at c.self.inside.rows)
     c.self.inside.by_key.refs c.self.inside.indexes.items c.self.invariant c.args.edits.items standing in
-    let given : IsPermutation c.take_each.new.tree.refs parts.0 = c.take_each.ensures.refs parts.0
-    (subst (λ (es : List Edit). IsPermutation c.self.inside.by_key.refs (named edit_name Old es ++ parts.0)) (sym c.as_slice.ensures.value) parts.1) in
-    let stay : Stay c.self.inside.by_key.refs c.args.edits.items c.take_each.new.tree.refs = IsPermutation-trans c.self.inside.by_key.refs
-    (olds c.args.edits.items ++ parts.0) (olds c.args.edits.items ++ c.take_each.new.tree.refs) parts.1
-    (IsPermutation-append_right (olds c.args.edits.items) parts.0 c.take_each.new.tree.refs (IsPermutation-sym c.take_each.new.tree.refs parts.0 given))
-    in
     let sizes : All (λ row. length row ≡ c.self.inside.width) (new_rows c.args.edits.items) = subst
     (λ (v : StoredRows). All (λ row. length row ≡ v.width) (new_rows c.args.edits.items)) (sym c.self.view_is) c.requires.wide in
-    let taken : EachTurns (Taken c.self.inside.key (slot_at c.self.inside.rows) (olds c.args.edits.items)) c.self.inside.indexes.items
+    let taken : EachTurns (λ x. Taken c.self.inside.key (slot_at c.self.inside.rows) (olds c.args.edits.items)
+    (unmoved edit_name edit_other c.self.inside.key (slot_at c.self.inside.rows) Old c.args.edits.items x) x) c.self.inside.indexes.items
     c.take_from_all.new.indexes.items = subst
-    (λ (es : List Edit). EachTurns (Taken c.self.inside.key (slot_at c.self.inside.rows) (named edit_name Old es)) c.self.inside.indexes.items
+    (λ (es : List Edit). EachTurns (λ x. Taken c.self.inside.key (slot_at c.self.inside.rows) (named edit_name Old es)
+    (unmoved edit_name edit_other c.self.inside.key (slot_at c.self.inside.rows) Old es x) x) c.self.inside.indexes.items
     c.take_from_all.new.indexes.items) c.as_slice-2.ensures.value c.take_from_all.ensures.taken in
     rw c.entries-2.ensures (wide_some c.self.inside.width c.self.inside.key (slot_at c.self.inside.rows) c.self.inside.by_key.refs
     c.self.inside.indexes.items c.self.invariant c.args.edits.items standing (slot_at c.change_each.new.rows) c.change_each.new.log.entries
-    c.change_each.ensures.changes c.take_each.new.tree.refs stay sizes c.take_from_all.new.indexes.items taken)
+    c.change_each.ensures.changes parts.0 parts.1 sizes c.take_from_all.new.indexes.items taken)
 
 pub put_into_all-requires-clause-spare : goal.put_into_all-requires-clause-spare
 put_into_all-requires-clause-spare c =
@@ -182,23 +172,19 @@ put_into_all-requires-clause-spare c =
     (sym c.self.view_is) c.requires.standing in
     let parts : Among c.self.inside.by_key.refs (olds c.args.edits.items) = split c.self.inside.width c.self.inside.key (slot_at c.self.inside.rows)
     c.self.inside.by_key.refs c.self.inside.indexes.items c.self.invariant c.args.edits.items standing in
-    let given : IsPermutation c.take_each.new.tree.refs parts.0 = c.take_each.ensures.refs parts.0
-    (subst (λ (es : List Edit). IsPermutation c.self.inside.by_key.refs (named edit_name Old es ++ parts.0)) (sym c.as_slice.ensures.value) parts.1) in
-    let stay : Stay c.self.inside.by_key.refs c.args.edits.items c.take_each.new.tree.refs = IsPermutation-trans c.self.inside.by_key.refs
-    (olds c.args.edits.items ++ parts.0) (olds c.args.edits.items ++ c.take_each.new.tree.refs) parts.1
-    (IsPermutation-append_right (olds c.args.edits.items) parts.0 c.take_each.new.tree.refs (IsPermutation-sym c.take_each.new.tree.refs parts.0 given))
-    in
     let sizes : All (λ row. length row ≡ c.self.inside.width) (new_rows c.args.edits.items) = subst
     (λ (v : StoredRows). All (λ row. length row ≡ v.width) (new_rows c.args.edits.items)) (sym c.self.view_is) c.requires.wide in
-    let taken : EachTurns (Taken c.self.inside.key (slot_at c.self.inside.rows) (olds c.args.edits.items)) c.self.inside.indexes.items
+    let taken : EachTurns (λ x. Taken c.self.inside.key (slot_at c.self.inside.rows) (olds c.args.edits.items)
+    (unmoved edit_name edit_other c.self.inside.key (slot_at c.self.inside.rows) Old c.args.edits.items x) x) c.self.inside.indexes.items
     c.take_from_all.new.indexes.items = subst
-    (λ (es : List Edit). EachTurns (Taken c.self.inside.key (slot_at c.self.inside.rows) (named edit_name Old es)) c.self.inside.indexes.items
+    (λ (es : List Edit). EachTurns (λ x. Taken c.self.inside.key (slot_at c.self.inside.rows) (named edit_name Old es)
+    (unmoved edit_name edit_other c.self.inside.key (slot_at c.self.inside.rows) Old es x) x) c.self.inside.indexes.items
     c.take_from_all.new.indexes.items) c.as_slice-2.ensures.value c.take_from_all.ensures.taken in
     let spares : All (λ x. length c.args.edits.items ≤ spare_of x) c.self.inside.indexes.items = subst
     (λ (v : StoredRows). All (λ x. length c.args.edits.items ≤ spare_of x) v.indexes) (sym c.self.view_is) c.requires.spares in
     rw c.entries-2.ensures (spare_some c.self.inside.width c.self.inside.key (slot_at c.self.inside.rows) c.self.inside.by_key.refs
     c.self.inside.indexes.items c.self.invariant c.args.edits.items standing (slot_at c.change_each.new.rows) c.change_each.new.log.entries
-    c.change_each.ensures.changes c.take_each.new.tree.refs stay sizes c.take_from_all.new.indexes.items taken spares)
+    c.change_each.ensures.changes parts.0 parts.1 sizes c.take_from_all.new.indexes.items taken spares)
 
 pub invariant_of-self : goal.invariant_of-self
 invariant_of-self c =
@@ -206,28 +192,38 @@ invariant_of-self c =
     (sym c.self.view_is) c.requires.standing in
     let parts : Among c.self.inside.by_key.refs (olds c.args.edits.items) = split c.self.inside.width c.self.inside.key (slot_at c.self.inside.rows)
     c.self.inside.by_key.refs c.self.inside.indexes.items c.self.invariant c.args.edits.items standing in
-    let given : IsPermutation c.take_each.new.tree.refs parts.0 = c.take_each.ensures.refs parts.0
-    (subst (λ (es : List Edit). IsPermutation c.self.inside.by_key.refs (named edit_name Old es ++ parts.0)) (sym c.as_slice.ensures.value) parts.1) in
-    let stay : Stay c.self.inside.by_key.refs c.args.edits.items c.take_each.new.tree.refs = IsPermutation-trans c.self.inside.by_key.refs
-    (olds c.args.edits.items ++ parts.0) (olds c.args.edits.items ++ c.take_each.new.tree.refs) parts.1
-    (IsPermutation-append_right (olds c.args.edits.items) parts.0 c.take_each.new.tree.refs (IsPermutation-sym c.take_each.new.tree.refs parts.0 given))
-    in
     let sizes : All (λ row. length row ≡ c.self.inside.width) (new_rows c.args.edits.items) = subst
     (λ (v : StoredRows). All (λ row. length row ≡ v.width) (new_rows c.args.edits.items)) (sym c.self.view_is) c.requires.wide in
-    let taken : EachTurns (Taken c.self.inside.key (slot_at c.self.inside.rows) (olds c.args.edits.items)) c.self.inside.indexes.items
+    let taken : EachTurns (λ x. Taken c.self.inside.key (slot_at c.self.inside.rows) (olds c.args.edits.items)
+    (unmoved edit_name edit_other c.self.inside.key (slot_at c.self.inside.rows) Old c.args.edits.items x) x) c.self.inside.indexes.items
     c.take_from_all.new.indexes.items = subst
-    (λ (es : List Edit). EachTurns (Taken c.self.inside.key (slot_at c.self.inside.rows) (named edit_name Old es)) c.self.inside.indexes.items
+    (λ (es : List Edit). EachTurns (λ x. Taken c.self.inside.key (slot_at c.self.inside.rows) (named edit_name Old es)
+    (unmoved edit_name edit_other c.self.inside.key (slot_at c.self.inside.rows) Old es x) x) c.self.inside.indexes.items
     c.take_from_all.new.indexes.items) c.as_slice-2.ensures.value c.take_from_all.ensures.taken in
-    let moved : IsPermutation (news c.change_each.new.log.entries ++ c.take_each.new.tree.refs) c.put_each.new.tree.refs = subst
-    (λ (ns : List Entry). IsPermutation (named entry_name New ns ++ c.take_each.new.tree.refs) c.put_each.new.tree.refs) c.entries.ensures
-    c.put_each.ensures.refs in
-    let put : EachTurns (Put c.self.inside.key (slot_at c.change_each.new.rows) (news c.change_each.new.log.entries)) c.take_from_all.new.indexes.items
-    c.put_into_all.new.indexes.items = subst
-    (λ (ns : List Entry). EachTurns (Put c.self.inside.key (slot_at c.change_each.new.rows) (named entry_name New ns)) c.take_from_all.new.indexes.items
+    let holds : IsPermutation c.take_each.new.tree.refs
+    (staying edit_name edit_other c.self.inside.key c.self.inside.key (slot_at c.self.inside.rows) Old c.args.edits.items ++ parts.0) = subst
+    (λ (es : List Edit). IsPermutation c.take_each.new.tree.refs
+    (staying edit_name edit_other c.self.inside.key c.self.inside.key (slot_at c.self.inside.rows) Old es ++ parts.0)) c.as_slice.ensures.value
+    (c.take_each.ensures.refs parts.0
+    (subst (λ (es : List Edit). IsPermutation c.self.inside.by_key.refs (named edit_name Old es ++ parts.0)) (sym c.as_slice.ensures.value) parts.1)) in
+    let beside = held_beside c.self.inside.width c.self.inside.key (slot_at c.self.inside.rows) c.self.inside.by_key.refs c.self.inside.indexes.items c.self.invariant
+    c.args.edits.items standing (slot_at c.change_each.new.rows) c.change_each.new.log.entries c.change_each.ensures.changes parts.0 parts.1 sizes
+    c.take_each.new.tree.refs holds in
+    let more : IsPermutation c.put_each.new.tree.refs (news c.change_each.new.log.entries ++ parts.0) = subst
+    (λ (ns : List Entry). IsPermutation c.take_each.new.tree.refs
+    (staying entry_name entry_other c.self.inside.key c.self.inside.key (slot_at c.change_each.new.rows) New ns ++ parts.0)
+    → IsPermutation c.put_each.new.tree.refs (named entry_name New ns ++ parts.0)) c.entries.ensures (c.put_each.ensures.refs parts.0) beside in
+    let moved : IsPermutation (news c.change_each.new.log.entries ++ parts.0) c.put_each.new.tree.refs =
+    IsPermutation-sym c.put_each.new.tree.refs (news c.change_each.new.log.entries ++ parts.0) more in
+    let put : EachTurns (λ x. Put c.self.inside.key (slot_at c.change_each.new.rows) (news c.change_each.new.log.entries)
+    (unmoved entry_name entry_other c.self.inside.key (slot_at c.change_each.new.rows) New c.change_each.new.log.entries x) x)
+    c.take_from_all.new.indexes.items c.put_into_all.new.indexes.items = subst
+    (λ (ns : List Entry). EachTurns (λ x. Put c.self.inside.key (slot_at c.change_each.new.rows) (named entry_name New ns)
+    (unmoved entry_name entry_other c.self.inside.key (slot_at c.change_each.new.rows) New ns x) x) c.take_from_all.new.indexes.items
     c.put_into_all.new.indexes.items) c.entries-2.ensures c.put_into_all.ensures.put in
     after c.self.inside.width c.self.inside.key (slot_at c.self.inside.rows) c.self.inside.by_key.refs c.self.inside.indexes.items c.self.invariant
-    c.args.edits.items standing (slot_at c.change_each.new.rows) c.change_each.new.log.entries c.change_each.ensures.changes c.take_each.new.tree.refs
-    stay sizes c.take_from_all.new.indexes.items taken c.put_each.new.tree.refs moved c.put_into_all.new.indexes.items put c.put_each.ensures.ordered
+    c.args.edits.items standing (slot_at c.change_each.new.rows) c.change_each.new.log.entries c.change_each.ensures.changes parts.0
+    parts.1 sizes c.take_from_all.new.indexes.items taken c.put_each.new.tree.refs moved c.put_into_all.new.indexes.items put c.put_each.ensures.ordered
 
 pub returns-clause-changes : goal.returns-clause-changes
 returns-clause-changes c =
@@ -245,20 +241,28 @@ returns-clause-rows c =
     (sym c.self.view_is) c.requires.standing in
     let parts : Among c.self.inside.by_key.refs (olds c.args.edits.items) = split c.self.inside.width c.self.inside.key (slot_at c.self.inside.rows)
     c.self.inside.by_key.refs c.self.inside.indexes.items c.self.invariant c.args.edits.items standing in
-    let given : IsPermutation c.take_each.new.tree.refs parts.0 = c.take_each.ensures.refs parts.0
-    (subst (λ (es : List Edit). IsPermutation c.self.inside.by_key.refs (named edit_name Old es ++ parts.0)) (sym c.as_slice.ensures.value) parts.1) in
-    let stay : Stay c.self.inside.by_key.refs c.args.edits.items c.take_each.new.tree.refs = IsPermutation-trans c.self.inside.by_key.refs
-    (olds c.args.edits.items ++ parts.0) (olds c.args.edits.items ++ c.take_each.new.tree.refs) parts.1
-    (IsPermutation-append_right (olds c.args.edits.items) parts.0 c.take_each.new.tree.refs (IsPermutation-sym c.take_each.new.tree.refs parts.0 given))
-    in
-    let moved : IsPermutation (news c.change_each.new.log.entries ++ c.take_each.new.tree.refs) c.put_each.new.tree.refs = subst
-    (λ (ns : List Entry). IsPermutation (named entry_name New ns ++ c.take_each.new.tree.refs) c.put_each.new.tree.refs) c.entries.ensures
-    c.put_each.ensures.refs in
+    let sizes : All (λ row. length row ≡ c.self.inside.width) (new_rows c.args.edits.items) = subst
+    (λ (v : StoredRows). All (λ row. length row ≡ v.width) (new_rows c.args.edits.items)) (sym c.self.view_is) c.requires.wide in
+    let holds : IsPermutation c.take_each.new.tree.refs
+    (staying edit_name edit_other c.self.inside.key c.self.inside.key (slot_at c.self.inside.rows) Old c.args.edits.items ++ parts.0) = subst
+    (λ (es : List Edit). IsPermutation c.take_each.new.tree.refs
+    (staying edit_name edit_other c.self.inside.key c.self.inside.key (slot_at c.self.inside.rows) Old es ++ parts.0)) c.as_slice.ensures.value
+    (c.take_each.ensures.refs parts.0
+    (subst (λ (es : List Edit). IsPermutation c.self.inside.by_key.refs (named edit_name Old es ++ parts.0)) (sym c.as_slice.ensures.value) parts.1)) in
+    let beside = held_beside c.self.inside.width c.self.inside.key (slot_at c.self.inside.rows) c.self.inside.by_key.refs c.self.inside.indexes.items c.self.invariant
+    c.args.edits.items standing (slot_at c.change_each.new.rows) c.change_each.new.log.entries c.change_each.ensures.changes parts.0 parts.1 sizes
+    c.take_each.new.tree.refs holds in
+    let more : IsPermutation c.put_each.new.tree.refs (news c.change_each.new.log.entries ++ parts.0) = subst
+    (λ (ns : List Entry). IsPermutation c.take_each.new.tree.refs
+    (staying entry_name entry_other c.self.inside.key c.self.inside.key (slot_at c.change_each.new.rows) New ns ++ parts.0)
+    → IsPermutation c.put_each.new.tree.refs (named entry_name New ns ++ parts.0)) c.entries.ensures (c.put_each.ensures.refs parts.0) beside in
+    let moved : IsPermutation (news c.change_each.new.log.entries ++ parts.0) c.put_each.new.tree.refs =
+    IsPermutation-sym c.put_each.new.tree.refs (news c.change_each.new.log.entries ++ parts.0) more in
     subst (λ (v : StoredRows). (kept : List RowRef) → Stay v.refs c.args.edits.items kept
     → IsPermutation (rows_after (slot_at v.places) c.args.edits.items kept) (map (row_at (slot_at c.change_each.new.rows)) c.put_each.new.tree.refs))
     c.self.view_is (λ kept same. rows_moved c.self.inside.width c.self.inside.key (slot_at c.self.inside.rows) c.self.inside.by_key.refs
     c.self.inside.indexes.items c.self.invariant c.args.edits.items standing (slot_at c.change_each.new.rows) c.change_each.new.log.entries
-    c.change_each.ensures.changes c.take_each.new.tree.refs stay kept c.put_each.new.tree.refs same moved)
+    c.change_each.ensures.changes parts.0 parts.1 kept c.put_each.new.tree.refs same moved)
 
 pub returns-clause-row_list : goal.returns-clause-row_list
 returns-clause-row_list c =
@@ -266,16 +270,25 @@ returns-clause-row_list c =
     (sym c.self.view_is) c.requires.standing in
     let parts : Among c.self.inside.by_key.refs (olds c.args.edits.items) = split c.self.inside.width c.self.inside.key (slot_at c.self.inside.rows)
     c.self.inside.by_key.refs c.self.inside.indexes.items c.self.invariant c.args.edits.items standing in
-    let given : IsPermutation c.take_each.new.tree.refs parts.0 = c.take_each.ensures.refs parts.0
-    (subst (λ (es : List Edit). IsPermutation c.self.inside.by_key.refs (named edit_name Old es ++ parts.0)) (sym c.as_slice.ensures.value) parts.1) in
-    let stay : Stay c.self.inside.by_key.refs c.args.edits.items c.take_each.new.tree.refs = IsPermutation-trans c.self.inside.by_key.refs
-    (olds c.args.edits.items ++ parts.0) (olds c.args.edits.items ++ c.take_each.new.tree.refs) parts.1
-    (IsPermutation-append_right (olds c.args.edits.items) parts.0 c.take_each.new.tree.refs (IsPermutation-sym c.take_each.new.tree.refs parts.0 given))
-    in
-    let moved : IsPermutation (news c.change_each.new.log.entries ++ c.take_each.new.tree.refs) c.put_each.new.tree.refs = subst
-    (λ (ns : List Entry). IsPermutation (named entry_name New ns ++ c.take_each.new.tree.refs) c.put_each.new.tree.refs) c.entries.ensures
-    c.put_each.ensures.refs in
-    let left : List RowRef = c.take_each.new.tree.refs in
+    let sizes : All (λ row. length row ≡ c.self.inside.width) (new_rows c.args.edits.items) = subst
+    (λ (v : StoredRows). All (λ row. length row ≡ v.width) (new_rows c.args.edits.items)) (sym c.self.view_is) c.requires.wide in
+    let holds : IsPermutation c.take_each.new.tree.refs
+    (staying edit_name edit_other c.self.inside.key c.self.inside.key (slot_at c.self.inside.rows) Old c.args.edits.items ++ parts.0) = subst
+    (λ (es : List Edit). IsPermutation c.take_each.new.tree.refs
+    (staying edit_name edit_other c.self.inside.key c.self.inside.key (slot_at c.self.inside.rows) Old es ++ parts.0)) c.as_slice.ensures.value
+    (c.take_each.ensures.refs parts.0
+    (subst (λ (es : List Edit). IsPermutation c.self.inside.by_key.refs (named edit_name Old es ++ parts.0)) (sym c.as_slice.ensures.value) parts.1)) in
+    let beside = held_beside c.self.inside.width c.self.inside.key (slot_at c.self.inside.rows) c.self.inside.by_key.refs c.self.inside.indexes.items c.self.invariant
+    c.args.edits.items standing (slot_at c.change_each.new.rows) c.change_each.new.log.entries c.change_each.ensures.changes parts.0 parts.1 sizes
+    c.take_each.new.tree.refs holds in
+    let more : IsPermutation c.put_each.new.tree.refs (news c.change_each.new.log.entries ++ parts.0) = subst
+    (λ (ns : List Entry). IsPermutation c.take_each.new.tree.refs
+    (staying entry_name entry_other c.self.inside.key c.self.inside.key (slot_at c.change_each.new.rows) New ns ++ parts.0)
+    → IsPermutation c.put_each.new.tree.refs (named entry_name New ns ++ parts.0)) c.entries.ensures (c.put_each.ensures.refs parts.0) beside in
+    let moved : IsPermutation (news c.change_each.new.log.entries ++ parts.0) c.put_each.new.tree.refs =
+    IsPermutation-sym c.put_each.new.tree.refs (news c.change_each.new.log.entries ++ parts.0) more in
+    let left : List RowRef = parts.0 in
+    let stay : Stay c.self.inside.by_key.refs c.args.edits.items left = parts.1 in
     let rows : List (List Value) = map (row_at (slot_at c.change_each.new.rows)) c.put_each.new.tree.refs in
     let after_edits : IsPermutation (rows_after (slot_at c.self.inside.rows) c.args.edits.items left) rows = rows_moved c.self.inside.width
     c.self.inside.key (slot_at c.self.inside.rows) c.self.inside.by_key.refs c.self.inside.indexes.items c.self.invariant c.args.edits.items standing
@@ -320,7 +333,9 @@ returns-clause-indexes c =
     let outs : List RowRef = named edit_name Old c.as_slice-2.result.now in
     let ins : List RowRef = named entry_name New c.entries-2.result.now in
     let same : EachTurns SameIndex c.self.inside.indexes.items c.put_into_all.new.indexes.items =
-    indexes_changed c.self.inside.key old new outs ins c.self.inside.indexes.items c.take_from_all.new.indexes.items
+    indexes_changed c.self.inside.key old new outs ins
+    (λ x. unmoved edit_name edit_other c.self.inside.key old Old c.as_slice-2.result.now x)
+    (λ x. unmoved entry_name entry_other c.self.inside.key new New c.entries-2.result.now x) c.self.inside.indexes.items c.take_from_all.new.indexes.items
     c.put_into_all.new.indexes.items c.take_from_all.ensures.taken c.put_into_all.ensures.put
     in
     subst (λ (v : StoredRows). EachTurns SameIndex v.indexes c.put_into_all.new.indexes.items) c.self.view_is same

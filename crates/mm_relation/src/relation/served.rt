@@ -1,0 +1,71 @@
+//! Which index a column has, and the rows between two keys.
+ghost use Rattle.std.specs.Prelude.{◌≡◌, ℕ, ◌++◌, position, IfSome, IfNone, OnOk, OnErr};
+ghost use Rattle.std.specs.Option.{option_copied};
+ghost use Rattle.mm_order.specs.Probe.{entries_between};
+ghost use Rattle.mm_partition.specs.Places.{slot_at};
+ghost use Rattle.mm_relation.specs.Reads.{HasIndex, end_place};
+ghost use Rattle.mm_relation.specs.Served.{is_on};
+
+use super::Relation;
+use crate::index::Index;
+use crate::tree_reads::{Ends, copy_range};
+use mm_schema::IndexKind;
+use mm_value::{RowRef, Value};
+use std::alloc::{AllocError, Global};
+
+impl Relation {
+    /// The place of the first index of a kind on a column, counted from 0; none where the column has no such index. The key's
+    /// own is not among them.
+    pub fn index_of(&self, column: usize, kind: IndexKind) -> Option<usize>
+        ensures first { result ≡ position (is_on column kind) self.now.indexes }
+        ensures found { IfSome result (λ index. HasIndex self.now.indexes index column kind) }
+        ensures none { IfNone result ((index : ℕ) → HasIndex self.now.indexes index column kind → ⊥) }
+    {
+        first_on(self.indexes.as_slice(), column, kind)
+    }
+
+    /// Appends the references of the rows whose keys are between two ends, these included, in the order of the key. An end
+    /// that is not given leaves its side open. `AllocError` where memory is refused; then `out` holds what it held.
+    pub fn key_range(
+        &self,
+        alloc: Global,
+        low: Option<&Value>,
+        high: Option<&Value>,
+        out: &mut Vec<RowRef>,
+    ) -> Result<(), AllocError>
+        ensures ok { OnOk result (out.new.items ≡ out.old.items ++ entries_between
+            (end_place self.now.key (slot_at self.now.places) (option_copied low.entry))
+            (end_place self.now.key (slot_at self.now.places) (option_copied high.entry)) self.now.refs) }
+        ensures err { OnErr result (out.new.items ≡ out.old.items) }
+    {
+        let ends = Ends { low, high };
+        copy_range(
+            alloc,
+            &self.rows,
+            self.key,
+            self.key,
+            &self.by_key,
+            ends,
+            out,
+        )
+    }
+}
+
+/// The place of the first index of a kind on a column.
+fn first_on(indexes: &[Index], column: usize, kind: IndexKind) -> Option<usize>
+    ensures { result ≡ position (is_on column kind) indexes.now }
+{
+    indexes
+        .iter()
+        .position(|index| has_kind(index, column, kind))
+}
+
+/// Whether an index is of a kind and on a column.
+fn has_kind(index: &Index, column: usize, kind: IndexKind) -> bool
+    ensures { result ≡ is_on column kind index.now }
+{
+    match index {
+        Index::Tree { column: own, .. } => *own == column && kind == IndexKind::Tree,
+        Index::Hash { column: own, .. } => *own == column && kind == IndexKind::Hash,
+    }
+}
