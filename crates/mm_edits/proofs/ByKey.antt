@@ -34,7 +34,7 @@ both : (a b : Bool) → (a && b) ≡ true → (a ≡ true) × (b ≡ true)
 both true b e = (refl, e)
 both false b e = cc
 
-all_get : {X : Type 0} (p : X → Bool) (xs : List X) (k : ℕ) (d : X) → k < length xs → list_all p xs ≡ true → p (get_or xs k d) ≡ true
+pub all_get : {X : Type 0} (p : X → Bool) (xs : List X) (k : ℕ) (d : X) → k < length xs → list_all p xs ≡ true → p (get_or xs k d) ≡ true
 all_get p [] k d within all = absurd (omega arith)
 all_get p (x ∷ xs) zero d within all = (both (p x) (list_all p xs) all).0
 all_get p (x ∷ xs) (suc k) d within all = all_get p xs k d (omega arith) (both (p x) (list_all p xs) all).1

@@ -1,4 +1,7 @@
+mod Along
 mod ByKey
+mod Ends
 mod Made
+mod OnPath
 mod Selected
 mod Values

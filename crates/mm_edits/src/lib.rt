@@ -4,6 +4,8 @@
 #![tactic(auto)]
 
 mod edits;
+mod found;
+mod paths;
 mod select;
 #[cfg(test)]
 mod tests;

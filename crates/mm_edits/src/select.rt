@@ -1,19 +1,21 @@
 //! Rows selected by tests.
-ghost use Rattle.std.specs.Prelude.{◌≡◌, ◌≤◌, Contains, filter, length, IfOk, IfSome, IfNone};
+ghost use Rattle.std.specs.Prelude.{◌≡◌, ◌≤◌, Contains, filter, length, IfOk};
 ghost use Rattle.mm_partition.specs.Places.{slot_at};
 ghost use Rattle.mm_query.specs.Binding.{TestsWithin};
 ghost use Rattle.mm_query.specs.Edits.{meets};
 ghost use Rattle.mm_relation.specs.Refs.{row_at};
 ghost use Rattle.mm_edits.specs.Asked.{asks_for};
-ghost use Rattle.mm_value.specs.declared.values.Value.{Value as Sought};
+ghost use Rattle.mm_edits.specs.Paths.{Leads};
 
-use mm_query::{Atom, Comparison, Operand};
+use crate::found::{candidates, meeting, refs_of, sort_by_key};
+use crate::paths::{Bound, Path, end_of, path_for};
+use mm_query::Atom;
 use mm_relation::Relation;
 use mm_value::{Row, RowRef, Value};
 use std::alloc::{AllocError, Global};
 
 /// Whether all tests hold for a row.
-fn meets(tests: &[Atom<usize>], row: &Row) -> bool
+pub fn meets(tests: &[Atom<usize>], row: &Row) -> bool
     requires { TestsWithin (length row.now) tests.now }
     ensures { result ≡ meets tests.now row.now }
 {
@@ -21,7 +23,8 @@ fn meets(tests: &[Atom<usize>], row: &Row) -> bool
 }
 
 /// The references of the rows that meet all tests, in key order, where there are at most 1,048,576 rows. Where a test asks for
-/// one key, the T-tree on the key finds its row; else every row is looked at. `AllocError` where memory is refused.
+/// one key, the T-tree on the key finds its row; else, where an index serves a test, it finds the rows that may meet them; else
+/// every row is looked at. `AllocError` where memory is refused.
 pub(crate) fn select(
     alloc: Global,
     relation: &Relation,
@@ -32,35 +35,12 @@ pub(crate) fn select(
     ensures { IfOk result (λ found. found.items
         ≡ filter (λ at. meets tests.now (row_at (slot_at relation.now.places) at)) relation.now.refs) }
 {
-    match sought_key(relation.key(), tests) {
-        Some(key) => by_key(alloc, relation, key, tests),
+    if let Some(key) = end_of(tests, relation.key(), Bound::Exact) {
+        return by_key(alloc, relation, key, tests);
+    }
+    match path_for(relation, tests) {
+        Some(path) => by_path(alloc, relation, path, tests),
         None => by_scan(alloc, relation, tests),
-    }
-}
-
-/// The value that the first test of this kind asks the key to be, if there is one.
-fn sought_key(key: usize, tests: &[Atom<usize>]) -> Option<&Value>
-    ensures asked { IfSome result (λ value. Contains tests.now (asks_for key value.now)) }
-    ensures none { IfNone result ((value : Sought) → Contains tests.now (asks_for key value) → ⊥) }
-{
-    for test in tests {
-        if let Some(value) = key_asked(key, test) {
-            return Some(value);
-        }
-    }
-    None
-}
-
-/// The value that a test asks the key to be, if it is of that kind.
-fn key_asked(key: usize, test: &Atom<usize>) -> Option<&Value>
-    ensures asked { IfSome result (λ value. test.now ≡ asks_for key value.now) }
-    ensures none { IfNone result ((value : Sought) → test.now ≡ asks_for key value → ⊥) }
-{
-    match &test.right {
-        Operand::Literal(value) if test.left == key && test.comparison == Comparison::Equal => {
-            Some(value)
-        }
-        _ => None,
     }
 }
 
@@ -87,6 +67,26 @@ fn by_key(
     }
     found.push(at)?;
     Ok(found)
+}
+
+/// The references of the rows that meet all tests, in key order. It looks at the rows along the path alone. `AllocError` where
+/// memory is refused.
+fn by_path(
+    alloc: Global,
+    relation: &Relation,
+    path: Path,
+    tests: &[Atom<usize>],
+) -> Result<Vec<RowRef>, AllocError>
+    requires within { TestsWithin relation.now.width tests.now }
+    requires leads { Leads relation.now tests.now path }
+    ensures { IfOk result (λ found. found.items
+        ≡ filter (λ at. meets tests.now (row_at (slot_at relation.now.places) at)) relation.now.refs) }
+{
+    relation.is_kept();
+    let candidates = candidates(alloc, relation, path)?;
+    let mut found = meeting(alloc, relation, candidates.as_slice(), tests)?;
+    sort_by_key(&mut found);
+    refs_of(alloc, found.as_slice())
 }
 
 /// The references of the rows that meet all tests, of which there are at most 1,048,576, in key order. It looks at every row.

@@ -6,9 +6,11 @@ ghost use Rattle.mm_query.specs.Binding.{TestsWithin};
 ghost use Rattle.mm_relation.specs.Changes.{Standing};
 ghost use Rattle.mm_relation.specs.Edits.{new_rows};
 
+use crate::paths::{Path, path_for};
 use crate::{additions, removals, updates};
 use mm_query::{Assignment, Atom, Comparison, Operand};
 use mm_relation::{Edit, Log, Relation};
+use mm_schema::IndexKind;
 use mm_value::{Refusal, Row, RowRef, Value};
 use std::alloc::{AllocError, Global};
 use std::test::Fail;
@@ -67,6 +69,28 @@ fn at_least(key: i64) -> Atom<usize>
         comparison: Comparison::GreaterOrEqual,
         right: Operand::Literal(Value::Int(key)),
     }
+}
+
+/// The test that a second value compares so with a number.
+fn number_is(comparison: Comparison, number: i64) -> Atom<usize>
+    ensures { ReadsWithin 2 result.left result.right }
+{
+    Atom {
+        left: 1,
+        comparison,
+        right: Operand::Literal(Value::Int(number)),
+    }
+}
+
+/// The rows of the keys 1, 2 and 3 with an index of this kind on the second column.
+fn three_indexed(alloc: Global, kind: IndexKind) -> Result<Relation, AllocError>
+    ensures { IfOk result (λ relation. relation.width ≡ 2) }
+{
+    let mut relation = three(alloc)?;
+    if relation.len() <= 3 {
+        relation.add_index(alloc, 1, kind)?;
+    }
+    Ok(relation)
 }
 
 /// Adds a number to the second value of each row that meets the tests, among at most 1,000 rows.
@@ -199,5 +223,60 @@ fn removes_the_rows_that_meet_tests(rt: HostRuntime) -> Result<(), Fail> {
     assert_eq!(rt; numbers(&relation), [Some(10), None, None]);
     assert!(rt; take(&mut relation, alloc, &[])?);
     assert_eq!(rt; relation.len(), 0);
+    Ok(())
+}
+
+#[test]
+fn finds_rows_along_a_tree(rt: HostRuntime) -> Result<(), Fail> {
+    let alloc = rt.alloc();
+    let mut relation = three_indexed(alloc, IndexKind::Tree)?;
+    let tests = [
+        number_is(Comparison::Less, 30),
+        number_is(Comparison::GreaterOrEqual, 20),
+    ];
+    let both_ends = match path_for(&relation, &tests) {
+        Some(Path::Tree { index: 0, ends }) => ends.low.is_some() && ends.high.is_some(),
+        _ => false,
+    };
+    assert!(rt; both_ends);
+    assert_eq!(rt; shift(&mut relation, alloc, 50, &tests), Ok(true));
+    assert_eq!(rt; numbers(&relation), [Some(10), Some(70), Some(30)]);
+    // Along the tree the row of the key 3 now comes before that of the key 2.
+    let above = number_is(Comparison::Greater, 10);
+    assert_eq!(rt; shift(&mut relation, alloc, 1, &[above]), Ok(true));
+    assert_eq!(rt; numbers(&relation), [Some(10), Some(71), Some(31)]);
+    let same = number_is(Comparison::Equal, 71);
+    assert!(rt; take(&mut relation, alloc, &[same])?);
+    assert_eq!(rt; numbers(&relation), [Some(10), None, Some(31)]);
+    Ok(())
+}
+
+#[test]
+fn finds_rows_by_their_hashes(rt: HostRuntime) -> Result<(), Fail> {
+    let alloc = rt.alloc();
+    let mut relation = three_indexed(alloc, IndexKind::Hash)?;
+    assert_eq!(rt; shift(&mut relation, alloc, -10, &[at_least(2)]), Ok(true));
+    assert_eq!(rt; numbers(&relation), [Some(10), Some(10), Some(20)]);
+    let tests = [at_least(2), number_is(Comparison::Equal, 10)];
+    let path = path_for(&relation, &tests);
+    assert!(rt; matches!(path, Some(Path::Hash { index: 0, .. })));
+    assert_eq!(rt; shift(&mut relation, alloc, 5, &tests), Ok(true));
+    assert_eq!(rt; numbers(&relation), [Some(10), Some(15), Some(20)]);
+    let twelve = number_is(Comparison::Equal, 12);
+    assert!(rt; take(&mut relation, alloc, &[twelve])?);
+    assert_eq!(rt; numbers(&relation), [Some(10), Some(15), Some(20)]);
+    Ok(())
+}
+
+#[test]
+fn finds_rows_along_the_key(rt: HostRuntime) -> Result<(), Fail> {
+    let alloc = rt.alloc();
+    let mut relation = three_indexed(alloc, IndexKind::Hash)?;
+    let tests = [number_is(Comparison::Greater, 20), at_least(2)];
+    assert!(rt; path_for(&relation, &tests[..1]).is_none());
+    let path = path_for(&relation, &tests);
+    assert!(rt; matches!(path, Some(Path::Key { .. })));
+    assert!(rt; take(&mut relation, alloc, &tests)?);
+    assert_eq!(rt; numbers(&relation), [Some(10), Some(20), None]);
     Ok(())
 }
