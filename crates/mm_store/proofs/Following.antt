@@ -3,6 +3,7 @@ use Rattle.std.proofs.Common.{◌≡◌, ◌≢◌, ℕ, ◌<◌, ◌≤◌, ⊎
 use Rattle.std.proofs.lemmas.Bool.{cases_lt, lt-ltb, le-ltb, cond-true, cond-false}
 use Rattle.std.proofs.lemmas.List.{get_or_past}
 use Rattle.std.specs.List.{All}
+use Rattle.std.specs.Prelude.{slice_get}
 use Rattle.std.proofs.lemmas.List.Elements.{All-head, All-tail}
 use Rattle.mm_foreign.specs.Ties.{ChangesTarget, HasTarget, Ties, target_at}
 use Rattle.mm_partition.specs.Places.{Content, Free, Live, Hidden, Places, extent_of, slot_at, slot_index_of}
@@ -78,13 +79,14 @@ module _ (column key : ℕ) (then : Slots) where
       pub next : (new : Ties) (to : RowRef) → ChangesTarget ties new at (Some to) → RefersTo column key then row to
           → IsBehind column key now then rest new
 
-    pub record Alters (at : RowRef) : Type 0 where
+    pub record Alters (at : RowRef) (was : List Value) : Type 0 where
       pub row : List Value
       pub live : now at ≡ Live row
       pub target : HasTargetRow column key then row
       pub tied : HasTarget ties at
       pub next : (new : Ties) (to : RowRef) → ChangesTarget ties new at (Some to) → RefersTo column key then row to
           → IsBehind column key now then rest new
+      pub refers : RefersTo column key then was tied.0
 
     pub record Removes (at : RowRef) : Type 0 where
       pub tied : HasTarget ties at
@@ -122,7 +124,7 @@ module _ (column key : ℕ) (then : Slots) where
     adds at (Gone r ∷ es) old standing changes targets follows = absurd changes.1
 
     alters : (at : RowRef) (was : List Value) (edits : List Edit) (old : Slots) → Standing old edits → Changes edits old (Changed at was ∷ rest) now
-        → All (HasTargetRow column key then) (new_rows edits) → Follows column key old then ties → Alters at
+        → All (HasTargetRow column key then) (new_rows edits) → Follows column key old then ties → Alters at was
     alters at was [] old standing changes targets follows = absurd changes
     alters at was (Add row ∷ es) old standing changes targets follows = absurd changes.1
     alters at was (Swap r row ∷ es) old standing changes targets follows =
@@ -131,11 +133,13 @@ module _ (column key : ℕ) (then : Slots) where
         let here : HasRow mid r = (row, changes.1.1.turns.changed) in
         let stays : now r ≡ Live row = row_stays es rest mid now r changes.2 here (first_absent r (olds es) standing.apart) ∙ changes.1.1.turns.changed in
         let turns : Turns old mid at (Live row) = subst (λ (x : RowRef). Turns old mid x (Live row)) (sym changes.1.0) changes.1.1.turns in
+        let own : IsTied column key then (Live was) (target_at ties at) =
+        tied_live (old at) was (target_at ties at) (ap old changes.1.0 ∙ changes.1.1.was) (follows at) in
         record {
           row = row;
           live = ap now changes.1.0 ∙ stays;
           target = All-head (HasTargetRow column key then) row (new_rows es) targets;
-          tied = has_target old at was follows (ap old changes.1.0 ∙ changes.1.1.was);
+          tied = (own.0, own.1);
           next = λ new to change refers. record {
             edits = es;
             before = mid;
@@ -144,6 +148,7 @@ module _ (column key : ℕ) (then : Slots) where
             targets = All-tail (HasTargetRow column key then) row (new_rows es) targets;
             follows = Follows-turned old mid ties new at (Live row) (Some to) follows turns change (to, refl, refers);
           };
+          refers = own.2;
         }
     alters at was (Gone r ∷ es) old standing changes targets follows = absurd changes.1
 
@@ -175,7 +180,7 @@ module _ (column key : ℕ) (then : Slots) where
           let b : IsBehind column key now then (Added at ∷ rest) ties = subst (λ (e : Entry). IsBehind column key now then (e ∷ rest) ties) is behind in
           adds at b.edits b.before b.standing b.changes b.targets b.follows
 
-      pub Alters-from : (at : RowRef) (was : List Value) → entry ≡ Changed at was → Alters at
+      pub Alters-from : (at : RowRef) (was : List Value) → entry ≡ Changed at was → Alters at was
       Alters-from at was is =
           let b : IsBehind column key now then (Changed at was ∷ rest) ties = subst (λ (e : Entry). IsBehind column key now then (e ∷ rest) ties) is behind in
           alters at was b.edits b.before b.standing b.changes b.targets b.follows
@@ -184,6 +189,13 @@ module _ (column key : ℕ) (then : Slots) where
       Removes-from at is =
           let b : IsBehind column key now then (Removed at ∷ rest) ties = subst (λ (e : Entry). IsBehind column key now then (e ∷ rest) ties) is behind in
           removes at b.edits b.before b.standing b.changes b.targets b.follows
+
+    -- a row of the same value keeps its tie
+    pub tie_stays : (at : RowRef) (was : List Value) (one : Alters at was) → slice_get one.row column ≡ slice_get was column
+        → IsBehind column key now then rest ties
+    tie_stays at was one same =
+        one.next ties one.tied.0 (record { changed = one.tied.1; others = λ other apart. refl })
+        (record { live = one.refers.live; same = same ∙ one.refers.same })
 
     -- the row that stands there refers to what the live row refers to
     pub refers_there : (at : RowRef) (row : List Value) (to : RowRef) → now at ≡ Live row → RefersTo column key then (row_at now at) to

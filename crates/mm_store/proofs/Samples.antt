@@ -11,7 +11,7 @@ use Rattle.mm_relation.specs.Kept.{StoredRows}
 use Rattle.mm_relation.specs.Refs.{HasRow}
 use Rattle.mm_relation.specs.declared.edits.Edit.{Edit}
 use Rattle.mm_relation.proofs.Changed.{olds}
-use Rattle.mm_relation.proofs.Samples.{Pairs}
+use Rattle.mm_relation.proofs.Samples.{AreWide}
 use Rattle.mm_value.specs.declared.row_ref.RowRef.{RowRef}
 use Rattle.mm_value.specs.declared.values.Value.{Value}
 use Rattle.mm_store.specs.Sample.{ArePlain, IsPlain}
@@ -41,7 +41,7 @@ pub as_many : (old new : Tables) (place : ℕ) (x : StoredRows) → Turns old pl
 as_many old new place x turned = ap (λ (ts : List StoredRows). length ts) turned ∙ length-set old.tables place x
 
 -- rows of two values may be added to a plain table
-pub fits_plain : (view : Tables) (place : ℕ) → ArePlain view → (edits : List Edit) → olds edits ≡ [] → Pairs (new_rows edits)
+pub fits_plain : (view : Tables) (place : ℕ) → ArePlain view → (edits : List Edit) → olds edits ≡ [] → AreWide 2 (new_rows edits)
     → (stored : StoredRows) → IsAt view place stored → AreFit stored edits
 fits_plain view place plain edits none wide stored at = record {
   standing = record {

@@ -3,12 +3,17 @@
 //! A call that may take memory is handed the allocator; no other call takes any.
 #![tactic(auto)]
 
+mod access;
 mod link;
 mod links;
+mod meter;
 mod store;
 #[cfg(test)]
 mod tests;
 mod undo;
+mod view;
 
+pub use meter::Meter;
 pub use store::Store;
 pub use undo::Undo;
+pub use view::View;

@@ -4,6 +4,8 @@ ghost use Rattle.mm_foreign.specs.Ties.{ChangesTarget, target_at};
 ghost use Rattle.mm_partition.specs.Places.{IsLive, slot_at};
 ghost use Rattle.mm_relation.specs.Refs.{row_at};
 ghost use Rattle.mm_relation.specs.declared.log.Entry.{Entry as Change};
+ghost use Rattle.mm_relation.specs.declared.log.Entry.TheVariants.{Changed};
+ghost use Rattle.mm_schema.specs.Rows.{same_in_column};
 ghost use Rattle.mm_value.specs.declared.row_ref.RowRef.{RowRef as Ref};
 ghost use Rattle.mm_store.specs.Links.{Follows, HasRoom, HasTargetRow, RefersTo, SameSize};
 ghost use Rattle.mm_store.specs.Behind.{IsBehind};
@@ -14,7 +16,7 @@ mod checks;
 use mm_foreign::ForeignKey;
 use mm_relation::{Entry, Relation};
 use mm_schema::Reference;
-use mm_value::RowRef;
+use mm_value::{Row, RowRef, compare};
 use std::alloc::{AllocError, Global};
 
 /// A foreign key with the rows that its rows refer to. Its calls are handed the relations of both tables.
@@ -104,12 +106,28 @@ impl Link {
     {
         match entry {
             Entry::Added(at) => self.tie(from, to, *at),
-            Entry::Changed(at, _) => {
-                self.ties.untie(*at);
-                self.tie(from, to, *at);
-            }
+            Entry::Changed(at, old) => self.retie_changed(from, to, *at, old),
             Entry::Removed(at) => self.ties.untie(*at),
         }
+    }
+
+    /// Brings the tie of a row up to its change from an old row. It stays where both have the same value in the column.
+    fn retie_changed(&mut self, from: &Relation, to: &Relation, at: RowRef, old: &Row)
+        requires column { self.old.reference.column < from.now.width }
+        requires behind { (rest : List Change)
+            × IsBehind self.old.reference.column to.now.key (slot_at from.now.places) (slot_at to.now.places) (Changed at old.now ∷ rest) self.old.ties }
+        requires room { HasRoom from.now.places to.now.places self.old.ties }
+        ensures reference { self.new.reference ≡ self.old.reference }
+        ensures behind { (rest : List Change)
+            → IsBehind self.old.reference.column to.now.key (slot_at from.now.places) (slot_at to.now.places) (Changed at old.now ∷ rest) self.old.ties
+            → IsBehind self.old.reference.column to.now.key (slot_at from.now.places) (slot_at to.now.places) rest self.new.ties }
+        ensures size { SameSize self.old.ties self.new.ties }
+    {
+        if has_same_value(old, from.row(at), self.reference.column) {
+            return;
+        }
+        self.ties.untie(at);
+        self.tie(from, to, at);
     }
 
     /// Ties a row that is tied to none to the row that it refers to.
@@ -131,5 +149,16 @@ impl Link {
             unreachable!()
         };
         self.ties.tie(at, target);
+    }
+}
+
+/// Whether two rows have the same value in a column.
+fn has_same_value(a: &Row, b: &Row, column: usize) -> bool
+    ensures { result ≡ same_in_column column a.now b.now }
+{
+    match (a.values().get(column), b.values().get(column)) {
+        (None, None) => true,
+        (Some(a), Some(b)) => compare(a, b).is_eq(),
+        (None, Some(_)) | (Some(_), None) => false,
     }
 }

@@ -1,6 +1,8 @@
-use Rattle.std.proofs.Common.{None, Some}
+use Rattle.std.proofs.Common.{◌∷◌, subst}
 use Rattle.mm_partition.specs.Places.{slot_at}
-use Rattle.mm_store.proofs.Following.{Adds-from, Alters-from, ChangesTarget-twice, Removes-from, has_there, refers_there}
+use Rattle.mm_relation.specs.declared.log.Entry.{Entry}
+use Rattle.mm_store.specs.Behind.{IsBehind}
+use Rattle.mm_store.proofs.Following.{Adds-from, Removes-from, has_there, refers_there}
 use Rattle.mm_store.proofs.link.Link.retie_row.Goals as goal
 
 pub tie-requires-clause-live : goal.tie-requires-clause-live
@@ -44,39 +46,6 @@ untie-requires c =
     let now = slot_at c.args.from.now.places in
     let ties = c.args.self.now.ties in
     let rest = c.requires.behind.0 in
-    let one = Alters-from column key then now rest ties c.args.entry.now c.requires.behind.1 c.in-Changed.at c.in-Changed.field-1 c.in-Changed.is in
-    one.tied
-
-pub tie-requires-in-Changed-clause-live : goal.tie-requires-in-Changed-clause-live
-tie-requires-in-Changed-clause-live c =
-    let column = c.args.self.now.reference.column in
-    let key = c.args.to.now.key in
-    let then = slot_at c.args.to.now.places in
-    let now = slot_at c.args.from.now.places in
-    let ties = c.args.self.now.ties in
-    let rest = c.requires.behind.0 in
-    let one = Alters-from column key then now rest ties c.args.entry.now c.requires.behind.1 c.in-Changed.at c.in-Changed.field-1 c.in-Changed.is in
-    (one.row, one.live)
-
-pub tie-requires-in-Changed-clause-target : goal.tie-requires-in-Changed-clause-target
-tie-requires-in-Changed-clause-target c =
-    let column = c.args.self.now.reference.column in
-    let key = c.args.to.now.key in
-    let then = slot_at c.args.to.now.places in
-    let now = slot_at c.args.from.now.places in
-    let ties = c.args.self.now.ties in
-    let rest = c.requires.behind.0 in
-    let one = Alters-from column key then now rest ties c.args.entry.now c.requires.behind.1 c.in-Changed.at c.in-Changed.field-1 c.in-Changed.is in
-    has_there column key then now rest ties c.in-Changed.at one.row one.live one.target
-
-pub untie-requires-in-Removed : goal.untie-requires-in-Removed
-untie-requires-in-Removed c =
-    let column = c.args.self.now.reference.column in
-    let key = c.args.to.now.key in
-    let then = slot_at c.args.to.now.places in
-    let now = slot_at c.args.from.now.places in
-    let ties = c.args.self.now.ties in
-    let rest = c.requires.behind.0 in
     let one = Removes-from column key then now rest ties c.args.entry.now c.requires.behind.1 c.in-Removed.at c.in-Removed.is in
     one.tied
 
@@ -92,20 +61,6 @@ returns-in-Added-clause-behind c =
     let tied = c.tie.ensures.tied in
     one.next c.tie.new.self.ties tied.0 tied.1 (refers_there column key then now rest ties c.in-Added.at one.row tied.0 one.live tied.2)
 
-pub returns-in-Changed-clause-behind : goal.returns-in-Changed-clause-behind
-returns-in-Changed-clause-behind c =
-    let column = c.args.self.now.reference.column in
-    let key = c.args.to.now.key in
-    let then = slot_at c.args.to.now.places in
-    let now = slot_at c.args.from.now.places in
-    let ties = c.args.self.now.ties in
-    λ rest behind.
-    let one = Alters-from column key then now rest ties c.args.entry.now behind c.in-Changed.at c.in-Changed.field-1 c.in-Changed.is in
-    let tied = c.tie-in-Changed.ensures.tied in
-    let new = c.tie-in-Changed.new.self.ties in
-    one.next new tied.0 (ChangesTarget-twice ties c.untie.new.self new c.in-Changed.at None (Some tied.0) c.untie.ensures.untied tied.1)
-    (refers_there column key then now rest ties c.in-Changed.at one.row tied.0 one.live tied.2)
-
 pub returns-in-Removed-clause-behind : goal.returns-in-Removed-clause-behind
 returns-in-Removed-clause-behind c =
     let column = c.args.self.now.reference.column in
@@ -115,4 +70,26 @@ returns-in-Removed-clause-behind c =
     let ties = c.args.self.now.ties in
     λ rest behind.
     let one = Removes-from column key then now rest ties c.args.entry.now behind c.in-Removed.at c.in-Removed.is in
-    one.next c.untie-in-Removed.new.self c.untie-in-Removed.ensures.untied
+    one.next c.untie.new.self c.untie.ensures.untied
+
+pub retie_changed-requires-clause-behind : goal.retie_changed-requires-clause-behind
+retie_changed-requires-clause-behind c =
+    let column = c.args.self.now.reference.column in
+    let key = c.args.to.now.key in
+    let then = slot_at c.args.to.now.places in
+    let now = slot_at c.args.from.now.places in
+    let ties = c.args.self.now.ties in
+    let rest = c.requires.behind.0 in (
+      rest,
+      subst (λ (e : Entry). IsBehind column key now then (e ∷ rest) ties) c.in-Changed.is c.requires.behind.1,
+    )
+
+pub returns-in-Changed-clause-behind : goal.returns-in-Changed-clause-behind
+returns-in-Changed-clause-behind c =
+    let column = c.args.self.now.reference.column in
+    let key = c.args.to.now.key in
+    let then = slot_at c.args.to.now.places in
+    let now = slot_at c.args.from.now.places in
+    let ties = c.args.self.now.ties in
+    λ rest behind.
+    c.retie_changed.ensures.behind rest (subst (λ (e : Entry). IsBehind column key now then (e ∷ rest) ties) c.in-Changed.is behind)
