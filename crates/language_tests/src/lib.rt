@@ -18,10 +18,16 @@ mod names;
 #[cfg(test)]
 mod places;
 #[cfg(test)]
+mod plain_results;
+#[cfg(test)]
+mod queries;
+#[cfg(test)]
 mod readings;
 #[cfg(test)]
 mod replies;
 #[cfg(test)]
 mod runs;
+#[cfg(test)]
+mod samples;
 #[cfg(test)]
 mod updated_rows;

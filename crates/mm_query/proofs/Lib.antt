@@ -5,6 +5,9 @@ pub mod KeyOrder
 mod KeptTargets
 mod NamedRows
 pub mod PlacedColumns
+pub mod PlacedQueries
+pub mod PlainEval
+pub mod QueryLaws
 mod Tuples
 pub mod Updates
 pub mod Within

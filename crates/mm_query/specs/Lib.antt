@@ -1,9 +1,13 @@
 pub mod Atoms
 pub mod Binding
+pub mod Counting
 pub mod Edits
 pub mod Machine
 pub mod Placing
+pub mod Queries
+pub mod Resolving
 pub mod State
+pub mod Walk
 pub use Rattle.mm_schema.specs.Columns
 pub use Rattle.mm_schema.specs.Indexes
 pub use Rattle.mm_schema.specs.Instance

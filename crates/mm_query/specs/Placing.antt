@@ -21,15 +21,22 @@ use Rattle.mm_query.specs.declared.atom.Operand.TheVariants as operand
 abbrev pub placed : List Column → List ℕ → ℕ
 placed columns name = unwrap_or (column_place name columns) 0
 
+-- An operand and an atom with what columns stand for in their place.
+abbrev pub mapped_operand : {F G : Type 0} → (F → G) → Operand F → Operand G
+mapped_operand place (operand.Literal value) = operand.Literal value
+mapped_operand place (operand.Column name) = operand.Column (place name)
+mapped_operand place (operand.Shifted name by) = operand.Shifted (place name) by
+
+abbrev pub mapped_atom : {F G : Type 0} → (F → G) → Atom F → Atom G
+mapped_atom place atom =
+    record { left = place atom.left; comparison = atom.comparison; right = mapped_operand place atom.right }
+
 -- An operand, an atom and an assignment with places in place of the names of columns.
 abbrev pub placed_operand : List Column → Operand (List ℕ) → Operand ℕ
-placed_operand columns (operand.Literal value) = operand.Literal value
-placed_operand columns (operand.Column name) = operand.Column (placed columns name)
-placed_operand columns (operand.Shifted name by) = operand.Shifted (placed columns name) by
+placed_operand columns operand = mapped_operand (placed columns) operand
 
 abbrev pub placed_atom : List Column → Atom (List ℕ) → Atom ℕ
-placed_atom columns atom =
-    record { left = placed columns atom.left; comparison = atom.comparison; right = placed_operand columns atom.right }
+placed_atom columns atom = mapped_atom (placed columns) atom
 
 abbrev pub placed_assignment : List Column → Assignment (List ℕ) → Assignment ℕ
 placed_assignment columns assignment =
@@ -59,11 +66,11 @@ assignment_lacks_column columns assignment = lacks_column columns assignment.col
 abbrev pub type_named : List Column → List ℕ → Option ColType
 type_named columns name = option_map (λ column. column.col_type) (column_named name columns)
 
--- The type of an operand, if its column is there.
-abbrev pub operand_type : List Column → Operand (List ℕ) → Option ColType
-operand_type columns (operand.Literal value) = Some (type_of value)
-operand_type columns (operand.Column name) = type_named columns name
-operand_type columns (operand.Shifted name by) = type_named columns name
+-- The type of an operand, where its column has one.
+abbrev pub operand_type : {F : Type 0} → (F → Option ColType) → Operand F → Option ColType
+operand_type type_at (operand.Literal value) = Some (type_of value)
+operand_type type_at (operand.Column name) = type_at name
+operand_type type_at (operand.Shifted name by) = type_at name
 
 -- Both types are known, and they differ.
 abbrev pub differ : Option ColType → Option ColType → Bool
@@ -72,14 +79,14 @@ differ (Some a) None = false
 differ None b = false
 
 -- An operand shifts a text.
-abbrev pub shifts_text : List Column → Operand (List ℕ) → Bool
-shifts_text columns (operand.Literal value) = false
-shifts_text columns (operand.Column name) = false
-shifts_text columns (operand.Shifted name by) = option_map_or (same_type type.Text) (type_named columns name) false
+abbrev pub shifts_text : {F : Type 0} → (F → Option ColType) → Operand F → Bool
+shifts_text type_at (operand.Literal value) = false
+shifts_text type_at (operand.Column name) = false
+shifts_text type_at (operand.Shifted name by) = option_map_or (same_type type.Text) (type_at name) false
 
 -- A column and what it is compared with or gets differ in type, or a text is shifted.
-abbrev pub mismatches : List Column → List ℕ → Operand (List ℕ) → Bool
-mismatches columns name operand = differ (type_named columns name) (operand_type columns operand) || shifts_text columns operand
+abbrev pub mismatches : {F : Type 0} → (F → Option ColType) → F → Operand F → Bool
+mismatches type_at name operand = differ (type_at name) (operand_type type_at operand) || shifts_text type_at operand
 
 -- ---- conditions
 
@@ -95,8 +102,8 @@ column_conditions columns assignments tests =
     record { holds = list_any (assignment_lacks_column columns) assignments || list_any (atom_lacks_column columns) tests; refusal = NoSuchColumn }
     ∷ record { holds = has_twin_targets assignments; refusal = NameTaken }
     ∷ record {
-      holds = list_any (λ (a : Assignment (List ℕ)). mismatches columns a.column a.source) assignments
-          || list_any (λ (t : Atom (List ℕ)). mismatches columns t.left t.right) tests;
+      holds = list_any (λ (a : Assignment (List ℕ)). mismatches (type_named columns) a.column a.source) assignments
+          || list_any (λ (t : Atom (List ℕ)). mismatches (type_named columns) t.left t.right) tests;
       refusal = TypeMismatch;
     }
     ∷ record { holds = nat_lt 16 (length tests); refusal = TooMany }

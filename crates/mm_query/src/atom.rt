@@ -83,7 +83,7 @@ fn compare_with_sum(a: i64, sum: i128) -> Ordering
 }
 
 /// How a value stands to another one with a number added to it. Numbers are added without bound.
-fn compare_shifted(a: &Value, b: &Value, shift: i64) -> Ordering
+pub(crate) fn compare_shifted(a: &Value, b: &Value, shift: i64) -> Ordering
     ensures { result ≡ value_cmp a.now (shifted shift b.now) }
 {
     match (a, b) {

@@ -3,20 +3,35 @@
 
 mod atom;
 mod bind;
+mod bound_query;
+mod combination;
 mod command;
 mod item_list;
 mod laws;
 mod place;
+mod plain;
+mod query;
+mod query_laws;
 mod reply;
 mod row_list;
+mod scope;
 mod update;
 
 pub use atom::{Assignment, Atom, Comparison, Operand};
 pub use bind::{BoundChange, bind_change};
+pub use bound_query::{BoundQuery, FieldPlace, bind_query};
+pub use combination::{none_fails, values_of};
 pub use command::{Command, Definition, Mutation};
 pub use item_list::ItemList;
 pub use laws::{conditions_ascend, rows_keep_their_targets, rows_stay_in_key_order};
 pub use place::{MAX_TESTS, column_refusal, place_assignments, place_tests};
+pub use plain::{MAX_COMBINATIONS, PlainRows, plain_eval};
+pub use query::{FieldName, FromItem, Query};
+pub use query_laws::{
+    combinations_are_counted, distinct_keeps_one_of_each, query_conditions_ascend,
+    shown_rows_are_sorted,
+};
 pub use reply::Reply;
 pub use row_list::RowList;
+pub use scope::{MAX_FROM, MAX_PARTS};
 pub use update::updated_row;

@@ -99,14 +99,14 @@ fn assigns_to(assignments: &[Assignment<Name>], name: &Name) -> bool
 
 /// Whether some column differs in type from what it gets, or a text is shifted.
 fn assign_mismatch(columns: &Columns, assignments: &[Assignment<Name>]) -> bool
-    ensures { result ≡ list_any (λ (a : Assigned (List ℕ)). mismatches columns.now a.column a.source) assignments.now }
+    ensures { result ≡ list_any (λ (a : Assigned (List ℕ)). mismatches (type_named columns.now) a.column a.source) assignments.now }
 {
     assignments.iter().any(|assignment| mismatches(columns, &assignment.column, &assignment.source))
 }
 
 /// Whether some column differs in type from what it is compared with, or a text is shifted.
 fn test_mismatch(columns: &Columns, tests: &[Atom<Name>]) -> bool
-    ensures { result ≡ list_any (λ (t : Test (List ℕ)). mismatches columns.now t.left t.right) tests.now }
+    ensures { result ≡ list_any (λ (t : Test (List ℕ)). mismatches (type_named columns.now) t.left t.right) tests.now }
 {
     tests
         .iter()
@@ -115,14 +115,14 @@ fn test_mismatch(columns: &Columns, tests: &[Atom<Name>]) -> bool
 
 /// Whether a column differs in type from an operand, or that shifts a text.
 fn mismatches(columns: &Columns, name: &Name, operand: &Operand<Name>) -> bool
-    ensures { result ≡ mismatches columns.now name.now operand.now }
+    ensures { result ≡ mismatches (type_named columns.now) name.now operand.now }
 {
     differ(type_named(columns, name), operand_type(columns, operand))
         || shifts_text(columns, operand)
 }
 
 /// Whether two types are known and differ.
-fn differ(a: Option<ColType>, b: Option<ColType>) -> bool
+pub(crate) fn differ(a: Option<ColType>, b: Option<ColType>) -> bool
     ensures { result ≡ differ a b }
 {
     match (a, b) {
@@ -142,7 +142,7 @@ fn column_named<'a>(columns: &'a Columns, name: &Name) -> Option<&'a Column>
 }
 
 /// The type of the column of a name, if it is there.
-fn type_named(columns: &Columns, name: &Name) -> Option<ColType>
+pub(crate) fn type_named(columns: &Columns, name: &Name) -> Option<ColType>
     ensures { result ≡ type_named columns.now name.now }
 {
     match column_named(columns, name) {
@@ -153,7 +153,7 @@ fn type_named(columns: &Columns, name: &Name) -> Option<ColType>
 
 /// The type of an operand, if its column is there.
 fn operand_type(columns: &Columns, operand: &Operand<Name>) -> Option<ColType>
-    ensures { result ≡ operand_type columns.now operand.now }
+    ensures { result ≡ operand_type (type_named columns.now) operand.now }
 {
     match operand {
         Operand::Literal(value) => Some(value.col_type()),
@@ -164,7 +164,7 @@ fn operand_type(columns: &Columns, operand: &Operand<Name>) -> Option<ColType>
 
 /// Whether an operand shifts a text.
 fn shifts_text(columns: &Columns, operand: &Operand<Name>) -> bool
-    ensures { result ≡ shifts_text columns.now operand.now }
+    ensures { result ≡ shifts_text (type_named columns.now) operand.now }
 {
     match operand {
         Operand::Shifted(name, _) => match type_named(columns, name) {
@@ -176,7 +176,7 @@ fn shifts_text(columns: &Columns, operand: &Operand<Name>) -> bool
 }
 
 /// The place of the column of a name, and 0 where there is none.
-fn place(columns: &Columns, name: &Name) -> usize
+pub(crate) fn place(columns: &Columns, name: &Name) -> usize
     ensures { result ≡ placed columns.now name.now }
 {
     columns.place_of(name).unwrap_or(0)

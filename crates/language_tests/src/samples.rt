@@ -1,0 +1,158 @@
+//! Tables and queries for tests.
+use mm_query::{Atom, Comparison, FieldName, FromItem, ItemList, Operand, Query};
+use mm_schema::{Catalog, Column, Columns, Name, Role, TableDef};
+use mm_value::{ColType, Refusal, Text, Value};
+use std::process::Abort;
+
+pub fn name(rt: &impl Abort, bytes: &[u8]) -> Name {
+    Name::new(bytes).expect(rt, "a name")
+}
+
+/// Puts an item at the end, and again where memory was refused.
+pub fn put<T: Drop>(rt: &impl Abort, items: &mut Vec<T>, item: T) {
+    if let Err(refused) = items.push(item) {
+        let _ = items.push(refused.value).ok().expect(rt, "memory");
+    }
+}
+
+/// A table of these columns, of which the first is the key.
+fn table(rt: &(impl Abort + AllocGlobal), bytes: &[u8], columns: &[(&[u8], ColType)]) -> TableDef {
+    let mut items = Vec::new(rt.alloc());
+    for (i, (bytes, col_type)) in columns.iter().enumerate() {
+        let column = Column {
+            name: name(rt, bytes),
+            col_type: *col_type,
+            role: if i == 0 { Role::Key } else { Role::Plain },
+        };
+        put(rt, &mut items, column);
+    }
+    TableDef {
+        name: name(rt, bytes),
+        columns: Columns::new(items).expect(rt, "a key"),
+    }
+}
+
+/// Adds a table, and again where memory was refused.
+fn add(
+    rt: &(impl Abort + AllocGlobal),
+    catalog: &mut Catalog,
+    bytes: &[u8],
+    columns: &[(&[u8], ColType)],
+) {
+    if let Err(refusal) = catalog.add_table(table(rt, bytes, columns)) {
+        assert_eq!(rt; refusal, Refusal::Memory);
+        let _ = catalog
+            .add_table(table(rt, bytes, columns))
+            .ok()
+            .expect(rt, "memory");
+    }
+}
+
+/// A catalog of the tables t (id, k), u (id, v) and s (id, k, s) of whole numbers, but for s.s of texts.
+pub fn catalog(rt: &(impl Abort + AllocGlobal)) -> Catalog {
+    let mut catalog = Catalog::new(rt.alloc());
+    let int = ColType::Int;
+    add(rt, &mut catalog, b"t", &[(b"id", int), (b"k", int)]);
+    add(rt, &mut catalog, b"u", &[(b"id", int), (b"v", int)]);
+    let text = ColType::Text;
+    add(
+        rt,
+        &mut catalog,
+        b"s",
+        &[(b"id", int), (b"k", int), (b"s", text)],
+    );
+    catalog
+}
+
+pub fn field(rt: &impl Abort, alias: &[u8], column: &[u8]) -> FieldName {
+    FieldName {
+        alias: name(rt, alias),
+        column: name(rt, column),
+    }
+}
+
+pub fn number(number: i64) -> Operand<FieldName> {
+    Operand::Literal(Value::Int(number))
+}
+
+pub fn text(rt: &(impl Abort + AllocGlobal), bytes: &[u8]) -> Value {
+    Value::Text(Text::new(rt.alloc(), bytes).expect(rt, "a text"))
+}
+
+/// A query of these tables and fields, with no atoms and no ORDER.
+pub fn query(
+    rt: &(impl Abort + AllocGlobal),
+    from: &[(&[u8], &[u8])],
+    fields: &[(&[u8], &[u8])],
+) -> Query {
+    let mut items = Vec::new(rt.alloc());
+    for (table, alias) in from {
+        let item = FromItem {
+            table: name(rt, table),
+            alias: name(rt, alias),
+        };
+        put(rt, &mut items, item);
+    }
+    let mut shown = Vec::new(rt.alloc());
+    for (alias, column) in fields {
+        put(rt, &mut shown, field(rt, alias, column));
+    }
+    Query {
+        distinct: false,
+        fields: ItemList::new(shown),
+        from: ItemList::new(items),
+        atoms: ItemList::new(Vec::new(rt.alloc())),
+        order: ItemList::new(Vec::new(rt.alloc())),
+    }
+}
+
+/// The query with one more atom.
+pub fn with_atom(
+    rt: &impl Abort,
+    query: Query,
+    left: FieldName,
+    comparison: Comparison,
+    right: Operand<FieldName>,
+) -> Query {
+    let Query {
+        distinct,
+        fields,
+        from,
+        atoms,
+        order,
+    } = query;
+    let mut atoms = atoms.into_vec();
+    let atom = Atom {
+        left,
+        comparison,
+        right,
+    };
+    put(rt, &mut atoms, atom);
+    Query {
+        distinct,
+        fields,
+        from,
+        atoms: ItemList::new(atoms),
+        order,
+    }
+}
+
+/// The query with one more position of ORDER.
+pub fn with_order(rt: &impl Abort, query: Query, position: usize) -> Query {
+    let Query {
+        distinct,
+        fields,
+        from,
+        atoms,
+        order,
+    } = query;
+    let mut positions = order.into_vec();
+    put(rt, &mut positions, position);
+    Query {
+        distinct,
+        fields,
+        from,
+        atoms,
+        order: ItemList::new(positions),
+    }
+}

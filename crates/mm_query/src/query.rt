@@ -1,0 +1,37 @@
+//! Queries, with all names as written.
+use crate::atom::Atom;
+use crate::item_list::ItemList;
+use mm_schema::Name;
+
+/// A column of a table of FROM, as it is written: `alias.column`.
+#[derive(Debug, Drop)]
+pub struct FieldName {
+    /// The alias of the table.
+    pub alias: Name,
+    /// The name of the column.
+    pub column: Name,
+}
+
+/// A table of FROM.
+#[derive(Debug, Drop)]
+pub struct FromItem {
+    /// The name of the table.
+    pub table: Name,
+    /// What the fields call it.
+    pub alias: Name,
+}
+
+/// A SELECT.
+#[derive(Debug, Drop)]
+pub struct Query {
+    /// Whether one of each row is kept.
+    pub distinct: bool,
+    /// The fields whose values make up a row of the result, from left to right.
+    pub fields: ItemList<FieldName>,
+    /// The tables whose rows are combined. A table may stand there more than once.
+    pub from: ItemList<FromItem>,
+    /// What a combination of rows is asked.
+    pub atoms: ItemList<Atom<FieldName>>,
+    /// The fields by which the result is sorted, by their positions counted from 1.
+    pub order: ItemList<usize>,
+}
