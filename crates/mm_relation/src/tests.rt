@@ -132,106 +132,14 @@ fn turn(
     }
 }
 
-/// Turns the row of one key into that of another, or takes it out, and turns the row of the next key into a row of that
-/// one's key.
-fn try_follow(
-    relation: &mut Relation,
-    alloc: Global,
-    gone: i64,
-    to: Option<i64>,
-    next: i64,
-) -> Result<bool, AllocError>
-    requires { IsSample relation.old }
-    ensures { IsSample relation.new }
-{
-    let Some(first) = at_key(relation, gone) else {
-        return Ok(false);
-    };
-    let Some(second) = at_key(relation, next) else {
-        return Ok(false);
-    };
-    if first == second {
-        return Ok(false);
-    }
-    let mut edits = Vec::new(alloc);
-    edits.push(edit_of(alloc, first, to)?)?;
-    edits.push(edit_of(alloc, second, Some(gone))?)?;
-    make(relation, alloc, edits)
-}
-
-/// The same where memory is refused once at most.
-fn follow(
-    relation: &mut Relation,
-    alloc: Global,
-    gone: i64,
-    to: Option<i64>,
-    next: i64,
-) -> Result<bool, AllocError>
-    requires { IsSample relation.old }
-    ensures { IsSample relation.new }
-{
-    match try_follow(relation, alloc, gone, to, next) {
-        Ok(done) => Ok(done),
-        Err(_) => try_follow(relation, alloc, gone, to, next),
-    }
-}
-
-/// Turns the row of one key into one of these values.
-fn try_set(
-    relation: &mut Relation,
-    alloc: Global,
-    key: i64,
-    to: i64,
-    digit: i64,
-    mark: i64,
-) -> Result<bool, AllocError>
-    requires { IsSample relation.old }
-    ensures { IsSample relation.new }
-{
-    let Some(at) = at_key(relation, key) else {
-        return Ok(false);
-    };
-    let mut edits = Vec::new(alloc);
-    edits.push(Edit::Swap(at, row_of(alloc, to, digit, mark)?))?;
-    make(relation, alloc, edits)
-}
-
-/// The same where memory is refused once at most.
-fn set(
-    relation: &mut Relation,
-    alloc: Global,
-    key: i64,
-    to: i64,
-    digit: i64,
-    mark: i64,
-) -> Result<bool, AllocError>
-    requires { IsSample relation.old }
-    ensures { IsSample relation.new }
-{
-    match try_set(relation, alloc, key, to, digit, mark) {
-        Ok(done) => Ok(done),
-        Err(_) => try_set(relation, alloc, key, to, digit, mark),
-    }
-}
-
-/// The number in a column beside a key, none where no row has the key.
-fn number_of(relation: &Relation, key: i64, column: usize) -> Option<i64> {
+/// The digit that stands beside a key, none where no row has the key.
+fn digit_of(relation: &Relation, key: i64) -> Option<i64> {
     relation.is_kept();
     let at = at_key(relation, key)?;
-    match relation.row(at).values().get(column) {
+    match relation.row(at).values().get(1) {
         Some(Value::Int(number)) => Some(*number),
         _ => None,
     }
-}
-
-/// The digit that stands beside a key.
-fn digit_of(relation: &Relation, key: i64) -> Option<i64> {
-    number_of(relation, key, 1)
-}
-
-/// The mark that stands beside a key.
-fn mark_of(relation: &Relation, key: i64) -> Option<i64> {
-    number_of(relation, key, 2)
 }
 
 /// How many rows have a digit between two ends, by the TREE index.
@@ -320,31 +228,6 @@ fn refuses_twins(rt: HostRuntime) -> Result<(), Fail> {
 }
 
 #[test]
-fn leaves_out_rows_that_go_or_change(rt: HostRuntime) -> Result<(), Fail> {
-    let alloc = rt.alloc();
-    let mut relation = sample_again(alloc)?;
-    assert!(rt; put(&mut relation, alloc, &[1, 2, 3])?);
-
-    // A row may keep its key or take a free one, but not that of a row that stays.
-    assert!(rt; turn(&mut relation, alloc, 1, Some(1))?);
-    assert!(rt; !turn(&mut relation, alloc, 1, Some(2))?);
-    assert!(rt; turn(&mut relation, alloc, 1, Some(17))?);
-    assert_eq!(rt; digit_of(&relation, 1), None);
-    assert_eq!(rt; digit_of(&relation, 17), Some(7));
-
-    // It may take the key of a row that goes with it.
-    assert!(rt; follow(&mut relation, alloc, 2, None, 3)?);
-    assert_eq!(rt; relation.len(), 2);
-    assert_eq!(rt; digit_of(&relation, 2), Some(2));
-    assert_eq!(rt; digit_of(&relation, 3), None);
-
-    assert!(rt; turn(&mut relation, alloc, 2, None)?);
-    assert_eq!(rt; relation.len(), 1);
-    assert!(rt; put(&mut relation, alloc, &[2, 3])?);
-    Ok(())
-}
-
-#[test]
 fn keeps_indexes(rt: HostRuntime) -> Result<(), Fail> {
     let alloc = rt.alloc();
     let mut relation = sample_again(alloc)?;
@@ -359,57 +242,6 @@ fn keeps_indexes(rt: HostRuntime) -> Result<(), Fail> {
     assert_eq!(rt; count_of(&relation, alloc, 1)?, 2);
     assert_eq!(rt; count_of(&relation, alloc, 5)?, 2);
     assert_eq!(rt; count_of(&relation, alloc, 2)?, 0);
-    Ok(())
-}
-
-#[test]
-fn keeps_places_that_stay(rt: HostRuntime) -> Result<(), Fail> {
-    let alloc = rt.alloc();
-    let mut relation = sample_again(alloc)?;
-    assert!(rt; put(&mut relation, alloc, &[1, 11, 22, 35, 21])?);
-
-    // Neither the key nor the digit changes.
-    assert!(rt; set(&mut relation, alloc, 11, 11, 1, 7)?);
-    assert_eq!(rt; mark_of(&relation, 11), Some(7));
-    assert_eq!(rt; count_between(&relation, alloc, 1, 2)?, 4);
-    assert_eq!(rt; count_of(&relation, alloc, 1)?, 3);
-    assert_eq!(rt; count_by_digit(&relation, alloc)?, 5);
-
-    // The key alone changes: the row moves among those of its digit.
-    assert!(rt; set(&mut relation, alloc, 1, 51, 1, 0)?);
-    assert_eq!(rt; digit_of(&relation, 1), None);
-    assert_eq!(rt; digit_of(&relation, 51), Some(1));
-    assert_eq!(rt; count_between(&relation, alloc, 1, 1)?, 3);
-    assert_eq!(rt; count_of(&relation, alloc, 1)?, 3);
-
-    // The digit alone changes.
-    assert!(rt; set(&mut relation, alloc, 21, 21, 5, 0)?);
-    assert_eq!(rt; digit_of(&relation, 21), Some(5));
-    assert_eq!(rt; count_between(&relation, alloc, 1, 1)?, 2);
-    assert_eq!(rt; count_of(&relation, alloc, 1)?, 2);
-    assert_eq!(rt; count_of(&relation, alloc, 5)?, 2);
-    Ok(())
-}
-
-#[test]
-fn exchanges_two_keys(rt: HostRuntime) -> Result<(), Fail> {
-    let alloc = rt.alloc();
-    let mut relation = sample_again(alloc)?;
-    assert!(rt; put(&mut relation, alloc, &[1, 11, 22])?);
-    assert!(rt; set(&mut relation, alloc, 1, 1, 1, 7)?);
-
-    // Two keys of one digit, and two of different digits.
-    assert!(rt; follow(&mut relation, alloc, 1, Some(11), 11)?);
-    assert_eq!(rt; count_of(&relation, alloc, 1)?, 2);
-    assert_eq!(rt; mark_of(&relation, 1), Some(0));
-    assert!(rt; follow(&mut relation, alloc, 11, Some(22), 22)?);
-    assert_eq!(rt; count_between(&relation, alloc, 1, 1)?, 2);
-    assert_eq!(rt; count_between(&relation, alloc, 2, 2)?, 1);
-    assert_eq!(rt; count_of(&relation, alloc, 2)?, 1);
-
-    // Both rows may not have one key.
-    assert!(rt; !follow(&mut relation, alloc, 1, Some(1), 22)?);
-    assert_eq!(rt; relation.len(), 3);
     Ok(())
 }
 
