@@ -1,4 +1,5 @@
 //! The truth of a test.
+use crate::samples::put;
 use mm_query::{Atom, Comparison, Operand};
 use mm_value::{Row, Text, Value};
 use std::process::Abort;
@@ -7,10 +8,7 @@ use std::process::Abort;
 fn row(rt: &(impl Abort + AllocGlobal), numbers: &[i64]) -> Row {
     let mut values = Vec::new(rt.alloc());
     for number in numbers {
-        // Memory may be refused once.
-        if let Err(refused) = values.push(Value::Int(*number)) {
-            let _ = values.push(refused.value).ok().expect(rt, "memory");
-        }
+        put(rt, &mut values, Value::Int(*number));
     }
     Row::new(values)
 }
@@ -63,9 +61,7 @@ fn knows_all_comparisons(rt: HostRuntime) {
 fn compares_texts_by_their_bytes(rt: HostRuntime) {
     let text = |bytes: &[u8]| Value::Text(Text::new(rt.alloc(), bytes).expect(&rt, "a text"));
     let mut values = Vec::new(rt.alloc());
-    if let Err(refused) = values.push(text(b"b")) {
-        let _ = values.push(refused.value).ok().expect(&rt, "memory");
-    }
+    put(&rt, &mut values, text(b"b"));
     let row = Row::new(values);
     assert_eq!(rt; row.len(), 1);
     let atom = Atom {

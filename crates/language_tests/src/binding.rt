@@ -1,21 +1,11 @@
 //! Changes bound to a catalog.
+use crate::samples::{name, put};
 use mm_query::{
     Assignment, Atom, BoundChange, Comparison, ItemList, Mutation, Operand, RowList, bind_change,
 };
 use mm_schema::{Catalog, Column, Columns, Name, Role, TableDef};
 use mm_value::{ColType, Refusal, Row, Text, Value};
 use std::process::Abort;
-
-fn name(rt: &impl Abort, bytes: &[u8]) -> Name {
-    Name::new(bytes).expect(rt, "a name")
-}
-
-/// Puts an item at the end, and again where memory was refused.
-fn put<T: Drop>(rt: &impl Abort, items: &mut Vec<T>, item: T) {
-    if let Err(refused) = items.push(item) {
-        let _ = items.push(refused.value).ok().expect(rt, "memory");
-    }
-}
 
 /// A table of two columns of whole numbers, of which the second is the key.
 fn table(rt: &(impl Abort + AllocGlobal), bytes: &[u8]) -> TableDef {

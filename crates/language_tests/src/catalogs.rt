@@ -1,4 +1,5 @@
 //! Catalogs of tables and indexes.
+use crate::samples;
 use mm_schema::{Catalog, Column, Columns, IndexDef, IndexKind, Name, Reference, Role, TableDef};
 use mm_value::{ColType, Refusal};
 use std::alloc::AllocError;
@@ -17,9 +18,7 @@ fn put(rt: &impl Abort, items: &mut Vec<Column>, number: u16, col_type: ColType,
         col_type,
         role,
     };
-    if let Err(refused) = items.push(column) {
-        items.push(refused.value).expect(rt, "memory");
-    }
+    samples::put(rt, items, column);
 }
 
 /// A table with so many columns, of which the first is the key.

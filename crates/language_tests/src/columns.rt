@@ -1,25 +1,19 @@
 //! Columns of a table.
-use mm_schema::{Column, Columns, Name, Role};
+use crate::samples::{name, put};
+use mm_schema::{Column, Columns, Role};
 use mm_value::ColType;
 use std::process::Abort;
-
-fn name_of(rt: &impl Abort, bytes: &[u8]) -> Name {
-    Name::new(bytes).expect(rt, "a name")
-}
 
 /// Columns of whole numbers, each with its name and whether it is the key.
 fn columns(rt: &(impl Abort + AllocGlobal), items: &[(&[u8], bool)]) -> Option<Columns> {
     let mut columns = Vec::new(rt.alloc());
-    for (name, is_key) in items {
+    for (bytes, is_key) in items {
         let column = Column {
-            name: name_of(rt, name),
+            name: name(rt, bytes),
             col_type: ColType::Int,
             role: if *is_key { Role::Key } else { Role::Plain },
         };
-        // Memory may be refused once.
-        if let Err(refused) = columns.push(column) {
-            columns.push(refused.value).expect(rt, "memory");
-        }
+        put(rt, &mut columns, column);
     }
     Columns::new(columns)
 }
@@ -43,16 +37,16 @@ fn has_one_key(rt: HostRuntime) {
 #[test]
 fn finds_columns_by_name(rt: HostRuntime) {
     let found = columns(&rt, &[(b"a", false), (b"b", true)]).expect(&rt, "one key");
-    assert_eq!(rt; found.place_of(&name_of(&rt, b"b")), Some(1));
-    assert_eq!(rt; found.place_of(&name_of(&rt, b"c")), None);
+    assert_eq!(rt; found.place_of(&name(&rt, b"b")), Some(1));
+    assert_eq!(rt; found.place_of(&name(&rt, b"c")), None);
 }
 
 #[test]
 fn tells_its_target(rt: HostRuntime) {
     let column = Column {
-        name: name_of(&rt, b"a"),
+        name: name(&rt, b"a"),
         col_type: ColType::Text,
-        role: Role::Reference(name_of(&rt, b"t")),
+        role: Role::Reference(name(&rt, b"t")),
     };
     let target = column.target().expect(&rt, "a target");
     assert_eq!(rt; target.bytes(), b"t".as_slice());

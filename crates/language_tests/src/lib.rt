@@ -19,6 +19,7 @@ mod names;
 mod places;
 #[cfg(test)]
 mod plain_results;
+pub mod put_again;
 #[cfg(test)]
 mod queries;
 #[cfg(test)]

@@ -1,19 +1,9 @@
 //! Tests and assignments by their places.
+use crate::samples::{name, put};
 use mm_query::{Assignment, Atom, Comparison, Operand, column_refusal, place_tests};
 use mm_schema::{Column, Columns, Name, Role};
 use mm_value::{ColType, Refusal, Text, Value};
 use std::process::Abort;
-
-fn name(rt: &impl Abort, bytes: &[u8]) -> Name {
-    Name::new(bytes).expect(rt, "a name")
-}
-
-/// Puts an item at the end, and again where memory was refused.
-fn put<T: Drop>(rt: &impl Abort, items: &mut Vec<T>, item: T) {
-    if let Err(refused) = items.push(item) {
-        let _ = items.push(refused.value).ok().expect(rt, "memory");
-    }
-}
 
 fn column(rt: &impl Abort, bytes: &[u8], col_type: ColType, role: Role) -> Column {
     Column {

@@ -1,4 +1,5 @@
 //! Tables and queries for tests.
+use crate::put_again::put_again;
 use mm_query::{Atom, Comparison, FieldName, FromItem, ItemList, Operand, Query};
 use mm_schema::{Catalog, Column, Columns, Name, Role, TableDef};
 use mm_value::{ColType, Refusal, Text, Value};
@@ -10,9 +11,7 @@ pub fn name(rt: &impl Abort, bytes: &[u8]) -> Name {
 
 /// Puts an item at the end, and again where memory was refused.
 pub fn put<T: Drop>(rt: &impl Abort, items: &mut Vec<T>, item: T) {
-    if let Err(refused) = items.push(item) {
-        let _ = items.push(refused.value).ok().expect(rt, "memory");
-    }
+    let _ = put_again(items, item).ok().expect(rt, "memory");
 }
 
 /// A table of these columns, of which the first is the key.

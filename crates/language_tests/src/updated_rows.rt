@@ -1,14 +1,8 @@
 //! Rows that assignments make.
+use crate::samples::put;
 use mm_query::{Assignment, Operand, updated_row};
 use mm_value::{Refusal, Row, Value};
 use std::process::Abort;
-
-/// Puts an item at the end, and again where memory was refused.
-fn put<T: Drop>(rt: &impl Abort, items: &mut Vec<T>, item: T) {
-    if let Err(refused) = items.push(item) {
-        let _ = items.push(refused.value).ok().expect(rt, "memory");
-    }
-}
 
 /// A list of two items.
 fn list<T: Drop>(rt: &(impl Abort + AllocGlobal), first: T, second: T) -> Vec<T> {

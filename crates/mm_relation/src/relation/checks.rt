@@ -11,8 +11,8 @@ use crate::edits::Edit;
 use std::alloc::{AllocError, Global};
 
 impl Relation {
-    /// Whether two rows would have one key with the edits made. It takes O(m log m + m log n) comparisons for m edits
-    /// among n rows. `AllocError` where memory is refused.
+    /// Whether two rows would have one key with the edits made. It takes O(m log m + d log n) comparisons for m edits
+    /// among n rows, of which d bring a row with another key. `AllocError` where memory is refused.
     pub fn has_twins_with(&self, alloc: Global, edits: &[Edit]) -> Result<bool, AllocError>
         requires { Standing (slot_at self.now.places) edits.now }
         ensures twins { IfOk result (λ twins. twins
