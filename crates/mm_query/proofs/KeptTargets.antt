@@ -26,7 +26,7 @@ use Rattle.mm_query.specs.Edits.{changed_table, own_pairs, value_conditions}
 use Rattle.mm_query.specs.Machine.{after_all, after_change, after_definition, conditions, row_conditions, some_is_referred, some_lacks_target, state_after}
 use Rattle.mm_query.specs.State.{State, first_state, rows_in}
 use Rattle.mm_query.specs.declared.command.Command.{Command}
-use Rattle.mm_query.specs.declared.command.Command.TheVariants.{Nothing, Define, Change, Scan, ScanIndex}
+use Rattle.mm_query.specs.declared.command.Command.TheVariants.{Nothing, Define, Change, Scan, ScanIndex, Select, Explain}
 use Rattle.mm_query.specs.declared.command.Definition.{Definition}
 use Rattle.mm_query.specs.declared.command.Definition.TheVariants as define
 use Rattle.mm_query.specs.declared.command.Mutation.{Mutation}
@@ -296,6 +296,8 @@ targets_by_command (Define definition) state due targets = targets_by_definition
 targets_by_command (Change mutation) state due targets = targets
 targets_by_command (Scan table) state due targets = targets
 targets_by_command (ScanIndex index) state due targets = targets
+targets_by_command (Select query) state due targets = targets
+targets_by_command (Explain query) state due targets = targets
 
 found_by_command : (command : Command) (state : State) → first_refusal (conditions command state) ≡ None → IsReferential state
     → AllFindTargets (state_after command state)
@@ -304,6 +306,8 @@ found_by_command (Define definition) state due is = found_by_definition definiti
 found_by_command (Change mutation) state due is = found_by_change mutation state due is
 found_by_command (Scan table) state due is = is.found
 found_by_command (ScanIndex index) state due is = is.found
+found_by_command (Select query) state due is = is.found
+found_by_command (Explain query) state due is = is.found
 
 referential_by_command : (command : Command) (state : State) → first_refusal (conditions command state) ≡ None → IsReferential state
     → IsReferential (state_after command state)

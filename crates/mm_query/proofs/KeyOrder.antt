@@ -23,7 +23,7 @@ use Rattle.mm_query.specs.Edits.{changed_table, own_pairs, value_conditions}
 use Rattle.mm_query.specs.Machine.{Outcome, after_all, after_change, after_definition, conditions, reply_to, row_conditions, some_is_referred, some_lacks_target, state_after, step, unless_refused}
 use Rattle.mm_query.specs.State.{State, first_state, rows_in}
 use Rattle.mm_query.specs.declared.command.Command.{Command}
-use Rattle.mm_query.specs.declared.command.Command.TheVariants.{Nothing, Define, Change, Scan, ScanIndex}
+use Rattle.mm_query.specs.declared.command.Command.TheVariants.{Nothing, Define, Change, Scan, ScanIndex, Select, Explain}
 use Rattle.mm_query.specs.declared.command.Definition.{Definition}
 use Rattle.mm_query.specs.declared.command.Definition.TheVariants as define
 use Rattle.mm_query.specs.declared.command.Mutation.{Mutation}
@@ -41,6 +41,8 @@ ascending (Change (Update table assignments tests)) state = refl
 ascending (Change (Delete table tests)) state = refl
 ascending (Scan table) state = refl
 ascending (ScanIndex index) state = refl
+ascending (Select query) state = refl
+ascending (Explain query) state = refl
 
 -- what each step keeps of a state: no two tables have one name, and the rows of each are in key order
 pub record IsKept (state : State) : Type 0 where
@@ -101,6 +103,8 @@ kept_by_command (Define definition) state due kept = kept_by_definition definiti
 kept_by_command (Change mutation) state due kept = kept_by_change mutation state due kept
 kept_by_command (Scan table) state due kept = kept
 kept_by_command (ScanIndex index) state due kept = kept
+kept_by_command (Select query) state due kept = kept
+kept_by_command (Explain query) state due kept = kept
 
 -- ---- every step
 

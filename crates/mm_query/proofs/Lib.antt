@@ -7,7 +7,10 @@ mod NamedRows
 pub mod PlacedColumns
 pub mod PlacedQueries
 pub mod PlainEval
+mod PlanLines
 pub mod QueryLaws
+mod RowOrder
+pub mod SortedRows
 mod Tuples
 pub mod Updates
 pub mod Within

@@ -1,11 +1,14 @@
 pub mod Atoms
 pub mod Binding
+pub mod Choosing
 pub mod Counting
 pub mod Edits
 pub mod Machine
 pub mod Placing
+pub mod Plans
 pub mod Queries
 pub mod Resolving
+pub mod Serving
 pub mod State
 pub mod Walk
 pub use Rattle.mm_schema.specs.Columns

@@ -1,5 +1,5 @@
 -- The machine that keeps only lists of rows: what refuses each command, what it answers, and the state that it leaves.
-use Rattle.std.specs.Prelude.{ℕ, Bool, ◌&&◌, List, [], ◌∷◌, ◌++◌, Option, Some, None, length}
+use Rattle.std.specs.Prelude.{ℕ, Bool, ◌&&◌, List, [], ◌∷◌, ◌++◌, Option, Some, None, length, map}
 use Rattle.std.specs.List.{list_any}
 use Rattle.std.specs.Option.{option_map_or}
 use Rattle.mm_schema.specs.Indexes.{drop_index_conditions, index_conditions, index_named, lacks_index, with_index, without_index}
@@ -17,14 +17,18 @@ use Rattle.mm_value.specs.declared.refusal.Refusal.TheVariants.{NoSuchIndex, NoS
 use Rattle.mm_value.specs.declared.values.Value.{Value}
 use Rattle.mm_query.specs.Binding.{binding_conditions}
 use Rattle.mm_query.specs.Edits.{changed_table, edits, own_pairs, value_conditions}
+use Rattle.mm_query.specs.Plans.{plan_of}
+use Rattle.mm_query.specs.Resolving.{query_conditions, select_conditions, selected}
 use Rattle.mm_query.specs.State.{State, rows_in}
 use Rattle.mm_query.specs.declared.command.Command.{Command}
-use Rattle.mm_query.specs.declared.command.Command.TheVariants.{Nothing, Define, Change, Scan, ScanIndex}
+use Rattle.mm_query.specs.declared.command.Command.TheVariants.{Nothing, Define, Change, Scan, ScanIndex, Select, Explain}
 use Rattle.mm_query.specs.declared.command.Definition.{Definition}
 use Rattle.mm_query.specs.declared.command.Definition.TheVariants as define
 use Rattle.mm_query.specs.declared.command.Mutation.{Mutation}
+use Rattle.mm_query.specs.declared.plan_line.PlanLine.{PlanLine}
+use Rattle.mm_query.specs.declared.query.Query.{Query}
 use Rattle.mm_query.specs.declared.reply.Reply.{Reply}
-use Rattle.mm_query.specs.declared.reply.Reply.TheVariants.{Done, Count, Rows, Refused}
+use Rattle.mm_query.specs.declared.reply.Reply.TheVariants.{Done, Count, Rows, Steps, Refused}
 
 -- ---- changes of the catalog
 
@@ -85,6 +89,12 @@ index_rows state index =
 abbrev pub rows_by_index : State → List ℕ → List (List Value)
 rows_by_index state name = option_map_or (index_rows state) (index_named name state.schema) []
 
+-- ---- plans
+
+-- The plan of a query by the catalog and the row counts of its tables as they are.
+abbrev pub plan_in : State → Query → List PlanLine
+plan_in state query = plan_of state.schema (map length state.rows) query
+
 -- ---- the step
 
 -- What refuses a command, in the one order.
@@ -94,15 +104,20 @@ conditions (Define definition) state = definition_conditions definition state
 conditions (Change mutation) state = change_conditions mutation state
 conditions (Scan table) state = record { holds = lacks_table table state.schema; refusal = NoSuchTable } ∷ []
 conditions (ScanIndex index) state = record { holds = lacks_index index state.schema; refusal = NoSuchIndex } ∷ []
+conditions (Select query) state = select_conditions query state
+conditions (Explain query) state = query_conditions query state.schema
 
 -- What a command answers that nothing refuses; an empty line has no reply. A change tells how many pairs its own table has,
--- SCAN gives the rows of its table in key order, and SCAN INDEX those of its index's table in the order of the index.
+-- SCAN gives the rows of its table in key order, SCAN INDEX those of its index's table in the order of the index, SELECT those of
+-- its query, and EXPLAIN the plan of its query.
 abbrev pub reply_to : Command → State → Option Reply
 reply_to Nothing state = None
 reply_to (Define definition) state = Some Done
 reply_to (Change mutation) state = Some (Count (length (own_pairs mutation state)))
 reply_to (Scan table) state = Some (Rows (rows_in state table))
 reply_to (ScanIndex index) state = Some (Rows (rows_by_index state index))
+reply_to (Select query) state = Some (Rows (selected query state))
+reply_to (Explain query) state = Some (Steps (plan_in state query))
 
 -- The state that a command leaves that nothing refuses.
 abbrev pub state_after : Command → State → State
@@ -111,6 +126,8 @@ state_after (Define definition) state = after_definition definition state
 state_after (Change mutation) state = after_change mutation state
 state_after (Scan table) state = state
 state_after (ScanIndex index) state = state
+state_after (Select query) state = state
+state_after (Explain query) state = state
 
 -- What a command answers, if it has a reply, and the state after it.
 pub record Outcome : Type 0 where

@@ -14,7 +14,7 @@ use std::alloc::Global;
 use std::cmp::Ordering;
 
 /// The value of a row in a column, and this 0 past its end.
-fn value_in<'a>(row: &'a Row, column: usize, zero: &'a Value) -> &'a Value
+pub(crate) fn value_in<'a>(row: &'a Row, column: usize, zero: &'a Value) -> &'a Value
     requires { zero.now ≡ Int (pos 0) }
     ensures { result.now ≡ value_in column row.now }
 {

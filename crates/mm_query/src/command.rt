@@ -1,6 +1,7 @@
 //! Commands, with all names as written.
 use crate::atom::{Assignment, Atom};
 use crate::item_list::ItemList;
+use crate::query::Query;
 use crate::row_list::RowList;
 use mm_schema::{IndexDef, Name, TableDef};
 
@@ -59,4 +60,8 @@ pub enum Command {
     /// Asks for all rows of the table of the index of this name, in the order of the values in the index's column, and by
     /// key where these are equal.
     ScanIndex(Name),
+    /// Asks for the rows that a query gives.
+    Select(Query),
+    /// Asks for the plan of a query, a line for each of its tables.
+    Explain(Query),
 }

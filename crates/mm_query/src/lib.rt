@@ -10,10 +10,13 @@ mod item_list;
 mod laws;
 mod place;
 mod plain;
+mod plan_laws;
+mod plan_line;
 mod query;
 mod query_laws;
 mod reply;
 mod row_list;
+mod row_order;
 mod scope;
 mod update;
 
@@ -24,8 +27,10 @@ pub use combination::{none_fails, values_of};
 pub use command::{Command, Definition, Mutation};
 pub use item_list::ItemList;
 pub use laws::{conditions_ascend, rows_keep_their_targets, rows_stay_in_key_order};
-pub use place::{MAX_TESTS, column_refusal, place_assignments, place_tests};
+pub use place::{MAX_TESTS, column_named, column_refusal, place_assignments, place_tests};
 pub use plain::{MAX_COMBINATIONS, PlainRows, plain_eval};
+pub use plan_laws::plans_go_along_from;
+pub use plan_line::{JoinEquality, PlanLine};
 pub use query::{FieldName, FromItem, Query};
 pub use query_laws::{
     combinations_are_counted, distinct_keeps_one_of_each, query_conditions_ascend,
@@ -33,5 +38,6 @@ pub use query_laws::{
 };
 pub use reply::Reply;
 pub use row_list::RowList;
-pub use scope::{MAX_FROM, MAX_PARTS};
+pub use row_order::{compare_by_columns, compare_rows};
+pub use scope::{MAX_FROM, MAX_PARTS, Scope};
 pub use update::updated_row;

@@ -132,7 +132,7 @@ pub(crate) fn differ(a: Option<ColType>, b: Option<ColType>) -> bool
 }
 
 /// The column of a name, if it is there.
-fn column_named<'a>(columns: &'a Columns, name: &Name) -> Option<&'a Column>
+pub fn column_named<'a>(columns: &'a Columns, name: &Name) -> Option<&'a Column>
     ensures { option_copied result ≡ column_named name.now columns.now }
 {
     columns

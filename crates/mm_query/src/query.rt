@@ -1,4 +1,6 @@
 //! Queries, with all names as written.
+ghost use Rattle.std.specs.Prelude.{◌≡◌};
+
 use crate::atom::Atom;
 use crate::item_list::ItemList;
 use mm_schema::Name;
@@ -10,6 +12,18 @@ pub struct FieldName {
     pub alias: Name,
     /// The name of the column.
     pub column: Name,
+}
+
+impl FieldName {
+    /// The same field. It takes no memory.
+    pub fn copy(&self) -> FieldName
+        ensures { result ≡ self.now }
+    {
+        FieldName {
+            alias: self.alias.copy(),
+            column: self.column.copy(),
+        }
+    }
 }
 
 /// A table of FROM.

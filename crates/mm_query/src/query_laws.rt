@@ -1,11 +1,12 @@
 //! Laws of what queries mean.
 ghost use Rattle.std.specs.Prelude.{◌≡◌, ◌&&◌, ℕ, Bool, List, IsTrue, if◌then◌else◌};
 ghost use Rattle.std.specs.Cmp.{IsTotalOrder};
-ghost use Rattle.std.specs.List.{count_by, list_any};
+ghost use Rattle.std.specs.List.{count_by, dedup, list_any};
 ghost use Rattle.std.specs.List.Sorted.{IsPermutation, IsSorted};
 ghost use Rattle.std.proofs.lemmas.Map.Lookups.{CmpEqualImpliesEq};
 ghost use Rattle.mm_value.specs.declared.values.Value.{Value};
 ghost use Rattle.mm_schema.specs.Refused.{ascend};
+ghost use Rattle.mm_schema.specs.Sorting.{in_order};
 ghost use Rattle.mm_query.specs.Counting.{pass_each, product_of_counts};
 ghost use Rattle.mm_query.specs.Queries.{bag_of, combinations, fits, one_of_each, projected, rows_by_columns, same_row, shown};
 ghost use Rattle.mm_query.specs.Resolving.{select_conditions};
@@ -34,10 +35,17 @@ pub fn distinct_keeps_one_of_each()
 {}
 
 /// A query shows just the rows that it is given, and none before one that comes first by the columns of ORDER and as a whole
-/// row. This order is total, and only equal rows compare as equal, so there is just one such list.
+/// row. This order is total, and only equal rows compare as equal, so there is just one such list: in whatever order the rows
+/// are given, with one of each too, it is the same. And rows that are sorted have one of each when equal neighbours are dropped.
 pub fn shown_rows_are_sorted()
     ensures permutation { (query : BoundQuery) (rows : List (List Value)) → IsPermutation rows (shown query rows) }
     ensures sorted { (query : BoundQuery) (rows : List (List Value)) → IsSorted (rows_by_columns query.order) (shown query rows) }
     ensures total { (columns : List ℕ) → IsTotalOrder (rows_by_columns columns) }
     ensures exact { (columns : List ℕ) → CmpEqualImpliesEq (rows_by_columns columns) }
+    ensures unique { (columns : List ℕ) (a b : List (List Value)) → IsPermutation a b
+        → in_order (rows_by_columns columns) a ≡ in_order (rows_by_columns columns) b }
+    ensures unique_once { (columns : List ℕ) (a b : List (List Value)) → IsPermutation a b
+        → in_order (rows_by_columns columns) (one_of_each a) ≡ in_order (rows_by_columns columns) (one_of_each b) }
+    ensures neighbours { (columns : List ℕ) (rows : List (List Value))
+        → in_order (rows_by_columns columns) (one_of_each rows) ≡ dedup same_row (in_order (rows_by_columns columns) rows) }
 {}

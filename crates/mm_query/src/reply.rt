@@ -1,4 +1,6 @@
 //! Replies.
+use crate::item_list::ItemList;
+use crate::plan_line::PlanLine;
 use crate::row_list::RowList;
 use mm_value::Refusal;
 
@@ -11,6 +13,8 @@ pub enum Reply {
     Count(usize),
     /// These rows, in this order.
     Rows(RowList),
+    /// These lines of a plan, in this order.
+    Steps(ItemList<PlanLine>),
     /// It was refused, and changed nothing.
     Refused(Refusal),
 }

@@ -61,7 +61,7 @@ impl<'a> Scope<'a> {
     }
 
     /// The table of an alias, where both are there.
-    fn table_of(&self, alias: &Name) -> Option<&'a Table>
+    pub fn table_of(&self, alias: &Name) -> Option<&'a Table>
         ensures { option_copied result ≡ table_of self.now.catalog.now self.now.from.now alias.now }
     {
         let item = self.item_of(alias)?;
@@ -77,7 +77,7 @@ impl<'a> Scope<'a> {
     }
 
     /// The place of a field's table and of its column, and 0 where one is not there.
-    pub fn place_field(&self, field: &FieldName) -> FieldPlace
+    pub(crate) fn place_field(&self, field: &FieldName) -> FieldPlace
         ensures { result ≡ placed_field self.now.catalog.now self.now.from.now field.now }
     {
         let column = match self.table_of(&field.alias) {
@@ -242,7 +242,7 @@ impl<'a> Scope<'a> {
 
     /// What refuses a query whose tables these are: `NoSuchTable`, `NoSuchColumn` for a column or a position of ORDER,
     /// `AliasTaken`, `NoSuchAlias`, `TypeMismatch`, `TooMany`; the first that is due over the whole query.
-    pub fn refusal(&self, query: &Query) -> Option<Refusal>
+    pub(crate) fn refusal(&self, query: &Query) -> Option<Refusal>
         requires { self.now.from.now ≡ query.now.from }
         ensures { result ≡ first_refusal (query_conditions query.now self.now.catalog.now) }
     {
