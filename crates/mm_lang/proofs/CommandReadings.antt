@@ -1,5 +1,5 @@
 -- Commands, read by their parts.
-use Rattle.std.proofs.Common.{◌≡◌, ◌≢◌, inl, ℕ, Bool, true, false, eqb, List, [], ◌∷◌, ◌++◌, Some, None, Result, Ok, refl, subst, sym, ap, ◌∙◌, arith}
+use Rattle.std.proofs.Common.{◌≡◌, ◌≢◌, inl, ℕ, Bool, true, false, eqb, List, [], ◌++◌, Some, Result, Ok, refl, sym, ap, ◌∙◌, arith}
 use Rattle.std.specs.List.{flat_map}
 use Rattle.std.specs.Option.{option_and_then, option_or}
 use Rattle.std.proofs.lemmas.Bool.{cond-true, cond-false, eq-eqb, ne_eqb}
@@ -18,14 +18,14 @@ use Rattle.mm_query.specs.declared.command.Mutation.TheVariants as change
 use Rattle.mm_lang.specs.declared.keyword.Keyword.{Keyword}
 use Rattle.mm_lang.specs.declared.keyword.Keyword.TheVariants as keyword
 use Rattle.mm_lang.specs.declared.reader.Reader.{Reader}
-use Rattle.mm_lang.specs.Grammar.{name, column, index_kind, tuple, comma_list, table, drop, dropped, index, insert, scan, scan_of, assignment, tests, update, delete}
+use Rattle.mm_lang.specs.Grammar.{name, column, index_kind, tuple, comma_list, table, drop, dropped, index, insert, scan, scan_of, assignment, tests_on, update, delete}
 use Rattle.mm_lang.specs.Phrases.{Phrase, ◌>>=◌, ◌>>◌, say, one_word, only_if, the_keyword, has_keyword, in_parentheses}
 use Rattle.mm_lang.specs.Reading.{assignment_literals, first_fault, literals_of, test_literals}
 use Rattle.mm_lang.specs.Tokens.{tokens}
 use Rattle.mm_lang.specs.Words.{keyword_named}
 use Rattle.mm_lang.specs.steps.Parsing.{Fails, Gives, GivesItems, ReadsPhrase, Skips, no_literals}
 use Rattle.mm_lang.specs.steps.Parts.{Front}
-use Rattle.mm_lang.proofs.Readings.{Took, took, or_none, took_then, took_say, fails_first, fails_next, reads_behind, keyword_stands, given_made, given_both, listed}
+use Rattle.mm_lang.proofs.Readings.{Took, took, or_none, took_then, took_say, fails_first, fails_next, reads_behind, keyword_stands, none_fault, given_made, given_both}
 
 -- A command without literals was read.
 command_took : (phrase : Phrase Command) (old new : Reader) (c : Command) → literals_of c ≡ [] → Took phrase old new c → Gives phrase literals_of old new c
@@ -188,25 +188,25 @@ say_delete : List ℕ → List (Atom (List ℕ)) → Command
 say_delete t asked = command.Change (change.Delete t asked)
 
 asked_in : List ℕ → Phrase Command
-asked_in t = tests >>= (λ asked. say (command.Change (change.Delete t asked)))
+asked_in t = tests_on name >>= (λ asked. say (command.Change (change.Delete t asked)))
 
 pub delete_no_name : (old : Reader) (e : Refusal) → Fails name old e → Fails delete old e
 unfolding delete asked_in
 delete_no_name old e h = fails_first name asked_in old e h
 
 module _ (old mid : Reader) (t : List ℕ) (g : Gives name no_literals old mid t) where
-  pub delete_no_tests : (e : Refusal) → Fails tests mid e → Fails delete old e
+  pub delete_no_tests : (e : Refusal) → Fails (tests_on name) mid e → Fails delete old e
   unfolding delete asked_in
   delete_no_tests e h =
       let n = took g in
-      fails_next name asked_in old mid t e n.is (fails_first tests (λ asked. say (command.Change (change.Delete t asked))) mid e h)
+      fails_next name asked_in old mid t e n.is (fails_first (tests_on name) (λ asked. say (command.Change (change.Delete t asked))) mid e h)
 
-  pub delete_given : (new : Reader) (asked : List (Atom (List ℕ))) → Gives tests (flat_map test_literals) mid new asked
+  pub delete_given : (new : Reader) (asked : List (Atom (List ℕ))) → Gives (tests_on name) (flat_map test_literals) mid new asked
       → Gives delete literals_of old new (command.Change (change.Delete t asked))
   unfolding delete asked_in say_delete
   delete_given new asked h =
       reads_behind name asked_in literals_of old mid new t (Ok (say_delete t asked)) (took g)
-      (given_made tests (say_delete t) (flat_map test_literals) literals_of (λ x. refl) h)
+      (given_made (tests_on name) (say_delete t) (flat_map test_literals) literals_of (λ x. refl) h)
 
 -- UPDATE
 
@@ -217,7 +217,7 @@ say_update : List ℕ → Assignments → List (Atom (List ℕ)) → Command
 say_update t assignments asked = command.Change (change.Update t assignments asked)
 
 after_assignments : List ℕ → Assignments → Phrase Command
-after_assignments t assignments = tests >>= (λ asked. say (command.Change (change.Update t assignments asked)))
+after_assignments t assignments = tests_on name >>= (λ asked. say (command.Change (change.Update t assignments asked)))
 
 after_set : List ℕ → Phrase Command
 after_set t = comma_list assignment >>= after_assignments t
@@ -246,26 +246,22 @@ module _ (old named : Reader) (t : List ℕ) (a : Gives name no_literals old nam
     unfolding after_set
     update_no_assignments e h = fails_set e (fails_first (comma_list assignment) (after_assignments t) set e h)
 
-    module _ (mid : Reader) (before after : Assignments) (none : before ≡ [])
-        (items : GivesItems (comma_list assignment) (flat_map assignment_literals) set mid before after) where
-      pub update_no_tests : (e : Refusal) → Fails tests mid e → Fails update old e
+    module _ (mid : Reader) (assignments : Assignments) (items : Gives (comma_list assignment) (flat_map assignment_literals) set mid assignments) where
+      pub update_no_tests : (e : Refusal) → Fails (tests_on name) mid e → Fails update old e
       unfolding after_set after_assignments
       update_no_tests e h =
-          let all = items.given in
           fails_set e
-          (fails_next (comma_list assignment) (after_assignments t) set mid all.said e all.read
-          (fails_first tests (λ asked. say (command.Change (change.Update t all.said asked))) mid e h))
+          (fails_next (comma_list assignment) (after_assignments t) set mid items.said e items.read
+          (fails_first (tests_on name) (λ asked. say (command.Change (change.Update t items.said asked))) mid e h))
 
-      pub update_given : (new : Reader) (assignments : Assignments) (asked : List (Atom (List ℕ))) → assignments ≡ after
-          → Gives tests (flat_map test_literals) mid new asked
+      pub update_given : (new : Reader) (asked : List (Atom (List ℕ))) → Gives (tests_on name) (flat_map test_literals) mid new asked
           → Gives update literals_of old new (command.Change (change.Update t assignments asked))
       unfolding update after_updated after_set after_assignments say_update
-      update_given new assignments asked is h =
-          subst (λ l. Gives update literals_of old new (command.Change (change.Update t l asked))) (sym is)
-          (reads_behind name after_updated literals_of old named new t (Ok (say_update t after asked)) (took a)
-          (reads_behind (the_keyword keyword.Set) (λ u. after_set t) literals_of named set new tt (Ok (say_update t after asked)) (took b)
-          (given_both (comma_list assignment) tests (say_update t) (flat_map assignment_literals) (flat_map test_literals) literals_of
-          (λ x y. refl) set mid new after asked (listed none items) h)))
+      update_given new asked h =
+          reads_behind name after_updated literals_of old named new t (Ok (say_update t assignments asked)) (took a)
+          (reads_behind (the_keyword keyword.Set) (λ u. after_set t) literals_of named set new tt (Ok (say_update t assignments asked)) (took b)
+          (given_both (comma_list assignment) (tests_on name) (say_update t) (flat_map assignment_literals) (flat_map test_literals) literals_of
+          (λ x y. refl) set mid new assignments asked items h))
 
 -- TABLE
 
@@ -286,10 +282,6 @@ pub table_no_columns : (old mid : Reader) (n : List ℕ) (e : Refusal) → Gives
     → Fails (in_parentheses (comma_list column)) mid e → Fails table old e
 unfolding table after_name table_columns say_table
 table_no_columns old mid n e g h = let t = took g in fails_next name after_name old mid n e t.is (fails_first table_columns (say_table n) mid e h)
-
-none_fault : {A : Type 0} (items : List A) → first_fault (flat_map no_literals items) ≡ None
-none_fault [] = refl
-none_fault (x ∷ xs) = none_fault xs
 
 module _ (old mid new : Reader) (n : List ℕ) (before after : List Column) (g : Gives name no_literals old mid n) (none : before ≡ [])
     (items : GivesItems (in_parentheses (comma_list column)) (flat_map no_literals) mid new before after) where

@@ -8,7 +8,7 @@ use Rattle.mm_value.specs.declared.values.Value.{Value}
 use Rattle.mm_value.specs.declared.values.Value.TheVariants.{Int, Text}
 use Rattle.mm_value.specs.Literal.{is_within_limit}
 use Rattle.mm_query.specs.declared.command.Command.{Command}
-use Rattle.mm_query.specs.declared.command.Command.TheVariants.{Nothing, Define, Change, Scan, ScanIndex}
+use Rattle.mm_query.specs.declared.command.Command.TheVariants.{Nothing, Define, Change, Scan, ScanIndex, Select, Explain}
 use Rattle.mm_lang.specs.declared.keyword.Keyword.{Keyword}
 use Rattle.mm_lang.specs.declared.reader.Reader.{Reader}
 use Rattle.mm_lang.specs.Grammar.{command_behind, command_of}
@@ -104,6 +104,8 @@ tokens_take ts (Some (Define definition)) is = limits_take (Define definition) (
 tokens_take ts (Some (Change mutation)) is = limits_take (Change mutation) (literals_of (Change mutation)) refl
 tokens_take ts (Some (Scan table)) is = limits_take (Scan table) (literals_of (Scan table)) refl
 tokens_take ts (Some (ScanIndex index)) is = limits_take (ScanIndex index) (literals_of (ScanIndex index)) refl
+tokens_take ts (Some (Select query)) is = limits_take (Select query) (literals_of (Select query)) refl
+tokens_take ts (Some (Explain query)) is = limits_take (Explain query) (literals_of (Explain query)) refl
 
 pub takes : (line : List ℕ) → length line ≤ 4096 → is_nothing line ≡ false → takes_memory line ≡ true
 takes line short some = ap reading_takes_memory (reads_command line short some) ∙ tokens_take (tokens line) (command_of (tokens line)) refl

@@ -1,14 +1,15 @@
 -- A phrase that is exact for a spelling reads just what is spelled so; and so do lists and parentheses of it.
-use Rattle.std.proofs.Common.{◌≡◌, ◌<◌, ℕ, zero, suc, List, [], ◌∷◌, ◌++◌, Option, Some, None, length, refl, sym, ap, ◌∙◌, subst, arith, append_assoc, length-append}
-use Rattle.std.specs.Option.{option_map, option_and_then}
+use Rattle.std.proofs.Common.{◌≡◌, ◌<◌, ⊎_elim, ℕ, Bool, true, false, zero, suc, List, [], ◌∷◌, ◌++◌, Option, Some, None, length, refl, sym, ap, ◌∙◌, subst, arith, append_assoc, length-append}
+use Rattle.std.specs.Option.{option_map, option_and_then, option_or}
 use Rattle.std.proofs.lemmas.Option.{none-some}
+use Rattle.mm_lang.specs.declared.keyword.Keyword.{Keyword}
 use Rattle.mm_lang.specs.declared.token.Symbol.TheVariants.{Open, Close}
-use Rattle.mm_lang.specs.Phrases.{Phrase, ◌>>=◌, say, one, the_symbol, behind_item, at_most, list_of, in_parentheses}
-use Rattle.mm_lang.specs.Spelling.{SpellsOne, SpellsList, SpellsInParentheses}
+use Rattle.mm_lang.specs.Phrases.{Phrase, ◌>>=◌, say, one, the_symbol, the_keyword, has_keyword, behind_item, at_most, list_of, clause_behind, clause, in_parentheses}
+use Rattle.mm_lang.specs.Spelling.{word, SpellsOne, SpellsList, SpellsClause, SpellsInParentheses}
 use Rattle.mm_lang.specs.Tokens.{Token, Mark}
 use Rattle.mm_lang.specs.steps.Parts.{Front, said_same, then_parts, one_parts, in_parentheses_parts}
 use Rattle.mm_lang.proofs.Lists.{onto}
-use Rattle.mm_lang.proofs.SpelledWords.{symbol_read}
+use Rattle.mm_lang.proofs.SpelledWords.{symbol_read, has_keyword_read}
 
 -- What the phrase reads is spelled by the tokens in front of those that are left, and each spelling of a thing is read where
 -- tokens follow that do not go on with it.
@@ -116,3 +117,40 @@ parentheses_exact {A} phrase Spells Ends exact ends = record {
       ∙ ap (λ l. in_parentheses phrase (Mark Open ∷ l)) (append_assoc h.0 (Mark Close ∷ []) us)
       ∙ ap (option_and_then (λ (r : Front A). (the_symbol Close >>= (λ c. say r.0)) r.1)) (exact.complete h.0 x (Mark Close ∷ us) h.1 (ends us));
 }
+
+-- Of a clause, where its keyword is read as itself.
+module _ {A : Type 0} (wanted : Keyword) (separator : Phrase (Unit {0})) (token : Token) (item : Phrase A) (Spells : List Token → A → Type 0)
+    (Ends : List Token → Type 0) (exact : IsExact (list_of separator item) (SpellsList token Spells) Ends)
+    (here : (us : List Token) → the_keyword wanted (word wanted ∷ us) ≡ Some (tt, us)) where
+  keyword_spelled : (front : List Token) (xs : List A) → SpellsList token Spells front xs → SpellsClause wanted token Spells (word wanted ∷ front) xs
+  keyword_spelled front [] h = absurd h
+  keyword_spelled front (x ∷ xs) h = (front, h, refl)
+
+  clause_sound : (ts : List Token) (xs : List A) (us : List Token) → clause wanted separator item ts ≡ Some (xs, us)
+      → (front : List Token) × SpellsClause wanted token Spells front xs × (ts ≡ front ++ us)
+  unfolding clause
+  clause_sound ts xs us e =
+      let p = then_parts (has_keyword wanted) (clause_behind separator item) ts xs us e in
+      ⊎_elim
+      (λ there. let s = exact.sound p.1 xs us (ap (λ b. clause_behind separator item b p.1) (sym there.0) ∙ p.3) in
+      (word wanted ∷ s.0, keyword_spelled s.0 xs s.1, there.1 ∙ ap (λ l. word wanted ∷ l) s.2))
+      (λ not_there. let s = said_same [] xs p.1 us (ap (λ b. clause_behind separator item b p.1) (sym not_there.0) ∙ p.3) in
+      ([], subst (SpellsClause wanted token Spells []) s.0 refl, not_there.1 ∙ s.1))
+      (has_keyword_read wanted ts p.0 p.1 p.2)
+
+  -- a clause, by its keyword in front
+  by_keyword : List Token → Option (Front (Unit {0})) → Option (Front (List A))
+  by_keyword ts found =
+      option_and_then (λ (r : Front Bool). clause_behind separator item r.0 r.1)
+      (option_or (option_and_then (λ (s : Front (Unit {0})). say true s.1) found) (Some (false, ts)))
+
+  clause_complete : (front : List Token) (xs : List A) (us : List Token) → SpellsClause wanted token Spells front xs → Ends us
+      → the_keyword wanted us ≡ None → clause wanted separator item (front ++ us) ≡ Some (xs, us)
+  unfolding clause by_keyword
+  clause_complete front [] us h end last = ap (λ l. clause wanted separator item (l ++ us)) h ∙ ap (by_keyword us) last
+  clause_complete front (x ∷ xs) us h end last =
+      ap (λ l. clause wanted separator item (l ++ us)) h.2 ∙ ap (by_keyword (word wanted ∷ h.0 ++ us)) (here (h.0 ++ us))
+      ∙ exact.complete h.0 (x ∷ xs) us h.1 end
+
+  pub clause_exact : IsExact (clause wanted separator item) (SpellsClause wanted token Spells) (λ us. Ends us × (the_keyword wanted us ≡ None))
+  clause_exact = record { sound = clause_sound; complete = λ front xs us h end. clause_complete front xs us h end.0 end.1 }

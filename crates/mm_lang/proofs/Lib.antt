@@ -10,8 +10,11 @@ mod Operands
 pub mod Pieces
 mod Readings
 pub mod ReplyLemmas
+mod SelectReadings
 mod SpelledAtoms
 mod SpelledCommands
+mod SpelledSelect
 mod SpelledWords
+mod StepTexts
 mod Texts
 mod TupleValues

@@ -1,16 +1,15 @@
 -- The literals of a command stand in its tokens, in their order.
-use Rattle.std.proofs.Common.{◌≡◌, ⊎_elim, ℕ, true, false, cond, List, [], ◌∷◌, ◌++◌, Some, None, pos, refl, sym, ap, ◌∙◌, append_assoc, append-nil}
+use Rattle.std.proofs.Common.{◌≡◌, ⊎_elim, ℕ, Bool, true, false, cond, List, [], ◌∷◌, ◌++◌, Some, None, pos, refl, sym, ap, ◌∙◌, append_assoc, append-nil}
 use Rattle.std.specs.List.{flat_map, list_all, cons_option}
 use Rattle.std.specs.Prelude.{ℤ}
 use Rattle.std.specs.Option.{option_or}
-use Rattle.std.specs.Str.Parse.{digits_value}
-use Rattle.std.proofs.lemmas.Bool.{cases_Bool, and_parts}
+use Rattle.std.proofs.lemmas.Bool.{and_parts}
 use Rattle.mm_schema.specs.Name.{IsName}
 use Rattle.mm_schema.specs.declared.column.Role.{Role}
 use Rattle.mm_schema.specs.declared.column.Role.TheVariants.{Plain, Key, Reference}
 use Rattle.mm_schema.specs.declared.index.IndexKind.{IndexKind}
 use Rattle.mm_schema.specs.declared.index.IndexKind.TheVariants as kind
-use Rattle.mm_value.specs.Literal.{is_numeral, is_within_limit}
+use Rattle.mm_value.specs.Literal.{is_within_limit}
 use Rattle.mm_value.specs.declared.col_type.ColType.{ColType}
 use Rattle.mm_value.specs.declared.col_type.ColType.TheVariants as type
 use Rattle.mm_value.specs.declared.values.Value.{Value}
@@ -23,15 +22,18 @@ use Rattle.mm_query.specs.declared.command.Command.{Command}
 use Rattle.mm_query.specs.declared.command.Command.TheVariants as command
 use Rattle.mm_query.specs.declared.command.Definition.TheVariants as define
 use Rattle.mm_query.specs.declared.command.Mutation.TheVariants as change
+use Rattle.mm_query.specs.declared.query.Query.{Query}
+use Rattle.mm_lang.specs.declared.keyword.Keyword.{Keyword}
 use Rattle.mm_lang.specs.declared.keyword.Keyword.TheVariants as keyword
-use Rattle.mm_lang.specs.declared.token.Symbol.TheVariants.{Open, Close, Comma, Equal}
-use Rattle.mm_lang.specs.Grammar.{literal_of, command_of}
-use Rattle.mm_lang.specs.Reading.{assignment_literals, first_fault, literals_among, literals_of, operand_literals, past_limit, test_literals}
-use Rattle.mm_lang.specs.Spelling.{word, type_word, kind_word, comparison_symbol, SpellsLiteral, SpellsOne, SpellsList, SpellsInParentheses, SpellsTuple, SpellsRole, SpellsColumn, SpellsShift, SpellsOperand, SpellsTest, SpellsAssignment, SpellsTests, SpellsCommand}
+use Rattle.mm_lang.specs.declared.token.Symbol.TheVariants.{Open, Close, Comma, Dot, Equal}
+use Rattle.mm_lang.specs.Grammar.{command_of}
+use Rattle.mm_lang.specs.Reading.{assignment_literals, first_fault, literals_among, literals_of, operand_literals, past_limit, position_literals, query_literals, test_literals}
+use Rattle.mm_lang.specs.Spelling.{word, type_word, kind_word, comparison_symbol, SpellsLiteral, SpellsOne, SpellsList, SpellsClause, SpellsInParentheses, SpellsTuple, SpellsRole, SpellsColumn, SpellsShift, SpellsName, SpellsField, SpellsOperandOn, SpellsTestOn, SpellsAssignment, SpellsTestsOn, SpellsFromItem, SpellsDistinct, SpellsPosition, SpellsOrder, SpellsQuery, SpellsCommand}
 use Rattle.mm_lang.specs.Tokens.{Token, Word, Signed, Quoted, Mark}
 use Rattle.mm_lang.specs.steps.Parsing.{no_literals, only_literal}
-use Rattle.mm_lang.proofs.SpelledWords.{literal_spelled, name_no_numeral}
+use Rattle.mm_lang.proofs.SpelledWords.{literal_spelled, name_no_literal}
 use Rattle.mm_lang.proofs.SpelledCommands.{command_read}
+use Rattle.mm_lang.proofs.SpelledSelect.{regrouped}
 use Rattle.mm_lang.proofs.TupleValues.{all_literals}
 
 -- the literals among some tokens
@@ -73,11 +75,6 @@ tuple_literals ts values us h =
     (λ ts vs us k. list_literals (Mark Comma) (SpellsOne SpellsLiteral) only_literal (λ us. refl) one_literal vs ts us k) ts values us h
     ∙ ap (λ l. l ++ among us) (all_literals values)
 
-name_no_literal : (name : List ℕ) → IsName name → literal_of (Word name) ≡ None
-name_no_literal name named =
-    ⊎_elim (λ numeral. absurd (name_no_numeral name named numeral)) (λ other. ap (λ b. cond b (Some (Int (pos (digits_value 10 name)))) None) other)
-    (cases_Bool (is_numeral name))
-
 type_no_literal : (t : ColType) (ts : List Token) → among (word (type_word t) ∷ ts) ≡ among ts
 type_no_literal type.Int ts = refl
 type_no_literal type.Text ts = refl
@@ -116,11 +113,6 @@ shift_literal ts z us h =
     minus.0)
     h.2
 
-operand_among : HasLiterals SpellsOperand operand_literals
-operand_among ts (kind_of.Literal v) us h = one_literal ts v us h
-operand_among ts (kind_of.Column n) us h = ap (λ l. among (l ++ us)) h.1 ∙ behind_name n us h.0
-operand_among ts (kind_of.Shifted n z) us h = ap (λ l. among (l ++ us)) h.3 ∙ behind_name n (h.0 ++ us) h.1 ∙ shift_literal h.0 z us h.2
-
 comparison_no_literal : (c : Comparison) (us : List Token) → among (Mark (comparison_symbol c) ∷ us) ≡ among us
 comparison_no_literal compared.Equal us = refl
 comparison_no_literal compared.Less us = refl
@@ -128,21 +120,76 @@ comparison_no_literal compared.LessOrEqual us = refl
 comparison_no_literal compared.Greater us = refl
 comparison_no_literal compared.GreaterOrEqual us = refl
 
-test_among : HasLiterals SpellsTest test_literals
-test_among ts a us h =
-    ap (λ l. among (l ++ us)) h.3 ∙ behind_name a.left (Mark (comparison_symbol a.comparison) ∷ h.0 ++ us) h.1
-    ∙ comparison_no_literal a.comparison (h.0 ++ us) ∙ operand_among h.0 a.right us h.2
+module _ {F : Type 0} (Spells : List Token → F → Type 0) (none : HasLiterals Spells no_literals) where
+  operand_among : HasLiterals (SpellsOperandOn Spells) operand_literals
+  operand_among ts (kind_of.Literal v) us h = one_literal ts v us h
+  operand_among ts (kind_of.Column f) us h = none ts f us h
+  operand_among ts (kind_of.Shifted f z) us h =
+      ap (λ l. among (l ++ us)) h.4 ∙ ap among (append_assoc h.0 h.1 us) ∙ none h.0 f (h.1 ++ us) h.2 ∙ shift_literal h.1 z us h.3
+
+  test_among : HasLiterals (SpellsTestOn Spells) test_literals
+  test_among ts a us h =
+      let behind = Mark (comparison_symbol a.comparison) ∷ h.1 in
+      ap (λ l. among (l ++ us)) h.4 ∙ ap among (append_assoc h.0 behind us) ∙ none h.0 a.left (behind ++ us) h.2
+      ∙ comparison_no_literal a.comparison (h.1 ++ us) ∙ operand_among h.1 a.right us h.3
+
+clause_among : {A : Type 0} (wanted : Keyword) (separator : Token) (Spells : List Token → A → Type 0) (literals : A → List Value)
+    → ((us : List Token) → among (word wanted ∷ us) ≡ among us) → ((us : List Token) → among (separator ∷ us) ≡ among us) → HasLiterals Spells literals
+    → HasLiterals (SpellsClause wanted separator Spells) (flat_map literals)
+clause_among wanted separator Spells literals keyword_none none each ts [] us h = ap (λ l. among (l ++ us)) h
+clause_among wanted separator Spells literals keyword_none none each ts (x ∷ xs) us h =
+    ap (λ l. among (l ++ us)) h.2 ∙ keyword_none (h.0 ++ us) ∙ list_literals separator Spells literals none each (x ∷ xs) h.0 us h.1
+
+tests_among : {F : Type 0} (Spells : List Token → F → Type 0) → HasLiterals Spells no_literals → HasLiterals (SpellsTestsOn Spells) (flat_map test_literals)
+tests_among Spells none =
+    clause_among keyword.Where (word keyword.And) (SpellsTestOn Spells) test_literals (λ us. refl) (λ us. refl) (test_among Spells none)
+
+name_among : HasLiterals SpellsName no_literals
+name_among ts n us h = ap (λ l. among (l ++ us)) h.1 ∙ behind_name n us h.0
+
+name_tests_among : (asked : List (Atom (List ℕ))) (ts : List Token) → SpellsTestsOn SpellsName ts asked → among ts ≡ flat_map test_literals asked
+name_tests_among asked ts h =
+    ap among (sym (append-nil ts)) ∙ tests_among SpellsName name_among ts asked [] h ∙ append-nil (flat_map test_literals asked)
 
 assignment_among : HasLiterals SpellsAssignment assignment_literals
 assignment_among ts a us h =
-    ap (λ l. among (l ++ us)) h.3 ∙ behind_name a.column (Mark Equal ∷ h.0 ++ us) h.1 ∙ operand_among h.0 a.source us h.2
+    ap (λ l. among (l ++ us)) h.3 ∙ behind_name a.column (Mark Equal ∷ h.0 ++ us) h.1 ∙ operand_among SpellsName name_among h.0 a.source us h.2
 
-tests_among : (asked : List (Atom (List ℕ))) (ts : List Token) → SpellsTests ts asked → among ts ≡ flat_map test_literals asked
-tests_among [] ts h = ap among h
-tests_among (a ∷ others) ts h =
-    ap among h.2 ∙ ap among (sym (append-nil h.0))
-    ∙ list_literals (word keyword.And) SpellsTest test_literals (λ us. refl) test_among (a ∷ others) h.0 [] h.1
-    ∙ append-nil (flat_map test_literals (a ∷ others))
+-- the parts of a query
+
+field_among : HasLiterals SpellsField no_literals
+field_among ts f us h =
+    ap (λ l. among (l ++ us)) h.2 ∙ behind_name f.alias (Mark Dot ∷ Word f.column ∷ us) h.0 ∙ behind_name f.column us h.1
+
+item_among : HasLiterals SpellsFromItem no_literals
+item_among ts i us h = ap (λ l. among (l ++ us)) h.2 ∙ behind_name i.table (Word i.alias ∷ us) h.0 ∙ behind_name i.alias us h.1
+
+position_front : (t : Token) (n : ℕ) (us : List Token) → SpellsPosition t n → among (t ∷ us) ≡ Int (pos n) ∷ among us
+position_front (Word w) n us h = ap (λ o. cons_option o (among us)) (literal_spelled (Word w) (Int (pos n)) (h.0, ap pos h.1))
+position_front _ n us h = absurd h
+
+position_among : HasLiterals (SpellsOne SpellsPosition) position_literals
+position_among ts n us h = ap (λ l. among (l ++ us)) h.2 ∙ position_front h.0 n us h.1
+
+order_among : HasLiterals SpellsOrder (flat_map position_literals)
+order_among = clause_among keyword.Order (Mark Comma) (SpellsOne SpellsPosition) position_literals (λ us. refl) (λ us. refl) position_among
+
+distinct_among : (ts : List Token) (distinct : Bool) (us : List Token) → SpellsDistinct ts distinct → among (ts ++ us) ≡ among us
+distinct_among ts true us h = ap (λ l. among (l ++ us)) h
+distinct_among ts false us h = ap (λ l. among (l ++ us)) h
+
+query_among : (ts : List Token) (q : Query) → SpellsQuery ts q → among ts ≡ query_literals q
+query_among ts q h =
+    let tail = h.3 ++ h.4 in
+    ap among (h.10 ∙ regrouped h.0 h.1 (word keyword.From ∷ h.2) h.3 h.4)
+    ∙ distinct_among h.0 q.distinct (h.1 ++ word keyword.From ∷ (h.2 ++ tail)) h.5
+    ∙ list_literals (Mark Comma) SpellsField no_literals (λ us. refl) field_among q.fields h.1 (word keyword.From ∷ (h.2 ++ tail)) h.6
+    ∙ ap (λ l. l ++ among (h.2 ++ tail)) (none_at_all q.fields)
+    ∙ list_literals (Mark Comma) SpellsFromItem no_literals (λ us. refl) item_among q.from h.2 tail h.7
+    ∙ ap (λ l. l ++ among tail) (none_at_all q.from)
+    ∙ tests_among SpellsField field_among h.3 q.atoms h.4 h.8
+    ∙ ap (λ l. flat_map test_literals q.atoms ++ l)
+    (ap among (sym (append-nil h.4)) ∙ order_among h.4 q.order [] h.9 ∙ append-nil (flat_map position_literals q.order))
 
 -- commands
 
@@ -171,11 +218,13 @@ spelled_literals ts (command.Change (change.Update table set asked)) h =
     sym (
     ap among h.5 ∙ behind_name table (word keyword.Set ∷ h.0 ++ h.1) h.2
     ∙ list_literals (Mark Comma) SpellsAssignment assignment_literals (λ us. refl) assignment_among set h.0 h.1 h.3
-    ∙ ap (λ l. flat_map assignment_literals set ++ l) (tests_among asked h.1 h.4))
+    ∙ ap (λ l. flat_map assignment_literals set ++ l) (name_tests_among asked h.1 h.4))
 spelled_literals ts (command.Change (change.Delete table asked)) h =
-    sym (ap among h.3 ∙ behind_name table h.0 h.1 ∙ tests_among asked h.0 h.2)
+    sym (ap among h.3 ∙ behind_name table h.0 h.1 ∙ name_tests_among asked h.0 h.2)
 spelled_literals ts (command.Scan table) h = sym (ap among h.1 ∙ behind_name table [] h.0)
 spelled_literals ts (command.ScanIndex i) h = sym (ap among h.1 ∙ behind_name i [] h.0)
+spelled_literals ts (command.Select q) h = sym (ap among h.2 ∙ query_among h.0 q h.1)
+spelled_literals ts (command.Explain q) h = sym (ap among h.2 ∙ query_among h.0 q h.1)
 
 pub read_literals : (ts : List Token) (c : Command) → command_of ts ≡ Some c → literals_of c ≡ among ts
 read_literals ts c e = spelled_literals ts c (command_read ts c e)

@@ -1,9 +1,8 @@
 -- Numbers, shifts, operands, tests and assignments, read by their parts.
-use Rattle.std.proofs.Common.{◌≡◌, ◌≤◌, inl, inr, ⊎_elim, ℕ, Bool, true, false, cond, List, [], ◌∷◌, Option, Some, None, Result, Ok, Err, length, refl, subst, sym, ap, ◌∙◌, arith}
+use Rattle.std.proofs.Common.{◌≡◌, ◌≤◌, inl, inr, ⊎_elim, ℕ, Bool, true, false, cond, List, ◌∷◌, Option, Some, None, Result, Ok, Err, length, refl, subst, sym, ap, ◌∙◌, arith}
 use Rattle.std.specs.Prelude.{ℤ, FitsSigned}
 use Rattle.std.specs.Int.{w64}
-use Rattle.std.specs.List.{flat_map}
-use Rattle.std.specs.Option.{option_or}
+use Rattle.std.specs.Option.{option_and_then, option_or}
 use Rattle.std.proofs.lemmas.Bool.{cases_Bool, cond-true}
 use Rattle.mm_value.specs.Literal.{IsNumeral, is_numeral, is_within_limit}
 use Rattle.mm_value.specs.Reading.{signed_value}
@@ -17,20 +16,20 @@ use Rattle.mm_query.specs.declared.atom.Atom.{Atom}
 use Rattle.mm_query.specs.declared.atom.Comparison.{Comparison}
 use Rattle.mm_query.specs.declared.atom.Operand.{Operand}
 use Rattle.mm_query.specs.declared.atom.Operand.TheVariants as kind_of
-use Rattle.mm_lang.specs.declared.keyword.Keyword.TheVariants as keyword
 use Rattle.mm_lang.specs.declared.reader.Reader.{Reader}
 use Rattle.mm_lang.specs.declared.token.Symbol.TheVariants as symbol
-use Rattle.mm_lang.specs.Grammar.{literal_of, name, comparison, numbered, digits, shift, with_shift, operand_behind, operand, test, assignment, tests_behind, tests}
-use Rattle.mm_lang.specs.Phrases.{Phrase, ◌>>=◌, ◌>>◌, say, one, the_symbol, the_keyword, maybe, has_keyword}
+use Rattle.mm_lang.specs.Grammar.{literal_of, name, comparison, numbered, digits, shift, with_shift, operand_behind, operand_on, test_on, assignment}
+use Rattle.mm_lang.specs.Phrases.{Phrase, ◌>>=◌, ◌>>◌, say, one, the_symbol, maybe}
 use Rattle.mm_lang.specs.Reading.{assignment_literals, first_fault, operand_literals, test_literals}
 use Rattle.mm_lang.specs.Tokens.{Token, Signed, Mark, tokens}
-use Rattle.mm_lang.specs.steps.Parsing.{BeginsNotSigned, Fails, Follows, Gives, GivesItems, ReadsPhrase, Skips, no_literals, only_literal, shift_literals}
+use Rattle.mm_lang.specs.steps.Parsing.{BeginsNotSigned, Fails, Follows, Gives, ReadsPhrase, Skips, no_literals, only_literal, shift_literals}
+use Rattle.mm_lang.specs.steps.Parts.{Front}
 use Rattle.mm_lang.proofs.SpelledWords.{symbol_read}
-use Rattle.mm_lang.proofs.Readings.{took, or_none, fails_first, fails_next, reads_behind, given_made, listed, keyword_stands}
+use Rattle.mm_lang.proofs.Readings.{Took, took, or_none, fails_first, fails_next, reads_behind, given_made}
 
 -- ---- numbers
 
-not_within : (z : ℤ) → ¬ FitsSigned w64 z → is_within_limit (Int z) ≡ false
+pub not_within : (z : ℤ) → ¬ FitsSigned w64 z → is_within_limit (Int z) ≡ false
 not_within z past = ⊎_elim (λ fits. absurd (past (within_int z fits))) (λ other. other) (cases_Bool (is_within_limit (Int z)))
 
 module _ (is_negative : Bool) (word : List ℕ) (old : Reader) where
@@ -149,75 +148,106 @@ shift_none old now new plus minus signed =
 
 -- ---- operands
 
-literals_shifted : (n : List ℕ) (by : Option ℤ) → operand_literals (with_shift n by) ≡ shift_literals by
-literals_shifted n None = refl
-literals_shifted n (Some z) = refl
+literals_shifted : {F : Type 0} (f : F) (by : Option ℤ) → operand_literals (with_shift f by) ≡ shift_literals by
+literals_shifted f None = refl
+literals_shifted f (Some z) = refl
 
-module _ (old mid : Reader) (n : List ℕ) (g : Gives (maybe name) no_literals old mid (Some n)) where
-  pub operand_no_shift : (e : Refusal) → Fails shift mid e → Fails operand old e
-  unfolding operand
-  operand_no_shift e h =
-      let t = took g in
-      fails_next (maybe name) operand_behind old mid (Some n) e t.is (fails_first shift (λ by. say (with_shift n by)) mid e h)
+module _ {F : Type 0} (column : Phrase F) (old : Reader) where
+  -- an operand, by the literal in front of it
+  by_literal : Option (Front Value) → Option (Front (Operand F))
+  by_literal found =
+      option_and_then (λ (r : Front (Option Value)). operand_behind column r.0 r.1)
+      (option_or (option_and_then (λ (r : Front Value). say (Some r.0) r.1) found) (Some (None, tokens old.rest.now)))
 
-  pub operand_column : (new : Reader) (by : Option ℤ) (o : Operand (List ℕ)) → Gives shift shift_literals mid new by → o ≡ with_shift n by
-      → Gives operand operand_literals old new o
-  unfolding operand
-  operand_column new by o h is =
-      subst (Gives operand operand_literals old new) (sym is)
-      (reads_behind (maybe name) operand_behind operand_literals old mid new (Some n) (Ok (with_shift n by)) (took g)
-      (given_made shift (with_shift n) shift_literals operand_literals (literals_shifted n) h))
+  -- A literal is an operand.
+  pub operand_literal : (new : Reader) (v : Value) → Gives (one literal_of) only_literal old new v
+      → Gives (operand_on column) operand_literals old new (kind_of.Literal v)
+  unfolding operand_on by_literal
+  operand_literal new v g = record {
+    said = kind_of.Literal g.said;
+    read = ap by_literal g.read;
+    fault = g.fault;
+    same = λ fits. ap (λ (x : Value). kind_of.Literal x) (g.same fits);
+    shorter = g.shorter;
+  }
 
-module _ (old mid : Reader) (g : Gives (maybe name) no_literals old mid None) where
-  pub operand_no_literal : (e : Refusal) → Fails (one literal_of) mid e → Fails operand old e
-  unfolding operand
-  operand_no_literal e h =
-      let t = took g in
-      fails_next (maybe name) operand_behind old mid None e t.is (fails_first (one literal_of) (λ v. say (kind_of.Literal v)) mid e h)
+  behind_column : F → Phrase (Operand F)
+  behind_column f = shift >>= (λ by. say (with_shift f by))
 
-  pub operand_literal : (new : Reader) (v : Value) → Gives (one literal_of) only_literal mid new v → Gives operand operand_literals old new (kind_of.Literal v)
-  unfolding operand
-  operand_literal new v h =
-      reads_behind (maybe name) operand_behind operand_literals old mid new None (Ok (kind_of.Literal v)) (took g)
-      (given_made (one literal_of) (λ (x : Value). kind_of.Literal x) only_literal operand_literals (λ x. refl) h)
+  module _ (mid : Reader) (none : one literal_of (tokens old.rest.now) ≡ None) (is : ◌≡◌ {A = Reader} mid old) where
+    -- Where no literal stands a column does, and a shift behind it.
+    operand_goes_on : (new : Reader) (r : Result (Operand F) Refusal) → ReadsPhrase (operand_behind column None) operand_literals mid new r
+        → ReadsPhrase (operand_on column) operand_literals old new r
+    unfolding operand_on by_literal
+    operand_goes_on new r h =
+        let took_none : Took (maybe (one literal_of)) old mid None = record {
+          is =
+              ap (λ (o : Option (Front Value)). option_or (option_and_then (λ (r : Front Value). say (Some r.0) r.1) o) (Some (None, tokens old.rest.now))) none
+              ∙ ap (λ (r : Reader). Some (None, tokens r.rest.now)) (sym is);
+          fault = ap (λ (r : Reader). r.fault) is;
+          shorter = omega (arith, ap (λ (r : Reader). length r.rest.now) is);
+        } in
+        reads_behind (maybe (one literal_of)) (operand_behind column) operand_literals old mid new None r took_none h
+
+    pub operand_no_column : (e : Refusal) → Fails column mid e → Fails (operand_on column) old e
+    unfolding behind_column
+    operand_no_column e h = operand_goes_on mid (Err e) (fails_first column behind_column mid e h)
+
+    module _ (named : Reader) (f : F) (g : Gives column no_literals mid named f) where
+      pub operand_no_shift : (e : Refusal) → Fails shift named e → Fails (operand_on column) old e
+      unfolding behind_column
+      operand_no_shift e h =
+          let t = took g in
+          operand_goes_on mid (Err e)
+          (fails_next column behind_column mid named f e t.is (fails_first shift (λ by. say (with_shift f by)) named e h))
+
+      pub operand_column : (new : Reader) (by : Option ℤ) (o : Operand F) → Gives shift shift_literals named new by → o ≡ with_shift f by
+          → Gives (operand_on column) operand_literals old new o
+      unfolding behind_column
+      operand_column new by o h is =
+          subst (Gives (operand_on column) operand_literals old new) (sym is)
+          (operand_goes_on new (Ok (with_shift f by))
+          (reads_behind column behind_column operand_literals mid named new f (Ok (with_shift f by)) (took g)
+          (given_made shift (with_shift f) shift_literals operand_literals (literals_shifted f) h)))
 
 -- ---- tests
 
-make_test : List ℕ → Comparison → Operand (List ℕ) → Atom (List ℕ)
-make_test n c o = record { left = n; comparison = c; right = o }
+module _ {F : Type 0} (column : Phrase F) where
+  make_test : F → Comparison → Operand F → Atom F
+  make_test f c o = record { left = f; comparison = c; right = o }
 
-after_how : List ℕ → Comparison → Phrase (Atom (List ℕ))
-after_how n c = operand >>= (λ o. say (record { left = n; comparison = c; right = o }))
+  after_how : F → Comparison → Phrase (Atom F)
+  after_how f c = operand_on column >>= (λ o. say (record { left = f; comparison = c; right = o }))
 
-after_left : List ℕ → Phrase (Atom (List ℕ))
-after_left n = comparison >>= after_how n
+  after_left : F → Phrase (Atom F)
+  after_left f = comparison >>= after_how f
 
-pub test_no_name : (old : Reader) (e : Refusal) → Fails name old e → Fails test old e
-unfolding test after_left after_how
-test_no_name old e h = fails_first name after_left old e h
+  pub test_no_column : (old : Reader) (e : Refusal) → Fails column old e → Fails (test_on column) old e
+  unfolding test_on after_left after_how
+  test_no_column old e h = fails_first column after_left old e h
 
-module _ (old named : Reader) (n : List ℕ) (a : Gives name no_literals old named n) where
-  pub test_no_comparison : (e : Refusal) → Fails comparison named e → Fails test old e
-  unfolding test after_left after_how
-  test_no_comparison e h = let t = took a in fails_next name after_left old named n e t.is (fails_first comparison (after_how n) named e h)
+  module _ (old named : Reader) (f : F) (a : Gives column no_literals old named f) where
+    pub test_no_comparison : (e : Refusal) → Fails comparison named e → Fails (test_on column) old e
+    unfolding test_on after_left after_how
+    test_no_comparison e h = let t = took a in fails_next column after_left old named f e t.is (fails_first comparison (after_how f) named e h)
 
-  module _ (mid : Reader) (c : Comparison) (b : Gives comparison no_literals named mid c) where
-    pub test_no_operand : (e : Refusal) → Fails operand mid e → Fails test old e
-    unfolding test after_left after_how
-    test_no_operand e h =
-        let t = took a in
-        let u = took b in
-        fails_next name after_left old named n e t.is
-        (fails_next comparison (after_how n) named mid c e u.is
-        (fails_first operand (λ o. say (record { left = n; comparison = c; right = o })) mid e h))
+    module _ (mid : Reader) (c : Comparison) (b : Gives comparison no_literals named mid c) where
+      pub test_no_operand : (e : Refusal) → Fails (operand_on column) mid e → Fails (test_on column) old e
+      unfolding test_on after_left after_how
+      test_no_operand e h =
+          let t = took a in
+          let u = took b in
+          fails_next column after_left old named f e t.is
+          (fails_next comparison (after_how f) named mid c e u.is
+          (fails_first (operand_on column) (λ o. say (record { left = f; comparison = c; right = o })) mid e h))
 
-    pub test_given : (new : Reader) (o : Operand (List ℕ)) → Gives operand operand_literals mid new o
-        → Gives test test_literals old new (record { left = n; comparison = c; right = o })
-    unfolding test after_left after_how make_test
-    test_given new o g =
-        reads_behind name after_left test_literals old named new n (Ok (make_test n c o)) (took a)
-        (reads_behind comparison (after_how n) test_literals named mid new c (Ok (make_test n c o)) (took b)
-        (given_made operand (make_test n c) operand_literals test_literals (λ x. refl) g))
+      pub test_given : (new : Reader) (o : Operand F) → Gives (operand_on column) operand_literals mid new o
+          → Gives (test_on column) test_literals old new (record { left = f; comparison = c; right = o })
+      unfolding test_on after_left after_how make_test
+      test_given new o g =
+          reads_behind column after_left test_literals old named new f (Ok (make_test f c o)) (took a)
+          (reads_behind comparison (after_how f) test_literals named mid new c (Ok (make_test f c o)) (took b)
+          (given_made (operand_on column) (make_test f c) operand_literals test_literals (λ x. refl) g))
 
 -- ---- assignments
 
@@ -225,7 +255,7 @@ make_assignment : List ℕ → Operand (List ℕ) → Assignment (List ℕ)
 make_assignment n o = record { column = n; source = o }
 
 after_equal : List ℕ → Phrase (Assignment (List ℕ))
-after_equal n = operand >>= (λ o. say (record { column = n; source = o }))
+after_equal n = operand_on name >>= (λ o. say (record { column = n; source = o }))
 
 after_column : List ℕ → Phrase (Assignment (List ℕ))
 after_column n = the_symbol symbol.Equal >> after_equal n
@@ -241,47 +271,19 @@ module _ (old named : Reader) (n : List ℕ) (a : Gives name no_literals old nam
       let t = took a in fails_next name after_column old named n e t.is (fails_first (the_symbol symbol.Equal) (λ u. after_equal n) named e h)
 
   module _ (mid : Reader) (b : Gives (the_symbol symbol.Equal) no_literals named mid tt) where
-    pub assignment_no_operand : (e : Refusal) → Fails operand mid e → Fails assignment old e
+    pub assignment_no_operand : (e : Refusal) → Fails (operand_on name) mid e → Fails assignment old e
     unfolding assignment after_column after_equal
     assignment_no_operand e h =
         let t = took a in
         let u = took b in
         fails_next name after_column old named n e t.is
         (fails_next (the_symbol symbol.Equal) (λ u. after_equal n) named mid tt e u.is
-        (fails_first operand (λ o. say (record { column = n; source = o })) mid e h))
+        (fails_first (operand_on name) (λ o. say (record { column = n; source = o })) mid e h))
 
-    pub assignment_given : (new : Reader) (o : Operand (List ℕ)) → Gives operand operand_literals mid new o
+    pub assignment_given : (new : Reader) (o : Operand (List ℕ)) → Gives (operand_on name) operand_literals mid new o
         → Gives assignment assignment_literals old new (record { column = n; source = o })
     unfolding assignment after_column after_equal make_assignment
     assignment_given new o g =
         reads_behind name after_column assignment_literals old named new n (Ok (make_assignment n o)) (took a)
         (reads_behind (the_symbol symbol.Equal) (λ u. after_equal n) assignment_literals named mid new tt (Ok (make_assignment n o)) (took b)
-        (given_made operand (make_assignment n) operand_literals assignment_literals (λ x. refl) g))
-
--- ---- WHERE
-
-abbrev all_tests : List (Atom (List ℕ)) → List Value
-all_tests asked = flat_map test_literals asked
-
-module _ (old mid : Reader) where
-  pub tests_none : Skips (the_keyword keyword.Where) old mid false → (asked : List (Atom (List ℕ))) → asked ≡ [] → Gives tests all_tests old mid asked
-  unfolding tests
-  tests_none skips asked none =
-      subst (Gives tests all_tests old mid) (sym none)
-      (reads_behind (has_keyword keyword.Where) tests_behind all_tests old mid mid false (Ok []) (keyword_stands keyword.Where old mid false skips)
-      (record { said = []; read = refl; fault = sym (or_none mid.fault); same = λ fits. refl; shorter = omega arith }))
-
-  module _ (skips : Skips (the_keyword keyword.Where) old mid true) where
-    pub tests_fail : (e : Refusal) → Fails (tests_behind true) mid e → Fails tests old e
-    unfolding tests
-    tests_fail e h =
-        let t = keyword_stands keyword.Where old mid true skips in
-        fails_next (has_keyword keyword.Where) tests_behind old mid true e t.is h
-
-    pub tests_given : (new : Reader) (before after asked : List (Atom (List ℕ))) → before ≡ []
-        → GivesItems (tests_behind true) all_tests mid new before after → asked ≡ after → Gives tests all_tests old new asked
-    unfolding tests
-    tests_given new before after asked none items is =
-        subst (Gives tests all_tests old new) (sym is)
-        (reads_behind (has_keyword keyword.Where) tests_behind all_tests old mid new true (Ok after) (keyword_stands keyword.Where old mid true skips)
-        (listed none items))
+        (given_made (operand_on name) (make_assignment n) operand_literals assignment_literals (λ x. refl) g))

@@ -1,5 +1,6 @@
 -- Phrases put together, read one after the other.
-use Rattle.std.proofs.Common.{◌≡◌, ◌≤◌, inl, inr, ℕ, Bool, true, false, List, [], ◌∷◌, ◌++◌, Option, Some, None, Result, Ok, Err, length, refl, sym, ap, ◌∙◌, arith}
+use Rattle.std.proofs.Common.{◌≡◌, ◌≤◌, inl, inr, ℕ, Bool, true, false, List, [], ◌∷◌, ◌++◌, Option, Some, None, Result, Ok, Err, length, refl, subst, sym, ap, ◌∙◌, arith}
+use Rattle.std.specs.List.{flat_map}
 use Rattle.std.specs.Option.{option_map, option_and_then, option_or, ok_or}
 use Rattle.mm_schema.specs.declared.column.Column.{Column}
 use Rattle.mm_schema.specs.declared.column.Role.{Role}
@@ -12,7 +13,7 @@ use Rattle.mm_lang.specs.declared.keyword.Keyword.{Keyword}
 use Rattle.mm_lang.specs.declared.keyword.Keyword.TheVariants as keyword
 use Rattle.mm_lang.specs.declared.reader.Reader.{Reader}
 use Rattle.mm_lang.specs.Grammar.{name, col_type, reference, role_behind, role, column}
-use Rattle.mm_lang.specs.Phrases.{Phrase, ◌>>=◌, say, one, one_word, word_of, the_keyword, has_keyword}
+use Rattle.mm_lang.specs.Phrases.{Phrase, ◌>>=◌, say, one, one_word, word_of, the_keyword, has_keyword, list_of, clause_behind, clause}
 use Rattle.mm_lang.specs.Reading.{first_fault, literal_fault}
 use Rattle.mm_lang.specs.Tokens.{Token, Word, tokens}
 use Rattle.mm_lang.specs.steps.Parsing.{Fails, Follows, Gives, GivesItems, ReadsPhrase, Skips, no_literals}
@@ -133,6 +134,19 @@ listed {before = before} none items =
       shorter = h.shorter;
     }
 
+pub none_fault : {A : Type 0} (items : List A) → first_fault (flat_map no_literals items) ≡ None
+none_fault [] = refl
+none_fault (x ∷ xs) = none_fault xs
+
+-- A list of items with no literals was read.
+pub took_list : {A : Type 0} {phrase : Phrase (List A)} {old new : Reader} {xs : List A} → Gives phrase (flat_map no_literals) old new xs
+    → Took phrase old new xs
+took_list {old = old} {new = new} g = record {
+  is = g.read ∙ ap (λ l. Some (l, tokens new.rest.now)) (sym (g.same (none_fault g.said)));
+  fault = g.fault ∙ ap (option_or old.fault) (none_fault g.said) ∙ or_none old.fault;
+  shorter = g.shorter;
+}
+
 -- Whether a keyword stands there was read.
 pub keyword_stands : (k : Keyword) (old new : Reader) (b : Bool) → Skips (the_keyword k) old new b → Took (has_keyword k) old new b
 keyword_stands k old new true h =
@@ -150,6 +164,23 @@ keyword_stands k old new false h = record {
   fault = ap (λ (r : Reader). r.fault) h.1;
   shorter = omega (arith, ap (λ (r : Reader). length r.rest.now) h.1);
 }
+
+-- Items behind a keyword: none where it does not stand there, ..
+pub clause_none : {A : Type 0} (wanted : Keyword) (separator : Phrase (Unit {0})) (item : Phrase A) (literals : A → List Value) (old new : Reader)
+    → Skips (the_keyword wanted) old new false → (xs : List A) → xs ≡ [] → Gives (clause wanted separator item) (flat_map literals) old new xs
+unfolding clause
+clause_none wanted separator item literals old new skips xs none =
+    subst (Gives (clause wanted separator item) (flat_map literals) old new) (sym none)
+    (reads_behind (has_keyword wanted) (clause_behind separator item) (flat_map literals) old new new false (Ok []) (keyword_stands wanted old new false skips)
+    (record { said = []; read = refl; fault = sym (or_none new.fault); same = λ fits. refl; shorter = omega arith }))
+
+-- .. and else those of a list.
+pub clause_reads : {A : Type 0} (wanted : Keyword) (separator : Phrase (Unit {0})) (item : Phrase A) (literals : A → List Value) (old mid new : Reader)
+    (r : Result (List A) Refusal) → Skips (the_keyword wanted) old mid true → ReadsPhrase (list_of separator item) (flat_map literals) mid new r
+    → ReadsPhrase (clause wanted separator item) (flat_map literals) old new r
+unfolding clause
+clause_reads wanted separator item literals old mid new r skips h =
+    reads_behind (has_keyword wanted) (clause_behind separator item) (flat_map literals) old mid new true r (keyword_stands wanted old mid true skips) h
 
 -- A word was read.
 pub word_given : (old new : Reader) (word : List ℕ) → Follows old.rest.now (Word word) new.rest.now → new.fault ≡ old.fault

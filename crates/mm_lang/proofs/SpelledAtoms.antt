@@ -1,14 +1,12 @@
 -- Shifts, operands, tests and assignments: what is read is spelled so, and what is spelled is read.
-use Rattle.std.proofs.Common.{◌≡◌, ◌⊎◌, inl, inr, ⊎_elim, ℕ, Bool, true, false, cond, List, [], ◌∷◌, ◌++◌, Option, Some, None, refl, sym, ap, subst, ◌∙◌, append-nil}
+use Rattle.std.proofs.Common.{◌≡◌, ◌⊎◌, inl, inr, ⊎_elim, ℕ, Bool, true, false, cond, List, [], ◌∷◌, ◌++◌, Option, Some, None, refl, sym, ap, subst, ◌∙◌, append-nil, append_assoc}
 use Rattle.std.specs.Prelude.{ℤ}
 use Rattle.std.specs.Option.{option_map, option_and_then, option_or}
-use Rattle.std.proofs.lemmas.Bool.{cases_Bool}
 use Rattle.std.proofs.lemmas.Option.{none-some, same_Some}
-use Rattle.mm_schema.specs.Name.{IsName, is_name}
+use Rattle.mm_schema.specs.Name.{IsName}
 use Rattle.mm_value.specs.Literal.{IsNumeral, is_numeral}
 use Rattle.mm_value.specs.Reading.{signed_value}
 use Rattle.mm_value.specs.declared.values.Value.{Value}
-use Rattle.mm_value.specs.declared.values.Value.TheVariants.{Int, Text}
 use Rattle.mm_query.specs.declared.atom.Assignment.{Assignment}
 use Rattle.mm_query.specs.declared.atom.Atom.{Atom}
 use Rattle.mm_query.specs.declared.atom.Comparison.{Comparison}
@@ -18,17 +16,18 @@ use Rattle.mm_query.specs.declared.atom.Operand.TheVariants as kind_of
 use Rattle.mm_query.specs.declared.command.Command.{Command}
 use Rattle.mm_query.specs.declared.command.Command.TheVariants as command
 use Rattle.mm_query.specs.declared.command.Mutation.TheVariants as change
+use Rattle.mm_query.specs.declared.query.FieldName.{FieldName}
 use Rattle.mm_lang.specs.declared.keyword.Keyword.TheVariants as keyword
 use Rattle.mm_lang.specs.declared.phrase.Separator.TheVariants.{And}
 use Rattle.mm_lang.specs.declared.token.Symbol.{Symbol}
 use Rattle.mm_lang.specs.declared.token.Symbol.TheVariants as symbol
-use Rattle.mm_lang.specs.Grammar.{literal_of, name, comparison, comparison_of, comma_list, numbered, digits, shift, with_shift, operand_behind, operand, test, assignment, tests_behind, tests, update, delete}
-use Rattle.mm_lang.specs.Phrases.{Phrase, ◌>>=◌, ◌>>◌, say, one, word_of, mark_of, the_symbol, the_keyword, the_separator, maybe, has_keyword, list_of}
-use Rattle.mm_lang.specs.Spelling.{word, comparison_symbol, SpellsAssignment, SpellsCommand, SpellsList, SpellsLiteral, SpellsOperand, SpellsShift, SpellsTest, SpellsTests}
-use Rattle.mm_lang.specs.Tokens.{Token, Word, Signed, Quoted, Mark}
+use Rattle.mm_lang.specs.Grammar.{literal_of, name, comparison, comparison_of, comma_list, numbered, digits, shift, with_shift, operand_behind, operand_on, test_on, assignment, field, tests_on, update, delete}
+use Rattle.mm_lang.specs.Phrases.{Phrase, ◌>>=◌, ◌>>◌, say, one, word_of, mark_of, the_symbol, the_keyword, the_separator, maybe, list_of}
+use Rattle.mm_lang.specs.Spelling.{word, comparison_symbol, SpellsAssignment, SpellsCommand, SpellsField, SpellsList, SpellsName, SpellsOperandOn, SpellsShift, SpellsTestOn, SpellsTestsOn}
+use Rattle.mm_lang.specs.Tokens.{Token, Word, Signed, Mark}
 use Rattle.mm_lang.specs.steps.Parts.{Front, said_same, tested, then_parts, one_parts, optional_parts}
-use Rattle.mm_lang.proofs.Exactness.{IsExact, IsToken, list_exact}
-use Rattle.mm_lang.proofs.SpelledWords.{symbol_read, keyword_read, has_keyword_read, name_read, name_spelled, name_no_numeral, literal_read, literal_spelled}
+use Rattle.mm_lang.proofs.Exactness.{Always, IsExact, IsToken, list_exact, clause_exact}
+use Rattle.mm_lang.proofs.SpelledWords.{symbol_read, keyword_read, name_read, name_spelled, name_no_literal, literal_read, literal_spelled}
 
 pub comma : IsToken (the_symbol symbol.Comma) (Mark symbol.Comma)
 comma = record { sound = symbol_read symbol.Comma; complete = λ us. refl }
@@ -102,7 +101,11 @@ shift_spelled front z us h =
 abbrev pub NoSign : List Token → Type 0
 NoSign us = shift us ≡ Some (None, us)
 
--- ---- operands
+-- no shift stands in front, and no test behind AND or WHERE
+abbrev pub NoTest : List Token → Type 0
+NoTest us = (NoSign us × (the_separator And us ≡ None)) × (the_keyword keyword.Where us ≡ None)
+
+-- ---- columns
 
 maybe_parts : {A : Type 0} (phrase : Phrase A) (ts : List Token) (o : Option A) (us : List Token) → maybe phrase ts ≡ Some (o, us)
     → ((x : A) × (phrase ts ≡ Some (x, us)) × (Some x ≡ o)) ⊎ ((None ≡ o) × (ts ≡ us))
@@ -114,67 +117,64 @@ maybe_parts {A} phrase ts o us e =
     (λ not_there. inr (not_there.1, not_there.2))
     (optional_parts None (phrase >>= (λ x. say (Some x))) ts o us e)
 
-shifted_spelled : (n : List ℕ) (by : Option ℤ) (front : List Token) → IsName n → SpellsMaybe front by → SpellsOperand (Word n ∷ front) (with_shift n by)
-shifted_spelled n None front named h = (named, ap (λ l. Word n ∷ l) h)
-shifted_spelled n (Some z) front named h = (front, named, h, refl)
+-- The phrase of a column is exact for how columns are spelled, and none is a literal.
+pub record IsColumn {F : Type 0} (column : Phrase F) (Spells : List Token → F → Type 0) : Type 0 where
+  pub exact : IsExact column Spells Always
+  pub no_literal : (front : List Token) (f : F) (us : List Token) → Spells front f → one literal_of (front ++ us) ≡ None
 
-abbrev IsFront : List Token → Operand (List ℕ) → List Token → Type 0
-IsFront ts o us = (front : List Token) × SpellsOperand front o × (ts ≡ front ++ us)
+first_no_literal : (n : List ℕ) (us : List Token) → IsName n → one literal_of (Word n ∷ us) ≡ None
+first_no_literal n us named = let pair : Value → Front Value = λ v. (v, us) in ap (option_map pair) (name_no_literal n named)
 
-column_read : (ts ms : List Token) (n : List ℕ) (o : Operand (List ℕ)) (us : List Token) → (ts ≡ Word n ∷ ms) × IsName n
-    → operand_behind (Some n) ms ≡ Some (o, us) → IsFront ts o us
-column_read ts ms n o us t e =
-    let q = then_parts shift (λ by. say (with_shift n by)) ms o us e in
-    let r = said_same (with_shift n q.0) o q.1 us q.3 in
-    let s = shift_read ms q.0 q.1 q.2 in
-    let front = Word n ∷ s.0 in
-    (front, subst (SpellsOperand front) r.0 (shifted_spelled n q.0 s.0 t.1 s.1), t.0 ∙ ap (λ l. Word n ∷ l) (s.2 ∙ ap (λ l. s.0 ++ l) r.1))
+-- A name is a column, ..
+pub name_column : IsColumn name SpellsName
+name_column = record {
+  exact = record {
+    sound = λ ts n us e. let p = name_read ts n us e in (Word n ∷ [], (p.1, refl), p.0);
+    complete = λ front n us h _. ap (λ l. name (l ++ us)) h.1 ∙ name_spelled n us h.0;
+  };
+  no_literal = λ front n us h. ap (λ l. one literal_of (l ++ us)) h.1 ∙ first_no_literal n us h.0;
+}
 
-value_read : (ts : List Token) (o : Operand (List ℕ)) (us : List Token) → operand_behind None ts ≡ Some (o, us) → IsFront ts o us
-value_read ts o us e =
-    let q = then_parts (one literal_of) (λ v. say (kind_of.Literal v)) ts o us e in
-    let r = said_same (kind_of.Literal q.0) o q.1 us q.3 in
-    let s = one_parts literal_of ts q.0 q.1 q.2 in
-    let front = s.0 ∷ [] in
-    (front, subst (SpellsOperand front) r.0 (s.0, literal_read s.0 q.0 s.2, refl), s.1 ∙ ap (λ l. s.0 ∷ l) r.1)
+say_field : List ℕ → List ℕ → Phrase FieldName
+say_field a c = say (record { alias = a; column = c })
 
-operand_read : (ts : List Token) (o : Operand (List ℕ)) (us : List Token) → operand ts ≡ Some (o, us) → IsFront ts o us
-unfolding operand
-operand_read ts o us e =
-    let p = then_parts (maybe name) operand_behind ts o us e in
-    ⊎_elim
-    (λ there. column_read ts p.1 there.0 o us (name_read ts there.0 p.1 there.1) (ap (λ f. operand_behind f p.1) there.2 ∙ p.3))
-    (λ not_there. value_read ts o us (ap (operand_behind None) not_there.1 ∙ (ap (λ f. operand_behind f p.1) not_there.0 ∙ p.3)))
-    (maybe_parts name ts p.0 p.1 p.2)
+after_dot : List ℕ → Phrase FieldName
+after_dot a = name >>= say_field a
 
-literal_no_name : (t : Token) (v : Value) (us : List Token) → SpellsLiteral t v → name (t ∷ us) ≡ None
-literal_no_name (Word w) (Int z) us h =
-    let pair : List ℕ → Front (List ℕ) = λ n. (n, us) in
-    ⊎_elim (λ named. absurd (name_no_numeral w named h.0)) (λ other. ap (λ b. option_map pair (cond b (Some w) None)) other) (cases_Bool (is_name w))
-literal_no_name (Signed w) (Int z) us h = refl
-literal_no_name (Quoted text) (Text said) us h = refl
-literal_no_name _ _ us h = absurd h
+after_alias : List ℕ → Phrase FieldName
+after_alias a = the_symbol symbol.Dot >> after_dot a
 
--- an operand, by the name in front of it
-by_name : List Token → Option (Front (List ℕ)) → Option (Front (Operand (List ℕ)))
-by_name ts found =
-    option_and_then (λ (r : Front (Option (List ℕ))). operand_behind r.0 r.1)
-    (option_or (option_and_then (λ (r : Front (List ℕ)). say (Some r.0) r.1) found) (Some (None, ts)))
+field_read : (ts : List Token) (f : FieldName) (us : List Token) → field ts ≡ Some (f, us) → (front : List Token) × SpellsField front f × (ts ≡ front ++ us)
+unfolding field after_alias after_dot say_field
+field_read ts f us e =
+    let p = then_parts name after_alias ts f us e in
+    let q = then_parts (the_symbol symbol.Dot) (λ u. after_dot p.0) p.1 f us p.3 in
+    let r = then_parts name (say_field p.0) q.1 f us q.3 in
+    let read : FieldName = record { alias = p.0; column = r.0 } in
+    let s = said_same read f r.1 us r.3 in
+    let a = name_read ts p.0 p.1 p.2 in
+    let c = name_read q.1 r.0 r.1 r.2 in
+    let front = Word p.0 ∷ Mark symbol.Dot ∷ Word r.0 ∷ [] in (
+      front,
+      subst (SpellsField front) s.0 (a.1, c.1, refl),
+      a.0 ∙ ap (λ l. Word p.0 ∷ l) (symbol_read symbol.Dot p.1 q.1 q.2 ∙ ap (λ l. Mark symbol.Dot ∷ l) (c.0 ∙ ap (λ l. Word r.0 ∷ l) s.1)),
+    )
 
-operand_spelled : (front : List Token) (o : Operand (List ℕ)) (us : List Token) → SpellsOperand front o → NoSign us → operand (front ++ us) ≡ Some (o, us)
-unfolding operand by_name
-operand_spelled front (kind_of.Literal v) us h end =
-    let pair : Value → Front Value = λ x. (x, us) in
-    ap (λ l. operand (l ++ us)) h.2 ∙ ap (by_name (h.0 ∷ us)) (literal_no_name h.0 v us h.1)
-    ∙ ap (λ o. option_and_then (λ (r : Front Value). say (kind_of.Literal r.0) r.1) (option_map pair o)) (literal_spelled h.0 v h.1)
-operand_spelled front (kind_of.Column n) us h end =
-    ap (λ l. operand (l ++ us)) h.1 ∙ ap (by_name (Word n ∷ us)) (name_spelled n us h.0)
-    ∙ ap (option_and_then (λ (r : Front (Option ℤ)). say (with_shift n r.0) r.1)) end
-operand_spelled front (kind_of.Shifted n z) us h end =
-    ap (λ l. operand (l ++ us)) h.3 ∙ ap (by_name (Word n ∷ h.0 ++ us)) (name_spelled n (h.0 ++ us) h.1)
-    ∙ ap (option_and_then (λ (r : Front (Option ℤ)). say (with_shift n r.0) r.1)) (shift_spelled h.0 z us h.2)
+field_spelled : (front : List Token) (f : FieldName) (us : List Token) → SpellsField front f → field (front ++ us) ≡ Some (f, us)
+unfolding field after_alias after_dot say_field
+field_spelled front f us h =
+    ap (λ l. field (l ++ us)) h.2
+    ∙ ap (option_and_then (λ (r : Front (List ℕ)). after_alias r.0 r.1)) (name_spelled f.alias (Mark symbol.Dot ∷ Word f.column ∷ us) h.0)
+    ∙ ap (option_and_then (λ (r : Front (List ℕ)). say_field f.alias r.0 r.1)) (name_spelled f.column us h.1)
 
--- ---- tests
+-- .. and so is a field.
+pub field_column : IsColumn field SpellsField
+field_column = record {
+  exact = record { sound = field_read; complete = λ front f us h _. field_spelled front f us h };
+  no_literal = λ front f us h. ap (λ l. one literal_of (l ++ us)) h.2 ∙ first_no_literal f.alias (Mark symbol.Dot ∷ Word f.column ∷ us) h.0;
+}
+
+-- ---- comparisons
 
 symbol_of : (s : Symbol) (c : Comparison) → comparison_of s ≡ Some c → s ≡ comparison_symbol c
 symbol_of symbol.Equal c e = ap comparison_symbol (same_Some compared.Equal c e)
@@ -199,68 +199,126 @@ comparison_spelled compared.LessOrEqual us = refl
 comparison_spelled compared.Greater us = refl
 comparison_spelled compared.GreaterOrEqual us = refl
 
-say_test : List ℕ → Comparison → Operand (List ℕ) → Phrase (Atom (List ℕ))
-say_test n c o = say (record { left = n; comparison = c; right = o })
+-- ---- operands and tests
 
-after_how : List ℕ → Comparison → Phrase (Atom (List ℕ))
-after_how n c = operand >>= say_test n c
+module _ {F : Type 0} (column : Phrase F) (Spells : List Token → F → Type 0) (named : IsColumn column Spells) where
+  shifted_spelled : (f : F) (by : Option ℤ) (front behind : List Token) → Spells front f → SpellsMaybe behind by
+      → SpellsOperandOn Spells (front ++ behind) (with_shift f by)
+  shifted_spelled f None front behind h none = subst (λ l. Spells l f) (sym (ap (λ l. front ++ l) none ∙ append-nil front)) h
+  shifted_spelled f (Some z) front behind h shifted = (front, behind, h, shifted, refl)
 
-after_left : List ℕ → Phrase (Atom (List ℕ))
-after_left n = comparison >>= after_how n
+  abbrev IsFront : List Token → Operand F → List Token → Type 0
+  IsFront ts o us = (front : List Token) × SpellsOperandOn Spells front o × (ts ≡ front ++ us)
 
-test_read : (ts : List Token) (a : Atom (List ℕ)) (us : List Token) → test ts ≡ Some (a, us) → (front : List Token) × SpellsTest front a × (ts ≡ front ++ us)
-unfolding test after_left after_how say_test
-test_read ts a us e =
-    let p = then_parts name after_left ts a us e in
-    let q = then_parts comparison (after_how p.0) p.1 a us p.3 in
-    let r = then_parts operand (say_test p.0 q.0) q.1 a us q.3 in
-    let read : Atom (List ℕ) = record { left = p.0; comparison = q.0; right = r.0 } in
-    let s = said_same read a r.1 us r.3 in
-    let n = name_read ts p.0 p.1 p.2 in
-    let o = operand_read q.1 r.0 r.1 r.2 in
-    let front = Word p.0 ∷ Mark (comparison_symbol q.0) ∷ o.0 in (
-      front,
-      subst (SpellsTest front) s.0 (o.0, n.1, o.1, refl),
-      n.0 ∙ ap (λ l. Word p.0 ∷ l)
-          (comparison_read p.1 q.0 q.1 q.2 ∙ ap (λ l. Mark (comparison_symbol q.0) ∷ l) (o.2 ∙ ap (λ l. o.0 ++ l) s.1)),
-    )
+  after_column : F → Phrase (Operand F)
+  after_column f = shift >>= (λ by. say (with_shift f by))
 
-test_spelled : (front : List Token) (a : Atom (List ℕ)) (us : List Token) → SpellsTest front a → NoSign us → test (front ++ us) ≡ Some (a, us)
-unfolding test after_left after_how say_test
-test_spelled front a us h end =
-    let behind = Mark (comparison_symbol a.comparison) ∷ h.0 ++ us in
-    ap (λ l. test (l ++ us)) h.3
-    ∙ ap (option_and_then (λ (r : Front (List ℕ)). after_left r.0 r.1)) (name_spelled a.left behind h.1)
-    ∙ ap (option_and_then (λ (r : Front Comparison). after_how a.left r.0 r.1)) (comparison_spelled a.comparison (h.0 ++ us))
-    ∙ ap (option_and_then (λ (r : Front (Operand (List ℕ))). say_test a.left a.comparison r.0 r.1)) (operand_spelled h.0 a.right us h.2 end)
+  column_read : (ts : List Token) (o : Operand F) (us : List Token) → operand_behind column None ts ≡ Some (o, us) → IsFront ts o us
+  unfolding after_column
+  column_read ts o us e =
+      let p = then_parts column after_column ts o us e in
+      let q = then_parts shift (λ by. say (with_shift p.0 by)) p.1 o us p.3 in
+      let r = said_same (with_shift p.0 q.0) o q.1 us q.3 in
+      let c = named.exact.sound ts p.0 p.1 p.2 in
+      let s = shift_read p.1 q.0 q.1 q.2 in
+      let front = c.0 ++ s.0 in (
+        front,
+        subst (SpellsOperandOn Spells front) r.0 (shifted_spelled p.0 q.0 c.0 s.0 c.1 s.1),
+        c.2 ∙ ap (λ l. c.0 ++ l) (s.2 ∙ ap (λ l. s.0 ++ l) r.1) ∙ sym (append_assoc c.0 s.0 us),
+      )
 
-asked_exact : IsExact (list_of (the_separator And) test) (SpellsList (word keyword.And) SpellsTest) (λ us. NoSign us × (the_separator And us ≡ None))
-unfolding shift
-asked_exact =
-    list_exact (the_separator And) (word keyword.And) test SpellsTest NoSign and_token (record { sound = test_read; complete = test_spelled }) (λ us. refl)
+  value_read : (ts ms : List Token) (v : Value) (o : Operand F) (us : List Token) → one literal_of ts ≡ Some (v, ms)
+      → operand_behind column (Some v) ms ≡ Some (o, us) → IsFront ts o us
+  value_read ts ms v o us h e =
+      let r = said_same (kind_of.Literal v) o ms us e in
+      let s = one_parts literal_of ts v ms h in
+      let front = s.0 ∷ [] in
+      (front, subst (SpellsOperandOn Spells front) r.0 (s.0, literal_read s.0 v s.2, refl), s.1 ∙ ap (λ l. s.0 ∷ l) r.1)
 
-where_spelled : (front : List Token) (asked : List (Atom (List ℕ))) → SpellsList (word keyword.And) SpellsTest front asked
-    → SpellsTests (word keyword.Where ∷ front) asked
-where_spelled front [] h = absurd h
-where_spelled front (a ∷ others) h = (front, h, refl)
+  operand_read : (ts : List Token) (o : Operand F) (us : List Token) → operand_on column ts ≡ Some (o, us) → IsFront ts o us
+  unfolding operand_on
+  operand_read ts o us e =
+      let p = then_parts (maybe (one literal_of)) (operand_behind column) ts o us e in
+      ⊎_elim
+      (λ there. value_read ts p.1 there.0 o us there.1 (ap (λ f. operand_behind column f p.1) there.2 ∙ p.3))
+      (λ not_there. column_read ts o us (ap (operand_behind column None) not_there.1 ∙ (ap (λ f. operand_behind column f p.1) not_there.0 ∙ p.3)))
+      (maybe_parts (one literal_of) ts p.0 p.1 p.2)
 
-tests_read : (ts : List Token) (asked : List (Atom (List ℕ))) (us : List Token) → tests ts ≡ Some (asked, us)
-    → (front : List Token) × SpellsTests front asked × (ts ≡ front ++ us)
-unfolding tests
-tests_read ts asked us e =
-    let p = then_parts (has_keyword keyword.Where) tests_behind ts asked us e in
-    ⊎_elim
-    (λ there. let s = asked_exact.sound p.1 asked us (ap (λ b. tests_behind b p.1) (sym there.0) ∙ p.3) in
-    (word keyword.Where ∷ s.0, where_spelled s.0 asked s.1, there.1 ∙ ap (λ l. word keyword.Where ∷ l) s.2))
-    (λ not_there. let s = said_same [] asked p.1 us (ap (λ b. tests_behind b p.1) (sym not_there.0) ∙ p.3) in
-    ([], subst (SpellsTests []) s.0 refl, not_there.1 ∙ s.1))
-    (has_keyword_read keyword.Where ts p.0 p.1 p.2)
+  -- an operand, by the literal in front of it
+  by_literal : List Token → Option (Front Value) → Option (Front (Operand F))
+  by_literal ts found =
+      option_and_then (λ (r : Front (Option Value)). operand_behind column r.0 r.1)
+      (option_or (option_and_then (λ (r : Front Value). say (Some r.0) r.1) found) (Some (None, ts)))
 
-tests_spelled : (front : List Token) (asked : List (Atom (List ℕ))) → SpellsTests front asked → tests front ≡ Some (asked, [])
-unfolding tests shift
-tests_spelled front [] h = ap tests h
-tests_spelled front (a ∷ others) h =
-    ap tests h.2 ∙ ap (list_of (the_separator And) test) (sym (append-nil h.0)) ∙ asked_exact.complete h.0 (a ∷ others) [] h.1 (refl, refl)
+  operand_spelled : (front : List Token) (o : Operand F) (us : List Token) → SpellsOperandOn Spells front o → NoSign us
+      → operand_on column (front ++ us) ≡ Some (o, us)
+  unfolding operand_on by_literal after_column
+  operand_spelled front (kind_of.Literal v) us h end =
+      let pair : Value → Front Value = λ x. (x, us) in
+      ap (λ l. operand_on column (l ++ us)) h.2 ∙ ap (λ o. by_literal (h.0 ∷ us) (option_map pair o)) (literal_spelled h.0 v h.1)
+  operand_spelled front (kind_of.Column f) us h end =
+      ap (by_literal (front ++ us)) (named.no_literal front f us h)
+      ∙ ap (option_and_then (λ (r : Front F). after_column r.0 r.1)) (named.exact.complete front f us h tt)
+      ∙ ap (option_and_then (λ (r : Front (Option ℤ)). say (with_shift f r.0) r.1)) end
+  operand_spelled front (kind_of.Shifted f z) us h end =
+      ap (λ l. operand_on column (l ++ us)) h.4 ∙ ap (operand_on column) (append_assoc h.0 h.1 us)
+      ∙ ap (by_literal (h.0 ++ (h.1 ++ us))) (named.no_literal h.0 f (h.1 ++ us) h.2)
+      ∙ ap (option_and_then (λ (r : Front F). after_column r.0 r.1)) (named.exact.complete h.0 f (h.1 ++ us) h.2 tt)
+      ∙ ap (option_and_then (λ (r : Front (Option ℤ)). say (with_shift f r.0) r.1)) (shift_spelled h.1 z us h.3)
+
+  say_test : F → Comparison → Operand F → Phrase (Atom F)
+  say_test f c o = say (record { left = f; comparison = c; right = o })
+
+  after_how : F → Comparison → Phrase (Atom F)
+  after_how f c = operand_on column >>= say_test f c
+
+  after_left : F → Phrase (Atom F)
+  after_left f = comparison >>= after_how f
+
+  test_read : (ts : List Token) (a : Atom F) (us : List Token) → test_on column ts ≡ Some (a, us)
+      → (front : List Token) × SpellsTestOn Spells front a × (ts ≡ front ++ us)
+  unfolding test_on after_left after_how say_test
+  test_read ts a us e =
+      let p = then_parts column after_left ts a us e in
+      let q = then_parts comparison (after_how p.0) p.1 a us p.3 in
+      let r = then_parts (operand_on column) (say_test p.0 q.0) q.1 a us q.3 in
+      let read : Atom F = record { left = p.0; comparison = q.0; right = r.0 } in
+      let s = said_same read a r.1 us r.3 in
+      let c = named.exact.sound ts p.0 p.1 p.2 in
+      let o = operand_read q.1 r.0 r.1 r.2 in
+      let behind = Mark (comparison_symbol q.0) ∷ o.0 in (
+        c.0 ++ behind,
+        subst (SpellsTestOn Spells (c.0 ++ behind)) s.0 (c.0, o.0, c.1, o.1, refl),
+        c.2
+            ∙ ap (λ l. c.0 ++ l)
+            (comparison_read p.1 q.0 q.1 q.2 ∙ ap (λ l. Mark (comparison_symbol q.0) ∷ l) (o.2 ∙ ap (λ l. o.0 ++ l) s.1))
+            ∙ sym (append_assoc c.0 behind us),
+      )
+
+  test_spelled : (front : List Token) (a : Atom F) (us : List Token) → SpellsTestOn Spells front a → NoSign us → test_on column (front ++ us) ≡ Some (a, us)
+  unfolding test_on after_left after_how say_test
+  test_spelled front a us h end =
+      let behind = Mark (comparison_symbol a.comparison) ∷ h.1 in
+      ap (λ l. test_on column (l ++ us)) h.4 ∙ ap (test_on column) (append_assoc h.0 behind us)
+      ∙ ap (option_and_then (λ (r : Front F). after_left r.0 r.1)) (named.exact.complete h.0 a.left (behind ++ us) h.2 tt)
+      ∙ ap (option_and_then (λ (r : Front Comparison). after_how a.left r.0 r.1)) (comparison_spelled a.comparison (h.1 ++ us))
+      ∙ ap (option_and_then (λ (r : Front (Operand F)). say_test a.left a.comparison r.0 r.1)) (operand_spelled h.1 a.right us h.3 end)
+
+  asked_exact : IsExact (list_of (the_separator And) (test_on column)) (SpellsList (word keyword.And) (SpellsTestOn Spells))
+      (λ us. NoSign us × (the_separator And us ≡ None))
+  unfolding shift
+  asked_exact =
+      list_exact (the_separator And) (word keyword.And) (test_on column) (SpellsTestOn Spells) NoSign and_token
+      (record { sound = test_read; complete = test_spelled }) (λ us. refl)
+
+  pub tests_exact : IsExact (tests_on column) (SpellsTestsOn Spells) NoTest
+  tests_exact =
+      clause_exact keyword.Where (the_separator And) (word keyword.And) (test_on column) (SpellsTestOn Spells)
+      (λ us. NoSign us × (the_separator And us ≡ None)) asked_exact (λ us. refl)
+
+  tests_spelled : (front : List Token) (asked : List (Atom F)) → SpellsTestsOn Spells front asked → tests_on column front ≡ Some (asked, [])
+  unfolding shift
+  tests_spelled front asked h = ap (tests_on column) (sym (append-nil front)) ∙ tests_exact.complete front asked [] h ((refl, refl), refl)
 
 -- ---- assignments
 
@@ -268,22 +326,22 @@ say_assignment : List ℕ → Operand (List ℕ) → Phrase (Assignment (List �
 say_assignment n o = say (record { column = n; source = o })
 
 after_equal : List ℕ → Phrase (Assignment (List ℕ))
-after_equal n = operand >>= say_assignment n
+after_equal n = operand_on name >>= say_assignment n
 
-after_column : List ℕ → Phrase (Assignment (List ℕ))
-after_column n = the_symbol symbol.Equal >> after_equal n
+after_assigned : List ℕ → Phrase (Assignment (List ℕ))
+after_assigned n = the_symbol symbol.Equal >> after_equal n
 
 assignment_read : (ts : List Token) (a : Assignment (List ℕ)) (us : List Token) → assignment ts ≡ Some (a, us)
     → (front : List Token) × SpellsAssignment front a × (ts ≡ front ++ us)
-unfolding assignment after_column after_equal say_assignment
+unfolding assignment after_assigned after_equal say_assignment
 assignment_read ts a us e =
-    let p = then_parts name after_column ts a us e in
+    let p = then_parts name after_assigned ts a us e in
     let q = then_parts (the_symbol symbol.Equal) (λ u. after_equal p.0) p.1 a us p.3 in
-    let r = then_parts operand (say_assignment p.0) q.1 a us q.3 in
+    let r = then_parts (operand_on name) (say_assignment p.0) q.1 a us q.3 in
     let read : Assignment (List ℕ) = record { column = p.0; source = r.0 } in
     let s = said_same read a r.1 us r.3 in
     let n = name_read ts p.0 p.1 p.2 in
-    let o = operand_read q.1 r.0 r.1 r.2 in
+    let o = operand_read name SpellsName name_column q.1 r.0 r.1 r.2 in
     let front = Word p.0 ∷ Mark symbol.Equal ∷ o.0 in (
       front,
       subst (SpellsAssignment front) s.0 (o.0, n.1, o.1, refl),
@@ -293,11 +351,12 @@ assignment_read ts a us e =
 
 assignment_spelled : (front : List Token) (a : Assignment (List ℕ)) (us : List Token) → SpellsAssignment front a → NoSign us
     → assignment (front ++ us) ≡ Some (a, us)
-unfolding assignment after_column after_equal say_assignment
+unfolding assignment after_assigned after_equal say_assignment
 assignment_spelled front a us h end =
     ap (λ l. assignment (l ++ us)) h.3
-    ∙ ap (option_and_then (λ (r : Front (List ℕ)). after_column r.0 r.1)) (name_spelled a.column (Mark symbol.Equal ∷ h.0 ++ us) h.1)
-    ∙ ap (option_and_then (λ (r : Front (Operand (List ℕ))). say_assignment a.column r.0 r.1)) (operand_spelled h.0 a.source us h.2 end)
+    ∙ ap (option_and_then (λ (r : Front (List ℕ)). after_assigned r.0 r.1)) (name_spelled a.column (Mark symbol.Equal ∷ h.0 ++ us) h.1)
+    ∙ ap (option_and_then (λ (r : Front (Operand (List ℕ))). say_assignment a.column r.0 r.1))
+    (operand_spelled name SpellsName name_column h.0 a.source us h.2 end)
 
 assignments_exact : IsExact (comma_list assignment) (SpellsList (Mark symbol.Comma) SpellsAssignment) (λ us. NoSign us × (the_symbol symbol.Comma us ≡ None))
 unfolding shift
@@ -306,7 +365,7 @@ assignments_exact =
     (record { sound = assignment_read; complete = assignment_spelled }) (λ us. refl)
 
 -- A WHERE ends the assignments in front of it.
-where_ends : (front : List Token) (asked : List (Atom (List ℕ))) → SpellsTests front asked → NoSign front × (the_symbol symbol.Comma front ≡ None)
+where_ends : (front : List Token) (asked : List (Atom (List ℕ))) → SpellsTestsOn SpellsName front asked → NoSign front × (the_symbol symbol.Comma front ≡ None)
 unfolding shift
 where_ends front [] h = subst (λ l. NoSign l × (the_symbol symbol.Comma l ≡ None)) (sym h) (refl, refl)
 where_ends front (a ∷ others) h = subst (λ l. NoSign l × (the_symbol symbol.Comma l ≡ None)) (sym h.2) (refl, refl)
@@ -317,26 +376,27 @@ say_delete : List ℕ → List (Atom (List ℕ)) → Phrase Command
 say_delete t asked = say (command.Change (change.Delete t asked))
 
 asked_in : List ℕ → Phrase Command
-asked_in t = tests >>= say_delete t
+asked_in t = tests_on name >>= say_delete t
 
 pub delete_read : (ts : List Token) (c : Command) → delete ts ≡ Some (c, []) → SpellsCommand (word keyword.Delete ∷ ts) c
 unfolding delete asked_in say_delete
 delete_read ts c e =
     let p = then_parts name asked_in ts c [] e in
-    let q = then_parts tests (say_delete p.0) p.1 c [] p.3 in
+    let q = then_parts (tests_on name) (say_delete p.0) p.1 c [] p.3 in
     let r = said_same (command.Change (change.Delete p.0 q.0)) c q.1 [] q.3 in
     let n = name_read ts p.0 p.1 p.2 in
-    let s = tests_read p.1 q.0 q.1 q.2 in
+    let s = (tests_exact name SpellsName name_column).sound p.1 q.0 q.1 q.2 in
     let all : p.1 ≡ s.0 = s.2 ∙ ap (λ l. s.0 ++ l) r.1 ∙ append-nil s.0 in
     subst (SpellsCommand (word keyword.Delete ∷ ts)) r.0
     (s.0, n.1, s.1, ap (λ l. word keyword.Delete ∷ l) (n.0 ∙ ap (λ l. Word p.0 ∷ l) all))
 
-pub delete_spelled : (t : List ℕ) (asked : List (Atom (List ℕ))) (front : List Token) → IsName t → SpellsTests front asked
+pub delete_spelled : (t : List ℕ) (asked : List (Atom (List ℕ))) (front : List Token) → IsName t → SpellsTestsOn SpellsName front asked
     → delete (Word t ∷ front) ≡ Some (command.Change (change.Delete t asked), [])
 unfolding delete asked_in say_delete
 delete_spelled t asked front named h =
     ap (option_and_then (λ (r : Front (List ℕ)). asked_in r.0 r.1)) (name_spelled t front named)
-    ∙ ap (option_and_then (λ (r : Front (List (Atom (List ℕ)))). say_delete t r.0 r.1)) (tests_spelled front asked h)
+    ∙ ap (option_and_then (λ (r : Front (List (Atom (List ℕ)))). say_delete t r.0 r.1))
+    (tests_spelled name SpellsName name_column front asked h)
 
 -- ---- UPDATE
 
@@ -347,7 +407,7 @@ say_update : List ℕ → Assignments → List (Atom (List ℕ)) → Phrase Comm
 say_update t set asked = say (command.Change (change.Update t set asked))
 
 after_assignments : List ℕ → Assignments → Phrase Command
-after_assignments t set = tests >>= say_update t set
+after_assignments t set = tests_on name >>= say_update t set
 
 after_set : List ℕ → Phrase Command
 after_set t = comma_list assignment >>= after_assignments t
@@ -361,11 +421,11 @@ update_read ts c e =
     let p = then_parts name after_updated ts c [] e in
     let q = then_parts (the_keyword keyword.Set) (λ u. after_set p.0) p.1 c [] p.3 in
     let r = then_parts (comma_list assignment) (after_assignments p.0) q.1 c [] q.3 in
-    let s = then_parts tests (say_update p.0 r.0) r.1 c [] r.3 in
+    let s = then_parts (tests_on name) (say_update p.0 r.0) r.1 c [] r.3 in
     let u = said_same (command.Change (change.Update p.0 r.0 s.0)) c s.1 [] s.3 in
     let n = name_read ts p.0 p.1 p.2 in
     let set = assignments_exact.sound q.1 r.0 r.1 r.2 in
-    let asked = tests_read r.1 s.0 s.1 s.2 in
+    let asked = (tests_exact name SpellsName name_column).sound r.1 s.0 s.1 s.2 in
     let last : r.1 ≡ asked.0 = asked.2 ∙ ap (λ l. asked.0 ++ l) u.1 ∙ append-nil asked.0 in
     let all : p.1 ≡ word keyword.Set ∷ set.0 ++ asked.0 =
     keyword_read keyword.Set p.1 q.1 q.2 ∙ ap (λ l. word keyword.Set ∷ l) (set.2 ∙ ap (λ l. set.0 ++ l) last) in
@@ -373,10 +433,11 @@ update_read ts c e =
     (set.0, asked.0, n.1, set.1, asked.1, ap (λ l. word keyword.Update ∷ l) (n.0 ∙ ap (λ l. Word p.0 ∷ l) all))
 
 pub update_spelled : (t : List ℕ) (set : Assignments) (asked : List (Atom (List ℕ))) (front behind : List Token) → IsName t
-    → SpellsList (Mark symbol.Comma) SpellsAssignment front set → SpellsTests behind asked
+    → SpellsList (Mark symbol.Comma) SpellsAssignment front set → SpellsTestsOn SpellsName behind asked
     → update (Word t ∷ word keyword.Set ∷ front ++ behind) ≡ Some (command.Change (change.Update t set asked), [])
 unfolding update after_updated after_set after_assignments say_update
 update_spelled t set asked front behind named h k =
     ap (option_and_then (λ (r : Front (List ℕ)). after_updated r.0 r.1)) (name_spelled t (word keyword.Set ∷ front ++ behind) named)
     ∙ ap (option_and_then (λ (r : Front Assignments). after_assignments t r.0 r.1)) (assignments_exact.complete front set behind h (where_ends behind asked k))
-    ∙ ap (option_and_then (λ (r : Front (List (Atom (List ℕ)))). say_update t set r.0 r.1)) (tests_spelled behind asked k)
+    ∙ ap (option_and_then (λ (r : Front (List (Atom (List ℕ)))). say_update t set r.0 r.1))
+    (tests_spelled name SpellsName name_column behind asked k)

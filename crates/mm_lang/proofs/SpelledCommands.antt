@@ -28,6 +28,7 @@ use Rattle.mm_lang.specs.Words.{keyword_named}
 use Rattle.mm_lang.specs.steps.Parts.{Front, said_same, tested, chained, then_parts, word_parts, in_parentheses_parts}
 use Rattle.mm_lang.proofs.SpelledWords.{symbol_read, keyword_read, named_read, has_keyword_read, name_no_keyword, name_read, name_spelled, literal_read, literal_spelled}
 use Rattle.mm_lang.proofs.SpelledAtoms.{comma, delete_read, delete_spelled, update_read, update_spelled}
+use Rattle.mm_lang.proofs.SpelledSelect.{select_read, select_spelled, explain_read, explain_spelled}
 use Rattle.mm_lang.proofs.Exactness.{IsExact, Always, one_exact, list_exact, parentheses_exact}
 
 -- tuples
@@ -359,9 +360,11 @@ table_spelled n columns inner named one h =
 behind_read : (k : Keyword) (ts : List Token) (c : Command) → command_behind k ts ≡ Some (c, []) → SpellsCommand (word k ∷ ts) c
 behind_read keyword.Delete ts c e = delete_read ts c e
 behind_read keyword.Drop ts c e = drop_read ts c e
+behind_read keyword.Explain ts c e = explain_read ts c e
 behind_read keyword.Index ts c e = index_read ts c e
 behind_read keyword.Insert ts c e = insert_read ts c e
 behind_read keyword.Scan ts c e = scan_read ts c e
+behind_read keyword.Select ts c e = select_read ts c e
 behind_read keyword.Table ts c e = table_read ts c e
 behind_read keyword.Update ts c e = update_read ts c e
 behind_read _ ts c e = let answer : Front Command = (c, []) in absurd (none-some answer e)
@@ -399,6 +402,10 @@ command_spelled ts (command.Change (change.Delete t asked)) h =
     ap command_of h.3 ∙ ap (option_and_then (λ (r : Front Command). alone r.0 r.1)) (delete_spelled t asked h.0 h.1 h.2)
 command_spelled ts (command.Scan t) h = ap command_of h.1 ∙ ap (option_and_then (λ (r : Front Command). alone r.0 r.1)) (scan_spelled t h.0)
 command_spelled ts (command.ScanIndex i) h = ap command_of h.1 ∙ ap (option_and_then (λ (r : Front Command). alone r.0 r.1)) (scan_index_spelled i h.0)
+command_spelled ts (command.Select q) h =
+    ap command_of h.2 ∙ ap (option_and_then (λ (r : Front Command). alone r.0 r.1)) (select_spelled h.0 q h.1)
+command_spelled ts (command.Explain q) h =
+    ap command_of h.2 ∙ ap (option_and_then (λ (r : Front Command). alone r.0 r.1)) (explain_spelled h.0 q h.1)
 
 pub command_one : (ts : List Token) (c d : Command) → SpellsCommand ts c → SpellsCommand ts d → c ≡ d
 command_one ts c d h k = same_Some c d (sym (command_spelled ts c h) ∙ command_spelled ts d k)

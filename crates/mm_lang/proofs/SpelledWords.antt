@@ -123,3 +123,8 @@ name_no_numeral (b ∷ bs) named numeral =
     let low : 97 ≤ b = leb-true 97 b letter.0 in
     let high : b ≤ 57 = leb-true b 57 digit.1 in
     omega arith
+
+pub name_no_literal : (name : List ℕ) → IsName name → literal_of (Word name) ≡ None
+name_no_literal name named =
+    ⊎_elim (λ numeral. absurd (name_no_numeral name named numeral)) (λ other. ap (λ b. cond b (Some (Int (pos (digits_value 10 name)))) None) other)
+    (cases_Bool (is_numeral name))

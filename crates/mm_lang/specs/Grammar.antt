@@ -1,5 +1,5 @@
 -- What tokens read as, from left to right.
-use Rattle.std.specs.Prelude.{ℕ, ◌==◌, Bool, true, false, if◌then◌else◌, List, [], ◌∷◌, Option, Some, None, ℤ, pos}
+use Rattle.std.specs.Prelude.{ℕ, ◌==◌, Bool, true, false, if◌then◌else◌, List, ◌∷◌, Option, Some, None, ℤ, pos}
 use Rattle.std.specs.Option.{option_and_then}
 use Rattle.std.specs.Str.Parse.{digits_value}
 use Rattle.std.proofs.Math.IntN.{neg_ℤ}
@@ -26,12 +26,15 @@ use Rattle.mm_query.specs.declared.command.Command.{Command}
 use Rattle.mm_query.specs.declared.command.Command.TheVariants as command
 use Rattle.mm_query.specs.declared.command.Definition.TheVariants as define
 use Rattle.mm_query.specs.declared.command.Mutation.TheVariants as change
+use Rattle.mm_query.specs.declared.query.FieldName.{FieldName}
+use Rattle.mm_query.specs.declared.query.FromItem.{FromItem}
+use Rattle.mm_query.specs.declared.query.Query.{Query}
 use Rattle.mm_lang.specs.declared.keyword.Keyword.{Keyword}
 use Rattle.mm_lang.specs.declared.keyword.Keyword.TheVariants as keyword
 use Rattle.mm_lang.specs.declared.phrase.Separator.TheVariants.{And}
 use Rattle.mm_lang.specs.declared.token.Symbol.{Symbol}
 use Rattle.mm_lang.specs.declared.token.Symbol.TheVariants as symbol
-use Rattle.mm_lang.specs.Phrases.{Phrase, ◌>>=◌, ◌>>◌, say, never, one, one_word, word_of, mark_of, the_symbol, the_keyword, the_separator, only_if, maybe, has_keyword, list_of, in_parentheses, whole}
+use Rattle.mm_lang.specs.Phrases.{Phrase, ◌>>=◌, ◌>>◌, say, never, one, one_word, word_of, mark_of, the_symbol, the_keyword, the_separator, only_if, maybe, has_keyword, list_of, clause, in_parentheses, whole}
 use Rattle.mm_lang.specs.Tokens.{Token, Word, Signed, Quoted, Mark, Unreadable}
 use Rattle.mm_lang.specs.Words.{keyword_named}
 
@@ -100,43 +103,64 @@ shift (Signed word ∷ ts) = numbered true word ts
 shift ts = Some (None, ts)
 
 -- A column, or a column with a shift.
-abbrev pub with_shift : List ℕ → Option ℤ → Operand (List ℕ)
-with_shift name None = kind_of.Column name
-with_shift name (Some by) = kind_of.Shifted name by
+abbrev pub with_shift : {F : Type 0} → F → Option ℤ → Operand F
+with_shift column None = kind_of.Column column
+with_shift column (Some by) = kind_of.Shifted column by
 
--- [shift], where a name stands in front, and else a literal.
-abbrev pub operand_behind : Option (List ℕ) → Phrase (Operand (List ℕ))
-operand_behind (Some name) = shift >>= (λ by. say (with_shift name by))
-operand_behind None = one literal_of >>= (λ value. say (kind_of.Literal value))
+-- Nothing more, where a literal stands in front, and else a column and [shift].
+abbrev pub operand_behind : {F : Type 0} → Phrase F → Option Value → Phrase (Operand F)
+operand_behind column (Some value) = say (kind_of.Literal value)
+operand_behind column None = do
+  its_name ← column
+  by ← shift
+  say (with_shift its_name by)
 
--- literal | name [shift]
-unfoldable pub operand : Phrase (Operand (List ℕ))
-operand = maybe name >>= operand_behind
+-- literal | column [shift], where columns are named by a phrase
+unfoldable pub operand_on : {F : Type 0} → Phrase F → Phrase (Operand F)
+operand_on column = maybe (one literal_of) >>= operand_behind column
 
--- test = name op literal | name op name [shift]
-unfoldable pub test : Phrase (Atom (List ℕ))
-test = do
-  left ← name
+-- test = column op literal | column op column [shift]
+unfoldable pub test_on : {F : Type 0} → Phrase F → Phrase (Atom F)
+test_on column = do
+  left ← column
   how ← comparison
-  right ← operand
+  right ← operand_on column
   say (record { left = left; comparison = how; right = right })
+
+-- [WHERE test AND test ..]
+abbrev pub tests_on : {F : Type 0} → Phrase F → Phrase (List (Atom F))
+tests_on column = clause keyword.Where (the_separator And) (test_on column)
 
 -- assign = name = literal | name = name [shift]
 unfoldable pub assignment : Phrase (Assignment (List ℕ))
 assignment = do
   column ← name
   the_symbol symbol.Equal
-  source ← operand
+  source ← operand_on name
   say (record { column = column; source = source })
 
--- test AND test .., where WHERE stands in front
-abbrev pub tests_behind : Bool → Phrase (List (Atom (List ℕ)))
-tests_behind true = list_of (the_separator And) test
-tests_behind false = say []
+-- field = name . name
+unfoldable pub field : Phrase FieldName
+field = do
+  alias ← name
+  the_symbol symbol.Dot
+  column ← name
+  say (record { alias = alias; column = column })
 
--- [WHERE test AND test ..]
-unfoldable pub tests : Phrase (List (Atom (List ℕ)))
-tests = has_keyword keyword.Where >>= tests_behind
+-- A table of FROM and its alias: name name
+unfoldable pub from_item : Phrase FromItem
+from_item = do
+  table ← name
+  alias ← name
+  say (record { table = table; alias = alias })
+
+-- A position of ORDER: digits, as a number of any size.
+abbrev pub position : Phrase ℕ
+position = one_word (λ word. if is_numeral word then Some (digits_value 10 word) else None)
+
+-- [ORDER digits, ..]
+abbrev pub order : Phrase (List ℕ)
+order = clause keyword.Order (the_symbol symbol.Comma) position
 
 -- name, where REF stands in front, and else nothing
 abbrev pub reference : Bool → Phrase Role
@@ -213,14 +237,14 @@ update = do
   table ← name
   the_keyword keyword.Set
   assignments ← comma_list assignment
-  asked ← tests
+  asked ← tests_on name
   say (command.Change (change.Update table assignments asked))
 
 -- DELETE, and behind it: name [WHERE test AND test ..]
 unfoldable pub delete : Phrase Command
 delete = do
   table ← name
-  asked ← tests
+  asked ← tests_on name
   say (command.Change (change.Delete table asked))
 
 -- SCAN, and behind it: name | INDEX name
@@ -230,13 +254,39 @@ scan = do
   name ← name
   say (scan_of by_index name)
 
+-- query = [DISTINCT] field, .. FROM name name, .. [WHERE test AND test ..] [ORDER digits, ..]
+unfoldable pub query : Phrase Query
+query = do
+  distinct ← has_keyword keyword.Distinct
+  fields ← comma_list field
+  the_keyword keyword.From
+  from ← comma_list from_item
+  asked ← tests_on field
+  positions ← order
+  say (record { distinct = distinct; fields = fields; from = from; atoms = asked; order = positions })
+
+-- SELECT, and behind it: query
+unfoldable pub select : Phrase Command
+select = do
+  asked ← query
+  say (command.Select asked)
+
+-- EXPLAIN, and behind it: SELECT query
+unfoldable pub explain : Phrase Command
+explain = do
+  the_keyword keyword.Select
+  asked ← query
+  say (command.Explain asked)
+
 -- what stands behind the keyword that a command begins with
 abbrev pub command_behind : Keyword → Phrase Command
 command_behind keyword.Delete = delete
 command_behind keyword.Drop = drop
+command_behind keyword.Explain = explain
 command_behind keyword.Index = index
 command_behind keyword.Insert = insert
 command_behind keyword.Scan = scan
+command_behind keyword.Select = select
 command_behind keyword.Table = table
 command_behind keyword.Update = update
 command_behind _ = never

@@ -103,6 +103,15 @@ at_most (suc n) separator item = do
 abbrev pub list_of : {A : Type 0} → Phrase (Unit {0}) → Phrase A → Phrase (List A)
 list_of separator item ts = at_most (suc (length ts)) separator item ts
 
+-- One or more items behind a keyword, a separator between each two, if the keyword stands there, and else none.
+abbrev pub clause_behind : {A : Type 0} → Phrase (Unit {0}) → Phrase A → Bool → Phrase (List A)
+clause_behind separator item true = list_of separator item
+clause_behind separator item false = say []
+
+-- [KEYWORD x, ..]
+unfoldable pub clause : {A : Type 0} → Keyword → Phrase (Unit {0}) → Phrase A → Phrase (List A)
+clause wanted separator item = has_keyword wanted >>= clause_behind separator item
+
 -- What stands in parentheses.
 abbrev pub in_parentheses : {A : Type 0} → Phrase A → Phrase A
 in_parentheses phrase = do

@@ -1,5 +1,5 @@
 -- What a line reads as.
-use Rattle.std.specs.Prelude.{◌≡◌, ◌⊎◌, ℕ, ◌==◌, Bool, true, false, ◌||◌, ◌&&◌, if◌then◌else◌, List, [], ◌∷◌, ◌++◌, Option, Some, None, Result, Ok, Err, length, nat_lt, IsTrue}
+use Rattle.std.specs.Prelude.{◌≡◌, ◌⊎◌, ℕ, ◌==◌, Bool, true, false, ◌||◌, ◌&&◌, if◌then◌else◌, List, [], ◌∷◌, ◌++◌, Option, Some, None, Result, Ok, Err, length, nat_lt, pos, IsTrue}
 use Rattle.std.specs.List.{cons_option, list_all, flat_map}
 use Rattle.std.specs.Option.{option_or}
 use Rattle.mm_value.specs.Literal.{is_within_limit}
@@ -12,8 +12,9 @@ use Rattle.mm_query.specs.declared.atom.Atom.{Atom}
 use Rattle.mm_query.specs.declared.atom.Operand.{Operand}
 use Rattle.mm_query.specs.declared.atom.Operand.TheVariants.{Literal, Column, Shifted}
 use Rattle.mm_query.specs.declared.command.Command.{Command}
-use Rattle.mm_query.specs.declared.command.Command.TheVariants.{Nothing, Define, Change, Scan, ScanIndex}
+use Rattle.mm_query.specs.declared.command.Command.TheVariants.{Nothing, Define, Change, Scan, ScanIndex, Select, Explain}
 use Rattle.mm_query.specs.declared.command.Mutation.TheVariants.{Insert, Update, Delete}
+use Rattle.mm_query.specs.declared.query.Query.{Query}
 use Rattle.mm_lang.specs.Grammar.{command_of, literal_of}
 use Rattle.mm_lang.specs.Tokens.{Token, Word, Signed, Mark, tokens, is_blank}
 use Rattle.mm_lang.specs.declared.token.Symbol.TheVariants.{Minus}
@@ -32,18 +33,26 @@ first_fault [] = None
 first_fault (v ∷ vs) = option_or (literal_fault v) (first_fault vs)
 
 -- the literals of an operand: a shift's number is one
-abbrev pub operand_literals : Operand (List ℕ) → List Value
+abbrev pub operand_literals : {F : Type 0} → Operand F → List Value
 operand_literals (Literal v) = v ∷ []
-operand_literals (Column name) = []
-operand_literals (Shifted name by) = Int by ∷ []
+operand_literals (Column column) = []
+operand_literals (Shifted column by) = Int by ∷ []
 
 -- the literals of a test
-abbrev pub test_literals : Atom (List ℕ) → List Value
+abbrev pub test_literals : {F : Type 0} → Atom F → List Value
 test_literals test = operand_literals test.right
 
 -- the literals of an assignment
 abbrev pub assignment_literals : Assignment (List ℕ) → List Value
 assignment_literals assignment = operand_literals assignment.source
+
+-- the literals of a position of ORDER: its number is one
+abbrev pub position_literals : ℕ → List Value
+position_literals position = Int (pos position) ∷ []
+
+-- the literals of a query, from left to right: the names of its fields and tables are none
+abbrev pub query_literals : Query → List Value
+query_literals query = flat_map test_literals query.atoms ++ flat_map position_literals query.order
 
 -- The literals among tokens, from left to right: a minus in front of a word belongs to it.
 abbrev pub literals_among : List Token → List Value
@@ -60,6 +69,8 @@ literals_of (Change (Update table assignments tests)) = flat_map assignment_lite
 literals_of (Change (Delete table tests)) = flat_map test_literals tests
 literals_of (Scan table) = []
 literals_of (ScanIndex index) = []
+literals_of (Select query) = query_literals query
+literals_of (Explain query) = query_literals query
 
 -- a thing, unless it has a fault
 abbrev pub unless : {A : Type 0} → A → Option Refusal → Result A Refusal
@@ -98,6 +109,8 @@ command_takes_memory (Define definition) = true
 command_takes_memory (Change mutation) = true
 command_takes_memory (Scan table) = true
 command_takes_memory (ScanIndex index) = true
+command_takes_memory (Select query) = true
+command_takes_memory (Explain query) = true
 
 -- What a line reads as takes memory, unless it is such a command or the line is too long.
 abbrev pub reading_takes_memory : Result Command Refusal → Bool

@@ -1,5 +1,5 @@
 -- The grammar: how commands are spelled.
-use Rattle.std.specs.Prelude.{◌≡◌, ◌⊎◌, ℕ, List, [], ◌∷◌, ◌++◌, ℤ, pos}
+use Rattle.std.specs.Prelude.{◌≡◌, ◌⊎◌, ℕ, Bool, true, false, List, [], ◌∷◌, ◌++◌, ℤ, pos}
 use Rattle.std.specs.Str.Parse.{digits_value}
 use Rattle.std.proofs.Math.IntN.{neg_ℤ}
 use Rattle.mm_schema.specs.Columns.{key_count}
@@ -24,10 +24,13 @@ use Rattle.mm_query.specs.declared.command.Command.{Command}
 use Rattle.mm_query.specs.declared.command.Command.TheVariants as command
 use Rattle.mm_query.specs.declared.command.Definition.TheVariants as define
 use Rattle.mm_query.specs.declared.command.Mutation.TheVariants as change
+use Rattle.mm_query.specs.declared.query.FieldName.{FieldName}
+use Rattle.mm_query.specs.declared.query.FromItem.{FromItem}
+use Rattle.mm_query.specs.declared.query.Query.{Query}
 use Rattle.mm_lang.specs.declared.keyword.Keyword.{Keyword}
 use Rattle.mm_lang.specs.declared.keyword.Keyword.TheVariants as keyword
 use Rattle.mm_lang.specs.declared.token.Symbol.{Symbol}
-use Rattle.mm_lang.specs.declared.token.Symbol.TheVariants.{Open, Close, Comma, Equal, Less, AtMost, Greater, AtLeast, Plus, Minus}
+use Rattle.mm_lang.specs.declared.token.Symbol.TheVariants.{Open, Close, Comma, Dot, Equal, Less, AtMost, Greater, AtLeast, Plus, Minus}
 use Rattle.mm_lang.specs.Tokens.{Token, Word, Signed, Quoted, Mark}
 use Rattle.mm_lang.specs.Words.{keyword_text}
 
@@ -51,6 +54,11 @@ SpellsList separator Spells ts [] = ⊥
 SpellsList separator Spells ts (x ∷ []) = Spells ts x
 SpellsList separator Spells ts (x ∷ y ∷ xs) =
     (first others : List Token) × Spells first x × SpellsList separator Spells others (y ∷ xs) × (ts ≡ first ++ separator ∷ others)
+
+-- [KEYWORD x, ..] : nothing, or a keyword and one or more behind it, a separator between each two
+abbrev pub SpellsClause : {A : Type 0} → Keyword → Token → (List Token → A → Type 0) → List Token → List A → Type 0
+SpellsClause keyword separator Spells ts [] = ts ≡ []
+SpellsClause keyword separator Spells ts (x ∷ xs) = (inner : List Token) × SpellsList separator Spells inner (x ∷ xs) × (ts ≡ word keyword ∷ inner)
 
 -- ( x )
 abbrev pub SpellsInParentheses : {A : Type 0} → (List Token → A → Type 0) → List Token → A → Type 0
@@ -86,11 +94,20 @@ SpellsShift ts z = (digits : List ℕ) × IsNumeral digits
     × (((ts ≡ Mark Plus ∷ Word digits ∷ []) × (z ≡ pos (digits_value 10 digits)))
     ⊎ (((ts ≡ Mark Minus ∷ Word digits ∷ []) ⊎ (ts ≡ Signed digits ∷ [])) × (z ≡ neg_ℤ (pos (digits_value 10 digits)))))
 
--- literal | name [shift]
-abbrev pub SpellsOperand : List Token → Operand (List ℕ) → Type 0
-SpellsOperand ts (operand.Literal value) = SpellsOne SpellsLiteral ts value
-SpellsOperand ts (operand.Column name) = IsName name × (ts ≡ Word name ∷ [])
-SpellsOperand ts (operand.Shifted name by) = (behind : List Token) × IsName name × SpellsShift behind by × (ts ≡ Word name ∷ behind)
+-- A column of the table that the command names: name
+abbrev pub SpellsName : List Token → List ℕ → Type 0
+SpellsName ts name = IsName name × (ts ≡ Word name ∷ [])
+
+-- A column of a table of FROM: name . name
+abbrev pub SpellsField : List Token → FieldName → Type 0
+SpellsField ts field = IsName field.alias × IsName field.column × (ts ≡ Word field.alias ∷ Mark Dot ∷ Word field.column ∷ [])
+
+-- literal | column [shift], by how columns are spelled
+abbrev pub SpellsOperandOn : {F : Type 0} → (List Token → F → Type 0) → List Token → Operand F → Type 0
+SpellsOperandOn SpellsColumn ts (operand.Literal value) = SpellsOne SpellsLiteral ts value
+SpellsOperandOn SpellsColumn ts (operand.Column column) = SpellsColumn ts column
+SpellsOperandOn SpellsColumn ts (operand.Shifted column by) =
+    (name shift : List Token) × SpellsColumn name column × SpellsShift shift by × (ts ≡ name ++ shift)
 
 -- op = = | < | <= | > | >=
 abbrev pub comparison_symbol : Comparison → Symbol
@@ -100,23 +117,47 @@ comparison_symbol compared.LessOrEqual = AtMost
 comparison_symbol compared.Greater = Greater
 comparison_symbol compared.GreaterOrEqual = AtLeast
 
--- test = name op literal | name op name [shift]
-abbrev pub SpellsTest : List Token → Atom (List ℕ) → Type 0
-SpellsTest ts test =
-    (right : List Token) × IsName test.left × SpellsOperand right test.right
-    × (ts ≡ Word test.left ∷ Mark (comparison_symbol test.comparison) ∷ right)
+-- test = column op literal | column op column [shift], by how columns are spelled
+abbrev pub SpellsTestOn : {F : Type 0} → (List Token → F → Type 0) → List Token → Atom F → Type 0
+SpellsTestOn SpellsColumn ts test =
+    (left right : List Token) × SpellsColumn left test.left × SpellsOperandOn SpellsColumn right test.right
+    × (ts ≡ left ++ Mark (comparison_symbol test.comparison) ∷ right)
 
 -- assign = name = literal | name = name [shift]
 abbrev pub SpellsAssignment : List Token → Assignment (List ℕ) → Type 0
 SpellsAssignment ts assignment =
-    (source : List Token) × IsName assignment.column × SpellsOperand source assignment.source
+    (source : List Token) × IsName assignment.column × SpellsOperandOn SpellsName source assignment.source
     × (ts ≡ Word assignment.column ∷ Mark Equal ∷ source)
 
--- [WHERE test AND test ..]
-abbrev pub SpellsTests : List Token → List (Atom (List ℕ)) → Type 0
-SpellsTests ts [] = ts ≡ []
-SpellsTests ts (test ∷ others) =
-    (inner : List Token) × SpellsList (word keyword.And) SpellsTest inner (test ∷ others) × (ts ≡ word keyword.Where ∷ inner)
+-- [WHERE test AND test ..], by how columns are spelled
+abbrev pub SpellsTestsOn : {F : Type 0} → (List Token → F → Type 0) → List Token → List (Atom F) → Type 0
+SpellsTestsOn SpellsColumn ts tests = SpellsClause keyword.Where (word keyword.And) (SpellsTestOn SpellsColumn) ts tests
+
+-- A table of FROM and its alias: name name
+abbrev pub SpellsFromItem : List Token → FromItem → Type 0
+SpellsFromItem ts item = IsName item.table × IsName item.alias × (ts ≡ Word item.table ∷ Word item.alias ∷ [])
+
+-- [DISTINCT]
+abbrev pub SpellsDistinct : List Token → Bool → Type 0
+SpellsDistinct ts true = ts ≡ word keyword.Distinct ∷ []
+SpellsDistinct ts false = ts ≡ []
+
+-- A position of ORDER: digits.
+abbrev pub SpellsPosition : Token → ℕ → Type 0
+SpellsPosition (Word digits) position = IsNumeral digits × (position ≡ digits_value 10 digits)
+SpellsPosition token position = ⊥
+
+-- [ORDER digits, ..]
+abbrev pub SpellsOrder : List Token → List ℕ → Type 0
+SpellsOrder ts positions = SpellsClause keyword.Order (Mark Comma) (SpellsOne SpellsPosition) ts positions
+
+-- query = [DISTINCT] field, .. FROM name name, .. [WHERE test AND test ..] [ORDER digits, ..]
+abbrev pub SpellsQuery : List Token → Query → Type 0
+SpellsQuery ts query =
+    (distinct fields from where_tests order : List Token) × SpellsDistinct distinct query.distinct
+    × SpellsList (Mark Comma) SpellsField fields query.fields × SpellsList (Mark Comma) SpellsFromItem from query.from
+    × SpellsTestsOn SpellsField where_tests query.atoms × SpellsOrder order query.order
+    × (ts ≡ distinct ++ fields ++ word keyword.From ∷ from ++ where_tests ++ order)
 
 -- command = TABLE name ( coldef, .. ) with exactly one KEY
 --         | DROP TABLE name
@@ -127,6 +168,8 @@ SpellsTests ts (test ∷ others) =
 --         | DELETE name [WHERE test AND test ..]
 --         | SCAN name
 --         | SCAN INDEX name
+--         | SELECT query
+--         | EXPLAIN SELECT query
 abbrev pub SpellsCommand : List Token → Command → Type 0
 SpellsCommand ts command.Nothing = ⊥
 SpellsCommand ts (command.Define (define.Table definition)) =
@@ -142,9 +185,12 @@ SpellsCommand ts (command.Define (define.DropIndex name)) = IsName name × (ts �
 SpellsCommand ts (command.Change (change.Insert table tuples)) =
     (inner : List Token) × IsName table × SpellsList (Mark Comma) SpellsTuple inner tuples × (ts ≡ word keyword.Insert ∷ Word table ∷ inner)
 SpellsCommand ts (command.Change (change.Update table assignments tests)) =
-    (set where_tests : List Token) × IsName table × SpellsList (Mark Comma) SpellsAssignment set assignments × SpellsTests where_tests tests
+    (set where_tests : List Token) × IsName table × SpellsList (Mark Comma) SpellsAssignment set assignments × SpellsTestsOn SpellsName where_tests tests
     × (ts ≡ word keyword.Update ∷ Word table ∷ word keyword.Set ∷ set ++ where_tests)
 SpellsCommand ts (command.Change (change.Delete table tests)) =
-    (where_tests : List Token) × IsName table × SpellsTests where_tests tests × (ts ≡ word keyword.Delete ∷ Word table ∷ where_tests)
+    (where_tests : List Token) × IsName table × SpellsTestsOn SpellsName where_tests tests × (ts ≡ word keyword.Delete ∷ Word table ∷ where_tests)
 SpellsCommand ts (command.Scan table) = IsName table × (ts ≡ word keyword.Scan ∷ Word table ∷ [])
 SpellsCommand ts (command.ScanIndex index) = IsName index × (ts ≡ word keyword.Scan ∷ word keyword.Index ∷ Word index ∷ [])
+SpellsCommand ts (command.Select query) = (behind : List Token) × SpellsQuery behind query × (ts ≡ word keyword.Select ∷ behind)
+SpellsCommand ts (command.Explain query) =
+    (behind : List Token) × SpellsQuery behind query × (ts ≡ word keyword.Explain ∷ word keyword.Select ∷ behind)

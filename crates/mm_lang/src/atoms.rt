@@ -1,39 +1,69 @@
 //! The tests of a WHERE and the assignments of a SET.
-ghost use Rattle.std.specs.Prelude.{◌≡◌, List, ℕ};
+ghost use Rattle.std.specs.Prelude.{◌≡◌, List};
 ghost use Rattle.std.specs.List.{flat_map};
-ghost use Rattle.mm_lang.specs.Grammar.{operand, tests, with_shift};
+ghost use Rattle.mm_lang.specs.Grammar.{operand_on, tests_on, with_shift};
+ghost use Rattle.mm_lang.specs.Phrases.{Phrase as Phr};
 ghost use Rattle.mm_lang.specs.Reading.{operand_literals, test_literals};
-ghost use Rattle.mm_lang.specs.steps.Parsing.{ReadsPhrase};
+ghost use Rattle.mm_lang.specs.steps.Parsing.{NeverLonger, ReadsPhrase, no_literals};
 
 use crate::keyword::Keyword;
-use crate::phrase::{Phrase, Separator, read_list};
+use crate::phrase::{Phrase, Separator, read_clause};
 use crate::reader::Reader;
 use crate::token::Symbol;
 use mm_query::{Assignment, Atom, ItemList, Operand};
 use mm_schema::Name;
 use mm_value::Refusal;
+use std::marker::PhantomData;
+
+/// How a command names a column.
+pub(crate) trait ColumnName: Sized + Drop {
+    ghost column: { Phr Self };
+
+    /// Reads a column. `Syntax` where none stands first in the rest.
+    fn read(reader: &mut Reader<'_>) -> Result<Self, Refusal>
+        ensures { ReadsPhrase column no_literals reader.old reader.new result };
+
+    ghost never_longer: { NeverLonger column };
+}
+
+/// By its name alone, where the command names one table.
+impl ColumnName for Name {
+    ghost use Rattle.mm_lang.specs.Grammar.{name};
+    ghost use Rattle.mm_lang.specs.steps.Shrinking.{name_never_longer};
+
+    ghost column = { name };
+
+    ghost never_longer = { name_never_longer };
+
+    /// Reads a name. `Syntax` where none stands first in the rest.
+    fn read(reader: &mut Reader<'_>) -> Result<Name, Refusal> {
+        reader.name()
+    }
+}
 
 /// How a test is read: a column, a comparison, and what the column is compared with. Its item is the atom.
 #[derive(Drop)]
-pub(crate) struct TestPhrase;
+struct TestPhrase<C> {
+    names: PhantomData<C>,
+}
 
-impl Phrase for TestPhrase {
-    ghost use Rattle.mm_lang.specs.Grammar.{test};
+impl<C: ColumnName> Phrase for TestPhrase<C> {
+    ghost use Rattle.mm_lang.specs.Grammar.{test_on};
     ghost use Rattle.mm_lang.specs.Reading.{test_literals};
     ghost use Rattle.mm_lang.specs.steps.Shrinking.{test_never_longer};
 
-    type Item = Atom<Name>;
+    type Item = Atom<C>;
 
-    ghost reading = { test };
+    ghost reading = { test_on C.column };
 
     ghost literals = { test_literals };
 
-    ghost never_longer = { test_never_longer };
+    ghost never_longer = { test_never_longer C.column C.never_longer };
 
     /// Reads a test. `Syntax` where none stands first in the rest, `Memory` where memory was refused for a text. A literal
     /// or a shift past its limit is no error yet: it is noted in the reader.
-    fn read(&mut self, reader: &mut Reader<'_>) -> Result<Atom<Name>, Refusal> {
-        let left = reader.name()?;
+    fn read(&mut self, reader: &mut Reader<'_>) -> Result<Atom<C>, Refusal> {
+        let left = C::read(reader)?;
         let comparison = reader.comparison()?;
         let right = read_operand(reader)?;
         Ok(Atom {
@@ -73,33 +103,35 @@ impl Phrase for AssignmentPhrase {
 
 /// Reads `WHERE` and the tests behind it, with `AND` between each two, or nothing where no `WHERE` stands there: then there
 /// are no tests. `Syntax` where no test stands behind `WHERE` or `AND`, `Memory` where memory was refused.
-pub(crate) fn read_tests(reader: &mut Reader<'_>) -> Result<ItemList<Atom<Name>>, Refusal>
-    ensures { ReadsPhrase tests (flat_map test_literals) reader.old reader.new result }
+pub(crate) fn read_tests<C: ColumnName>(
+    reader: &mut Reader<'_>,
+) -> Result<ItemList<Atom<C>>, Refusal>
+    ensures { ReadsPhrase (tests_on C.column) (flat_map test_literals) reader.old reader.new result }
 {
-    if !reader.skip_keyword(Keyword::Where) {
-        return Ok(ItemList::new(Vec::new(reader.alloc())));
-    }
-    let mut items = Vec::new(reader.alloc());
-    read_list(&mut TestPhrase, Separator::And, reader, &mut items)?;
-    Ok(ItemList::new(items))
+    let mut test = TestPhrase { names: PhantomData };
+    read_clause(Keyword::Where, &mut test, Separator::And, reader)
 }
 
 // Reads a literal, or a column and its shift if one stands there.
-fn read_operand(reader: &mut Reader<'_>) -> Result<Operand<Name>, Refusal>
-    ensures { ReadsPhrase operand operand_literals reader.old reader.new result }
+fn read_operand<C: ColumnName>(reader: &mut Reader<'_>) -> Result<Operand<C>, Refusal>
+    ensures { ReadsPhrase (operand_on C.column) operand_literals reader.old reader.new result }
 {
-    match reader.skip_name() {
-        Some(name) => Ok(with_shift(name, reader.shift()?)),
-        None => Ok(Operand::Literal(reader.literal()?)),
+    match reader.skip_literal()? {
+        Some(value) => Ok(Operand::Literal(value)),
+        None => {
+            let column = C::read(reader)?;
+            let shift = reader.shift()?;
+            Ok(with_shift(column, shift))
+        }
     }
 }
 
 // A column, or a column and its shift.
-fn with_shift(name: Name, shift: Option<i64>) -> Operand<Name>
-    ensures { result ≡ with_shift name shift }
+fn with_shift<C>(column: C, shift: Option<i64>) -> Operand<C>
+    ensures { result ≡ with_shift column shift }
 {
     match shift {
-        Some(by) => Operand::Shifted(name, by),
-        None => Operand::Column(name),
+        Some(by) => Operand::Shifted(column, by),
+        None => Operand::Column(column),
     }
 }

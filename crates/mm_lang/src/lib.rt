@@ -9,6 +9,7 @@ mod phrase;
 mod reader;
 mod reading;
 mod reply_text;
+mod select;
 mod token;
 mod tuples;
 

@@ -2,12 +2,14 @@
 ghost use Rattle.std.specs.Prelude.{◌≡◌, List, Option};
 ghost use Rattle.std.specs.List.{flat_map};
 ghost use Rattle.mm_lang.specs.Grammar.{comma_list};
-ghost use Rattle.mm_lang.specs.Phrases.{Phrase as Phr, in_parentheses, list_of, the_separator};
+ghost use Rattle.mm_lang.specs.Phrases.{Phrase as Phr, clause, in_parentheses, list_of, the_separator};
 ghost use Rattle.mm_lang.specs.steps.Parsing.{NeverLonger, ReadsItems, ReadsPhrase};
 ghost use Rattle.mm_value.specs.declared.values.Value.{Value as Val};
 
+use crate::keyword::Keyword;
 use crate::reader::Reader;
 use crate::token::Symbol;
+use mm_query::ItemList;
 use mm_value::Refusal;
 
 /// What stands between each two items of a list.
@@ -52,6 +54,35 @@ pub(crate) fn read_list<P: Phrase>(
             return Ok(());
         }
     }
+}
+
+/// Reads one or more items, with the separator between each two, as `read_list` does, and gives their list.
+pub(crate) fn read_items<P: Phrase>(
+    phrase: &mut P,
+    separator: Separator,
+    reader: &mut Reader<'_>,
+) -> Result<ItemList<P::Item>, Refusal>
+    ensures { ReadsPhrase (list_of (the_separator separator) P.reading) (flat_map P.literals) reader.old reader.new result }
+{
+    let mut items = Vec::new(reader.alloc());
+    read_list(phrase, separator, reader, &mut items)?;
+    Ok(ItemList::new(items))
+}
+
+/// Reads a keyword and the items behind it, as `read_items` does, or nothing where the keyword does not stand there: then
+/// the list is empty.
+pub(crate) fn read_clause<P: Phrase>(
+    keyword: Keyword,
+    phrase: &mut P,
+    separator: Separator,
+    reader: &mut Reader<'_>,
+) -> Result<ItemList<P::Item>, Refusal>
+    ensures { ReadsPhrase (clause keyword (the_separator separator) P.reading) (flat_map P.literals) reader.old reader.new result }
+{
+    if !reader.skip_keyword(keyword) {
+        return Ok(ItemList::new(Vec::new(reader.alloc())));
+    }
+    read_items(phrase, separator, reader)
 }
 
 /// Reads a list with commas in parentheses, as `read_list` does. `Syntax` also where one of the parentheses does not stand

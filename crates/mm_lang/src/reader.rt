@@ -1,12 +1,12 @@
 //! Reading of a line from left to right.
 ghost use Rattle.std.specs.Prelude.{◌≡◌, Some, None, MatchOption, MatchResult};
 ghost use Rattle.std.specs.Option.{option_or};
-ghost use Rattle.mm_lang.specs.Grammar.{col_type, comparison, comparison_of, digits, index_kind, literal_of, name, numbered, shift};
-ghost use Rattle.mm_lang.specs.Phrases.{in_parentheses, maybe, one, one_word, the_keyword, the_separator, the_symbol, word_of};
+ghost use Rattle.mm_lang.specs.Grammar.{col_type, comparison, comparison_of, digits, index_kind, literal_of, name, numbered, position, shift};
+ghost use Rattle.mm_lang.specs.Phrases.{in_parentheses, one, one_word, the_keyword, the_separator, the_symbol, word_of};
 ghost use Rattle.mm_lang.specs.Words.{keyword_named};
-ghost use Rattle.mm_lang.specs.steps.Parsing.{AnswersOrMemory, BeginsNoMark, BeginsNoWord, BeginsNot, BeginsNotSigned, Fails, Finishes, Follows, Gives, ReadsPhrase, Skips, is_limit, no_literals, only_literal, shift_literals};
+ghost use Rattle.mm_lang.specs.steps.Parsing.{AnswersOrMemory, BeginsNoMark, BeginsNoWord, BeginsNot, BeginsNotSigned, Fails, Finds, Finishes, Follows, Gives, ReadsPhrase, Skips, is_limit, no_literals, only_literal, shift_literals};
 ghost use Rattle.mm_lang.specs.steps.Splitting.{Shows};
-ghost use Rattle.mm_lang.specs.Reading.{checked, literal_fault};
+ghost use Rattle.mm_lang.specs.Reading.{checked, literal_fault, position_literals};
 ghost use Rattle.mm_lang.specs.Tokens.{Token as Tok, Word, Signed, Mark as MarkToken, tokens};
 
 use crate::keyword::Keyword;
@@ -80,14 +80,27 @@ impl<'a> Reader<'a> {
         }
     }
 
-    /// Takes a name, and gives it. Where none stood there, nothing is taken.
-    pub(crate) fn skip_name(&mut self) -> Option<Name>
-        ensures { Gives (maybe name) no_literals self.old self.new result }
+    /// Takes a literal, and gives its value. Where none stood there, nothing is taken; where it passes its limit that is
+    /// noted, and a zero stands in its place. `Memory` where memory was refused for a text.
+    pub(crate) fn skip_literal(&mut self) -> Result<Option<Value>, Refusal>
+        ensures { Finds (one literal_of) only_literal self.old self.new result }
     {
-        let (word, rest) = split_word(self.rest)?;
-        let name = Name::new(word)?;
-        self.rest = rest;
-        Some(name)
+        let Some((token, rest)) = split_token(self.rest) else {
+            return Ok(None);
+        };
+        match literal(self.alloc, token) {
+            Ok(value) => {
+                self.rest = rest;
+                Ok(Some(value))
+            }
+            Err(fault) if is_limit(fault) => {
+                self.rest = rest;
+                self.fault = self.fault.or(Some(fault));
+                Ok(Some(Value::Int(0)))
+            }
+            Err(Refusal::Syntax) => Ok(None),
+            Err(refusal) => Err(refusal),
+        }
     }
 
     /// Reads this symbol. `Syntax` where anything else stands there.
@@ -196,18 +209,20 @@ impl<'a> Reader<'a> {
     pub(crate) fn literal(&mut self) -> Result<Value, Refusal>
         ensures { ReadsPhrase (one literal_of) only_literal self.old self.new result }
     {
-        let Some((token, rest)) = split_token(self.rest) else {
-            return Err(Refusal::Syntax);
-        };
-        match literal(self.alloc, token) {
-            Ok(value) => {
-                self.rest = rest;
-                Ok(value)
-            }
-            Err(fault) if is_limit(fault) => {
-                self.rest = rest;
-                self.fault = self.fault.or(Some(fault));
-                Ok(Value::Int(0))
+        self.skip_literal()?.ok_or(Refusal::Syntax)
+    }
+
+    /// Reads digits, and gives their number. Where it passes the limit of numbers that is noted, and a zero stands in its
+    /// place. `Syntax` where no digits stand there.
+    pub(crate) fn position(&mut self) -> Result<usize, Refusal>
+        ensures { ReadsPhrase position position_literals self.old self.new result }
+    {
+        let word = self.word()?;
+        match read_int(false, word) {
+            Ok(number) => Ok(number as usize),
+            Err(limit) if is_limit(limit) => {
+                self.fault = self.fault.or(Some(limit));
+                Ok(0)
             }
             Err(refusal) => Err(refusal),
         }

@@ -9,11 +9,12 @@ ghost use Rattle.mm_lang.specs.steps.Parsing.{AnswersOrMemory, ReadsPhrase};
 use crate::atoms::{AssignmentPhrase, read_tests};
 use crate::columns::ColumnPhrase;
 use crate::keyword::Keyword;
-use crate::phrase::{Separator, read_in_parentheses, read_list};
+use crate::phrase::{Separator, read_in_parentheses, read_items, read_list};
 use crate::reader::Reader;
+use crate::select::{read_explain, read_select};
 use crate::token::is_blank;
 use crate::tuples::TuplePhrase;
-use mm_query::{Command, Definition, ItemList, Mutation, RowList};
+use mm_query::{Command, Definition, Mutation, RowList};
 use mm_schema::{Columns, IndexDef, TableDef};
 use mm_value::Refusal;
 use std::alloc::Global;
@@ -27,11 +28,13 @@ pub const MAX_LINE_BYTES: usize = 4096;
 /// has `KEY`; `DROP TABLE name`; `INDEX name ON name (name) kind`, where a kind is `TREE` or `HASH`; `DROP INDEX name`;
 /// `INSERT name (literal, ..), ..`; `UPDATE name SET name = value, .. [WHERE test AND ..]`; `DELETE name [WHERE test AND ..]`,
 /// where a test is `name op value`, an op one of `=`, `<`, `<=`, `>` and `>=`, and a value `literal`, `name`, `name + digits`
-/// or `name - digits`; `SCAN name` and `SCAN INDEX name`.
+/// or `name - digits`; `SCAN name` and `SCAN INDEX name`;
+/// `SELECT [DISTINCT] field, .. FROM name name, .. [WHERE test AND ..] [ORDER digits, ..]`, where a field is `name . name`,
+/// and stands for a column in the tests too; or `EXPLAIN` and such a `SELECT`.
 /// `LineTooLong` where the line has more than 4,096 bytes, `Syntax` where it has no reading, else `NumberOutOfRange` or
 /// `TextTooLong` where its first literal from the left past its limit is a number or a text; digits behind a minus count
-/// as the negative number. `Memory` may come in place of any answer but `LineTooLong` and `Nothing`. Nothing is taken but
-/// what the command keeps.
+/// as the negative number, and digits of ORDER are numbers too. `Memory` may come in place of any answer but `LineTooLong`
+/// and `Nothing`. Nothing is taken but what the command keeps.
 pub fn parse(alloc: Global, line: &[u8]) -> Result<Command, Refusal>
     ensures { Reads line.now result }
 {
@@ -79,9 +82,11 @@ fn read_behind(keyword: Keyword, reader: &mut Reader<'_>) -> Result<Command, Ref
     match keyword {
         Keyword::Delete => read_delete(reader),
         Keyword::Drop => read_drop(reader),
+        Keyword::Explain => read_explain(reader),
         Keyword::Index => read_index(reader),
         Keyword::Insert => read_insert(reader),
         Keyword::Scan => read_scan(reader),
+        Keyword::Select => read_select(reader),
         Keyword::Table => read_table(reader),
         Keyword::Update => read_update(reader),
         _ => Err(Refusal::Syntax),
@@ -101,9 +106,7 @@ fn read_update(reader: &mut Reader<'_>) -> Result<Command, Refusal>
 {
     let table = reader.name()?;
     reader.expect_keyword(Keyword::Set)?;
-    let mut items = Vec::new(reader.alloc());
-    read_list(&mut AssignmentPhrase, Separator::Comma, reader, &mut items)?;
-    let assignments = ItemList::new(items);
+    let assignments = read_items(&mut AssignmentPhrase, Separator::Comma, reader)?;
     let tests = read_tests(reader)?;
     Ok(Command::Change(Mutation::Update {
         table,

@@ -1,20 +1,22 @@
 //! The text of replies.
-ghost use Rattle.std.specs.Prelude.{◌≡◌, ℕ, false, List, [], ◌∷◌, ◌++◌, codes, decimal};
+ghost use Rattle.std.specs.Prelude.{◌≡◌, ℕ, false, List, IsTrue, [], ◌∷◌, ◌++◌, codes, decimal};
+ghost use Rattle.std.specs.Char.{is_ascii_digit};
 ghost use Rattle.mm_value.specs.Device.{Writes};
 ghost use Rattle.mm_value.specs.Watched.{has_failed};
 ghost use Rattle.mm_value.specs.declared.refusal.Refusal.{Refusal};
 ghost use Rattle.mm_value.specs.Written.{row_text};
 ghost use Rattle.mm_query.specs.declared.reply.Reply.{Reply};
 ghost use Rattle.mm_query.specs.declared.reply.Reply.TheVariants.{Refused};
-ghost use Rattle.mm_lang.specs.ReplyText.{reply_text, rows_text};
+ghost use Rattle.mm_lang.specs.ReplyText.{HasNames, index_text, line_text, reply_text, rows_text, steps_text, way_text};
 
 use itoa::Buffer;
-use mm_query::Reply;
+use mm_query::{PlanLine, Reply};
+use mm_schema::IndexId;
 use mm_value::{Refusal, Row, Watched, WriteFault, put_all, write_row};
 use std::io::Write;
 
 /// Writes a reply, each line of it with its line feed: `ok`, `ok` and a count, a line for each row and then their
-/// number, or `error` with the number and the text of a refusal. Takes no memory.
+/// number, a line for each table of a plan and then their number, or `error` with the number and the text of a refusal. Takes no memory.
 /// After `WriteFault` the writer has failed, and a front of the reply's text was written.
 pub fn write_reply<W: Write>(reply: &Reply, writer: &mut Watched<W>) -> Result<(), WriteFault>
     requires { has_failed writer.old ≡ false }
@@ -24,6 +26,7 @@ pub fn write_reply<W: Write>(reply: &Reply, writer: &mut Watched<W>) -> Result<(
         Reply::Done => put_all(writer, b"ok\n"),
         Reply::Count(count) => write_count(b"ok ", *count, writer),
         Reply::Rows(rows) => write_rows(rows.as_slice(), writer),
+        Reply::Steps(steps) => write_steps(steps.as_slice(), writer),
         Reply::Refused(refusal) => write_refusal(*refusal, writer),
     }
 }
@@ -41,12 +44,13 @@ pub fn write_rows<W: Write>(rows: &[Row], writer: &mut Watched<W>) -> Result<(),
 }
 
 /// A reader of replies can tell lines and refusals: each reply ends with a line feed, and just the refusals begin
-/// with `error `.
+/// with `error ` and a digit. A line of a plan may be of an alias `error`; behind it stands a letter.
 pub fn replies_are_told_apart()
     ensures line_feed { (reply : Reply) → (front : List ℕ) × (reply_text reply ≡ front ++ 10 ∷ []) }
-    ensures refusals { (refusal : Refusal) → (rest : List ℕ) × (reply_text (Refused refusal) ≡ codes "error " ++ rest) }
-    ensures only_refusals { (reply : Reply) (rest : List ℕ) → reply_text reply ≡ codes "error " ++ rest
-        → (refusal : Refusal) × (reply ≡ Refused refusal) }
+    ensures refusals { (refusal : Refusal) → (digit : ℕ) × (rest : List ℕ) × IsTrue (is_ascii_digit digit)
+        × (reply_text (Refused refusal) ≡ codes "error " ++ digit ∷ rest) }
+    ensures only_refusals { (reply : Reply) (digit : ℕ) (rest : List ℕ) → HasNames reply → IsTrue (is_ascii_digit digit)
+        → reply_text reply ≡ codes "error " ++ digit ∷ rest → (refusal : Refusal) × (reply ≡ Refused refusal) }
 {}
 
 /// Writes the line of a row in a reply of rows. Takes no memory. After `WriteFault` the writer has failed, and a front of
@@ -66,6 +70,113 @@ pub fn write_row_count<W: Write>(count: usize, writer: &mut Watched<W>) -> Resul
     ensures { Writes W.contents writer.old writer.new result (codes "rows " ++ decimal count ++ 10 ∷ []) }
 {
     write_count(b"rows ", count, writer)
+}
+
+/// Writes the reply of a plan: a line for each table, and then their number. Takes no memory. After `WriteFault` the writer
+/// has failed, and a front of the reply's text was written.
+fn write_steps<W: Write>(steps: &[PlanLine], writer: &mut Watched<W>) -> Result<(), WriteFault>
+    requires { has_failed writer.old ≡ false }
+    ensures { Writes W.contents writer.old writer.new result (steps_text steps.now) }
+{
+    for step in steps {
+        write_step(step, writer)?;
+    }
+    write_count(b"steps ", steps.len(), writer)
+}
+
+/// Writes a line of a plan.
+fn write_step<W: Write>(step: &PlanLine, writer: &mut Watched<W>) -> Result<(), WriteFault>
+    requires { has_failed writer.old ≡ false }
+    ensures { Writes W.contents writer.old writer.new result (line_text step.now ++ 10 ∷ []) }
+{
+    put_all(writer, step.alias().bytes())?;
+    write_way(step, writer)?;
+    put_all(writer, b"\n")
+}
+
+/// Writes how the rows of a table are reached.
+fn write_way<W: Write>(step: &PlanLine, writer: &mut Watched<W>) -> Result<(), WriteFault>
+    requires { has_failed writer.old ≡ false }
+    ensures { Writes W.contents writer.old writer.new result (way_text step.now) }
+{
+    match step {
+        PlanLine::Scan { .. } => put_all(writer, b" scan"),
+        PlanLine::Hash { index, .. } => write_two(b" hash ", index.bytes(), writer),
+        PlanLine::TreeEqual { index, .. } => write_tree(index, b"=", writer),
+        PlanLine::TreeRange { index, .. } => write_tree(index, b"range", writer),
+        PlanLine::Precomputed { field, .. } => {
+            write_four(
+                b" precomputed ",
+                field.alias.bytes(),
+                b".",
+                field.column.bytes(),
+                writer,
+            )
+        }
+        PlanLine::TreeMerge { outer, inner, .. } => {
+            write_four(
+                b" tree merge ",
+                index_bytes(outer),
+                b" ",
+                index_bytes(inner),
+                writer,
+            )
+        }
+        PlanLine::TreeJoin { index, .. } => write_two(b" tree join ", index_bytes(index), writer),
+        PlanLine::HashJoin { index, .. } => write_two(b" hash join ", index.bytes(), writer),
+        PlanLine::BuiltHash { column, .. } => write_two(b" built hash ", column.bytes(), writer),
+        PlanLine::NestedLoops { .. } => put_all(writer, b" nested loops"),
+    }
+}
+
+/// Writes that rows are found by a tree, and what of it.
+fn write_tree<W: Write>(
+    index: &IndexId,
+    what: &[u8],
+    writer: &mut Watched<W>,
+) -> Result<(), WriteFault>
+    requires { has_failed writer.old ≡ false }
+    ensures { Writes W.contents writer.old writer.new result ((codes " tree " ++ index_text index.now) ++ 32 ∷ what.now) }
+{
+    write_four(b" tree ", index_bytes(index), b" ", what, writer)
+}
+
+/// How an index is written: `#key`, or its name.
+fn index_bytes(index: &IndexId) -> &[u8]
+    ensures { result.now ≡ index_text index.now }
+{
+    match index {
+        IndexId::Key => b"#key",
+        IndexId::Named(name) => name.bytes(),
+    }
+}
+
+/// Writes two texts, one behind the other.
+fn write_two<W: Write>(
+    first: &[u8],
+    second: &[u8],
+    writer: &mut Watched<W>,
+) -> Result<(), WriteFault>
+    requires { has_failed writer.old ≡ false }
+    ensures { Writes W.contents writer.old writer.new result (first.now ++ second.now) }
+{
+    put_all(writer, first)?;
+    put_all(writer, second)
+}
+
+/// Writes four texts, one behind the other.
+fn write_four<W: Write>(
+    first: &[u8],
+    second: &[u8],
+    third: &[u8],
+    fourth: &[u8],
+    writer: &mut Watched<W>,
+) -> Result<(), WriteFault>
+    requires { has_failed writer.old ≡ false }
+    ensures { Writes W.contents writer.old writer.new result ((first.now ++ second.now) ++ (third.now ++ fourth.now)) }
+{
+    write_two(first, second, writer)?;
+    write_two(third, fourth, writer)
 }
 
 // A line that ends with a count.

@@ -1,5 +1,5 @@
 -- What the steps of reading a command give.
-use Rattle.std.specs.Prelude.{◌≡◌, ◌≢◌, ◌⊎◌, ℕ, ◌<◌, ◌≤◌, Bool, true, false, List, [], ◌∷◌, ◌++◌, length, ℤ, Option, Some, None, Result, Ok, Err, MatchResult}
+use Rattle.std.specs.Prelude.{◌≡◌, ◌≢◌, ◌⊎◌, ℕ, ◌<◌, ◌≤◌, Bool, true, false, List, [], ◌∷◌, ◌++◌, length, ℤ, Option, Some, None, Result, Ok, Err, MatchOption, MatchResult}
 use Rattle.std.specs.Option.{option_or}
 use Rattle.mm_value.specs.declared.refusal.Refusal.{Refusal}
 use Rattle.mm_value.specs.declared.refusal.Refusal.TheVariants.{Syntax, NumberOutOfRange, TextTooLong, Memory}
@@ -81,6 +81,11 @@ ReadsPhrase phrase literals old new result = MatchResult result (Gives phrase li
 abbrev pub Skips : Phrase (Unit {0}) → Reader → Reader → Bool → Type 0
 Skips phrase old new true = Gives phrase no_literals old new tt × (length new.rest.now < length old.rest.now)
 Skips phrase old new false = (phrase (tokens old.rest.now) ≡ None) × (new ≡ old)
+
+-- What a phrase says was found, or it does not stand there, and then nothing is read; or memory was refused.
+abbrev pub Finds : {A : Type 0} → Phrase A → (A → List Value) → Reader → Reader → Result (Option A) Refusal → Type 0
+Finds phrase literals old new result =
+    MatchResult result (λ found. MatchOption found ((phrase (tokens old.rest.now) ≡ None) × (new ≡ old)) (Gives phrase literals old new)) (λ e. e ≡ Memory)
 
 -- Items were read, which stand behind those that were there.
 pub record GivesItems {A : Type 0} (phrase : Phrase (List A)) (literals : List A → List Value) (old new : Reader) (before after : List A) : Type 0 where

@@ -7,7 +7,8 @@ use Rattle.mm_lang.specs.declared.keyword.Keyword.TheVariants as keyword
 use Rattle.mm_lang.specs.declared.token.Symbol.TheVariants.{Open, Close, Comma}
 use Rattle.mm_lang.specs.declared.token.Symbol.TheVariants as symbol
 use Rattle.mm_value.specs.Literal.{is_numeral}
-use Rattle.mm_lang.specs.Grammar.{literal_of, name, col_type, reference, role_behind, role, column, comma_list, tuple, comparison, numbered, digits, shift, operand_behind, operand, test, assignment}
+use Rattle.mm_value.specs.declared.values.Value.{Value}
+use Rattle.mm_lang.specs.Grammar.{literal_of, name, col_type, reference, role_behind, role, column, comma_list, tuple, comparison, numbered, digits, shift, operand_behind, operand_on, test_on, assignment, field, from_item, position}
 use Rattle.mm_lang.specs.Phrases.{Phrase, ◌>>=◌, say, one, word_of, the_symbol, the_keyword, behind_item, at_most, list_of, only_if, optional, maybe, has_keyword, in_parentheses}
 use Rattle.mm_lang.specs.Tokens.{Token, Signed, Mark}
 use Rattle.mm_lang.specs.steps.Parsing.{NeverLonger}
@@ -96,24 +97,43 @@ shift_never_longer (Mark symbol.Minus ∷ ts) x us e = let h = digits_never_long
 shift_never_longer (Signed word ∷ ts) x us e = let h = numbered_never_longer true word ts x us e in omega (arith, h)
 shift_never_longer ts x us e = say_never_longer None ts x us e
 
-behind_never_longer_of : (found : Option (List ℕ)) → NeverLonger (operand_behind found)
-behind_never_longer_of (Some n) = then_never_longer shift _ shift_never_longer (λ by. say_never_longer _)
-behind_never_longer_of None = then_never_longer (one literal_of) _ (one_never_longer _) (λ v. say_never_longer _)
+pub name_never_longer : NeverLonger name
+name_never_longer = one_never_longer _
 
-operand_never_longer : NeverLonger operand
-unfolding operand
-operand_never_longer =
-    then_never_longer (maybe name) operand_behind
-    (optional_never_longer None _ (then_never_longer name _ (one_never_longer _) (λ n. say_never_longer _))) behind_never_longer_of
+module _ {F : Type 0} (named : Phrase F) (h : NeverLonger named) where
+  behind_never_longer_of : (found : Option Value) → NeverLonger (operand_behind named found)
+  behind_never_longer_of (Some v) = say_never_longer _
+  behind_never_longer_of None = then_never_longer named _ h (λ f. then_never_longer shift _ shift_never_longer (λ by. say_never_longer _))
 
-pub test_never_longer : NeverLonger test
-unfolding test
-test_never_longer =
-    then_never_longer name _ (one_never_longer _)
-    (λ n. then_never_longer comparison _ (one_never_longer _) (λ c. then_never_longer operand _ operand_never_longer (λ o. say_never_longer _)))
+  operand_never_longer : NeverLonger (operand_on named)
+  unfolding operand_on
+  operand_never_longer =
+      then_never_longer (maybe (one literal_of)) (operand_behind named)
+      (optional_never_longer None _ (then_never_longer (one literal_of) _ (one_never_longer _) (λ v. say_never_longer _))) behind_never_longer_of
+
+  pub test_never_longer : NeverLonger (test_on named)
+  unfolding test_on
+  test_never_longer =
+      then_never_longer named _ h
+      (λ f. then_never_longer comparison _ (one_never_longer _)
+      (λ c. then_never_longer (operand_on named) _ operand_never_longer (λ o. say_never_longer _)))
 
 pub assignment_never_longer : NeverLonger assignment
 unfolding assignment
 assignment_never_longer =
     then_never_longer name _ (one_never_longer _)
-    (λ n. then_never_longer (the_symbol symbol.Equal) _ (one_never_longer _) (λ u. then_never_longer operand _ operand_never_longer (λ o. say_never_longer _)))
+    (λ n. then_never_longer (the_symbol symbol.Equal) _ (one_never_longer _)
+    (λ u. then_never_longer (operand_on name) _ (operand_never_longer name name_never_longer) (λ o. say_never_longer _)))
+
+pub field_never_longer : NeverLonger field
+unfolding field
+field_never_longer =
+    then_never_longer name _ (one_never_longer _)
+    (λ a. then_never_longer (the_symbol symbol.Dot) _ (one_never_longer _) (λ u. then_never_longer name _ (one_never_longer _) (λ c. say_never_longer _)))
+
+pub from_never_longer : NeverLonger from_item
+unfolding from_item
+from_never_longer = then_never_longer name _ (one_never_longer _) (λ t. then_never_longer name _ (one_never_longer _) (λ a. say_never_longer _))
+
+pub position_never_longer : NeverLonger position
+position_never_longer = one_never_longer _

@@ -1,7 +1,7 @@
 use Rattle.std.proofs.Common.{sym, ◌∙◌, pos}
 use Rattle.mm_value.specs.declared.values.Value.TheVariants.{Int}
 use Rattle.mm_lang.proofs.Literals.{literal_past}
-use Rattle.mm_lang.proofs.reader.Reader.literal.Goals as goal
+use Rattle.mm_lang.proofs.reader.Reader.skip_literal.Goals as goal
 
 pub returns-in-Err : goal.returns-in-Err
 returns-in-Err c =

@@ -1,0 +1,146 @@
+//! Queries, and the commands that have one.
+ghost use Rattle.mm_lang.specs.Grammar.{explain, query, select};
+ghost use Rattle.mm_lang.specs.Reading.{literals_of, query_literals};
+ghost use Rattle.mm_lang.specs.steps.Parsing.{ReadsPhrase};
+
+use crate::atoms::{ColumnName, read_tests};
+use crate::keyword::Keyword;
+use crate::phrase::{Phrase, Separator, read_clause, read_items};
+use crate::reader::Reader;
+use crate::token::Symbol;
+use mm_query::{Command, FieldName, FromItem, Query};
+use mm_value::Refusal;
+
+/// By its table's alias and its name, with a dot between them.
+impl ColumnName for FieldName {
+    ghost use Rattle.mm_lang.specs.Grammar.{field};
+    ghost use Rattle.mm_lang.specs.steps.Shrinking.{field_never_longer};
+
+    ghost column = { field };
+
+    ghost never_longer = { field_never_longer };
+
+    /// Reads an alias, a dot and a name. `Syntax` where one of the three does not stand there.
+    fn read(reader: &mut Reader<'_>) -> Result<FieldName, Refusal> {
+        let alias = reader.name()?;
+        reader.symbol(Symbol::Dot)?;
+        let column = reader.name()?;
+        Ok(FieldName { alias, column })
+    }
+}
+
+/// How a field of the result is read. Its item is the field.
+#[derive(Drop)]
+struct FieldPhrase;
+
+impl Phrase for FieldPhrase {
+    ghost use Rattle.mm_lang.specs.Grammar.{field};
+    ghost use Rattle.mm_lang.specs.steps.Parsing.{no_literals};
+    ghost use Rattle.mm_lang.specs.steps.Shrinking.{field_never_longer};
+
+    type Item = FieldName;
+
+    ghost reading = { field };
+
+    ghost literals = { no_literals };
+
+    ghost never_longer = { field_never_longer };
+
+    /// Reads a field. `Syntax` where none stands first in the rest.
+    fn read(&mut self, reader: &mut Reader<'_>) -> Result<FieldName, Refusal> {
+        FieldName::read(reader)
+    }
+}
+
+/// How a table of FROM is read: its name, and behind it its alias. Its item is the two.
+#[derive(Drop)]
+struct FromPhrase;
+
+impl Phrase for FromPhrase {
+    ghost use Rattle.mm_lang.specs.Grammar.{from_item};
+    ghost use Rattle.mm_lang.specs.steps.Parsing.{no_literals};
+    ghost use Rattle.mm_lang.specs.steps.Shrinking.{from_never_longer};
+
+    type Item = FromItem;
+
+    ghost reading = { from_item };
+
+    ghost literals = { no_literals };
+
+    ghost never_longer = { from_never_longer };
+
+    /// Reads two names. `Syntax` where one of them does not stand there.
+    fn read(&mut self, reader: &mut Reader<'_>) -> Result<FromItem, Refusal> {
+        let table = reader.name()?;
+        let alias = reader.name()?;
+        Ok(FromItem { table, alias })
+    }
+}
+
+/// How a position of ORDER is read: digits. Its item is their number.
+#[derive(Drop)]
+struct PositionPhrase;
+
+impl Phrase for PositionPhrase {
+    ghost use Rattle.mm_lang.specs.Grammar.{position};
+    ghost use Rattle.mm_lang.specs.Reading.{position_literals};
+    ghost use Rattle.mm_lang.specs.steps.Shrinking.{position_never_longer};
+
+    type Item = usize;
+
+    ghost reading = { position };
+
+    ghost literals = { position_literals };
+
+    ghost never_longer = { position_never_longer };
+
+    /// Reads digits. `Syntax` where none stand first in the rest. A number past its limit is no error yet: it is noted in
+    /// the reader.
+    fn read(&mut self, reader: &mut Reader<'_>) -> Result<usize, Refusal> {
+        reader.position()
+    }
+}
+
+/// Reads what stands behind `SELECT`, a query. The errors are those of [`read_query`].
+pub(crate) fn read_select(reader: &mut Reader<'_>) -> Result<Command, Refusal>
+    ensures { ReadsPhrase select literals_of reader.old reader.new result }
+{
+    let query = read_query(reader)?;
+    Ok(Command::Select(query))
+}
+
+/// Reads what stands behind `EXPLAIN`: `SELECT` and a query. `Syntax` where the keyword does not stand there; the other errors
+/// are those of [`read_query`].
+pub(crate) fn read_explain(reader: &mut Reader<'_>) -> Result<Command, Refusal>
+    ensures { ReadsPhrase explain literals_of reader.old reader.new result }
+{
+    reader.expect_keyword(Keyword::Select)?;
+    let query = read_query(reader)?;
+    Ok(Command::Explain(query))
+}
+
+/// Reads a query: `DISTINCT` if it is there, fields, `FROM` and tables, and then the tests of a WHERE
+/// and the positions of an ORDER if these are there. `Syntax` where one of the parts does not stand there, `Memory` where
+/// memory was refused. A literal or a position past its limit is no error yet: it is noted in the reader.
+fn read_query(reader: &mut Reader<'_>) -> Result<Query, Refusal>
+    ensures { ReadsPhrase query query_literals reader.old reader.new result }
+{
+    let distinct = reader.skip_keyword(Keyword::Distinct);
+    let fields = read_items(&mut FieldPhrase, Separator::Comma, reader)?;
+    reader.expect_keyword(Keyword::From)?;
+    let from = read_items(&mut FromPhrase, Separator::Comma, reader)?;
+    let atoms = read_tests(reader)?;
+    let order = read_clause(
+        Keyword::Order,
+        &mut PositionPhrase,
+        Separator::Comma,
+        reader,
+    )?;
+    Ok(Query {
+        distinct,
+        fields,
+        from,
+        atoms,
+        order,
+    })
+}
