@@ -1,0 +1,57 @@
+use Rattle.std.proofs.Common.{◌≡◌, ◌+◌, ◌≤◌, [], ◌∷◌, ◌++◌, List, inl, inr, get_or, length, map, take, sym, ◌∙◌, subst}
+use Rattle.std.specs.Option.{option_copied}
+use Rattle.std.proofs.lemmas.Result.{err_from_is_err_and}
+use Rattle.mm_select.specs.Matches.{matches}
+use Rattle.mm_templist.specs.Combos.{Combos}
+use Rattle.mm_value.specs.declared.row_ref.RowRef.{RowRef}
+use Rattle.mm_join.proofs.Caps.{cap_within, due_of_longer}
+use Rattle.mm_join.proofs.Chosen.{matches_part, matches_step}
+use Rattle.mm_join.proofs.inner.Inner.add_all.Goals as goal
+
+pub returns-in_err-add_fitting-clause-due : goal.returns-in_err-add_fitting-clause-due
+returns-in_err-add_fitting-clause-due c =
+    let p = err_from_is_err_and c.from_residual.result c.from_residual.ensures.1 in
+    let inner = c.args.self.now in
+    let store = inner.store.now in
+    let atoms = inner.atoms.now in
+    let rows = map option_copied c.args.rows.now.items in
+    let front = c.args.front.now in
+    let old = c.args.list.now.combos in
+    let candidates = c.args.candidates.now in
+    let i = c.loop-at.at-index in
+    let at : RowRef = get_or candidates i record { part = 0; slot = 0 } in
+    let tried : List (List RowRef) = c.loop-at.list.combos ++ matches store inner.table atoms (map option_copied c.loop-at.rows.items) front (at ∷ []) in
+    let all : List (List RowRef) = old ++ matches store inner.table atoms rows front candidates in
+    let longer : length tried ≤ length all =
+    subst (λ (l : List (List RowRef)). length l ≤ length all)
+    (sym (λ j. (c.loop-at.invariant.list j).combos
+    ++ matches store inner.table atoms (map option_copied (c.loop-at.invariant.rows j)) front (at ∷ [])))
+    (matches_part store inner.table atoms rows front old candidates i record { part = 0; slot = 0 } c.loop-at-test.true) in
+    rw (p.1, p.2) (elim c.in_err-add_fitting.ensures.due [
+      | inl due ↦ inl (due_of_longer inner.cap tried all _ longer due)
+      | inr memory ↦ inr memory
+    ])
+
+pub loop-at-preserved : goal.loop-at-preserved
+loop-at-preserved c =
+    let inner = c.args.self.now in
+    let store = inner.store.now in
+    let atoms = inner.atoms.now in
+    let rows = map option_copied c.args.rows.now.items in
+    let front = c.args.front.now in
+    let old = c.args.list.now.combos in
+    let candidates = c.args.candidates.now in
+    let i = c.loop-at.at-index in
+    let at : RowRef = get_or candidates i record { part = 0; slot = 0 } in
+    let tried : List (List RowRef) = c.loop-at.list.combos ++ matches store inner.table atoms (map option_copied c.loop-at.rows.items) front (at ∷ []) in
+    let step : tried ≡ old ++ matches store inner.table atoms rows front (take (i + 1) candidates) =
+    (λ j. (c.loop-at.invariant.list j).combos
+    ++ matches store inner.table atoms (map option_copied (c.loop-at.invariant.rows j)) front (at ∷ []))
+    ∙ matches_step store inner.table atoms rows front old candidates i record { part = 0; slot = 0 } c.loop-at-test.true in
+    record {
+      list = c.in_ok-add_fitting.ensures.list
+          ∙ (λ j. record { tables = (c.loop-at.invariant.list j).tables; fields = (c.loop-at.invariant.list j).fields; combos = step j });
+      rows = c.in_ok-add_fitting.ensures.rows ∙ c.loop-at.invariant.rows;
+      few = subst (λ (list : Combos). length list.combos ≤ inner.cap) (sym c.in_ok-add_fitting.ensures.list)
+          (cap_within inner.cap tried c.in_ok-add_fitting.ensures.due);
+    }

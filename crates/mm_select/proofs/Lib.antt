@@ -1,0 +1,5 @@
+pub mod Along
+pub mod Asking
+pub mod Covered
+pub mod Fits
+pub mod Walks

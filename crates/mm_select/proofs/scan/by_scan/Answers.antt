@@ -1,0 +1,78 @@
+use Rattle.std.proofs.Common.{◌≡◌, ◌<◌, [], ◌∷◌, ◌++◌, length, get_or, map, sym, ap, ◌∙◌, subst}
+use Rattle.std.proofs.lemmas.List.Sorted.{IsPermutation-refl}
+use Rattle.std.specs.List.{All}
+use Rattle.mm_partition.specs.Places.{IsLive}
+use Rattle.mm_store.proofs.Joining.{some_at}
+use Rattle.mm_store.specs.Tables.{rows_at}
+use Rattle.mm_templist.specs.Combos.{Combos, row_of}
+use Rattle.mm_select.specs.Matches.{matching}
+use Rattle.mm_select.proofs.Fits.{matches_fit, matches_live, rows_along}
+use Rattle.mm_select.proofs.Walks.{holds_next, matches_more, matches_still, one_first, row_given, split_all, split_next}
+use Rattle.mm_select.proofs.scan.by_scan.Goals as goal
+
+pub row-row-requires-clause-live : goal.row-row-requires-clause-live
+row-row-requires-clause-live c = λ stored here.
+    holds_next (IsLive stored.places) c.key_walk-at-items.result c.loop-at.yielded c.next.new.self c.in-Some.at
+    (sym c.into_iter-at-iterator.ensures.into_iter_gives ∙ (c.loop-at.invariant.split ∙ ap (λ l. c.loop-at.yielded ++ l) c.in-Some.ensures.steps))
+    (c.key_walk-at-items.ensures.live stored here)
+
+pub loop-at-preserved-in-Continue-1 : goal.loop-at-preserved-in-Continue-1
+loop-at-preserved-in-Continue-1 c =
+    let store = c.args.store.now in
+    let table = get_or c.args.descriptor.tables.now 0 0 in
+    let within : table < length store.tables = subst (λ l. get_or l 0 0 < length store.tables) (sym c.requires.1) c.requires.2 in
+    let combos = matches_more store table c.args.atoms.now [] [] c.loop-at.yielded c.in-Some.at c.row-row.result.now
+    (row_given store table c.in-Some.at c.row-row.result.now within c.row-row.ensures.row) c.if-none_fails.ensures in
+    record {
+      split = split_next c.into_iter-at-iterator.result c.loop-at.yielded c.loop-at.at-iterator c.next.new.self c.in-Some.at
+          c.loop-at.invariant.split c.in-Some.ensures.steps;
+      found = c.in_ok-push.ensures.ok
+          ∙ (ap (λ (list : Combos). record list { combos = list.combos ++ (c.in-Some.at ∷ []) ∷ [] }) c.loop-at.invariant.found
+          ∙ (λ i. record { tables = c.args.descriptor.tables.now; fields = c.args.descriptor.fields.now; combos = combos i }));
+    }
+
+pub loop-at-preserved : goal.loop-at-preserved
+loop-at-preserved c =
+    let store = c.args.store.now in
+    let table = get_or c.args.descriptor.tables.now 0 0 in
+    let within : table < length store.tables = subst (λ l. get_or l 0 0 < length store.tables) (sym c.requires.1) c.requires.2 in
+    let combos = matches_still store table c.args.atoms.now [] [] c.loop-at.yielded c.in-Some.at c.row-row.result.now
+    (row_given store table c.in-Some.at c.row-row.result.now within c.row-row.ensures.row) c.if-none_fails.ensures in
+    record {
+      split = split_next c.into_iter-at-iterator.result c.loop-at.yielded c.loop-at.at-iterator c.next.new.self c.in-Some.at
+          c.loop-at.invariant.split c.in-Some.ensures.steps;
+      found = c.loop-at.invariant.found
+          ∙ (λ i. record { tables = c.args.descriptor.tables.now; fields = c.args.descriptor.fields.now; combos = combos i });
+    }
+
+pub returns-clause-fitting : goal.returns-clause-fitting
+returns-clause-fitting c =
+    let store = c.args.store.now in
+    let table = get_or c.args.descriptor.tables.now 0 0 in
+    let within : table < length store.tables = subst (λ l. get_or l 0 0 < length store.tables) (sym c.requires.1) c.requires.2 in
+    let (stored, here) = some_at store.tables table within in
+    let walk = c.loop-at.yielded in
+    let all : c.key_walk-at-items.result ≡ walk =
+    sym c.into_iter-at-iterator.ensures.into_iter_gives
+    ∙ split_all c.into_iter-at-iterator.result walk c.loop-at.at-iterator c.loop-at.invariant.split c.in-None.ensures.steps.0 in
+    matches_fit store table c.args.atoms.now c.loop-at.list walk walk
+    (ap (λ (list : Combos). list.tables) c.loop-at.invariant.found ∙ one_first c.args.descriptor.tables.now c.requires.0 c.requires.1)
+    (ap (λ (list : Combos). list.combos) c.loop-at.invariant.found)
+    (subst (λ l. map (row_of store table) l ≡ rows_at store.tables table) all
+    (rows_along store table stored here c.key_walk-at-items.result (c.key_walk-at-items.ensures.rows stored here)))
+    (IsPermutation-refl (matching store table c.args.atoms.now [] walk))
+
+pub returns-clause-live : goal.returns-clause-live
+returns-clause-live c =
+    let store = c.args.store.now in
+    let table = get_or c.args.descriptor.tables.now 0 0 in
+    let within : table < length store.tables = subst (λ l. get_or l 0 0 < length store.tables) (sym c.requires.1) c.requires.2 in
+    let (stored, here) = some_at store.tables table within in
+    let walk = c.loop-at.yielded in
+    let all : c.key_walk-at-items.result ≡ walk =
+    sym c.into_iter-at-iterator.ensures.into_iter_gives
+    ∙ split_all c.into_iter-at-iterator.result walk c.loop-at.at-iterator c.loop-at.invariant.split c.in-None.ensures.steps.0 in
+    matches_live store table c.args.atoms.now stored here c.loop-at.list walk
+    (ap (λ (list : Combos). list.tables) c.loop-at.invariant.found ∙ one_first c.args.descriptor.tables.now c.requires.0 c.requires.1)
+    (ap (λ (list : Combos). list.combos) c.loop-at.invariant.found)
+    (subst (All (IsLive stored.places)) all (c.key_walk-at-items.ensures.live stored here))

@@ -1,0 +1,11 @@
+//! Selections: the rows of a table that meet atoms, as a temporary list of references.
+#![tactic(auto)]
+
+mod candidates;
+mod indexed;
+mod scan;
+#[cfg(test)]
+mod tests;
+
+pub use indexed::{by_hash, by_tree};
+pub use scan::by_scan;

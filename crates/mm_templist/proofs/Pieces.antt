@@ -1,0 +1,41 @@
+-- Pieces of one width: how many there are, which one stands where, and one more behind them.
+use Rattle.std.proofs.Common.{◌≡◌, ℕ, zero, suc, ◌+◌, ◌*◌, ◌<◌, ◌≤◌, List, [], ◌∷◌, ◌++◌, Some, length, take, drop, refl, ap, ◌∙◌, arith, length-drop}
+use Rattle.std.specs.Prelude.{slice_get}
+use Rattle.std.proofs.Math.Nat.{mul-le-mul_right}
+use Rattle.std.proofs.lemmas.List.{drop-drop, drop-append-le, take-append-le, take_all}
+use Rattle.mm_templist.specs.Pieces.{pieces}
+
+module _ {X : Type 0} (width : ℕ) where
+  pub length-pieces : (count : ℕ) (xs : List X) → length (pieces width count xs) ≡ count
+  length-pieces zero xs = refl
+  length-pieces (suc count) xs = ap suc (length-pieces count (drop width xs))
+
+  -- The piece at a place.
+  pub piece_at : (count : ℕ) (xs : List X) (i : ℕ) → i < count → slice_get (pieces width count xs) i ≡ Some (take width (drop (i * width) xs))
+  piece_at zero xs i below = absurd (omega arith)
+  piece_at (suc count) xs zero below =
+      let none : 0 ≡ 0 * width = omega arith in
+      ap (λ n. Some (take width (drop n xs))) none
+  piece_at (suc count) xs (suc i) below =
+      piece_at count (drop width xs) i (omega arith)
+      ∙ ap (λ l. Some (take width l)) (drop-drop (i * width) width xs ∙ ap (λ n. drop n xs) (omega arith))
+
+  -- A piece more behind the others.
+  pub pieces-push : (count : ℕ) (xs piece : List X) → length xs ≡ count * width → length piece ≡ width
+      → pieces width (count + 1) (xs ++ piece) ≡ pieces width count xs ++ piece ∷ []
+  pieces-push zero [] piece whole wide = ap (λ l. l ∷ []) (take_all width piece (omega (arith, wide)))
+  pieces-push zero (x ∷ xs) piece whole wide = absurd (omega (arith, whole))
+  pieces-push (suc count) xs piece whole wide =
+      let within : width ≤ length xs = omega (arith, whole) in
+      let rest : length (drop width xs) ≡ count * width = length-drop width xs ∙ omega (arith, whole) in
+      let more : suc count + 1 ≡ suc (count + 1) = omega arith in
+      ap (λ n. pieces width n (xs ++ piece)) more
+      ∙ (λ i. take-append-le width xs piece within i ∷ pieces width (count + 1) (drop-append-le width xs piece within i))
+      ∙ ap (λ l. take width xs ∷ l) (pieces-push count (drop width xs) piece rest wide)
+
+  -- A piece ends where the pieces end, or before.
+  pub piece_within : (count i : ℕ) (xs : List X) (all : List (List X)) → pieces width count xs ≡ all → length xs ≡ count * width
+      → i < length all → i * width + width ≤ length xs
+  piece_within count i xs all are whole below =
+      let next : i + 1 ≤ count = omega (arith, below, length-pieces count xs, ap length are) in
+      omega (arith, whole, mul-le-mul_right width next)

@@ -1,0 +1,10 @@
+use Rattle.std.proofs.Common.{◌≡◌, ◌+◌, ◌≤◌, Some, map, take}
+use Rattle.std.specs.Option.{option_copied}
+use Rattle.mm_templist.specs.Combos.{rows_of_combo}
+use Rattle.mm_templist.proofs.results.choose_rows.Given as goal
+
+abbrev pub invariant-loop-i : goal.invariant-loop-i
+invariant-loop-i l = record {
+  rows : map option_copied l.chosen.items ≡ map Some (take l.i (rows_of_combo l.store l.tables l.combo));
+  reads : l.meter ≤ l.fn.meter + l.i;
+}

@@ -1,0 +1,3 @@
+pub mod Combos
+pub mod Pieces
+pub mod Results

@@ -1,0 +1,12 @@
+//! Temporary lists: combinations of references to rows, of which no row is copied before the result (Lehman and Carey,
+//! SIGMOD 1986).
+//!
+//! A call that may take memory is handed the allocator; no other call takes any.
+#![tactic(auto)]
+
+mod results;
+mod temp_list;
+#[cfg(test)]
+mod tests;
+
+pub use temp_list::{Descriptor, TempList};

@@ -1,0 +1,111 @@
+//! Temporary lists.
+ghost use Rattle.std.specs.Prelude.{◌≡◌, ◌+◌, ◌++◌, ◌∷◌, ◌<◌, [], Some, length, slice_get, OnErr, OnOk};
+
+use mm_query::FieldPlace;
+use mm_value::RowRef;
+use std::alloc::{AllocError, Global};
+use std::marker::Model;
+
+/// What a temporary list refers to, and which fields its result has.
+#[derive(Clone, Copy)]
+pub struct Descriptor<'a> {
+    /// The places in the store of the tables whose rows are combined, in FROM order; at least one.
+    pub tables: &'a [usize],
+    /// The fields of the result, from left to right.
+    pub fields: &'a [FieldPlace],
+}
+
+/// Combinations of references to rows, one row of each table (a temporary list of Lehman and Carey, SIGMOD 1986). No row is
+/// copied: the result descriptor tells which fields of the rows a result has.
+///
+/// The references stand in one vector, those of a combination one behind the other, so a combination takes no block of its own.
+#[derive(Drop)]
+pub struct TempList<'a> {
+    descriptor: Descriptor<'a>,
+    /// As many references for each combination as there are tables.
+    refs: Vec<RowRef>,
+    /// How many combinations there are.
+    len: usize,
+}
+
+impl<'a> Model for TempList<'a> {
+    ghost use Rattle.std.specs.Prelude.{◌≡◌, ◌*◌, length};
+    ghost use Rattle.mm_templist.specs.Combos.{Combos};
+    ghost use Rattle.mm_templist.specs.Pieces.{pieces};
+
+    ghost Value = { Combos };
+
+    ghost view = { λ t. record {
+      tables = t.descriptor.tables.now;
+      fields = t.descriptor.fields.now;
+      combos = pieces (length t.descriptor.tables.now) t.len t.refs.items;
+    } };
+
+    ghost invariant = { λ t. length t.refs.items ≡ t.len * length t.descriptor.tables.now };
+}
+
+impl<'a> TempList<'a> {
+    /// No combinations, with this descriptor. It takes no memory.
+    pub fn new(alloc: Global, descriptor: Descriptor<'a>) -> TempList<'a>
+        ensures { result ≡ record { tables = descriptor.entry.tables.now; fields = descriptor.entry.fields.now; combos = [] } }
+    {
+        TempList {
+            descriptor,
+            refs: Vec::new(alloc),
+            len: 0,
+        }
+    }
+
+    /// The one combination of the rows of no tables, of which joins begin. It takes no memory.
+    pub fn unit(alloc: Global, fields: &'a [FieldPlace]) -> TempList<'a>
+        ensures { result ≡ record { tables = []; fields = fields.now; combos = [] ∷ [] } }
+    {
+        TempList {
+            descriptor: Descriptor {
+                tables: &[],
+                fields,
+            },
+            refs: Vec::new(alloc),
+            len: 1,
+        }
+    }
+
+    /// What the list refers to, and which fields its result has.
+    pub fn descriptor(&self) -> Descriptor<'a>
+        ensures tables { result.tables.now ≡ self.now.tables }
+        ensures fields { result.fields.now ≡ self.now.fields }
+    {
+        self.descriptor
+    }
+
+    /// How many combinations there are.
+    pub fn len(&self) -> usize
+        ensures { result ≡ length self.now.combos }
+    {
+        self.len
+    }
+
+    /// The combination at a place, counted from 0: a reference for each table.
+    pub fn combo(&self, i: usize) -> &[RowRef]
+        requires { i < length self.now.combos }
+        ensures { slice_get self.now.combos i ≡ Some result.now }
+    {
+        let width = self.descriptor.tables.len();
+        let refs = self.refs.as_slice();
+        let start = i * width;
+        &refs[start..start + width]
+    }
+
+    /// Adds the combination of `front` and behind it `at`. `AllocError` where memory is refused, and then nothing changes.
+    pub fn push(&mut self, front: &[RowRef], at: RowRef) -> Result<(), AllocError>
+        requires { length front.now + 1 ≡ length self.old.tables }
+        ensures ok { OnOk result (self.new ≡ record self.old { combos = self.old.combos ++ (front.now ++ at ∷ []) ∷ [] }) }
+        ensures err { OnErr result (self.new ≡ self.old) }
+    {
+        self.refs.reserve(front.len() + 1)?;
+        self.refs.extend_from_slice(front)?;
+        self.refs.push_reserved(at);
+        self.len += 1;
+        Ok(())
+    }
+}
