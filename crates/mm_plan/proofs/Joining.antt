@@ -1,0 +1,270 @@
+-- Joining the tables of a query, one after another.
+use Rattle.std.proofs.Common.{◌≡◌, ◌≢◌, ◌⊎◌, inl, inr, IfErr, IfOk, IsPermutation, Result, Ok, Err, ℕ, suc, ◌+◌, ◌*◌, ◌<◌, ◌≤◌, Bool, true, false, cond, nat_lt, List, [], ◌∷◌, ◌++◌, Some, None, All, length, map, get_or, take, append_assoc, refl, sym, ap, ◌∙◌, subst, arith}
+use Rattle.std.proofs.lemmas.Bool.Decides.{nat_tests}
+use Rattle.std.proofs.lemmas.Nat.{mul-le}
+use Rattle.std.proofs.lemmas.List.{append-nil, length-map, map-append}
+use Rattle.std.proofs.lemmas.List.Elements.{All-cons, All-head, All-nil, All-tail}
+use Rattle.std.proofs.lemmas.List.Sorted.{IsPermutation-refl, IsPermutation-trans, length_permutation}
+use Rattle.mm_join.specs.Caps.{cap_conditions}
+use Rattle.mm_join.specs.Joined.{joined}
+use Rattle.mm_join.proofs.JoinSteps.{joined_fitting}
+use Rattle.mm_plan.proofs.Bounds.{few_of_three, length-joined}
+use Rattle.mm_plan.specs.Begun.{IsBegun, most_combinations}
+use Rattle.mm_query.specs.Queries.{bag_of, none_fails, projected, size_conditions}
+use Rattle.mm_query.specs.declared.atom.Atom.{Atom}
+use Rattle.mm_query.specs.declared.bound_query.BoundQuery.{BoundQuery}
+use Rattle.mm_query.specs.declared.bound_query.FieldPlace.{FieldPlace}
+use Rattle.mm_relation.specs.Kept.{StoredRows}
+use Rattle.mm_partition.specs.Places.{slot_at}
+use Rattle.mm_relation.specs.Refs.{row_at}
+use Rattle.mm_relation.specs.RowLists.{rows_of}
+use Rattle.std.specs.Option.{option_map_or}
+use Rattle.mm_schema.specs.Refused.{AnswersDue, first_refusal}
+use Rattle.mm_select.specs.Fitting.{AreFitting, fitting}
+use Rattle.mm_store.specs.Tables.{IsAt, Tables, rows_at}
+use Rattle.mm_templist.specs.Combos.{AreLive, Combos, combo_rows, rows_of_combo}
+use Rattle.mm_value.specs.declared.refusal.Refusal.{Refusal}
+use Rattle.mm_value.specs.declared.refusal.Refusal.TheVariants.{Memory, ResultTooLarge}
+use Rattle.mm_value.specs.declared.values.Value.{Value}
+
+-- ---- the table that comes next
+
+-- The first tables, the one behind them, and those behind that one.
+pub record Splits (store : Tables) (first tables : List ℕ) : Type 0 where
+  pub next : ℕ
+  pub later : List ℕ
+  pub is : tables ≡ first ++ next ∷ later
+  pub front : take (length first + 1) tables ≡ first ++ next ∷ []
+  pub there : next < length store.tables
+
+taken_behind : (first : List ℕ) (next : ℕ) (later : List ℕ) → take (length first + 1) (first ++ next ∷ later) ≡ first ++ next ∷ []
+taken_behind [] next later = refl
+taken_behind (t ∷ first) next later =
+    let one : length (t ∷ first) + 1 ≡ suc (length first + 1) = omega (arith) in
+    ap (λ n. take n (t ∷ first ++ next ∷ later)) one ∙ ap (λ ts. t ∷ ts) (taken_behind first next later)
+
+last_there : (store : Tables) (first : List ℕ) (next : ℕ) (later : List ℕ) → All (λ t. t < length store.tables) (first ++ next ∷ later)
+    → next < length store.tables
+last_there store [] next later all = All-head (λ t. t < length store.tables) next later all
+last_there store (t ∷ first) next later all = last_there store first next later (All-tail (λ t. t < length store.tables) t (first ++ next ∷ later) all)
+
+pub splits : (store : Tables) (first tables : List ℕ) → All (λ t. t < length store.tables) tables → (rest : List ℕ) → tables ≡ first ++ rest
+    → length first ≢ length tables → Splits store first tables
+splits store first tables all [] is more = absurd (more (sym (ap length (is ∙ append-nil first))))
+splits store first tables all (next ∷ later) is more = record {
+  next = next;
+  later = later;
+  is = is;
+  front = ap (take (length first + 1)) is ∙ taken_behind first next later;
+  there = last_there store first next later (subst (All (λ t. t < length store.tables)) is all);
+}
+
+-- ---- how many there are
+
+at_most_each : (outers next found most : ℕ) → found ≤ outers * next → outers ≤ most → next ≤ 1048576 → found ≤ most * 1048576
+at_most_each outers next found most given few_outers few_next =
+    let grown = mul-le outers next most 1048576 few_outers few_next in
+    omega (arith, given, grown)
+
+module _ (store : Tables) (query : BoundQuery) where
+  abbrev lists_of : List ℕ → List (List (List Value))
+  lists_of tables = map (rows_at store.tables) tables
+
+  -- There is a projected row for each combination that fits.
+  length-bag : (tables : List ℕ) → length (bag_of query (lists_of tables)) ≡ length (fitting query.atoms (lists_of tables))
+  length-bag tables = length-map (fitting query.atoms (lists_of tables)) (projected query)
+
+  -- A list of them all has as many.
+  pub as_many : (list : Combos) → AreFitting store query.atoms list → length (bag_of query (lists_of list.tables)) ≡ length list.combos
+  as_many list fits =
+      length-bag list.tables
+      ∙ (length_permutation (combo_rows store list) (fitting query.atoms (lists_of list.tables)) fits ∙ length-map list.combos (rows_of_combo store list.tables))
+
+  module _ (list : Combos) (fits : AreFitting store query.atoms list) (next : ℕ) where
+    abbrev found : List (List (List Value))
+    found = joined query.atoms (combo_rows store list) (rows_at store.tables next)
+
+    -- What a join with the next table gives are those that fit with it.
+    pub fits_behind : IsPermutation found (fitting query.atoms (lists_of (list.tables ++ next ∷ [])))
+    fits_behind = subst (λ lists. IsPermutation found (fitting query.atoms lists)) (sym (map-append (rows_at store.tables) list.tables (next ∷ [])))
+        (joined_fitting query.atoms (lists_of list.tables) (combo_rows store list) (rows_at store.tables next) fits)
+
+    as_many_behind : length (bag_of query (lists_of (list.tables ++ next ∷ []))) ≡ length found
+    as_many_behind = length-bag (list.tables ++ next ∷ [])
+        ∙ length_permutation found (fitting query.atoms (lists_of (list.tables ++ next ∷ []))) fits_behind
+
+    -- So the last join is refused where the query is.
+    pub due_behind : first_refusal (size_conditions (bag_of query (lists_of (list.tables ++ next ∷ [])))) ≡ first_refusal (cap_conditions 1048576 found)
+    due_behind = ap (λ n. cond (nat_lt 1048576 n) (Some ResultTooLarge) None) as_many_behind
+
+    module _ (few : length (rows_at store.tables next) ≤ 1048576) (bounded : length list.combos ≤ most_combinations (length list.tables)) where
+      -- With one table more there are at most so many, ..
+      pub bounded_behind : length found ≤ most_combinations (length list.tables) * 1048576
+      bounded_behind =
+          let given = length-joined query.atoms (combo_rows store list) (rows_at store.tables next) in
+          let outers = length-map list.combos (rows_of_combo store list.tables) in
+          at_most_each (length (combo_rows store list)) (length (rows_at store.tables next)) (length found) (most_combinations (length list.tables)) given
+          (subst (λ n. n ≤ most_combinations (length list.tables)) (sym outers) bounded) few
+
+      -- .. which no join of three tables refuses.
+      pub none_refused : length list.tables < 3 → first_refusal (cap_conditions 18446744073709551615 found) ≡ None
+      none_refused short =
+          let most = few_of_three (length list.tables) (most_combinations (length list.tables)) short (omega (arith)) in
+          let not_more : nat_lt 18446744073709551615 (length found) ≡ false = grind (arith, nat_tests, bounded_behind, most) in
+          ap (λ b. cond b (Some ResultTooLarge) None) not_more
+
+-- The rows at a place are those of the relation there.
+pub few_at : (store : Tables) (place : ℕ) (stored : StoredRows) → IsAt store place stored → length stored.refs ≤ 1048576
+    → length (rows_at store.tables place) ≤ 1048576
+few_at store place stored at few =
+    let rows : length (rows_at store.tables place) ≡ length stored.refs =
+    ap (λ s. length (option_map_or rows_of s [])) at ∙ length-map stored.refs (row_at (slot_at stored.places)) in
+    subst (λ n. n ≤ 1048576) (sym rows) few
+
+-- ---- the combination of no tables
+
+none_fails_yet : (atoms : List (Atom FieldPlace)) → none_fails atoms [] ≡ true
+none_fails_yet [] = refl
+none_fails_yet (atom ∷ atoms) = none_fails_yet atoms
+
+-- It fits, and it is the only one.
+pub fitting-none : (store : Tables) (atoms : List (Atom FieldPlace)) (fields : List FieldPlace)
+    → AreFitting store atoms (record { tables = []; fields = fields; combos = [] ∷ [] })
+fitting-none store atoms fields = subst (IsPermutation ([] ∷ [])) (sym (ap (λ b. cond b ([] ∷ []) []) (none_fails_yet atoms))) (IsPermutation-refl ([] ∷ []))
+
+-- ---- one join
+
+none_is_some : {A : Type 0} (x : A) → None ≡ Some x → ⊥
+none_is_some x same = cc
+
+behind_is : (first : List ℕ) (next : ℕ) (later : List ℕ) → get_or (first ++ next ∷ later) (length first) 0 ≡ next
+behind_is [] next later = refl
+behind_is (t ∷ first) next later = behind_is first next later
+
+none_later : (later : List ℕ) (first : List ℕ) (next : ℕ) → length first + 1 ≡ length (first ++ next ∷ later) → later ≡ []
+none_later [] first next same = refl
+none_later (l ∷ later) first next same = absurd (longer first same)
+  where
+    longer : (first : List ℕ) → length first + 1 ≡ length (first ++ next ∷ l ∷ later) → ⊥
+    longer [] same = omega (arith, same)
+    longer (t ∷ first) same = longer first (omega (arith, same))
+
+not_refused : (n : ℕ) → cond (nat_lt 1048576 n) (Some ResultTooLarge) None ≡ None → n ≤ 1048576
+not_refused n due = by (nat_lt 1048576 n) refl due
+  where
+    by : (b : Bool) → nat_lt 1048576 n ≡ b → cond b (Some ResultTooLarge) None ≡ None → n ≤ 1048576
+    by true more due = absurd (none_is_some ResultTooLarge (sym due))
+    by false few due = grind (arith, nat_tests, few)
+
+-- how many combinations the join of the next table may give
+abbrev pub IsCap : ℕ → List ℕ → List ℕ → Type 0
+IsCap cap first tables =
+    ((length first + 1 ≡ length tables) × (cap ≡ 1048576)) ⊎ ((length first + 1 ≢ length tables) × (cap ≡ 18446744073709551615))
+
+module _ (store : Tables) (query : BoundQuery) (tables : List ℕ) (list : Combos) (begun : IsBegun store query tables list)
+    (all : All (λ t. t < length store.tables) tables) (short : length tables ≤ 4) (left : length list.tables < length tables)
+    (few_rows : length (rows_at store.tables (get_or tables (length list.tables) 0)) ≤ 1048576) where
+  pub split : Splits store list.tables tables
+  split = splits store list.tables tables all begun.rest begun.first (λ same. omega (arith, left, same))
+
+  abbrev given : List (List (List Value))
+  given = found store query list begun.fitting split.next
+
+  few_next : length (rows_at store.tables split.next) ≤ 1048576
+  few_next = subst (λ t. length (rows_at store.tables t) ≤ 1048576)
+      (ap (λ ts. get_or ts (length list.tables) 0) split.is ∙ behind_is list.tables split.next split.later) few_rows
+
+  last : length list.tables + 1 ≡ length tables → tables ≡ list.tables ++ split.next ∷ []
+  last same = split.is ∙ ap (λ later. list.tables ++ split.next ∷ later)
+      (none_later split.later list.tables split.next (same ∙ ap length split.is))
+
+  due_at_last : length list.tables + 1 ≡ length tables
+      → first_refusal (size_conditions (bag_of query (map (rows_at store.tables) tables))) ≡ first_refusal (cap_conditions 1048576 given)
+  due_at_last same = ap (λ ts. first_refusal (size_conditions (bag_of query (map (rows_at store.tables) ts)))) (last same)
+      ∙ due_behind store query list begun.fitting split.next
+
+  none_before : length list.tables + 1 ≢ length tables → first_refusal (cap_conditions 18446744073709551615 given) ≡ None
+  none_before more = none_refused store query list begun.fitting split.next few_next begun.bounded (omega (arith, left, short, more))
+
+  -- What refuses a join refuses the query.
+  pub refused : (cap : ℕ) → IsCap cap list.tables tables → (result : Result Combos Refusal) → AnswersDue (first_refusal (cap_conditions cap given)) result
+      → IfErr result (λ refusal. (first_refusal (size_conditions (bag_of query (map (rows_at store.tables) tables))) ≡ Some refusal) ⊎ (refusal ≡ Memory))
+  refused cap is (Ok next) due = tt
+  refused cap is (Err refusal) (inr memory) = inr memory
+  refused cap (inl (same, is)) (Err refusal) (inl due) =
+      inl (due_at_last same ∙ (ap (λ n. first_refusal (cap_conditions n given)) (sym is) ∙ due))
+  refused cap (inr (more, is)) (Err refusal) (inl due) =
+      absurd (none_is_some refusal (sym (none_before more) ∙ (ap (λ n. first_refusal (cap_conditions n given)) (sym is) ∙ due)))
+
+  -- What it gives has the combinations of one table more.
+  pub goes_on : (cap : ℕ) → IsCap cap list.tables tables → (result : Result Combos Refusal) → AnswersDue (first_refusal (cap_conditions cap given)) result
+      → IfOk result (λ next. IsPermutation (combo_rows store next) given) → IfOk result (λ next. All (AreLive store next.tables) next.combos)
+      → IfOk result (λ next. next.tables ≡ list.tables ++ split.next ∷ []) → IfOk result (λ next. next.fields ≡ query.fields)
+      → IfOk result (λ next. IsBegun store query tables next)
+  goes_on cap is (Err refusal) due same live at fields = tt
+  goes_on cap is (Ok next) due same live at fields =
+      let count : length next.combos ≡ length given =
+      sym (length_permutation (combo_rows store next) given same ∙ length-map next.combos (rows_of_combo store next.tables)) in
+      let one_more : length next.tables ≡ suc (length list.tables) = ap length at ∙ length_one_more list.tables in
+      record {
+        rest = split.later;
+        first = split.is ∙ (sym (append_assoc list.tables (split.next ∷ []) split.later) ∙ ap (λ ts. ts ++ split.later) (sym at));
+        fields = fields;
+        fitting = subst (λ ts. IsPermutation (combo_rows store next) (fitting query.atoms (map (rows_at store.tables) ts))) (sym at)
+            (IsPermutation-trans (combo_rows store next) given (fitting query.atoms (map (rows_at store.tables) (list.tables ++ split.next ∷ []))) same
+            (fits_behind store query list begun.fitting split.next));
+        live = live;
+        bounded = subst (λ n. length next.combos ≤ most_combinations n) (sym one_more) (subst (λ n. n ≤ most_combinations (length list.tables) * 1048576)
+            (sym count) (bounded_behind store query list begun.fitting split.next few_next begun.bounded));
+        capped = λ whole. within is (sym one_more ∙ ap length whole) count due;
+      }
+    where
+      length_one_more : (first : List ℕ) → length (first ++ split.next ∷ []) ≡ suc (length first)
+      length_one_more [] = refl
+      length_one_more (t ∷ first) = ap (λ n. suc n) (length_one_more first)
+
+      within : IsCap cap list.tables tables → suc (length list.tables) ≡ length tables → length next.combos ≡ length given
+          → first_refusal (cap_conditions cap given) ≡ None → length next.combos ≤ 1048576
+      within (inl (one, is)) whole count due =
+          subst (λ n. n ≤ 1048576) (sym count) (not_refused (length given) (ap (λ n. first_refusal (cap_conditions n given)) (sym is) ∙ due))
+      within (inr (more, is)) whole count due = absurd (more (omega (arith, whole)))
+
+-- What holds of a list for each further table holds of it for this one.
+pub of_next : (P : ℕ → Type 0) (Q : ℕ → Combos → Type 0) (table : ℕ) → P table → (result : Result Combos Refusal)
+    → IfOk result (λ l. (t : ℕ) → P t → Q t l) → IfOk result (λ l. Q table l)
+of_next P Q table is (Ok l) holds = holds table is
+of_next P Q table is (Err refusal) holds = tt
+
+-- ---- the first and the last list
+
+-- Joins begin with the combination of no tables, ..
+pub begins : (store : Tables) (query : BoundQuery) (tables : List ℕ)
+    → IsBegun store query tables (record { tables = []; fields = query.fields; combos = [] ∷ [] })
+begins store query tables = record {
+  rest = tables;
+  first = refl;
+  fields = refl;
+  fitting = fitting-none store query.atoms query.fields;
+  live = All-cons (AreLive store []) [] [] tt (All-nil (AreLive store []));
+  bounded = omega (arith);
+  capped = λ whole. omega (arith);
+}
+
+-- .. and where no table is left, the query is not refused.
+pub none_left : (store : Tables) (query : BoundQuery) (tables : List ℕ) (list : Combos) → IsBegun store query tables list
+    → length tables ≤ length list.tables → first_refusal (size_conditions (bag_of query (map (rows_at store.tables) tables))) ≡ None
+none_left store query tables list begun none = by begun.rest begun.first
+  where
+    by : (rest : List ℕ) → tables ≡ list.tables ++ rest → first_refusal (size_conditions (bag_of query (map (rows_at store.tables) tables))) ≡ None
+    by [] is =
+        let whole : list.tables ≡ tables = sym (is ∙ append-nil list.tables) in
+        let few = begun.capped whole in
+        let count : length (bag_of query (map (rows_at store.tables) tables)) ≡ length list.combos =
+        ap (λ ts. length (bag_of query (map (rows_at store.tables) ts))) (sym whole) ∙ as_many store query list begun.fitting in
+        let not_more : nat_lt 1048576 (length (bag_of query (map (rows_at store.tables) tables))) ≡ false = grind (arith, nat_tests, count, few) in
+        ap (λ b. cond b (Some ResultTooLarge) None) not_more
+    by (t ∷ rest) is = absurd (shorter list.tables (omega (arith, none, ap length is)))
+      where
+        shorter : (first : List ℕ) → length (first ++ t ∷ rest) ≤ length first → ⊥
+        shorter [] less = omega (arith, less)
+        shorter (f ∷ first) less = shorter first (omega (arith, less))

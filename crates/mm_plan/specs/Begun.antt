@@ -1,0 +1,22 @@
+-- Lists of the combinations of the first tables of a query.
+use Rattle.std.specs.Prelude.{◌≡◌, ℕ, zero, suc, ◌*◌, ◌≤◌, ◌++◌, List, All, length}
+use Rattle.mm_query.specs.declared.bound_query.BoundQuery.{BoundQuery}
+use Rattle.mm_select.specs.Fitting.{AreFitting}
+use Rattle.mm_store.specs.Tables.{Tables}
+use Rattle.mm_templist.specs.Combos.{AreLive, Combos}
+
+-- The most combinations of so many tables, of which each has at most 1,048,576 rows.
+abbrev pub most_combinations : ℕ → ℕ
+most_combinations zero = 1
+most_combinations (suc tables) = most_combinations tables * 1048576
+
+-- The list has the fitting combinations of the first of these tables; it may be joined to the rest, and where none are left
+-- it is not too large.
+pub record IsBegun (store : Tables) (query : BoundQuery) (tables : List ℕ) (list : Combos) : Type 0 where
+  pub rest : List ℕ
+  pub first : tables ≡ list.tables ++ rest
+  pub fields : list.fields ≡ query.fields
+  pub fitting : AreFitting store query.atoms list
+  pub live : All (AreLive store list.tables) list.combos
+  pub bounded : length list.combos ≤ most_combinations (length list.tables)
+  pub capped : list.tables ≡ tables → length list.combos ≤ 1048576

@@ -1,0 +1,3 @@
+pub mod Begun
+pub mod From
+pub mod Rules
