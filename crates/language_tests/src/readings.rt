@@ -1,6 +1,6 @@
 //! Lines and their readings, from the language's description.
 use mm_lang::{Command, MAX_LINE_BYTES, parse};
-use mm_query::{Atom, Comparison, Definition, Mutation, Operand};
+use mm_query::{Atom, Comparison, Definition, FieldName, FromItem, Mutation, Operand, Query};
 use mm_schema::{Column, IndexDef, IndexKind, Name, Role};
 use mm_value::{ColType, Refusal, Row, Value};
 use std::alloc::Global;
@@ -176,6 +176,76 @@ fn reads_delete(alloc: Global, line: &[u8], count: usize) -> bool {
     }
 }
 
+fn is_field(field: &FieldName, alias: &[u8], column: &[u8]) -> bool {
+    field.alias.bytes() == alias && field.column.bytes() == column
+}
+
+fn is_from(item: &FromItem, table: &[u8], alias: &[u8]) -> bool {
+    item.table.bytes() == table && item.alias.bytes() == alias
+}
+
+// `SELECT a.id, b.k_2 FROM t a, u b` and what follows.
+fn selects_two(query: &Query, distinct: bool) -> bool {
+    let fields = match query.fields.as_slice() {
+        [id, k] => is_field(id, b"a", b"id") && is_field(k, b"b", b"k_2"),
+        _ => false,
+    };
+    let from = match query.from.as_slice() {
+        [t, u] => is_from(t, b"t", b"a") && is_from(u, b"u", b"b"),
+        _ => false,
+    };
+    fields && from && query.distinct == distinct
+}
+
+// `a.r = b.id AND b.k >= a.k - 5 AND a.s < 'x'`, with this shift.
+fn are_three_atoms(atoms: &[Atom<FieldName>], by: i64) -> bool {
+    match atoms {
+        [first, second, third] => {
+            let same = match &first.right {
+                Operand::Column(field) => is_field(field, b"b", b"id"),
+                _ => false,
+            };
+            let shifted = match &second.right {
+                Operand::Shifted(field, shift) => is_field(field, b"a", b"k") && *shift == by,
+                _ => false,
+            };
+            let text = match &third.right {
+                Operand::Literal(Value::Text(text)) => text.bytes() == b"x".as_slice(),
+                _ => false,
+            };
+            is_field(&first.left, b"a", b"r")
+                && first.comparison == Comparison::Equal
+                && same
+                && is_field(&second.left, b"b", b"k")
+                && second.comparison == Comparison::GreaterOrEqual
+                && shifted
+                && is_field(&third.left, b"a", b"s")
+                && third.comparison == Comparison::Less
+                && text
+        }
+        _ => false,
+    }
+}
+
+fn reads_select(
+    alloc: Global,
+    line: &[u8],
+    distinct: bool,
+    shift: Option<i64>,
+    order: &[usize],
+) -> bool {
+    match &parse(alloc, line) {
+        Ok(Command::Select(query)) => {
+            let atoms = match shift {
+                Some(by) => are_three_atoms(query.atoms.as_slice(), by),
+                None => query.atoms.as_slice().is_empty(),
+            };
+            selects_two(query, distinct) && atoms && query.order.as_slice() == order
+        }
+        _ => false,
+    }
+}
+
 fn reads_nothing(alloc: Global, line: &[u8]) -> bool {
     matches!(parse(alloc, line), Ok(Command::Nothing))
 }
@@ -255,6 +325,128 @@ fn refuses_updates_and_deletes_without_a_reading(rt: HostRuntime) {
 }
 
 #[test]
+fn reads_selects(rt: HostRuntime) {
+    let alloc = rt.alloc();
+    let plain = b"SELECT a.id, b.k_2 FROM t a, u b";
+    assert!(rt; reads_select(alloc, plain, false, None, &[]));
+    let distinct = b"SELECT DISTINCT a.id, b.k_2 FROM t a, u b";
+    assert!(rt; reads_select(alloc, distinct, true, None, &[]));
+    let ordered = b"SELECT a.id, b.k_2 FROM t a, u b ORDER 2, 1, 2";
+    assert!(rt; reads_select(alloc, ordered, false, None, &[2, 1, 2]));
+    let tested =
+        b"SELECT a.id, b.k_2 FROM t a, u b WHERE a.r = b.id AND b.k >= a.k - 5 AND a.s < 'x'";
+    assert!(rt; reads_select(alloc, tested, false, Some(-5), &[]));
+    let whole =
+        b"SELECT DISTINCT a.id, b.k_2 FROM t a, u b WHERE a.r = b.id AND b.k >= a.k + 5 AND a.s < 'x' ORDER 1";
+    assert!(rt; reads_select(alloc, whole, true, Some(5), &[1]));
+    let joined =
+        b"SELECT DISTINCT a.id,b.k_2 FROM t a,u b WHERE a.r=b.id AND b.k>=a.k-5 AND a.s<'x'ORDER 2,1";
+    assert!(rt; reads_select(alloc, joined, true, Some(-5), &[2, 1]));
+    let apart =
+        b"\tSELECT a . id ,b\t.k_2 FROM\tt a , u b WHERE a. r = b .id AND b.k >= a.k -005 AND a.s < 'x' ORDER\t1 ";
+    assert!(rt; reads_select(alloc, apart, false, Some(-5), &[1]));
+}
+
+#[test]
+fn keeps_shifts_of_zero_in_selects(rt: HostRuntime) {
+    let alloc = rt.alloc();
+    let plus =
+        b"SELECT a.id, b.k_2 FROM t a, u b WHERE a.r = b.id AND b.k >= a.k + 0 AND a.s < 'x'";
+    assert!(rt; reads_select(alloc, plus, false, Some(0), &[]));
+    let minus =
+        b"SELECT a.id, b.k_2 FROM t a, u b WHERE a.r = b.id AND b.k >= a.k -0 AND a.s < 'x'";
+    assert!(rt; reads_select(alloc, minus, false, Some(0), &[]));
+}
+
+#[test]
+fn reads_positions_of_any_length(rt: HostRuntime) {
+    let alloc = rt.alloc();
+    let zero = b"SELECT a.id, b.k_2 FROM t a, u b ORDER 0, 000";
+    assert!(rt; reads_select(alloc, zero, false, None, &[0, 0]));
+    let long = b"SELECT a.id, b.k_2 FROM t a, u b ORDER 000000000000000000000000000017";
+    assert!(rt; reads_select(alloc, long, false, None, &[17]));
+    let greatest = b"SELECT a.id, b.k_2 FROM t a, u b ORDER 9223372036854775807";
+    assert!(rt; reads_select(alloc, greatest, false, None, &[9223372036854775807]));
+}
+
+#[test]
+fn refuses_selects_without_a_reading(rt: HostRuntime) {
+    let lines: [&[u8]; 33] = [
+        b"SELECT",
+        b"SELECT a.b",
+        b"SELECT a.b FROM",
+        b"SELECT FROM t a",
+        b"SELECT a FROM t a",
+        b"SELECT * FROM t a",
+        b"SELECT a.b FROM t",
+        b"SELECT a.b, FROM t a",
+        b"SELECT a.b c.d FROM t a",
+        b"SELECT a.b FROM t a,",
+        b"SELECT a.b FROM t a u b",
+        b"SELECT a. FROM t a",
+        b"SELECT a.b.c FROM t a",
+        b"SELECT a.5 FROM t a",
+        b"SELECT DISTINCT FROM t a",
+        b"SELECT DISTINCT DISTINCT a.b FROM t a",
+        b"SELECT a.b DISTINCT FROM t a",
+        b"SELECT a.b FROM t a WHERE",
+        b"SELECT a.b FROM t a WHERE ORDER 1",
+        b"SELECT a.b FROM t a WHERE 3 = a.k",
+        b"SELECT a.b FROM t a WHERE k = 3",
+        b"SELECT a.b FROM t a WHERE a.k = k",
+        b"SELECT a.b FROM t a WHERE a.k = a.b + a.c",
+        b"SELECT a.b FROM t a WHERE a.k = 1, a.b = 2",
+        b"SELECT a.b FROM t a ORDER",
+        b"SELECT a.b FROM t a ORDER a.b",
+        b"SELECT a.b FROM t a ORDER -1",
+        b"SELECT a.b FROM t a ORDER +1",
+        b"SELECT a.b FROM t a ORDER '1'",
+        b"SELECT a.b FROM t a ORDER 1 2",
+        b"SELECT a.b FROM t a ORDER 1,",
+        b"SELECT a.b FROM t a ORDER 1 WHERE a.k = 1",
+        b"SELECT a.b FROM t a ORDER 9223372036854775808 x",
+    ];
+    for line in lines {
+        assert_eq!(rt;
+            parse(rt.alloc(), line).err(),
+            Some(Refusal::Syntax),
+            "at {line:?}"
+        );
+    }
+    let others: [&[u8]; 2] = [b"UPDATE t SET a.k = 1", b"DELETE t WHERE t.k = 1"];
+    for line in others {
+        assert_eq!(rt;
+            parse(rt.alloc(), line).err(),
+            Some(Refusal::Syntax),
+            "at {line:?}"
+        );
+    }
+}
+
+#[test]
+fn refuses_literals_of_selects_past_their_limits(rt: HostRuntime) {
+    let alloc = rt.alloc();
+    let position = b"SELECT a.b FROM t a ORDER 1, 9223372036854775808";
+    assert_eq!(rt;
+        parse(alloc, position).err(),
+        Some(Refusal::NumberOutOfRange)
+    );
+    let long = b"SELECT a.b FROM t a ORDER 100000000000000000000000000000";
+    assert_eq!(rt; parse(alloc, long).err(), Some(Refusal::NumberOutOfRange));
+    let number = b"SELECT a.b FROM t a WHERE a.k = -9223372036854775809";
+    assert_eq!(rt; parse(alloc, number).err(), Some(Refusal::NumberOutOfRange));
+    let text_before =
+        b"SELECT a.b FROM t a WHERE a.s = 'aaaaaaaaaaaaaaaaaaaaaaaaaaaaaaaaaaaaaaaaaaaaaaaaaaaaaaaaaaaaaaaaa' ORDER 9223372036854775808";
+    assert_eq!(rt; parse(alloc, text_before).err(), Some(Refusal::TextTooLong));
+    let shift_before =
+        b"SELECT a.b FROM t a WHERE a.k = a.j + 9223372036854775808 AND a.s = 'aaaaaaaaaaaaaaaaaaaaaaaaaaaaaaaaaaaaaaaaaaaaaaaaaaaaaaaaaaaaaaaaa'";
+    assert_eq!(rt;
+        parse(alloc, shift_before).err(),
+        Some(Refusal::NumberOutOfRange)
+    );
+}
+
+#[test]
 fn reads_empty_lines_and_comments(rt: HostRuntime) {
     let alloc = rt.alloc();
     let blanks = [b' '; MAX_LINE_BYTES + 1];
@@ -268,7 +460,7 @@ fn reads_empty_lines_and_comments(rt: HostRuntime) {
 
 #[test]
 fn refuses_lines_without_a_reading(rt: HostRuntime) {
-    let lines: [&[u8]; 39] = [
+    let lines: [&[u8]; 38] = [
         b"SCAN t x",
         b"SCAN",
         b"scan t",
@@ -307,7 +499,6 @@ fn refuses_lines_without_a_reading(rt: HostRuntime) {
         b"TABLE x (id INT KEY, r REF u INT)",
         b"SCAN t\x00",
         b"SCAN \xfft",
-        b"SELECT a.id FROM t a",
     ];
     for line in lines {
         assert_eq!(rt;

@@ -1,6 +1,7 @@
 pub mod Answering
 pub mod ChangeSteps
 pub mod DatabaseSteps
+pub mod Explaining
 pub mod FeedLemmas
 pub mod IndexSteps
 pub mod IndexesBeside
@@ -13,4 +14,5 @@ pub mod ReferenceRows
 pub mod RowsBeside
 pub mod Runs
 pub mod Scanning
+pub mod Selecting
 pub mod Walks

@@ -7,14 +7,14 @@ ghost use Rattle.mm_relation.specs.Refs.{row_at};
 ghost use Rattle.mm_lang.specs.Lines.{without_return};
 ghost use Rattle.mm_value.specs.Device.{Writes};
 ghost use Rattle.mm_value.specs.Watched.{inner_of, has_failed};
-ghost use Rattle.mm_query.specs.declared.command.Command.TheVariants.{Define, Change, Scan, ScanIndex};
+ghost use Rattle.mm_query.specs.declared.command.Command.TheVariants.{Define, Change, Scan, ScanIndex, Select, Explain};
 ghost use Rattle.mm_query.specs.declared.reply.Reply.TheVariants.{Rows};
 ghost use Rattle.mmdb_core.specs.steps.Respond.{RepliesToLine, IsStep, RepliesToReading};
 ghost use Rattle.mmdb_core.specs.Run.{is_error};
 
 use crate::database::{Along, Database};
 use mm_lang::{Command, Reply, parse, write_reply, write_row_count, write_row_line};
-use mm_query::{Definition, Mutation};
+use mm_query::{Definition, Mutation, Query, RowList};
 use mm_relation::Relation;
 use mm_schema::{IndexKind, Name};
 use mm_value::{Refusal, Watched, WriteFault};
@@ -63,6 +63,8 @@ fn respond<W: Write>(
         Ok(Command::ScanIndex(index)) => return answer_index_scan(alloc, database, &index, writer),
         Ok(Command::Define(definition)) => define(alloc, database, definition),
         Ok(Command::Change(mutation)) => change(alloc, database, mutation),
+        Ok(Command::Select(query)) => select(alloc, database, &query),
+        Ok(Command::Explain(query)) => explain(alloc, database, &query),
         Err(refusal) => Reply::Refused(refusal),
     };
     send(&reply, writer)
@@ -90,6 +92,26 @@ fn change(alloc: Global, database: &mut Database, mutation: Mutation) -> Reply
 {
     match database.change(alloc, mutation) {
         Ok(count) => Reply::Count(count),
+        Err(refusal) => Reply::Refused(refusal),
+    }
+}
+
+/// The rows that a query gives.
+fn select(alloc: Global, database: &Database, query: &Query) -> Reply
+    ensures { IsStep (Select query.now) database.now (record { reply = Some result; state = database.now }) }
+{
+    match database.select(alloc, query) {
+        Ok(rows) => Reply::Rows(RowList::new(rows)),
+        Err(refusal) => Reply::Refused(refusal),
+    }
+}
+
+/// The plan of a query.
+fn explain(alloc: Global, database: &Database, query: &Query) -> Reply
+    ensures { IsStep (Explain query.now) database.now (record { reply = Some result; state = database.now }) }
+{
+    match database.explain(alloc, query) {
+        Ok(lines) => Reply::Steps(lines),
         Err(refusal) => Reply::Refused(refusal),
     }
 }

@@ -5,18 +5,21 @@ ghost use Rattle.mm_relation.specs.RowLists.{rows_of};
 ghost use Rattle.mm_schema.specs.Refused.{AnswersDue, first_refusal};
 ghost use Rattle.mm_store.specs.Tables.{AreFit, HasRows, IsAt, Turns, edit_conditions, rows_with};
 ghost use Rattle.mm_query.specs.Edits.{own_pairs};
-ghost use Rattle.mm_query.specs.Machine.{conditions, rows_by_index, state_after};
+ghost use Rattle.mm_query.specs.Machine.{conditions, plan_in, rows_by_index, state_after};
+ghost use Rattle.mm_query.specs.Resolving.{selected};
 ghost use Rattle.mm_query.specs.State.{first_state, rows_in};
-ghost use Rattle.mm_query.specs.declared.command.Command.TheVariants.{Define, Change, Scan, ScanIndex};
+ghost use Rattle.mm_query.specs.declared.command.Command.TheVariants.{Define, Change, Scan, ScanIndex, Select, Explain};
 ghost use Rattle.mm_query.specs.declared.command.Definition.TheVariants as define;
 ghost use Rattle.mmdb_core.specs.steps.Along.{IsAlong};
 
 use crate::edits::{TableEdits, edits_of};
-use mm_query::Mutation;
+use crate::explain::explain_query;
+use crate::select::select_rows;
+use mm_query::{ItemList, Mutation, PlanLine, Query};
 use mm_relation::{Edit, Relation};
 use mm_schema::{Catalog, IndexDef, IndexKind, Name, TableDef};
 use mm_store::{Store, Undo};
-use mm_value::Refusal;
+use mm_value::{Refusal, Row};
 use std::alloc::{AllocError, Global};
 use std::marker::Model;
 
@@ -159,6 +162,26 @@ impl Database {
             column,
             kind: index.kind,
         })
+    }
+
+    /// The rows that a query gives, in their order. The refusals are those of [`select_rows`].
+    pub(crate) fn select(&self, alloc: Global, query: &Query) -> Result<Vec<Row>, Refusal>
+        ensures due { AnswersDue (first_refusal (conditions (Select query.now) self.now)) result }
+        ensures rows { IfOk result (λ rows. rows.items ≡ selected query.now self.now) }
+    {
+        select_rows(alloc, &self.catalog, &self.store, query)
+    }
+
+    /// The plan of a query: a line for each table of FROM. The refusals are those of [`explain_query`].
+    pub(crate) fn explain(
+        &self,
+        alloc: Global,
+        query: &Query,
+    ) -> Result<ItemList<PlanLine>, Refusal>
+        ensures due { AnswersDue (first_refusal (conditions (Explain query.now) self.now)) result }
+        ensures lines { IfOk result (λ lines. lines ≡ plan_in self.now query.now) }
+    {
+        explain_query(alloc, &self.catalog, &self.store, query)
     }
 
     /// The relation of a table. `NoSuchTable` where the catalog has no table of the name.

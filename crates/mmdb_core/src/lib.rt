@@ -4,11 +4,13 @@
 mod answer;
 mod database;
 mod edits;
+mod explain;
 mod fault;
 mod input;
 mod laws;
 mod limits;
 mod run_script;
+mod select;
 mod window;
 
 pub use fault::{RunFault, exit_status};

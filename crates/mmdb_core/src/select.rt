@@ -1,0 +1,38 @@
+//! The rows that a query gives.
+ghost use Rattle.std.specs.Prelude.{◌≡◌, IfOk};
+ghost use Rattle.mm_query.specs.Resolving.{select_conditions, selected};
+ghost use Rattle.mm_schema.specs.Refused.{AnswersDue, first_refusal};
+ghost use Rattle.mmdb_core.specs.steps.Database.{AreOf, instance_of};
+
+use mm_plan::{places_of, run_query};
+use mm_query::{Query, bind_query};
+use mm_schema::Catalog;
+use mm_store::{Meter, Store};
+use mm_value::{Refusal, Row};
+use std::alloc::Global;
+
+/// The rows that a query gives, in their order. The first refusal that is due is answered: those of [`bind_query`] and
+/// [`run_query`]; or `Memory` in its place or in that of success.
+pub(crate) fn select_rows(
+    alloc: Global,
+    catalog: &Catalog,
+    store: &Store,
+    query: &Query,
+) -> Result<Vec<Row>, Refusal>
+    requires { AreOf catalog.now.tables store.now.tables }
+    ensures due { AnswersDue (first_refusal (select_conditions query.now (record { schema = catalog.now; rows = instance_of store.now.tables }))) result }
+    ensures rows { IfOk result (λ rows. rows.items ≡ selected query.now (record { schema = catalog.now; rows = instance_of store.now.tables })) }
+{
+    let bound = bind_query(alloc, catalog, query)?;
+    let tables = places_of(alloc, catalog, bound.from.as_slice())?;
+    let mut meter = Meter::new();
+    let list = run_query(alloc, store, &mut meter, &bound, tables.as_slice())?;
+    let rows = list.project_sorted(
+        alloc,
+        store,
+        &mut meter,
+        bound.distinct,
+        bound.order.as_slice(),
+    )?;
+    Ok(rows)
+}
