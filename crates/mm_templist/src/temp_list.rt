@@ -9,7 +9,7 @@ use std::marker::Model;
 /// What a temporary list refers to, and which fields its result has.
 #[derive(Clone, Copy)]
 pub struct Descriptor<'a> {
-    /// The places in the store of the tables whose rows are combined, in FROM order; at least one.
+    /// The places in the store of the tables whose rows are combined, in FROM order.
     pub tables: &'a [usize],
     /// The fields of the result, from left to right.
     pub fields: &'a [FieldPlace],
@@ -56,7 +56,7 @@ impl<'a> TempList<'a> {
         }
     }
 
-    /// The one combination of the rows of no tables, of which joins begin. It takes no memory.
+    /// The one combination of the rows of no tables, with which joins begin. It takes no memory.
     pub fn unit(alloc: Global, fields: &'a [FieldPlace]) -> TempList<'a>
         ensures { result ≡ record { tables = []; fields = fields.now; combos = [] ∷ [] } }
     {
