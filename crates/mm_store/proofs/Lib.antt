@@ -6,5 +6,6 @@ pub mod Following
 pub mod Joining
 pub mod Lists
 pub mod Moving
+pub mod OnlyReference
 pub mod Referring
 pub mod Samples

@@ -1,9 +1,10 @@
 -- Links between two relations: a column of the one whose values are keys of the other.
-use Rattle.std.specs.Prelude.{◌≡◌, ℕ, ◌<◌, ◌≤◌, List, length, Option, Some, None, slice_get}
+use Rattle.std.specs.Prelude.{◌≡◌, ℕ, ◌<◌, ◌≤◌, ◌==◌, ◌&&◌, not, Bool, Contains, List, length, Option, Some, None, slice_get}
 use Rattle.mm_foreign.specs.Ties.{Ties, target_at}
 use Rattle.mm_partition.specs.Places.{Content, Free, Live, Hidden, Places, extent_of, slot_at}
 use Rattle.mm_relation.specs.Kept.{StoredRows}
 use Rattle.mm_relation.specs.Refs.{HasRow, Slots, row_at}
+use Rattle.mm_schema.specs.declared.reference.Reference.{Reference}
 use Rattle.mm_value.specs.declared.row_ref.RowRef.{RowRef}
 use Rattle.mm_value.specs.declared.values.Value.{Value}
 
@@ -15,6 +16,23 @@ pub record RefersTo (column key : ℕ) (then : Slots) (row : List Value) (to : R
 -- The row refers to some row.
 abbrev pub HasTargetRow : ℕ → ℕ → Slots → List Value → Type 0
 HasTargetRow column key then row = (to : RowRef) × RefersTo column key then row to
+
+-- The column of a table refers to another table, and to no further one.
+abbrev pub IsReference : List Reference → ℕ → ℕ → ℕ → Type 0
+IsReference links from column to = Contains links (record { from = from; column = column; to = to })
+    × ((other : ℕ) → Contains links (record { from = from; column = column; to = other }) → other ≡ to)
+
+-- Two references are of one column, ..
+abbrev pub same_column : Reference → Reference → Bool
+same_column a b = (a.from == b.from) && (a.column == b.column)
+
+-- .. and to one table, ..
+abbrev pub same_reference : Reference → Reference → Bool
+same_reference a b = same_column a b && (a.to == b.to)
+
+-- .. or to two.
+abbrev pub differs_in_target : Reference → Reference → Bool
+differs_in_target a b = same_column a b && not (a.to == b.to)
 
 -- A live row is tied to the row that it refers to, and what is no live row is tied to none.
 abbrev pub IsTied : ℕ → ℕ → Slots → Content → Option RowRef → Type 0

@@ -8,7 +8,7 @@ ghost use Rattle.mm_relation.specs.Index.{EachTurns};
 ghost use Rattle.mm_relation.specs.Kept.{StoredRows};
 ghost use Rattle.mm_relation.specs.RowLists.{edit_pairs};
 ghost use Rattle.mm_store.specs.Joined.{AreJoined, CanRetie, HasGrown, HasGrownTo, HasMovedUp, IsJoined, IsReady, IsRetied};
-ghost use Rattle.mm_store.specs.Links.{RefersTo};
+ghost use Rattle.mm_store.specs.Links.{RefersTo, differs_in_target, same_column, same_reference};
 ghost use Rattle.mm_store.specs.declared.link.Link.{Link as Joint};
 ghost use Rattle.mm_store.specs.Tables.{AreFit, finds_orphan, makes_orphan};
 
@@ -137,6 +137,41 @@ pub fn drop_links(links: &mut Vec<Link>, table: usize)
     for link in links.iter_mut() {
         link.move_up(table);
     }
+}
+
+/// Whether a link has the column of a reference.
+fn has_column(link: &Link, reference: Reference) -> bool
+    ensures { result ≡ same_column reference link.now.reference }
+{
+    reference.from == link.reference.from && reference.column == link.reference.column
+}
+
+/// Whether a link is a reference.
+fn is_reference(link: &Link, reference: Reference) -> bool
+    ensures { result ≡ same_reference reference link.now.reference }
+{
+    has_column(link, reference) && reference.to == link.reference.to
+}
+
+/// Whether a link has the column of a reference and leads to another table.
+fn leads_elsewhere(link: &Link, reference: Reference) -> bool
+    ensures { result ≡ differs_in_target reference link.now.reference }
+{
+    has_column(link, reference) && reference.to != link.reference.to
+}
+
+/// Whether one of the links is a reference.
+pub fn has_reference(links: &[Link], reference: Reference) -> bool
+    ensures { result ≡ list_any (λ link. same_reference reference link.reference) links.now }
+{
+    links.iter().any(|link| is_reference(link, reference))
+}
+
+/// Whether one of the links has the column of a reference and leads to another table.
+pub fn has_other_target(links: &[Link], reference: Reference) -> bool
+    ensures { result ≡ list_any (λ link. differs_in_target reference link.reference) links.now }
+{
+    links.iter().any(|link| leads_elsewhere(link, reference))
 }
 
 /// The row that a live row refers to by a column.

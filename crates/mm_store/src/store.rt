@@ -1,5 +1,5 @@
 //! The relations of all tables.
-ghost use Rattle.std.specs.Prelude.{◌≡◌, ◌≢◌, ℕ, ◌+◌, ◌<◌, ◌≤◌, ◌++◌, [], ◌∷◌, length, All, Contains, IfOk, OnOk, OnErr};
+ghost use Rattle.std.specs.Prelude.{◌≡◌, ◌≢◌, ℕ, ◌+◌, ◌<◌, ◌≤◌, ◌++◌, [], ◌∷◌, ◌↔◌, length, All, Contains, IfOk, IsTrue, OnOk, OnErr};
 ghost use Rattle.std.specs.List.{remove};
 ghost use Rattle.mm_schema.specs.Refused.{AnswersDue, first_refusal};
 ghost use Rattle.mm_relation.specs.Kept.{StoredRows};
@@ -8,12 +8,13 @@ ghost use Rattle.mm_relation.specs.RowLists.{edit_pairs, rows_of};
 ghost use Rattle.mm_relation.specs.Edits.{added_count};
 ghost use Rattle.mm_relation.specs.Refs.{row_at};
 ghost use Rattle.mm_partition.specs.Places.{IsLive, slot_at};
-ghost use Rattle.mm_store.specs.Links.{RefersTo};
+ghost use Rattle.mm_store.specs.Links.{IsReference, RefersTo};
 ghost use Rattle.mm_store.specs.Tables.{IsAt, Turns, AreFit, AreLawful, HasRows, rows_with, IsFrom, links_without, edit_conditions, has_orphans, makes_orphans};
 
 use crate::link::Link;
 use crate::links::{
-    drop_links, follow, left_orphans, new_links, new_orphans, reserve_all, retie_all,
+    drop_links, follow, has_other_target, has_reference, left_orphans, new_links, new_orphans,
+    reserve_all, retie_all,
 };
 use crate::undo::Undo;
 use mm_relation::{Edit, Relation, count_added};
@@ -108,6 +109,19 @@ impl Store {
         ensures few { length result.now.refs ≤ 1048576 }
     {
         &self.tables[table]
+    }
+
+    /// Whether a column of a table refers to another table, and to no further one.
+    pub fn refers_only_to(&self, table: usize, column: usize, to: usize) -> bool
+        ensures { IsTrue result ↔ IsReference self.now.links table column to }
+    {
+        let reference = Reference {
+            from: table,
+            column,
+            to,
+        };
+        let links = self.links.as_slice();
+        has_reference(links, reference) && !has_other_target(links, reference)
     }
 
     /// The row that a row refers to by a column, without a search.
