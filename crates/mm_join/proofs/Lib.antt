@@ -1,6 +1,9 @@
 pub mod Caps
 pub mod Chosen
+pub mod Cursors
+pub mod JoinKeys
 pub mod JoinSteps
 pub mod Probed
 pub mod Progress
 pub mod RowOfKey
+pub mod Success

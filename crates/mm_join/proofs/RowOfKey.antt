@@ -30,6 +30,9 @@ use Rattle.mm_value.specs.Order.{value_cmp}
 use Rattle.mm_value.specs.declared.row_ref.RowRef.{RowRef}
 use Rattle.mm_value.specs.declared.values.Value.{Value}
 use Rattle.mm_value.specs.declared.values.Value.TheVariants.{Int}
+use Rattle.mm_join.proofs.JoinKeys.{shifted_by_0}
+use Rattle.mm_join.proofs.Probed.{have_from_are}
+use Rattle.mm_join.specs.Equated.{HaveMatches, IsPartner, plain_key, sought}
 
 -- ---- one element that passes
 
@@ -96,7 +99,7 @@ module _ (stored : StoredRows) (kept : IsKept stored.width stored.key (slot_at s
       (cases_Bool (has (get_or stored.refs k d)))
 
   -- The reference alone is all the matches of its key.
-  pub one_of_key : AreMatches stored.key (slot_at stored.places) value stored.refs (at ∷ [])
+  one_of_key : AreMatches stored.key (slot_at stored.places) value stored.refs (at ∷ [])
   one_of_key =
       subst (IsPermutation (at ∷ []))
       (sym (one_passes has stored.refs place.0 at place.1 place.2 (ap is_eq (place_own (slice_get (row_at slots at) stored.key) value own)) other_keys))
@@ -146,7 +149,7 @@ module _ (store : Tables) where
           ∙ ap (value_in field.column) (row_here store from stored at source))
 
       -- The row that is referred to is the only one that has the value as key.
-      pub followed_matches : (stored : StoredRows) → IsAt store from stored → (to : RowRef)
+      followed_matches : (stored : StoredRows) → IsAt store from stored → (to : RowRef)
           → RefersTo field.column relation.key (slot_at relation.places) (row_at (slot_at stored.places) source) to
           → AreMatches relation.key (slot_at relation.places) (unwrap_or (value_at partial field) (Int (pos 0))) relation.refs (to ∷ [])
       followed_matches stored at to refers =
@@ -161,7 +164,7 @@ module _ (store : Tables) where
           one_of_key relation kept (unwrap_or (value_at partial field) (Int (pos 0))) to refers.live (key ∙ ap Some (sym same))
 
       -- Found along a foreign key that refers to one table alone, it is all that has the value.
-      pub partner_matches : ((to : ℕ) → Contains store.links (record { from = from; column = field.column; to = to }) → to ≡ table)
+      partner_matches : ((to : ℕ) → Contains store.links (record { from = from; column = field.column; to = to }) → to ≡ table)
           → (stored : StoredRows) → IsAt store from stored → (to : RowRef)
           → (target : StoredRows) × (place : ℕ) × Contains store.links (record { from = from; column = field.column; to = place })
           × IsAt store place target × RefersTo field.column target.key (slot_at target.places) (row_at (slot_at stored.places) source) to
@@ -170,3 +173,14 @@ module _ (store : Tables) where
           let same : target ≡ relation = one_relation target relation (sym (subst (λ n. IsAt store n target) (only place among) there) ∙ here) in
           followed_matches stored at to
           (subst (λ (s : StoredRows). RefersTo field.column s.key (slot_at s.places) (row_at (slot_at stored.places) source) to) same refers)
+
+      -- So it has all rows of the value that the field's own value asks for.
+      pub partner_have : ((to : ℕ) → Contains store.links (record { from = from; column = field.column; to = to }) → to ≡ table)
+          → (to : RowRef) → IsPartner store from field.column source to
+          → HaveMatches relation.key (slot_at relation.places) (sought (plain_key relation.key field) partial) relation.refs (to ∷ [])
+      partner_have only to refers =
+          let stored = live_at tables front live field.place d within in
+          let value : Value = unwrap_or (value_at partial field) (Int (pos 0)) in
+          subst (λ v. HaveMatches relation.key (slot_at relation.places) v relation.refs (to ∷ [])) (sym (shifted_by_0 value))
+          (have_from_are relation kept relation.key kept.key_in value (to ∷ [])
+          (partner_matches only stored.0 stored.1 to (refers stored.0 stored.1)))

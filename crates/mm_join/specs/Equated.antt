@@ -1,40 +1,66 @@
--- Equalities between a column of a further table and a field of the outer list, and ways to the rows that meet them.
-use Rattle.std.specs.Prelude.{◌≡◌, ◌⊎◌, ℕ, ◌<◌, List, length, Contains}
+-- Join equalities between a column of a further table and a field of the outer list, and ways to the rows that meet them.
+use Rattle.std.specs.Prelude.{◌≡◌, ◌⊎◌, ℕ, pos, ◌<◌, ℤ, neg_ℤ, Bool, true, List, [], ◌∷◌, ◌++◌, Option, Some, None, Contains, IsPermutation, filter, length, map}
+use Rattle.std.specs.Option.{unwrap_or}
 use Rattle.mm_partition.specs.Places.{slot_at}
+use Rattle.mm_query.specs.Atoms.{shifted, value_in}
+use Rattle.mm_query.specs.Queries.{Partial, none_fails, value_at}
 use Rattle.mm_query.specs.declared.atom.Atom.{Atom}
 use Rattle.mm_query.specs.declared.atom.Comparison.TheVariants.{Equal}
-use Rattle.mm_query.specs.declared.atom.Operand.TheVariants.{Column}
+use Rattle.mm_query.specs.declared.atom.Operand.{Operand}
+use Rattle.mm_query.specs.declared.atom.Operand.TheVariants.{Literal, Column, Shifted}
 use Rattle.mm_query.specs.declared.bound_query.FieldPlace.{FieldPlace}
 use Rattle.mm_relation.specs.Kept.{StoredRows}
-use Rattle.mm_relation.specs.Reads.{HasIndex}
-use Rattle.mm_relation.specs.Refs.{row_at}
-use Rattle.mm_schema.specs.declared.index.IndexKind.TheVariants as kind
+use Rattle.mm_relation.specs.Refs.{Slots, row_at}
 use Rattle.mm_store.specs.Links.{RefersTo}
 use Rattle.mm_store.specs.Tables.{IsAt, Tables}
 use Rattle.mm_value.specs.declared.row_ref.RowRef.{RowRef}
-use Rattle.mm_join.specs.declared.ways.Way.{Way}
-use Rattle.mm_join.specs.declared.ways.Way.TheVariants as way
+use Rattle.mm_value.specs.declared.values.Value.{Value}
+use Rattle.mm_value.specs.declared.values.Value.TheVariants.{Int}
+use Rattle.mm_join.specs.declared.key.JoinKey.{JoinKey}
+use Rattle.mm_join.specs.declared.key.Shift.{Shift}
+use Rattle.mm_join.specs.declared.key.Shift.TheVariants as shift
 
--- The atom that one field equals another.
-abbrev pub equates : FieldPlace → FieldPlace → Atom FieldPlace
-equates left right = record { left = left; comparison = Equal; right = Column right }
+-- ---- what a join equality asks for
 
--- One of the atoms says that a column of the table behind these equals a field of theirs, whichever it names first.
-abbrev pub IsJoin : List (Atom FieldPlace) → List ℕ → ℕ → FieldPlace → Type 0
-IsJoin atoms outers column field = (field.place < length outers)
-    × (Contains atoms (equates (record { place = length outers; column = column }) field)
-    ⊎ Contains atoms (equates field (record { place = length outers; column = column })))
+-- The column that an operand names.
+abbrev pub column_named_in : Operand FieldPlace → Option FieldPlace
+column_named_in (Literal value) = None
+column_named_in (Column field) = Some field
+column_named_in (Shifted field by) = Some field
 
--- The way goes by the values of the column.
-abbrev pub IsWay : StoredRows → Way → ℕ → Type 0
-IsWay stored (way.Hash index) column = HasIndex stored.indexes index column kind.Hash
-IsWay stored (way.Tree index) column = HasIndex stored.indexes index column kind.Tree
-IsWay stored way.Key column = column ≡ stored.key
+-- The atom is a join equality of the table at a place: `=` between one of its columns and one of a table before it, on either side,
+-- with or without a shift.
+abbrev pub IsJoinEquality : ℕ → Atom FieldPlace → Type 0
+IsJoinEquality place atom = (atom.comparison ≡ Equal) × (other : FieldPlace) × (column_named_in atom.right ≡ Some other)
+    × (((atom.left.place ≡ place) × (other.place < place)) ⊎ ((other.place ≡ place) × (atom.left.place < place)))
 
--- A column of one table refers to another one, and to no further one.
-abbrev pub IsReference : Tables → ℕ → ℕ → ℕ → Type 0
-IsReference store from column table = Contains store.links (record { from = from; column = column; to = table })
-    × ((to : ℕ) → Contains store.links (record { from = from; column = column; to = to }) → to ≡ table)
+-- What a shift adds to a whole number.
+abbrev pub added : Shift → ℤ
+added (shift.Plus number) = number
+added (shift.Minus number) = neg_ℤ number
+
+-- The value that a key asks for behind the rows of a combination: that of its field, shifted; a field without a row reads as 0.
+abbrev pub sought : JoinKey → Partial → Value
+sought key rows = shifted (added key.shift) (unwrap_or (value_at rows key.field) (Int (pos 0)))
+
+-- The key of a column that asks for a field's own value.
+abbrev pub plain_key : ℕ → FieldPlace → JoinKey
+plain_key column field = record { column = column; field = field; shift = shift.Plus (pos 0) }
+
+-- Behind rows of these tables a row fits only where it has, in the key's column, the value that the key asks for.
+abbrev pub IsJoin : List (Atom FieldPlace) → List ℕ → JoinKey → Type 0
+IsJoin atoms outers key = (rows : List (List Value)) (row : List Value) → length rows ≡ length outers
+    → none_fails atoms (map Some rows ++ Some row ∷ []) ≡ true → value_in key.column row ≡ sought key (map Some rows)
+
+-- ---- ways to the rows that have a value
+
+-- Among these references of a table are all those of rows that have the value in the column, each once.
+abbrev pub HaveMatches : ℕ → Slots → Value → List RowRef → List RowRef → Type 0
+HaveMatches column now value refs found = (kept : RowRef → Bool)
+    × ((at : RowRef) → Contains refs at → value_in column (row_at now at) ≡ value → kept at ≡ true)
+    × IsPermutation found (filter kept refs)
+
+-- ---- foreign keys
 
 -- The row of a reference of the table at a place refers by a column to the row of another reference.
 abbrev pub IsPartner : Tables → ℕ → ℕ → RowRef → RowRef → Type 0

@@ -2,11 +2,12 @@
 ghost use Rattle.std.specs.Prelude.{◌≡◌, ℕ, ◌<◌, All, Contains, IfOk, length, slice_index, slice_index_or};
 ghost use Rattle.std.specs.List.Sorted.{IsPermutation};
 ghost use Rattle.mm_join.specs.Caps.{cap_conditions};
-ghost use Rattle.mm_join.specs.Equated.{IsJoin, IsPartner, IsReference};
+ghost use Rattle.mm_join.specs.Equated.{IsJoin, IsPartner, plain_key};
 ghost use Rattle.mm_join.specs.Joined.{IsNext, joined};
 ghost use Rattle.mm_partition.specs.Places.{IsLive};
 ghost use Rattle.mm_relation.specs.Kept.{StoredRows};
 ghost use Rattle.mm_schema.specs.Refused.{AnswersDue, first_refusal};
+ghost use Rattle.mm_store.specs.Links.{IsReference};
 ghost use Rattle.mm_store.specs.Tables.{IsAt, rows_at};
 ghost use Rattle.mm_templist.specs.Combos.{AreLive, combo_rows};
 
@@ -35,7 +36,8 @@ pub fn precomputed<'a>(
     requires tables { (table : ℕ) × IsNext store.now outer.now.tables descriptor.tables.now table }
     requires live { All (AreLive store.now outer.now.tables) outer.now.combos }
     requires asked { (table : ℕ) (stored : StoredRows) → IsNext store.now outer.now.tables descriptor.tables.now table → IsAt store.now table stored
-        → IsReference store.now (slice_index outer.now.tables field.place) field.column table × IsJoin atoms.now outer.now.tables stored.key field }
+        → (field.place < length outer.now.tables) × IsReference store.now.links (slice_index outer.now.tables field.place) field.column table
+        × IsJoin atoms.now outer.now.tables (plain_key stored.key field) }
     ensures due { (table : ℕ) → IsNext store.now outer.now.tables descriptor.entry.tables.now table
         → AnswersDue (first_refusal (cap_conditions cap (joined atoms.now (combo_rows store.now outer.now) (rows_at store.now.tables table)))) result }
     ensures joined { IfOk result (λ list. (table : ℕ) → IsNext store.now outer.now.tables descriptor.entry.tables.now table

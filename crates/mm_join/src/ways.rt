@@ -1,26 +1,44 @@
 //! Ways to the rows of the inner table that have a value.
-ghost use Rattle.std.specs.Prelude.{◌≡◌, ℕ, OnOk, map, pos};
+ghost use Rattle.std.specs.Prelude.{◌≡◌, ℕ, ◌+ℤ◌, ◌<◌, IfSome, OnOk, length, map, pos};
 ghost use Rattle.std.specs.Option.{option_copied, unwrap_or};
-ghost use Rattle.mm_join.specs.Equated.{IsWay};
+ghost use Rattle.mm_join.specs.Equated.{HaveMatches, added, sought};
+ghost use Rattle.mm_join.specs.Ways.{IsLookup, IsWay};
 ghost use Rattle.mm_partition.specs.Places.{slot_at};
 ghost use Rattle.mm_query.specs.Queries.{value_at};
-ghost use Rattle.mm_relation.specs.Reads.{AreMatches};
+ghost use Rattle.mm_relation.specs.Kept.{StoredRows};
+ghost use Rattle.mm_store.specs.Tables.{IsAt};
+ghost use Rattle.mm_value.specs.declared.values.Value.{Value as AnyValue};
 ghost use Rattle.mm_value.specs.declared.values.Value.TheVariants.{Int};
 
+use crate::cursor::Cursor;
+use crate::key::{JoinKey, Shift};
+use mlhash::HashRefs;
 use mm_query::FieldPlace;
 use mm_relation::Relation;
-use mm_value::{Row, RowRef, Value};
+use mm_store::{Meter, Store};
+use mm_value::{Row, RowRef, Value, hash64};
 use std::alloc::{AllocError, Global};
 
-/// How the rows of a table that have a value in a column are found.
+/// An index of a table in which a value is looked up.
 #[derive(Clone, Copy)]
-pub(crate) enum Way {
-    /// By the HASH index at this place of the table's, counted from 0.
+pub(crate) enum Lookup<'w> {
+    /// The HASH index at this place of the table's, counted from 0.
     Hash(usize),
-    /// Along the TREE index at this place of the table's, counted from 0.
+    /// The TREE index at this place of the table's, counted from 0.
     Tree(usize),
-    /// Along the index on the key.
+    /// The index on the key.
     Key,
+    /// A hash table of the references of all rows, by the hash of the value.
+    Built(&'w HashRefs),
+}
+
+/// How the rows of a table that have a value in a column are found.
+#[derive(Drop)]
+pub(crate) enum Way<'w> {
+    /// By a look-up for each value.
+    Lookup(Lookup<'w>),
+    /// Along a walk, where values come in ascending order.
+    Walk(Cursor),
 }
 
 /// The value of a field in the rows of a combination; none reads as 0.
@@ -33,45 +51,137 @@ fn value_of<'v>(rows: &[Option<&'v Row>], field: FieldPlace) -> Option<&'v Value
     row.values().get(field.column)
 }
 
-/// Puts the references of the rows that have this value in the column of a way, in no promised order, in the place of those
-/// that `found` has. `AllocError` where memory is refused.
-fn find_matches(
+/// A number with a shift added, if that is a number of 64 bits.
+fn shifted_number(number: i64, shift: Shift) -> Option<i64>
+    ensures { IfSome result (λ sum. sum ≡ number +ℤ added shift) }
+{
+    match shift {
+        Shift::Plus(by) => number.checked_add(by),
+        Shift::Minus(by) => number.checked_sub(by),
+    }
+}
+
+/// Puts the references of rows of a table, among them all that have this value in the column of an index, in no promised order,
+/// in the place of those that `found` has. `AllocError` where memory is refused.
+fn look_up(
     alloc: Global,
     relation: &Relation,
-    way: Way,
+    lookup: Lookup<'_>,
     value: &Value,
     found: &mut Vec<RowRef>,
 ) -> Result<(), AllocError>
-    requires { (column : ℕ) × IsWay relation.now way column }
-    ensures { OnOk result ((column : ℕ) → IsWay relation.now way column
-        → AreMatches column (slot_at relation.now.places) value.now relation.now.refs found.new.items) }
+    requires { (column : ℕ) × IsLookup relation.now lookup column }
+    ensures { OnOk result ((column : ℕ) → IsLookup relation.now lookup.entry column
+        → HaveMatches column (slot_at relation.now.places) value.now relation.now.refs found.new.items) }
 {
     relation.is_kept();
     found.clear();
-    match way {
-        Way::Hash(index) => relation.hash_matches(alloc, index, value, found)?,
-        Way::Tree(index) => relation.tree_range(alloc, index, Some(value), Some(value), found)?,
-        Way::Key => relation.key_range(alloc, Some(value), Some(value), found)?,
+    match lookup {
+        Lookup::Hash(index) => relation.hash_matches(alloc, index, value, found)?,
+        Lookup::Tree(index) => {
+            relation.tree_range(alloc, index, Some(value), Some(value), found)?
+        }
+        Lookup::Key => relation.key_range(alloc, Some(value), Some(value), found)?,
+        Lookup::Built(pairs) => pairs.matches(alloc, hash64(value), found)?,
     }
     Ok(())
 }
 
-/// Puts the references of the rows that have in the column of a way the value of a field of these rows, in no promised order,
-/// in the place of those that `found` has. `AllocError` where memory is refused.
-pub(crate) fn find_partners(
+/// A column of a table.
+#[derive(Clone, Copy)]
+pub(crate) struct ColumnOf<'s> {
+    pub store: &'s Store,
+    /// The place of the table in the store.
+    pub table: usize,
+    /// The column, counted from 0.
+    pub column: usize,
+}
+
+/// Puts the references of rows of a table, among them all that have this value in a column, in no promised order, in the place
+/// of those that `found` has. `AllocError` where memory is refused.
+fn find_matches(
     alloc: Global,
-    relation: &Relation,
-    way: Way,
-    rows: &[Option<&Row>],
-    field: FieldPlace,
+    meter: &mut Meter,
+    of: ColumnOf<'_>,
+    way: &mut Way<'_>,
+    value: &Value,
     found: &mut Vec<RowRef>,
 ) -> Result<(), AllocError>
-    requires { (column : ℕ) × IsWay relation.now way column }
-    ensures { OnOk result ((column : ℕ) → IsWay relation.now way column → AreMatches column (slot_at relation.now.places)
-        (unwrap_or (value_at (map option_copied rows.now) field) (Int (pos 0))) relation.now.refs found.new.items) }
+    requires there { of.table < length of.store.now.tables }
+    requires way { (stored : StoredRows) → IsAt of.store.now of.table stored → IsWay stored way.old of.column }
+    ensures found { OnOk result ((stored : StoredRows) → IsAt of.entry.store.now of.entry.table stored
+        → HaveMatches of.entry.column (slot_at stored.places) value.now stored.refs found.new.items) }
+    ensures way { (stored : StoredRows) → IsAt of.entry.store.now of.entry.table stored → IsWay stored way.new of.entry.column }
 {
-    match value_of(rows, field) {
-        Some(value) => find_matches(alloc, relation, way, value, found),
-        None => find_matches(alloc, relation, way, &Value::Int(0), found),
+    match way {
+        Way::Lookup(lookup) => look_up(alloc, of.store.table(of.table), *lookup, value, found),
+        Way::Walk(cursor) => cursor.find(of.store, meter, of.table, of.column, value, found),
+    }
+}
+
+/// Puts the references of all rows of a table in the place of those that `found` has. `AllocError` where memory is refused.
+fn find_all(alloc: Global, relation: &Relation, found: &mut Vec<RowRef>) -> Result<(), AllocError>
+    ensures { OnOk result ((column : ℕ) (value : AnyValue)
+        → HaveMatches column (slot_at relation.now.places) value relation.now.refs found.new.items) }
+{
+    found.clear();
+    relation.key_range(alloc, None, None, found)?;
+    Ok(())
+}
+
+/// Puts the references of rows of a table, among them all that have this number with a shift added in a column, in no promised
+/// order, in the place of those that `found` has. `AllocError` where memory is refused.
+fn find_number(
+    alloc: Global,
+    meter: &mut Meter,
+    of: ColumnOf<'_>,
+    way: &mut Way<'_>,
+    number: i64,
+    shift: Shift,
+    found: &mut Vec<RowRef>,
+) -> Result<(), AllocError>
+    requires there { of.table < length of.store.now.tables }
+    requires way { (stored : StoredRows) → IsAt of.store.now of.table stored → IsWay stored way.old of.column }
+    ensures found { OnOk result ((stored : StoredRows) → IsAt of.entry.store.now of.entry.table stored
+        → HaveMatches of.entry.column (slot_at stored.places) (Int (number +ℤ added shift)) stored.refs found.new.items) }
+    ensures way { (stored : StoredRows) → IsAt of.entry.store.now of.entry.table stored → IsWay stored way.new of.entry.column }
+{
+    match shifted_number(number, shift) {
+        Some(sum) => find_matches(alloc, meter, of, way, &Value::Int(sum), found),
+        // No row has a number past 64 bits; where all rows are taken, nothing has to rest on that.
+        None => find_all(alloc, of.store.table(of.table), found),
+    }
+}
+
+/// Puts the references of rows of a table, among them all that have in the column of a key the value that it asks for behind
+/// these rows, in no promised order, in the place of those that `found` has. `AllocError` where memory is refused.
+pub(crate) fn find_partners(
+    alloc: Global,
+    store: &Store,
+    meter: &mut Meter,
+    table: usize,
+    way: &mut Way<'_>,
+    rows: &[Option<&Row>],
+    key: JoinKey,
+    found: &mut Vec<RowRef>,
+) -> Result<(), AllocError>
+    requires there { table < length store.now.tables }
+    requires way { (stored : StoredRows) → IsAt store.now table stored → IsWay stored way.old key.column }
+    ensures found { OnOk result ((stored : StoredRows) → IsAt store.now table stored → HaveMatches key.column (slot_at stored.places)
+        (sought key (map option_copied rows.now)) stored.refs found.new.items) }
+    ensures way { (stored : StoredRows) → IsAt store.now table stored → IsWay stored way.new key.column }
+{
+    let column = key.column;
+    let of = ColumnOf {
+        store,
+        table,
+        column,
+    };
+    match value_of(rows, key.field) {
+        Some(Value::Int(number)) => {
+            find_number(alloc, meter, of, way, *number, key.shift, found)
+        }
+        Some(text) => find_matches(alloc, meter, of, way, text, found),
+        None => find_number(alloc, meter, of, way, 0, key.shift, found),
     }
 }

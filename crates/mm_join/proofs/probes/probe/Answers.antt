@@ -1,54 +1,33 @@
 use Rattle.std.proofs.Common.{◌≡◌, ◌+◌, ◌≤◌, ◌++◌, List, Option, Some, Bor, inl, inr, get_or, length, map, sym, ap, ◌∙◌, subst}
-use Rattle.std.specs.Option.{option_copied, unwrap_or}
+use Rattle.std.specs.Option.{option_copied}
 use Rattle.std.proofs.lemmas.Result.{err_from_is_err_and}
-use Rattle.std.specs.Prelude.{pos}
 use Rattle.mm_partition.specs.Places.{slot_at}
-use Rattle.mm_query.specs.Queries.{value_at}
-use Rattle.mm_relation.specs.Reads.{AreMatches}
-use Rattle.mm_select.proofs.Along.{hash_live}
 use Rattle.mm_select.proofs.Covered.{live_there}
 use Rattle.mm_select.specs.Matches.{matches}
 use Rattle.mm_templist.specs.Combos.{AreLive, Combos, rows_of_combo}
 use Rattle.mm_value.specs.declared.row_ref.RowRef.{RowRef}
-use Rattle.mm_value.specs.declared.values.Value.TheVariants.{Int}
 use Rattle.mm_join.proofs.Caps.{cap_within}
-use Rattle.mm_join.proofs.Probed.{probe_covers}
-use Rattle.mm_join.proofs.Progress.{Progress, holds_there, next_table, one_wider, progress_step, due_end, due_on_way, joined_end, live_end}
 use Rattle.mm_join.proofs.JoinSteps.{Row}
+use Rattle.mm_join.proofs.Probed.{have_live, have_step}
+use Rattle.mm_join.proofs.Progress.{Progress, holds_there, next_table, one_wider, due_end, due_on_way, joined_end, live_end}
+use Rattle.mm_join.specs.Equated.{HaveMatches, sought}
 use Rattle.mm_join.specs.Joined.{IsNext}
 use Rattle.mm_join.proofs.probes.probe.Goals as goal
-
-pub find_partners-requires : goal.find_partners-requires
-find_partners-requires c =
-    let store = c.args.store.now in
-    let outer = c.args.outer.now in
-    let relation = c.table-relation.result.now in
-    let here = c.table-relation.ensures.at in
-    let t = get_or c.args.descriptor.tables.now (length c.descriptor.result.tables.now) 0 in
-    let is = c.requires.tables in
-    let same : t ≡ is.0 = next_table c.descriptor.result.tables.now outer.tables c.args.descriptor.tables.now is.0 c.descriptor.ensures.tables is.1.0 in
-    let asked = c.requires.asked t relation (subst (IsNext store outer.tables c.args.descriptor.tables.now) (sym same) is.1) here in
-    (asked.0, asked.1)
 
 pub add_all-requires-clause-live : goal.add_all-requires-clause-live
 add_all-requires-clause-live c = λ stored at.
     let store = c.args.store.now in
     let outer = c.args.outer.now in
-    let relation = c.table-relation.result.now in
-    let here = c.table-relation.ensures.at in
+    let relation = c.table.result.now in
+    let here = c.table.ensures.at in
     let t = get_or c.args.descriptor.tables.now (length c.descriptor.result.tables.now) 0 in
-    let is = c.requires.tables in
-    let same : t ≡ is.0 = next_table c.descriptor.result.tables.now outer.tables c.args.descriptor.tables.now is.0 c.descriptor.ensures.tables is.1.0 in
-    let asked = c.requires.asked t relation (subst (IsNext store outer.tables c.args.descriptor.tables.now) (sym same) is.1) here in
+    let key = c.args.key in
     let rows = map option_copied c.choose.new.rows.items in
     let candidates = c.as_slice.result.now in
-    let are = subst (AreMatches asked.0 (slot_at relation.places) (unwrap_or (value_at rows c.args.field) (Int (pos 0))) relation.refs)
-    (sym c.as_slice.ensures.value)
-    (subst (λ (l : List (Option (Bor Row))). AreMatches asked.0 (slot_at relation.places)
-    (unwrap_or (value_at (map option_copied l) c.args.field) (Int (pos 0))) relation.refs c.find_partners.new.found.items) c.deref.ensures.value
-    (c.in_ok-find_partners.ensures asked.0 asked.1)) in
-    live_there store t relation here candidates
-    (hash_live relation c.is_kept.ensures asked.0 (unwrap_or (value_at rows c.args.field) (Int (pos 0))) candidates are) stored at
+    let have = subst (HaveMatches key.column (slot_at relation.places) (sought key rows) relation.refs) (sym c.as_slice.ensures.value)
+    (subst (λ (l : List (Option (Bor Row))). HaveMatches key.column (slot_at relation.places) (sought key (map option_copied l)) relation.refs
+    c.find_partners.new.found.items) c.deref.ensures.value (c.in_ok-find_partners.ensures.found relation here)) in
+    live_there store t relation here candidates (have_live relation c.is_kept.ensures key.column (sought key rows) candidates have) stored at
 
 pub add_all-requires-clause-wide : goal.add_all-requires-clause-wide
 add_all-requires-clause-wide c =
@@ -63,30 +42,25 @@ returns-in_err-add_all-clause-due c = λ table next.
     let p = err_from_is_err_and c.from_residual-in_err-add_all.result c.from_residual-in_err-add_all.ensures.1 in
     let store = c.args.store.now in
     let outer = c.args.outer.now in
-    let relation = c.table-relation.result.now in
-    let here = c.table-relation.ensures.at in
+    let relation = c.table.result.now in
+    let here = c.table.ensures.at in
     let t = get_or c.args.descriptor.tables.now (length c.descriptor.result.tables.now) 0 in
+    let key = c.args.key in
+    let rows = map option_copied c.choose.new.rows.items in
+    let candidates = c.as_slice.result.now in
+    let have = subst (HaveMatches key.column (slot_at relation.places) (sought key rows) relation.refs) (sym c.as_slice.ensures.value)
+    (subst (λ (l : List (Option (Bor Row))). HaveMatches key.column (slot_at relation.places) (sought key (map option_copied l)) relation.refs
+    c.find_partners.new.found.items) c.deref.ensures.value (c.in_ok-find_partners.ensures.found relation here)) in
     let is = c.requires.tables in
     let same : t ≡ is.0 = next_table c.descriptor.result.tables.now outer.tables c.args.descriptor.tables.now is.0 c.descriptor.ensures.tables is.1.0 in
     let asked = c.requires.asked t relation (subst (IsNext store outer.tables c.args.descriptor.tables.now) (sym same) is.1) here in
-    let rows = map option_copied c.choose.new.rows.items in
-    let candidates = c.as_slice.result.now in
-    let are = subst (AreMatches asked.0 (slot_at relation.places) (unwrap_or (value_at rows c.args.field) (Int (pos 0))) relation.refs)
-    (sym c.as_slice.ensures.value)
-    (subst (λ (l : List (Option (Bor Row))). AreMatches asked.0 (slot_at relation.places)
-    (unwrap_or (value_at (map option_copied l) c.args.field) (Int (pos 0))) relation.refs c.find_partners.new.found.items) c.deref.ensures.value
-    (c.in_ok-find_partners.ensures asked.0 asked.1)) in
     let front = c.combo-front.result.now in
     let chosen : rows ≡ map Some (rows_of_combo store outer.tables front) =
     c.in_ok-choose.ensures ∙ ap (λ ts. map Some (rows_of_combo store ts front)) c.descriptor.ensures.tables in
-    let covers = probe_covers store t relation here c.is_kept.ensures c.args.atoms.now c.args.way asked.0 asked.1 outer.tables front
-    (holds_there outer.combos c.loop-i.i front c.combo-front.ensures (AreLive store outer.tables) c.requires.live) c.args.field asked.2 rows chosen
-    candidates are in
     let tried : List (List RowRef) = c.loop-i.list.combos ++ matches store t c.args.atoms.now rows front candidates in
     let step : Progress store outer.tables t c.args.atoms.now outer.combos (c.loop-i.i + 1) tried =
-    progress_step store outer.tables t c.args.atoms.now outer.combos c.loop-i.i c.loop-i.list.combos front rows candidates relation c.requires.live
-    c.combo-front.ensures chosen here (hash_live relation c.is_kept.ensures asked.0 (unwrap_or (value_at rows c.args.field) (Int (pos 0))) candidates are)
-    covers c.loop-i.invariant.progress in
+    have_step store outer.tables t c.args.atoms.now outer.combos relation here c.is_kept.ensures c.requires.live key asked.1 c.loop-i.i
+    c.loop-i.list.combos front rows candidates c.combo-front.ensures chosen have c.loop-i.invariant.progress in
     let wanted : t ≡ table = next_table c.descriptor.result.tables.now outer.tables c.args.descriptor.tables.now table c.descriptor.ensures.tables next.0 in
     rw (p.1, p.2) (elim c.in_err-add_all.ensures.due [
       | inl due ↦ inl (due_on_way store outer c.args.descriptor.tables.now c.args.atoms.now table t wanted next.0 c.args.cap (c.loop-i.i + 1) tried _ step due)
@@ -97,35 +71,31 @@ pub loop-i-preserved : goal.loop-i-preserved
 loop-i-preserved c =
     let store = c.args.store.now in
     let outer = c.args.outer.now in
-    let relation = c.table-relation.result.now in
-    let here = c.table-relation.ensures.at in
+    let relation = c.table.result.now in
+    let here = c.table.ensures.at in
     let t = get_or c.args.descriptor.tables.now (length c.descriptor.result.tables.now) 0 in
+    let key = c.args.key in
+    let rows = map option_copied c.choose.new.rows.items in
+    let candidates = c.as_slice.result.now in
+    let have = subst (HaveMatches key.column (slot_at relation.places) (sought key rows) relation.refs) (sym c.as_slice.ensures.value)
+    (subst (λ (l : List (Option (Bor Row))). HaveMatches key.column (slot_at relation.places) (sought key (map option_copied l)) relation.refs
+    c.find_partners.new.found.items) c.deref.ensures.value (c.in_ok-find_partners.ensures.found relation here)) in
     let is = c.requires.tables in
     let same : t ≡ is.0 = next_table c.descriptor.result.tables.now outer.tables c.args.descriptor.tables.now is.0 c.descriptor.ensures.tables is.1.0 in
     let asked = c.requires.asked t relation (subst (IsNext store outer.tables c.args.descriptor.tables.now) (sym same) is.1) here in
-    let rows = map option_copied c.choose.new.rows.items in
-    let candidates = c.as_slice.result.now in
-    let are = subst (AreMatches asked.0 (slot_at relation.places) (unwrap_or (value_at rows c.args.field) (Int (pos 0))) relation.refs)
-    (sym c.as_slice.ensures.value)
-    (subst (λ (l : List (Option (Bor Row))). AreMatches asked.0 (slot_at relation.places)
-    (unwrap_or (value_at (map option_copied l) c.args.field) (Int (pos 0))) relation.refs c.find_partners.new.found.items) c.deref.ensures.value
-    (c.in_ok-find_partners.ensures asked.0 asked.1)) in
     let front = c.combo-front.result.now in
     let chosen : rows ≡ map Some (rows_of_combo store outer.tables front) =
     c.in_ok-choose.ensures ∙ ap (λ ts. map Some (rows_of_combo store ts front)) c.descriptor.ensures.tables in
-    let covers = probe_covers store t relation here c.is_kept.ensures c.args.atoms.now c.args.way asked.0 asked.1 outer.tables front
-    (holds_there outer.combos c.loop-i.i front c.combo-front.ensures (AreLive store outer.tables) c.requires.live) c.args.field asked.2 rows chosen
-    candidates are in
     let tried : List (List RowRef) = c.loop-i.list.combos ++ matches store t c.args.atoms.now rows front candidates in
     let step : Progress store outer.tables t c.args.atoms.now outer.combos (c.loop-i.i + 1) tried =
-    progress_step store outer.tables t c.args.atoms.now outer.combos c.loop-i.i c.loop-i.list.combos front rows candidates relation c.requires.live
-    c.combo-front.ensures chosen here (hash_live relation c.is_kept.ensures asked.0 (unwrap_or (value_at rows c.args.field) (Int (pos 0))) candidates are)
-    covers c.loop-i.invariant.progress in
+    have_step store outer.tables t c.args.atoms.now outer.combos relation here c.is_kept.ensures c.requires.live key asked.1 c.loop-i.i
+    c.loop-i.list.combos front rows candidates c.combo-front.ensures chosen have c.loop-i.invariant.progress in
     record {
       tables = ap (λ (list : Combos). list.tables) c.in_ok-add_all.ensures.list ∙ c.loop-i.invariant.tables;
       fields = ap (λ (list : Combos). list.fields) c.in_ok-add_all.ensures.list ∙ c.loop-i.invariant.fields;
       few = subst (λ (list : Combos). length list.combos ≤ c.args.cap) (sym c.in_ok-add_all.ensures.list)
           (cap_within c.args.cap tried c.in_ok-add_all.ensures.due);
+      way = c.find_partners.ensures.way;
       progress = subst (λ (list : Combos). Progress store outer.tables t c.args.atoms.now outer.combos (c.loop-i.i + 1) list.combos)
           (sym c.in_ok-add_all.ensures.list) step;
     }

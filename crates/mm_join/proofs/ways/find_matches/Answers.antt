@@ -1,22 +1,30 @@
-use Rattle.std.proofs.Common.{Some, subst}
+use Rattle.std.proofs.Common.{sym, ◌∙◌, subst}
 use Rattle.mm_partition.specs.Places.{slot_at}
-use Rattle.mm_relation.specs.Reads.{AreMatches, IsRange}
-use Rattle.mm_select.proofs.Along.{appended}
-use Rattle.mm_join.proofs.Probed.{range_matches}
-use Rattle.mm_join.specs.Equated.{IsWay}
+use Rattle.mm_relation.specs.Kept.{StoredRows}
+use Rattle.mm_relation.specs.Reads.{IsWalk}
+use Rattle.mm_join.specs.Equated.{HaveMatches}
+use Rattle.mm_join.specs.Ways.{IsWay}
+use Rattle.mm_join.proofs.Success.{on_success}
+use Rattle.mm_store.proofs.Joining.{one_relation}
 use Rattle.mm_join.proofs.ways.find_matches.Goals as goal
 
-pub returns-in_ok-hash_matches-in-Hash : goal.returns-in_ok-hash_matches-in-Hash
-returns-in_ok-hash_matches-in-Hash c = λ column has.
-    let stored = c.args.relation.now in
-    appended (AreMatches column (slot_at stored.places) c.args.value.now stored.refs) c.clear.new.self.items c.hash_matches.new.out.items
-    c.clear.ensures.items
-    (c.in_ok-hash_matches-in-Hash.ensures.ok column (subst (λ w. IsWay stored w column) c.in-Hash.is has))
+pub look_up-requires : goal.look_up-requires
+look_up-requires c =
+    let stored = c.table.result.now in
+    (c.args.of.column, subst (λ w. IsWay stored w c.args.of.column) c.in-Lookup.is (c.requires.way stored c.table.ensures.at))
 
-pub returns-in_ok-tree_range-in-Tree : goal.returns-in_ok-tree_range-in-Tree
-returns-in_ok-tree_range-in-Tree c = λ column has.
-    let stored = c.args.relation.now in
-    range_matches column stored c.args.value.now c.tree_range.new.out.items
-    (appended (IsRange column stored (Some c.args.value.now) (Some c.args.value.now)) c.clear.new.self.items c.tree_range.new.out.items
-    c.clear.ensures.items
-    (c.in_ok-tree_range-in-Tree.ensures.ok column (subst (λ w. IsWay stored w column) c.in-Tree.is has)))
+pub find-requires-clause-walk : goal.find-requires-clause-walk
+find-requires-clause-walk c = λ stored here. subst (λ w. IsWay stored w c.args.of.column) c.in-Walk.is (c.requires.way stored here)
+
+pub returns-in-Lookup-clause-found : goal.returns-in-Lookup-clause-found
+returns-in-Lookup-clause-found c =
+    let relation = c.table.result.now in
+    on_success _ _ c.look_up.result c.look_up.ensures (λ found. λ stored here.
+    subst (λ (s : StoredRows). HaveMatches c.args.of.column (slot_at s.places) c.args.value.now s.refs c.look_up.new.found.items)
+    (one_relation relation stored (sym c.table.ensures.at ∙ here))
+    (found c.args.of.column (subst (λ w. IsWay relation w c.args.of.column) c.in-Lookup.is (c.requires.way relation c.table.ensures.at))))
+
+pub returns-in-Walk-clause-way : goal.returns-in-Walk-clause-way
+returns-in-Walk-clause-way c = λ stored here.
+    subst (IsWalk c.args.of.column stored) (sym c.find.ensures.walk)
+    (subst (λ w. IsWay stored w c.args.of.column) c.in-Walk.is (c.requires.way stored here))

@@ -1,0 +1,16 @@
+use Rattle.std.proofs.Common.{◌≡◌, ◌≤◌, ◌++◌, length, map}
+use Rattle.std.specs.List.Sorted.{IsPermutation}
+use Rattle.mm_partition.specs.Places.{slot_at}
+use Rattle.mm_relation.specs.Kept.{StoredRows}
+use Rattle.mm_store.specs.Tables.{IsAt}
+use Rattle.mm_join.specs.Ways.{hashed_row}
+use Rattle.mm_join.proofs.built.hashed_rows.Given as goal
+
+-- the pairs of the rows so far are held, and for those of the others there is room
+abbrev pub invariant-loop-at : goal.invariant-loop-at
+invariant-loop-at l = record {
+  split : l.initial.at-iterator ≡ l.yielded ++ l.at-iterator;
+  pairs : (stored : StoredRows) → IsAt l.store l.table stored
+      → IsPermutation l.pairs.entries (map (hashed_row l.column (slot_at stored.places)) l.yielded);
+  spare : length l.at-iterator ≤ l.pairs.spare;
+}
