@@ -1,10 +1,11 @@
 -- Joining the tables of a query, one after another.
 use Rattle.std.proofs.Common.{◌≡◌, ◌≢◌, ◌⊎◌, inl, inr, IfErr, IfOk, IsPermutation, Result, Ok, Err, ℕ, suc, ◌+◌, ◌*◌, ◌<◌, ◌≤◌, Bool, true, false, cond, nat_lt, List, [], ◌∷◌, ◌++◌, Some, None, All, length, map, get_or, take, append_assoc, refl, sym, ap, ◌∙◌, subst, arith}
+use Rattle.std.proofs.lemmas.Bool.{cases_eq}
 use Rattle.std.proofs.lemmas.Bool.Decides.{nat_tests}
 use Rattle.std.proofs.lemmas.Nat.{mul-le}
 use Rattle.std.proofs.lemmas.List.{append-nil, length-map, map-append}
 use Rattle.std.proofs.lemmas.List.Elements.{All-cons, All-head, All-nil, All-tail}
-use Rattle.std.proofs.lemmas.List.Sorted.{IsPermutation-refl, IsPermutation-trans, length_permutation}
+use Rattle.std.proofs.lemmas.List.Sorted.{IsPermutation-refl, IsPermutation-sym, IsPermutation-trans, length_permutation}
 use Rattle.mm_join.specs.Caps.{cap_conditions}
 use Rattle.mm_join.specs.Joined.{joined}
 use Rattle.mm_join.proofs.JoinSteps.{joined_fitting}
@@ -156,6 +157,10 @@ not_refused n due = by (nat_lt 1048576 n) refl due
     by true more due = absurd (none_is_some ResultTooLarge (sym due))
     by false few due = grind (arith, nat_tests, few)
 
+front_there : (P : ℕ → Type 0) (first rest : List ℕ) → All P (first ++ rest) → All P first
+front_there P [] rest all = All-nil P
+front_there P (t ∷ first) rest all = All-cons P t first (All-head P t (first ++ rest) all) (front_there P first rest (All-tail P t (first ++ rest) all))
+
 -- how many combinations the join of the next table may give
 abbrev pub IsCap : ℕ → List ℕ → List ℕ → Type 0
 IsCap cap first tables =
@@ -167,12 +172,19 @@ module _ (store : Tables) (query : BoundQuery) (tables : List ℕ) (list : Combo
   pub split : Splits store list.tables tables
   split = splits store list.tables tables all begun.rest begun.first (λ same. omega (arith, left, same))
 
+  -- It is the table behind those of the list.
+  pub next_is : get_or tables (length list.tables) 0 ≡ split.next
+  next_is = ap (λ ts. get_or ts (length list.tables) 0) split.is ∙ behind_is list.tables split.next split.later
+
+  -- The tables of the list are there.
+  pub outers_there : All (λ t. t < length store.tables) list.tables
+  outers_there = front_there (λ t. t < length store.tables) list.tables begun.rest (subst (All (λ t. t < length store.tables)) begun.first all)
+
   abbrev given : List (List (List Value))
   given = found store query list begun.fitting split.next
 
   few_next : length (rows_at store.tables split.next) ≤ 1048576
-  few_next = subst (λ t. length (rows_at store.tables t) ≤ 1048576)
-      (ap (λ ts. get_or ts (length list.tables) 0) split.is ∙ behind_is list.tables split.next split.later) few_rows
+  few_next = subst (λ t. length (rows_at store.tables t) ≤ 1048576) next_is few_rows
 
   last : length list.tables + 1 ≡ length tables → tables ≡ list.tables ++ split.next ∷ []
   last same = split.is ∙ ap (λ later. list.tables ++ split.next ∷ later)
@@ -268,3 +280,48 @@ none_left store query tables list begun none = by begun.rest begun.first
         shorter : (first : List ℕ) → length (first ++ t ∷ rest) ≤ length first → ⊥
         shorter [] less = omega (arith, less)
         shorter (f ∷ first) less = shorter first (omega (arith, less))
+
+-- ---- the first table
+
+within_cap : (cap n : ℕ) → n ≤ cap → cond (nat_lt cap n) (Some ResultTooLarge) None ≡ None
+within_cap cap n few =
+    let not_more : nat_lt cap n ≡ false = grind (arith, nat_tests, few) in
+    ap (λ b. cond b (Some ResultTooLarge) None) not_more
+
+module _ (store : Tables) (query : BoundQuery) (tables : List ℕ) (all : All (λ t. t < length store.tables) tables) (short : length tables ≤ 4)
+    (some : 0 < length tables) (few_rows : length (rows_at store.tables (get_or tables 0 0)) ≤ 1048576) where
+  abbrev unit : Combos
+  unit = record { tables = []; fields = query.fields; combos = [] ∷ [] }
+
+  abbrev none_yet : IsBegun store query tables unit
+  none_yet = begins store query tables
+
+  abbrev first : Splits store [] tables
+  first = split store query tables unit none_yet all short some few_rows
+
+  abbrev alone : List (List (List Value))
+  alone = given store query tables unit none_yet all short some few_rows
+
+  few_alone : length alone ≤ 1048576
+  few_alone =
+      let most = bounded_behind store query unit none_yet.fitting first.next
+      (few_next store query tables unit none_yet all short some few_rows) none_yet.bounded in
+      omega (arith, most)
+
+  cap_of : (1 ≡ length tables) ⊎ (1 ≡ length tables → ⊥) → (cap : ℕ) × IsCap cap [] tables × (1048576 ≤ cap)
+  cap_of (inl one) = (1048576, inl (one, refl), omega (arith))
+  cap_of (inr more) = (18446744073709551615, inr (more, refl), omega (arith))
+
+  -- A list of the rows of the first table that fit is what joins go on from.
+  pub first_begun : (list : Combos) → AreFitting store query.atoms list → All (AreLive store list.tables) list.combos → list.tables ≡ take 1 tables
+      → list.fields ≡ query.fields → IsBegun store query tables list
+  first_begun list fits live at fields =
+      let cap = cap_of (cases_eq 1 (length tables)) in
+      let is : list.tables ≡ first.next ∷ [] = at ∙ first.front in
+      let behind = fits_behind store query unit none_yet.fitting first.next in
+      let same : IsPermutation (combo_rows store list) alone =
+      IsPermutation-trans (combo_rows store list) (fitting query.atoms (map (rows_at store.tables) (first.next ∷ []))) alone
+      (subst (λ ts. IsPermutation (combo_rows store list) (fitting query.atoms (map (rows_at store.tables) ts))) is fits)
+      (IsPermutation-sym alone (fitting query.atoms (map (rows_at store.tables) (first.next ∷ []))) behind) in
+      goes_on store query tables unit none_yet all short some few_rows cap.0 cap.1 (Ok list)
+      (within_cap cap.0 (length alone) (omega (arith, few_alone, cap.2))) same live is fields

@@ -1,2 +1,3 @@
 mod Bounds
 mod Joining
+pub mod Referred

@@ -4,6 +4,7 @@
 //! A call that may take memory is handed the allocator; no other call takes any.
 #![tactic(auto)]
 
+mod access;
 mod first;
 mod from;
 mod further;
@@ -11,7 +12,8 @@ mod joins;
 mod planner;
 mod planning;
 mod run;
+mod ways;
 
 pub use from::places_of;
 pub use planning::plan;
-pub use run::run_query;
+pub use run::run_plan;

@@ -25,6 +25,19 @@ pub(crate) fn explain_query(
     ensures lines { IfOk result (λ lines. lines ≡ plan_in (record { schema = catalog.now; rows = instance_of store.now.tables }) query.now) }
 {
     bind_query(alloc, catalog, query)?;
+    plan_now(alloc, catalog, store, query)
+}
+
+/// The plan of a query by the row counts of the tables as they are. `Memory` is the only refusal.
+pub(crate) fn plan_now(
+    alloc: Global,
+    catalog: &Catalog,
+    store: &Store,
+    query: &Query,
+) -> Result<ItemList<PlanLine>, Refusal>
+    ensures lines { IfOk result (λ lines. lines ≡ plan_in (record { schema = catalog.now; rows = instance_of store.now.tables }) query.now) }
+    ensures memory { IfErr result (λ refusal. refusal ≡ Memory) }
+{
     let counts = row_counts(alloc, store)?;
     plan(alloc, catalog, counts.as_slice(), query)
 }

@@ -4,15 +4,16 @@ ghost use Rattle.mm_query.specs.Resolving.{select_conditions, selected};
 ghost use Rattle.mm_schema.specs.Refused.{AnswersDue, first_refusal};
 ghost use Rattle.mmdb_core.specs.steps.Database.{AreOf, instance_of};
 
-use mm_plan::{places_of, run_query};
+use crate::explain::plan_now;
+use mm_plan::{places_of, run_plan};
 use mm_query::{Query, bind_query};
 use mm_schema::Catalog;
 use mm_store::{Meter, Store};
 use mm_value::{Refusal, Row};
 use std::alloc::Global;
 
-/// The rows that a query gives, in their order. The first refusal that is due is answered: those of [`bind_query`] and
-/// [`run_query`]; or `Memory` in its place or in that of success.
+/// The rows that a query gives, in their order, found by its plan. The first refusal that is due is answered: those of
+/// [`bind_query`] and [`run_plan`]; or `Memory` in its place or in that of success.
 pub(crate) fn select_rows(
     alloc: Global,
     catalog: &Catalog,
@@ -25,8 +26,16 @@ pub(crate) fn select_rows(
 {
     let bound = bind_query(alloc, catalog, query)?;
     let tables = places_of(alloc, catalog, bound.from.as_slice())?;
+    let plan = plan_now(alloc, catalog, store, query)?;
     let mut meter = Meter::new();
-    let list = run_query(alloc, store, &mut meter, &bound, tables.as_slice())?;
+    let list = run_plan(
+        alloc,
+        store,
+        &mut meter,
+        &bound,
+        tables.as_slice(),
+        plan.as_slice(),
+    )?;
     let rows = list.project_sorted(
         alloc,
         store,

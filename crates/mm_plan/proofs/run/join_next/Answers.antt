@@ -1,12 +1,40 @@
-use Rattle.std.proofs.Common.{◌≡◌, ◌+◌, ◌≤◌, ◌++◌, [], ◌∷◌, IfOk, IsPermutation, inl, inr, get_or, length, take, ap, ◌∙◌, subst}
+use Rattle.std.proofs.Common.{◌≡◌, ◌+◌, ◌<◌, ◌≤◌, ◌++◌, [], ◌∷◌, IfOk, IsPermutation, inl, inr, get_or, length, take, sym, ap, ◌∙◌, subst}
+use Rattle.std.specs.List.{All}
 use Rattle.mm_join.specs.Caps.{cap_conditions}
-use Rattle.mm_join.specs.Joined.{IsNext, joined}
-use Rattle.mm_plan.proofs.Joining.{IsCap, few_at, goes_on, of_next, refused, split}
+use Rattle.mm_join.specs.Joined.{joined}
+use Rattle.mm_plan.proofs.Joining.{IsCap, few_at, goes_on, next_is, outers_there, refused, split}
 use Rattle.mm_plan.proofs.run.join_next.Goals as goal
 use Rattle.mm_plan.proofs.run.join_next.Goals.{then-is_last, else-is_last}
 use Rattle.mm_schema.specs.Refused.{AnswersDue, first_refusal}
 use Rattle.mm_store.specs.Tables.{rows_at}
 use Rattle.mm_templist.specs.Combos.{Combos, combo_rows}
+
+pub way-way-requires-clause-outers : goal.way-way-requires-clause-outers
+way-way-requires-clause-outers c =
+    let store = c.args.store.now in
+    let tables = c.args.tables.now in
+    let list = c.args.list.now in
+    let joins = c.descriptor.ensures.tables in
+    let few = subst (λ ts. length (rows_at store.tables (get_or tables (length ts) 0)) ≤ 1048576) joins
+    (few_at store _ _ c.table.ensures.at c.table.ensures.few) in
+    subst (All (λ t. t < length store.tables)) (sym joins)
+    (outers_there store c.args.query.now tables list c.requires.begun c.requires.there c.requires.few c.requires.left few)
+
+pub join-requires-clause-tables : goal.join-requires-clause-tables
+join-requires-clause-tables c =
+    let store = c.args.store.now in
+    let query = c.args.query.now in
+    let tables = c.args.tables.now in
+    let list = c.args.list.now in
+    let joins = c.descriptor.ensures.tables in
+    let few = subst (λ ts. length (rows_at store.tables (get_or tables (length ts) 0)) ≤ 1048576) joins
+    (few_at store _ _ c.table.ensures.at c.table.ensures.few) in
+    let s = split store query tables list c.requires.begun c.requires.there c.requires.few c.requires.left few in
+    let at : get_or tables (length c.descriptor.result.tables.now) 0 ≡ s.next =
+    ap (λ ts. get_or tables (length ts) 0) joins ∙ next_is store query tables list c.requires.begun c.requires.there c.requires.few c.requires.left few in (
+      ap (λ ts. take (length ts + 1) tables) joins ∙ (s.front ∙ ap (λ t. list.tables ++ t ∷ []) (sym at)),
+      subst (λ t. t < length store.tables) (sym at) s.there,
+    )
 
 pub returns-clause-due : goal.returns-clause-due
 returns-clause-due c =
@@ -23,11 +51,14 @@ returns-clause-due c =
     let few = subst (λ ts. length (rows_at store.tables (get_or tables (length ts) 0)) ≤ 1048576) joins
     (few_at store _ _ c.table.ensures.at c.table.ensures.few) in
     let s = split store query tables list c.requires.begun c.requires.there c.requires.few c.requires.left few in
-    let front : take (length c.descriptor.result.tables.now + 1) tables ≡ list.tables ++ s.next ∷ [] =
-    ap (λ ts. take (length ts + 1) tables) joins ∙ s.front in
-    let due = subst (λ atoms. AnswersDue (first_refusal (cap_conditions c.if-is_last.cap
-    (joined atoms (combo_rows store list) (rows_at store.tables s.next)))) c.nested_loops.result) c.as_slice-atoms.ensures (c.nested_loops.ensures.due s.next (front, s.there)) in
-    refused store query tables list c.requires.begun c.requires.there c.requires.few c.requires.left few c.if-is_last.cap cap c.nested_loops.result due
+    let at : get_or tables (length c.descriptor.result.tables.now) 0 ≡ s.next =
+    ap (λ ts. get_or tables (length ts) 0) joins ∙ next_is store query tables list c.requires.begun c.requires.there c.requires.few c.requires.left few in
+    let due = subst (λ t. AnswersDue (first_refusal (cap_conditions c.if-is_last.cap
+    (joined query.atoms (combo_rows store list) (rows_at store.tables t)))) c.join.result) at
+    (subst (λ atoms. AnswersDue (first_refusal (cap_conditions c.if-is_last.cap
+    (joined atoms (combo_rows store list) (rows_at store.tables (get_or tables (length c.descriptor.result.tables.now) 0))))) c.join.result)
+    c.as_slice-2.ensures c.join.ensures.due) in
+    refused store query tables list c.requires.begun c.requires.there c.requires.few c.requires.left few c.if-is_last.cap cap c.join.result due
 
 pub returns-clause-begun : goal.returns-clause-begun
 returns-clause-begun c =
@@ -44,16 +75,21 @@ returns-clause-begun c =
     let few = subst (λ ts. length (rows_at store.tables (get_or tables (length ts) 0)) ≤ 1048576) joins
     (few_at store _ _ c.table.ensures.at c.table.ensures.few) in
     let s = split store query tables list c.requires.begun c.requires.there c.requires.few c.requires.left few in
+    let at : get_or tables (length c.descriptor.result.tables.now) 0 ≡ s.next =
+    ap (λ ts. get_or tables (length ts) 0) joins ∙ next_is store query tables list c.requires.begun c.requires.there c.requires.few c.requires.left few in
     let front : take (length c.descriptor.result.tables.now + 1) tables ≡ list.tables ++ s.next ∷ [] =
     ap (λ ts. take (length ts + 1) tables) joins ∙ s.front in
-    let due = subst (λ atoms. AnswersDue (first_refusal (cap_conditions c.if-is_last.cap
-    (joined atoms (combo_rows store list) (rows_at store.tables s.next)))) c.nested_loops.result) c.as_slice-atoms.ensures (c.nested_loops.ensures.due s.next (front, s.there)) in
-    let same = subst (λ atoms. IfOk c.nested_loops.result (λ (l : Combos). IsPermutation (combo_rows store l)
-    (joined atoms (combo_rows store list) (rows_at store.tables s.next)))) c.as_slice-atoms.ensures
-    (of_next (IsNext store list.tables (take (length c.descriptor.result.tables.now + 1) tables))
-    (λ t (l : Combos). IsPermutation (combo_rows store l) (joined c.as_slice-atoms.result.now (combo_rows store list) (rows_at store.tables t)))
-    s.next (front, s.there) c.nested_loops.result c.nested_loops.ensures.joined) in
-    goes_on store query tables list c.requires.begun c.requires.there c.requires.few c.requires.left few c.if-is_last.cap cap c.nested_loops.result due same
-    c.nested_loops.ensures.live
-    (subst (λ ts. IfOk c.nested_loops.result (λ (l : Combos). l.tables ≡ ts)) front c.nested_loops.ensures.tables)
-    (subst (λ fs. IfOk c.nested_loops.result (λ (l : Combos). l.fields ≡ fs)) c.as_slice.ensures c.nested_loops.ensures.fields)
+    let due = subst (λ t. AnswersDue (first_refusal (cap_conditions c.if-is_last.cap
+    (joined query.atoms (combo_rows store list) (rows_at store.tables t)))) c.join.result) at
+    (subst (λ atoms. AnswersDue (first_refusal (cap_conditions c.if-is_last.cap
+    (joined atoms (combo_rows store list) (rows_at store.tables (get_or tables (length c.descriptor.result.tables.now) 0))))) c.join.result)
+    c.as_slice-2.ensures c.join.ensures.due) in
+    let same = subst (λ t. IfOk c.join.result (λ (l : Combos). IsPermutation (combo_rows store l)
+    (joined query.atoms (combo_rows store list) (rows_at store.tables t)))) at
+    (subst (λ atoms. IfOk c.join.result (λ (l : Combos). IsPermutation (combo_rows store l)
+    (joined atoms (combo_rows store list) (rows_at store.tables (get_or tables (length c.descriptor.result.tables.now) 0)))))
+    c.as_slice-2.ensures c.join.ensures.joined) in
+    goes_on store query tables list c.requires.begun c.requires.there c.requires.few c.requires.left few c.if-is_last.cap cap c.join.result due same
+    c.join.ensures.live
+    (subst (λ ts. IfOk c.join.result (λ (l : Combos). l.tables ≡ ts)) front c.join.ensures.tables)
+    (subst (λ fs. IfOk c.join.result (λ (l : Combos). l.fields ≡ fs)) c.as_slice.ensures c.join.ensures.fields)

@@ -9,8 +9,8 @@ use Rattle.mm_templist.specs.Results.{result_rows}
 use Rattle.mmdb_core.proofs.Selecting.{all_there, due_of, rows_of_list}
 use Rattle.mmdb_core.proofs.select.select_rows.Goals as goal
 
-pub run_query-requires-clause-there : goal.run_query-requires-clause-there
-run_query-requires-clause-there c =
+pub run_plan-requires-clause-there : goal.run_plan-requires-clause-there
+run_plan-requires-clause-there c =
     let schema = c.args.catalog.now in
     let store = c.args.store.now in
     let query = c.args.query.now in
@@ -60,6 +60,6 @@ returns-clause-rows c =
     let there : list_any (λ (item : FromItem). lacks_table item.table schema) query.from ≡ false =
     subst (λ (b : BoundQuery). list_any (λ (item : FromItem). lacks_table item.table schema) b.from ≡ false) bound_is c.in_ok-bound.ensures.within.tables in
     c.in_ok-rows.ensures.ok
-    ∙ (ap (result_rows store c.in_ok-list.list c.in_ok-bound.bound.distinct) c.as_slice-3.ensures
+    ∙ (ap (result_rows store c.in_ok-list.list c.in_ok-bound.bound.distinct) c.as_slice-4.ensures
     ∙ rows_of_list schema store c.requires query c.in_ok-bound.ensures.due there c.in_ok-bound.bound bound_is c.as_slice-2.result.now tables_are c.in_ok-list.list
     c.in_ok-list.ensures.tables c.in_ok-list.ensures.fields c.in_ok-list.ensures.fitting)

@@ -1,6 +1,6 @@
 use Rattle.std.proofs.Common.{◌-◌, length}
 use Rattle.mm_plan.specs.Begun.{IsBegun}
-use Rattle.mm_plan.proofs.run.run_query.Given as goal
+use Rattle.mm_plan.proofs.run.run_plan.Given as goal
 
 -- the tables that are left become fewer
 abbrev pub decreases-loop-alloc : goal.decreases-loop-alloc
