@@ -1,12 +1,13 @@
 //! The text of replies.
-ghost use Rattle.std.specs.Prelude.{◌≡◌, ℕ, false, List, IsTrue, [], ◌∷◌, ◌++◌, codes, decimal};
+ghost use Rattle.std.specs.Prelude.{◌≡◌, ◌⊎◌, ℕ, false, List, IsTrue, [], ◌∷◌, ◌++◌, codes, decimal};
 ghost use Rattle.std.specs.Char.{is_ascii_digit};
 ghost use Rattle.mm_value.specs.Device.{Writes};
 ghost use Rattle.mm_value.specs.Watched.{has_failed};
 ghost use Rattle.mm_value.specs.declared.refusal.Refusal.{Refusal};
 ghost use Rattle.mm_value.specs.Written.{row_text};
 ghost use Rattle.mm_query.specs.declared.reply.Reply.{Reply};
-ghost use Rattle.mm_query.specs.declared.reply.Reply.TheVariants.{Refused};
+ghost use Rattle.mm_query.specs.declared.plan_line.PlanLine.{PlanLine as AnyLine};
+ghost use Rattle.mm_query.specs.declared.reply.Reply.TheVariants.{Refused, Steps};
 ghost use Rattle.mm_lang.specs.ReplyText.{HasNames, index_text, line_text, reply_text, rows_text, steps_text, way_text};
 
 use itoa::Buffer;
@@ -44,13 +45,16 @@ pub fn write_rows<W: Write>(rows: &[Row], writer: &mut Watched<W>) -> Result<(),
 }
 
 /// A reader of replies can tell lines and refusals: each reply ends with a line feed, and just the refusals begin
-/// with `error ` and a digit. A line of a plan may be of an alias `error`; behind it stands a letter.
+/// with `error ` and a digit. Of other replies only a plan may begin with `error `, where its first alias is that; behind it
+/// stands a letter.
 pub fn replies_are_told_apart()
     ensures line_feed { (reply : Reply) → (front : List ℕ) × (reply_text reply ≡ front ++ 10 ∷ []) }
     ensures refusals { (refusal : Refusal) → (digit : ℕ) × (rest : List ℕ) × IsTrue (is_ascii_digit digit)
         × (reply_text (Refused refusal) ≡ codes "error " ++ digit ∷ rest) }
     ensures only_refusals { (reply : Reply) (digit : ℕ) (rest : List ℕ) → HasNames reply → IsTrue (is_ascii_digit digit)
         → reply_text reply ≡ codes "error " ++ digit ∷ rest → (refusal : Refusal) × (reply ≡ Refused refusal) }
+    ensures or_plans { (reply : Reply) (rest : List ℕ) → reply_text reply ≡ codes "error " ++ rest
+        → ((refusal : Refusal) × (reply ≡ Refused refusal)) ⊎ ((steps : List AnyLine) × (reply ≡ Steps steps)) }
 {}
 
 /// Writes the line of a row in a reply of rows. Takes no memory. After `WriteFault` the writer has failed, and a front of

@@ -1,10 +1,11 @@
-use Rattle.std.proofs.Common.{◌+◌, ◌/◌, ◌%◌, ◌^◌, ◌<◌, ◌≤◌, sym, ◌∙◌, ◌≡◌, ◌≢◌, true, List, ℕ, [], ◌∷◌, ◌++◌, codes, decimal, length, get_or, refl, ap, arith}
+use Rattle.std.proofs.Common.{◌+◌, ◌/◌, ◌%◌, ◌^◌, ◌<◌, ◌≤◌, sym, ◌∙◌, ◌≡◌, ◌≢◌, ◌⊎◌, inl, inr, true, List, ℕ, [], ◌∷◌, ◌++◌, codes, decimal, length, get_or, refl, ap, arith}
 use Rattle.std.proofs.lemmas.Fmt.{decimal_digit, decimal_step}
 use Rattle.std.specs.Char.{is_ascii_digit}
 use Rattle.std.specs.List.{flat_map}
 use Rattle.mm_value.specs.Refusals.{refusal_number, refusal_text}
 use Rattle.mm_value.specs.declared.refusal.Refusal.{Refusal}
 use Rattle.mm_value.specs.declared.refusal.Refusal.TheVariants.{LineTooLong, Syntax, NumberOutOfRange, TextTooLong, NoSuchTable, NoSuchColumn, NoSuchIndex, NoSuchStandingQuery, NameTaken, AliasTaken, NoSuchAlias, TypeMismatch, WrongNumberOfValues, ArithmeticOutOfRange, DuplicateKey, NoTargetRow, RowIsReferenced, InUse, TableFull, ResultTooLarge, StandingListTooLarge, TooMany, TransactionOpen, NoTransaction, NotInTransaction, Memory}
+use Rattle.mm_query.specs.declared.plan_line.PlanLine.{PlanLine}
 use Rattle.mm_query.specs.declared.reply.Reply.{Reply}
 use Rattle.mm_query.specs.declared.reply.Reply.TheVariants.{Done, Count, Rows, Steps, Refused}
 use Rattle.mm_lang.specs.ReplyText.{HasNames, line_text, reply_text}
@@ -81,3 +82,15 @@ returns-clause-refusals c = numbered
 
 pub returns-clause-only_refusals : goal.returns-clause-only_refusals
 returns-clause-only_refusals c = only_refusals
+
+or_plans : (reply : Reply) (rest : List ℕ) → reply_text reply ≡ codes "error " ++ rest
+    → ((refusal : Refusal) × (reply ≡ Refused refusal)) ⊎ ((steps : List PlanLine) × (reply ≡ Steps steps))
+or_plans Done rest e = absurd (not_e 111 (ap (λ l. get_or l 0 0) e) (omega arith))
+or_plans (Count n) rest e = absurd (not_e 111 (ap (λ l. get_or l 0 0) e) (omega arith))
+or_plans (Rows []) rest e = absurd (not_e 114 (ap (λ l. get_or l 0 0) e) (omega arith))
+or_plans (Rows (row ∷ rows)) rest e = absurd (not_e 40 (ap (λ l. get_or l 0 0) e) (omega arith))
+or_plans (Steps steps) rest e = inr (steps, refl)
+or_plans (Refused refusal) rest e = inl (refusal, refl)
+
+pub returns-clause-or_plans : goal.returns-clause-or_plans
+returns-clause-or_plans c = or_plans
