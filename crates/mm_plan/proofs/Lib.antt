@@ -1,3 +1,4 @@
 mod Bounds
 mod Joining
 pub mod Referred
+mod Samples

@@ -1,4 +1,5 @@
 pub mod Begun
 pub mod From
 pub mod Rules
+pub mod Sample
 pub mod Ways

@@ -12,6 +12,8 @@ mod joins;
 mod planner;
 mod planning;
 mod run;
+#[cfg(test)]
+mod tests;
 mod ways;
 
 pub use from::places_of;

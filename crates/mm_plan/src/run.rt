@@ -86,7 +86,7 @@ fn begin<'a>(
 }
 
 /// The rows of the table of a descriptor of which no atom is false, found by a way to them. `AllocError` where memory is refused.
-fn select<'a>(
+pub(crate) fn select<'a>(
     alloc: Global,
     store: &Store,
     meter: &mut Meter,
@@ -164,7 +164,7 @@ fn join_next<'a>(
 impl<'s> NextTable<'s> {
     /// The combinations of an outer list and its rows of which no atom is false, found by a way. `ResultTooLarge` where more than
     /// `cap` fit; `Memory` may come in its place and in that of success.
-    fn join<'a>(
+    pub(crate) fn join<'a>(
         &self,
         alloc: Global,
         meter: &mut Meter,
