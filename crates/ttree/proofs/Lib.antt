@@ -2,6 +2,7 @@ mod Halving
 pub mod Parts
 pub mod Leaves
 pub mod Lowest
+pub mod Meeting
 pub mod Taken
 pub mod Sizes
 pub mod Between

@@ -1,5 +1,5 @@
 //! The entries between two probes.
-ghost use Rattle.std.specs.Prelude.{◌≡◌, ◌<◌, ◌++◌, take, All, OnOk, OnErr, vec_len};
+ghost use Rattle.std.specs.Prelude.{◌≡◌, ◌<◌, ◌≤◌, ◌++◌, take, All, OnOk, OnErr, vec_len};
 ghost use Rattle.std.specs.Bool.{OnTrue};
 ghost use Rattle.std.specs.Option.{option_copied};
 ghost use Rattle.ttree_node.specs.Tree.{fork, tree_of, in_order, node_count};
@@ -16,9 +16,59 @@ use std::alloc::AllocError;
 use ttree_node::{Entries, Subtree};
 
 /// Appends the entries that lie neither before the place of `low` nor after that of `high`.
+/// It goes down to the highest node that meets the range, and from there along its ends.
+/// `AllocError` where memory is refused; then some may have been appended.
+pub(crate) fn copy_range_of<O: RefOrder, L: Probe, H: Probe>(
+    tree: Option<&Subtree>,
+    order: &O,
+    low: &L,
+    high: &H,
+    out: &mut Vec<RowRef>,
+) -> Result<(), AllocError>
+    requires low { IsSearchable (O.covers order.now) (O.cmp order.now) (L.covers low.now) (L.place_of low.now) (tree_of (option_copied tree)) }
+    requires high { IsSearchable (O.covers order.now) (O.cmp order.now) (H.covers high.now) (H.place_of high.now) (tree_of (option_copied tree)) }
+    ensures ok { OnOk result (out.new.items ≡ out.old.items
+        ++ entries_between (L.place_of low.now) (H.place_of high.now) (in_order (tree_of (option_copied tree.entry)))) }
+    ensures err { OnErr result (take (vec_len out.old) out.new.items ≡ out.old.items) }
+{
+    let highest = meeting(tree, order, low, high);
+    copy_between(highest, order, low, high, out)
+}
+
+/// The highest node whose entries meet the range, if there is one: at it and below it lies all that lies in the range. Of each
+/// node above it asks about the last entry and, where that is not before the range, about the first.
+fn meeting<'a, O: RefOrder, L: Probe, H: Probe>(
+    tree: Option<&'a Subtree>,
+    order: &O,
+    low: &L,
+    high: &H,
+) -> Option<&'a Subtree>
+    requires low { IsSearchable (O.covers order.now) (O.cmp order.now) (L.covers low.now) (L.place_of low.now) (tree_of (option_copied tree)) }
+    requires high { IsSearchable (O.covers order.now) (O.cmp order.now) (H.covers high.now) (H.place_of high.now) (tree_of (option_copied tree)) }
+    ensures low { IsSearchable (O.covers order.now) (O.cmp order.now) (L.covers low.now) (L.place_of low.now) (tree_of (option_copied result)) }
+    ensures high { IsSearchable (O.covers order.now) (O.cmp order.now) (H.covers high.now) (H.place_of high.now) (tree_of (option_copied result)) }
+    ensures no_larger { node_count (tree_of (option_copied result)) ≤ node_count (tree_of (option_copied tree.entry)) }
+    ensures same_entries { entries_between (L.place_of low.now) (H.place_of high.now) (in_order (tree_of (option_copied result)))
+        ≡ entries_between (L.place_of low.now) (H.place_of high.now) (in_order (tree_of (option_copied tree.entry))) }
+{
+    let mut at = tree;
+    while let Some(node) = at {
+        let entries = node.entries();
+        if low.place(entries.last()).is_lt() {
+            at = node.right();
+        } else if high.place(entries.first()).is_gt() {
+            at = node.left();
+        } else {
+            break;
+        }
+    }
+    at
+}
+
+/// Appends the entries that lie neither before the place of `low` nor after that of `high`.
 /// Of a node that lies in the range as a whole it asks about the first and the last entry alone.
 /// `AllocError` where memory is refused; then some may have been appended.
-pub(crate) fn copy_between<O: RefOrder, L: Probe, H: Probe>(
+fn copy_between<O: RefOrder, L: Probe, H: Probe>(
     tree: Option<&Subtree>,
     order: &O,
     low: &L,

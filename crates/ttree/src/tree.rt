@@ -10,7 +10,7 @@ use crate::builds::{FULL, build};
 use crate::inserts::insert_into;
 use crate::iters::Iter;
 use crate::lookup::find_in;
-use crate::ranges::copy_between;
+use crate::ranges::copy_range_of;
 use crate::removes::remove_from;
 use mm_order::{OrderedRefs, Probe, RefOrder, Seek};
 use mm_value::RowRef;
@@ -176,7 +176,7 @@ impl OrderedRefs for TTree {
         out: &mut Vec<RowRef>,
     ) -> Result<(), AllocError> {
         let before = out.len();
-        let copied = copy_between(self.root.as_ref(), order, low, high, out);
+        let copied = copy_range_of(self.root.as_ref(), order, low, high, out);
         if copied.is_err() {
             out.truncate(before);
         }
