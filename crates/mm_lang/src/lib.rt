@@ -19,5 +19,6 @@ pub use mm_query::{Command, Reply};
 pub use reading::{MAX_LINE_BYTES, parse};
 pub use reply_text::{
     replies_are_told_apart, write_reply, write_row_count, write_row_line, write_rows,
+    write_tuple_line,
 };
 pub use token::Symbol;

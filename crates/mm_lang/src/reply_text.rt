@@ -1,5 +1,5 @@
 //! The text of replies.
-ghost use Rattle.std.specs.Prelude.{◌≡◌, ◌⊎◌, ℕ, false, List, IsTrue, [], ◌∷◌, ◌++◌, codes, decimal};
+ghost use Rattle.std.specs.Prelude.{◌≡◌, ◌⊎◌, ℕ, false, List, IsTrue, [], ◌∷◌, ◌++◌, codes, decimal, map};
 ghost use Rattle.std.specs.Char.{is_ascii_digit};
 ghost use Rattle.mm_value.specs.Device.{Writes};
 ghost use Rattle.mm_value.specs.Watched.{has_failed};
@@ -13,7 +13,7 @@ ghost use Rattle.mm_lang.specs.ReplyText.{HasNames, index_text, line_text, reply
 use itoa::Buffer;
 use mm_query::{PlanLine, Reply};
 use mm_schema::IndexId;
-use mm_value::{Refusal, Row, Watched, WriteFault, put_all, write_row};
+use mm_value::{Refusal, Row, Value, Watched, WriteFault, put_all, write_row, write_tuple};
 use std::io::Write;
 
 /// Writes a reply, each line of it with its line feed: `ok`, `ok` and a count, a line for each row and then their
@@ -64,6 +64,19 @@ pub fn write_row_line<W: Write>(row: &Row, writer: &mut Watched<W>) -> Result<()
     ensures { Writes W.contents writer.old writer.new result (row_text row.now ++ 10 ∷ []) }
 {
     write_row(row, writer)?;
+    put_all(writer, b"\n")
+}
+
+/// Writes the line of a row in a reply of rows, as [`write_row_line`] does, from references to its values. Takes no memory.
+/// After `WriteFault` the writer has failed, and a front of the line was written.
+pub fn write_tuple_line<W: Write>(
+    values: &[&Value],
+    writer: &mut Watched<W>,
+) -> Result<(), WriteFault>
+    requires { has_failed writer.old ≡ false }
+    ensures { Writes W.contents writer.old writer.new result (row_text (map (λ v. v.now) values.now) ++ 10 ∷ []) }
+{
+    write_tuple(values, writer)?;
     put_all(writer, b"\n")
 }
 

@@ -18,7 +18,7 @@ pub use col_type::ColType;
 pub use device::{MAX_RETRIES, Watched, WriteFault, put_all};
 pub use literals::{literals_are_exact, read_int, read_literal};
 pub use prefix::{order_prefix, prefixes_keep_order};
-pub use printed::write_row;
+pub use printed::{write_row, write_tuple};
 pub use refusal::Refusal;
 pub use row_ref::RowRef;
 pub use short_text::{MAX_TEXT_BYTES, Text};

@@ -2,7 +2,7 @@
 use crate::{
     ColType, MAX_TEXT_BYTES, Refusal, Row, Text, Value, Watched, compare, hash64,
     literals_are_exact, order_prefix, orders_are_total, prefixes_keep_order, put_all, read_literal,
-    write_row,
+    write_row, write_tuple,
 };
 use std::alloc::Global;
 use std::cmp::Ordering;
@@ -185,6 +185,20 @@ fn rows_are_written(rt: HostRuntime) -> Result<(), Fail> {
     assert!(rt; write_row(&row, &mut writer).is_ok());
     assert!(rt; !writer.failed());
     let want = b"(1, -9223372036854775808, '''', 'it''s ''\xc3\xa9\xff''')";
+    assert_eq!(rt; out.as_slice(), want.as_slice());
+    Ok(())
+}
+
+#[test]
+fn a_row_is_written_from_references(rt: HostRuntime) -> Result<(), Fail> {
+    let name = text(rt.alloc(), b"it's")?;
+    let number = Value::Int(-7);
+    let mut out = Vec::new(rt.alloc());
+    let mut writer = Watched::new(&mut out);
+    assert!(rt; write_tuple(&[&name, &number, &name], &mut writer).is_ok());
+    assert!(rt; write_tuple(&[], &mut writer).is_ok());
+    assert!(rt; !writer.failed());
+    let want = b"('it''s', -7, 'it''s')()";
     assert_eq!(rt; out.as_slice(), want.as_slice());
     Ok(())
 }

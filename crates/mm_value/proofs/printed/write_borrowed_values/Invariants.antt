@@ -1,0 +1,11 @@
+use Rattle.std.proofs.Common.{Ok, take}
+use Rattle.std.specs.List.{flat_map}
+use Rattle.mm_value.specs.declared.device.WriteFault.{WriteFault}
+use Rattle.mm_value.specs.Device.{Writes}
+use Rattle.mm_value.proofs.RowTexts.{borrowed_next_text}
+use Rattle.mm_value.proofs.printed.write_borrowed_values.Given as goal
+
+-- the first value and those so far were written
+abbrev pub invariant-loop-value : goal.invariant-loop-value
+invariant-loop-value g l =
+    Writes {T = Unit {0}} {E = WriteFault} g.W.Write.contents l.initial.writer l.writer (Ok tt) (flat_map borrowed_next_text (take l.value-index l.others))
