@@ -1,2 +1,4 @@
 mod Live
 mod Pieces
+mod Placed
+mod RowOrder

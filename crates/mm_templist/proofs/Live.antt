@@ -12,7 +12,7 @@ use Rattle.mm_relation.specs.Kept.{StoredRows}
 use Rattle.mm_relation.specs.Refs.{row_at, row_in}
 use Rattle.mm_store.specs.Tables.{IsAt, Tables}
 use Rattle.mm_query.specs.Atoms.{value_in}
-use Rattle.mm_query.specs.Queries.{value_at, values_of}
+use Rattle.mm_query.specs.Queries.{Partial, value_at, values_of}
 use Rattle.mm_query.specs.declared.bound_query.FieldPlace.{FieldPlace}
 use Rattle.mm_templist.specs.Combos.{AreLive, Combos, combo_rows, row_of, rows_of_combo}
 use Rattle.mm_templist.specs.Results.{HasColumn, projected_rows}
@@ -111,3 +111,8 @@ next_projected store list k combo is =
     (slice_get-map shown (combo_rows store list) k
     ∙ (ap (option_map shown) (slice_get-map (rows_of_combo store list.tables) list.combos k)
     ∙ ap (λ o. option_map shown (option_map (rows_of_combo store list.tables) o)) is))
+
+-- There is a value for each field.
+pub values_are_as_many : (fields : List FieldPlace) (rows : Partial) → length (values_of fields rows) ≡ length fields
+values_are_as_many [] rows = refl
+values_are_as_many (field ∷ fields) rows = ap suc (values_are_as_many fields rows)

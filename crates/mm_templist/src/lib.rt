@@ -5,8 +5,11 @@
 #![tactic(auto)]
 
 mod results;
+mod row_order;
+mod shown;
 mod temp_list;
 #[cfg(test)]
 mod tests;
 
+pub use shown::ShownRows;
 pub use temp_list::{Descriptor, TempList};

@@ -1,17 +1,19 @@
 //! What a temporary list shows.
-ghost use Rattle.std.specs.Prelude.{◌≡◌, ◌+◌, ◌*◌, ◌<◌, ◌≤◌, All, IfErr, IfOk, List, OnOk, Some, length, map, min};
-ghost use Rattle.std.specs.List.{dedup};
-ghost use Rattle.std.specs.List.Sorted.{IsPermutation, IsSorted};
-ghost use Rattle.std.specs.Option.{option_copied};
+ghost use Rattle.std.specs.Prelude.{◌≡◌, ◌+◌, ◌++◌, ◌*◌, ◌<◌, ◌≤◌, All, IfErr, IfOk, List, OnOk, Some, length, map, min, pos};
+ghost use Rattle.std.specs.Option.{option_copied, unwrap_or};
 ghost use Rattle.mm_value.specs.declared.refusal.Refusal.TheVariants.{Memory};
 ghost use Rattle.mm_value.specs.declared.row_ref.RowRef.{RowRef};
-ghost use Rattle.mm_query.specs.Queries.{rows_by_columns, same_row, value_at};
+ghost use Rattle.mm_value.specs.declared.values.Value.TheVariants.{Int};
+ghost use Rattle.mm_query.specs.Queries.{value_at, values_of};
 ghost use Rattle.mm_query.specs.declared.bound_query.FieldPlace.{FieldPlace};
 ghost use Rattle.mm_templist.specs.Combos.{AreLive, rows_of_combo};
+ghost use Rattle.mm_templist.specs.Pieces.{pieces};
 ghost use Rattle.mm_templist.specs.Results.{HasColumn, HasValue, StandAt, projected_rows, result_rows};
+ghost use Rattle.mm_templist.specs.Runs.{referred};
 
+use crate::shown::ShownRows;
 use crate::temp_list::TempList;
-use mm_query::{FieldPlace, compare_by_columns, compare_rows, values_of};
+use mm_query::FieldPlace;
 use mm_store::{Meter, Store};
 use mm_value::{Refusal, Row, RowRef, Value};
 use std::alloc::{AllocError, Global};
@@ -43,8 +45,29 @@ impl<'a> TempList<'a> {
     }
 
     /// The rows of the result, a row of the values of the fields for each combination, sorted by their values in the columns of
-    /// `order`, counted from 0, and as whole rows where these are equal; with `distinct` one of each row. The meter counts the rows
-    /// that are read, of which each reference asks for one. `Memory` where memory is refused; that is the only refusal.
+    /// `order`, counted from 0, and as whole rows where these are equal; with `distinct` one of each row. No value is copied. A
+    /// field whose place has no row, or one that ends before its column, reads as `zero`, which is to be 0. The meter counts the
+    /// rows that are read, of which each reference asks for one. `AllocError` where memory is refused.
+    pub fn shown<'s>(
+        &self,
+        alloc: Global,
+        store: &'s Store,
+        meter: &mut Meter,
+        distinct: bool,
+        order: &[usize],
+        zero: &'s Value,
+    ) -> Result<ShownRows<'s>, AllocError>
+        requires live { All (AreLive store.now self.now.tables) self.now.combos }
+        requires zero { zero.now ≡ Int (pos 0) }
+        ensures ok { IfOk result (λ rows. rows ≡ result_rows store.now self.now distinct order.now) }
+        ensures reads { meter.new ≤ meter.old + length self.now.combos * length self.now.tables }
+    {
+        let width = self.descriptor().fields.len();
+        let values = self.projected(alloc, store, meter, zero)?;
+        ShownRows::sorted(alloc, values, width, self.len(), distinct, order)
+    }
+
+    /// Copies of the rows of the result, as `shown` has them. `Memory` where memory is refused; that is the only refusal.
     pub fn project_sorted(
         &self,
         alloc: Global,
@@ -58,30 +81,88 @@ impl<'a> TempList<'a> {
         ensures memory { IfErr result (λ refusal. refusal ≡ Memory) }
         ensures reads { meter.new ≤ meter.old + length self.now.combos * length self.now.tables }
     {
-        let mut rows = self.project(alloc, store, meter)?;
-        sort_rows(&mut rows, order);
-        if distinct {
-            drop_equal_neighbours(&mut rows);
-        }
-        Ok(rows)
+        let zero = Value::Int(0);
+        let shown = self.shown(alloc, store, meter, distinct, order, &zero)?;
+        copy_rows(alloc, &shown)
     }
 
-    /// A row of the values of the fields for each combination, in turn. `Memory` is the only refusal.
-    fn project(&self, alloc: Global, store: &Store, meter: &mut Meter) -> Result<Vec<Row>, Refusal>
+    /// References to the values of the fields of each combination in turn, one behind the other. `AllocError` where memory is
+    /// refused.
+    fn projected<'s>(
+        &self,
+        alloc: Global,
+        store: &'s Store,
+        meter: &mut Meter,
+        zero: &'s Value,
+    ) -> Result<Vec<&'s Value>, AllocError>
         requires live { All (AreLive store.now self.now.tables) self.now.combos }
-        ensures ok { IfOk result (λ rows. rows.items ≡ projected_rows store.now self.now) }
-        ensures memory { IfErr result (λ refusal. refusal ≡ Memory) }
+        requires zero { zero.now ≡ Int (pos 0) }
+        ensures rows { IfOk result (λ values. pieces (length self.now.fields) (length self.now.combos) (referred values.items)
+            ≡ projected_rows store.now self.now) }
+        ensures whole { IfOk result (λ values. length values.items ≡ length self.now.combos * length self.now.fields) }
         ensures reads { meter.new ≤ meter.old + length self.now.combos * length self.now.tables }
     {
         let descriptor = self.descriptor();
         let mut chosen = Vec::with_capacity(alloc, descriptor.tables.len())?;
-        let mut rows = Vec::with_capacity(alloc, self.len())?;
+        let room = self.len().saturating_mul(descriptor.fields.len());
+        let mut values = Vec::with_capacity(alloc, room)?;
         for i in 0..self.len() {
             choose_rows(store, meter, descriptor.tables, self.combo(i), &mut chosen)?;
-            rows.push(values_of(alloc, descriptor.fields, &chosen)?)?;
+            push_values(&mut values, descriptor.fields, &chosen, zero)?;
         }
-        Ok(rows)
+        Ok(values)
     }
+}
+
+/// Adds references to the values of fields of some rows. `AllocError` where memory is refused.
+fn push_values<'s>(
+    values: &mut Vec<&'s Value>,
+    fields: &[FieldPlace],
+    rows: &[Option<&'s Row>],
+    zero: &'s Value,
+) -> Result<(), AllocError>
+    requires { zero.now ≡ Int (pos 0) }
+    ensures { OnOk result (referred values.new.items ≡ referred values.old.items ++ values_of fields.now (map option_copied rows.now)) }
+{
+    for field in fields {
+        values.push(value_at(rows, *field, zero))?;
+    }
+    Ok(())
+}
+
+/// The value of a field, and this 0 where its place has no row or the row ends before it.
+fn value_at<'s>(rows: &[Option<&'s Row>], field: FieldPlace, zero: &'s Value) -> &'s Value
+    requires { zero.now ≡ Int (pos 0) }
+    ensures { result.now ≡ unwrap_or (value_at (map option_copied rows.now) field) (Int (pos 0)) }
+{
+    match rows.get(field.place) {
+        Some(Some(row)) => row.values().get(field.column).unwrap_or(zero),
+        _ => zero,
+    }
+}
+
+/// Copies of all rows. `Memory` is the only refusal.
+fn copy_rows(alloc: Global, shown: &ShownRows) -> Result<Vec<Row>, Refusal>
+    ensures ok { IfOk result (λ rows. rows.items ≡ shown.now) }
+    ensures memory { IfErr result (λ refusal. refusal ≡ Memory) }
+{
+    let mut rows = Vec::with_capacity(alloc, shown.len())?;
+    for i in 0..shown.len() {
+        rows.push(copy_row(alloc, shown.row(i))?)?;
+    }
+    Ok(rows)
+}
+
+/// A row of copies of values. `Memory` is the only refusal.
+fn copy_row(alloc: Global, values: &[&Value]) -> Result<Row, Refusal>
+    ensures ok { IfOk result (λ row. row ≡ referred values.now) }
+    ensures memory { IfErr result (λ refusal. refusal ≡ Memory) }
+{
+    let mut row = Vec::with_capacity(alloc, values.len())?;
+    for value in values {
+        row.push(value.copy(alloc)?)?;
+    }
+    Ok(Row::new(row))
 }
 
 /// The value of a field of a combination. The meter counts its row.
@@ -118,19 +199,4 @@ fn choose_rows<'s>(
         chosen.push(Some(store.row(meter, *table, combo[i])))?;
     }
     Ok(())
-}
-
-/// Sorts rows by columns. It takes no memory and O(n log n) comparisons for n rows.
-fn sort_rows(rows: &mut Vec<Row>, order: &[usize])
-    ensures permutation { IsPermutation rows.old.items rows.new.items }
-    ensures sorted { IsSorted (rows_by_columns order.now) rows.new.items }
-{
-    rows.sort_unstable_by(|a, b| compare_by_columns(order, a, b));
-}
-
-/// Drops each row that is equal to the one before it.
-fn drop_equal_neighbours(rows: &mut Vec<Row>)
-    ensures { rows.new.items ≡ dedup same_row rows.old.items }
-{
-    rows.dedup_by(|later, kept| compare_rows(later, kept).is_eq());
 }

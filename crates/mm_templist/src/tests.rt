@@ -1,11 +1,14 @@
 //! What no clause says: that ample memory is never refused. And each call once on its way.
-ghost use Rattle.std.specs.Prelude.{◌≡◌, ◌+◌, ◌++◌, ◌∷◌, [], length, OnErr, OnOk};
+ghost use Rattle.std.specs.Prelude.{◌≡◌, ◌+◌, ◌++◌, ◌∷◌, [], length, pos, All, IfOk, OnErr, OnOk};
+ghost use Rattle.mm_value.specs.declared.values.Value.TheVariants.{Int};
+ghost use Rattle.mm_templist.specs.Combos.{AreLive};
+ghost use Rattle.mm_templist.specs.Results.{result_rows};
 
-use crate::{Descriptor, TempList};
+use crate::{Descriptor, ShownRows, TempList};
 use mm_query::FieldPlace;
 use mm_store::{Meter, Store};
-use mm_value::RowRef;
-use std::alloc::AllocError;
+use mm_value::{RowRef, Value, compare};
+use std::alloc::{AllocError, Global};
 use std::test::Fail;
 
 /// Adds a combination, for which memory may be refused once.
@@ -17,6 +20,25 @@ fn push(list: &mut TempList, front: &[RowRef], at: RowRef) -> Result<(), AllocEr
     match list.push(front, at) {
         Ok(()) => Ok(()),
         Err(_) => list.push(front, at),
+    }
+}
+
+/// The rows of a result in the order of the first column, for which memory may be refused once.
+fn show<'s>(
+    list: &TempList,
+    alloc: Global,
+    store: &'s Store,
+    meter: &mut Meter,
+    distinct: bool,
+    zero: &'s Value,
+) -> Result<ShownRows<'s>, AllocError>
+    requires live { All (AreLive store.now list.now.tables) list.now.combos }
+    requires zero { zero.now ≡ Int (pos 0) }
+    ensures ok { IfOk result (λ rows. rows ≡ result_rows store.now list.now distinct (0 ∷ [])) }
+{
+    match list.shown(alloc, store, meter, distinct, &[0], zero) {
+        Ok(shown) => Ok(shown),
+        Err(_) => list.shown(alloc, store, meter, distinct, &[0], zero),
     }
 }
 
@@ -64,6 +86,28 @@ fn shows_no_rows_of_no_combinations(rt: HostRuntime) -> Result<(), Fail> {
         Err(_) => list.project_sorted(alloc, &store, &mut meter, true, &[0])?,
     };
     assert_eq!(rt; rows.len(), 0);
+    let zero = Value::Int(0);
+    let shown = show(&list, alloc, &store, &mut meter, true, &zero)?;
+    assert_eq!(rt; shown.len(), 0);
     assert_eq!(rt; meter.reads(), 0);
+    Ok(())
+}
+
+#[test]
+fn shows_0_where_no_row_is_there(rt: HostRuntime) -> Result<(), Fail> {
+    let alloc = rt.alloc();
+    let store = Store::new(alloc);
+    let mut meter = Meter::new();
+    let fields = [FieldPlace {
+        place: 0,
+        column: 0,
+    }];
+    let list = TempList::unit(alloc, &fields);
+    let zero = Value::Int(0);
+    let shown = show(&list, alloc, &store, &mut meter, false, &zero)?;
+    assert_eq!(rt; shown.len(), 1);
+    let row = shown.row(0);
+    assert_eq!(rt; row.len(), 1);
+    assert!(rt; compare(row[0], &zero).is_eq());
     Ok(())
 }

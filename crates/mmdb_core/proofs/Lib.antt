@@ -14,5 +14,6 @@ pub mod ReferenceRows
 pub mod RowsBeside
 pub mod Runs
 pub mod Scanning
+pub mod Selects
 pub mod Selecting
 pub mod Walks

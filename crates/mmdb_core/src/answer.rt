@@ -13,11 +13,14 @@ ghost use Rattle.mmdb_core.specs.steps.Respond.{RepliesToLine, IsStep, RepliesTo
 ghost use Rattle.mmdb_core.specs.Run.{is_error};
 
 use crate::database::{Along, Database};
-use mm_lang::{Command, Reply, parse, write_reply, write_row_count, write_row_line};
-use mm_query::{Definition, Mutation, Query, RowList};
+use mm_lang::{
+    Command, Reply, parse, write_reply, write_row_count, write_row_line, write_tuple_line,
+};
+use mm_query::{Definition, Mutation, Query};
 use mm_relation::Relation;
 use mm_schema::{IndexKind, Name};
-use mm_value::{Refusal, Watched, WriteFault};
+use mm_templist::ShownRows;
+use mm_value::{Refusal, Value, Watched, WriteFault};
 use std::alloc::{AllocError, Global};
 use std::io::Write;
 use ttree::Iter;
@@ -61,9 +64,9 @@ fn respond<W: Write>(
         Ok(Command::Nothing) => return Ok(false),
         Ok(Command::Scan(table)) => return answer_scan(database, &table, writer),
         Ok(Command::ScanIndex(index)) => return answer_index_scan(alloc, database, &index, writer),
+        Ok(Command::Select(query)) => return answer_select(alloc, database, &query, writer),
         Ok(Command::Define(definition)) => define(alloc, database, definition),
         Ok(Command::Change(mutation)) => change(alloc, database, mutation),
-        Ok(Command::Select(query)) => select(alloc, database, &query),
         Ok(Command::Explain(query)) => explain(alloc, database, &query),
         Err(refusal) => Reply::Refused(refusal),
     };
@@ -92,16 +95,6 @@ fn change(alloc: Global, database: &mut Database, mutation: Mutation) -> Reply
 {
     match database.change(alloc, mutation) {
         Ok(count) => Reply::Count(count),
-        Err(refusal) => Reply::Refused(refusal),
-    }
-}
-
-/// The rows that a query gives.
-fn select(alloc: Global, database: &Database, query: &Query) -> Reply
-    ensures { IsStep (Select query.now) database.now (record { reply = Some result; state = database.now }) }
-{
-    match database.select(alloc, query) {
-        Ok(rows) => Reply::Rows(RowList::new(rows)),
         Err(refusal) => Reply::Refused(refusal),
     }
 }
@@ -160,6 +153,23 @@ fn answer_index_scan<W: Write>(
     }
 }
 
+/// Answers the rows that a query gives, which are written from where their values lie.
+fn answer_select<W: Write>(
+    alloc: Global,
+    database: &Database,
+    query: &Query,
+    writer: &mut Watched<W>,
+) -> Result<bool, WriteFault>
+    requires { has_failed writer.old ≡ false }
+    ensures { RepliesToReading W.contents writer.old writer.new (Ok (Select query.now)) database.now database.now result }
+{
+    let zero = Value::Int(0);
+    match database.select(alloc, query, &zero) {
+        Ok(rows) => send_shown(&rows, writer),
+        Err(refusal) => send(&Reply::Refused(refusal), writer),
+    }
+}
+
 /// Writes a reply and flushes it, and tells whether it is an `error`.
 pub(crate) fn send<W: Write>(reply: &Reply, writer: &mut Watched<W>) -> Result<bool, WriteFault>
     requires { has_failed writer.old ≡ false }
@@ -186,6 +196,28 @@ fn send_rows<W: Write>(
     write_walk(relation, walk, writer)?;
     flush(writer)?;
     Ok(false)
+}
+
+/// Writes the reply of the rows of a query, from where their values lie, and flushes it. It is no `error`.
+fn send_shown<W: Write>(rows: &ShownRows<'_>, writer: &mut Watched<W>) -> Result<bool, WriteFault>
+    requires { has_failed writer.old ≡ false }
+    ensures written { Writes W.contents writer.old writer.new result (reply_text (Rows rows.now)) }
+    ensures refused { IfOk result (λ refused. refused ≡ false) }
+{
+    write_shown(rows, writer)?;
+    flush(writer)?;
+    Ok(false)
+}
+
+/// Writes the lines of the rows of a query, and how many they are.
+fn write_shown<W: Write>(rows: &ShownRows<'_>, writer: &mut Watched<W>) -> Result<(), WriteFault>
+    requires { has_failed writer.old ≡ false }
+    ensures { Writes W.contents writer.old writer.new result (rows_text rows.now) }
+{
+    for i in 0..rows.len() {
+        write_tuple_line(rows.row(i), writer)?;
+    }
+    write_row_count(rows.len(), writer)
 }
 
 /// Writes the lines of the rows that a walk meets, and how many they are.

@@ -1,5 +1,5 @@
 //! The database: its calls are steps of the machine of row lists.
-ghost use Rattle.std.specs.Prelude.{◌≡◌, ◌<◌, ◌≤◌, Some, None, IfOk, OnOk, OnErr, MatchResult, length};
+ghost use Rattle.std.specs.Prelude.{◌≡◌, ◌<◌, ◌≤◌, Some, None, IfOk, OnOk, OnErr, MatchResult, length, pos};
 ghost use Rattle.mm_relation.specs.Kept.{StoredRows};
 ghost use Rattle.mm_relation.specs.RowLists.{rows_of};
 ghost use Rattle.mm_schema.specs.Refused.{AnswersDue, first_refusal};
@@ -10,6 +10,7 @@ ghost use Rattle.mm_query.specs.Resolving.{selected};
 ghost use Rattle.mm_query.specs.State.{first_state, rows_in};
 ghost use Rattle.mm_query.specs.declared.command.Command.TheVariants.{Define, Change, Scan, ScanIndex, Select, Explain};
 ghost use Rattle.mm_query.specs.declared.command.Definition.TheVariants as define;
+ghost use Rattle.mm_value.specs.declared.values.Value.TheVariants.{Int};
 ghost use Rattle.mmdb_core.specs.steps.Along.{IsAlong};
 
 use crate::edits::{TableEdits, edits_of};
@@ -19,7 +20,8 @@ use mm_query::{ItemList, Mutation, PlanLine, Query};
 use mm_relation::{Edit, Relation};
 use mm_schema::{Catalog, IndexDef, IndexKind, Name, TableDef};
 use mm_store::{Store, Undo};
-use mm_value::{Refusal, Row};
+use mm_templist::ShownRows;
+use mm_value::{Refusal, Value};
 use std::alloc::{AllocError, Global};
 use std::marker::Model;
 
@@ -164,12 +166,18 @@ impl Database {
         })
     }
 
-    /// The rows that a query gives, in their order. The refusals are those of [`select_rows`].
-    pub(crate) fn select(&self, alloc: Global, query: &Query) -> Result<Vec<Row>, Refusal>
+    /// The rows that a query gives, in their order, as [`select_rows`] has them. The refusals are those of that one.
+    pub(crate) fn select<'s>(
+        &'s self,
+        alloc: Global,
+        query: &Query,
+        zero: &'s Value,
+    ) -> Result<ShownRows<'s>, Refusal>
+        requires { zero.now ≡ Int (pos 0) }
         ensures due { AnswersDue (first_refusal (conditions (Select query.now) self.now)) result }
-        ensures rows { IfOk result (λ rows. rows.items ≡ selected query.now self.now) }
+        ensures rows { IfOk result (λ rows. rows ≡ selected query.now self.now) }
     {
-        select_rows(alloc, &self.catalog, &self.store, query)
+        select_rows(alloc, &self.catalog, &self.store, query, zero)
     }
 
     /// The plan of a query: a line for each table of FROM. The refusals are those of [`explain_query`].

@@ -1,7 +1,7 @@
 use Rattle.std.proofs.Common.{Some, None, false, Ok, inl, refl, sym, ap, subst, ◌∙◌}
 use Rattle.mm_value.proofs.Writing.{Writes-nil}
 use Rattle.mm_query.specs.declared.command.Command.{Command}
-use Rattle.mm_query.specs.declared.command.Command.TheVariants.{Define, Change, Select, Explain}
+use Rattle.mm_query.specs.declared.command.Command.TheVariants.{Define, Change, Explain}
 use Rattle.mm_query.specs.Machine.{Outcome}
 use Rattle.mm_query.specs.State.{State}
 use Rattle.mm_query.specs.declared.reply.Reply.{Reply}
@@ -9,7 +9,7 @@ use Rattle.mm_query.specs.declared.reply.Reply.TheVariants.{Refused}
 use Rattle.mmdb_core.specs.steps.Respond.{MayLeadTo}
 use Rattle.mmdb_core.proofs.Answering.{leads_step, sent}
 use Rattle.mmdb_core.proofs.answer.respond.Goals as goal
-use Rattle.mmdb_core.proofs.answer.respond.Goals.{in-Ok-Define, in-Ok-Change, in-Ok-Select, in-Ok-Explain, in-Err}
+use Rattle.mmdb_core.proofs.answer.respond.Goals.{in-Ok-Define, in-Ok-Change, in-Ok-Explain, in-Err}
 
 pub returns-in-Ok-Nothing : goal.returns-in-Ok-Nothing
 returns-in-Ok-Nothing g c = record {
@@ -34,11 +34,6 @@ returns g c =
           c.args.database.now
           (reply_and c.match-command.reply c.match-command.database) (reply_and w.change-reply.result w.change-reply.new.database)
           (ap (λ r. reply_and r c.match-command.database) w.reply-is ∙ ap (reply_and w.change-reply.result) w.database-is) w.change-reply.ensures
-      | in-Ok-Select w ↦
-          leads_step (Select w.in-Ok-Select.query) refl c.args.command (w.in-Ok-Select.is ∙ ap (λ (command : Command). Ok command) w.in-Ok-Select.field-0-is)
-          c.args.database.now
-          (reply_and c.match-command.reply c.match-command.database) (reply_and w.select-reply.result c.args.database.now)
-          (ap (λ r. reply_and r c.match-command.database) w.reply-is ∙ ap (reply_and w.select-reply.result) w.database-is) w.select-reply.ensures
       | in-Ok-Explain w ↦
           leads_step (Explain w.in-Ok-Explain.query) refl c.args.command (w.in-Ok-Explain.is ∙ ap (λ (command : Command). Ok command) w.in-Ok-Explain.field-0-is)
           c.args.database.now

@@ -20,7 +20,7 @@ run_plan-requires-clause-there c =
     let there : list_any (λ (item : FromItem). lacks_table item.table schema) query.from ≡ false =
     subst (λ (b : BoundQuery). list_any (λ (item : FromItem). lacks_table item.table schema) b.from ≡ false) bound_is c.in_ok-bound.ensures.within.tables in
     subst (λ ts. (k : ℕ) → (d : ℕ) → k < length ts → slice_index_or ts k d < length store.tables) (sym tables_are)
-    (all_there schema store c.requires query.from there)
+    (all_there schema store c.requires.kept query.from there)
 
 pub returns-in_err-list-clause-due : goal.returns-in_err-list-clause-due
 returns-in_err-list-clause-due c =
@@ -33,7 +33,7 @@ returns-in_err-list-clause-due c =
     c.as_slice-2.ensures.value ∙ (c.in_ok-tables.ensures.ok ∙ ap (places_in schema) (c.as_slice.ensures ∙ ap (λ (b : BoundQuery). b.from) bound_is)) in
     let there : list_any (λ (item : FromItem). lacks_table item.table schema) query.from ≡ false =
     subst (λ (b : BoundQuery). list_any (λ (item : FromItem). lacks_table item.table schema) b.from ≡ false) bound_is c.in_ok-bound.ensures.within.tables in
-    let size = due_of schema store c.requires query c.in_ok-bound.ensures.due there c.in_ok-bound.bound bound_is c.as_slice-2.result.now tables_are in
+    let size = due_of schema store c.requires.kept query c.in_ok-bound.ensures.due there c.in_ok-bound.bound bound_is c.as_slice-2.result.now tables_are in
     rw (p.1, p.2) (elim c.in_err-list.ensures.due [ inl due ↦ inl (size ∙ due) | inr memory ↦ inr memory ])
 
 pub returns-clause-due : goal.returns-clause-due
@@ -46,7 +46,7 @@ returns-clause-due c =
     c.as_slice-2.ensures.value ∙ (c.in_ok-tables.ensures.ok ∙ ap (places_in schema) (c.as_slice.ensures ∙ ap (λ (b : BoundQuery). b.from) bound_is)) in
     let there : list_any (λ (item : FromItem). lacks_table item.table schema) query.from ≡ false =
     subst (λ (b : BoundQuery). list_any (λ (item : FromItem). lacks_table item.table schema) b.from ≡ false) bound_is c.in_ok-bound.ensures.within.tables in
-    let size = due_of schema store c.requires query c.in_ok-bound.ensures.due there c.in_ok-bound.bound bound_is c.as_slice-2.result.now tables_are in
+    let size = due_of schema store c.requires.kept query c.in_ok-bound.ensures.due there c.in_ok-bound.bound bound_is c.as_slice-2.result.now tables_are in
     size ∙ c.in_ok-list.ensures.due
 
 pub returns-clause-rows : goal.returns-clause-rows
@@ -61,5 +61,5 @@ returns-clause-rows c =
     subst (λ (b : BoundQuery). list_any (λ (item : FromItem). lacks_table item.table schema) b.from ≡ false) bound_is c.in_ok-bound.ensures.within.tables in
     c.in_ok-rows.ensures.ok
     ∙ (ap (result_rows store c.in_ok-list.list c.in_ok-bound.bound.distinct) c.as_slice-4.ensures
-    ∙ rows_of_list schema store c.requires query c.in_ok-bound.ensures.due there c.in_ok-bound.bound bound_is c.as_slice-2.result.now tables_are c.in_ok-list.list
+    ∙ rows_of_list schema store c.requires.kept query c.in_ok-bound.ensures.due there c.in_ok-bound.bound bound_is c.as_slice-2.result.now tables_are c.in_ok-list.list
     c.in_ok-list.ensures.tables c.in_ok-list.ensures.fields c.in_ok-list.ensures.fitting)

@@ -12,4 +12,4 @@ returns-clause-due c =
 
 pub returns-clause-rows : goal.returns-clause-rows
 returns-clause-rows c =
-    subst (λ (s : State). IfOk c.select_rows.result (λ rows. rows.items ≡ selected c.args.query.now s)) c.self.view_is c.select_rows.ensures.rows
+    subst (λ (s : State). IfOk c.select_rows.result (λ rows. rows ≡ selected c.args.query.now s)) c.self.view_is c.select_rows.ensures.rows
