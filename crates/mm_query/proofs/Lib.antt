@@ -9,7 +9,6 @@ pub mod PlacedQueries
 pub mod PlainEval
 mod PlanLines
 pub mod QueryLaws
-mod RowOrder
 pub mod SortedRows
 mod Tuples
 pub mod Updates

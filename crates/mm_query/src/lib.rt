@@ -16,7 +16,6 @@ mod query;
 mod query_laws;
 mod reply;
 mod row_list;
-mod row_order;
 mod scope;
 mod update;
 
@@ -38,6 +37,5 @@ pub use query_laws::{
 };
 pub use reply::Reply;
 pub use row_list::RowList;
-pub use row_order::{compare_by_columns, compare_rows};
 pub use scope::{MAX_FROM, MAX_PARTS, Scope};
 pub use update::updated_row;

@@ -1,6 +1,0 @@
-use Rattle.std.proofs.Common.{◌≡◌, drop}
-use Rattle.mm_query.specs.Queries.{rows_by_columns}
-use Rattle.mm_query.proofs.row_order.compare_by_columns.Given as goal
-
-abbrev pub invariant-loop-column : goal.invariant-loop-column
-invariant-loop-column l = rows_by_columns (drop l.column-index l.columns) l.a l.b ≡ rows_by_columns l.columns l.a l.b
