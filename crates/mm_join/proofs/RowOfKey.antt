@@ -1,109 +1,39 @@
 -- The row that a foreign key names is the only one with its key.
-use Rattle.std.proofs.Common.{◌≡◌, ◌≢◌, ◌⊎◌, ℕ, zero, suc, ◌<◌, Bool, true, false, cond, List, [], ◌∷◌, Option, None, Some, get_or, length, map, refl, sym, ap, ◌∙◌, subst, ⊎_elim, arith}
+use Rattle.std.proofs.Common.{◌≡◌, ℕ, zero, suc, ◌<◌, List, [], ◌∷◌, None, Some, get_or, length, map, refl, sym, ap, ◌∙◌, subst, arith}
 use Rattle.std.specs.Prelude.{pos, slice_get}
-use Rattle.std.specs.List.{Contains, filter}
-use Rattle.std.specs.List.Sorted.{IsPermutation}
-use Rattle.std.specs.Option.{option_cmp, option_map, unwrap_or}
-use Rattle.std.specs.Ordering.{is_eq}
-use Rattle.std.specs.declared.cmp.Ordering.TheVariants.{Equal}
-use Rattle.std.proofs.lemmas.Bool.{cases_Bool, cases_order}
-use Rattle.std.proofs.lemmas.List.{get_or_default}
-use Rattle.std.proofs.lemmas.List.Sorted.{IsPermutation-refl}
+use Rattle.std.specs.List.{Contains}
+use Rattle.std.specs.Option.{option_map, unwrap_or}
 use Rattle.std.proofs.lemmas.Option.{slice_get-get_or}
 use Rattle.mm_partition.specs.Places.{IsLive, slot_at}
 use Rattle.mm_query.specs.Atoms.{value_in}
 use Rattle.mm_query.specs.Queries.{Partial, value_at}
 use Rattle.mm_query.specs.declared.bound_query.FieldPlace.{FieldPlace}
-use Rattle.mm_relation.proofs.RowLists.{KeysApart-ordered}
-use Rattle.mm_relation.proofs.Seeks.{place_exact, place_own}
 use Rattle.mm_relation.specs.Kept.{IsKept, StoredRows}
-use Rattle.mm_relation.specs.Reads.{AreMatches, has_value}
+use Rattle.mm_relation.specs.Reads.{AreMatches}
 use Rattle.mm_relation.specs.Refs.{HasRow, Slots, row_at, row_in}
-use Rattle.mm_schema.proofs.Orderings.{equal_from_is_eq}
-use Rattle.mm_schema.specs.Rows.{column_cmp}
 use Rattle.mm_select.proofs.Fits.{row_here}
 use Rattle.mm_store.proofs.Joining.{one_relation}
 use Rattle.mm_store.specs.Links.{RefersTo}
 use Rattle.mm_store.specs.Tables.{IsAt, Tables}
 use Rattle.mm_templist.specs.Combos.{AreLive, row_of, rows_of_combo}
-use Rattle.mm_value.specs.Order.{value_cmp}
 use Rattle.mm_value.specs.declared.row_ref.RowRef.{RowRef}
 use Rattle.mm_value.specs.declared.values.Value.{Value}
 use Rattle.mm_value.specs.declared.values.Value.TheVariants.{Int}
 use Rattle.mm_join.proofs.JoinKeys.{shifted_by_0}
-use Rattle.mm_join.proofs.Probed.{have_from_are}
+use Rattle.mm_join.proofs.Probed.{have_from_are, range_matches}
+use Rattle.mm_relation.proofs.OneKey.{one_of_key as range_of_key}
+use Rattle.mm_select.proofs.Along.{key_range}
 use Rattle.mm_join.specs.Equated.{HaveMatches, IsPartner, plain_key, sought}
-
--- ---- one element that passes
-
-module _ {X : Type 0} (p : X → Bool) where
-  none_pass : (xs : List X) → ((k : ℕ) (d : X) → k < length xs → p (get_or xs k d) ≡ false) → filter p xs ≡ []
-  none_pass [] none = refl
-  none_pass (x ∷ xs) none =
-      ap (λ b. cond b (x ∷ filter p xs) (filter p xs)) (none 0 x (omega arith)) ∙ none_pass xs (λ k d within. none (suc k) d (omega (arith, within)))
-
-  -- Where just the element at one place passes, it is what is left.
-  one_passes : (xs : List X) (i : ℕ) (x : X) → i < length xs → get_or xs i x ≡ x → p x ≡ true
-      → ((k : ℕ) (d : X) → k < length xs → k ≢ i → p (get_or xs k d) ≡ false) → filter p xs ≡ x ∷ []
-  one_passes [] i x within is passes others = absurd (omega (arith, within))
-  one_passes (y ∷ ys) zero x within is passes others =
-      ap (λ b. cond b (y ∷ filter p ys) (filter p ys)) (ap p is ∙ passes)
-      ∙ (λ j. is j ∷ none_pass ys (λ k d inside. others (suc k) d (omega (arith, inside)) (λ same. let no : ⊥ = omega (arith, same) in no)) j)
-  one_passes (y ∷ ys) (suc i) x within is passes others =
-      ap (λ b. cond b (y ∷ filter p ys) (filter p ys)) (others 0 y (omega arith) (λ same. let no : ⊥ = omega (arith, same) in no))
-      ∙ one_passes ys i x (omega (arith, within)) is passes
-      (λ k d inside apart. others (suc k) d (omega (arith, inside)) (λ same. apart (omega (arith, same))))
 
 -- ---- the row of a key
 
 module _ (stored : StoredRows) (kept : IsKept stored.width stored.key (slot_at stored.places) stored.refs stored.indexes)
     (value : Value) (at : RowRef) (live : HasRow (slot_at stored.places) at) (own : slice_get (row_at (slot_at stored.places) at) stored.key ≡ Some value) where
-  abbrev slots : Slots
-  slots = slot_at stored.places
-
-  abbrev has : RowRef → Bool
-  has = has_value stored.key slots value
-
-  place : Contains stored.refs at
-  place = (kept.held at).1 live
-
-  key_of : (r : RowRef) → has r ≡ true → slice_get (row_at slots r) stored.key ≡ Some value
-  key_of r passes =
-      place_exact (slice_get (row_at slots r) stored.key) value
-      (equal_from_is_eq (option_cmp value_cmp (slice_get (row_at slots r) stored.key) (Some value)) passes)
-
-  equal_keys : (a b : RowRef) → slice_get (row_at slots a) stored.key ≡ Some value → slice_get (row_at slots b) stored.key ≡ Some value
-      → column_cmp stored.key (row_at slots a) (row_at slots b) ≡ Equal
-  equal_keys a b is_a is_b =
-      subst (λ (o : Option Value). option_cmp value_cmp (slice_get (row_at slots a) stored.key) o ≡ Equal) (sym is_b)
-      (place_own (slice_get (row_at slots a) stored.key) value is_a)
-
-  own_at : (d : RowRef) → get_or stored.refs place.0 d ≡ at
-  own_at d = get_or_default stored.refs place.0 d at place.1 ∙ place.2
-
-  other_keys : (k : ℕ) (d : RowRef) → k < length stored.refs → k ≢ place.0 → has (get_or stored.refs k d) ≡ false
-  other_keys k d within apart =
-      ⊎_elim
-      (λ (passes : has (get_or stored.refs k d) ≡ true). absurd
-      (let key = key_of (get_or stored.refs k d) passes in
-      let own_key = subst (λ r. slice_get (row_at slots r) stored.key ≡ Some value) (sym (own_at d)) own in
-      ⊎_elim
-      (λ (same : k ≡ place.0). apart same)
-      (λ (o : (k < place.0) ⊎ (place.0 < k)). ⊎_elim
-      (λ (less : k < place.0). KeysApart-ordered stored.key slots stored.refs kept.by_key k place.0 d less place.1
-      (equal_keys (get_or stored.refs k d) (get_or stored.refs place.0 d) key own_key))
-      (λ (more : place.0 < k). KeysApart-ordered stored.key slots stored.refs kept.by_key place.0 k d more within
-      (equal_keys (get_or stored.refs place.0 d) (get_or stored.refs k d) own_key key)) o)
-      (cases_order k place.0)))
-      (λ (fails : has (get_or stored.refs k d) ≡ false). fails)
-      (cases_Bool (has (get_or stored.refs k d)))
-
   -- The reference alone is all the matches of its key.
   one_of_key : AreMatches stored.key (slot_at stored.places) value stored.refs (at ∷ [])
-  one_of_key =
-      subst (IsPermutation (at ∷ []))
-      (sym (one_passes has stored.refs place.0 at place.1 place.2 (ap is_eq (place_own (slice_get (row_at slots at) stored.key) value own)) other_keys))
-      (IsPermutation-refl (at ∷ []))
+  one_of_key = range_matches stored.key stored value (at ∷ [])
+      (key_range stored kept (Some value) (Some value) (at ∷ [])
+      (sym (range_of_key stored.key (slot_at stored.places) stored.refs kept.by_key value at ((kept.held at).1 live) own)))
 
 -- ---- the row that a row of a combination refers to
 

@@ -8,6 +8,7 @@ pub mod InColumn
 pub mod Indexing
 pub mod KeyLookups
 pub mod Made
+pub mod OneKey
 pub mod Matches
 pub mod Ordered
 pub mod RefTests

@@ -1,5 +1,5 @@
 //! Which index a column has, and the rows between two keys.
-ghost use Rattle.std.specs.Prelude.{◌≡◌, ℕ, ◌++◌, position, IfSome, IfNone, OnOk, OnErr};
+ghost use Rattle.std.specs.Prelude.{◌≡◌, ℕ, ◌++◌, ◌∷◌, [], position, IfSome, IfNone, OnOk, OnErr};
 ghost use Rattle.std.specs.Option.{option_copied};
 ghost use Rattle.mm_order.specs.Probe.{entries_between};
 ghost use Rattle.mm_partition.specs.Places.{slot_at};
@@ -10,7 +10,7 @@ use super::Relation;
 use crate::index::Index;
 use crate::tree_reads::{Ends, copy_range};
 use mm_schema::IndexKind;
-use mm_value::{RowRef, Value};
+use mm_value::{RowRef, Value, compare};
 use std::alloc::{AllocError, Global};
 
 impl Relation {
@@ -25,7 +25,8 @@ impl Relation {
     }
 
     /// Appends the references of the rows whose keys are between two ends, these included, in the order of the key. An end
-    /// that is not given leaves its side open. `AllocError` where memory is refused; then `out` holds what it held.
+    /// that is not given leaves its side open; one key alone is sought as by [`Relation::find`]. `AllocError` where memory is
+    /// refused; then `out` holds what it held.
     pub fn key_range(
         &self,
         alloc: Global,
@@ -38,6 +39,12 @@ impl Relation {
             (end_place self.now.key (slot_at self.now.places) (option_copied high.entry)) self.now.refs) }
         ensures err { OnErr result (out.new.items ≡ out.old.items) }
     {
+        if let (Some(first), Some(last)) = (low, high) {
+            if compare(first, last).is_eq() {
+                self.is_kept();
+                return push_found(self.find(first), out);
+            }
+        }
         let ends = Ends { low, high };
         copy_range(
             alloc,
@@ -49,6 +56,18 @@ impl Relation {
             out,
         )
     }
+}
+
+/// Appends a reference, if there is one. `AllocError` where memory is refused; then `out` holds what it held.
+fn push_found(found: Option<RowRef>, out: &mut Vec<RowRef>) -> Result<(), AllocError>
+    ensures some { OnOk result (IfSome found (λ at. out.new.items ≡ out.old.items ++ at ∷ [])) }
+    ensures none { OnOk result (IfNone found (out.new.items ≡ out.old.items)) }
+    ensures err { OnErr result (out.new.items ≡ out.old.items) }
+{
+    if let Some(at) = found {
+        out.push(at)?;
+    }
+    Ok(())
 }
 
 /// The place of the first index of a kind on a column.
