@@ -1,8 +1,12 @@
 //! How the rows of the first table of a query are found.
-ghost use Rattle.std.specs.Prelude.{◌≡◌, ℕ, Contains, IfSome, OnSome};
+ghost use Rattle.std.specs.Prelude.{◌≡◌, ◌≢◌, ℕ, Option, Contains, IfNone, IfSome, OnSome};
 ghost use Rattle.std.specs.Option.{option_copied};
-ghost use Rattle.mm_plan.specs.Ways.{IsAccess, place_of};
+ghost use Rattle.mm_plan.specs.Ways.{HaveTrees, IsAccess, IsPassedOver, IsServed, place_of};
+ghost use Rattle.mm_plan.specs.declared.access.Access.TheVariants.{Scan};
+ghost use Rattle.mm_query.specs.declared.atom.Atom.{Atom as AnyAtom};
+ghost use Rattle.mm_query.specs.declared.atom.Comparison.{Comparison as AnyComparison};
 ghost use Rattle.mm_select.specs.Asked.{IsHigh, IsLow, IsTreeOn, compares};
+ghost use Rattle.mm_value.specs.declared.values.Value.{Value as AnyValue};
 
 use mm_join::join_key;
 use mm_query::{Atom, Comparison, FieldPlace, Operand, PlanLine};
@@ -50,9 +54,10 @@ impl Tree {
     }
 }
 
-/// The tree on a column that was created first; that on the key is the first of its table.
+/// The tree on a column that was created first; that on the key is the first of its table. None where the column has no tree.
 pub fn tree_on(relation: &Relation, column: usize) -> Option<Tree>
-    ensures { IfSome result (λ tree. IsTreeOn relation.now (place_of tree) column) }
+    ensures on { IfSome result (λ tree. IsTreeOn relation.now (place_of tree) column) }
+    ensures none { IfNone result ((index : Option ℕ) → IsTreeOn relation.now index column → ⊥) }
 {
     if column == relation.key() {
         return Some(Tree::Key);
@@ -63,7 +68,8 @@ pub fn tree_on(relation: &Relation, column: usize) -> Option<Tree>
 
 /// The value with which an atom compares a column of the first table, if it does.
 fn constant(atom: &Atom<FieldPlace>) -> Option<&Value>
-    ensures { IfSome result (λ value. atom.now ≡ compares atom.now.left.column atom.now.comparison value.now) }
+    ensures compared { IfSome result (λ value. atom.now ≡ compares atom.now.left.column atom.now.comparison value.now) }
+    ensures none { IfNone result ((column : ℕ) (comparison : AnyComparison) (value : AnyValue) → atom.now ≢ compares column comparison value) }
 {
     match &atom.right {
         Operand::Literal(value) if atom.left.place == 0 => Some(value),
@@ -108,7 +114,9 @@ fn access_by<'q>(
     atom: &'q Atom<FieldPlace>,
 ) -> Option<Access<'q>>
     requires { Contains atoms.now atom.now }
-    ensures { IfSome result (IsAccess relation.now atoms.now) }
+    ensures asked { IfSome result (IsAccess relation.now atoms.now) }
+    ensures served { IfSome result (λ access. access ≢ Scan) }
+    ensures none { IfNone result (IsServed line.now relation.now atom.now → ⊥) }
 {
     let value = constant(atom)?;
     let column = atom.left.column;
@@ -132,13 +140,15 @@ fn access_by<'q>(
     }
 }
 
-/// The way to the first table that a line of a plan takes: for the first atom for which it can.
+/// The way to the first table that a line of a plan takes: for the first atom for which it can. All rows are looked at only where an
+/// index serves no atom by that line.
 pub fn planned_access<'q>(
     relation: &Relation,
     atoms: &'q [Atom<FieldPlace>],
     line: &PlanLine,
 ) -> Access<'q>
-    ensures { IsAccess relation.now atoms.now result }
+    ensures asked { IsAccess relation.now atoms.now result }
+    ensures scan { result ≡ Scan → (atom : AnyAtom FieldPlace) → Contains atoms.now atom → IsServed line.now relation.now atom → ⊥ }
 {
     for atom in atoms {
         if let Some(access) = access_by(relation, atoms, line, atom) {
@@ -148,13 +158,15 @@ pub fn planned_access<'q>(
     Access::Scan
 }
 
-/// The way along the whole tree of the first table beside which a tree merge join goes along the tree of the second.
+/// The way along the whole tree of the first table beside which a tree merge join goes along the tree of the second. All rows are
+/// looked at only where no join equality of the second table has trees on both columns.
 pub fn merge_access<'q>(
     outer: &Relation,
     inner: &Relation,
     atoms: &'q [Atom<FieldPlace>],
 ) -> Access<'q>
-    ensures { IsAccess outer.now atoms.now result }
+    ensures asked { IsAccess outer.now atoms.now result }
+    ensures scan { result ≡ Scan → (atom : AnyAtom FieldPlace) → Contains atoms.now atom → IsPassedOver (HaveTrees outer.now inner.now) 1 atom }
 {
     for atom in atoms {
         if let Some(tree) = merged_tree(outer, inner, atom) {
@@ -170,7 +182,8 @@ pub fn merge_access<'q>(
 
 /// The tree of the first table on the column of a join equality of the second, where both columns have trees.
 fn merged_tree(outer: &Relation, inner: &Relation, atom: &Atom<FieldPlace>) -> Option<Tree>
-    ensures { IfSome result (λ tree. (column : ℕ) × IsTreeOn outer.now (place_of tree) column) }
+    ensures on { IfSome result (λ tree. (column : ℕ) × IsTreeOn outer.now (place_of tree) column) }
+    ensures none { IfNone result (IsPassedOver (HaveTrees outer.now inner.now) 1 atom.now) }
 {
     let key = join_key(atom, 1)?;
     tree_on(inner, key.column)?;

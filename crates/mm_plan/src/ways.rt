@@ -1,7 +1,9 @@
 //! How a further table of a query is joined.
-ghost use Rattle.std.specs.Prelude.{◌≡◌, ◌<◌, All, Contains, IfSome, IsTrue, length, pos};
+ghost use Rattle.std.specs.Prelude.{◌≡◌, ◌≢◌, ◌<◌, ◌↔◌, All, Contains, IfNone, IfSome, IsTrue, length, pos};
 ghost use Rattle.mm_join.specs.Equated.{IsJoin, added};
-ghost use Rattle.mm_plan.specs.Ways.{IsWay};
+ghost use Rattle.mm_plan.specs.Ways.{GoesBy, IsPassedOver, IsWay, LieBeside, RefersPlainly};
+ghost use Rattle.mm_plan.specs.declared.ways.Way.TheVariants.{NestedLoops};
+ghost use Rattle.mm_query.specs.declared.atom.Atom.{Atom as AnyAtom};
 ghost use Rattle.mm_store.specs.Tables.{IsAt};
 
 use crate::access::{Tree, tree_on};
@@ -53,7 +55,9 @@ impl<'a> NextTable<'a> {
         requires there { self.now.table < length self.now.store.now.tables }
         requires earlier { key.field.place < length self.now.outers.now }
         requires asked { IsJoin self.now.atoms.now self.now.outers.now key }
-        ensures { IfSome result (IsWay self.now.store.now self.now.atoms.now self.now.outers.now self.now.table) }
+        ensures asked { IfSome result (IsWay self.now.store.now self.now.atoms.now self.now.outers.now self.now.table) }
+        ensures served { IfSome result (λ way. way ≢ NestedLoops) }
+        ensures none { IfNone result (RefersPlainly self.now.store.now self.now.outers.now self.now.table key → ⊥) }
     {
         let JoinKey {
             column,
@@ -75,7 +79,9 @@ impl<'a> NextTable<'a> {
         requires there { self.now.table < length self.now.store.now.tables }
         requires outers { All (λ table. table < length self.now.store.now.tables) self.now.outers.now }
         requires asked { IsJoin self.now.atoms.now self.now.outers.now key }
-        ensures { IfSome result (IsWay self.now.store.now self.now.atoms.now self.now.outers.now self.now.table) }
+        ensures asked { IfSome result (IsWay self.now.store.now self.now.atoms.now self.now.outers.now self.now.table) }
+        ensures served { IfSome result (λ way. way ≢ NestedLoops) }
+        ensures none { IfNone result (LieBeside self.now.store.now self.now.outers.now self.now.table key → ⊥) }
     {
         let [outer] = self.outers else {
             return None;
@@ -91,7 +97,9 @@ impl<'a> NextTable<'a> {
         requires outers { All (λ table. table < length self.now.store.now.tables) self.now.outers.now }
         requires earlier { key.field.place < length self.now.outers.now }
         requires asked { IsJoin self.now.atoms.now self.now.outers.now key }
-        ensures { IfSome result (IsWay self.now.store.now self.now.atoms.now self.now.outers.now self.now.table) }
+        ensures asked { IfSome result (IsWay self.now.store.now self.now.atoms.now self.now.outers.now self.now.table) }
+        ensures served { IfSome result (λ way. way ≢ NestedLoops) }
+        ensures none { IfNone result (GoesBy line.now self.now.store.now self.now.outers.now self.now.table key → ⊥) }
     {
         match line {
             PlanLine::Precomputed { .. } => self.along_reference(key),
@@ -113,7 +121,9 @@ impl<'a> NextTable<'a> {
     pub fn way(&self, line: &PlanLine) -> Way
         requires there { self.now.table < length self.now.store.now.tables }
         requires outers { All (λ table. table < length self.now.store.now.tables) self.now.outers.now }
-        ensures { IsWay self.now.store.now self.now.atoms.now self.now.outers.now self.now.table result }
+        ensures asked { IsWay self.now.store.now self.now.atoms.now self.now.outers.now self.now.table result }
+        ensures loops { result ≡ NestedLoops → (atom : AnyAtom FieldPlace) → Contains self.now.atoms.now atom
+            → IsPassedOver (GoesBy line.now self.now.store.now self.now.outers.now self.now.table) (length self.now.outers.now) atom }
     {
         for atom in self.atoms {
             if let Some(way) = self.way_for(line, atom) {
@@ -128,7 +138,10 @@ impl<'a> NextTable<'a> {
         requires there { self.now.table < length self.now.store.now.tables }
         requires outers { All (λ table. table < length self.now.store.now.tables) self.now.outers.now }
         requires among { Contains self.now.atoms.now atom.now }
-        ensures { IfSome result (IsWay self.now.store.now self.now.atoms.now self.now.outers.now self.now.table) }
+        ensures asked { IfSome result (IsWay self.now.store.now self.now.atoms.now self.now.outers.now self.now.table) }
+        ensures served { IfSome result (λ way. way ≢ NestedLoops) }
+        ensures none { IfNone result (IsPassedOver (GoesBy line.now self.now.store.now self.now.outers.now self.now.table)
+            (length self.now.outers.now) atom.now) }
     {
         let key = join_key(atom, self.outers.len())?;
         self.way_by(line, key)
@@ -137,7 +150,7 @@ impl<'a> NextTable<'a> {
 
 /// Whether a shift leaves each value as it is.
 fn adds_nothing(shift: Shift) -> bool
-    ensures { IsTrue result → added shift ≡ pos 0 }
+    ensures { IsTrue result ↔ (added shift ≡ pos 0) }
 {
     match shift {
         Shift::Plus(number) => number == 0,
