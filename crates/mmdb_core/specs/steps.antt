@@ -1,7 +1,4 @@
 -- What the steps of a run do. They say how the pieces of the code fit together, and not what is promised.
-pub mod Along
-pub mod Database
-pub mod Edits
 pub mod Feeds
 pub mod Input
 pub mod Respond

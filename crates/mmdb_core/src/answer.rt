@@ -12,7 +12,6 @@ ghost use Rattle.mm_query.specs.declared.reply.Reply.TheVariants.{Rows};
 ghost use Rattle.mmdb_core.specs.steps.Respond.{RepliesToLine, IsStep, RepliesToReading};
 ghost use Rattle.mmdb_core.specs.Run.{is_error};
 
-use crate::database::{Along, Database};
 use mm_lang::{
     Command, Reply, parse, write_reply, write_row_count, write_row_line, write_tuple_line,
 };
@@ -20,6 +19,7 @@ use mm_query::{Definition, Mutation, Query};
 use mm_relation::Relation;
 use mm_schema::{IndexKind, Name};
 use mm_templist::ShownRows;
+use mm_txn::{Along, Db};
 use mm_value::{Refusal, Value, Watched, WriteFault};
 use std::alloc::{AllocError, Global};
 use std::io::Write;
@@ -39,7 +39,7 @@ pub(crate) fn without_return(line: &[u8]) -> &[u8]
 /// to the database is done then too.
 pub(crate) fn answer_line<W: Write>(
     alloc: Global,
-    database: &mut Database,
+    database: &mut Db,
     line: &[u8],
     writer: &mut Watched<W>,
 ) -> Result<bool, WriteFault>
@@ -53,7 +53,7 @@ pub(crate) fn answer_line<W: Write>(
 /// Does what was read, if it is a command, and answers it.
 fn respond<W: Write>(
     alloc: Global,
-    database: &mut Database,
+    database: &mut Db,
     command: Result<Command, Refusal>,
     writer: &mut Watched<W>,
 ) -> Result<bool, WriteFault>
@@ -74,23 +74,17 @@ fn respond<W: Write>(
 }
 
 /// Changes the catalog.
-fn define(alloc: Global, database: &mut Database, definition: Definition) -> Reply
+fn define(alloc: Global, database: &mut Db, definition: Definition) -> Reply
     ensures { IsStep (Define definition) database.old (record { reply = Some result; state = database.new }) }
 {
-    let done = match definition {
-        Definition::Table(definition) => database.add_table(alloc, definition),
-        Definition::DropTable(name) => database.drop_table(&name),
-        Definition::Index(index) => database.add_index(alloc, index),
-        Definition::DropIndex(name) => database.drop_index(&name),
-    };
-    match done {
+    match database.define(alloc, definition) {
         Ok(()) => Reply::Done,
         Err(refusal) => Reply::Refused(refusal),
     }
 }
 
 /// Changes rows.
-fn change(alloc: Global, database: &mut Database, mutation: Mutation) -> Reply
+fn change(alloc: Global, database: &mut Db, mutation: Mutation) -> Reply
     ensures { IsStep (Change mutation) database.old (record { reply = Some result; state = database.new }) }
 {
     match database.change(alloc, mutation) {
@@ -100,7 +94,7 @@ fn change(alloc: Global, database: &mut Database, mutation: Mutation) -> Reply
 }
 
 /// The plan of a query.
-fn explain(alloc: Global, database: &Database, query: &Query) -> Reply
+fn explain(alloc: Global, database: &Db, query: &Query) -> Reply
     ensures { IsStep (Explain query.now) database.now (record { reply = Some result; state = database.now }) }
 {
     match database.explain(alloc, query) {
@@ -111,7 +105,7 @@ fn explain(alloc: Global, database: &Database, query: &Query) -> Reply
 
 /// Answers the rows of a table, which are written from where they lie.
 fn answer_scan<W: Write>(
-    database: &Database,
+    database: &Db,
     table: &Name,
     writer: &mut Watched<W>,
 ) -> Result<bool, WriteFault>
@@ -128,7 +122,7 @@ fn answer_scan<W: Write>(
 /// references are put in order first, which may be refused memory.
 fn answer_index_scan<W: Write>(
     alloc: Global,
-    database: &Database,
+    database: &Db,
     index: &Name,
     writer: &mut Watched<W>,
 ) -> Result<bool, WriteFault>
@@ -140,7 +134,7 @@ fn answer_index_scan<W: Write>(
         place,
         column,
         kind,
-    } = match database.index(index) {
+    } = match database.scan_index(index) {
         Ok(along) => along,
         Err(refusal) => return send(&Reply::Refused(refusal), writer),
     };
@@ -156,7 +150,7 @@ fn answer_index_scan<W: Write>(
 /// Answers the rows that a query gives, which are written from where their values lie.
 fn answer_select<W: Write>(
     alloc: Global,
-    database: &Database,
+    database: &Db,
     query: &Query,
     writer: &mut Watched<W>,
 ) -> Result<bool, WriteFault>

@@ -1,16 +1,12 @@
-//! The database behind its command language: a script is read line by line, and each line gets its reply.
+//! The command language before the database: a script is read line by line, and each line gets its reply.
 #![tactic(auto)]
 
 mod answer;
-mod database;
-mod edits;
-mod explain;
 mod fault;
 mod input;
 mod laws;
 mod limits;
 mod run_script;
-mod select;
 mod window;
 
 pub use fault::{RunFault, exit_status};

@@ -5,11 +5,11 @@ ghost use Rattle.mmdb_core.specs.steps.Respond.{GoesOn};
 ghost use Rattle.mmdb_core.specs.Run.{Answers, BrokeOff, TakesWithin};
 
 use crate::answer::{answer_line, send, without_return};
-use crate::database::Database;
 use crate::fault::RunFault;
 use crate::input::{Input, Next};
 use crate::limits::{Limits, Totals};
 use mm_lang::Reply;
+use mm_txn::Db;
 use mm_value::{Refusal, Watched};
 use std::alloc::Global;
 use std::io::{Read, Write};
@@ -49,7 +49,7 @@ pub fn run<R: Read, W: Write>(
     ensures broke_off { IfErr result (BrokeOff R.remaining reader.old reader.new limits
         (W.contents (inner_of writer.old)) (W.contents (inner_of writer.new))) }
 {
-    let mut database = Database::new(alloc);
+    let mut database = Db::new(alloc);
     let mut input = Input::new(limits);
     let mut totals = Totals {
         lines: 0,
@@ -67,7 +67,7 @@ fn answer_next<R: Read, W: Write>(
     alloc: Global,
     input: &mut Input,
     reader: &mut Watched<R>,
-    database: &mut Database,
+    database: &mut Db,
     writer: &mut Watched<W>,
 ) -> Result<Option<bool>, RunFault>
     requires { has_failed writer.old ≡ false }

@@ -1,0 +1,9 @@
+mod ChangeSteps
+mod DatabaseSteps
+mod Explaining
+mod IndexSteps
+mod IndexesBeside
+mod KeptReferences
+mod ReferenceRows
+mod RowsBeside
+mod Selecting

@@ -1,0 +1,228 @@
+-- A catalog's tables, and the relations beside them.
+use Rattle.std.proofs.Common.{◌≡◌, ℕ, zero, suc, ◌+◌, ◌<◌, Bool, true, false, cond, not, List, [], ◌∷◌, ◌++◌, Some, length, map, slice_get, slice_set, refl, sym, ap, subst, ◌∙◌, arith}
+use Rattle.std.specs.List.{IsDistinct, filter, position_or_len, remove}
+use Rattle.std.proofs.lemmas.Map.Keys.{IsDistinct-tail}
+use Rattle.mm_schema.specs.Columns.{key_place}
+use Rattle.mm_schema.specs.Instance.{changed_instance, pairs_of, rows_named, without_rows}
+use Rattle.mm_schema.specs.Name.{same_name}
+use Rattle.mm_schema.specs.Rows.{Pair, changed}
+use Rattle.mm_schema.specs.declared.table.Table.{Table}
+use Rattle.mm_schema.proofs.Instances.{AreBeside, LackName, changed_instance-others, edits_of_one, name_of, others_lack, pairs_of-other, pairs_of-own}
+use Rattle.mm_schema.proofs.Twins.{Row}
+use Rattle.mm_txn.specs.Kept.{AreIndexes, AreOf, IsOf, instance_of}
+use Rattle.mm_relation.specs.Index.{EachTurns, SameIndex}
+use Rattle.mm_relation.specs.Kept.{StoredRows}
+use Rattle.mm_relation.specs.declared.index.Index.{Index}
+use Rattle.mm_schema.specs.declared.column.Column.{Column}
+use Rattle.mm_schema.specs.declared.index.IndexDef.{IndexDef}
+use Rattle.mm_relation.specs.RowLists.{rows_of}
+use Rattle.mm_store.specs.Tables.{HasRows}
+
+-- There are as many rows as tables.
+pub as_many_rows : (ts : List Table) (rs : List StoredRows) → AreOf ts rs → length rs ≡ length ts
+as_many_rows [] [] are = refl
+as_many_rows (t ∷ ts) (r ∷ rs) are = ap (λ n. suc n) (as_many_rows ts rs are.1)
+as_many_rows [] (r ∷ rs) are = absurd are
+as_many_rows (t ∷ ts) [] are = absurd are
+
+are_beside : (ts : List Table) (rs : List StoredRows) → AreOf ts rs → AreBeside ts (instance_of rs)
+are_beside [] [] are = tt
+are_beside (t ∷ ts) (r ∷ rs) are = are_beside ts rs are.1
+are_beside [] (r ∷ rs) are = absurd are
+are_beside (t ∷ ts) [] are = absurd are
+
+-- ---- at a place
+
+-- The rows at a place are those of a table there, whose key is theirs.
+pub record IsBeside (ts : List Table) (place : ℕ) (stored : StoredRows) : Type 0 where
+  pub table : Table
+  pub is_of : IsOf table stored
+  pub there : slice_get ts place ≡ Some table
+
+pub beside : (ts : List Table) (rs : List StoredRows) (place : ℕ) (stored : StoredRows) → AreOf ts rs → slice_get rs place ≡ Some stored
+    → IsBeside ts place stored
+beside (t ∷ ts) (r ∷ rs) zero stored are h =
+    let same : r ≡ stored = cc in
+    record { table = t; is_of = subst (IsOf t) same are.0; there = refl }
+beside (t ∷ ts) (r ∷ rs) (suc place) stored are h =
+    let later = beside ts rs place stored are.1 h in record { table = later.table; is_of = later.is_of; there = later.there }
+beside ts [] place stored are h = cc
+beside [] (r ∷ rs) place stored are h = absurd are
+
+first_or_later : (b : Bool) (r stored : StoredRows) (rs : List StoredRows) (n : ℕ) (others : List Row)
+    → slice_get (r ∷ rs) (cond (not b) (1 + n) 0) ≡ Some stored → (slice_get rs n ≡ Some stored → others ≡ rows_of stored) → cond b (rows_of r) others ≡ rows_of stored
+first_or_later true r stored rs n others here rest = let same : r ≡ stored = cc in ap rows_of same
+first_or_later false r stored rs n others here rest =
+    let next : 1 + n ≡ suc n = omega arith in rest (subst (λ k. slice_get (r ∷ rs) k ≡ Some stored) next here)
+
+-- The rows of a name are those at its table's place.
+pub rows_at_place : (name : List ℕ) (ts : List Table) (rs : List StoredRows) (stored : StoredRows) → AreOf ts rs
+    → slice_get rs (position_or_len (λ t. same_name name (name_of t)) ts) ≡ Some stored → rows_named name ts (instance_of rs) ≡ rows_of stored
+rows_at_place name (t ∷ ts) (r ∷ rs) stored are here =
+    first_or_later (same_name name (name_of t)) r stored rs (position_or_len (λ u. same_name name (name_of u)) ts) (rows_named name ts (instance_of rs)) here
+    (rows_at_place name ts rs stored are.1)
+rows_at_place name [] [] stored are here = cc
+rows_at_place name [] (r ∷ rs) stored are here = absurd are
+rows_at_place name (t ∷ ts) [] stored are here = cc
+
+-- ---- other rows at a place
+
+-- ---- indexes
+
+-- Indexes that turned into others of their columns and kinds are those of the same definitions.
+pub AreIndexes-turned : (columns : List Column) (ds : List IndexDef) (xs ys : List Index) → EachTurns SameIndex xs ys → AreIndexes columns ds xs
+    → AreIndexes columns ds ys
+AreIndexes-turned columns [] [] [] turned are = tt
+AreIndexes-turned columns [] [] (y ∷ ys) turned are = absurd (let size = turned.size in omega arith)
+AreIndexes-turned columns [] (x ∷ xs) ys turned are = absurd are
+AreIndexes-turned columns (d ∷ ds) [] ys turned are = absurd are
+AreIndexes-turned columns (d ∷ ds) (x ∷ xs) [] turned are = absurd (let size = turned.size in omega arith)
+AreIndexes-turned columns (d ∷ ds) (x ∷ xs) (y ∷ ys) turned are =
+    let first : SameIndex x y = turned.each 0 x (omega arith) in
+    let later : EachTurns SameIndex xs ys = record { size = (let size = turned.size in omega arith); each = λ k e below. turned.each (suc k) e (omega arith) } in (
+      record { column = are.0.column ∙ ap (λ c. Some c) (sym first.0); kind = first.1 ∙ are.0.kind },
+      AreIndexes-turned columns ds xs ys later are.1,
+    )
+
+-- They are rows of the same tables where they have the same columns, key and indexes.
+pub AreOf-set : (ts : List Table) (rs : List StoredRows) (place : ℕ) (old new : StoredRows) → slice_get rs place ≡ Some old → new.key ≡ old.key
+    → new.width ≡ old.width → EachTurns SameIndex old.indexes new.indexes → AreOf ts rs → AreOf ts (slice_set rs place new)
+AreOf-set (t ∷ ts) (r ∷ rs) zero old new h key width indexes are =
+    let was : r ≡ old = cc in
+    let is_of : IsOf t old = subst (IsOf t) was are.0 in (
+      record {
+        key = key ∙ is_of.key;
+        width = width ∙ is_of.width;
+        indexes = AreIndexes-turned t.definition.columns t.indexes old.indexes new.indexes indexes is_of.indexes;
+      },
+      are.1,
+    )
+AreOf-set (t ∷ ts) (r ∷ rs) (suc place) old new h key width indexes are = (are.0, AreOf-set ts rs place old new h key width indexes are.1)
+AreOf-set ts [] place old new h key width indexes are = cc
+AreOf-set [] (r ∷ rs) place old new h key width indexes are = absurd are
+
+-- What stands at a place may be put there.
+pub set_itself : (rs : List StoredRows) (place : ℕ) (stored : StoredRows) → slice_get rs place ≡ Some stored → rs ≡ slice_set rs place stored
+set_itself [] place stored h = cc
+set_itself (r ∷ rs) zero stored h = let was : r ≡ stored = cc in ap (λ first. first ∷ rs) was
+set_itself (r ∷ rs) (suc place) stored h = ap (λ others. r ∷ others) (set_itself rs place stored h)
+
+pub HasRows-itself : (stored : StoredRows) → HasRows stored (rows_of stored) stored
+HasRows-itself stored = record {
+  rows_are = refl;
+  width = refl;
+  key = refl;
+  indexes = record { size = refl; each = λ k d below. (refl, refl) };
+}
+
+-- Where they are the same rows, all rows are.
+pub instance_of-set : (rs : List StoredRows) (place : ℕ) (old new : StoredRows) → slice_get rs place ≡ Some old → rows_of new ≡ rows_of old
+    → instance_of (slice_set rs place new) ≡ instance_of rs
+instance_of-set [] place old new h same = cc
+instance_of-set (r ∷ rs) zero old new h same =
+    let was : r ≡ old = cc in
+    λ i. (same ∙ sym (ap rows_of was)) i ∷ instance_of rs
+instance_of-set (r ∷ rs) (suc place) old new h same = ap (λ others. rows_of r ∷ others) (instance_of-set rs place old new h same)
+
+module _ (name : List ℕ) (pairs : List Pair) (old new : StoredRows) (is : rows_of new ≡ changed old.key pairs (rows_of old)) where
+  own_or_others : (t : Table) (ts : List Table) (r : StoredRows) (rs : List StoredRows) (n : ℕ) (b : Bool) → same_name name (name_of t) ≡ b
+      → AreOf (t ∷ ts) (r ∷ rs) → IsDistinct same_name (map name_of (t ∷ ts)) → slice_get (r ∷ rs) (cond (not b) (1 + n) 0) ≡ Some old
+      → (slice_get rs n ≡ Some old → changed_instance ts (edits_of_one name pairs) (instance_of rs) ≡ instance_of (slice_set rs n new))
+      → changed_instance (t ∷ ts) (edits_of_one name pairs) (instance_of (r ∷ rs)) ≡ instance_of (slice_set (r ∷ rs) (cond (not b) (1 + n) 0) new)
+  own_or_others t ts r rs n true own are distinct here rest =
+      let same : r ≡ old = cc in
+      let becomes : changed (key_place t.definition.columns) (pairs_of (name_of t) (edits_of_one name pairs)) (rows_of r) ≡ rows_of new =
+      ap (λ key. changed key (pairs_of (name_of t) (edits_of_one name pairs)) (rows_of r)) (sym are.0.key)
+      ∙ ap (λ ps. changed r.key ps (rows_of r)) (pairs_of-own name pairs (name_of t) own)
+      ∙ ap (λ (k : StoredRows). changed k.key pairs (rows_of k)) same ∙ sym is in
+      λ i. becomes i ∷ changed_instance-others name pairs ts (instance_of rs) (are_beside ts rs are.1) (others_lack name t ts own distinct) i
+  own_or_others t ts r rs n false other are distinct here rest =
+      let next : 1 + n ≡ suc n = omega arith in
+      (λ i. changed (key_place t.definition.columns) (pairs_of-other name pairs (name_of t) other i) (rows_of r)
+      ∷ rest (subst (λ k. slice_get (r ∷ rs) k ≡ Some old) next here) i)
+      ∙ ap (λ k. instance_of (slice_set (r ∷ rs) k new)) (sym next)
+
+  -- The rows at the place of a name are changed by its pairs, and no others.
+  pub changed_at_place : (ts : List Table) (rs : List StoredRows) → AreOf ts rs → IsDistinct same_name (map name_of ts)
+      → slice_get rs (position_or_len (λ t. same_name name (name_of t)) ts) ≡ Some old
+      → changed_instance ts (edits_of_one name pairs) (instance_of rs) ≡ instance_of (slice_set rs (position_or_len (λ t. same_name name (name_of t)) ts) new)
+  changed_at_place (t ∷ ts) (r ∷ rs) are distinct here =
+      own_or_others t ts r rs (position_or_len (λ u. same_name name (name_of u)) ts) (same_name name (name_of t)) refl are distinct here
+      (changed_at_place ts rs are.1 (IsDistinct-tail same_name (name_of t) (map name_of ts) distinct))
+  changed_at_place [] [] are distinct here = refl
+  changed_at_place [] (r ∷ rs) are distinct here = absurd are
+  changed_at_place (t ∷ ts) [] are distinct here = absurd are
+
+module _ (name : List ℕ) (pairs : List Pair) (old : StoredRows) where
+  its_own_or_others : (t : Table) (ts : List Table) (r : StoredRows) (rs : List StoredRows) (n : ℕ) (b : Bool) → same_name name (name_of t) ≡ b
+      → AreOf (t ∷ ts) (r ∷ rs) → slice_get (r ∷ rs) (cond (not b) (1 + n) 0) ≡ Some old → (others : List Row)
+      → (slice_get rs n ≡ Some old → others ≡ changed old.key pairs (rows_of old))
+      → cond b (changed (key_place t.definition.columns) (pairs_of (name_of t) (edits_of_one name pairs)) (rows_of r)) others
+      ≡ changed old.key pairs (rows_of old)
+  its_own_or_others t ts r rs n true own are here others rest =
+      let same : r ≡ old = cc in
+      ap (λ key. changed key (pairs_of (name_of t) (edits_of_one name pairs)) (rows_of r)) (sym are.0.key)
+      ∙ ap (λ ps. changed r.key ps (rows_of r)) (pairs_of-own name pairs (name_of t) own)
+      ∙ ap (λ (k : StoredRows). changed k.key pairs (rows_of k)) same
+  its_own_or_others t ts r rs n false other are here others rest =
+      let next : 1 + n ≡ suc n = omega arith in rest (subst (λ k. slice_get (r ∷ rs) k ≡ Some old) next here)
+
+  -- The rows that the name has then are those rows, changed.
+  pub rows_after_change : (ts : List Table) (rs : List StoredRows) → AreOf ts rs
+      → slice_get rs (position_or_len (λ t. same_name name (name_of t)) ts) ≡ Some old
+      → rows_named name ts (changed_instance ts (edits_of_one name pairs) (instance_of rs)) ≡ changed old.key pairs (rows_of old)
+  rows_after_change (t ∷ ts) (r ∷ rs) are here =
+      its_own_or_others t ts r rs (position_or_len (λ u. same_name name (name_of u)) ts) (same_name name (name_of t)) refl are here
+      (rows_named name ts (changed_instance ts (edits_of_one name pairs) (instance_of rs))) (rows_after_change ts rs are.1)
+  rows_after_change [] [] are here = cc
+  rows_after_change [] (r ∷ rs) are here = absurd are
+  rows_after_change (t ∷ ts) [] are here = absurd are
+
+-- ---- one more table
+
+-- A new table's rows come last.
+pub AreOf-push : (ts : List Table) (rs : List StoredRows) (table : Table) (stored : StoredRows) → IsOf table stored → AreOf ts rs
+    → AreOf (ts ++ table ∷ []) (rs ++ stored ∷ [])
+AreOf-push [] [] table stored is_of are = (is_of, tt)
+AreOf-push (t ∷ ts) (r ∷ rs) table stored is_of are = (are.0, AreOf-push ts rs table stored is_of are.1)
+AreOf-push [] (r ∷ rs) table stored is_of are = absurd are
+AreOf-push (t ∷ ts) [] table stored is_of are = absurd are
+
+-- ---- one table less
+
+module _ (name : List ℕ) where
+  -- Tables of other names stay with their rows, ..
+  others_stay : (ts : List Table) (rs : List StoredRows) → AreOf ts rs → LackName name ts
+      → (without_rows name ts (instance_of rs) ≡ instance_of rs) × AreOf (filter (λ t. not (same_name name (name_of t))) ts) rs
+  others_stay [] [] are lack = (refl, tt)
+  others_stay (t ∷ ts) (r ∷ rs) are lack =
+      let later = others_stay ts rs are.1 lack.1 in
+      rw (lack.0) (ap (λ others. rows_of r ∷ others) later.0, (are.0, later.1))
+  others_stay [] (r ∷ rs) are lack = absurd are
+  others_stay (t ∷ ts) [] are lack = absurd are
+
+  one_less : (t : Table) (ts : List Table) (r : StoredRows) (rs : List StoredRows) (n : ℕ) (b : Bool) → same_name name (name_of t) ≡ b
+      → AreOf (t ∷ ts) (r ∷ rs) → IsDistinct same_name (map name_of (t ∷ ts)) → cond (not b) (1 + n) 0 < length (r ∷ rs)
+      → (n < length rs → (without_rows name ts (instance_of rs) ≡ instance_of (remove rs n))
+      × AreOf (filter (λ u. not (same_name name (name_of u))) ts) (remove rs n))
+      → (cond b (without_rows name ts (instance_of rs)) (rows_of r ∷ without_rows name ts (instance_of rs))
+      ≡ instance_of (remove (r ∷ rs) (cond (not b) (1 + n) 0)))
+      × AreOf (cond (not b) (t ∷ filter (λ u. not (same_name name (name_of u))) ts) (filter (λ u. not (same_name name (name_of u))) ts))
+      (remove (r ∷ rs) (cond (not b) (1 + n) 0))
+  one_less t ts r rs n true own are distinct within rest = others_stay ts rs are.1 (others_lack name t ts own distinct)
+  one_less t ts r rs n false other are distinct within rest =
+      let later = rest (omega arith) in
+      let next : 1 + n ≡ suc n = omega arith in
+      rw (next) (ap (λ others. rows_of r ∷ others) later.0, (are.0, later.1))
+
+  -- .. and the table of the name goes with its own.
+  pub dropped_at_place : (ts : List Table) (rs : List StoredRows) → AreOf ts rs → IsDistinct same_name (map name_of ts)
+      → position_or_len (λ t. same_name name (name_of t)) ts < length rs
+      → (without_rows name ts (instance_of rs) ≡ instance_of (remove rs (position_or_len (λ t. same_name name (name_of t)) ts)))
+      × AreOf (filter (λ t. not (same_name name (name_of t))) ts) (remove rs (position_or_len (λ t. same_name name (name_of t)) ts))
+  dropped_at_place (t ∷ ts) (r ∷ rs) are distinct within =
+      one_less t ts r rs (position_or_len (λ u. same_name name (name_of u)) ts) (same_name name (name_of t)) refl are distinct within
+      (dropped_at_place ts rs are.1 (IsDistinct-tail same_name (name_of t) (map name_of ts) distinct))
+  dropped_at_place [] [] are distinct within = absurd (omega arith)
+  dropped_at_place [] (r ∷ rs) are distinct within = absurd are
+  dropped_at_place (t ∷ ts) [] are distinct within = absurd are

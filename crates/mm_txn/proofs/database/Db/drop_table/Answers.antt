@@ -1,0 +1,60 @@
+-- The table at the place of a name goes from the catalog and from the store.
+use Rattle.std.proofs.Common.{◌≡◌, ◌≢◌, true, cond, List, Some, None, inl, sym, ap, subst, ◌∙◌, arith}
+use Rattle.std.specs.List.{All, list_any}
+use Rattle.std.proofs.lemmas.Result.{err_from_is_err_and}
+use Rattle.mm_relation.specs.Kept.{StoredRows}
+use Rattle.mm_schema.specs.Schema.{Schema, is_other_referring_to, lacks_table, without_table}
+use Rattle.mm_schema.specs.declared.reference.Reference.{Reference}
+use Rattle.mm_value.specs.declared.refusal.Refusal.{Refusal}
+use Rattle.mm_value.specs.declared.refusal.Refusal.TheVariants.{InUse, NoSuchTable}
+use Rattle.mm_query.specs.Machine.{after_definition}
+use Rattle.mm_query.specs.State.{State}
+use Rattle.mm_query.specs.declared.command.Definition.TheVariants as define
+use Rattle.mm_query.proofs.Due.{lacks_nowhere}
+use Rattle.mm_txn.specs.Kept.{AreKept, AreOf}
+use Rattle.mm_txn.proofs.DatabaseSteps.{rows_there, some_there, state_of, table_dropped}
+use Rattle.mm_txn.proofs.KeptReferences.{kept_by_no_table, none_to_dropped}
+use Rattle.mm_txn.proofs.RowsBeside.{beside}
+use Rattle.mm_txn.proofs.database.Db.drop_table.Goals as goal
+
+pub returns-in_err-place-clause-due : goal.returns-in_err-place-clause-due
+returns-in_err-place-clause-due c =
+    let p = err_from_is_err_and c.from_residual.result c.from_residual.ensures.1 in
+    let lacks = lacks_nowhere c.args.name.now c.self.inside.catalog (sym c.place_of.ensures.place ∙ c.in_err-place.ensures.ok_part) in
+    let lacks_now : lacks_table c.args.name.now
+    c.args.self.now.schema ≡ true = sym (ap (λ (s : State). lacks_table c.args.name.now s.schema) c.self.view_is) ∙ lacks in
+    let told : NoSuchTable ≡ c.in_err-place.field-0.0 = grind arith in
+    rw (p.1, p.2) (inl (ap (λ b. cond b (Some NoSuchTable) (cond (list_any (is_other_referring_to c.args.name.now) c.args.self.now.schema.tables)
+    (Some InUse) None)) lacks_now ∙ ap (λ (r : Refusal). Some r) told))
+
+pub drop_table-requires-2-clause-there : goal.drop_table-requires-2-clause-there
+drop_table-requires-2-clause-there c =
+    rows_there c.self.inside.catalog c.self.inside.store.tables c.self.invariant.relations c.args.name.now c.in_ok-place.place
+    (sym c.place_of.ensures.place ∙ c.in_ok-place.ensures.ok_part)
+
+pub drop_table-requires-2-clause-unused : goal.drop_table-requires-2-clause-unused
+drop_table-requires-2-clause-unused c =
+    let placed = sym c.place_of.ensures.place ∙ c.in_ok-place.ensures.ok_part in
+    let stored = some_there c.self.inside.store.tables c.in_ok-place.place (rows_there c.self.inside.catalog c.self.inside.store.tables c.self.invariant.relations
+    c.args.name.now c.in_ok-place.place placed) in
+    let at = beside c.self.inside.catalog.tables c.self.inside.store.tables c.in_ok-place.place stored.0 c.self.invariant.relations stored.1 in
+    subst (All (λ (r : Reference). r.to ≢ c.in_ok-place.place)) (sym c.self.invariant.links)
+    (none_to_dropped c.self.inside.catalog c.args.name.now c.in_ok-place.place placed at.table at.there c.self.invariant.targets c.self.invariant.others
+    c.in_ok-drop_table.ensures.due)
+
+pub invariant_of-self-2 : goal.invariant_of-self-2
+invariant_of-self-2 c =
+    let dropped = table_dropped c.self.inside.catalog c.self.inside.store.tables c.self.invariant.relations c.args.name.now c.in_ok-place.place
+    (sym c.place_of.ensures.place ∙ c.in_ok-place.ensures.ok_part) c.place_of.ensures.distinct in
+    subst (λ (schema : Schema). AreKept schema c.drop_table-2.new.self) (sym c.in_ok-drop_table.ensures.ok)
+    (kept_by_no_table c.self.inside.catalog c.self.inside.store c.drop_table-2.new.self c.self.invariant c.args.name.now c.in_ok-place.place
+    (sym c.place_of.ensures.place ∙ c.in_ok-place.ensures.ok_part) c.place_of.ensures.distinct c.in_ok-drop_table.ensures.due
+    (subst (λ (rs : List StoredRows). AreOf (without_table c.args.name.now c.self.inside.catalog).tables rs) (sym c.drop_table-2.ensures.tables) dropped.1)
+    c.drop_table-2.ensures.links)
+
+pub returns-clause-ok : goal.returns-clause-ok
+returns-clause-ok c =
+    let dropped = table_dropped c.self.inside.catalog c.self.inside.store.tables c.self.invariant.relations c.args.name.now c.in_ok-place.place
+    (sym c.place_of.ensures.place ∙ c.in_ok-place.ensures.ok_part) c.place_of.ensures.distinct in
+    (λ i. state_of (c.in_ok-drop_table.ensures.ok i) (c.drop_table-2.ensures.tables i)) ∙ dropped.0
+    ∙ ap (after_definition (define.DropTable c.args.name.now)) c.self.view_is

@@ -1,0 +1,12 @@
+//! The database behind the command language: the catalog, and beside it the rows of its tables. Each call is one step of the
+//! machine of row lists.
+//!
+//! A call that may take memory is handed the allocator; no other call takes any.
+#![tactic(auto)]
+
+mod database;
+mod edits;
+mod explain;
+mod select;
+
+pub use database::{Along, Db};
