@@ -3,7 +3,6 @@ pub mod FeedLemmas
 pub mod Inputs
 pub mod LawLemmas
 pub mod LongLines
-pub mod Outcomes
 pub mod Runs
 pub mod Scanning
 pub mod Selects
