@@ -25,7 +25,7 @@ fn make(relation: &mut Relation, alloc: Global, edits: Vec<Edit>) -> Result<bool
         return Ok(false);
     }
     let mut log = Log::new(alloc);
-    relation.apply(alloc, edits, &mut log)?;
+    relation.apply(alloc, edits, 0, &mut log)?;
     relation.settle(&mut log);
     Ok(true)
 }

@@ -7,11 +7,14 @@ pub mod Gathered
 pub mod InColumn
 pub mod Indexing
 pub mod KeyLookups
+pub mod Lawful
 pub mod Made
 pub mod OneKey
 pub mod Matches
 pub mod Ordered
+pub mod Phase
 pub mod RefTests
+pub mod Reverted
 pub mod Removed
 pub mod Rooms
 pub mod RowLists
@@ -21,6 +24,7 @@ mod Served
 pub mod SortedRows
 pub mod Staying
 pub mod Steps
+pub mod TakenBack
 pub mod Turning
 pub mod Twins
 pub mod TwinsAfter

@@ -1,5 +1,5 @@
 -- A relation that has more room keeps what it kept.
-use Rattle.std.proofs.Common.{◌≡◌, ℕ, ◌<◌, List, refl, sym, ◌∙◌, subst}
+use Rattle.std.proofs.Common.{◌≡◌, ℕ, ◌+◌, ◌<◌, ◌≤◌, List, length, refl, sym, ◌∙◌, subst, arith}
 use Rattle.std.specs.Prelude.{map, IsPermutation}
 use Rattle.mm_value.specs.declared.row_ref.RowRef.{RowRef}
 use Rattle.mm_value.specs.declared.values.Value.{Value}
@@ -12,12 +12,12 @@ use Rattle.mm_relation.specs.Changes.{Changes, Standing}
 use Rattle.mm_relation.specs.declared.edits.Edit.{Edit}
 use Rattle.mm_relation.specs.declared.log.Entry.{Entry}
 use Rattle.mm_relation.specs.HashedPairs.{hashed_pair}
-use Rattle.mm_relation.specs.Index.{InOrder, Keeps, EachTurns, Taken, Put, SameIndex, SameEntries, Grown, column_of, kind_of}
+use Rattle.mm_relation.specs.Index.{InOrder, Keeps, EachTurns, Taken, Put, SameIndex, SameEntries, Grown, column_of, kind_of, spare_of}
 use Rattle.mm_relation.specs.Kept.{StoredRows, IsKept, SameButRoom, KeysStayApart, HasRowsAfter, Stay, rows_after, RowsApart}
 use Rattle.mm_relation.specs.declared.index.Index.{Index}
 use Rattle.mm_relation.specs.declared.index.Index.TheVariants.{Tree, Hash}
 use Rattle.mm_relation.proofs.RefTests.{alike}
-use Rattle.mm_relation.proofs.Turning.{All-turned, EachTurns-twice, Grown-refl}
+use Rattle.mm_relation.proofs.Turning.{All-turned, EachTurns-twice, EachTurns-weaker, Grown-refl}
 
 -- the column is among what two indexes of the same entries share
 pub column_same : (x y : Index) → SameEntries x y → column_of y ≡ column_of x
@@ -49,25 +49,32 @@ Keeps-same key now held (Hash column pairs) (Hash other more) same keeps =
 pub EachTurns-Grown-refl : (xs : List Index) → EachTurns Grown xs xs
 EachTurns-Grown-refl xs = record { size = refl; each = λ k d within. Grown-refl _ }
 
--- with more room a relation still keeps its rows
-pub IsKept-grown : (width key : ℕ) (old new : Slots) (refs more : List RowRef) (xs ys : List Index)
-    → ((at : RowRef) → new at ≡ old at) → more ≡ refs → EachTurns Grown xs ys
+-- with the same entries in each index a relation still keeps its rows ..
+pub IsKept-same : (width key : ℕ) (old new : Slots) (refs more : List RowRef) (xs ys : List Index)
+    → ((at : RowRef) → new at ≡ old at) → more ≡ refs → EachTurns SameEntries xs ys
     → IsKept width key old refs xs → IsKept width key new more ys
-IsKept-grown width key old new refs more xs ys stays same grown was =
+IsKept-same width key old new refs more xs ys stays same entries was =
     let kept : IsKept width key old refs ys = record {
       key_in = was.key_in;
       columns =
-          All-turned Grown (λ x. column_of x < width) (λ x. column_of x < width) xs ys grown
-          (λ x y within g. subst (λ (n : ℕ). n < width) (sym (column_same x y g.same)) within) was.columns;
+          All-turned SameEntries (λ x. column_of x < width) (λ x. column_of x < width) xs ys entries
+          (λ x y within e. subst (λ (n : ℕ). n < width) (sym (column_same x y e)) within) was.columns;
       wide = was.wide;
       held = was.held;
       by_key = was.by_key;
       keep =
-          All-turned Grown (Keeps key old refs) (Keeps key old refs) xs ys grown
-          (λ x y keeps g. Keeps-same key old refs x y g.same keeps) was.keep;
+          All-turned SameEntries (Keeps key old refs) (Keeps key old refs) xs ys entries
+          (λ x y keeps e. Keeps-same key old refs x y e keeps) was.keep;
     } in
     subst (λ (now : Slots). IsKept width key now more ys) (sym (alike new old stays))
     (subst (λ (l : List RowRef). IsKept width key old l ys) (sym same) kept)
+
+-- .. and so it does with more room
+pub IsKept-grown : (width key : ℕ) (old new : Slots) (refs more : List RowRef) (xs ys : List Index)
+    → ((at : RowRef) → new at ≡ old at) → more ≡ refs → EachTurns Grown xs ys
+    → IsKept width key old refs xs → IsKept width key new more ys
+IsKept-grown width key old new refs more xs ys stays same grown was =
+    IsKept-same width key old new refs more xs ys stays same (EachTurns-weaker Grown SameEntries (λ x y g. g.same) xs ys grown) was
 
 -- what is said of the rows is said of those with more room
 module _ (old mid : StoredRows) (same : SameButRoom old mid) where
@@ -121,3 +128,11 @@ pub indexes_changed : (key : ℕ) (old new : Slots) (outs ins : List RowRef) (st
 indexes_changed key old new outs ins stay stayed start some full taken put =
     EachTurns-twice (λ x. Taken key old outs (stay x) x) (λ x. Put key new ins (stayed x) x) SameIndex
     (λ x y z t p. (p.column ∙ t.column, p.kind ∙ t.kind)) start some full taken put
+
+-- .. and needs room for what came into it, beside that of what went
+pub spares_changed : (key : ℕ) (old new : Slots) (outs ins : List RowRef) (stay stayed : Index → List RowRef) (start some full : List Index)
+    → EachTurns (λ x. Taken key old outs (stay x) x) start some → EachTurns (λ x. Put key new ins (stayed x) x) some full
+    → EachTurns (λ x y. spare_of x ≤ spare_of y + length ins) start full
+spares_changed key old new outs ins stay stayed start some full taken put =
+    EachTurns-twice (λ x. Taken key old outs (stay x) x) (λ x. Put key new ins (stayed x) x) (λ x y. spare_of x ≤ spare_of y + length ins)
+    (λ x y z t p. omega (arith, t.spare, p.spare)) start some full taken put

@@ -1,5 +1,5 @@
 -- Edits that the tests make.
-use Rattle.std.proofs.Common.{◌≡◌, ℕ, zero, suc, List, [], ◌∷◌, ◌++◌, length, Some, sym, ap, ◌∙◌, subst, arith}
+use Rattle.std.proofs.Common.{◌≡◌, ℕ, zero, suc, List, [], ◌∷◌, ◌++◌, length, Some, true, false, sym, ap, ◌∙◌, subst, arith}
 use Rattle.std.specs.Prelude.{◌≢◌}
 use Rattle.std.specs.List.{All, AllPairs, Contains}
 use Rattle.std.proofs.lemmas.List.Elements.{All-cons, All-append, All-push, filter_map-append}
@@ -10,7 +10,9 @@ use Rattle.mm_relation.specs.declared.names.Side.TheVariants.{Old}
 use Rattle.mm_relation.specs.declared.edits.Edit.{Edit}
 use Rattle.mm_relation.specs.declared.edits.Edit.TheVariants.{Add}
 use Rattle.mm_relation.specs.Edits.{edit_name, Among, new_row, new_rows}
-use Rattle.mm_relation.proofs.Apply.{split_off}
+use Rattle.mm_relation.proofs.Phase.{split_off}
+use Rattle.mm_relation.specs.Before.{same_ref}
+use Rattle.mm_relation.proofs.RefTests.{test_from_same}
 use Rattle.mm_relation.proofs.Changed.{olds}
 
 -- rows of so many values
@@ -40,16 +42,19 @@ one_named refs e at name here =
     rw named_at
     (split_off (at ∷ []) refs (λ i j d before within same. absurd (omega arith)) (All-cons (Contains refs) at [] here (λ k d within. absurd (omega arith))))
 
-two_apart : (a b : RowRef) → a ≢ b → AllPairs (λ x y. x ≢ y) (a ∷ b ∷ [])
-two_apart a b differ zero (suc zero) d before within same = differ same
-two_apart a b differ i j d before within same = absurd (omega arith)
+three_apart : (a b e : RowRef) → a ≢ b → a ≢ e → b ≢ e → AllPairs (λ x y. x ≢ y) (a ∷ b ∷ e ∷ [])
+three_apart a b e ab ae be zero (suc zero) d before within same = ab same
+three_apart a b e ab ae be zero (suc (suc zero)) d before within same = ae same
+three_apart a b e ab ae be (suc zero) (suc (suc zero)) d before within same = be same
+three_apart a b e ab ae be i j d before within same = absurd (omega arith)
 
--- the rows of two
-pub two_named : (refs : List RowRef) (e f : Edit) (a b : RowRef) → edit_name e Old ≡ Some a → edit_name f Old ≡ Some b → a ≢ b → Contains refs a
-    → Contains refs b → Among refs (olds (e ∷ f ∷ []))
-two_named refs e f a b name_e name_f differ has_a has_b =
-    let first : edit_name e Old ≡ Some a = name_e in
-    let second : edit_name f Old ≡ Some b = name_f in
-    rw (first, second)
-    (split_off (a ∷ b ∷ []) refs (two_apart a b differ)
-    (All-cons (Contains refs) a (b ∷ []) has_a (All-cons (Contains refs) b [] has_b (λ k d within. absurd (omega arith)))))
+apart_by_test : (a b : RowRef) → false ≡ same_ref a b → a ≢ b
+apart_by_test a b test same = let both : true ≡ false = sym (test_from_same a b same) ∙ sym test in cc
+
+-- three rows of other references
+pub three_among : (refs : List RowRef) (a b e : RowRef) → false ≡ same_ref a b → false ≡ same_ref a e → false ≡ same_ref b e
+    → Contains refs a → Contains refs b → Contains refs e → Among refs (a ∷ b ∷ e ∷ [])
+three_among refs a b e ab ae be has_a has_b has_e =
+    split_off (a ∷ b ∷ e ∷ []) refs (three_apart a b e (apart_by_test a b ab) (apart_by_test a e ae) (apart_by_test b e be))
+    (All-cons (Contains refs) a (b ∷ e ∷ []) has_a
+    (All-cons (Contains refs) b (e ∷ []) has_b (All-cons (Contains refs) e [] has_e (λ k d within. absurd (omega arith)))))

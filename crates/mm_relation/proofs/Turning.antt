@@ -65,6 +65,14 @@ SameEntries-refl (Hash column pairs) = (refl, refl)
 pub Grown-refl : (x : Index) → Grown x x
 Grown-refl x = record { same = SameEntries-refl x; spare = omega arith }
 
+-- what turns in the one way turns in a weaker one
+pub EachTurns-weaker : {X : Type 0} (R S : X → X → Type 0) → ((x y : X) → R x y → S x y) → (start now : List X) → EachTurns R start now
+    → EachTurns S start now
+EachTurns-weaker R S weaker start now t = record {
+  size = t.size;
+  each = λ k d within. weaker (get_or start k d) (get_or now k d) (t.each k d within);
+}
+
 -- a turn upon a turn
 pub EachTurns-twice : {X : Type 0} (R S T : X → X → Type 0) → ((x y z : X) → R x y → S y z → T x z)
     → (start mid now : List X) → EachTurns R start mid → EachTurns S mid now → EachTurns T start now

@@ -27,7 +27,7 @@ use Rattle.mm_relation.specs.declared.edits.Edit.{Edit}
 use Rattle.mm_relation.specs.declared.edits.Edit.TheVariants.{Add, Swap, Gone}
 use Rattle.mm_relation.specs.declared.names.Side.TheVariants.{Old}
 use Rattle.mm_order.proofs.Pairs.{AllPairs-append_left}
-use Rattle.mm_relation.proofs.Apply.{distinct}
+use Rattle.mm_relation.proofs.Phase.{distinct}
 use Rattle.mm_relation.proofs.Steps.{AllPairs-permutation}
 use Rattle.mm_relation.proofs.Changed.{olds, added_count-cons}
 use Rattle.mm_relation.proofs.Staying.{moving, moving_first, staying}
@@ -192,12 +192,18 @@ KeysStayApart-without_twins stored edits none kept stay =
 removal_count-cons : (e : Edit) (es : List Edit) → removal_count (e ∷ es) ≡ removal_count (e ∷ []) + removal_count es
 removal_count-cons e es = sum_by-append (λ (x : Edit). cond (is_removal x) 1 0) (e ∷ []) es
 
--- an edit with a new row has an old one or adds, and one with an old row has a new one or removes
-balance : (edits : List Edit) → length (new_rows edits) + removal_count edits ≡ length (olds edits) + added_count edits
-balance [] = refl
-balance (Add row ∷ es) = omega (arith, balance es, removal_count-cons (Add row) es, added_count-cons (Add row) es)
-balance (Swap at row ∷ es) = omega (arith, balance es, removal_count-cons (Swap at row) es, added_count-cons (Swap at row) es)
-balance (Gone at ∷ es) = omega (arith, balance es, removal_count-cons (Gone at) es, added_count-cons (Gone at) es)
+-- an edit adds or has an old row, and removes or has a new one
+pub olds_counted : (edits : List Edit) → length (olds edits) + added_count edits ≡ length edits
+olds_counted [] = refl
+olds_counted (Add row ∷ es) = omega (arith, olds_counted es, added_count-cons (Add row) es)
+olds_counted (Swap at row ∷ es) = omega (arith, olds_counted es, added_count-cons (Swap at row) es)
+olds_counted (Gone at ∷ es) = omega (arith, olds_counted es, added_count-cons (Gone at) es)
+
+pub news_counted : (edits : List Edit) → length (new_rows edits) + removal_count edits ≡ length edits
+news_counted [] = refl
+news_counted (Add row ∷ es) = omega (arith, news_counted es, removal_count-cons (Add row) es)
+news_counted (Swap at row ∷ es) = omega (arith, news_counted es, removal_count-cons (Swap at row) es)
+news_counted (Gone at ∷ es) = omega (arith, news_counted es, removal_count-cons (Gone at) es)
 
 removals_named : (edits : List Edit) → removal_count edits ≤ length (olds edits)
 removals_named [] = omega arith
@@ -216,7 +222,7 @@ module _ (now : Slots) (refs : List RowRef) (edits : List Edit) (kept : List Row
   -- how many rows there are after the edits
   pub rows_after_count : length refs - removal_count edits + added_count edits ≡ length (rows_after now edits kept)
   rows_after_count =
-      omega (arith, whole, balance edits, removals_named edits, length-append (new_rows edits) (map (row_at now) kept), length-map kept (row_at now))
+      omega (arith, whole, olds_counted edits, news_counted edits, removals_named edits, length-append (new_rows edits) (map (row_at now) kept), length-map kept (row_at now))
 
 -- edits of rows that are there stand
 pub Standing-of_refs : (width key : ℕ) (now : Slots) (refs : List RowRef) (indexes : List Index) → IsKept width key now refs indexes → (edits : List Edit)

@@ -21,7 +21,7 @@ use Rattle.mm_relation.specs.HashedPairs.{hash_of, hashed_pair}
 use Rattle.mm_relation.specs.Edits.{edit_name, edit_other, entry_name, entry_other}
 use Rattle.mm_relation.specs.Changes.{Step, Changes, Standing}
 use Rattle.mm_relation.specs.Index.{InOrder, Keeps, column_of, kind_of, tie_column, unmoved}
-use Rattle.mm_relation.specs.Moves.{agree}
+use Rattle.mm_relation.specs.Moves.{agree, moves, passed}
 use Rattle.mm_relation.specs.declared.index.Index.{Index}
 use Rattle.mm_relation.specs.declared.index.Index.TheVariants.{Tree, Hash}
 use Rattle.mm_schema.specs.declared.index.IndexKind.TheVariants as kind
@@ -35,25 +35,32 @@ use Rattle.mm_relation.proofs.Changed.{olds, olds_split, first_absent, Standing-
 use Rattle.mm_relation.proofs.Ordered.{IsOrdered-agree}
 use Rattle.mm_relation.proofs.Staying.{staying}
 
+-- ---- the items of a change before it and after it
+
+-- neither item has a row on its other side, or both name one reference, which had the one row and has the other
+abbrev pub IsPair : Slots → Slots → Option RowRef → Option (List Value) → Option RowRef → Option (List Value) → Type 0
+IsPair old new at None r None = Unit {0}
+IsPair old new at None r (Some was) = ⊥
+IsPair old new at (Some row) r None = ⊥
+IsPair old new None (Some row) r (Some was) = ⊥
+IsPair old new (Some at) (Some row) None (Some was) = ⊥
+IsPair old new (Some at) (Some row) (Some r) (Some was) = (r ≡ at) × (old at ≡ Live was) × (new at ≡ Live row)
+
+module _ {T U : Type 0} (name : T → Side → Option RowRef) (other : T → Option (List Value)) (side : Side)
+    (later : U → Side → Option RowRef) (former : U → Option (List Value)) (end : Side) (old new : Slots) where
+  abbrev pub ArePaired : List T → List U → Type 0
+  ArePaired [] [] = Unit {0}
+  ArePaired [] (u ∷ us) = ⊥
+  ArePaired (t ∷ ts) [] = ⊥
+  ArePaired (t ∷ ts) (u ∷ us) = IsPair old new (name t side) (other t) (later u end) (former u) × ArePaired ts us
+
 -- ---- edits beside their entries
 
--- an edit that changes a row and its entry tell of one row, which was the one and is the other
-abbrev Paired : Slots → Slots → Edit → Entry → Type 0
-Paired old new (Add row) (Added r) = Unit {0}
-Paired old new (Add row) (Changed r was) = ⊥
-Paired old new (Add row) (Removed r) = ⊥
-Paired old new (Swap at row) (Added r) = ⊥
-Paired old new (Swap at row) (Changed r was) = (r ≡ at) × (old at ≡ Live was) × (new at ≡ Live row)
-Paired old new (Swap at row) (Removed r) = ⊥
-Paired old new (Gone at) (Added r) = ⊥
-Paired old new (Gone at) (Changed r was) = ⊥
-Paired old new (Gone at) (Removed r) = Unit {0}
+abbrev pub EditsPaired : Slots → Slots → List Edit → List Entry → Type 0
+EditsPaired old new es ns = ArePaired edit_name edit_other Old entry_name entry_other New old new es ns
 
-abbrev pub ArePaired : Slots → Slots → List Edit → List Entry → Type 0
-ArePaired old new [] [] = Unit {0}
-ArePaired old new [] (n ∷ ns) = ⊥
-ArePaired old new (e ∷ es) [] = ⊥
-ArePaired old new (e ∷ es) (n ∷ ns) = Paired old new e n × ArePaired old new es ns
+abbrev EditPaired : Slots → Slots → Edit → Entry → Type 0
+EditPaired old new e n = IsPair old new (edit_name e Old) (edit_other e) (entry_name n New) (entry_other n)
 
 -- what the other edits name stands after the first edit as it did
 stand_still : (start mid next : Slots) (e : Edit) (n : Entry) (es : List Edit) → Standing mid (e ∷ es) → Step e mid n next
@@ -72,35 +79,35 @@ stand_still start mid next e n es standing step same k d within =
     (λ first. All-contains (λ y. at ≢ y) (olds es) at (All-contains (λ x. All (λ y. x ≢ y) (olds es)) (olds (e ∷ [])) at across first) here refl))
 
 first_pair : (start mid next new : Slots) (e : Edit) (n : Entry) (es : List Edit) (ns : List Entry) → Standing mid (e ∷ es) → Step e mid n next
-    → Changes es next ns new → All (λ r. start r ≡ mid r) (olds (e ∷ es)) → Paired start new e n
+    → Changes es next ns new → All (λ r. start r ≡ mid r) (olds (e ∷ es)) → EditPaired start new e n
 first_pair start mid next new (Add row) (Added r) es ns standing step changes same = tt
-first_pair start mid next new (Add row) (Changed r was) es ns standing step changes same = step
-first_pair start mid next new (Add row) (Removed r) es ns standing step changes same = step
-first_pair start mid next new (Swap at row) (Added r) es ns standing step changes same = step
+first_pair start mid next new (Add row) (Changed r was) es ns standing step changes same = absurd step
+first_pair start mid next new (Add row) (Removed r) es ns standing step changes same = absurd step
+first_pair start mid next new (Swap at row) (Added r) es ns standing step changes same = absurd step
 first_pair start mid next new (Swap at row) (Changed r was) es ns standing step changes same =
     let here : HasRow next at = (row, step.1.turns.changed) in (
       step.0,
       same 0 at (omega arith) ∙ step.1.was,
       row_stays es ns next new at changes here (first_absent at (olds es) standing.apart) ∙ step.1.turns.changed,
     )
-first_pair start mid next new (Swap at row) (Removed r) es ns standing step changes same = step
-first_pair start mid next new (Gone at) (Added r) es ns standing step changes same = step
-first_pair start mid next new (Gone at) (Changed r was) es ns standing step changes same = step
+first_pair start mid next new (Swap at row) (Removed r) es ns standing step changes same = absurd step
+first_pair start mid next new (Gone at) (Added r) es ns standing step changes same = absurd step
+first_pair start mid next new (Gone at) (Changed r was) es ns standing step changes same = absurd step
 first_pair start mid next new (Gone at) (Removed r) es ns standing step changes same = tt
 
 pairs_from : (start mid new : Slots) (es : List Edit) (ns : List Entry) → Standing mid es → Changes es mid ns new
-    → All (λ r. start r ≡ mid r) (olds es) → ArePaired start new es ns
+    → All (λ r. start r ≡ mid r) (olds es) → EditsPaired start new es ns
 pairs_from start mid new [] [] standing changes same = tt
-pairs_from start mid new [] (n ∷ ns) standing changes same = changes
-pairs_from start mid new (e ∷ es) [] standing changes same = changes
+pairs_from start mid new [] (n ∷ ns) standing changes same = absurd changes
+pairs_from start mid new (e ∷ es) [] standing changes same = absurd changes
 pairs_from start mid new (e ∷ es) (n ∷ ns) standing changes same = (
   first_pair start mid changes.0 new e n es ns standing changes.1 changes.2 same,
   pairs_from start changes.0 new es ns (Standing-rest mid changes.0 e n es standing changes.1) changes.2
       (stand_still start mid changes.0 e n es standing changes.1 same),
 )
 
-pub ArePaired-changes : (old new : Slots) (es : List Edit) (ns : List Entry) → Standing old es → Changes es old ns new → ArePaired old new es ns
-ArePaired-changes old new es ns standing changes = pairs_from old old new es ns standing changes (λ k d within. refl)
+pub EditsPaired-changes : (old new : Slots) (es : List Edit) (ns : List Entry) → Standing old es → Changes es old ns new → EditsPaired old new es ns
+EditsPaired-changes old new es ns standing changes = pairs_from old old new es ns standing changes (λ k d within. refl)
 
 -- ---- what stays is the same on both sides, and its values are
 
@@ -135,45 +142,33 @@ module _ (column key : ℕ) (old new : Slots) where
   All-tested P at xs true first rest = All-cons P at xs (first refl) rest
   All-tested P at xs false first rest = rest
 
-  pub levels : (es : List Edit) (ns : List Entry) → ArePaired old new es ns
-      → All (IsLevel column key old new) (staying edit_name edit_other column key old Old es)
-  levels [] [] pairs = All-nil (IsLevel column key old new)
-  levels [] (n ∷ ns) pairs = absurd pairs
-  levels (e ∷ es) [] pairs = absurd pairs
-  levels (Add row ∷ es) (Added r ∷ ns) pairs = levels es ns pairs.1
-  levels (Add row ∷ es) (Changed r was ∷ ns) pairs = absurd pairs.0
-  levels (Add row ∷ es) (Removed r ∷ ns) pairs = absurd pairs.0
-  levels (Swap at row ∷ es) (Added r ∷ ns) pairs = absurd pairs.0
-  levels (Swap at row ∷ es) (Changed r was ∷ ns) pairs =
-      All-tested (IsLevel column key old new) at (staying edit_name edit_other column key old Old es) (agree column key row (row_at old at))
-      (level_from at row pairs.0.2) (levels es ns pairs.1)
-  levels (Swap at row ∷ es) (Removed r ∷ ns) pairs = absurd pairs.0
-  levels (Gone at ∷ es) (Added r ∷ ns) pairs = absurd pairs.0
-  levels (Gone at ∷ es) (Changed r was ∷ ns) pairs = absurd pairs.0
-  levels (Gone at ∷ es) (Removed r ∷ ns) pairs = levels es ns pairs.1
+  level_step : (o : Option RowRef) (p : Option (List Value)) (q : Option RowRef) (r : Option (List Value)) → IsPair old new o p q r
+      → (xs : List RowRef) → All (IsLevel column key old new) xs
+      → All (IsLevel column key old new) (cons_option (passed (λ at. not (moves column key old p at)) o) xs)
+  level_step None p q r pair xs rest = rest
+  level_step (Some at) None q r pair xs rest = rest
+  level_step (Some at) (Some row) q None pair xs rest = absurd pair
+  level_step (Some at) (Some row) None (Some was) pair xs rest = absurd pair
+  level_step (Some at) (Some row) (Some b) (Some was) pair xs rest =
+      All-tested (IsLevel column key old new) at xs (agree column key row (row_at old at)) (level_from at row pair.2) rest
 
-  pub same_stay : (es : List Edit) (ns : List Entry) → ArePaired old new es ns
-      → staying edit_name edit_other column key old Old es ≡ staying entry_name entry_other column key new New ns
-  same_stay [] [] pairs = refl
-  same_stay [] (n ∷ ns) pairs = absurd pairs
-  same_stay (e ∷ es) [] pairs = absurd pairs
-  same_stay (Add row ∷ es) (Added r ∷ ns) pairs = same_stay es ns pairs.1
-  same_stay (Add row ∷ es) (Changed r was ∷ ns) pairs = absurd pairs.0
-  same_stay (Add row ∷ es) (Removed r ∷ ns) pairs = absurd pairs.0
-  same_stay (Swap at row ∷ es) (Added r ∷ ns) pairs = absurd pairs.0
-  same_stay (Swap at row ∷ es) (Changed r was ∷ ns) pairs =
-      let was_at : row_at old at ≡ was = ap row_in pairs.0.1 in
-      let now_at : row_at new r ≡ row = ap (row_at new) pairs.0.0 ∙ ap row_in pairs.0.2 in
-      let test : agree column key row (row_at old at) ≡ agree column key was (row_at new r) =
+  stay_step : (o : Option RowRef) (p : Option (List Value)) (q : Option RowRef) (r : Option (List Value)) → IsPair old new o p q r
+      → passed (λ at. not (moves column key old p at)) o ≡ passed (λ at. not (moves column key new r at)) q
+  stay_step None None None None pair = refl
+  stay_step None None (Some b) None pair = refl
+  stay_step (Some at) None None None pair = refl
+  stay_step (Some at) None (Some b) None pair = refl
+  stay_step o None q (Some was) pair = absurd pair
+  stay_step o (Some row) q None pair = absurd pair
+  stay_step None (Some row) q (Some was) pair = absurd pair
+  stay_step (Some at) (Some row) None (Some was) pair = absurd pair
+  stay_step (Some at) (Some row) (Some b) (Some was) pair =
+      let was_at : row_at old at ≡ was = ap row_in pair.1 in
+      let now_at : row_at new b ≡ row = ap (row_at new) pair.0 ∙ ap row_in pair.2 in
+      let test : agree column key row (row_at old at) ≡ agree column key was (row_at new b) =
       ap (agree column key row) was_at ∙ (agree_comm column key row was ∙ ap (agree column key was) (sym now_at)) in
-      let rest : List RowRef = staying edit_name edit_other column key old Old es in
-      ap (λ b. cons_option (cond (not (not b)) (Some at) None) rest) test
-      ∙ (ap (λ x. cons_option (cond (not (not (agree column key was (row_at new r)))) (Some x) None) rest) (sym pairs.0.0)
-      ∙ ap (λ xs. cons_option (cond (not (not (agree column key was (row_at new r)))) (Some r) None) xs) (same_stay es ns pairs.1))
-  same_stay (Swap at row ∷ es) (Removed r ∷ ns) pairs = absurd pairs.0
-  same_stay (Gone at ∷ es) (Added r ∷ ns) pairs = absurd pairs.0
-  same_stay (Gone at ∷ es) (Changed r was ∷ ns) pairs = absurd pairs.0
-  same_stay (Gone at ∷ es) (Removed r ∷ ns) pairs = same_stay es ns pairs.1
+      ap (λ t. cond (not (not t)) (Some at) None) test
+      ∙ ap (λ x. cond (not (not (agree column key was (row_at new b)))) (Some x) None) (sym pair.0)
 
   -- rows that stay as they are have the same values
   pub levels_same : (refs : List RowRef) → All (λ r. new r ≡ old r) refs → All (IsLevel column key old new) refs
@@ -199,6 +194,27 @@ module _ (column key : ℕ) (old new : Slots) where
       let first : hashed_pair column new r ≡ hashed_pair column old r =
       ap (λ o. (hash_of o, r)) (level 0 r (omega arith)).0 in
       ap₂ (λ p ps. p ∷ ps) first (pairs_level rs (λ k d within. level (suc k) d (omega arith)))
+
+module _ {T U : Type 0} (name : T → Side → Option RowRef) (other : T → Option (List Value)) (side : Side)
+    (later : U → Side → Option RowRef) (former : U → Option (List Value)) (end : Side) (column key : ℕ) (old new : Slots) where
+  -- the rows that stay have the same values
+  pub levels : (ts : List T) (us : List U) → ArePaired name other side later former end old new ts us
+      → All (IsLevel column key old new) (staying name other column key old side ts)
+  levels [] us pairs = All-nil (IsLevel column key old new)
+  levels (t ∷ ts) [] pairs = absurd pairs
+  levels (t ∷ ts) (u ∷ us) pairs =
+      level_step column key old new (name t side) (other t) (later u end) (former u) pairs.0 (staying name other column key old side ts)
+      (levels ts us pairs.1)
+
+  -- they are the same ones after the change
+  pub same_stay : (ts : List T) (us : List U) → ArePaired name other side later former end old new ts us
+      → staying name other column key old side ts ≡ staying later former column key new end us
+  same_stay [] [] pairs = refl
+  same_stay [] (u ∷ us) pairs = absurd pairs
+  same_stay (t ∷ ts) [] pairs = absurd pairs
+  same_stay (t ∷ ts) (u ∷ us) pairs =
+      ap₂ (λ (o : Option RowRef) (xs : List RowRef). cons_option o xs)
+      (stay_step column key old new (name t side) (other t) (later u end) (former u) pairs.0) (same_stay ts us pairs.1)
 
 -- an index keeps rows of which it sees no change
 pub Keeps-level : (key : ℕ) (old new : Slots) (held : List RowRef) (x : Index) → All (IsLevel (column_of x) (tie_column key x) old new) held

@@ -1,5 +1,5 @@
 -- One index, over what stands at each reference.
-use Rattle.std.specs.Prelude.{◌≡◌, ◌≢◌, ℕ, ◌+◌, ◌<◌, ◌≤◌, List, ◌++◌, Option, length, map, AllPairs, IsPermutation, slice_index_or}
+use Rattle.std.specs.Prelude.{◌≡◌, ◌≢◌, ℕ, ◌+◌, ◌<◌, ◌≤◌, List, ◌++◌, Option, length, map, min, AllPairs, IsPermutation, slice_index_or}
 use Rattle.std.specs.declared.cmp.Ordering.TheVariants.{Equal}
 use Rattle.mm_value.specs.declared.row_ref.RowRef.{RowRef}
 use Rattle.mm_schema.specs.Rows.{column_cmp}
@@ -101,6 +101,16 @@ pub record Grown (old new : Index) : Type 0 where
 pub record GrownTo (n : ℕ) (old new : Index) : Type 0 where
   pub grown : Grown old new
   pub room : n ≤ spare_of new
+
+-- of its spare nodes a TREE index keeps at most so many, and a HASH index all
+abbrev pub trimmed_spare : ℕ → Index → ℕ
+trimmed_spare n (Tree column refs) = min refs.spare n
+trimmed_spare n (Hash column pairs) = pairs.spare
+
+-- an index has the same entries, and at most so many spare nodes if it is a TREE index
+pub record Trimmed (n : ℕ) (old new : Index) : Type 0 where
+  pub same : SameEntries old new
+  pub spare : spare_of new ≡ trimmed_spare n old
 
 -- two indexes have the same column and are of the same kind
 abbrev pub SameIndex : Index → Index → Type 0

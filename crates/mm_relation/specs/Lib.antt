@@ -6,6 +6,7 @@ pub mod HashedPairs
 pub mod Index
 pub mod Kept
 pub mod KeyRows
+pub mod Lawful
 pub mod LogEntries
 pub mod Moves
 pub mod Orders
@@ -15,3 +16,4 @@ pub mod RowLists
 pub mod Sample
 pub mod Served
 pub mod Sorting
+pub mod Turned

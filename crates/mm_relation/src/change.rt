@@ -1,15 +1,20 @@
 //! Edits of the slots, noted so that they can be taken back.
-ghost use Rattle.std.specs.Prelude.{◌≡◌, ◌+◌, ◌≤◌, [], ◌∷◌, length};
+ghost use Rattle.std.specs.Prelude.{◌≡◌, ◌≢◌, ◌+◌, ◌≤◌, [], ◌∷◌, length, AllPairs};
 ghost use Rattle.mm_partition.specs.Places.{slot_at, extent_of};
 ghost use Rattle.std.specs.Prelude.{Contains};
 ghost use Rattle.mm_value.specs.declared.row_ref.RowRef.{RowRef};
 ghost use Rattle.mm_partition.specs.Places.{Free};
+ghost use Rattle.mm_relation.specs.declared.names.Side.TheVariants.{New, Old};
+ghost use Rattle.mm_relation.specs.Before.{Stands, StandsBack, step_back, before};
 ghost use Rattle.mm_relation.specs.Changes.{Standing, Step, Changes, AreHidden};
-ghost use Rattle.mm_relation.specs.Edits.{added_count, removed};
+ghost use Rattle.mm_relation.specs.Edits.{added_count, entry_name, named, removed};
+ghost use Rattle.mm_relation.specs.Index.{EachTurns};
+ghost use Rattle.mm_relation.specs.Turned.{Turned};
 
 use crate::edits::Edit;
 use crate::log::{Entry, Log};
 use mm_partition::Partitions;
+use mm_value::RowRef;
 
 /// Makes one edit of the slots.
 fn change(rows: &mut Partitions, edit: Edit) -> Entry
@@ -55,5 +60,44 @@ pub fn release_each(rows: &mut Partitions, entries: &[Entry])
         if let Some(at) = entry.removed() {
             rows.release(at);
         }
+    }
+}
+
+/// Takes one change of the slots back. Its entry keeps the row that was taken away.
+fn take_back(rows: &mut Partitions, entry: Entry) -> Entry
+    requires { Stands (slot_at rows.old) entry }
+    ensures slots { slot_at rows.new ≡ step_back entry (slot_at rows.old) }
+    ensures turned { Turned (slot_at rows.old) entry result }
+    ensures extent { extent_of rows.new ≡ extent_of rows.old }
+{
+    match entry {
+        Entry::Added(at) => {
+            rows.hide(at);
+            rows.release(at);
+            Entry::Added(at)
+        }
+        Entry::Changed(at, row) => Entry::Changed(at, rows.replace(at, row)),
+        Entry::Removed(at) => {
+            rows.unhide(at);
+            Entry::Removed(at)
+        }
+    }
+}
+
+/// Takes all changes of the slots back, the newest first. Each entry of a row that was changed keeps the row that was
+/// taken away. It takes no memory.
+pub fn take_back_each(rows: &mut Partitions, log: &mut Log)
+    requires stands { StandsBack log.old.entries (slot_at rows.old) }
+    requires new_apart { AllPairs (λ a b. a ≢ b) (named entry_name New log.old.entries) }
+    requires old_apart { AllPairs (λ a b. a ≢ b) (named entry_name Old log.old.entries) }
+    ensures slots { slot_at rows.new ≡ before log.old.entries (slot_at rows.old) }
+    ensures turned { EachTurns (Turned (slot_at rows.old)) log.old.entries log.new.entries }
+    ensures extent { extent_of rows.new ≡ extent_of rows.old }
+{
+    for index in (0..log.entries().len()).rev() {
+        // Another entry stands in for this one while it is with the rows.
+        let none = Entry::Added(RowRef { part: 0, slot: 0 });
+        let entry = log.replace(index, none);
+        log.replace(index, take_back(rows, entry));
     }
 }

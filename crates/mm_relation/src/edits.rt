@@ -1,6 +1,8 @@
 //! Edits of a table's rows.
-ghost use Rattle.std.specs.Prelude.{◌≡◌, ◌≤◌, length};
-ghost use Rattle.mm_relation.specs.Edits.{edit_name, edit_other, added_count};
+ghost use Rattle.std.specs.Prelude.{◌≡◌, ◌+◌, ◌≤◌, ◌^◌, length, IfSome, IsNone};
+ghost use Rattle.mm_relation.specs.declared.names.Side.TheVariants as side;
+ghost use Rattle.mm_relation.specs.KeyRows.{removal_count};
+ghost use Rattle.mm_relation.specs.Edits.{edit_name, edit_other, added_count, named, new_rows};
 
 use crate::names::{Names, Side};
 use mm_value::{Row, RowRef};
@@ -48,4 +50,26 @@ pub fn count_added(edits: &[Edit]) -> usize
         .iter()
         .filter(|edit| matches!(edit, Edit::Add(_)))
         .count()
+}
+
+/// How many of the edits take a row out.
+pub fn count_removals(edits: &[Edit]) -> usize
+    ensures { result ≡ removal_count edits.now }
+{
+    edits
+        .iter()
+        .filter(|edit| matches!(edit, Edit::Gone(_)))
+        .count()
+}
+
+/// How many spare places an index needs for the edits beside those that are owed: one for each reference that comes in
+/// with a new row, and one for each that comes in again with an old row when the edits are taken back. None where that
+/// is no `usize`.
+pub fn count_places(edits: &[Edit], owed: usize) -> Option<usize>
+    ensures some { IfSome result (λ n. n ≡ owed + (length (named edit_name side.Old edits.now) + length (new_rows edits.now))) }
+    ensures none { IsNone result → 2 ^ 64 ≤ owed + (length (named edit_name side.Old edits.now) + length (new_rows edits.now)) }
+{
+    let old = edits.len() - count_added(edits);
+    let new = edits.len() - count_removals(edits);
+    old.checked_add(new)?.checked_add(owed)
 }

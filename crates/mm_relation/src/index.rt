@@ -5,7 +5,7 @@ ghost use Rattle.mm_partition.specs.Places.{slot_at};
 ghost use Rattle.mm_relation.specs.Refs.{IsWide};
 ghost use Rattle.mm_relation.specs.Edits.{named};
 ghost use Rattle.mm_relation.specs.Reads.{IsOn};
-ghost use Rattle.mm_relation.specs.Index.{KeysApart, Keeps, Taken, Put, EachTurns, Grown, GrownTo, column_of, spare_of, unmoved};
+ghost use Rattle.mm_relation.specs.Index.{KeysApart, Keeps, Taken, Put, EachTurns, Grown, GrownTo, Trimmed, column_of, spare_of, unmoved};
 
 use crate::hash_entries::{put_pairs, take_pairs};
 use crate::names::{Names, Side};
@@ -82,6 +82,16 @@ impl Index {
         match self {
             Index::Tree { refs, .. } => refs.reserve(alloc, n),
             Index::Hash { pairs, .. } => pairs.reserve(alloc, n),
+        }
+    }
+
+    /// Gives spare nodes of a TREE index back until there are at most `n`. A HASH index keeps what it has.
+    pub(crate) fn trim_spares(&mut self, n: usize)
+        ensures { Trimmed n self.old self.new }
+    {
+        match self {
+            Index::Tree { refs, .. } => refs.trim_spares(n),
+            Index::Hash { .. } => {}
         }
     }
 

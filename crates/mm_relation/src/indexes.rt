@@ -4,7 +4,7 @@ ghost use Rattle.mm_value.specs.declared.row_ref.RowRef.{RowRef};
 ghost use Rattle.mm_partition.specs.Places.{slot_at};
 ghost use Rattle.mm_relation.specs.Refs.{IsWide};
 ghost use Rattle.mm_relation.specs.Edits.{named};
-ghost use Rattle.mm_relation.specs.Index.{KeysApart, Keeps, Taken, Put, EachTurns, Grown, GrownTo, column_of, spare_of, unmoved};
+ghost use Rattle.mm_relation.specs.Index.{KeysApart, Keeps, Taken, Put, EachTurns, Grown, GrownTo, Trimmed, column_of, spare_of, unmoved};
 
 use crate::index::Index;
 use crate::names::{Names, Side};
@@ -59,4 +59,13 @@ pub fn reserve_all(alloc: Global, indexes: &mut Vec<Index>, n: usize) -> Result<
         index.reserve(alloc, n)?;
     }
     Ok(())
+}
+
+/// Gives spare nodes of each TREE index back until there are at most `n`.
+pub fn trim_all(indexes: &mut Vec<Index>, n: usize)
+    ensures { EachTurns (Trimmed n) indexes.old.items indexes.new.items }
+{
+    for index in indexes.iter_mut() {
+        index.trim_spares(n);
+    }
 }

@@ -1,11 +1,13 @@
 //! What one command changed, so that it can be taken back.
-ghost use Rattle.std.specs.Prelude.{◌≡◌, ◌+◌, ◌≤◌, [], ◌∷◌, ◌++◌, IsOk, OnOk};
-ghost use Rattle.mm_relation.specs.Edits.{entry_name, entry_other, removed_by};
+ghost use Rattle.std.specs.Prelude.{◌≡◌, ◌+◌, ◌<◌, ◌≤◌, [], ◌∷◌, ◌++◌, length, slice_get, slice_set, IsOk, OnOk, Some};
+ghost use Rattle.mm_relation.specs.declared.names.Side.TheVariants.{Old};
+ghost use Rattle.mm_relation.specs.Edits.{entry_name, entry_other, named, removed_by};
 
 use crate::names::{Names, Side};
 use mm_value::{Row, RowRef};
 use std::alloc::{AllocError, Global};
 use std::marker::Model;
+use std::mem;
 
 /// One change of a row.
 #[derive(Drop)]
@@ -90,6 +92,17 @@ impl Log {
         self.entries.as_slice()
     }
 
+    /// How many references come in again to each index when the command is taken back: one for each row that was changed
+    /// or removed. So many places an index has to have to spare until then.
+    pub fn owed(&self) -> usize
+        ensures { result ≡ length (named entry_name Old self.now.entries) }
+    {
+        self.entries
+            .iter()
+            .filter_map(|entry| entry.name(Side::Old))
+            .count()
+    }
+
     /// Makes room for at least `n` more changes. The changes stay, and so does the room that was there;
     /// `AllocError` where memory is refused.
     pub(crate) fn reserve(&mut self, _alloc: Global, n: usize) -> Result<(), AllocError>
@@ -107,6 +120,15 @@ impl Log {
         ensures room { self.old.room ≤ self.new.room + 1 }
     {
         self.entries.push_reserved(entry);
+    }
+
+    /// Puts another change in the place of one, and gives that one.
+    pub(crate) fn replace(&mut self, index: usize, entry: Entry) -> Entry
+        requires { index < length self.old.entries }
+        ensures was { slice_get self.old.entries index ≡ Some result }
+        ensures entries { self.new.entries ≡ slice_set self.old.entries index entry }
+    {
+        mem::replace(&mut self.entries[index], entry)
     }
 
     /// Forgets the changes. The room for them is kept.

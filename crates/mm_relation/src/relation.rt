@@ -9,8 +9,10 @@ mod indexing;
 mod laws;
 mod lookup;
 mod reads;
+mod revert;
 mod served;
 mod settle;
+mod spares;
 mod twins;
 
 use crate::index::Index;

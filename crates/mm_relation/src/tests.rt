@@ -1,8 +1,10 @@
 //! What no clause says: that ample memory is never refused. And each call once on real rows.
-ghost use Rattle.std.specs.Prelude.{◌≡◌, List, [], ◌∷◌, length, All, Contains, Some, IfSome, IfOk};
+ghost use Rattle.std.specs.Prelude.{◌≡◌, ◌≤◌, List, [], ◌∷◌, length, All, Contains, Some, IfSome, IfOk};
 ghost use Rattle.mm_value.specs.declared.row_ref.RowRef.{RowRef as Ref};
 ghost use Rattle.mm_relation.specs.declared.names.Side.TheVariants as side;
-ghost use Rattle.mm_relation.specs.Edits.{edit_name, named, new_rows};
+ghost use Rattle.mm_partition.specs.Places.{slot_at};
+ghost use Rattle.mm_relation.specs.Edits.{Among, edit_name, named, new_rows};
+ghost use Rattle.mm_relation.specs.Index.{spare_of};
 ghost use Rattle.mm_relation.specs.Kept.{Stay};
 ghost use Rattle.mm_relation.specs.Sample.{IsSample};
 
@@ -66,7 +68,7 @@ fn make(relation: &mut Relation, alloc: Global, edits: Vec<Edit>) -> Result<bool
         return Ok(false);
     }
     let mut log = Log::new(alloc);
-    relation.apply(alloc, edits, &mut log)?;
+    relation.apply(alloc, edits, 0, &mut log)?;
     relation.settle(&mut log);
     Ok(true)
 }
@@ -189,6 +191,150 @@ fn count_by_digit(relation: &Relation, alloc: Global) -> Result<usize, AllocErro
     Ok(ordered.len())
 }
 
+/// The digits beside the keys below 6.
+fn digits(relation: &Relation, alloc: Global) -> Result<Vec<Option<i64>>, AllocError> {
+    let mut found = Vec::new(alloc);
+    for key in 0..6 {
+        found.push(digit_of(relation, key))?;
+    }
+    Ok(found)
+}
+
+/// How many rows have each digit below 5, by the TREE index.
+fn counts_by_tree(relation: &Relation, alloc: Global) -> Result<Vec<usize>, AllocError>
+    requires { IsSample relation.now }
+{
+    let mut found = Vec::new(alloc);
+    for digit in 0..5 {
+        found.push(count_between(relation, alloc, digit, digit)?)?;
+    }
+    Ok(found)
+}
+
+/// The same by the HASH index.
+fn counts_by_hash(relation: &Relation, alloc: Global) -> Result<Vec<usize>, AllocError>
+    requires { IsSample relation.now }
+{
+    let mut found = Vec::new(alloc);
+    for digit in 0..5 {
+        found.push(count_of(relation, alloc, digit)?)?;
+    }
+    Ok(found)
+}
+
+/// What a table shows: the digits by their keys, and how many rows have each digit.
+#[derive(Drop)]
+struct Shown {
+    digits: Vec<Option<i64>>,
+    by_tree: Vec<usize>,
+    by_hash: Vec<usize>,
+}
+
+impl Shown {
+    fn is(&self, digits: &[Option<i64>], counts: &[usize]) -> bool {
+        self.digits.as_slice() == digits
+            && self.by_tree.as_slice() == counts
+            && self.by_hash.as_slice() == counts
+    }
+}
+
+fn look(relation: &Relation, alloc: Global) -> Result<Shown, AllocError>
+    requires { IsSample relation.now }
+{
+    Ok(Shown {
+        digits: digits(relation, alloc)?,
+        by_tree: counts_by_tree(relation, alloc)?,
+        by_hash: counts_by_hash(relation, alloc)?,
+    })
+}
+
+/// A command: two rows exchange their keys, another goes, and a new one comes.
+#[derive(Clone, Copy)]
+struct Exchange {
+    one: i64,
+    other: i64,
+    gone: i64,
+    key: i64,
+    digit: i64,
+}
+
+/// The references of the rows of a command, if they are there and are three.
+fn rows_of(relation: &Relation, exchange: Exchange) -> Option<(RowRef, RowRef, RowRef)>
+    ensures { IfSome result (λ (one, other, gone). Among relation.now.refs (one ∷ other ∷ gone ∷ [])) }
+{
+    let one = at_key(relation, exchange.one)?;
+    let other = at_key(relation, exchange.other)?;
+    let gone = at_key(relation, exchange.gone)?;
+    if one == other || one == gone || other == gone {
+        return None;
+    }
+    Some((one, other, gone))
+}
+
+/// The edits of a command on three rows, of which the first two keep their digits.
+fn edits_of(
+    relation: &Relation,
+    alloc: Global,
+    exchange: Exchange,
+    one: RowRef,
+    other: RowRef,
+    gone: RowRef,
+) -> Result<Vec<Edit>, AllocError>
+    ensures old { IfOk result (λ edits. named edit_name side.Old edits.items ≡ one ∷ other ∷ gone ∷ []) }
+    ensures wide { IfOk result (λ edits. All (λ row. length row ≡ 3) (new_rows edits.items)) }
+{
+    let digit = digit_of(relation, exchange.one).unwrap_or(0);
+    let first = row_of(alloc, exchange.other, digit, 0)?;
+    let digit = digit_of(relation, exchange.other).unwrap_or(0);
+    let second = row_of(alloc, exchange.one, digit, 0)?;
+    let new = row_of(alloc, exchange.key, exchange.digit, 0)?;
+    let edits = vec![in alloc;
+        Edit::Swap(one, first),
+        Edit::Swap(other, second),
+        Edit::Gone(gone),
+        Edit::Add(new),
+    ]?;
+    Ok(edits)
+}
+
+/// Makes the commands, each on top of the one before, looks at the table, and takes them back, the last first. None where
+/// one of them cannot be made.
+fn there_and_back(
+    relation: &mut Relation,
+    alloc: Global,
+    exchanges: &[Exchange],
+    owed: usize,
+) -> Result<Option<Shown>, AllocError>
+    requires sample { IsSample relation.old }
+    requires spare { owed ≤ relation.old.spare }
+    requires spares { All (λ x. owed ≤ spare_of x) relation.old.indexes }
+    ensures sample { IsSample relation.new }
+    ensures slots { slot_at relation.new.places ≡ slot_at relation.old.places }
+    ensures key { relation.new.key ≡ relation.old.key }
+    ensures spare { owed ≤ relation.new.spare }
+    ensures spares { All (λ x. owed ≤ spare_of x) relation.new.indexes }
+{
+    let Some((exchange, later)) = exchanges.split_first() else {
+        return Ok(Some(look(relation, alloc)?));
+    };
+    relation.is_kept();
+    let Some((one, other, gone)) = rows_of(relation, *exchange) else {
+        return Ok(None);
+    };
+    let edits = edits_of(relation, alloc, *exchange, one, other, gone)?;
+    if relation.has_twins_after(alloc, edits.as_slice())? {
+        return Ok(None);
+    }
+    let mut log = Log::new(alloc);
+    relation.apply(alloc, edits, owed, &mut log)?;
+    let shown = match owed.checked_add(log.owed()) {
+        Some(owed) => there_and_back(relation, alloc, later, owed),
+        None => Ok(None),
+    };
+    relation.revert(&mut log);
+    shown
+}
+
 #[test]
 fn starts_empty(rt: HostRuntime) -> Result<(), Fail> {
     let alloc = rt.alloc();
@@ -296,5 +442,56 @@ fn finds_each_of_many_rows(rt: HostRuntime) -> Result<(), Fail> {
         assert_eq!(rt; digit_of(&relation, *key), None);
     }
     assert_eq!(rt; relation.len(), 0);
+    relation.trim_spares(1);
+    assert_eq!(rt; relation.len(), 0);
+    Ok(())
+}
+
+/// The same as `there_and_back` with nothing owed, where memory is refused once at most.
+fn try_exchanges(
+    relation: &mut Relation,
+    alloc: Global,
+    exchanges: &[Exchange],
+) -> Result<Option<Shown>, AllocError>
+    requires { IsSample relation.old }
+    ensures { IsSample relation.new }
+{
+    match there_and_back(relation, alloc, exchanges, 0) {
+        Ok(shown) => Ok(shown),
+        Err(_) => there_and_back(relation, alloc, exchanges, 0),
+    }
+}
+
+#[test]
+fn takes_commands_back(rt: HostRuntime) -> Result<(), Fail> {
+    let alloc = rt.alloc();
+    let mut relation = sample_again(alloc)?;
+    assert!(rt; put(&mut relation, alloc, &[1, 2, 3, 4])?);
+    let first = Exchange {
+        one: 1,
+        other: 2,
+        gone: 3,
+        key: 5,
+        digit: 1,
+    };
+    let second = Exchange {
+        one: 2,
+        other: 5,
+        gone: 1,
+        key: 3,
+        digit: 3,
+    };
+
+    let once = try_exchanges(&mut relation, alloc, &[first])?;
+    let digits = [None, Some(2), Some(1), None, Some(4), Some(1)];
+    assert!(rt; once.is_some_and(|shown| shown.is(&digits, &[0, 2, 1, 0, 1])));
+
+    let twice = try_exchanges(&mut relation, alloc, &[first, second])?;
+    let digits = [None, None, Some(1), Some(3), Some(4), Some(1)];
+    assert!(rt; twice.is_some_and(|shown| shown.is(&digits, &[0, 2, 0, 1, 1])));
+
+    let back = try_exchanges(&mut relation, alloc, &[])?;
+    let digits = [None, Some(1), Some(2), Some(3), Some(4), None];
+    assert!(rt; back.is_some_and(|shown| shown.is(&digits, &[0, 1, 1, 1, 1])));
     Ok(())
 }

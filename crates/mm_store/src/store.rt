@@ -205,7 +205,7 @@ impl Store {
     {
         let extent = most_slots(self.tables[table].extent(), edits.as_slice())?;
         reserve_all(alloc, &mut self.links, table, extent)?;
-        self.tables[table].apply(alloc, edits, &mut undo.log)?;
+        self.tables[table].apply(alloc, edits, 0, &mut undo.log)?;
         retie_all(
             &mut self.links,
             self.tables.as_slice(),

@@ -6,7 +6,7 @@ ghost use Rattle.mm_partition.specs.Places.{Hidden, slot_at, extent_of};
 ghost use Rattle.mm_relation.specs.declared.names.Side.TheVariants.{New, Old};
 ghost use Rattle.mm_relation.specs.Before.{before, StandsBack};
 ghost use Rattle.mm_relation.specs.Differs.{Differs};
-ghost use Rattle.mm_relation.specs.Edits.{named, entry_name, new_rows, added_count, removed};
+ghost use Rattle.mm_relation.specs.Edits.{named, edit_name, entry_name, new_rows, added_count, removed};
 ghost use Rattle.mm_relation.specs.Changes.{Changes, Standing, AreHidden};
 ghost use Rattle.mm_relation.specs.Index.{InOrder, EachTurns, SameIndex, spare_of};
 ghost use Rattle.mm_schema.specs.Rows.{changed};
@@ -15,7 +15,7 @@ ghost use Rattle.mm_relation.specs.Kept.{SameButRoom, KeysStayApart, HasRowsAfte
 
 use super::Relation;
 use crate::change::change_each;
-use crate::edits::{Edit, count_added};
+use crate::edits::{Edit, count_added, count_places};
 use crate::indexes::{put_into_all, reserve_all, take_from_all};
 use crate::log::Log;
 use crate::names::Side;
@@ -26,9 +26,13 @@ use std::alloc::{AllocError, Global};
 impl Relation {
     /// Makes all edits, and notes each in an empty log: a row that is changed keeps its reference, a new row gets a
     /// free one, and a row that goes is hidden. Every growth comes first: room for the rows that are
-    /// added, for an entry of each edit in the log, and for a reference of each in every index. Then the old
+    /// added, for an entry of each edit in the log, and in every index for the references that come in. Then the old
     /// references go out of every index, the rows are changed where they stand, and the new references come
     /// in. `AllocError` where memory is refused; then all is as before, but for spare room.
+    ///
+    /// Since `revert` may take no memory, every index has room afterwards for the references that come in again when the
+    /// command is taken back, one for each row that goes or changes. `owed` tells how many places the commands before
+    /// this one need to be taken back: so much room is there beside. `AllocError` also where the sum is no `usize`.
     ///
     /// The edits have to stand: each names a live row, no two the same one; each new row has the relation's
     /// width; and of the rows that are kept and the new ones no two have one key. The extent grows by at most the number of
@@ -37,6 +41,7 @@ impl Relation {
         &mut self,
         alloc: Global,
         edits: Vec<Edit>,
+        owed: usize,
         log: &mut Log,
     ) -> Result<(), AllocError>
         requires empty { log.old.entries ≡ [] }
@@ -62,28 +67,41 @@ impl Relation {
         ensures width { OnOk result (self.new.width ≡ self.old.width) }
         ensures indexes { OnOk result (EachTurns SameIndex self.old.indexes self.new.indexes) }
         ensures extent { OnOk result (extent_of self.new.places ≤ extent_of self.old.places + added_count edits.items) }
+        ensures owed { OnOk result (owed + length (named entry_name Old log.new.entries) ≤ self.new.spare) }
+        ensures owed_each { OnOk result
+            (All (λ x. owed + length (named entry_name Old log.new.entries) ≤ spare_of x) self.new.indexes) }
         ensures err { OnErr result (SameButRoom self.old self.new) }
         ensures err_log { OnErr result (log.new.entries ≡ log.old.entries) }
     {
-        self.make_room(alloc, edits.as_slice(), log)?;
+        self.make_room(alloc, edits.as_slice(), owed, log)?;
         self.change(edits, log);
         Ok(())
     }
 
-    /// Makes room for all that the edits add to the rows, the log and the indexes.
-    fn make_room(&mut self, alloc: Global, edits: &[Edit], log: &mut Log) -> Result<(), AllocError>
+    /// Makes room for all that the edits add to the rows, the log and the indexes, for all that taking them back adds
+    /// to the indexes again, and for what is owed.
+    fn make_room(
+        &mut self,
+        alloc: Global,
+        edits: &[Edit],
+        owed: usize,
+        log: &mut Log,
+    ) -> Result<(), AllocError>
         ensures same { SameButRoom self.old self.new }
         ensures entries { log.new.entries ≡ log.old.entries }
         ensures room { OnOk result (added_count edits.now ≤ self.new.places.room) }
         ensures log { OnOk result (length edits.now ≤ log.new.room) }
-        ensures spare { OnOk result (length edits.now ≤ self.new.spare) }
-        ensures spares { OnOk result (All (λ x. length edits.now ≤ spare_of x) self.new.indexes) }
+        ensures spare { OnOk result
+            (owed + (length (named edit_name Old edits.now) + length (new_rows edits.now)) ≤ self.new.spare) }
+        ensures spares { OnOk result
+            (All (λ x. owed + (length (named edit_name Old edits.now) + length (new_rows edits.now)) ≤ spare_of x) self.new.indexes) }
     {
+        let places = count_places(edits, owed).ok_or(AllocError)?;
         self.rows.track(alloc, self.key)?;
         self.rows.reserve(alloc, count_added(edits))?;
         log.reserve(alloc, edits.len())?;
-        self.by_key.reserve(alloc, edits.len())?;
-        reserve_all(alloc, &mut self.indexes, edits.len())
+        self.by_key.reserve(alloc, places)?;
+        reserve_all(alloc, &mut self.indexes, places)
     }
 
     /// Makes all edits in room that is there, and notes them.
@@ -91,8 +109,8 @@ impl Relation {
         requires room { added_count edits.items ≤ self.old.places.room }
         requires log { length edits.items ≤ log.old.room }
         requires empty { log.old.entries ≡ [] }
-        requires spare { length edits.items ≤ self.old.spare }
-        requires spares { All (λ x. length edits.items ≤ spare_of x) self.old.indexes }
+        requires spare { length (new_rows edits.items) ≤ self.old.spare }
+        requires spares { All (λ x. length (new_rows edits.items) ≤ spare_of x) self.old.indexes }
         requires standing { Standing (slot_at self.old.places) edits.items }
         requires wide { All (λ row. length row ≡ self.old.width) (new_rows edits.items) }
         requires keys { KeysStayApart self.old edits.items }
@@ -112,6 +130,8 @@ impl Relation {
         ensures width { self.new.width ≡ self.old.width }
         ensures indexes { EachTurns SameIndex self.old.indexes self.new.indexes }
         ensures extent { extent_of self.new.places ≤ extent_of self.old.places + added_count edits.items }
+        ensures spare { self.old.spare ≤ self.new.spare + length (new_rows edits.items) }
+        ensures spares { EachTurns (λ x y. spare_of x ≤ spare_of y + length (new_rows edits.items)) self.old.indexes self.new.indexes }
     {
         take_each(
             &self.rows,

@@ -4,12 +4,12 @@ ghost use Rattle.std.specs.List.{list_any};
 ghost use Rattle.mm_value.specs.declared.row_ref.RowRef.{RowRef};
 ghost use Rattle.mm_schema.specs.Rows.{has_twin_keys, same_in_column};
 ghost use Rattle.mm_partition.specs.Places.{slot_at};
-ghost use Rattle.mm_relation.specs.KeyRows.{rows_of, AreByKey, removal_count};
+ghost use Rattle.mm_relation.specs.KeyRows.{rows_of, AreByKey};
 ghost use Rattle.mm_relation.specs.Kept.{Stay, rows_after};
 ghost use Rattle.mm_relation.specs.Refs.{row_at};
 
 use super::Relation;
-use crate::edits::{Edit, count_added};
+use crate::edits::{Edit, count_added, count_removals};
 use crate::key_rows::{
     contains_key, has_equal_neighbours, rows_that_free_keys, rows_with_new_keys, sort_by_key,
 };
@@ -71,14 +71,4 @@ impl Relation {
             None => false,
         }
     }
-}
-
-/// How many of the edits take a row out.
-fn count_removals(edits: &[Edit]) -> usize
-    ensures { result ≡ removal_count edits.now }
-{
-    edits
-        .iter()
-        .filter(|edit| matches!(edit, Edit::Gone(_)))
-        .count()
 }

@@ -1,4 +1,4 @@
-use Rattle.std.proofs.Common.{◌≡◌, ◌≤◌, List, ◌++◌, length, sym, ap, ◌∙◌, subst, arith}
+use Rattle.std.proofs.Common.{◌≡◌, ℕ, ◌+◌, ◌≤◌, List, ◌++◌, length, sym, ap, ◌∙◌, subst, arith}
 use Rattle.std.specs.Prelude.{map, IsPermutation}
 use Rattle.std.specs.List.{All}
 use Rattle.std.proofs.lemmas.List.Sorted.{IsPermutation-sym}
@@ -18,12 +18,12 @@ use Rattle.mm_relation.specs.declared.edits.Edit.{Edit}
 use Rattle.mm_relation.specs.declared.names.Side.TheVariants.{Old, New}
 use Rattle.mm_relation.proofs.Changed.{olds, before_changes}
 use Rattle.mm_relation.proofs.Came.{news}
-use Rattle.mm_relation.proofs.Rooms.{indexes_changed}
+use Rattle.mm_relation.proofs.Rooms.{indexes_changed, spares_changed}
 use Rattle.mm_relation.proofs.Removed.{removed_hidden, hidden_stays}
 use Rattle.mm_relation.proofs.Staying.{staying}
 use Rattle.mm_relation.specs.Differs.{Differs}
 use Rattle.mm_relation.proofs.WaysBack.{StandsBack-changes, Differs-back, old_names}
-use Rattle.mm_relation.proofs.Apply.{split, keep_split, wide_olds, few, keys_apart, rows_moved, wide_news, order_stands, held_beside, keep_some, wide_some, spare_some, after}
+use Rattle.mm_relation.proofs.Apply.{split, keep_split, wide_olds, length-news, keys_apart, rows_moved, wide_news, order_stands, held_beside, keep_some, wide_some, spare_some, after}
 use Rattle.mm_relation.proofs.relation.Relation.change.Goals as goal
 
 pub take_each-requires-clause-held : goal.take_each-requires-clause-held
@@ -55,14 +55,12 @@ pub put_each-requires-clause-spare : goal.put_each-requires-clause-spare
 put_each-requires-clause-spare c =
     let standing : Standing (slot_at c.self.inside.rows) c.args.edits.items = subst (λ (v : StoredRows). Standing (slot_at v.places) c.args.edits.items)
     (sym c.self.view_is) c.requires.standing in
-    let parts : Among c.self.inside.by_key.refs (olds c.args.edits.items) = split c.self.inside.width c.self.inside.key (slot_at c.self.inside.rows)
-    c.self.inside.by_key.refs c.self.inside.indexes.items c.self.invariant c.args.edits.items standing in
-    let spare : length c.args.edits.items ≤ c.self.inside.by_key.spare = subst (λ (v : StoredRows). length c.args.edits.items ≤ v.spare) (sym c.self.view_is)
-    c.requires.spare in
-    let less : length (news c.change_each.new.log.entries) ≤ length c.args.edits.items = few c.self.inside.width c.self.inside.key
-    (slot_at c.self.inside.rows) c.self.inside.by_key.refs c.self.inside.indexes.items c.self.invariant c.args.edits.items standing
-    (slot_at c.change_each.new.rows) c.change_each.new.log.entries c.change_each.ensures.changes parts.0 parts.1 in
-    rw c.entries.ensures (omega (arith, less, spare, c.take_each.ensures.spare))
+    let spare : length (new_rows c.args.edits.items) ≤ c.self.inside.by_key.spare = subst (λ (v : StoredRows). length (new_rows c.args.edits.items) ≤ v.spare)
+    (sym c.self.view_is) c.requires.spare in
+    let same : length (news c.change_each.new.log.entries) ≡ length (new_rows c.args.edits.items) =
+    length-news c.args.edits.items c.change_each.new.log.entries (slot_at c.self.inside.rows) (slot_at c.change_each.new.rows) standing
+    c.change_each.ensures.changes in
+    rw c.entries.ensures (omega (arith, same, spare, c.take_each.ensures.spare))
 
 pub put_each-requires-clause-ordered : goal.put_each-requires-clause-ordered
 put_each-requires-clause-ordered c =
@@ -180,8 +178,8 @@ put_into_all-requires-clause-spare c =
     (λ (es : List Edit). EachTurns (λ x. Taken c.self.inside.key (slot_at c.self.inside.rows) (named edit_name Old es)
     (unmoved edit_name edit_other c.self.inside.key (slot_at c.self.inside.rows) Old es x) x) c.self.inside.indexes.items
     c.take_from_all.new.indexes.items) c.as_slice-2.ensures.value c.take_from_all.ensures.taken in
-    let spares : All (λ x. length c.args.edits.items ≤ spare_of x) c.self.inside.indexes.items = subst
-    (λ (v : StoredRows). All (λ x. length c.args.edits.items ≤ spare_of x) v.indexes) (sym c.self.view_is) c.requires.spares in
+    let spares : All (λ x. length (new_rows c.args.edits.items) ≤ spare_of x) c.self.inside.indexes.items = subst
+    (λ (v : StoredRows). All (λ x. length (new_rows c.args.edits.items) ≤ spare_of x) v.indexes) (sym c.self.view_is) c.requires.spares in
     rw c.entries-2.ensures (spare_some c.self.inside.width c.self.inside.key (slot_at c.self.inside.rows) c.self.inside.by_key.refs
     c.self.inside.indexes.items c.self.invariant c.args.edits.items standing (slot_at c.change_each.new.rows) c.change_each.new.log.entries
     c.change_each.ensures.changes parts.0 parts.1 sizes c.take_from_all.new.indexes.items taken spares)
@@ -339,3 +337,35 @@ returns-clause-indexes c =
     c.put_into_all.new.indexes.items c.take_from_all.ensures.taken c.put_into_all.ensures.put
     in
     subst (λ (v : StoredRows). EachTurns SameIndex v.indexes c.put_into_all.new.indexes.items) c.self.view_is same
+
+pub returns-clause-spare : goal.returns-clause-spare
+returns-clause-spare c =
+    let standing : Standing (slot_at c.self.inside.rows) c.args.edits.items = subst (λ (v : StoredRows). Standing (slot_at v.places) c.args.edits.items)
+    (sym c.self.view_is) c.requires.standing in
+    let names : length (named entry_name New c.entries.result.now) ≡ length (new_rows c.args.edits.items) =
+    ap (λ (ns : List Entry). length (news ns)) c.entries.ensures
+    ∙ length-news c.args.edits.items c.change_each.new.log.entries (slot_at c.self.inside.rows) (slot_at c.change_each.new.rows) standing
+    c.change_each.ensures.changes in
+    subst (λ (v : StoredRows). v.spare ≤ c.put_each.new.tree.spare + length (new_rows c.args.edits.items)) c.self.view_is
+    (omega (arith, names, c.take_each.ensures.spare, c.put_each.ensures.spare))
+
+pub returns-clause-spares : goal.returns-clause-spares
+returns-clause-spares c =
+    let old = slot_at c.self.inside.rows in
+    let new = slot_at c.change_each.new.rows in
+    let outs : List RowRef = named edit_name Old c.as_slice-2.result.now in
+    let ins : List RowRef = named entry_name New c.entries-2.result.now in
+    let standing : Standing old c.args.edits.items = subst (λ (v : StoredRows). Standing (slot_at v.places) c.args.edits.items)
+    (sym c.self.view_is) c.requires.standing in
+    let names : length ins ≡ length (new_rows c.args.edits.items) =
+    ap (λ (ns : List Entry). length (news ns)) c.entries-2.ensures
+    ∙ length-news c.args.edits.items c.change_each.new.log.entries old new standing c.change_each.ensures.changes in
+    let turned : EachTurns (λ x y. spare_of x ≤ spare_of y + length ins) c.self.inside.indexes.items c.put_into_all.new.indexes.items =
+    spares_changed c.self.inside.key old new outs ins
+    (λ x. unmoved edit_name edit_other c.self.inside.key old Old c.as_slice-2.result.now x)
+    (λ x. unmoved entry_name entry_other c.self.inside.key new New c.entries-2.result.now x) c.self.inside.indexes.items c.take_from_all.new.indexes.items
+    c.put_into_all.new.indexes.items c.take_from_all.ensures.taken c.put_into_all.ensures.put
+    in
+    subst (λ (v : StoredRows). EachTurns (λ x y. spare_of x ≤ spare_of y + length (new_rows c.args.edits.items)) v.indexes c.put_into_all.new.indexes.items)
+    c.self.view_is
+    (subst (λ (n : ℕ). EachTurns (λ x y. spare_of x ≤ spare_of y + n) c.self.inside.indexes.items c.put_into_all.new.indexes.items) names turned)
