@@ -1,0 +1,11 @@
+use Rattle.std.proofs.Common.{◌+◌, ◌*◌, ◌<◌, ◌≤◌, All}
+use Rattle.structure_tests.specs.Orders.{IsByPlace}
+use Rattle.structure_tests.proofs.orders.holds_references_in_order.Given as goal
+
+-- the references below n are in, in order, and there is room for the others
+abbrev pub invariant-loop-n : goal.invariant-loop-n
+invariant-loop-n g l = record {
+  room : 18 ≤ l.n + l.refs.spare;
+  ordered : IsByPlace l.refs.refs;
+  earlier : All (λ a. 4 * a.part + a.slot < l.n) l.refs.refs;
+}

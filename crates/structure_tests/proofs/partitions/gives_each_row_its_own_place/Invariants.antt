@@ -1,0 +1,10 @@
+use Rattle.std.proofs.Common.{◌+◌, ◌≤◌}
+use Rattle.mm_partition.specs.Places.{IsLive}
+use Rattle.structure_tests.proofs.partitions.gives_each_row_its_own_place.Given as goal
+
+-- there is room for the rows to come, and the second row lives
+abbrev pub invariant-loop : goal.invariant-loop
+invariant-loop g l = record {
+  room : 200 ≤ l.counter + l.rows.room;
+  live : IsLive l.rows l.two;
+}

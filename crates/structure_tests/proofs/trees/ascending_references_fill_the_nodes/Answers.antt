@@ -1,0 +1,13 @@
+use Rattle.std.proofs.Common.{◌+◌, ◌<◌, All, List, sym, subst, arith}
+use Rattle.mm_value.specs.declared.row_ref.RowRef.{RowRef}
+use Rattle.mm_order.proofs.Ordered.{All-added}
+use Rattle.structure_tests.proofs.trees.ascending_references_fill_the_nodes.Goals as goal
+
+pub loop-part-preserved : goal.loop-part-preserved
+loop-part-preserved g c =
+    let earlier : All (λ a. a.part < c.loop-part.part) c.reserve.new.refs.refs =
+    subst (λ (xs : List RowRef). All (λ a. a.part < c.loop-part.part) xs) (sym c.in_ok-reserve.ensures.refs) c.loop-part.invariant.earlier in
+    record {
+      ordered = c.insert.ensures.ordered;
+      earlier = All-added _ _ _ _ c.insert.ensures.refs (λ a. a.part < c.loop-part.part + 1) (λ k d below. omega (arith, earlier k d below)) (omega arith);
+    }

@@ -1,0 +1,22 @@
+use Rattle.std.proofs.Common.{◌+◌, ◌<◌, ◌≤◌, All}
+use Rattle.structure_tests.specs.Orders.{IsByPlace}
+use Rattle.structure_tests.proofs.trees.grows_and_shrinks.Given as goal
+
+-- the references from 1000 - i on are in, in order
+abbrev pub invariant-down : goal.invariant-down
+invariant-down g l = record {
+  ordered : IsByPlace l.tree.refs;
+  later : All (λ a. 1000 ≤ a.part + l.i) l.tree.refs;
+  earlier : All (λ a. a.part < 1000) l.tree.refs;
+}
+
+-- the references below the next are in, in order
+abbrev pub invariant-up : goal.invariant-up
+invariant-up g l = record {
+  ordered : IsByPlace l.tree.refs;
+  earlier : All (λ a. a.part < l.part) l.tree.refs;
+}
+
+-- what is left is in order
+abbrev pub invariant-gone : goal.invariant-gone
+invariant-gone g l = IsByPlace l.tree.refs

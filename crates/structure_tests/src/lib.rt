@@ -1,0 +1,28 @@
+//! Tests of values, orders, partitions, foreign keys, T-trees and hash tables: of what no contract says.
+//!
+//! They stand apart from the crates that they test, since a crate with tests is proved twice.
+#![tactic(auto)]
+
+#[cfg(test)]
+mod devices;
+#[cfg(test)]
+mod foreign_keys;
+#[cfg(test)]
+mod hash_tables;
+#[cfg(test)]
+mod literals;
+#[cfg(test)]
+mod orders;
+#[cfg(test)]
+mod partitions;
+#[cfg(test)]
+mod printed_rows;
+pub mod references;
+#[cfg(test)]
+mod samples;
+#[cfg(test)]
+mod tree_nodes;
+#[cfg(test)]
+mod trees;
+#[cfg(test)]
+mod values;

@@ -1,0 +1,79 @@
+//! Literals and what they are read as.
+use crate::samples::{is_equal, text};
+use mm_value::{Refusal, Value, literals_are_exact, read_literal};
+use std::alloc::Global;
+use std::test::Fail;
+
+#[test]
+fn literals_are_read(rt: HostRuntime) -> Result<(), Fail> {
+    for (bytes, want) in [
+        (b"-00".as_slice(), 0i64),
+        (b"007".as_slice(), 7),
+        (b"9223372036854775807".as_slice(), i64::MAX),
+        (b"-9223372036854775808".as_slice(), i64::MIN),
+        (b"00000000000000000000000000000000000012".as_slice(), 12),
+    ] {
+        let value = read_literal(rt.alloc(), bytes)?;
+        assert!(rt; is_equal(&value, &Value::Int(want)), "{want}");
+    }
+    for (bytes, want) in [
+        (b"''".as_slice(), b"".as_slice()),
+        (b"''''".as_slice(), b"'".as_slice()),
+        (b"'a''b'".as_slice(), b"a'b".as_slice()),
+        (b"'\xff -- \x00'".as_slice(), b"\xff -- \x00".as_slice()),
+    ] {
+        let value = read_literal(rt.alloc(), bytes)?;
+        assert!(rt; is_equal(&value, &text(rt.alloc(), want)?));
+    }
+    literals_are_exact();
+    Ok(())
+}
+
+#[test]
+fn texts_have_64_bytes_at_most(rt: HostRuntime) -> Result<(), Fail> {
+    let mut literal = Vec::new(rt.alloc());
+    literal.push(b'\'')?;
+    for _ in 0..64 {
+        literal.push(b'x')?;
+    }
+    literal.push(b'\'')?;
+    let value = read_literal(rt.alloc(), &literal)?;
+    assert!(rt; is_equal(&value, &text(rt.alloc(), &[b'x'; 64])?));
+    literal.push(b'\'')?;
+    assert_eq!(rt; refusal(rt.alloc(), &literal), Some(Refusal::Syntax));
+    literal.push(b'\'')?;
+    assert_eq!(rt; refusal(rt.alloc(), &literal), Some(Refusal::TextTooLong));
+    Ok(())
+}
+
+fn refusal(alloc: Global, bytes: &[u8]) -> Option<Refusal> {
+    read_literal(alloc, bytes).err()
+}
+
+#[test]
+fn other_bytes_are_refused(rt: HostRuntime) {
+    for bytes in [
+        b"".as_slice(),
+        b"'".as_slice(),
+        b"'a''".as_slice(),
+        b"'a' ".as_slice(),
+        b"'a'b'".as_slice(),
+        b"'a\n'".as_slice(),
+        b"- 5".as_slice(),
+        b"-".as_slice(),
+        b"--5".as_slice(),
+        b"+5".as_slice(),
+        b"1a".as_slice(),
+        b"99999999999999999999a".as_slice(),
+    ] {
+        assert_eq!(rt; refusal(rt.alloc(), bytes), Some(Refusal::Syntax));
+    }
+    for bytes in [
+        b"9223372036854775808".as_slice(),
+        b"-9223372036854775809".as_slice(),
+        b"18446744073709551616".as_slice(),
+        b"-18446744073709551617".as_slice(),
+    ] {
+        assert_eq!(rt; refusal(rt.alloc(), bytes), Some(Refusal::NumberOutOfRange));
+    }
+}

@@ -1,0 +1,221 @@
+//! Rows in partitions, and the prefixes of their columns.
+ghost use Rattle.std.specs.Prelude.{◌≡◌, ◌≤◌, OnOk};
+ghost use Rattle.mm_partition.specs.Places.{IsUnchanged};
+
+use mm_partition::Partitions;
+use mm_value::{Row, Text, Value};
+use std::alloc::Global;
+use std::test::Fail;
+
+/// The row of this number, whose memory may be refused once.
+fn row_of(alloc: Global, number: i64) -> Result<Row, Fail> {
+    let mut values = Vec::new(alloc);
+    if values.reserve(1).is_err() {
+        values.reserve(1)?;
+    }
+    values.push(Value::Int(number))?;
+    Ok(Row::new(values))
+}
+
+/// Makes room for rows, for which memory may be refused once.
+fn reserve(alloc: Global, rows: &mut Partitions, n: usize) -> Result<(), Fail>
+    ensures room { OnOk result (n ≤ rows.new.room) }
+    ensures rows { IsUnchanged rows.old rows.new }
+{
+    if rows.reserve(alloc, n).is_err() {
+        rows.reserve(alloc, n)?;
+    }
+    Ok(())
+}
+
+/// The number in a row of one number.
+fn number_in(row: &Row) -> Option<i64> {
+    if row.len() != 1 {
+        return None;
+    }
+    match row.value(0) {
+        Value::Int(number) => Some(*number),
+        Value::Text(_) => None,
+    }
+}
+
+#[test]
+fn keeps_a_row_by_its_reference(rt: HostRuntime) -> Result<(), Fail> {
+    let alloc = rt.alloc();
+    let mut rows = Partitions::new(alloc);
+    reserve(alloc, &mut rows, 1)?;
+    let at = rows.place(row_of(alloc, 1)?);
+    assert_eq!(rt; number_in(rows.get(at)), Some(1));
+
+    let was = rows.replace(at, row_of(alloc, 2)?);
+    assert_eq!(rt; number_in(&was), Some(1));
+
+    rows.hide(at);
+    rows.unhide(at);
+    assert_eq!(rt; number_in(rows.get(at)), Some(2));
+
+    rows.hide(at);
+    let gone = rows.release(at);
+    assert_eq!(rt; number_in(&gone), Some(2));
+    Ok(())
+}
+
+#[test]
+fn gives_each_row_its_own_place(rt: HostRuntime) -> Result<(), Fail> {
+    let alloc = rt.alloc();
+    let mut rows = Partitions::new(alloc);
+    reserve(alloc, &mut rows, 2)?;
+    let one = rows.place(row_of(alloc, 1)?);
+    let two = rows.place(row_of(alloc, 2)?);
+    assert_ne!(rt; one, two);
+    assert_eq!(rt; number_in(rows.get(one)), Some(1));
+    assert_eq!(rt; number_in(rows.get(two)), Some(2));
+
+    // Past the end of the first partition.
+    reserve(alloc, &mut rows, 200)?;
+    assert_eq!(rt; number_in(rows.get(one)), Some(1));
+    for _ in 0..200usize {
+        rows.place(row_of(alloc, 3)?);
+    }
+    assert_eq!(rt; number_in(rows.get(two)), Some(2));
+    Ok(())
+}
+
+#[test]
+fn gives_freed_slots_again_before_new_ones(rt: HostRuntime) -> Result<(), Fail> {
+    let alloc = rt.alloc();
+    let mut rows = Partitions::new(alloc);
+    reserve(alloc, &mut rows, 2)?;
+    let one = rows.place(row_of(alloc, 1)?);
+    let two = rows.place(row_of(alloc, 2)?);
+    rows.hide(one);
+    rows.release(one);
+    rows.hide(two);
+    rows.release(two);
+
+    // The last one freed comes first.
+    assert_eq!(rt; rows.place(row_of(alloc, 3)?), two);
+    assert_eq!(rt; rows.place(row_of(alloc, 4)?), one);
+    Ok(())
+}
+
+#[test]
+fn leaves_a_hidden_slot_alone(rt: HostRuntime) -> Result<(), Fail> {
+    let alloc = rt.alloc();
+    let mut rows = Partitions::new(alloc);
+    reserve(alloc, &mut rows, 2)?;
+    let one = rows.place(row_of(alloc, 1)?);
+    rows.hide(one);
+    let two = rows.place(row_of(alloc, 2)?);
+    assert_ne!(rt; one, two);
+
+    rows.unhide(one);
+    assert_eq!(rt; number_in(rows.get(one)), Some(1));
+    assert_eq!(rt; number_in(rows.get(two)), Some(2));
+
+    // Once it is released it is the next.
+    rows.hide(one);
+    rows.release(one);
+    assert_eq!(rt; rows.place(row_of(alloc, 3)?), one);
+    Ok(())
+}
+
+#[test]
+fn finds_each_row_of_several_partitions(rt: HostRuntime) -> Result<(), Fail> {
+    let alloc = rt.alloc();
+    let mut rows = Partitions::new(alloc);
+    reserve(alloc, &mut rows, 130)?;
+    let first = rows.place(row_of(alloc, 0)?);
+    for k in 1..130usize {
+        let at = rows.place(row_of(alloc, k as i64)?);
+        assert_ne!(rt; at, first);
+        assert_eq!(rt; number_in(rows.get(at)), Some(k as i64));
+    }
+    assert_eq!(rt; number_in(rows.get(first)), Some(0));
+    Ok(())
+}
+
+/// The row of this number and this text, whose memory may be refused once.
+fn row_with_text(alloc: Global, number: i64, text: &[u8]) -> Result<Row, Fail> {
+    let mut values = Vec::new(alloc);
+    if values.reserve(2).is_err() {
+        values.reserve(2)?;
+    }
+    values.push(Value::Int(number))?;
+    values.push(Value::Text(Text::new(alloc, text)?))?;
+    Ok(Row::new(values))
+}
+
+/// Tracks a column, for which memory may be refused once.
+fn track(alloc: Global, rows: &mut Partitions, column: usize) -> Result<(), Fail>
+    ensures { rows.new ≡ rows.old }
+{
+    if rows.track(alloc, column).is_err() {
+        rows.track(alloc, column)?;
+    }
+    Ok(())
+}
+
+#[test]
+fn keeps_the_prefixes_of_tracked_columns(rt: HostRuntime) -> Result<(), Fail> {
+    let alloc = rt.alloc();
+    let mut rows = Partitions::new(alloc);
+    reserve(alloc, &mut rows, 2)?;
+    rows.place(row_with_text(alloc, 5, b"abcdefgh")?);
+    assert!(rt; rows.prefixes(0).is_none());
+    track(alloc, &mut rows, 1)?;
+    track(alloc, &mut rows, 0)?;
+    rows.place(row_of(alloc, i64::MAX)?);
+    assert!(rt; rows.prefixes(0) == Some(&[0x4000000000000005u64, 0x7fffffffffffffff]));
+    // The second row has no second value.
+    assert!(rt; rows.prefixes(1) == Some(&[0xb0b131b232b333b4u64, 0]));
+    Ok(())
+}
+
+#[test]
+fn overwrites_the_prefixes_of_a_slot(rt: HostRuntime) -> Result<(), Fail> {
+    let alloc = rt.alloc();
+    let mut rows = Partitions::new(alloc);
+    reserve(alloc, &mut rows, 1)?;
+    let one = rows.place(row_with_text(alloc, 5, b"a")?);
+    track(alloc, &mut rows, 1)?;
+    rows.replace(one, row_with_text(alloc, 6, b"b")?);
+    assert!(rt; rows.prefixes(1) == Some(&[0xb100000000000000u64]));
+
+    // The freed slot is given out again.
+    rows.hide(one);
+    rows.release(one);
+    rows.place(row_with_text(alloc, 7, b"")?);
+    assert!(rt; rows.prefixes(1) == Some(&[0x8000000000000000u64]));
+    Ok(())
+}
+
+#[test]
+fn forgets_a_column_that_is_not_tracked_any_more(rt: HostRuntime) -> Result<(), Fail> {
+    let alloc = rt.alloc();
+    let mut rows = Partitions::new(alloc);
+    track(alloc, &mut rows, 0)?;
+    track(alloc, &mut rows, 1)?;
+    track(alloc, &mut rows, 1)?;
+    rows.untrack(1);
+    assert!(rt; rows.prefixes(1).is_none());
+    assert!(rt; rows.prefixes(0).is_some());
+    Ok(())
+}
+
+#[test]
+fn tracks_the_rows_to_come(rt: HostRuntime) -> Result<(), Fail> {
+    let alloc = rt.alloc();
+    let mut rows = Partitions::new(alloc);
+    track(alloc, &mut rows, 0)?;
+    for k in 0..130usize {
+        reserve(alloc, &mut rows, 1)?;
+        rows.place(row_of(alloc, k as i64)?);
+    }
+    let prefixes = rows.prefixes(0).unwrap_or(&[]);
+    assert_eq!(rt; prefixes.len(), 130);
+    for (k, prefix) in prefixes.iter().enumerate() {
+        assert_eq!(rt; *prefix, 0x4000000000000000 + k as u64);
+    }
+    Ok(())
+}

@@ -1,0 +1,84 @@
+//! Values, orders of references and probes for tests.
+ghost use Rattle.std.specs.Prelude.{◌≡◌, ◌≤◌, OnOk};
+ghost use Rattle.std.specs.Ordering.{nat_cmp};
+ghost use Rattle.std.specs.Cmp.{then_total, on_total, nat_cmp_total};
+ghost use Rattle.std.specs.declared.cmp.Ordering.TheVariants.{Equal};
+ghost use Rattle.mm_value.specs.declared.row_ref.RowRef.{RowRef};
+ghost use Rattle.mm_order.specs.Order.{IsTotalOrderOn-from_total};
+ghost use Rattle.structure_tests.specs.Orders.{by_place};
+
+use mm_order::{OrderedRefs, Probe, RefOrder};
+use mm_value::{Refusal, RowRef, Text, Value, compare};
+use std::alloc::{AllocError, Global};
+use std::cmp::Ordering;
+use std::process::Abort;
+
+pub fn text(alloc: Global, bytes: &[u8]) -> Result<Value, Refusal> {
+    Ok(Value::Text(Text::new(alloc, bytes)?))
+}
+
+pub fn is_equal(a: &Value, b: &Value) -> bool {
+    compare(a, b) == Ordering::Equal
+}
+
+/// References by partition, then by slot.
+#[derive(Drop)]
+pub struct ByPlace;
+
+impl RefOrder for ByPlace {
+    ghost covers = { λ _ _. Unit {0} };
+
+    ghost cmp = { λ _. by_place };
+
+    ghost total = { λ o. IsTotalOrderOn-from_total _ _ (then_total (on_total (λ (r : RowRef). r.part) nat_cmp_total) (on_total (λ (r : RowRef). r.slot) nat_cmp_total)) };
+
+    fn compare(&self, a: RowRef, b: RowRef) -> Ordering {
+        a.part.cmp(&b.part).then(a.slot.cmp(&b.slot))
+    }
+}
+
+/// The references of one partition.
+#[derive(Drop)]
+pub struct InPartition(pub usize);
+
+impl Probe for InPartition {
+    ghost covers = { λ _ _. Unit {0} };
+
+    ghost place_of = { λ p at. nat_cmp at.part p.0 };
+
+    fn place(&self, at: RowRef) -> Ordering {
+        at.part.cmp(&self.0)
+    }
+}
+
+/// Every reference.
+#[derive(Drop)]
+pub struct Anywhere;
+
+impl Probe for Anywhere {
+    ghost covers = { λ _ _. Unit {0} };
+
+    ghost place_of = { λ _ _. Equal };
+
+    fn place(&self, _at: RowRef) -> Ordering {
+        Ordering::Equal
+    }
+}
+
+/// Makes room for `n` more, for which memory may be refused once. A refused growth leaves the references.
+pub fn reserve<R: OrderedRefs>(
+    rt: &impl Abort,
+    refs: &mut R,
+    alloc: Global,
+    n: usize,
+) -> Result<(), AllocError>
+    ensures room { OnOk result (n ≤ R.spare refs.new) }
+    ensures refs { R.refs refs.new ≡ R.refs refs.old }
+{
+    let before = refs.len();
+    if refs.reserve(alloc, n).is_err() {
+        assert_eq!(rt; refs.len(), before);
+        refs.reserve(alloc, n)?;
+    }
+    Ok(())
+}

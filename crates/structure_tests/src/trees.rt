@@ -1,0 +1,323 @@
+//! T-trees: which references they hold, how high they are, and where entries stand in the nodes.
+ghost use Rattle.std.specs.Prelude.{◌≡◌, ◌≤◌, IfOk};
+ghost use Rattle.std.specs.Ordering.{nat_cmp};
+ghost use Rattle.structure_tests.specs.Orders.{IsByPlace};
+
+use crate::references::{ascending, first_of};
+use crate::samples::{Anywhere, ByPlace, InPartition, reserve};
+use mm_order::{OrderedRefs, Probe, Seek, SortedRefs};
+use mm_value::RowRef;
+use std::alloc::{AllocError, Global};
+use std::cell::Cell;
+use std::cmp::Ordering;
+use std::process::Abort;
+use std::test::Fail;
+use ttree::TTree;
+
+/// The references of one partition. It counts how often it is asked, and keeps the partitions of the first four references that
+/// it is asked about.
+#[derive(Drop)]
+struct Counting {
+    part: usize,
+    asked: Cell<usize>,
+    about: Cell<[usize; 4]>,
+}
+
+impl Probe for Counting {
+    ghost covers = { λ _ _. Unit {0} };
+
+    ghost place_of = { λ p at. nat_cmp at.part p.part };
+
+    fn place(&self, at: RowRef) -> Ordering {
+        let asked = self.asked.get();
+        let mut about = self.about.get();
+        if let Some(kept) = about.get_mut(asked) {
+            *kept = at.part;
+        }
+        self.about.set(about);
+        self.asked.set(asked.wrapping_add(1));
+        at.part.cmp(&self.part)
+    }
+}
+
+fn counting_at(part: usize) -> Counting
+    ensures { result.part ≡ part }
+{
+    Counting {
+        part,
+        asked: Cell::new(0),
+        about: Cell::new([0; 4]),
+    }
+}
+
+#[test]
+fn height_follows_the_count(rt: HostRuntime) -> Result<(), Fail> {
+    let alloc = rt.alloc();
+    let mut tree = TTree::new(alloc);
+    reserve(&rt, &mut tree, alloc, 17)?;
+    for part in 0..16 {
+        tree.insert(&ByPlace, first_of(part));
+    }
+    assert_eq!(rt; tree.height(), 1);
+    tree.insert(&ByPlace, first_of(16));
+    assert_eq!(rt; tree.height(), 2);
+    assert!(rt; tree.remove(&ByPlace, first_of(16)));
+    assert!(rt; !tree.remove(&ByPlace, first_of(16)));
+    assert_eq!(rt; tree.height(), 1);
+    assert_eq!(rt; tree.len(), 16);
+    tree.trim_spares(1);
+    assert_eq!(rt; tree.spare(), 1);
+    Ok(())
+}
+
+#[test]
+fn grows_and_shrinks(rt: HostRuntime) -> Result<(), Fail> {
+    let alloc = rt.alloc();
+    let mut tree = TTree::new(alloc);
+    'down: for i in 0..1000 {
+        reserve(&rt, &mut tree, alloc, 1)?;
+        tree.insert(&ByPlace, first_of(999 - i));
+    }
+    'up: for part in 1000..2000 {
+        reserve(&rt, &mut tree, alloc, 1)?;
+        tree.insert(&ByPlace, first_of(part));
+    }
+    assert!(rt; tree.height() <= 9);
+    let mut out = Vec::new(alloc);
+    tree.copy_range(
+        alloc,
+        &ByPlace,
+        &InPartition(0),
+        &InPartition(1999),
+        &mut out,
+    )?;
+    assert_eq!(rt; out.len(), 2000);
+    for (i, held) in out.iter().enumerate() {
+        assert_eq!(rt; held.part, i);
+    }
+    'gone: for part in 0..1900 {
+        assert!(rt; tree.remove(&ByPlace, first_of(part)));
+    }
+    assert_eq!(rt; tree.len(), 100);
+    assert!(rt; tree.height() <= 4);
+    let probe = InPartition(1925);
+    let mut seek = Seek::new(&probe);
+    assert_eq!(rt; tree.find(&ByPlace, &mut seek), Some(first_of(1925)));
+    assert!(rt; seek.count() <= 13);
+    assert_eq!(rt; tree.find(&ByPlace, &mut Seek::new(&InPartition(5))), None);
+    out.clear();
+    tree.copy_range(
+        alloc,
+        &ByPlace,
+        &InPartition(0),
+        &InPartition(1949),
+        &mut out,
+    )?;
+    assert_eq!(rt; out.len(), 50);
+    for (i, held) in out.iter().enumerate() {
+        assert_eq!(rt; held.part, 1900 + i);
+    }
+    Ok(())
+}
+
+/// Takes a reference out where it is in, and puts it in where it is not.
+fn toggle<R: OrderedRefs>(refs: &mut R, alloc: Global, toggled: RowRef) -> Result<(), AllocError>
+    requires { IsByPlace (R.refs refs.old) }
+    ensures { IsByPlace (R.refs refs.new) }
+{
+    if refs.remove(&ByPlace, toggled) {
+        return Ok(());
+    }
+    refs.reserve(alloc, 1)?;
+    refs.insert(&ByPlace, toggled);
+    Ok(())
+}
+
+/// Asserts that a tree has three nodes, of which these are the partitions of the first and the last entry: those of the root, of
+/// its left side and of its right. A range over all asks about the ends of the root to see that it meets it, and then about those
+/// of each node to see that it lies in it.
+fn assert_ends(
+    rt: &impl Abort,
+    alloc: Global,
+    tree: &TTree,
+    ends: [(usize, usize); 3],
+) -> Result<(), AllocError>
+    requires { IsByPlace tree.now.refs }
+{
+    let low = counting_at(0);
+    let high = counting_at(usize::MAX);
+    let mut all = Vec::new(alloc);
+    tree.copy_range(alloc, &ByPlace, &low, &high, &mut all)?;
+    assert_eq!(rt; all.len(), tree.len());
+    assert_eq!(rt; (low.asked.get(), high.asked.get()), (4, 4));
+    let [root, left, right] = ends;
+    assert_eq!(rt; low.about.get(), [root.1, root.0, left.0, right.0]);
+    assert_eq!(rt; high.about.get(), [root.0, root.1, left.1, right.1]);
+    Ok(())
+}
+
+/// Asserts that the references of a tree are of these partitions.
+fn assert_parts(
+    rt: &impl Abort,
+    alloc: Global,
+    tree: &TTree,
+    want: &[usize],
+) -> Result<(), AllocError>
+    requires { IsByPlace tree.now.refs }
+{
+    let mut held = Vec::new(alloc);
+    tree.copy_range(alloc, &ByPlace, &Anywhere, &Anywhere, &mut held)?;
+    assert_eq!(rt; held.len(), want.len());
+    for (held, part) in held.iter().zip(want) {
+        assert_eq!(rt; held.part, *part);
+    }
+    Ok(())
+}
+
+/// Asserts that both hold the same references in the same order.
+fn assert_same(
+    rt: &impl Abort,
+    alloc: Global,
+    tree: &TTree,
+    sorted: &SortedRefs,
+) -> Result<(), AllocError>
+    requires tree { IsByPlace tree.now.refs }
+    requires sorted { IsByPlace sorted.now.refs }
+{
+    let mut held = Vec::new(alloc);
+    tree.copy_range(alloc, &ByPlace, &Anywhere, &Anywhere, &mut held)?;
+    let mut want = Vec::new(alloc);
+    sorted.copy_range(alloc, &ByPlace, &Anywhere, &Anywhere, &mut want)?;
+    assert_eq!(rt; held.as_slice(), want.as_slice());
+    assert_eq!(rt; tree.len(), want.len());
+    assert!(rt; tree.len() <= 1_048_576);
+    assert_eq!(rt; tree.iter().count(), want.len());
+    for (held, want) in tree.iter().zip(want.iter()) {
+        assert_eq!(rt; held, *want);
+    }
+    Ok(())
+}
+
+#[test]
+fn ascending_references_fill_the_nodes(rt: HostRuntime) -> Result<(), Fail> {
+    let alloc = rt.alloc();
+    let mut tree = TTree::new(alloc);
+    for part in 0..1_048_576 {
+        reserve(&rt, &mut tree, alloc, 1)?;
+        tree.insert(&ByPlace, first_of(part));
+        match tree.len() {
+            33 | 48 => assert_eq!(rt; tree.height(), 2),
+            49 => assert_eq!(rt; tree.height(), 3),
+            _ => {}
+        }
+    }
+    assert_eq!(rt; tree.len(), 1_048_576);
+    assert!(rt; tree.height() <= 28);
+    Ok(())
+}
+
+#[test]
+fn a_range_asks_about_the_ends_of_a_node(rt: HostRuntime) -> Result<(), Fail> {
+    let alloc = rt.alloc();
+    let mut tree = TTree::new(alloc);
+    for part in 0..2000 {
+        reserve(&rt, &mut tree, alloc, 1)?;
+        tree.insert(&ByPlace, first_of(part));
+    }
+    let low = counting_at(100);
+    let high = counting_at(1899);
+    let mut out = Vec::new(alloc);
+    tree.copy_range(alloc, &ByPlace, &low, &high, &mut out)?;
+    assert_eq!(rt; out.len(), 1800);
+    // Two questions a node of 16 are 225; the rest are of the nodes on the way to the two ends.
+    assert!(rt; low.asked.get() <= 200);
+    assert!(rt; high.asked.get() <= 200);
+    Ok(())
+}
+
+#[test]
+fn double_rotation_fills_the_new_root(rt: HostRuntime) -> Result<(), Fail> {
+    let alloc = rt.alloc();
+    let mut tree = TTree::new(alloc);
+    for part in 101..117 {
+        toggle(&mut tree, alloc, first_of(part))?;
+    }
+    toggle(&mut tree, alloc, first_of(50))?;
+    'low: for part in 1..16 {
+        toggle(&mut tree, alloc, first_of(part))?;
+    }
+    toggle(&mut tree, alloc, first_of(60))?;
+    assert_eq!(rt; tree.height(), 2);
+    // The list in order lies in the three nodes: 1 to 3, then 4 to 15 with 50 and 60, then 101 to 116.
+    assert_ends(&rt, alloc, &tree, [(4, 60), (1, 3), (101, 116)])?;
+    let mut want = Vec::new(alloc);
+    'left: for part in 1..16 {
+        want.push(part)?;
+    }
+    want.extend_from_slice(&[50, 60])?;
+    'right: for part in 101..117 {
+        want.push(part)?;
+    }
+    assert_parts(&rt, alloc, &tree, &want)?;
+    Ok(())
+}
+
+#[test]
+fn holds_what_the_sorted_list_holds(rt: HostRuntime) -> Result<(), Fail> {
+    let alloc = rt.alloc();
+    let mut tree = TTree::new(alloc);
+    let mut sorted = SortedRefs::new(alloc);
+    let mut seed: u32 = 1;
+    for step in 0..100_000 {
+        seed = seed.wrapping_mul(1_664_525).wrapping_add(1_013_904_223);
+        let toggled = RowRef {
+            part: (seed >> 16) as usize % 1000,
+            slot: (seed >> 28) as u8,
+        };
+        toggle(&mut tree, alloc, toggled)?;
+        toggle(&mut sorted, alloc, toggled)?;
+        if step % 5000 == 0 {
+            assert_same(&rt, alloc, &tree, &sorted)?;
+        }
+    }
+    assert_same(&rt, alloc, &tree, &sorted)?;
+    Ok(())
+}
+
+/// Asserts that a tree over the first so many references holds them all in order, and has this height.
+fn assert_built(
+    rt: &impl Abort,
+    alloc: Global,
+    count: usize,
+    height: usize,
+) -> Result<TTree, AllocError>
+    requires { count ≤ 1048576 }
+    ensures { IfOk result (λ tree. IsByPlace tree.refs) }
+{
+    let refs = ascending(alloc, count)?;
+    let tree = TTree::from_sorted(alloc, refs.as_slice())?;
+    assert_eq!(rt; tree.len(), count);
+    assert_eq!(rt; tree.height(), height);
+    assert_eq!(rt; tree.spare(), 0);
+    assert_eq!(rt; tree.iter().count(), count);
+    for (held, want) in tree.iter().zip(refs.iter()) {
+        assert_eq!(rt; held, *want);
+    }
+    Ok(tree)
+}
+
+#[test]
+fn a_list_in_order_fills_the_nodes(rt: HostRuntime) -> Result<(), Fail> {
+    let alloc = rt.alloc();
+    assert_built(&rt, alloc, 0, 0)?;
+    assert_built(&rt, alloc, 1, 1)?;
+    assert_built(&rt, alloc, 16, 1)?;
+    assert_built(&rt, alloc, 17, 2)?;
+    assert_built(&rt, alloc, 48, 2)?;
+    assert_built(&rt, alloc, 112, 3)?;
+    assert_built(&rt, alloc, 113, 4)?;
+    assert_built(&rt, alloc, 1_048_576, 17)?;
+    let tree = assert_built(&rt, alloc, 40, 2)?;
+    assert_ends(&rt, alloc, &tree, [(16, 31), (0, 15), (32, 39)])?;
+    Ok(())
+}

@@ -1,0 +1,87 @@
+//! Values: hashes and prefixes from outside, and copies.
+use crate::samples::{is_equal, text};
+use mm_value::{
+    ColType, MAX_TEXT_BYTES, Row, Text, Value, hash64, order_prefix, orders_are_total,
+    prefixes_keep_order,
+};
+use std::test::Fail;
+
+#[test]
+fn hashes_are_fnv_1a(rt: HostRuntime) -> Result<(), Fail> {
+    for (bytes, want) in [
+        (b"".as_slice(), 0xcbf29ce484222325u64),
+        (b"a".as_slice(), 0xaf63dc4c8601ec8c),
+        (b"foobar".as_slice(), 0x85944171f73967e8),
+    ] {
+        let value = text(rt.alloc(), bytes)?;
+        assert_eq!(rt; hash64(&value), want);
+    }
+    for (number, want) in [
+        (1i64, 0xa8c7f732281a3812u64),
+        (0, 0xa8c7f832281a39c5),
+        (-1, 0x8cf51a8bfca3883d),
+        (i64::MIN, 0x262b7cb79fbf4a45),
+        (i64::MAX, 0x2338a5f81f5ba4bd),
+    ] {
+        assert_eq!(rt; hash64(&Value::Int(number)), want);
+    }
+    Ok(())
+}
+
+#[test]
+fn prefixes_of_numbers_are_clipped(rt: HostRuntime) -> Result<(), Fail> {
+    for (number, want) in [
+        (i64::MIN, 0u64),
+        (-0x4000000000000001, 0),
+        (-0x4000000000000000, 0),
+        (-0x3fffffffffffffff, 1),
+        (-1, 0x3fffffffffffffff),
+        (0, 0x4000000000000000),
+        (0x3fffffffffffffff, 0x7fffffffffffffff),
+        (0x4000000000000000, 0x7fffffffffffffff),
+        (i64::MAX, 0x7fffffffffffffff),
+    ] {
+        assert_eq!(rt; order_prefix(&Value::Int(number)), want);
+    }
+    Ok(())
+}
+
+#[test]
+fn prefixes_of_texts_have_eight_bytes(rt: HostRuntime) -> Result<(), Fail> {
+    for (bytes, want) in [
+        (b"".as_slice(), 0x8000000000000000u64),
+        (b"\x00", 0x8000000000000000),
+        (b"\x01", 0x8080000000000000),
+        (b"abcdefgh", 0xb0b131b232b333b4),
+        // The last bit of the eighth byte is lost, and so is all behind it.
+        (b"abcdefgi", 0xb0b131b232b333b4),
+        (b"abcdefgj", 0xb0b131b232b333b5),
+        (b"abcdefghijkl", 0xb0b131b232b333b4),
+        (b"\xff\xff\xff\xff\xff\xff\xff\xff", 0xffffffffffffffff),
+    ] {
+        assert_eq!(rt; order_prefix(&text(rt.alloc(), bytes)?), want);
+    }
+    prefixes_keep_order();
+    Ok(())
+}
+
+#[test]
+fn copies_are_equal(rt: HostRuntime) -> Result<(), Fail> {
+    let long = [b'x'; MAX_TEXT_BYTES];
+    let text = Text::new(rt.alloc(), &long)?;
+    assert_eq!(rt; text.bytes().len(), 64);
+    let value = Value::Text(text.copy(rt.alloc())?);
+    assert!(rt; value.col_type() == ColType::Text);
+    assert!(rt; is_equal(&value.copy(rt.alloc())?, &value));
+    let mut values = Vec::new(rt.alloc());
+    values.push(Value::Int(7))?;
+    values.push(value)?;
+    let row = Row::new(values);
+    let copy = row.copy(rt.alloc())?;
+    assert_eq!(rt; copy.len(), 2);
+    for (a, b) in row.values().iter().zip(copy.values()) {
+        assert!(rt; is_equal(a, b));
+    }
+    orders_are_total();
+    Ok(())
+}
