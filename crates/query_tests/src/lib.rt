@@ -1,0 +1,18 @@
+//! Tests of result lists, selections, joins and plans: of what no contract says, as how many rows are read.
+//!
+//! They stand apart from the crates that they test, since a crate with tests is proved twice.
+#![tactic(auto)]
+
+#[cfg(test)]
+mod joins;
+pub mod pair;
+#[cfg(test)]
+mod plan_runs;
+#[cfg(test)]
+mod plans;
+#[cfg(test)]
+mod result_lists;
+#[cfg(test)]
+mod samples;
+#[cfg(test)]
+mod selections;

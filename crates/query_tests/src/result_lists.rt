@@ -1,0 +1,113 @@
+//! Temporary lists and the rows of results.
+ghost use Rattle.std.specs.Prelude.{◌≡◌, ◌+◌, ◌++◌, ◌∷◌, [], length, pos, All, IfOk, OnErr, OnOk};
+ghost use Rattle.mm_value.specs.declared.values.Value.TheVariants.{Int};
+ghost use Rattle.mm_templist.specs.Combos.{AreLive};
+ghost use Rattle.mm_templist.specs.Results.{result_rows};
+
+use mm_query::FieldPlace;
+use mm_store::{Meter, Store};
+use mm_templist::{Descriptor, ShownRows, TempList};
+use mm_value::{RowRef, Value, compare};
+use std::alloc::{AllocError, Global};
+use std::test::Fail;
+
+/// Adds a combination, for which memory may be refused once.
+fn push(list: &mut TempList, front: &[RowRef], at: RowRef) -> Result<(), AllocError>
+    requires { length front.now + 1 ≡ length list.old.tables }
+    ensures ok { OnOk result (list.new ≡ record list.old { combos = list.old.combos ++ (front.now ++ at ∷ []) ∷ [] }) }
+    ensures err { OnErr result (list.new ≡ list.old) }
+{
+    match list.push(front, at) {
+        Ok(()) => Ok(()),
+        Err(_) => list.push(front, at),
+    }
+}
+
+/// The rows of a result in the order of the first column, for which memory may be refused once.
+fn show<'s>(
+    list: &TempList,
+    alloc: Global,
+    store: &'s Store,
+    meter: &mut Meter,
+    distinct: bool,
+    zero: &'s Value,
+) -> Result<ShownRows<'s>, AllocError>
+    requires live { All (AreLive store.now list.now.tables) list.now.combos }
+    requires zero { zero.now ≡ Int (pos 0) }
+    ensures ok { IfOk result (λ rows. rows ≡ result_rows store.now list.now distinct (0 ∷ [])) }
+{
+    match list.shown(alloc, store, meter, distinct, &[0], zero) {
+        Ok(shown) => Ok(shown),
+        Err(_) => list.shown(alloc, store, meter, distinct, &[0], zero),
+    }
+}
+
+/// The reference to a slot of the first partition.
+fn at(slot: u8) -> RowRef
+    ensures { result ≡ record { part = 0; slot = slot } }
+{
+    RowRef { part: 0, slot }
+}
+
+#[test]
+fn keeps_combinations_in_their_order(rt: HostRuntime) -> Result<(), Fail> {
+    let descriptor = Descriptor {
+        tables: &[0, 1],
+        fields: &[FieldPlace {
+            place: 1,
+            column: 2,
+        }],
+    };
+    let mut list = TempList::new(rt.alloc(), descriptor);
+    assert_eq!(rt; list.len(), 0);
+    push(&mut list, &[at(1)], at(2))?;
+    push(&mut list, &[at(3)], at(4))?;
+    assert_eq!(rt; list.len(), 2);
+    assert_eq!(rt; list.combo(0), [at(1), at(2)].as_slice());
+    assert_eq!(rt; list.combo(1), [at(3), at(4)].as_slice());
+    assert_eq!(rt; list.descriptor().tables, [0, 1].as_slice());
+    assert_eq!(rt; list.descriptor().fields.len(), 1);
+    Ok(())
+}
+
+#[test]
+fn shows_no_rows_of_no_combinations(rt: HostRuntime) -> Result<(), Fail> {
+    let alloc = rt.alloc();
+    let store = Store::new(alloc);
+    let mut meter = Meter::new();
+    let descriptor = Descriptor {
+        tables: &[0],
+        fields: &[],
+    };
+    let list = TempList::new(alloc, descriptor);
+    let rows = list.project_sorted(alloc, &store, &mut meter, true, &[0]);
+    let rows = match rows {
+        Ok(rows) => rows,
+        Err(_) => list.project_sorted(alloc, &store, &mut meter, true, &[0])?,
+    };
+    assert_eq!(rt; rows.len(), 0);
+    let zero = Value::Int(0);
+    let shown = show(&list, alloc, &store, &mut meter, true, &zero)?;
+    assert_eq!(rt; shown.len(), 0);
+    assert_eq!(rt; meter.reads(), 0);
+    Ok(())
+}
+
+#[test]
+fn shows_0_where_no_row_is_there(rt: HostRuntime) -> Result<(), Fail> {
+    let alloc = rt.alloc();
+    let store = Store::new(alloc);
+    let mut meter = Meter::new();
+    let fields = [FieldPlace {
+        place: 0,
+        column: 0,
+    }];
+    let list = TempList::unit(alloc, &fields);
+    let zero = Value::Int(0);
+    let shown = show(&list, alloc, &store, &mut meter, false, &zero)?;
+    assert_eq!(rt; shown.len(), 1);
+    let row = shown.row(0);
+    assert_eq!(rt; row.len(), 1);
+    assert!(rt; compare(row[0], &zero).is_eq());
+    Ok(())
+}
