@@ -9,8 +9,6 @@ mod printed;
 mod refusal;
 mod row_ref;
 mod short_text;
-#[cfg(test)]
-mod tests;
 mod tuple;
 mod values;
 
