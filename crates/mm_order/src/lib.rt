@@ -15,6 +15,3 @@ pub use probes::{AtReference, Probe};
 pub use ref_order::RefOrder;
 pub use seeks::Seek;
 pub use sorted_refs::SortedRefs;
-
-#[cfg(test)]
-mod tests;
