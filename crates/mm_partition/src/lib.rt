@@ -9,6 +9,3 @@ mod tracked;
 
 pub use rows::Partitions;
 pub use slots::index_of;
-
-#[cfg(test)]
-mod tests;
