@@ -7,6 +7,3 @@ mod foreign_key;
 mod slots;
 
 pub use foreign_key::ForeignKey;
-
-#[cfg(test)]
-mod tests;
