@@ -6,8 +6,6 @@ mod nodes;
 mod owned;
 mod pool;
 mod slides;
-#[cfg(test)]
-mod tests;
 mod turns;
 
 pub use entries::{Entries, EntryIter};
