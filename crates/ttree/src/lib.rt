@@ -9,8 +9,6 @@ mod lookup;
 mod ranges;
 mod removes;
 mod search;
-#[cfg(test)]
-mod tests;
 mod tree;
 
 pub use iters::Iter;

@@ -112,12 +112,6 @@ impl TTree {
         Iter::new(self.root.as_ref())
     }
 
-    /// The tree itself.
-    #[cfg(test)]
-    pub(crate) fn root(&self) -> Option<&Subtree> {
-        self.root.as_ref()
-    }
-
     /// Frees spare nodes until there are at most `n`.
     pub fn trim_spares(&mut self, n: usize)
         ensures { self.new ≡ record self.old { spare = min self.old.spare n } }
