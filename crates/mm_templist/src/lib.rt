@@ -8,8 +8,6 @@ mod results;
 mod row_order;
 mod shown;
 mod temp_list;
-#[cfg(test)]
-mod tests;
 
 pub use shown::ShownRows;
 pub use temp_list::{Descriptor, TempList};
