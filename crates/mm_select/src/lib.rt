@@ -4,8 +4,6 @@
 mod candidates;
 mod indexed;
 mod scan;
-#[cfg(test)]
-mod tests;
 
 pub use indexed::{by_hash, by_tree};
 pub use scan::by_scan;
