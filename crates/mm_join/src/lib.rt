@@ -10,8 +10,6 @@ mod laws;
 mod merge;
 mod nested;
 mod probes;
-#[cfg(test)]
-mod tests;
 mod ways;
 
 pub use built::hash_build;
