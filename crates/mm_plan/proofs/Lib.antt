@@ -1,5 +1,4 @@
 mod Bounds
 mod Joining
 pub mod Referred
-mod Samples
 pub mod Unserved

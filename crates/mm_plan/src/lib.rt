@@ -12,8 +12,6 @@ mod joins;
 mod planner;
 mod planning;
 mod run;
-#[cfg(test)]
-mod tests;
 mod ways;
 
 pub use from::places_of;
