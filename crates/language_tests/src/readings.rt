@@ -447,6 +447,37 @@ fn refuses_literals_of_selects_past_their_limits(rt: HostRuntime) {
 }
 
 #[test]
+fn reads_commands_of_transactions(rt: HostRuntime) {
+    let alloc = rt.alloc();
+    assert!(rt; matches!(parse(alloc, b"BEGIN"), Ok(Command::Begin)));
+    assert!(rt; matches!(parse(alloc, b" COMMIT "), Ok(Command::Commit)));
+    assert!(rt; matches!(parse(alloc, b"\tROLLBACK"), Ok(Command::Rollback)));
+}
+
+#[test]
+fn refuses_commands_of_transactions_without_a_reading(rt: HostRuntime) {
+    let lines: [&[u8]; 10] = [
+        b"BEGIN x",
+        b"BEGIN;",
+        b"BEGIN 1",
+        b"BEGIN ()",
+        b"begin",
+        b"Begin",
+        b"BEGINCOMMIT",
+        b"COMMIT BEGIN",
+        b"COMMIT 'x'",
+        b"ROLLBACK TABLE t",
+    ];
+    for line in lines {
+        assert_eq!(rt;
+            parse(rt.alloc(), line).err(),
+            Some(Refusal::Syntax),
+            "at {line:?}"
+        );
+    }
+}
+
+#[test]
 fn reads_empty_lines_and_comments(rt: HostRuntime) {
     let alloc = rt.alloc();
     let blanks = [b' '; MAX_LINE_BYTES + 1];

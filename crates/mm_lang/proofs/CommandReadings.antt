@@ -37,6 +37,10 @@ command_took phrase old new c none t = record {
   shorter = t.shorter;
 }
 
+-- A keyword that is a command by itself was read: nothing behind it belongs to the command.
+pub whole_given : (c : Command) → literals_of c ≡ [] → (reader : Reader) → Gives (say c) literals_of reader reader c
+whole_given c none reader = command_took (say c) reader reader c none (took_say c reader)
+
 -- SCAN
 
 say_scan : Bool → List ℕ → Phrase Command

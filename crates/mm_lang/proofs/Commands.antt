@@ -1,68 +1,28 @@
 -- A whole line as a command, and lines by what they hold.
-use Rattle.std.proofs.Common.{◌≡◌, ◌≢◌, ◌<◌, ◌≤◌, inl, inr, ℕ, Bool, true, false, cond, ltb, List, [], ◌∷◌, Option, Some, None, Result, Ok, Err, length, refl, sym, ap, ◌∙◌}
+use Rattle.std.proofs.Common.{◌≡◌, ◌≢◌, ◌<◌, ◌≤◌, inl, inr, ℕ, Bool, true, false, cond, ltb, List, [], ◌∷◌, Option, Some, None, Result, Ok, Err, length, refl, sym, ap, subst, ◌∙◌}
 use Rattle.std.specs.Option.{option_and_then, option_or}
-use Rattle.std.proofs.lemmas.Bool.{cond-true, cond-false, lt-ltb, le-ltb}
+use Rattle.std.proofs.lemmas.Bool.{cond-true, cond-false, false≢true, lt-ltb, le-ltb}
 use Rattle.mm_value.specs.declared.refusal.Refusal.{Refusal}
-use Rattle.mm_value.specs.declared.refusal.Refusal.TheVariants.{LineTooLong}
+use Rattle.mm_value.specs.declared.refusal.Refusal.TheVariants.{LineTooLong, Syntax, Memory}
 use Rattle.mm_value.specs.declared.values.Value.{Value}
 use Rattle.mm_value.specs.declared.values.Value.TheVariants.{Int, Text}
 use Rattle.mm_value.specs.Literal.{is_within_limit}
+use Rattle.mm_query.specs.Transactions.{is_transaction_control}
 use Rattle.mm_query.specs.declared.command.Command.{Command}
-use Rattle.mm_query.specs.declared.command.Command.TheVariants.{Nothing, Define, Change, Scan, ScanIndex, Select, Explain}
+use Rattle.mm_query.specs.declared.command.Command.TheVariants.{Nothing, Define, Change, Scan, ScanIndex, Select, Explain, Begin, Commit, Rollback}
 use Rattle.mm_lang.specs.declared.keyword.Keyword.{Keyword}
+use Rattle.mm_lang.specs.declared.keyword.Keyword.TheVariants as keyword
 use Rattle.mm_lang.specs.declared.reader.Reader.{Reader}
 use Rattle.mm_lang.specs.Grammar.{command_behind, command_of}
 use Rattle.mm_lang.specs.Phrases.{Phrase, ◌>>=◌, one_word, alone}
 use Rattle.mm_lang.specs.Reading.{Reads, command_takes_memory, first_fault, is_nothing, literal_fault, literals_of, past_limit, read_as, reading, reading_takes_memory, takes_memory, unless}
+use Rattle.mm_lang.specs.Spelling.{word}
 use Rattle.mm_lang.specs.Tokens.{Token, tokens}
 use Rattle.mm_lang.specs.Words.{keyword_named}
-use Rattle.mm_lang.specs.steps.Parsing.{AnswersOrMemory, Fails, Finishes, Gives, no_literals}
-use Rattle.mm_lang.specs.steps.Parts.{Front}
-use Rattle.mm_lang.proofs.Readings.{took, fails_first, fails_next}
+use Rattle.mm_lang.specs.steps.Parsing.{AnswersReading, Fails, Finishes, Gives, IsMissing, is_whole_command, no_literals}
+use Rattle.mm_lang.specs.steps.Parts.{Front, said_same}
+use Rattle.mm_lang.proofs.Readings.{took}
 use Rattle.mm_lang.proofs.SpelledCommands.{command_read}
-
--- a command, and nothing behind it
-
-abbrev command_phrase : Phrase Command
-command_phrase = one_word keyword_named >>= command_behind
-
-no_command : (old : Reader) (e : Refusal) → Fails command_phrase old e → AnswersOrMemory (read_as (command_of (tokens old.rest.now))) (Err e)
-unfolding command_of
-no_command old e (inl h) = inl (ap (λ (o : Option (Front Command)). read_as (option_and_then (λ r. alone r.0 r.1) o)) h.1 ∙ ap Err (sym h.0))
-no_command old e (inr h) = inr h
-
-pub no_keyword : (old : Reader) (e : Refusal) → Fails (one_word keyword_named) old e → AnswersOrMemory (read_as (command_of (tokens old.rest.now))) (Err e)
-no_keyword old e h = no_command old e (fails_first (one_word keyword_named) command_behind old e h)
-
-pub nothing_behind : (old mid : Reader) (k : Keyword) (e : Refusal) → Gives (one_word keyword_named) no_literals old mid k → Fails (command_behind k) mid e
-    → AnswersOrMemory (read_as (command_of (tokens old.rest.now))) (Err e)
-nothing_behind old mid k e g h = let t = took g in no_command old e (fails_next (one_word keyword_named) command_behind old mid k e t.is h)
-
-alone_some : (c : Command) (ts : List Token) → ts ≢ [] → alone c ts ≡ None
-alone_some c [] h = absurd (h refl)
-alone_some c (t ∷ ts) h = refl
-
-module _ (old mid new : Reader) (k : Keyword) (c : Command) (fresh : old.fault ≡ None) (g : Gives (one_word keyword_named) no_literals old mid k)
-    (h : Gives (command_behind k) literals_of mid new c) where
-  whole_is : command_of (tokens old.rest.now) ≡ alone h.said (tokens new.rest.now)
-  unfolding command_of
-  whole_is =
-      let t = took g in
-      ap (λ (o : Option (Front Keyword)). option_and_then (λ (r : Front Command). alone r.0 r.1)
-      (option_and_then (λ (r : Front Keyword). command_behind r.0 r.1) o)) t.is
-      ∙ ap (option_and_then (λ (r : Front Command). alone r.0 r.1)) h.read
-
-  fault_is : new.fault ≡ first_fault (literals_of h.said)
-  fault_is = let t = took g in h.fault ∙ ap (λ f. option_or f (first_fault (literals_of h.said))) (t.fault ∙ fresh)
-
-  pub unfinished : (e : Refusal) → Finishes new (Err e) → AnswersOrMemory (read_as (command_of (tokens old.rest.now))) (Err e)
-  unfinished e (inl f) = inl (ap read_as (whole_is ∙ alone_some h.said (tokens new.rest.now) f.1) ∙ ap Err (sym f.0))
-  unfinished e (inr f) = inl (ap read_as (whole_is ∙ ap (alone h.said) f.0) ∙ ap (unless h.said) (sym fault_is ∙ f.1))
-
-  pub finished : Finishes new (Ok tt) → read_as (command_of (tokens old.rest.now)) ≡ Ok c
-  finished f =
-      let none : first_fault (literals_of h.said) ≡ None = sym fault_is ∙ f.1 in
-      ap read_as (whole_is ∙ ap (alone h.said) f.0) ∙ ap (unless h.said) none ∙ ap Ok (sym (h.same none))
 
 -- the lines that take no memory, and the others
 
@@ -96,22 +56,107 @@ limits_take : (command : Command) (literals : List Value) → command_takes_memo
 limits_take command [] takes = takes
 limits_take command (v ∷ vs) takes = literal_takes command v (first_fault vs) (limits_take command vs takes)
 
--- what tokens read as takes memory
-tokens_take : (ts : List Token) (read : Option Command) → command_of ts ≡ read → reading_takes_memory (read_as read) ≡ true
-tokens_take ts None is = refl
-tokens_take ts (Some Nothing) is = absurd (command_read ts Nothing is)
-tokens_take ts (Some (Define definition)) is = limits_take (Define definition) (literals_of (Define definition)) refl
-tokens_take ts (Some (Change mutation)) is = limits_take (Change mutation) (literals_of (Change mutation)) refl
-tokens_take ts (Some (Scan table)) is = limits_take (Scan table) (literals_of (Scan table)) refl
-tokens_take ts (Some (ScanIndex index)) is = limits_take (ScanIndex index) (literals_of (ScanIndex index)) refl
-tokens_take ts (Some (Select query)) is = limits_take (Select query) (literals_of (Select query)) refl
-tokens_take ts (Some (Explain query)) is = limits_take (Explain query) (literals_of (Explain query)) refl
+-- what tokens read as takes memory, unless it begins or ends a transaction
+tokens_take : (ts : List Token) (read : Option Command) → command_of ts ≡ read
+    → ((c : Command) → read ≡ Some c → is_transaction_control c ≡ false) → reading_takes_memory (read_as read) ≡ true
+tokens_take ts None is free = refl
+tokens_take ts (Some Nothing) is free = absurd (command_read ts Nothing is)
+tokens_take ts (Some (Define definition)) is free = limits_take (Define definition) (literals_of (Define definition)) refl
+tokens_take ts (Some (Change mutation)) is free = limits_take (Change mutation) (literals_of (Change mutation)) refl
+tokens_take ts (Some (Scan table)) is free = limits_take (Scan table) (literals_of (Scan table)) refl
+tokens_take ts (Some (ScanIndex index)) is free = limits_take (ScanIndex index) (literals_of (ScanIndex index)) refl
+tokens_take ts (Some (Select query)) is free = limits_take (Select query) (literals_of (Select query)) refl
+tokens_take ts (Some (Explain query)) is free = limits_take (Explain query) (literals_of (Explain query)) refl
+tokens_take ts (Some Begin) is free = absurd (false≢true (sym (free Begin refl)))
+tokens_take ts (Some Commit) is free = absurd (false≢true (sym (free Commit refl)))
+tokens_take ts (Some Rollback) is free = absurd (false≢true (sym (free Rollback refl)))
 
-pub takes : (line : List ℕ) → length line ≤ 4096 → is_nothing line ≡ false → takes_memory line ≡ true
-takes line short some = ap reading_takes_memory (reads_command line short some) ∙ tokens_take (tokens line) (command_of (tokens line)) refl
+-- Any other line takes memory, unless it begins or ends a transaction, ..
+pub takes : (line : List ℕ) → length line ≤ 4096 → is_nothing line ≡ false
+    → ((c : Command) → reading line ≡ Ok c → is_transaction_control c ≡ false) → takes_memory line ≡ true
+takes line short some free =
+    ap reading_takes_memory (reads_command line short some) ∙ tokens_take (tokens line) (command_of (tokens line)) refl by
+  where
+    by : (c : Command) → command_of (tokens line) ≡ Some c → is_transaction_control c ≡ false
+    by Begin is = free Begin (reads_command line short some ∙ ap read_as is)
+    by Commit is = free Commit (reads_command line short some ∙ ap read_as is)
+    by Rollback is = free Rollback (reads_command line short some ∙ ap read_as is)
+    by _ is = refl
+
+-- .. and such a line takes none.
+pub control_takes_none : (line : List ℕ) (c : Command) → reading line ≡ Ok c → is_transaction_control c ≡ true → takes_memory line ≡ false
+control_takes_none line c is control = ap reading_takes_memory is ∙ by c control
+  where
+    by : (c : Command) → is_transaction_control c ≡ true → command_takes_memory c ≡ false
+    by Begin control = refl
+    by Commit control = refl
+    by Rollback control = refl
+    by _ control = absurd (false≢true control)
+
+-- Where the first word is no command by itself, what the tokens read as takes memory.
+behind_takes : (ts us : List Token) (k : Keyword) → one_word keyword_named ts ≡ Some (k, us) → is_whole_command k ≡ false
+    → reading_takes_memory (read_as (command_of ts)) ≡ true
+behind_takes ts us k first more = tokens_take ts (command_of ts) refl by
+  where
+    begins : (wanted : Keyword) → one_word keyword_named (word wanted ∷ []) ≡ Some (wanted, []) → ts ≡ word wanted ∷ [] → is_whole_command wanted ≡ false
+    begins wanted named spelled =
+        let same : ◌≡◌ {A = Option (Front Keyword)} (Some (k, us)) (Some (wanted, [])) = sym first ∙ ap (one_word keyword_named) spelled ∙ named in
+        subst (λ w. is_whole_command w ≡ false) (said_same k wanted us [] same).0 more
+
+    by : (c : Command) → command_of ts ≡ Some c → is_transaction_control c ≡ false
+    by Begin is = begins keyword.Begin refl (command_read ts Begin is)
+    by Commit is = begins keyword.Commit refl (command_read ts Commit is)
+    by Rollback is = begins keyword.Rollback refl (command_read ts Rollback is)
+    by _ is = refl
+
+-- a command, and nothing behind it
+
+abbrev command_phrase : Phrase Command
+command_phrase = one_word keyword_named >>= command_behind
+
+no_command : (old : Reader) (e : Refusal) → e ≡ Syntax → command_phrase (tokens old.rest.now) ≡ None
+    → AnswersReading (read_as (command_of (tokens old.rest.now))) (Err e)
+unfolding command_of
+no_command old e syntax none = inl (ap (λ (o : Option (Front Command)). read_as (option_and_then (λ r. alone r.0 r.1) o)) none ∙ ap Err (sym syntax))
+
+pub no_keyword : (old : Reader) (e : Refusal) → IsMissing (one_word keyword_named) old e → AnswersReading (read_as (command_of (tokens old.rest.now))) (Err e)
+no_keyword old e h = no_command old e h.0 (ap (option_and_then (λ (r : Front Keyword). command_behind r.0 r.1)) h.1)
+
+pub nothing_behind : (old mid : Reader) (k : Keyword) (e : Refusal) → Gives (one_word keyword_named) no_literals old mid k
+    → Fails (command_behind k) mid e → (e ≡ Memory → is_whole_command k ≡ false) → AnswersReading (read_as (command_of (tokens old.rest.now))) (Err e)
+nothing_behind old mid k e g (inl h) more =
+    let t = took g in no_command old e h.0 (ap (option_and_then (λ (r : Front Keyword). command_behind r.0 r.1)) t.is ∙ h.1)
+nothing_behind old mid k e g (inr h) more =
+    let t = took g in inr (h, behind_takes (tokens old.rest.now) (tokens mid.rest.now) k t.is (more h))
+
+alone_some : (c : Command) (ts : List Token) → ts ≢ [] → alone c ts ≡ None
+alone_some c [] h = absurd (h refl)
+alone_some c (t ∷ ts) h = refl
+
+module _ (old mid new : Reader) (k : Keyword) (c : Command) (fresh : old.fault ≡ None) (g : Gives (one_word keyword_named) no_literals old mid k)
+    (h : Gives (command_behind k) literals_of mid new c) where
+  whole_is : command_of (tokens old.rest.now) ≡ alone h.said (tokens new.rest.now)
+  unfolding command_of
+  whole_is =
+      let t = took g in
+      ap (λ (o : Option (Front Keyword)). option_and_then (λ (r : Front Command). alone r.0 r.1)
+      (option_and_then (λ (r : Front Keyword). command_behind r.0 r.1) o)) t.is
+      ∙ ap (option_and_then (λ (r : Front Command). alone r.0 r.1)) h.read
+
+  fault_is : new.fault ≡ first_fault (literals_of h.said)
+  fault_is = let t = took g in h.fault ∙ ap (λ f. option_or f (first_fault (literals_of h.said))) (t.fault ∙ fresh)
+
+  pub unfinished : (e : Refusal) → Finishes new (Err e) → AnswersReading (read_as (command_of (tokens old.rest.now))) (Err e)
+  unfinished e (inl f) = inl (ap read_as (whole_is ∙ alone_some h.said (tokens new.rest.now) f.1) ∙ ap Err (sym f.0))
+  unfinished e (inr f) = inl (ap read_as (whole_is ∙ ap (alone h.said) f.0) ∙ ap (unless h.said) (sym fault_is ∙ f.1))
+
+  pub finished : Finishes new (Ok tt) → read_as (command_of (tokens old.rest.now)) ≡ Ok c
+  finished f =
+      let none : first_fault (literals_of h.said) ≡ None = sym fault_is ∙ f.1 in
+      ap read_as (whole_is ∙ ap (alone h.said) f.0) ∙ ap (unless h.said) none ∙ ap Ok (sym (h.same none))
 
 pub reads : (line : List ℕ) (r : Result Command Refusal) → length line ≤ 4096 → is_nothing line ≡ false
-    → AnswersOrMemory (read_as (command_of (tokens line))) r → Reads line r
+    → AnswersReading (read_as (command_of (tokens line))) r → Reads line r
 reads line (Ok command) short some h = reads_command line short some ∙ h
 reads line (Err e) short some (inl h) = inl (reads_command line short some ∙ h)
-reads line (Err e) short some (inr h) = inr (h, takes line short some)
+reads line (Err e) short some (inr h) = inr (h.0, ap reading_takes_memory (reads_command line short some) ∙ h.1)

@@ -225,6 +225,9 @@ spelled_literals ts (command.Scan table) h = sym (ap among h.1 ∙ behind_name t
 spelled_literals ts (command.ScanIndex i) h = sym (ap among h.1 ∙ behind_name i [] h.0)
 spelled_literals ts (command.Select q) h = sym (ap among h.2 ∙ query_among h.0 q h.1)
 spelled_literals ts (command.Explain q) h = sym (ap among h.2 ∙ query_among h.0 q h.1)
+spelled_literals ts command.Begin h = sym (ap among h)
+spelled_literals ts command.Commit h = sym (ap among h)
+spelled_literals ts command.Rollback h = sym (ap among h)
 
 pub read_literals : (ts : List Token) (c : Command) → command_of ts ≡ Some c → literals_of c ≡ among ts
 read_literals ts c e = spelled_literals ts c (command_read ts c e)

@@ -16,7 +16,7 @@ use Rattle.mm_lang.specs.Grammar.{name, col_type, reference, role_behind, role, 
 use Rattle.mm_lang.specs.Phrases.{Phrase, ◌>>=◌, say, one, one_word, word_of, the_keyword, has_keyword, list_of, clause_behind, clause}
 use Rattle.mm_lang.specs.Reading.{first_fault, literal_fault}
 use Rattle.mm_lang.specs.Tokens.{Token, Word, tokens}
-use Rattle.mm_lang.specs.steps.Parsing.{Fails, Follows, Gives, GivesItems, ReadsPhrase, Skips, no_literals}
+use Rattle.mm_lang.specs.steps.Parsing.{Fails, Follows, Gives, GivesItems, ReadsPhrase, ReadsWithoutMemory, Skips, no_literals}
 use Rattle.mm_lang.specs.steps.Parts.{Front, one_parts}
 
 -- The first fault of two lists of literals.
@@ -195,7 +195,7 @@ word_says {A} says ts word us e =
     ap (one_word says) p.1 ∙ ap (λ o. option_map pair (option_and_then says o)) p.2
 
 pub word_reads : {A : Type 0} (says : List ℕ → Option A) (old new : Reader) (word : List ℕ) → Gives (one word_of) no_literals old new word
-    → ReadsPhrase (one_word says) no_literals old new (ok_or (says word) Syntax)
+    → ReadsWithoutMemory (one_word says) no_literals old new (ok_or (says word) Syntax)
 word_reads {A} says old new word g = by (says word) refl
   where
     t : Took (one word_of) old new word
@@ -204,8 +204,8 @@ word_reads {A} says old new word g = by (says word) refl
     pair : A → Front A
     pair x = (x, tokens new.rest.now)
 
-    by : (o : Option A) → says word ≡ o → ReadsPhrase (one_word says) no_literals old new (ok_or o Syntax)
-    by None is = inl (refl, word_says says (tokens old.rest.now) word (tokens new.rest.now) t.is ∙ ap (option_map pair) is)
+    by : (o : Option A) → says word ≡ o → ReadsWithoutMemory (one_word says) no_literals old new (ok_or o Syntax)
+    by None is = (refl, word_says says (tokens old.rest.now) word (tokens new.rest.now) t.is ∙ ap (option_map pair) is)
     by (Some x) is =
         gives (record
         { is = word_says says (tokens old.rest.now) word (tokens new.rest.now) t.is ∙ ap (option_map pair) is; fault = t.fault; shorter = t.shorter })

@@ -355,14 +355,25 @@ table_spelled n columns inner named one h =
     (ap (in_parentheses (comma_list column)) (sym (append-nil inner)) ∙ table_columns_exact.complete inner columns [] h tt)
     ∙ cond-true (eqb (key_count columns) 1) _ _ (eq-eqb (key_count columns) 1 one)
 
+-- BEGIN, COMMIT and ROLLBACK
+
+whole_read : (k : Keyword) (whole : Command) → SpellsCommand (word k ∷ []) whole → (ts : List Token) (c : Command)
+    → ◌≡◌ {A = Option (Front Command)} (Some (whole, ts)) (Some (c, [])) → SpellsCommand (word k ∷ ts) c
+whole_read k whole spelled ts c e =
+    let p = said_same whole c ts [] e in
+    subst (λ us. SpellsCommand (word k ∷ us) c) (sym p.1) (subst (SpellsCommand (word k ∷ [])) p.0 spelled)
+
 -- all commands
 
 behind_read : (k : Keyword) (ts : List Token) (c : Command) → command_behind k ts ≡ Some (c, []) → SpellsCommand (word k ∷ ts) c
+behind_read keyword.Begin ts c e = whole_read keyword.Begin command.Begin refl ts c e
+behind_read keyword.Commit ts c e = whole_read keyword.Commit command.Commit refl ts c e
 behind_read keyword.Delete ts c e = delete_read ts c e
 behind_read keyword.Drop ts c e = drop_read ts c e
 behind_read keyword.Explain ts c e = explain_read ts c e
 behind_read keyword.Index ts c e = index_read ts c e
 behind_read keyword.Insert ts c e = insert_read ts c e
+behind_read keyword.Rollback ts c e = whole_read keyword.Rollback command.Rollback refl ts c e
 behind_read keyword.Scan ts c e = scan_read ts c e
 behind_read keyword.Select ts c e = select_read ts c e
 behind_read keyword.Table ts c e = table_read ts c e
@@ -406,6 +417,9 @@ command_spelled ts (command.Select q) h =
     ap command_of h.2 ∙ ap (option_and_then (λ (r : Front Command). alone r.0 r.1)) (select_spelled h.0 q h.1)
 command_spelled ts (command.Explain q) h =
     ap command_of h.2 ∙ ap (option_and_then (λ (r : Front Command). alone r.0 r.1)) (explain_spelled h.0 q h.1)
+command_spelled ts command.Begin h = ap command_of h
+command_spelled ts command.Commit h = ap command_of h
+command_spelled ts command.Rollback h = ap command_of h
 
 pub command_one : (ts : List Token) (c d : Command) → SpellsCommand ts c → SpellsCommand ts d → c ≡ d
 command_one ts c d h k = same_Some c d (sym (command_spelled ts c h) ∙ command_spelled ts d k)

@@ -280,11 +280,14 @@ explain = do
 
 -- what stands behind the keyword that a command begins with
 abbrev pub command_behind : Keyword → Phrase Command
+command_behind keyword.Begin = say command.Begin
+command_behind keyword.Commit = say command.Commit
 command_behind keyword.Delete = delete
 command_behind keyword.Drop = drop
 command_behind keyword.Explain = explain
 command_behind keyword.Index = index
 command_behind keyword.Insert = insert
+command_behind keyword.Rollback = say command.Rollback
 command_behind keyword.Scan = scan
 command_behind keyword.Select = select
 command_behind keyword.Table = table

@@ -12,7 +12,7 @@ use Rattle.mm_query.specs.declared.atom.Atom.{Atom}
 use Rattle.mm_query.specs.declared.atom.Operand.{Operand}
 use Rattle.mm_query.specs.declared.atom.Operand.TheVariants.{Literal, Column, Shifted}
 use Rattle.mm_query.specs.declared.command.Command.{Command}
-use Rattle.mm_query.specs.declared.command.Command.TheVariants.{Nothing, Define, Change, Scan, ScanIndex, Select, Explain}
+use Rattle.mm_query.specs.declared.command.Command.TheVariants.{Nothing, Define, Change, Scan, ScanIndex, Select, Explain, Begin, Commit, Rollback}
 use Rattle.mm_query.specs.declared.command.Mutation.TheVariants.{Insert, Update, Delete}
 use Rattle.mm_query.specs.declared.query.Query.{Query}
 use Rattle.mm_lang.specs.Grammar.{command_of, literal_of}
@@ -71,6 +71,9 @@ literals_of (Scan table) = []
 literals_of (ScanIndex index) = []
 literals_of (Select query) = query_literals query
 literals_of (Explain query) = query_literals query
+literals_of Begin = []
+literals_of Commit = []
+literals_of Rollback = []
 
 -- a thing, unless it has a fault
 abbrev pub unless : {A : Type 0} → A → Option Refusal → Result A Refusal
@@ -102,7 +105,7 @@ reading line =
     if nat_lt 4096 (length line) then Err LineTooLong
     else (if is_nothing line then Ok Nothing else read_as (command_of (tokens line)))
 
--- A command takes memory unless it is Nothing.
+-- A command takes memory unless it is Nothing, or begins or ends a transaction.
 abbrev pub command_takes_memory : Command → Bool
 command_takes_memory Nothing = false
 command_takes_memory (Define definition) = true
@@ -111,6 +114,9 @@ command_takes_memory (Scan table) = true
 command_takes_memory (ScanIndex index) = true
 command_takes_memory (Select query) = true
 command_takes_memory (Explain query) = true
+command_takes_memory Begin = false
+command_takes_memory Commit = false
+command_takes_memory Rollback = false
 
 -- What a line reads as takes memory, unless it is such a command or the line is too long.
 abbrev pub reading_takes_memory : Result Command Refusal → Bool

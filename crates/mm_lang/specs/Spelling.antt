@@ -170,6 +170,9 @@ SpellsQuery ts query =
 --         | SCAN INDEX name
 --         | SELECT query
 --         | EXPLAIN SELECT query
+--         | BEGIN
+--         | COMMIT
+--         | ROLLBACK
 abbrev pub SpellsCommand : List Token → Command → Type 0
 SpellsCommand ts command.Nothing = ⊥
 SpellsCommand ts (command.Define (define.Table definition)) =
@@ -194,3 +197,6 @@ SpellsCommand ts (command.ScanIndex index) = IsName index × (ts ≡ word keywor
 SpellsCommand ts (command.Select query) = (behind : List Token) × SpellsQuery behind query × (ts ≡ word keyword.Select ∷ behind)
 SpellsCommand ts (command.Explain query) =
     (behind : List Token) × SpellsQuery behind query × (ts ≡ word keyword.Explain ∷ word keyword.Select ∷ behind)
+SpellsCommand ts command.Begin = ts ≡ word keyword.Begin ∷ []
+SpellsCommand ts command.Commit = ts ≡ word keyword.Commit ∷ []
+SpellsCommand ts command.Rollback = ts ≡ word keyword.Rollback ∷ []

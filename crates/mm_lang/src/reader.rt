@@ -4,7 +4,7 @@ ghost use Rattle.std.specs.Option.{option_or};
 ghost use Rattle.mm_lang.specs.Grammar.{col_type, comparison, comparison_of, digits, index_kind, literal_of, name, numbered, position, shift};
 ghost use Rattle.mm_lang.specs.Phrases.{in_parentheses, one, one_word, the_keyword, the_separator, the_symbol, word_of};
 ghost use Rattle.mm_lang.specs.Words.{keyword_named};
-ghost use Rattle.mm_lang.specs.steps.Parsing.{AnswersOrMemory, BeginsNoMark, BeginsNoWord, BeginsNot, BeginsNotSigned, Fails, Finds, Finishes, Follows, Gives, ReadsPhrase, Skips, is_limit, no_literals, only_literal, shift_literals};
+ghost use Rattle.mm_lang.specs.steps.Parsing.{AnswersOrMemory, BeginsNoMark, BeginsNoWord, BeginsNot, BeginsNotSigned, Finds, Finishes, Follows, Gives, IsMissing, ReadsPhrase, ReadsWithoutMemory, Skips, is_limit, no_literals, only_literal, shift_literals};
 ghost use Rattle.mm_lang.specs.steps.Splitting.{Shows};
 ghost use Rattle.mm_lang.specs.Reading.{checked, literal_fault, position_literals};
 ghost use Rattle.mm_lang.specs.Tokens.{Token as Tok, Word, Signed, Mark as MarkToken, tokens};
@@ -125,9 +125,9 @@ impl<'a> Reader<'a> {
         }
     }
 
-    /// Reads a keyword, and gives it. `Syntax` where no word stands there, or one that is no keyword.
+    /// Reads a keyword, and gives it. `Syntax` where no word stands there, or one that is no keyword. No memory is taken.
     pub(crate) fn keyword(&mut self) -> Result<Keyword, Refusal>
-        ensures { ReadsPhrase (one_word keyword_named) no_literals self.old self.new result }
+        ensures { ReadsWithoutMemory (one_word keyword_named) no_literals self.old self.new result }
     {
         let word = self.word()?;
         Keyword::named(word).ok_or(Refusal::Syntax)
@@ -265,9 +265,9 @@ impl<'a> Reader<'a> {
         }
     }
 
-    // Reads a word, and gives its bytes. `Syntax` where none stands there.
+    // Reads a word, and gives its bytes. `Syntax` where none stands there. No memory is taken.
     fn word(&mut self) -> Result<&'a [u8], Refusal>
-        ensures { MatchResult result (λ word. Gives (one word_of) no_literals self.old self.new word.now) (Fails (one word_of) self.old) }
+        ensures { MatchResult result (λ word. Gives (one word_of) no_literals self.old self.new word.now) (IsMissing (one word_of) self.old) }
     {
         match split_word(self.rest) {
             Some((word, rest)) => {

@@ -1,10 +1,11 @@
 //! What a line reads as.
-ghost use Rattle.std.specs.Prelude.{◌≡◌};
+ghost use Rattle.std.specs.Prelude.{◌≡◌, false, Err};
 ghost use Rattle.std.specs.List.{list_all};
 ghost use Rattle.mm_lang.specs.Grammar.{command_behind, command_of, delete, drop, dropped, index, insert, scan, table, update};
 ghost use Rattle.mm_lang.specs.Reading.{Reads, is_comment, is_nothing, literals_of, read_as};
 ghost use Rattle.mm_lang.specs.Tokens.{tokens, is_blank};
-ghost use Rattle.mm_lang.specs.steps.Parsing.{AnswersOrMemory, ReadsPhrase};
+ghost use Rattle.mm_lang.specs.steps.Parsing.{AnswersReading, ReadsPhrase, is_whole_command};
+ghost use Rattle.mm_value.specs.declared.refusal.Refusal.TheVariants.{Memory};
 
 use crate::atoms::{AssignmentPhrase, read_tests};
 use crate::columns::ColumnPhrase;
@@ -30,11 +31,11 @@ pub const MAX_LINE_BYTES: usize = 4096;
 /// where a test is `name op value`, an op one of `=`, `<`, `<=`, `>` and `>=`, and a value `literal`, `name`, `name + digits`
 /// or `name - digits`; `SCAN name` and `SCAN INDEX name`;
 /// `SELECT [DISTINCT] field, .. FROM name name, .. [WHERE test AND ..] [ORDER digits, ..]`, where a field is `name . name`,
-/// and stands for a column in the tests too; or `EXPLAIN` and such a `SELECT`.
+/// and stands for a column in the tests too; `EXPLAIN` and such a `SELECT`; or `BEGIN`, `COMMIT` or `ROLLBACK`.
 /// `LineTooLong` where the line has more than 4,096 bytes, `Syntax` where it has no reading, else `NumberOutOfRange` or
 /// `TextTooLong` where its first literal from the left past its limit is a number or a text; digits behind a minus count
-/// as the negative number, and digits of ORDER are numbers too. `Memory` may come in place of any answer but `LineTooLong`
-/// and `Nothing`. Nothing is taken but what the command keeps.
+/// as the negative number, and digits of ORDER are numbers too. `Memory` may come in place of any answer but `LineTooLong`,
+/// `Nothing`, `Begin`, `Commit` and `Rollback`. Nothing is taken but what the command keeps.
 pub fn parse(alloc: Global, line: &[u8]) -> Result<Command, Refusal>
     ensures { Reads line.now result }
 {
@@ -66,7 +67,7 @@ fn is_comment(line: &[u8]) -> bool
 }
 
 fn read_command(alloc: Global, line: &[u8]) -> Result<Command, Refusal>
-    ensures { AnswersOrMemory (read_as (command_of (tokens line.now))) result }
+    ensures { AnswersReading (read_as (command_of (tokens line.now))) result }
 {
     let mut reader = Reader::new(alloc, line);
     let keyword = reader.keyword()?;
@@ -75,16 +76,21 @@ fn read_command(alloc: Global, line: &[u8]) -> Result<Command, Refusal>
     Ok(command)
 }
 
-// What stands behind the keyword that a command begins with.
+// What stands behind the keyword that a command begins with. A keyword that is a command by itself takes no memory.
+#[tactic(auto, using(crate::proofs::CommandReadings::whole_given))]
 fn read_behind(keyword: Keyword, reader: &mut Reader<'_>) -> Result<Command, Refusal>
-    ensures { ReadsPhrase (command_behind keyword) literals_of reader.old reader.new result }
+    ensures reads { ReadsPhrase (command_behind keyword) literals_of reader.old reader.new result }
+    ensures memory { result ≡ Err Memory → is_whole_command keyword ≡ false }
 {
     match keyword {
+        Keyword::Begin => Ok(Command::Begin),
+        Keyword::Commit => Ok(Command::Commit),
         Keyword::Delete => read_delete(reader),
         Keyword::Drop => read_drop(reader),
         Keyword::Explain => read_explain(reader),
         Keyword::Index => read_index(reader),
         Keyword::Insert => read_insert(reader),
+        Keyword::Rollback => Ok(Command::Rollback),
         Keyword::Scan => read_scan(reader),
         Keyword::Select => read_select(reader),
         Keyword::Table => read_table(reader),

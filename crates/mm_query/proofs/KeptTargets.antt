@@ -2,10 +2,12 @@
 use Rattle.std.proofs.Common.{◌≡◌, ℕ, ◌+◌, Bool, true, false, cond, not, ◌&&◌, List, [], ◌∷◌, ◌++◌, Option, Some, None, find, map, inl, inr, refl, sym, ap, subst, ◌∙◌}
 use Rattle.std.specs.List.{list_any}
 use Rattle.std.specs.Option.{option_map_or}
+use Rattle.std.specs.Prelude.{IfSome}
 use Rattle.std.proofs.lemmas.Bool.{cases_Bool, or_parts}
 use Rattle.std.proofs.lemmas.List.Elements.{All-nil, recursion_from_All}
 use Rattle.mm_schema.specs.Columns.{key_place, target_of}
 use Rattle.mm_schema.specs.Indexes.{table_with_index, table_without_index}
+use Rattle.mm_schema.specs.Instance.{Instance}
 use Rattle.mm_schema.specs.Name.{same_name}
 use Rattle.mm_schema.specs.References.{HasTargets, in_front, lacks_target_row, lose_targets, references_from, references_of, refers}
 use Rattle.mm_schema.specs.Refused.{first_refusal}
@@ -23,16 +25,16 @@ use Rattle.mm_schema.proofs.Twins.{Row}
 use Rattle.mm_value.specs.declared.refusal.Refusal.{Refusal}
 use Rattle.mm_query.specs.Binding.{binding_conditions}
 use Rattle.mm_query.specs.Edits.{changed_table, own_pairs, value_conditions}
-use Rattle.mm_query.specs.Machine.{after_all, after_change, after_definition, conditions, row_conditions, some_is_referred, some_lacks_target, state_after}
+use Rattle.mm_query.specs.Machine.{after_all, after_change, after_definition, change_conditions, definition_conditions, row_conditions, some_is_referred, some_lacks_target}
 use Rattle.mm_query.specs.State.{State, first_state, rows_in}
 use Rattle.mm_query.specs.declared.command.Command.{Command}
-use Rattle.mm_query.specs.declared.command.Command.TheVariants.{Nothing, Define, Change, Scan, ScanIndex, Select, Explain}
 use Rattle.mm_query.specs.declared.command.Definition.{Definition}
 use Rattle.mm_query.specs.declared.command.Definition.TheVariants as define
 use Rattle.mm_query.specs.declared.command.Mutation.{Mutation}
 use Rattle.mm_query.proofs.FoundTargets.{found_among, none_among, none_by_each, refers_still}
-use Rattle.mm_query.proofs.KeyOrder.{IsKept, kept_at_first, kept_by_all, kept_by_command}
+use Rattle.mm_query.proofs.KeyOrder.{IsKept, kept_at_first, kept_by_change, kept_by_definition}
 use Rattle.mm_query.proofs.NamedRows.{has, no_rows_behind, rows_behind, rows_changed, rows_gone, rows_kept, rows_left, rows_of_others, table_behind, table_left, told_kept}
+use Rattle.mm_query.proofs.Throughout.{HoldsThroughout, held_by_all}
 
 -- ---- rows that have their targets
 
@@ -254,31 +256,39 @@ neither_refused key rows lacks referred due = (second_none (has_twin_keys key ro
 
 -- ---- every step
 
--- what each step keeps of a state
-record IsReferential (state : State) : Type 0 where
-  kept : IsKept state
-  targets : HasTargets state.schema
-  found : AllFindTargets state
+-- what each step keeps of a catalog and rows
+record IsReferential (schema : Schema) (rows : Instance) : Type 0 where
+  kept : IsKept schema rows
+  targets : HasTargets schema
+  found : AllFindTargets (record { schema = schema; rows = rows; saved = None })
 
-beside_of : (state : State) → IsKept state → AreBeside state.schema.tables state.rows
+beside_of : (state : State) → IsKept state.schema state.rows → AreBeside state.schema.tables state.rows
 beside_of state kept = beside_from_order state.schema.tables state.rows kept.order
 
-targets_by_definition : (definition : Definition) (state : State) → first_refusal (conditions (Define definition) state) ≡ None → HasTargets state.schema
-    → HasTargets (after_definition definition state).schema
+targets_by_definition : (definition : Definition) (state : State) → first_refusal (definition_conditions definition state) ≡ None
+    → HasTargets state.schema → HasTargets (after_definition definition state).schema
 targets_by_definition (define.Table definition) state due targets = targets_added definition state.schema targets due
 targets_by_definition (define.DropTable name) state due targets = targets_left name state.schema targets due
 targets_by_definition (define.Index index) state due targets = targets_indexed index state.schema targets
 targets_by_definition (define.DropIndex name) state due targets = targets_unindexed name state.schema targets
 
-found_by_definition : (definition : Definition) (state : State) → first_refusal (conditions (Define definition) state) ≡ None → IsReferential state
-    → AllFindTargets (after_definition definition state)
+found_by_definition : (definition : Definition) (state : State) → first_refusal (definition_conditions definition state) ≡ None
+    → IsReferential state.schema state.rows → AllFindTargets (after_definition definition state)
 found_by_definition (define.Table definition) state due is = found_with_table definition state (beside_of state is.kept) is.targets is.found
 found_by_definition (define.DropTable name) state due is = found_without_table name state due is.found
 found_by_definition (define.Index index) state due is = found_with_definitions (table_with_index index) (same_with index) state is.found
 found_by_definition (define.DropIndex name) state due is = found_with_definitions (table_without_index name) (same_without name) state is.found
 
-found_by_change : (mutation : Mutation) (state : State) → first_refusal (conditions (Change mutation) state) ≡ None → IsReferential state
-    → AllFindTargets (after_change mutation state)
+referential_by_definition : (definition : Definition) (state : State) → first_refusal (definition_conditions definition state) ≡ None
+    → IsReferential state.schema state.rows → IsReferential (after_definition definition state).schema (after_definition definition state).rows
+referential_by_definition definition state due is = record {
+  kept = kept_by_definition definition state due is.kept;
+  targets = targets_by_definition definition state due is.targets;
+  found = found_by_definition definition state due is;
+}
+
+found_by_change : (mutation : Mutation) (state : State) → first_refusal (change_conditions mutation state) ≡ None
+    → IsReferential state.schema state.rows → AllFindTargets (after_change mutation state)
 found_by_change mutation state due is =
     let table = changed_table mutation in
     let pairs = own_pairs mutation state in
@@ -289,37 +299,28 @@ found_by_change mutation state due is =
     (none_due_behind (binding_conditions mutation state.schema) (value_conditions mutation state ++ row_conditions table pairs state after) due)) in
     found_after mutation state (beside_of state is.kept) is.targets none.1 none.0 is.found
 
-targets_by_command : (command : Command) (state : State) → first_refusal (conditions command state) ≡ None → HasTargets state.schema
-    → HasTargets (state_after command state).schema
-targets_by_command Nothing state due targets = targets
-targets_by_command (Define definition) state due targets = targets_by_definition definition state due targets
-targets_by_command (Change mutation) state due targets = targets
-targets_by_command (Scan table) state due targets = targets
-targets_by_command (ScanIndex index) state due targets = targets
-targets_by_command (Select query) state due targets = targets
-targets_by_command (Explain query) state due targets = targets
+referential_by_change : (mutation : Mutation) (state : State) → first_refusal (change_conditions mutation state) ≡ None
+    → IsReferential state.schema state.rows → IsReferential state.schema (after_change mutation state).rows
+referential_by_change mutation state due is =
+    record { kept = kept_by_change mutation state due is.kept; targets = is.targets; found = found_by_change mutation state due is }
 
-found_by_command : (command : Command) (state : State) → first_refusal (conditions command state) ≡ None → IsReferential state
-    → AllFindTargets (state_after command state)
-found_by_command Nothing state due is = is.found
-found_by_command (Define definition) state due is = found_by_definition definition state due is
-found_by_command (Change mutation) state due is = found_by_change mutation state due is
-found_by_command (Scan table) state due is = is.found
-found_by_command (ScanIndex index) state due is = is.found
-found_by_command (Select query) state due is = is.found
-found_by_command (Explain query) state due is = is.found
-
-referential_by_command : (command : Command) (state : State) → first_refusal (conditions command state) ≡ None → IsReferential state
-    → IsReferential (state_after command state)
-referential_by_command command state due is = record {
-  kept = kept_by_command command state due is.kept;
-  targets = targets_by_command command state due is.targets;
-  found = found_by_command command state due is;
-}
-
-referential_at_first : IsReferential first_state
+referential_at_first : IsReferential first_state.schema first_state.rows
 referential_at_first = record { kept = kept_at_first; targets = All-nil _; found = λ name. refl }
 
--- No row lacks a target in any state that commands lead to from the first.
+reached : (commands : List Command) → HoldsThroughout IsReferential (after_all commands first_state)
+reached commands =
+    held_by_all IsReferential referential_by_definition referential_by_change commands first_state (record { rows = referential_at_first; saved = tt })
+
+-- No row lacks a target in any state that commands lead to from the first, ..
 pub reached_with_targets : (commands : List Command) (table : List ℕ) → some_lacks_target table (after_all commands first_state) ≡ false
-reached_with_targets commands = (kept_by_all IsReferential referential_by_command commands first_state referential_at_first).found
+reached_with_targets commands = (reached commands).rows.found
+
+-- .. and none of those that are saved.
+pub saved_with_targets : (commands : List Command) (table : List ℕ)
+    → IfSome (after_all commands first_state).saved (λ saved. some_lacks_target table (record (after_all commands first_state) { rows = saved }) ≡ false)
+saved_with_targets commands table = by (after_all commands first_state).saved (reached commands).saved
+  where
+    by : (saved : Option Instance) → IfSome saved (IsReferential (after_all commands first_state).schema)
+        → IfSome saved (λ rows. some_lacks_target table (record (after_all commands first_state) { rows = rows }) ≡ false)
+    by None held = tt
+    by (Some rows) held = held.found table

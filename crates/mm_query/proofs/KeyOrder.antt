@@ -1,13 +1,14 @@
 -- Every state that commands lead to has each table's rows strictly in key order.
-use Rattle.std.proofs.Common.{◌≡◌, ℕ, Bool, true, false, List, [], ◌∷◌, ◌++◌, map, Option, Some, None, refl, subst, sym}
+use Rattle.std.proofs.Common.{◌≡◌, ℕ, Bool, true, false, List, [], ◌++◌, map, Option, Some, None, refl, subst, sym}
 use Rattle.std.specs.List.{IsDistinct}
+use Rattle.std.specs.Prelude.{IfSome}
 use Rattle.mm_schema.specs.Columns.{key_place}
 use Rattle.mm_schema.specs.Indexes.{table_with_index, table_without_index}
-use Rattle.mm_schema.specs.Instance.{AreInKeyOrder}
+use Rattle.mm_schema.specs.Instance.{AreInKeyOrder, Instance}
 use Rattle.mm_schema.specs.Name.{same_name}
 use Rattle.mm_schema.specs.Refused.{ascend, first_refusal}
 use Rattle.mm_schema.specs.Rows.{has_twin_keys, table_rows_conditions}
-use Rattle.mm_schema.specs.Schema.{HasDistinctNames, key_named}
+use Rattle.mm_schema.specs.Schema.{HasDistinctNames, Schema, key_named}
 use Rattle.mm_schema.specs.declared.table.Table.{Table}
 use Rattle.mm_schema.specs.declared.table.TableDef.{TableDef}
 use Rattle.mm_schema.proofs.Dues.{none_due_behind}
@@ -16,18 +17,18 @@ use Rattle.mm_schema.proofs.References.{first_none, same_with, same_without}
 use Rattle.mm_schema.proofs.Places.{new_name_is_free}
 use Rattle.mm_schema.proofs.StrictOrder.{IsStrictlySortedBy-nil}
 use Rattle.mm_schema.proofs.Twins.{Row, column_cmp_total}
-use Rattle.mm_value.specs.declared.refusal.Refusal.{Refusal}
 use Rattle.mm_value.specs.declared.refusal.Refusal.TheVariants.{DuplicateKey}
 use Rattle.mm_query.specs.Binding.{binding_conditions}
 use Rattle.mm_query.specs.Edits.{changed_table, own_pairs, value_conditions}
-use Rattle.mm_query.specs.Machine.{Outcome, after_all, after_change, after_definition, conditions, reply_to, row_conditions, some_is_referred, some_lacks_target, state_after, step, unless_refused}
+use Rattle.mm_query.specs.Machine.{after_all, after_change, after_definition, change_conditions, conditions, definition_conditions, row_conditions, some_is_referred, some_lacks_target}
 use Rattle.mm_query.specs.State.{State, first_state, rows_in}
 use Rattle.mm_query.specs.declared.command.Command.{Command}
-use Rattle.mm_query.specs.declared.command.Command.TheVariants.{Nothing, Define, Change, Scan, ScanIndex, Select, Explain}
+use Rattle.mm_query.specs.declared.command.Command.TheVariants.{Nothing, Define, Change, Scan, ScanIndex, Select, Explain, Begin, Commit, Rollback}
 use Rattle.mm_query.specs.declared.command.Definition.{Definition}
 use Rattle.mm_query.specs.declared.command.Definition.TheVariants as define
 use Rattle.mm_query.specs.declared.command.Mutation.{Mutation}
 use Rattle.mm_query.specs.declared.command.Mutation.TheVariants.{Insert, Update, Delete}
+use Rattle.mm_query.proofs.Throughout.{HoldsThroughout, held_by_all}
 
 -- Each command's conditions stand in the one order.
 pub ascending : (command : Command) (state : State) → ascend (conditions command state) ≡ true
@@ -43,14 +44,18 @@ ascending (Scan table) state = refl
 ascending (ScanIndex index) state = refl
 ascending (Select query) state = refl
 ascending (Explain query) state = refl
+ascending Begin state = refl
+ascending Commit state = refl
+ascending Rollback state = refl
 
--- what each step keeps of a state: no two tables have one name, and the rows of each are in key order
-pub record IsKept (state : State) : Type 0 where
-  pub distinct : HasDistinctNames state.schema
-  pub order : AreInKeyOrder state.schema.tables state.rows
+-- what each step keeps of a catalog and rows: no two tables have one name, and the rows of each are in key order
+pub record IsKept (schema : Schema) (rows : Instance) : Type 0 where
+  pub distinct : HasDistinctNames schema
+  pub order : AreInKeyOrder schema.tables rows
 
-kept_by_table : (definition : TableDef) (state : State) → first_refusal (conditions (Define (define.Table definition)) state) ≡ None → IsKept state
-    → IsKept (after_definition (define.Table definition) state)
+kept_by_table : (definition : TableDef) (state : State) → first_refusal (definition_conditions (define.Table definition) state) ≡ None
+    → IsKept state.schema state.rows
+    → IsKept (after_definition (define.Table definition) state).schema (after_definition (define.Table definition) state).rows
 kept_by_table definition state due kept =
     let table : Table = record { definition = definition; indexes = [] } in
     record {
@@ -59,22 +64,23 @@ kept_by_table definition state due kept =
           (IsStrictlySortedBy-nil (column_cmp_total (key_place definition.columns)));
     }
 
-kept_by_drop_table : (name : List ℕ) (state : State) → IsKept state → IsKept (after_definition (define.DropTable name) state)
+kept_by_drop_table : (name : List ℕ) (state : State) → IsKept state.schema state.rows
+    → IsKept (after_definition (define.DropTable name) state).schema (after_definition (define.DropTable name) state).rows
 kept_by_drop_table name state kept = record {
   distinct = IsDistinct-without name state.schema.tables kept.distinct;
   order = AreInKeyOrder-without name state.schema.tables state.rows kept.order;
 }
 
 -- Where each table keeps its definition and all rows stay, names are distinct still and rows in key order.
-kept_with_definitions : (change : Table → Table) → ((t : Table) → (change t).definition ≡ t.definition) → (state : State) → IsKept state
-    → IsKept (record state { schema = record { tables = map change state.schema.tables } })
+kept_with_definitions : (change : Table → Table) → ((t : Table) → (change t).definition ≡ t.definition) → (state : State) → IsKept state.schema state.rows
+    → IsKept (record { tables = map change state.schema.tables }) state.rows
 kept_with_definitions change same state kept = record {
   distinct = subst (IsDistinct same_name) (sym (names_kept change same state.schema.tables)) kept.distinct;
   order = AreInKeyOrder-kept change same state.schema.tables state.rows kept.order;
 }
 
-kept_by_definition : (definition : Definition) (state : State) → first_refusal (conditions (Define definition) state) ≡ None → IsKept state
-    → IsKept (after_definition definition state)
+pub kept_by_definition : (definition : Definition) (state : State) → first_refusal (definition_conditions definition state) ≡ None
+    → IsKept state.schema state.rows → IsKept (after_definition definition state).schema (after_definition definition state).rows
 kept_by_definition (define.Table definition) state due kept = kept_by_table definition state due kept
 kept_by_definition (define.DropTable name) state due kept = kept_by_drop_table name state kept
 kept_by_definition (define.Index index) state due kept = kept_with_definitions (table_with_index index) (same_with index) state kept
@@ -84,8 +90,8 @@ no_twins : (key : ℕ) (rows : List Row) (lacks referred : Bool) → first_refus
     → has_twin_keys key rows ≡ false
 no_twins key rows lacks referred due = first_none (has_twin_keys key rows) DuplicateKey _ due
 
-kept_by_change : (mutation : Mutation) (state : State) → first_refusal (conditions (Change mutation) state) ≡ None → IsKept state
-    → IsKept (after_change mutation state)
+pub kept_by_change : (mutation : Mutation) (state : State) → first_refusal (change_conditions mutation state) ≡ None → IsKept state.schema state.rows
+    → IsKept state.schema (after_change mutation state).rows
 kept_by_change mutation state due kept = record {
   distinct = kept.distinct;
   order = AreInKeyOrder-changed (changed_table mutation) (own_pairs mutation state) state.schema.tables state.rows kept.order kept.distinct
@@ -97,37 +103,25 @@ kept_by_change mutation state due kept = record {
       (value_conditions mutation state ++ row_conditions (changed_table mutation) (own_pairs mutation state) state (after_change mutation state)) due)));
 }
 
-pub kept_by_command : (command : Command) (state : State) → first_refusal (conditions command state) ≡ None → IsKept state → IsKept (state_after command state)
-kept_by_command Nothing state due kept = kept
-kept_by_command (Define definition) state due kept = kept_by_definition definition state due kept
-kept_by_command (Change mutation) state due kept = kept_by_change mutation state due kept
-kept_by_command (Scan table) state due kept = kept
-kept_by_command (ScanIndex index) state due kept = kept
-kept_by_command (Select query) state due kept = kept
-kept_by_command (Explain query) state due kept = kept
+-- ---- every state
 
--- ---- every step
-
-module _ (P : State → Type 0)
-    (by_command : (command : Command) (state : State) → first_refusal (conditions command state) ≡ None → P state → P (state_after command state)) where
-  by_outcome : (due : Option Refusal) (old : State) (done : Outcome) → (due ≡ None → P done.state) → P old → P (unless_refused due old done).state
-  by_outcome (Some refusal) old done new kept = kept
-  by_outcome None old done new kept = new refl
-
-  by_step : (command : Command) (state : State) → P state → P (step command state).state
-  by_step command state kept =
-      by_outcome (first_refusal (conditions command state)) state (record { reply = reply_to command state; state = state_after command state })
-      (λ due. by_command command state due kept) kept
-
-  -- What each command that nothing refuses keeps, commands keep one after another.
-  pub kept_by_all : (commands : List Command) (state : State) → P state → P (after_all commands state)
-  kept_by_all [] state kept = kept
-  kept_by_all (command ∷ commands) state kept = kept_by_all commands (step command state).state (by_step command state kept)
-
-pub kept_at_first : IsKept first_state
+pub kept_at_first : IsKept first_state.schema first_state.rows
 unfolding IsDistinct
 kept_at_first = record { distinct = tt; order = tt }
 
--- So rows are in key order in every state that commands lead to from the first.
+reached : (commands : List Command) → HoldsThroughout IsKept (after_all commands first_state)
+reached commands = held_by_all IsKept kept_by_definition kept_by_change commands first_state (record { rows = kept_at_first; saved = tt })
+
+-- So rows are in key order in every state that commands lead to from the first, ..
 pub reached_in_order : (commands : List Command) → AreInKeyOrder (after_all commands first_state).schema.tables (after_all commands first_state).rows
-reached_in_order commands = (kept_by_all IsKept kept_by_command commands first_state kept_at_first).order
+reached_in_order commands = (reached commands).rows.order
+
+-- .. and so are those that are saved.
+pub saved_in_order : (commands : List Command)
+    → IfSome (after_all commands first_state).saved (AreInKeyOrder (after_all commands first_state).schema.tables)
+saved_in_order commands = by (after_all commands first_state).saved (reached commands).saved
+  where
+    by : (saved : Option Instance) → IfSome saved (IsKept (after_all commands first_state).schema)
+        → IfSome saved (AreInKeyOrder (after_all commands first_state).schema.tables)
+    by None held = tt
+    by (Some rows) held = held.order

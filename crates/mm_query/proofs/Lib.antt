@@ -10,6 +10,8 @@ pub mod PlainEval
 mod PlanLines
 pub mod QueryLaws
 pub mod SortedRows
+mod Throughout
+mod Transactions
 mod Tuples
 pub mod Updates
 pub mod Within

@@ -10,6 +10,7 @@ pub mod Queries
 pub mod Resolving
 pub mod Serving
 pub mod State
+pub mod Transactions
 pub mod Walk
 pub use Rattle.mm_schema.specs.Columns
 pub use Rattle.mm_schema.specs.Indexes

@@ -1,7 +1,7 @@
 -- The machine that keeps only lists of rows: what refuses each command, what it answers, and the state that it leaves.
-use Rattle.std.specs.Prelude.{ℕ, Bool, ◌&&◌, List, [], ◌∷◌, ◌++◌, Option, Some, None, length, map}
+use Rattle.std.specs.Prelude.{ℕ, Bool, not, ◌&&◌, List, [], ◌∷◌, ◌++◌, Option, Some, None, length, map}
 use Rattle.std.specs.List.{list_any}
-use Rattle.std.specs.Option.{option_map_or}
+use Rattle.std.specs.Option.{option_map_or, unwrap_or}
 use Rattle.mm_schema.specs.Indexes.{drop_index_conditions, index_conditions, index_named, lacks_index, with_index, without_index}
 use Rattle.mm_schema.specs.Instance.{changed_instance, without_rows}
 use Rattle.mm_schema.specs.Name.{same_name}
@@ -13,15 +13,15 @@ use Rattle.mm_schema.specs.Sorting.{in_order}
 use Rattle.mm_schema.specs.declared.index.IndexDef.{IndexDef}
 use Rattle.mm_schema.specs.declared.table.Table.{Table}
 use Rattle.mm_value.specs.declared.refusal.Refusal.{Refusal}
-use Rattle.mm_value.specs.declared.refusal.Refusal.TheVariants.{NoSuchIndex, NoSuchTable}
+use Rattle.mm_value.specs.declared.refusal.Refusal.TheVariants.{NoSuchIndex, NoSuchTable, NoTransaction, NotInTransaction, TransactionOpen}
 use Rattle.mm_value.specs.declared.values.Value.{Value}
 use Rattle.mm_query.specs.Binding.{binding_conditions}
 use Rattle.mm_query.specs.Edits.{changed_table, edits, own_pairs, value_conditions}
 use Rattle.mm_query.specs.Plans.{plan_of}
 use Rattle.mm_query.specs.Resolving.{query_conditions, select_conditions, selected}
-use Rattle.mm_query.specs.State.{State, rows_in}
+use Rattle.mm_query.specs.State.{State, has_transaction, rows_in}
 use Rattle.mm_query.specs.declared.command.Command.{Command}
-use Rattle.mm_query.specs.declared.command.Command.TheVariants.{Nothing, Define, Change, Scan, ScanIndex, Select, Explain}
+use Rattle.mm_query.specs.declared.command.Command.TheVariants.{Nothing, Define, Change, Scan, ScanIndex, Select, Explain, Begin, Commit, Rollback}
 use Rattle.mm_query.specs.declared.command.Definition.{Definition}
 use Rattle.mm_query.specs.declared.command.Definition.TheVariants as define
 use Rattle.mm_query.specs.declared.command.Mutation.{Mutation}
@@ -32,7 +32,7 @@ use Rattle.mm_query.specs.declared.reply.Reply.TheVariants.{Done, Count, Rows, S
 
 -- ---- changes of the catalog
 
--- What refuses a change of the catalog, in the one order.
+-- What refuses a change of the catalog outside a transaction, in the one order.
 abbrev pub definition_conditions : Definition → State → List Condition
 definition_conditions (define.Table definition) state = table_conditions definition state.schema
 definition_conditions (define.DropTable name) state = drop_table_conditions name state.schema
@@ -95,17 +95,35 @@ rows_by_index state name = option_map_or (index_rows state) (index_named name st
 abbrev pub plan_in : State → Query → List PlanLine
 plan_in state query = plan_of state.schema (map length state.rows) query
 
+-- ---- transactions
+
+-- BEGIN keeps a copy of the rows.
+abbrev pub after_begin : State → State
+after_begin state = record state { saved = Some state.rows }
+
+-- COMMIT drops the copy.
+abbrev pub after_commit : State → State
+after_commit state = record state { saved = None }
+
+-- ROLLBACK makes the copy the rows, and drops it.
+abbrev pub after_rollback : State → State
+after_rollback state = record state { rows = unwrap_or state.saved state.rows; saved = None }
+
 -- ---- the step
 
--- What refuses a command, in the one order.
+-- What refuses a command, in the one order. A change of the catalog is refused in a transaction, whatever else refuses it.
 abbrev pub conditions : Command → State → List Condition
 conditions Nothing state = []
-conditions (Define definition) state = definition_conditions definition state
+conditions (Define definition) state =
+    record { holds = has_transaction state; refusal = NotInTransaction } ∷ definition_conditions definition state
 conditions (Change mutation) state = change_conditions mutation state
 conditions (Scan table) state = record { holds = lacks_table table state.schema; refusal = NoSuchTable } ∷ []
 conditions (ScanIndex index) state = record { holds = lacks_index index state.schema; refusal = NoSuchIndex } ∷ []
 conditions (Select query) state = select_conditions query state
 conditions (Explain query) state = query_conditions query state.schema
+conditions Begin state = record { holds = has_transaction state; refusal = TransactionOpen } ∷ []
+conditions Commit state = record { holds = not (has_transaction state); refusal = NoTransaction } ∷ []
+conditions Rollback state = record { holds = not (has_transaction state); refusal = NoTransaction } ∷ []
 
 -- What a command answers that nothing refuses; an empty line has no reply. A change tells how many pairs its own table has,
 -- SCAN gives the rows of its table in key order, SCAN INDEX those of its index's table in the order of the index, SELECT those of
@@ -118,6 +136,9 @@ reply_to (Scan table) state = Some (Rows (rows_in state table))
 reply_to (ScanIndex index) state = Some (Rows (rows_by_index state index))
 reply_to (Select query) state = Some (Rows (selected query state))
 reply_to (Explain query) state = Some (Steps (plan_in state query))
+reply_to Begin state = Some Done
+reply_to Commit state = Some Done
+reply_to Rollback state = Some Done
 
 -- The state that a command leaves that nothing refuses.
 abbrev pub state_after : Command → State → State
@@ -128,6 +149,9 @@ state_after (Scan table) state = state
 state_after (ScanIndex index) state = state
 state_after (Select query) state = state
 state_after (Explain query) state = state
+state_after Begin state = after_begin state
+state_after Commit state = after_commit state
+state_after Rollback state = after_rollback state
 
 -- What a command answers, if it has a reply, and the state after it.
 pub record Outcome : Type 0 where

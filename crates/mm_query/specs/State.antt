@@ -1,5 +1,5 @@
 -- The state of the machine: the catalog, and the rows of each table (the relational model of Codd).
-use Rattle.std.specs.Prelude.{ℕ, List, []}
+use Rattle.std.specs.Prelude.{ℕ, Bool, List, [], Option, None, is_some}
 use Rattle.mm_schema.specs.Instance.{Instance, rows_named}
 use Rattle.mm_schema.specs.Schema.{Schema}
 use Rattle.mm_value.specs.declared.values.Value.{Value}
@@ -8,10 +8,16 @@ use Rattle.mm_value.specs.declared.values.Value.{Value}
 pub record State : Type 0 where
   pub schema : Schema
   pub rows : Instance
+  -- The rows as they were at BEGIN, while a transaction is open.
+  pub saved : Option Instance
 
--- Nothing is there at first.
+-- Nothing is there at first, and no transaction is open.
 abbrev pub first_state : State
-first_state = record { schema = record { tables = [] }; rows = [] }
+first_state = record { schema = record { tables = [] }; rows = []; saved = None }
+
+-- A transaction is open.
+abbrev pub has_transaction : State → Bool
+has_transaction state = is_some state.saved
 
 -- The rows of the table of a name.
 abbrev pub rows_in : State → List ℕ → List (List Value)

@@ -64,4 +64,10 @@ pub enum Command {
     Select(Query),
     /// Asks for the plan of a query, a line for each of its tables.
     Explain(Query),
+    /// Opens a transaction.
+    Begin,
+    /// Ends the transaction that is open. What was changed in it stays.
+    Commit,
+    /// Ends the transaction that is open, and takes back what was changed in it.
+    Rollback,
 }

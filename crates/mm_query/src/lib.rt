@@ -25,7 +25,11 @@ pub use bound_query::{BoundQuery, FieldPlace, bind_query};
 pub use combination::{none_fails, values_of};
 pub use command::{Command, Definition, Mutation};
 pub use item_list::ItemList;
-pub use laws::{conditions_ascend, rows_keep_their_targets, rows_stay_in_key_order};
+pub use laws::{
+    commit_keeps_the_rows, conditions_ascend, rollback_restores_the_rows_at_begin,
+    rows_keep_their_targets, rows_stay_in_key_order, transactions_do_what_commands_do,
+    transactions_stand_alone,
+};
 pub use place::{MAX_TESTS, column_named, column_refusal, place_assignments, place_tests};
 pub use plain::{MAX_COMBINATIONS, PlainRows, plain_eval};
 pub use plan_laws::plans_go_along_from;

@@ -1,20 +1,35 @@
 -- What the steps of reading a command give.
-use Rattle.std.specs.Prelude.{◌≡◌, ◌≢◌, ◌⊎◌, ℕ, ◌<◌, ◌≤◌, Bool, true, false, List, [], ◌∷◌, ◌++◌, length, ℤ, Option, Some, None, Result, Ok, Err, MatchOption, MatchResult}
+use Rattle.std.specs.Prelude.{◌≡◌, ◌≢◌, ◌⊎◌, ℕ, ◌<◌, ◌≤◌, Bool, true, false, List, [], ◌∷◌, ◌++◌, length, ℤ, Option, Some, None, Result, Ok, Err, MatchOption, MatchResult, IsTrue}
 use Rattle.std.specs.Option.{option_or}
 use Rattle.mm_value.specs.declared.refusal.Refusal.{Refusal}
 use Rattle.mm_value.specs.declared.refusal.Refusal.TheVariants.{Syntax, NumberOutOfRange, TextTooLong, Memory}
 use Rattle.mm_value.specs.declared.values.Value.{Value}
 use Rattle.mm_value.specs.declared.values.Value.TheVariants.{Int}
+use Rattle.mm_query.specs.declared.command.Command.{Command}
+use Rattle.mm_lang.specs.declared.keyword.Keyword.{Keyword}
+use Rattle.mm_lang.specs.declared.keyword.Keyword.TheVariants as keyword
 use Rattle.mm_lang.specs.declared.reader.Reader.{Reader}
 use Rattle.mm_lang.specs.declared.token.Symbol.{Symbol}
 use Rattle.mm_lang.specs.Phrases.{Phrase}
-use Rattle.mm_lang.specs.Reading.{first_fault}
+use Rattle.mm_lang.specs.Reading.{first_fault, reading_takes_memory}
 use Rattle.mm_lang.specs.Tokens.{Token, Word, Signed, Mark, tokens}
 
 -- A call gives this answer, or want of memory in its place.
 abbrev pub AnswersOrMemory : {T : Type 0} → Result T Refusal → Result T Refusal → Type 0
 AnswersOrMemory due (Ok x) = due ≡ Ok x
 AnswersOrMemory due (Err refusal) = (due ≡ Err refusal) ⊎ (refusal ≡ Memory)
+
+-- A call gives this reading, or want of memory in its place where the reading takes memory.
+abbrev pub AnswersReading : Result Command Refusal → Result Command Refusal → Type 0
+AnswersReading due (Ok command) = due ≡ Ok command
+AnswersReading due (Err refusal) = (due ≡ Err refusal) ⊎ ((refusal ≡ Memory) × IsTrue (reading_takes_memory due))
+
+-- The keyword is a command by itself.
+abbrev pub is_whole_command : Keyword → Bool
+is_whole_command keyword.Begin = true
+is_whole_command keyword.Commit = true
+is_whole_command keyword.Rollback = true
+is_whole_command _ = false
 
 -- The tokens begin with no word.
 abbrev pub BeginsNoWord : List Token → Type 0
@@ -69,13 +84,21 @@ pub record Gives {A : Type 0} (phrase : Phrase A) (literals : A → List Value) 
   pub same : first_fault (literals said) ≡ None → x ≡ said
   pub shorter : length new.rest.now ≤ length old.rest.now
 
+-- A phrase does not stand there.
+abbrev pub IsMissing : {A : Type 0} → Phrase A → Reader → Refusal → Type 0
+IsMissing phrase old e = (e ≡ Syntax) × (phrase (tokens old.rest.now) ≡ None)
+
 -- A phrase does not stand there, or memory was refused.
 abbrev pub Fails : {A : Type 0} → Phrase A → Reader → Refusal → Type 0
-Fails phrase old e = ((e ≡ Syntax) × (phrase (tokens old.rest.now) ≡ None)) ⊎ (e ≡ Memory)
+Fails phrase old e = IsMissing phrase old e ⊎ (e ≡ Memory)
 
 -- What reading a phrase gives.
 abbrev pub ReadsPhrase : {A : Type 0} → Phrase A → (A → List Value) → Reader → Reader → Result A Refusal → Type 0
 ReadsPhrase phrase literals old new result = MatchResult result (Gives phrase literals old new) (Fails phrase old)
+
+-- What reading a phrase gives that takes no memory.
+abbrev pub ReadsWithoutMemory : {A : Type 0} → Phrase A → (A → List Value) → Reader → Reader → Result A Refusal → Type 0
+ReadsWithoutMemory phrase literals old new result = MatchResult result (Gives phrase literals old new) (IsMissing phrase old)
 
 -- A phrase that says nothing was read, or does not stand there, and then nothing is read.
 abbrev pub Skips : Phrase (Unit {0}) → Reader → Reader → Bool → Type 0

@@ -1,3 +1,4 @@
+use Rattle.std.proofs.Common.{inl}
 use Rattle.std.proofs.lemmas.Result.{err_from_is_err_and}
 use Rattle.mm_lang.proofs.CommandReadings.{drop_no_keyword, drop_behind}
 use Rattle.mm_lang.proofs.reading.read_drop.Goals as goal
@@ -5,7 +6,7 @@ use Rattle.mm_lang.proofs.reading.read_drop.Goals as goal
 pub returns-in_err-keyword : goal.returns-in_err-keyword
 returns-in_err-keyword c =
     let p = err_from_is_err_and c.from_residual.result c.from_residual.ensures.1 in
-    rw (p.1, p.2) (drop_no_keyword c.args.reader.now _ c.in_err-keyword.ensures)
+    rw (p.1, p.2) (drop_no_keyword c.args.reader.now _ (inl c.in_err-keyword.ensures))
 
 pub returns : goal.returns
 returns c =
