@@ -38,6 +38,7 @@ use Rattle.mm_store.proofs.Edited.{Follows-edited_target, Follows-freed_source, 
 use Rattle.mm_store.proofs.Joining.{IsJoined-set, get_set_other, one_relation}
 use Rattle.mm_store.proofs.Lists.{none_of}
 use Rattle.mm_store.proofs.Referring.{refers_same, same_from_refers, tied_to}
+use Rattle.mm_store.proofs.Retying.{CanTurn, listed_row}
 
 -- ---- lists
 
@@ -78,17 +79,6 @@ module _ (tables : List StoredRows) (place : ℕ) (old : StoredRows) (there : sl
     (edits : List Edit) (fit : AreFit old edits) where
   old_table : IsTable old
   old_table = table_at tables place old all there
-
-  -- a test that no row of the table passes with the edits made is passed by no new row
-  pub none_new : (p : List Value → Bool) → list_any p (rows_with old edits) ≡ false → list_any p (new_rows edits) ≡ false
-  none_new p none =
-      let now = slot_at old.places in
-      let kept = split old.width old.key now old.refs old.indexes old_table.kept edits fit.standing in
-      let same : IsPermutation (rows_after now edits kept.0) (rows_with old edits) =
-      IsPermutation-changed old.key now old.refs old_table.kept.by_key edits kept.0 kept.1 in
-      (or_parts (list_any p (new_rows edits)) (list_any p (map (row_at now) kept.0))
-      (sym (list_any-append p (new_rows edits) (map (row_at now) kept.0)) ∙ (list_any-IsPermutation p (rows_after now edits kept.0) (rows_with old edits) same
-      ∙ none))).0
 
   -- what no row of the table passes, a row passes with the edits made where a new one does
   any_row : (p : List Value → Bool) → All (λ at. p (row_at (slot_at old.places) at) ≡ false) old.refs
@@ -175,15 +165,15 @@ module _ (tables : List StoredRows) (place : ℕ) (old : StoredRows) (there : sl
       )
 
   pub has_targets : (reference : Reference) (target : StoredRows) → slice_get tables reference.to ≡ Some target → reference.from ≡ place
-      → finds_orphan tables place (rows_with old edits) reference ≡ false
-      → All (HasTargetRow reference.column target.key (slot_at target.places)) (new_rows edits)
-  has_targets reference target target_there is none k d within =
+      → finds_orphan tables place (rows_with old edits) reference ≡ false → (row : List Value) → Contains (rows_with old edits) row
+      → HasTargetRow reference.column target.key (slot_at target.places) row
+  has_targets reference target target_there is none row here =
       let p = lacks_target_row reference.column target.key (rows_of target) in
       let no_row : list_any p (rows_with old edits) ≡ false =
       subst (λ (o : Option StoredRows). list_any (lacks_target_row reference.column (option_map_or (λ (s : StoredRows). s.key) o 0) (option_map_or rows_of o []))
       (rows_with old edits) ≡ false) target_there (and_true _ _ (eq-eqb reference.from place is) none) in
-      has_row reference.column target (table_at tables reference.to target all target_there) (get_or (new_rows edits) k d)
-      (none_of p (new_rows edits) (none_new p no_row) k d within)
+      has_row reference.column target (table_at tables reference.to target all target_there) row
+      (All-contains (λ x. p x ≡ false) (rows_with old edits) row (none_of p (rows_with old edits) no_row) here)
 
   no_losses : (reference : Reference) (source : StoredRows) → slice_get tables reference.from ≡ Some source → reference.to ≡ place
       → makes_orphan tables place old.key (edit_pairs (slot_at old.places) edits) reference ≡ false
@@ -192,14 +182,7 @@ module _ (tables : List StoredRows) (place : ℕ) (old : StoredRows) (there : sl
       subst (λ (o : Option StoredRows). lose_targets reference.column old.key (option_map_or rows_of o []) (edit_pairs (slot_at old.places) edits) ≡ false)
       source_there (and_true _ _ (eq-eqb reference.to place is) none)
 
-  -- a link that has room for the edits, and that the edits leave whole
-  pub record IsPrimed (extent : ℕ) (link : Link) : Type 0 where
-    pub joined : IsJoined tables link.reference link.ties
-    pub no_orphan : finds_orphan tables place (rows_with old edits) link.reference ≡ false
-    pub no_loss : makes_orphan tables place old.key (edit_pairs (slot_at old.places) edits) link.reference ≡ false
-    pub as_source : link.reference.from ≡ place → extent ≤ length link.ties.targets
-    pub as_target : link.reference.to ≡ place → extent ≤ link.ties.extent
-
+  -- a link that the edits leave whole
   pub record IsWhole (link : Link) : Type 0 where
     pub joined : IsJoined tables link.reference link.ties
     pub no_orphan : finds_orphan tables place (rows_with old edits) link.reference ≡ false
@@ -219,110 +202,38 @@ module _ (tables : List StoredRows) (place : ℕ) (old : StoredRows) (there : sl
         no_loss = none_of (λ (link : Link). q link.reference) links (sym (list_any-map f q links) ∙ losses) k d within;
       }
 
-  pub IsPrimed-grown : (extent : ℕ) (was is : Link) → IsWhole was → HasGrownTo place extent was is → IsPrimed extent is
-  IsPrimed-grown extent was is whole grown = record {
-    joined = IsJoined-grown tables was is grown.grown whole.joined;
-    no_orphan = ap (finds_orphan tables place (rows_with old edits)) grown.grown.reference ∙ whole.no_orphan;
-    no_loss = ap (makes_orphan tables place old.key (edit_pairs (slot_at old.places) edits)) grown.grown.reference ∙ whole.no_loss;
-    as_source = λ at. grown.as_source (sym (ap (λ (r : Reference). r.from) grown.grown.reference) ∙ at);
-    as_target = λ at. grown.as_target (sym (ap (λ (r : Reference). r.to) grown.grown.reference) ∙ at);
-  }
+  module _ (new : StoredRows) (entries : List Entry) (extent : ℕ) (changes : Changes edits (slot_at old.places) entries (slot_at new.places))
+      (within : extent_of new.places ≤ extent) where
+    -- rows that refer to rows of the table still do
+    pub Follows-edited : (reference : Reference) (ties : Ties) (source : StoredRows) → reference.to ≡ place
+        → makes_orphan tables place old.key (edit_pairs (slot_at old.places) edits) reference ≡ false → slice_get tables reference.from ≡ Some source
+        → Follows reference.column old.key (slot_at source.places) (slot_at old.places) ties
+        → Follows reference.column old.key (slot_at source.places) (slot_at new.places) ties
+    Follows-edited reference ties source is none source_there follows =
+        let is_table : IsTable source = table_at tables reference.from source all source_there in
+        Follows-edited_target reference.column old.key (rows_of source) (slot_at old.places) edits entries (slot_at new.places) changes
+        (no_losses reference source source_there is none) (slot_at source.places) ties
+        (listed_row source is_table) follows
 
-  module _ (mid : StoredRows) (entries : List Entry) (extent : ℕ) (changes : Changes edits (slot_at old.places) entries (slot_at mid.places))
-      (width : mid.width ≡ old.width) (key : mid.key ≡ old.key) (within : extent_of mid.places ≤ extent) where
-    old_source : (link : Link) (joined : IsJoined tables link.reference link.ties) → link.reference.from ≡ place → joined.source ≡ old
-    old_source link joined is = one_relation joined.source old (sym joined.source_at ∙ (ap (slice_get tables) is ∙ there))
+    pub CanTurn-edited : (was is : Link) → IsWhole was → HasGrownTo place extent was is → CanTurn tables place old new there is
+    CanTurn-edited was is whole grown = record {
+      joined = IsJoined-grown tables was is grown.grown whole.joined;
+      follows = λ source to source_there.
+          Follows-edited is.reference is.ties source to
+          (ap (makes_orphan tables place old.key (edit_pairs (slot_at old.places) edits)) grown.grown.reference ∙ whole.no_loss) source_there;
+      source_room = λ at. omega (arith, within, grown.as_source (sym (ap (λ (r : Reference). r.from) grown.grown.reference) ∙ at));
+      target_room = λ at. omega (arith, within, grown.as_target (sym (ap (λ (r : Reference). r.to) grown.grown.reference) ∙ at));
+    }
 
-    pub CanRetie-primed : (link : Link) → IsPrimed extent link → link.reference.from ≡ place → CanRetie (slice_set tables place mid) mid entries link
-    CanRetie-primed link primed is =
-        let joined = primed.joined in
-        let joins : Joins link.reference.column old joined.target link.ties =
-        subst (λ (s : StoredRows). Joins link.reference.column s joined.target link.ties) (old_source link joined is) joined.joins in
-        record {
-          target = joined.target;
-          target_at = get_set_other tables place link.reference.to mid (λ e. joined.apart (is ∙ sym e)) ∙ joined.target_at;
-          column_in = omega (arith, width, joins.column_in);
-          behind = record {
-            edits = edits;
-            before = slot_at old.places;
-            standing = fit.standing;
-            changes = changes;
-            targets = has_targets link.reference joined.target joined.target_at is primed.no_orphan;
-            follows = joins.follows;
-          };
-          room = record { referrers = omega (arith, within, primed.as_source is); targets = joins.room.targets };
-        }
-
-    module _ (new : StoredRows) (gone : List RowRef) (hidden : AreHidden (slot_at mid.places) gone) (frees : Frees (slot_at mid.places) (slot_at new.places) gone)
-        (new_width : new.width ≡ mid.width) (new_key : new.key ≡ mid.key) (new_extent : extent_of new.places ≡ extent_of mid.places) where
-      as_source : (link after : Link) → IsPrimed extent link → IsRetied (slice_set tables place mid) place mid link after → (target : StoredRows)
-          → link.reference.from ≡ place → slice_get tables link.reference.to ≡ Some target → link.reference.to ≢ place
-          → Joins link.reference.column old target link.ties → Joins link.reference.column new target after.ties
-      as_source link after primed retied target is target_there apart joins = record {
-        column_in = omega (arith, width, new_width, joins.column_in);
-        follows = Follows-freed_source link.reference.column target.key (slot_at mid.places) (slot_at new.places) gone hidden frees (slot_at target.places)
-            after.ties (retied.follows is target (get_set_other tables place link.reference.to mid apart ∙ target_there));
-        room = record {
-          referrers = omega (arith, within, new_extent, primed.as_source is, retied.size.referrers);
-          targets = omega (arith, joins.room.targets, retied.size.targets);
-        };
-      }
-
-      as_target : (link after : Link) → IsPrimed extent link → after ≡ link → (source : StoredRows) → link.reference.to ≡ place
-          → slice_get tables link.reference.from ≡ Some source → Joins link.reference.column source old link.ties
-          → Joins link.reference.column source new after.ties
-      as_target link after primed same source is source_there joins =
-          let is_table : IsTable source = table_at tables link.reference.from source all source_there in
-          let now = slot_at source.places in
-          let listed : (at : RowRef) (row : List Value) → now at ≡ Live row → Contains (rows_of source) row =
-          λ at row live. listed_row at row live ((is_table.kept.held at).1 (row, live)) in
-          let edited : Follows link.reference.column old.key now (slot_at mid.places) link.ties =
-          Follows-edited_target link.reference.column old.key (rows_of source) (slot_at old.places) edits entries (slot_at mid.places) changes
-          (no_losses link.reference source source_there is primed.no_loss) now link.ties listed joins.follows in
-          let freed : Follows link.reference.column old.key now (slot_at new.places) link.ties =
-          Follows-freed_target link.reference.column old.key (slot_at mid.places) (slot_at new.places) gone hidden frees now link.ties edited in
-          let new_joins : Joins link.reference.column source new link.ties = record {
-            column_in = joins.column_in;
-            follows = subst (λ (k : ℕ). Follows link.reference.column k now (slot_at new.places) link.ties) (sym (new_key ∙ key)) freed;
-            room = record { referrers = joins.room.referrers; targets = omega (arith, within, new_extent, primed.as_target is) };
-          } in
-          subst (λ (l : Link). Joins link.reference.column source new l.ties) (sym same) new_joins
-        where
-          listed_row : (at : RowRef) (row : List Value) → slot_at source.places at ≡ Live row → Contains source.refs at → Contains (rows_of source) row
-          listed_row at row live here = (
-            here.0,
-            omega (arith, here.1, length-map source.refs (row_at (slot_at source.places))),
-            get_or-map (row_at (slot_at source.places)) source.refs here.0 at row here.1
-                ∙ (ap (row_at (slot_at source.places)) here.2 ∙ ap row_in live),
-          )
-
-      pub IsJoined-retied : (link after : Link) → IsPrimed extent link → IsRetied (slice_set tables place mid) place mid link after
-          → IsJoined (slice_set tables place new) after.reference after.ties
-      IsJoined-retied link after primed retied =
-          subst (λ (r : Reference). IsJoined (slice_set tables place new) r after.ties) (sym retied.reference)
-          (IsJoined-set tables place old new there link.reference link.ties after.ties primed.joined (record {
-            as_source = λ target is at joins.
-                as_source link after primed retied target is at (λ e. primed.joined.apart (is ∙ sym e)) joins;
-            as_target = λ source is at joins.
-                as_target link after primed (retied.others (λ e. primed.joined.apart (e ∙ sym is))) source is at joins;
-            as_neither = λ source target no_source no_target joins.
-                subst (λ (l : Link). Joins link.reference.column source target l.ties) (sym (retied.others no_source)) joins;
-          }))
-
-      pub IsSound-applied : (links before after : List Link) → All IsWhole links → EachTurns (HasGrownTo place extent) links before
-          → EachTurns (IsRetied (slice_set tables place mid) place mid) before after → IsTable new
-          → IsSound (slice_set (slice_set tables place mid) place new) after
-      IsSound-applied links before after whole grown retied is_table =
-          subst (λ (ts : List StoredRows). IsSound ts after) (sym (set_twice tables place mid new))
-          (record {
-            all = All-set IsTable tables place new is_table all;
-            joined =
-                All-turned (IsRetied (slice_set tables place mid) place mid) (IsPrimed extent)
-                (λ link. IsJoined (slice_set tables place new) link.reference link.ties) before after retied
-                (λ x y primed turned. IsJoined-retied x y primed turned)
-                (All-turned (HasGrownTo place extent) IsWhole (IsPrimed extent) links before grown (λ x y is turned. IsPrimed-grown extent x y is turned)
-                whole);
-          })
+    -- each row that stands after the edits has a target
+    pub targets_edited : (was is : Link) → IsWhole was → HasGrownTo place extent was is → IsTable new → rows_of new ≡ rows_with old edits
+        → (target : StoredRows) → is.reference.from ≡ place → slice_get tables is.reference.to ≡ Some target
+        → (at : RowRef) (row : List Value) → slot_at new.places at ≡ Live row
+        → HasTargetRow is.reference.column target.key (slot_at target.places) row
+    targets_edited was is whole grown is_table rows target from target_there at row live =
+        has_targets is.reference target target_there from
+        (ap (finds_orphan tables place (rows_with old edits)) grown.grown.reference ∙ whole.no_orphan) row
+        (subst (λ (xs : List (List Value)). Contains xs row) rows (listed_row new is_table at row live))
 
 -- ---- the table as it was
 

@@ -3,7 +3,7 @@ use Rattle.std.proofs.Common.{◌≡◌, ℕ, ◌<◌, List, [], Some, length, s
 use Rattle.std.proofs.lemmas.Option.{slice_get_read}
 use Rattle.mm_relation.specs.Kept.{SameButRoom, StoredRows}
 use Rattle.mm_relation.specs.RowLists.{rows_of}
-use Rattle.mm_relation.proofs.Rooms.{column_same, kind_same, row_list_same}
+use Rattle.mm_relation.proofs.Rooms.{EachTurns-Grown-refl, column_same, kind_same, row_list_same}
 use Rattle.mm_value.specs.declared.values.Value.{Value}
 use Rattle.mm_store.specs.Tables.{HasRows, IsAt, Tables}
 use Rattle.mm_schema.specs.declared.reference.Reference.{Reference}
@@ -24,6 +24,14 @@ module _ (items : List StoredRows) (links : List Reference) (len place : ℕ) (c
 
     pub only : (stored : StoredRows) → IsAt view place stored → stored ≡ relation
     only stored here = one_value stored relation (sym here ∙ there)
+
+    pub there_inside : slice_get items place ≡ Some relation
+    there_inside = slice_get_read items len place relation counted below value
+
+    -- what holds of each relation there holds of it
+    pub told_of : (P : Tables → StoredRows → Type 0) → ((stored : StoredRows) → IsAt view place stored → P view stored)
+        → P (record { tables = items; links = links }) relation
+    told_of P told = subst (λ (v : Tables). P v relation) (sym is) (told relation there)
 
     -- what becomes of it becomes of each that is there
     pub becomes : (rows : StoredRows → List (List Value)) (new : StoredRows) → HasRows relation (rows relation) new → (stored : StoredRows) → IsAt view place stored
@@ -57,3 +65,16 @@ HasRows-same old new same = record {
 pub each : (P : StoredRows → Type 0) (view : Tables) (place : ℕ) (relation : StoredRows) → IsAt view place relation → P relation
     → (stored : StoredRows) → IsAt view place stored → P stored
 each P view place relation at here stored there_too = subst P (sym (one_value stored relation (sym there_too ∙ at))) here
+
+-- a relation has the room that it has
+pub SameButRoom-refl : (stored : StoredRows) → SameButRoom stored stored
+SameButRoom-refl stored = record {
+  width = refl;
+  key = refl;
+  places = λ at. refl;
+  extent = refl;
+  room = omega arith;
+  refs = refl;
+  spare = omega arith;
+  indexes = EachTurns-Grown-refl stored.indexes;
+}

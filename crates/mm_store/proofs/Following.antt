@@ -1,25 +1,22 @@
 -- Ties that follow rows, one change after another.
-use Rattle.std.proofs.Common.{◌≡◌, ◌≢◌, ℕ, ◌<◌, ◌≤◌, ⊎_elim, List, [], ◌∷◌, Option, Some, None, refl, sym, ap, ◌∙◌, subst}
+use Rattle.std.proofs.Common.{◌≡◌, ◌≢◌, ℕ, suc, ◌<◌, ◌≤◌, ⊎_elim, List, [], ◌∷◌, get_or, Option, Some, None, refl, sym, ap, ◌∙◌, subst, arith}
+use Rattle.std.specs.Prelude.{slice_get}
+use Rattle.std.specs.List.{Contains}
 use Rattle.std.proofs.lemmas.Bool.{cases_lt, lt-ltb, le-ltb, cond-true, cond-false}
 use Rattle.std.proofs.lemmas.List.{get_or_past}
-use Rattle.std.specs.List.{All}
-use Rattle.std.specs.Prelude.{slice_get}
 use Rattle.std.proofs.lemmas.List.Elements.{All-head, All-tail}
 use Rattle.mm_foreign.specs.Ties.{ChangesTarget, HasTarget, Ties, target_at}
 use Rattle.mm_partition.specs.Places.{Content, Free, Live, Hidden, Places, extent_of, slot_at, slot_index_of}
-use Rattle.mm_relation.specs.Changes.{Changes, Standing}
-use Rattle.mm_relation.specs.Edits.{new_rows}
-use Rattle.mm_relation.specs.Refs.{HasRow, Slots, Turns, row_at, row_in}
-use Rattle.mm_relation.specs.declared.edits.Edit.{Edit}
-use Rattle.mm_relation.specs.declared.edits.Edit.TheVariants.{Add, Swap, Gone}
+use Rattle.mm_relation.specs.Refs.{HasRow, Slots, row_at, row_in}
 use Rattle.mm_relation.specs.declared.log.Entry.{Entry}
-use Rattle.mm_relation.specs.declared.log.Entry.TheVariants.{Added, Changed, Removed}
-use Rattle.mm_relation.proofs.Changed.{Standing-behind, Standing-rest, first_absent, free_absent, olds, row_stays}
+use Rattle.mm_relation.proofs.Came.{empty}
+use Rattle.mm_relation.proofs.Changed.{first_absent}
 use Rattle.mm_relation.proofs.RefTests.{same_or_apart}
 use Rattle.mm_value.specs.declared.row_ref.RowRef.{RowRef}
 use Rattle.mm_value.specs.declared.values.Value.{Value}
-use Rattle.mm_store.specs.Behind.{IsBehind}
+use Rattle.mm_store.specs.Behind.{IsBehind, IsOut, Switches, Tells, TiesOnly, ref_of}
 use Rattle.mm_store.specs.Links.{Follows, HasTargetRow, IsTied, RefersTo}
+use Rattle.mm_store.proofs.Telling.{first_in, later_in, one_of, refs_of}
 
 -- a live reference has a slot of its partition, below the extent
 pub record LiesWithin (places : Places) (at : RowRef) : Type 0 where
@@ -46,171 +43,116 @@ ChangesTarget-twice old mid new at first second one two = record {
   others = λ other apart. two.others other apart ∙ one.others other apart;
 }
 
+-- no change
+ChangesTarget-none : (ties : Ties) (at : RowRef) (target : Option RowRef) → target_at ties at ≡ target → ChangesTarget ties ties at target
+ChangesTarget-none ties at target is = record { changed = is; others = λ other apart. refl }
+
 module _ (column key : ℕ) (then : Slots) where
-  -- what stands at a reference says what it is tied to
+  -- what is out of use is tied to none ..
+  pub tied_none : (content : Content) (target : Option RowRef) → IsOut content → IsTied column key then content target → target ≡ None
+  tied_none Free target out tied = tied
+  tied_none (Live row) target out tied = absurd out
+  tied_none (Hidden row) target out tied = tied
+
+  none_tied : (content : Content) → IsOut content → IsTied column key then content None
+  none_tied Free out = refl
+  none_tied (Live row) out = absurd out
+  none_tied (Hidden row) out = refl
+
+  -- .. and a live row to a row
   pub tied_live : (content : Content) (row : List Value) (target : Option RowRef) → content ≡ Live row → IsTied column key then content target
       → IsTied column key then (Live row) target
   tied_live content row target is tied = subst (λ (c : Content). IsTied column key then c target) is tied
 
-  pub tied_free : (content : Content) (target : Option RowRef) → content ≡ Free → IsTied column key then content target → target ≡ None
-  tied_free content target is tied =
-      let it : IsTied column key then Free target = subst (λ (c : Content). IsTied column key then c target) is tied in it
+  live_tied : (now : Slots) (at : RowRef) (target : Option RowRef) (live : HasRow now at) → IsTied column key then (Live live.0) target
+      → IsTied column key then (now at) target
+  live_tied now at target live tied = subst (λ (c : Content). IsTied column key then c target) (sym live.1) tied
 
-  -- a slot turns, and the row's tie with it
-  pub Follows-turned : (old mid : Slots) (was is : Ties) (at : RowRef) (content : Content) (target : Option RowRef) → Follows column key old then was
-      → Turns old mid at content → ChangesTarget was is at target → IsTied column key then content target → Follows column key mid then is
-  Follows-turned old mid was is at content target follows turns changes tied x =
-      ⊎_elim
-      (λ (same : x ≡ at).
-      subst (λ (c : Content). IsTied column key then c (target_at is x)) (sym (ap mid same ∙ turns.changed))
-      (subst (λ (t : Option RowRef). IsTied column key then content t) (sym (ap (target_at is) same ∙ changes.changed)) tied))
-      (λ (apart : x ≢ at).
-      subst (λ (c : Content). IsTied column key then c (target_at is x)) (sym (turns.others x apart))
-      (subst (λ (t : Option RowRef). IsTied column key then (old x) t) (sym (changes.others x apart)) (follows x)))
-      (same_or_apart x at)
+  -- the row that stands there has a target as the row in the slot
+  pub has_there : (now : Slots) (at : RowRef) (row : List Value) → now at ≡ Live row → HasTargetRow column key then row
+      → HasTargetRow column key then (row_at now at)
+  has_there now at row live target = subst (λ (content : Content). HasTargetRow column key then (row_in content)) (sym live) target
 
-  module _ (now : Slots) (rest : List Entry) (ties : Ties) where
-    -- what the next entry says, and what is left once it is seen to
-    pub record Adds (at : RowRef) : Type 0 where
-      pub row : List Value
-      pub live : now at ≡ Live row
-      pub target : HasTargetRow column key then row
-      pub untied : target_at ties at ≡ None
-      pub next : (new : Ties) (to : RowRef) → ChangesTarget ties new at (Some to) → RefersTo column key then row to
-          → IsBehind column key now then rest new
+  -- ---- one row
 
-    pub record Alters (at : RowRef) (was : List Value) : Type 0 where
-      pub row : List Value
-      pub live : now at ≡ Live row
-      pub target : HasTargetRow column key then row
-      pub tied : HasTarget ties at
-      pub next : (new : Ties) (to : RowRef) → ChangesTarget ties new at (Some to) → RefersTo column key then row to
-          → IsBehind column key now then rest new
-      pub refers : RefersTo column key then was tied.0
+  module _ (now : Slots) (at : RowRef) (old new : Ties) where
+    -- a row that is tied anew
+    pub TiesOnly-tied : HasRow now at → (to : RowRef) → ChangesTarget old new at (Some to) → RefersTo column key then (row_at now at) to
+        → TiesOnly column key then at (now at) old new
+    TiesOnly-tied live to changes refers = (
+      Some to,
+      changes,
+      live_tied now at (Some to) live (to, refl, subst (λ (c : Content). RefersTo column key then (row_in c) to) live.1 refers),
+    )
 
-    pub record Removes (at : RowRef) : Type 0 where
-      pub tied : HasTarget ties at
-      pub next : (new : Ties) → ChangesTarget ties new at None → IsBehind column key now then rest new
+    -- one that is untied
+    pub TiesOnly-untied : IsOut (now at) → ChangesTarget old new at None → TiesOnly column key then at (now at) old new
+    TiesOnly-untied out changes = (None, changes, none_tied (now at) out)
 
-    has_target : (old : Slots) (at : RowRef) (row : List Value) → Follows column key old then ties → old at ≡ Live row → HasTarget ties at
-    has_target old at row follows is =
-        let tied : IsTied column key then (Live row) (target_at ties at) = tied_live (old at) row (target_at ties at) is (follows at) in
-        let it : HasTarget ties at = (tied.0, tied.1) in it
+  -- one that keeps its value keeps its tie
+  pub TiesOnly-same : (now : Slots) (at : RowRef) (other : List Value) (ties : Ties) (live : HasRow now at)
+      → IsTied column key then (Live other) (target_at ties at) → slice_get live.0 column ≡ slice_get other column
+      → TiesOnly column key then at (now at) ties ties
+  TiesOnly-same now at other ties live tied same =
+      let refers : RefersTo column key then live.0 tied.0 = record { live = tied.2.live; same = same ∙ tied.2.same } in (
+        Some tied.0,
+        ChangesTarget-none ties at (Some tied.0) tied.1,
+        live_tied now at (Some tied.0) live (tied.0, refl, refers),
+      )
 
-    adds : (at : RowRef) (edits : List Edit) (old : Slots) → Standing old edits → Changes edits old (Added at ∷ rest) now
-        → All (HasTargetRow column key then) (new_rows edits) → Follows column key old then ties → Adds at
-    adds at [] old standing changes targets follows = absurd changes
-    adds at (Add row ∷ es) old standing changes targets follows =
-        let mid : Slots = changes.0 in
-        let after : Standing mid es = Standing-rest old mid (Add row) (Added at) es standing changes.1 in
-        let here : HasRow mid at = (row, changes.1.turns.changed) in
-        let absent = free_absent old es at (Standing-behind old (Add row) es standing) changes.1.was in
+  module _ (was now : Slots) (at : RowRef) (target : Option RowRef) (switches : Switches was now at) (tied : IsTied column key then (was at) target) where
+    -- a row that was tied to none has come, ..
+    pub has_come : target ≡ None → HasRow now at
+    has_come none =
+        ⊎_elim
+        (λ (comes : IsOut (was at) × HasRow now at). comes.1)
+        (λ (goes : HasRow was at × IsOut (now at)).
+        let before = tied_live (was at) goes.0.0 target goes.0.1 tied in let both : Some before.0 ≡ None = sym before.1 ∙ none in cc)
+        switches
+
+    -- .. and one that was tied has gone
+    pub has_gone : (to : RowRef) → target ≡ Some to → IsOut (now at)
+    has_gone to some =
+        ⊎_elim
+        (λ (comes : IsOut (was at) × HasRow now at).
+        let none : target ≡ None = tied_none (was at) target comes.0 tied in let both : Some to ≡ None = sym some ∙ none in cc)
+        (λ (goes : HasRow was at × IsOut (now at)). goes.1)
+        switches
+
+  -- ---- one row after another
+
+  module _ (now : Slots) (e : Entry) (rest : List Entry) (ties : Ties) (behind : IsBehind column key now then (e ∷ rest) ties) where
+    pub first_told : Tells behind.was now e
+    first_told = All-head (Tells behind.was now) e rest behind.told
+
+    pub first_pending : IsTied column key then (behind.was (ref_of e)) (target_at ties (ref_of e))
+    first_pending = behind.pending (ref_of e) (first_in (ref_of e) (refs_of rest))
+
+    pub IsBehind-next : (new : Ties) → TiesOnly column key then (ref_of e) (now (ref_of e)) ties new → IsBehind column key now then rest new
+    IsBehind-next new one =
+        let at : RowRef = ref_of e in
+        let absent : Contains (refs_of rest) at → ⊥ = first_absent at (refs_of rest) behind.apart in
         record {
-          row = row;
-          live = row_stays es rest mid now at changes.2 here absent ∙ changes.1.turns.changed;
-          target = All-head (HasTargetRow column key then) row (new_rows es) targets;
-          untied = tied_free (old at) (target_at ties at) changes.1.was (follows at);
-          next = λ new to change refers. record {
-            edits = es;
-            before = mid;
-            standing = after;
-            changes = changes.2;
-            targets = All-tail (HasTargetRow column key then) row (new_rows es) targets;
-            follows =
-                Follows-turned old mid ties new at (Live row) (Some to) follows changes.1.turns change (to, refl, refers);
-          };
+          was = behind.was;
+          told = All-tail (Tells behind.was now) e rest behind.told;
+          apart = λ i j d before within. behind.apart (suc i) (suc j) d (omega (arith, before)) (omega (arith, within));
+          pending = λ x here.
+              subst (IsTied column key then (behind.was x)) (sym (one.1.others x (λ same. absent (subst (Contains (refs_of rest)) same here))))
+              (behind.pending x (later_in at x (refs_of rest) here));
+          done = λ x none.
+              ⊎_elim
+              (λ (same : x ≡ at).
+              subst (λ (y : RowRef). IsTied column key then (now y) (target_at new y)) (sym same)
+              (subst (IsTied column key then (now at)) (sym one.1.changed) one.2))
+              (λ (apart : x ≢ at).
+              subst (IsTied column key then (now x)) (sym (one.1.others x apart))
+              (behind.done x
+              (λ here.
+              ⊎_elim (λ (same : at ≡ x). apart (sym same)) none (one_of at x (refs_of rest) here))))
+              (same_or_apart x at);
+          targets = behind.targets;
         }
-    adds at (Swap r row ∷ es) old standing changes targets follows = absurd changes.1
-    adds at (Gone r ∷ es) old standing changes targets follows = absurd changes.1
-
-    alters : (at : RowRef) (was : List Value) (edits : List Edit) (old : Slots) → Standing old edits → Changes edits old (Changed at was ∷ rest) now
-        → All (HasTargetRow column key then) (new_rows edits) → Follows column key old then ties → Alters at was
-    alters at was [] old standing changes targets follows = absurd changes
-    alters at was (Add row ∷ es) old standing changes targets follows = absurd changes.1
-    alters at was (Swap r row ∷ es) old standing changes targets follows =
-        let mid : Slots = changes.0 in
-        let after : Standing mid es = Standing-rest old mid (Swap r row) (Changed at was) es standing changes.1 in
-        let here : HasRow mid r = (row, changes.1.1.turns.changed) in
-        let stays : now r ≡ Live row = row_stays es rest mid now r changes.2 here (first_absent r (olds es) standing.apart) ∙ changes.1.1.turns.changed in
-        let turns : Turns old mid at (Live row) = subst (λ (x : RowRef). Turns old mid x (Live row)) (sym changes.1.0) changes.1.1.turns in
-        let own : IsTied column key then (Live was) (target_at ties at) =
-        tied_live (old at) was (target_at ties at) (ap old changes.1.0 ∙ changes.1.1.was) (follows at) in
-        record {
-          row = row;
-          live = ap now changes.1.0 ∙ stays;
-          target = All-head (HasTargetRow column key then) row (new_rows es) targets;
-          tied = (own.0, own.1);
-          next = λ new to change refers. record {
-            edits = es;
-            before = mid;
-            standing = after;
-            changes = changes.2;
-            targets = All-tail (HasTargetRow column key then) row (new_rows es) targets;
-            follows = Follows-turned old mid ties new at (Live row) (Some to) follows turns change (to, refl, refers);
-          };
-          refers = own.2;
-        }
-    alters at was (Gone r ∷ es) old standing changes targets follows = absurd changes.1
-
-    removes : (at : RowRef) (edits : List Edit) (old : Slots) → Standing old edits → Changes edits old (Removed at ∷ rest) now
-        → All (HasTargetRow column key then) (new_rows edits) → Follows column key old then ties → Removes at
-    removes at [] old standing changes targets follows = absurd changes
-    removes at (Add row ∷ es) old standing changes targets follows = absurd changes.1
-    removes at (Swap r row ∷ es) old standing changes targets follows = absurd changes.1
-    removes at (Gone r ∷ es) old standing changes targets follows =
-        let mid : Slots = changes.0 in
-        let after : Standing mid es = Standing-rest old mid (Gone r) (Removed at) es standing changes.1 in
-        let was : List Value = changes.1.1.0 in
-        let turns : Turns old mid at (Hidden was) = subst (λ (x : RowRef). Turns old mid x (Hidden was)) (sym changes.1.0) changes.1.1.1.turns in
-        record {
-          tied = has_target old at was follows (ap old changes.1.0 ∙ changes.1.1.1.was);
-          next = λ new change. record {
-            edits = es;
-            before = mid;
-            standing = after;
-            changes = changes.2;
-            targets = targets;
-            follows = Follows-turned old mid ties new at (Hidden was) None follows turns change refl;
-          };
-        }
-
-    module _ (entry : Entry) (behind : IsBehind column key now then (entry ∷ rest) ties) where
-      pub Adds-from : (at : RowRef) → entry ≡ Added at → Adds at
-      Adds-from at is =
-          let b : IsBehind column key now then (Added at ∷ rest) ties = subst (λ (e : Entry). IsBehind column key now then (e ∷ rest) ties) is behind in
-          adds at b.edits b.before b.standing b.changes b.targets b.follows
-
-      pub Alters-from : (at : RowRef) (was : List Value) → entry ≡ Changed at was → Alters at was
-      Alters-from at was is =
-          let b : IsBehind column key now then (Changed at was ∷ rest) ties = subst (λ (e : Entry). IsBehind column key now then (e ∷ rest) ties) is behind in
-          alters at was b.edits b.before b.standing b.changes b.targets b.follows
-
-      pub Removes-from : (at : RowRef) → entry ≡ Removed at → Removes at
-      Removes-from at is =
-          let b : IsBehind column key now then (Removed at ∷ rest) ties = subst (λ (e : Entry). IsBehind column key now then (e ∷ rest) ties) is behind in
-          removes at b.edits b.before b.standing b.changes b.targets b.follows
-
-    -- a row of the same value keeps its tie
-    pub tie_stays : (at : RowRef) (was : List Value) (one : Alters at was) → slice_get one.row column ≡ slice_get was column
-        → IsBehind column key now then rest ties
-    tie_stays at was one same =
-        one.next ties one.tied.0 (record { changed = one.tied.1; others = λ other apart. refl })
-        (record { live = one.refers.live; same = same ∙ one.refers.same })
-
-    -- the row that stands there refers to what the live row refers to
-    pub refers_there : (at : RowRef) (row : List Value) (to : RowRef) → now at ≡ Live row → RefersTo column key then (row_at now at) to
-        → RefersTo column key then row to
-    refers_there at row to live refers = subst (λ (content : Content). RefersTo column key then (row_in content) to) live refers
-
-    pub has_there : (at : RowRef) (row : List Value) → now at ≡ Live row → HasTargetRow column key then row
-        → HasTargetRow column key then (row_at now at)
-    has_there at row live target = subst (λ (content : Content). HasTargetRow column key then (row_in content)) (sym live) target
 
   -- with no entries left the ties follow what stands
-  none_left : (edits : List Edit) (old now : Slots) (ties : Ties) → Changes edits old [] now → Follows column key old then ties
-      → Follows column key now then ties
-  none_left [] old now ties changes follows = subst (λ (s : Slots). Follows column key s then ties) (sym changes) follows
-  none_left (e ∷ es) old now ties changes follows = absurd changes
-
   pub Follows-caught_up : (now : Slots) (ties : Ties) → IsBehind column key now then [] ties → Follows column key now then ties
-  Follows-caught_up now ties b = none_left b.edits b.before now ties b.changes b.follows
+  Follows-caught_up now ties b at = b.done at (empty at)

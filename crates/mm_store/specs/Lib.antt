@@ -1,6 +1,11 @@
 pub mod Behind
+pub mod Commands
 pub mod Joined
 pub mod Links
+pub mod Marks
 pub mod Sample
 pub mod Seen
 pub mod Tables
+pub mod Tally
+pub mod Undoing
+pub mod Worlds

@@ -1,13 +1,21 @@
 -- The tables of the tests.
-use Rattle.std.specs.Prelude.{◌≡◌, length, All}
+use Rattle.std.specs.Prelude.{◌≡◌, List, length, All, Contains}
 use Rattle.mm_relation.specs.Kept.{StoredRows}
 use Rattle.mm_store.specs.Tables.{Tables}
+use Rattle.mm_store.specs.Undoing.{CanUndo}
+use Rattle.mm_store.specs.Worlds.{Noted}
 
--- The table has two columns and no further index.
+-- The table has two columns.
 pub record IsPlain (stored : StoredRows) : Type 0 where
   pub width : stored.width ≡ 2
-  pub bare : length stored.indexes ≡ 0
 
 -- Each table of the store is such a one.
 abbrev pub ArePlain : Tables → Type 0
 ArePlain store = All IsPlain store.tables
+
+-- There are two such tables, the second refers to the first by its second column, and the log can be taken back.
+pub record IsCase (store : Tables) (undo : List Noted) : Type 0 where
+  pub two : length store.tables ≡ 2
+  pub plain : ArePlain store
+  pub link : Contains store.links (record { from = 1; column = 1; to = 0 })
+  pub fits : CanUndo store undo

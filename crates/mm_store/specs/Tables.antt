@@ -77,6 +77,12 @@ pub record AreLawful (store : Tables) (table : ℕ) (stored : StoredRows) (edits
   pub referred : makes_orphans store table stored.key (edit_pairs (slot_at stored.places) edits) ≡ false
   pub few : length (rows_with stored edits) ≤ 1048576
 
+-- A relation has the columns, the key and the indexes that it had.
+pub record SameForm (old new : StoredRows) : Type 0 where
+  pub width : new.width ≡ old.width
+  pub key : new.key ≡ old.key
+  pub indexes : EachTurns SameIndex old.indexes new.indexes
+
 -- The relation has these rows, with the columns, the key and the indexes that it had.
 pub record HasRows (old : StoredRows) (rows : List (List Value)) (new : StoredRows) : Type 0 where
   pub rows_are : rows_of new ≡ rows

@@ -1,14 +1,14 @@
 //! Foreign keys: a column of one table whose values are keys of another.
 ghost use Rattle.std.specs.Prelude.{◌≡◌, ◌<◌, ◌≤◌, ◌∷◌, List, None, Some, IfOk, OnOk};
 ghost use Rattle.mm_foreign.specs.Ties.{ChangesTarget, target_at};
-ghost use Rattle.mm_partition.specs.Places.{IsLive, slot_at};
-ghost use Rattle.mm_relation.specs.Refs.{row_at};
+ghost use Rattle.mm_partition.specs.Places.{IsLive, Live, slot_at};
+ghost use Rattle.mm_relation.specs.Refs.{Slots, row_at};
 ghost use Rattle.mm_relation.specs.declared.log.Entry.{Entry as Change};
-ghost use Rattle.mm_relation.specs.declared.log.Entry.TheVariants.{Changed};
 ghost use Rattle.mm_schema.specs.Rows.{same_in_column};
 ghost use Rattle.mm_value.specs.declared.row_ref.RowRef.{RowRef as Ref};
-ghost use Rattle.mm_store.specs.Links.{Follows, HasRoom, HasTargetRow, RefersTo, SameSize};
-ghost use Rattle.mm_store.specs.Behind.{IsBehind};
+ghost use Rattle.mm_value.specs.declared.values.Value.{Value as Val};
+ghost use Rattle.mm_store.specs.Links.{Follows, HasRoom, HasTargetRow, IsTied, RefersTo, SameSize};
+ghost use Rattle.mm_store.specs.Behind.{IsBehind, Switches, TiesOnly};
 ghost use Rattle.mm_store.specs.Joined.{HasGrown, HasGrownTo, HasMovedUp};
 
 mod checks;
@@ -78,7 +78,7 @@ impl Link {
         self.ties.reserve(alloc, referrers, targets)
     }
 
-    /// Brings the ties up to the changes of the referring table, of which these are the entries.
+    /// Brings the ties up to changes of the referring table that were made or taken back, of which these are the entries.
     pub(crate) fn retie(&mut self, from: &Relation, to: &Relation, entries: &[Entry])
         requires column { self.old.reference.column < from.now.width }
         requires behind { IsBehind self.old.reference.column to.now.key (slot_at from.now.places) (slot_at to.now.places) entries.now self.old.ties }
@@ -105,25 +105,45 @@ impl Link {
         ensures size { SameSize self.old.ties self.new.ties }
     {
         match entry {
-            Entry::Added(at) => self.tie(from, to, *at),
-            Entry::Changed(at, old) => self.retie_changed(from, to, *at, old),
-            Entry::Removed(at) => self.ties.untie(*at),
+            Entry::Added(at) => self.retie_switched(from, to, *at),
+            Entry::Changed(at, other) => self.retie_changed(from, to, *at, other),
+            Entry::Removed(at) => self.retie_switched(from, to, *at),
         }
     }
 
-    /// Brings the tie of a row up to its change from an old row. It stays where both have the same value in the column.
-    fn retie_changed(&mut self, from: &Relation, to: &Relation, at: RowRef, old: &Row)
+    /// Brings the tie of a row up that has come or gone. Its tie tells which: a row that has come is tied to none.
+    fn retie_switched(&mut self, from: &Relation, to: &Relation, at: RowRef)
         requires column { self.old.reference.column < from.now.width }
-        requires behind { (rest : List Change)
-            × IsBehind self.old.reference.column to.now.key (slot_at from.now.places) (slot_at to.now.places) (Changed at old.now ∷ rest) self.old.ties }
+        requires switches { (was : Slots) × Switches was (slot_at from.now.places) at
+            × IsTied self.old.reference.column to.now.key (slot_at to.now.places) (was at) (target_at self.old.ties at) }
+        requires target { (row : List Val) → slot_at from.now.places at ≡ Live row
+            → HasTargetRow self.old.reference.column to.now.key (slot_at to.now.places) row }
         requires room { HasRoom from.now.places to.now.places self.old.ties }
         ensures reference { self.new.reference ≡ self.old.reference }
-        ensures behind { (rest : List Change)
-            → IsBehind self.old.reference.column to.now.key (slot_at from.now.places) (slot_at to.now.places) (Changed at old.now ∷ rest) self.old.ties
-            → IsBehind self.old.reference.column to.now.key (slot_at from.now.places) (slot_at to.now.places) rest self.new.ties }
+        ensures tied { TiesOnly self.old.reference.column to.now.key (slot_at to.now.places) at (slot_at from.now.places at)
+            self.old.ties self.new.ties }
         ensures size { SameSize self.old.ties self.new.ties }
     {
-        if has_same_value(old, from.row(at), self.reference.column) {
+        match self.ties.target(at) {
+            Some(_) => self.ties.untie(at),
+            None => self.tie(from, to, at),
+        }
+    }
+
+    /// Brings the tie of a row up that was another one. It stays where both have the same value in the column.
+    fn retie_changed(&mut self, from: &Relation, to: &Relation, at: RowRef, other: &Row)
+        requires column { self.old.reference.column < from.now.width }
+        requires live { IsLive from.now.places at }
+        requires tied { IsTied self.old.reference.column to.now.key (slot_at to.now.places) (Live other.now) (target_at self.old.ties at) }
+        requires target { (row : List Val) → slot_at from.now.places at ≡ Live row
+            → HasTargetRow self.old.reference.column to.now.key (slot_at to.now.places) row }
+        requires room { HasRoom from.now.places to.now.places self.old.ties }
+        ensures reference { self.new.reference ≡ self.old.reference }
+        ensures tied { TiesOnly self.old.reference.column to.now.key (slot_at to.now.places) at (slot_at from.now.places at)
+            self.old.ties self.new.ties }
+        ensures size { SameSize self.old.ties self.new.ties }
+    {
+        if has_same_value(other, from.row(at), self.reference.column) {
             return;
         }
         self.ties.untie(at);

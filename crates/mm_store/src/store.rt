@@ -11,13 +11,15 @@ ghost use Rattle.mm_partition.specs.Places.{IsLive, slot_at};
 ghost use Rattle.mm_store.specs.Links.{IsReference, RefersTo};
 ghost use Rattle.mm_store.specs.Tables.{IsAt, Turns, AreFit, AreLawful, HasRows, rows_with, IsFrom, links_without, edit_conditions, has_orphans, makes_orphans};
 
+mod apply;
+mod revert;
+mod settle;
+
 use crate::link::Link;
 use crate::links::{
     drop_links, follow, has_other_target, has_reference, left_orphans, new_links, new_orphans,
-    reserve_all, retie_all,
 };
-use crate::undo::Undo;
-use mm_relation::{Edit, Relation, count_added};
+use mm_relation::{Edit, Relation};
 use mm_schema::{IndexKind, Reference};
 use mm_value::{Refusal, RowRef};
 use std::alloc::{AllocError, Global};
@@ -186,37 +188,6 @@ impl Store {
         left_orphans(self.links.as_slice(), self.tables.as_slice(), table, edits)
     }
 
-    /// Makes all edits of a table. `AllocError` where memory is refused; then all rows are as before, and each refers to the row
-    /// that it referred to. Every growth comes first.
-    pub fn apply(
-        &mut self,
-        alloc: Global,
-        table: usize,
-        edits: Vec<Edit>,
-        undo: &mut Undo,
-    ) -> Result<(), AllocError>
-        requires there { table < length self.old.tables }
-        requires lawful { (stored : StoredRows) → IsAt self.old table stored → AreLawful self.old table stored edits.items }
-        ensures ok { OnOk result ((stored : StoredRows) → IsAt self.old table stored
-            → (new : StoredRows) × Turns self.old table new self.new × HasRows stored (rows_with stored edits.items) new) }
-        ensures err { OnErr result ((stored : StoredRows) → IsAt self.old table stored
-            → (new : StoredRows) × Turns self.old table new self.new × HasRows stored (rows_of stored) new) }
-        ensures links { self.new.links ≡ self.old.links }
-    {
-        let extent = most_slots(self.tables[table].extent(), edits.as_slice())?;
-        reserve_all(alloc, &mut self.links, table, extent)?;
-        self.tables[table].apply(alloc, edits, 0, &mut undo.log)?;
-        retie_all(
-            &mut self.links,
-            self.tables.as_slice(),
-            table,
-            undo.log.entries(),
-        );
-        self.tables[table].settle(&mut undo.log);
-        self.tables[table].is_kept();
-        Ok(())
-    }
-
     /// Adds an index on a column of a table, over the rows that are there, behind the table's others. `AllocError` where
     /// memory is refused, and then all is as before.
     pub fn add_index(
@@ -250,11 +221,4 @@ impl Store {
         self.tables[table].drop_index(index);
         self.tables[table].is_kept();
     }
-}
-
-/// The most slots that a relation of this extent has in use with the edits made. `AllocError` where no number counts them.
-fn most_slots(extent: usize, edits: &[Edit]) -> Result<usize, AllocError>
-    ensures { IfOk result (λ most. most ≡ extent + added_count edits.now) }
-{
-    extent.checked_add(count_added(edits)).ok_or(AllocError)
 }

@@ -3,7 +3,11 @@ use Rattle.query_tests.proofs.StillSample.{filled, indexed, two_at, unchanged}
 use Rattle.mm_relation.specs.Kept.{StoredRows}
 use Rattle.mm_relation.specs.RowLists.{rows_of}
 use Rattle.mm_store.specs.Tables.{rows_with}
+use Rattle.mm_store.proofs.UndoLaws.{CanUndo-nil}
 use Rattle.query_tests.proofs.samples.fill.Goals as goal
+
+pub apply-requires-clause-fits : goal.apply-requires-clause-fits
+apply-requires-clause-fits c = CanUndo-nil c.args.store.now c.new-undo.result c.new-undo.ensures
 
 pub returns-in_err-apply : goal.returns-in_err-apply
 returns-in_err-apply c = filled c.args.store.now c.apply.new.self c.args.table c.requires.there c.requires.sample rows_of c.in_err-apply.ensures.err

@@ -1,53 +1,61 @@
 use Rattle.std.proofs.Common.{◌∷◌, subst}
+use Rattle.mm_foreign.specs.Ties.{target_at}
 use Rattle.mm_partition.specs.Places.{slot_at}
 use Rattle.mm_relation.specs.declared.log.Entry.{Entry}
+use Rattle.mm_relation.specs.declared.log.Entry.TheVariants.{Added, Changed, Removed}
 use Rattle.mm_store.specs.Behind.{IsBehind}
-use Rattle.mm_store.proofs.Following.{Adds-from, Removes-from, has_there, refers_there}
+use Rattle.mm_store.proofs.Following.{IsBehind-next, first_pending, first_told, tied_live}
 use Rattle.mm_store.proofs.link.Link.retie_row.Goals as goal
 
-pub tie-requires-clause-live : goal.tie-requires-clause-live
-tie-requires-clause-live c =
+pub retie_switched-requires-clause-switches : goal.retie_switched-requires-clause-switches
+retie_switched-requires-clause-switches c =
     let column = c.args.self.now.reference.column in
     let key = c.args.to.now.key in
     let then = slot_at c.args.to.now.places in
     let now = slot_at c.args.from.now.places in
     let ties = c.args.self.now.ties in
     let rest = c.requires.behind.0 in
-    let one = Adds-from column key then now rest ties c.args.entry.now c.requires.behind.1 c.in-Added.at c.in-Added.is in
-    (one.row, one.live)
+    let here : IsBehind column key now then (Added c.in-Added.at ∷ rest) ties =
+    subst (λ (e : Entry). IsBehind column key now then (e ∷ rest) ties) c.in-Added.is c.requires.behind.1 in
+    (here.was, first_told column key then now (Added c.in-Added.at) rest ties here, first_pending column key then now (Added c.in-Added.at) rest ties here)
 
-pub tie-requires-clause-target : goal.tie-requires-clause-target
-tie-requires-clause-target c =
+pub retie_switched-requires-in-Removed-clause-switches : goal.retie_switched-requires-in-Removed-clause-switches
+retie_switched-requires-in-Removed-clause-switches c =
     let column = c.args.self.now.reference.column in
     let key = c.args.to.now.key in
     let then = slot_at c.args.to.now.places in
     let now = slot_at c.args.from.now.places in
     let ties = c.args.self.now.ties in
     let rest = c.requires.behind.0 in
-    let one = Adds-from column key then now rest ties c.args.entry.now c.requires.behind.1 c.in-Added.at c.in-Added.is in
-    has_there column key then now rest ties c.in-Added.at one.row one.live one.target
+    let here : IsBehind column key now then (Removed c.in-Removed.at ∷ rest) ties =
+    subst (λ (e : Entry). IsBehind column key now then (e ∷ rest) ties) c.in-Removed.is c.requires.behind.1 in
+    (here.was, first_told column key then now (Removed c.in-Removed.at) rest ties here, first_pending column key then now (Removed c.in-Removed.at) rest ties here)
 
-pub tie-requires-clause-untied : goal.tie-requires-clause-untied
-tie-requires-clause-untied c =
+pub retie_changed-requires-clause-live : goal.retie_changed-requires-clause-live
+retie_changed-requires-clause-live c =
     let column = c.args.self.now.reference.column in
     let key = c.args.to.now.key in
     let then = slot_at c.args.to.now.places in
     let now = slot_at c.args.from.now.places in
     let ties = c.args.self.now.ties in
     let rest = c.requires.behind.0 in
-    let one = Adds-from column key then now rest ties c.args.entry.now c.requires.behind.1 c.in-Added.at c.in-Added.is in
-    one.untied
+    let here : IsBehind column key now then (Changed c.in-Changed.at c.in-Changed.other ∷ rest) ties =
+    subst (λ (e : Entry). IsBehind column key now then (e ∷ rest) ties) c.in-Changed.is c.requires.behind.1 in
+    (first_told column key then now (Changed c.in-Changed.at c.in-Changed.other) rest ties here).1
 
-pub untie-requires : goal.untie-requires
-untie-requires c =
+pub retie_changed-requires-clause-tied : goal.retie_changed-requires-clause-tied
+retie_changed-requires-clause-tied c =
     let column = c.args.self.now.reference.column in
     let key = c.args.to.now.key in
     let then = slot_at c.args.to.now.places in
     let now = slot_at c.args.from.now.places in
     let ties = c.args.self.now.ties in
     let rest = c.requires.behind.0 in
-    let one = Removes-from column key then now rest ties c.args.entry.now c.requires.behind.1 c.in-Removed.at c.in-Removed.is in
-    one.tied
+    let here : IsBehind column key now then (Changed c.in-Changed.at c.in-Changed.other ∷ rest) ties =
+    subst (λ (e : Entry). IsBehind column key now then (e ∷ rest) ties) c.in-Changed.is c.requires.behind.1 in
+    tied_live column key then (here.was c.in-Changed.at) c.in-Changed.other (target_at ties c.in-Changed.at)
+    (first_told column key then now (Changed c.in-Changed.at c.in-Changed.other) rest ties here).0
+    (first_pending column key then now (Changed c.in-Changed.at c.in-Changed.other) rest ties here)
 
 pub returns-in-Added-clause-behind : goal.returns-in-Added-clause-behind
 returns-in-Added-clause-behind c =
@@ -57,32 +65,9 @@ returns-in-Added-clause-behind c =
     let now = slot_at c.args.from.now.places in
     let ties = c.args.self.now.ties in
     λ rest behind.
-    let one = Adds-from column key then now rest ties c.args.entry.now behind c.in-Added.at c.in-Added.is in
-    let tied = c.tie.ensures.tied in
-    one.next c.tie.new.self.ties tied.0 tied.1 (refers_there column key then now rest ties c.in-Added.at one.row tied.0 one.live tied.2)
-
-pub returns-in-Removed-clause-behind : goal.returns-in-Removed-clause-behind
-returns-in-Removed-clause-behind c =
-    let column = c.args.self.now.reference.column in
-    let key = c.args.to.now.key in
-    let then = slot_at c.args.to.now.places in
-    let now = slot_at c.args.from.now.places in
-    let ties = c.args.self.now.ties in
-    λ rest behind.
-    let one = Removes-from column key then now rest ties c.args.entry.now behind c.in-Removed.at c.in-Removed.is in
-    one.next c.untie.new.self c.untie.ensures.untied
-
-pub retie_changed-requires-clause-behind : goal.retie_changed-requires-clause-behind
-retie_changed-requires-clause-behind c =
-    let column = c.args.self.now.reference.column in
-    let key = c.args.to.now.key in
-    let then = slot_at c.args.to.now.places in
-    let now = slot_at c.args.from.now.places in
-    let ties = c.args.self.now.ties in
-    let rest = c.requires.behind.0 in (
-      rest,
-      subst (λ (e : Entry). IsBehind column key now then (e ∷ rest) ties) c.in-Changed.is c.requires.behind.1,
-    )
+    let here : IsBehind column key now then (Added c.in-Added.at ∷ rest) ties =
+    subst (λ (e : Entry). IsBehind column key now then (e ∷ rest) ties) c.in-Added.is behind in
+    IsBehind-next column key then now (Added c.in-Added.at) rest ties here c.retie_switched.new.self.ties c.retie_switched.ensures.tied
 
 pub returns-in-Changed-clause-behind : goal.returns-in-Changed-clause-behind
 returns-in-Changed-clause-behind c =
@@ -92,4 +77,18 @@ returns-in-Changed-clause-behind c =
     let now = slot_at c.args.from.now.places in
     let ties = c.args.self.now.ties in
     λ rest behind.
-    c.retie_changed.ensures.behind rest (subst (λ (e : Entry). IsBehind column key now then (e ∷ rest) ties) c.in-Changed.is behind)
+    let here : IsBehind column key now then (Changed c.in-Changed.at c.in-Changed.other ∷ rest) ties =
+    subst (λ (e : Entry). IsBehind column key now then (e ∷ rest) ties) c.in-Changed.is behind in
+    IsBehind-next column key then now (Changed c.in-Changed.at c.in-Changed.other) rest ties here c.retie_changed.new.self.ties c.retie_changed.ensures.tied
+
+pub returns-in-Removed-clause-behind : goal.returns-in-Removed-clause-behind
+returns-in-Removed-clause-behind c =
+    let column = c.args.self.now.reference.column in
+    let key = c.args.to.now.key in
+    let then = slot_at c.args.to.now.places in
+    let now = slot_at c.args.from.now.places in
+    let ties = c.args.self.now.ties in
+    λ rest behind.
+    let here : IsBehind column key now then (Removed c.in-Removed.at ∷ rest) ties =
+    subst (λ (e : Entry). IsBehind column key now then (e ∷ rest) ties) c.in-Removed.is behind in
+    IsBehind-next column key then now (Removed c.in-Removed.at) rest ties here c.retie_switched-in-Removed.new.self.ties c.retie_switched-in-Removed.ensures.tied

@@ -1,12 +1,8 @@
-use Rattle.std.proofs.Common.{subst}
 use Rattle.mm_relation.specs.Kept.{StoredRows}
 use Rattle.mm_relation.specs.RowLists.{rows_of}
-use Rattle.mm_store.specs.Tables.{AreLawful, rows_with}
+use Rattle.mm_store.specs.Tables.{rows_with}
 use Rattle.mm_store.proofs.Samples.{kept}
-use Rattle.mm_store.proofs.tests.make.Goals as goal
-
-pub apply-requires-clause-lawful : goal.apply-requires-clause-lawful
-apply-requires-clause-lawful c = λ stored at. subst (AreLawful c.args.store.now c.args.table stored) c.as_slice.ensures.value (c.in-Ok.ensures.lawful stored at)
+use Rattle.mm_store.proofs.tests.note.Goals as goal
 
 pub returns-in_err-apply-clause-count : goal.returns-in_err-apply-clause-count
 returns-in_err-apply-clause-count c =

@@ -1,0 +1,136 @@
+-- A log that can be taken back: when it is new, with one command more, and with one less.
+use Rattle.std.proofs.Common.{◌≡◌, ◌≢◌, ℕ, ◌+◌, ◌≤◌, List, [], ◌∷◌, ◌++◌, length, Some, refl, sym, ap, ◌∙◌, subst, ⊎_elim, arith}
+use Rattle.std.specs.Prelude.{slice_get}
+use Rattle.std.specs.List.{All}
+use Rattle.std.proofs.lemmas.List.Elements.{All-weaker}
+use Rattle.mm_partition.specs.Places.{slot_at}
+use Rattle.mm_relation.specs.Before.{before}
+use Rattle.mm_relation.specs.Edits.{entry_name, named}
+use Rattle.mm_relation.specs.Index.{Grown, spare_of}
+use Rattle.mm_relation.specs.Kept.{SameButRoom, StoredRows}
+use Rattle.mm_relation.specs.declared.names.Side.TheVariants.{Old}
+use Rattle.mm_relation.proofs.RefTests.{same_number}
+use Rattle.mm_relation.proofs.Rooms.{slots_same}
+use Rattle.mm_relation.proofs.Turning.{All-turned}
+use Rattle.mm_schema.specs.declared.reference.Reference.{Reference}
+use Rattle.mm_store.specs.Commands.{IsTakenBack}
+use Rattle.mm_store.specs.Tables.{IsAt, Tables, Turns}
+use Rattle.mm_store.specs.Undoing.{CanUndo, GoesBack, HasSpare, Heading, IsReversible, headings_of, owed, owed_by}
+use Rattle.mm_store.specs.Worlds.{Noted, World, back, world_of}
+use Rattle.mm_store.proofs.Joining.{one_relation}
+use Rattle.mm_store.proofs.Owing.{owed-push, owed_by-other, owed_by-own}
+use Rattle.mm_store.proofs.Worlds.{GoesBack-append, GoesBack-newer, GoesBack-older, at_other, at_turned, back_is_old, headings_turned, new_is_back, world_same}
+
+-- ---- spare room
+
+HasSpare-less : (m n : ℕ) (stored : StoredRows) → n ≤ m → HasSpare m stored → HasSpare n stored
+HasSpare-less m n stored less spare = record {
+  key = omega (arith, less, spare.key);
+  each = All-weaker (λ x. m ≤ spare_of x) (λ x. n ≤ spare_of x) (λ x some. omega (arith, less, some)) stored.indexes spare.each;
+}
+
+HasSpare-grown : (n : ℕ) (old new : StoredRows) → SameButRoom old new → HasSpare n old → HasSpare n new
+HasSpare-grown n old new same spare = record {
+  key = omega (arith, same.spare, spare.key);
+  each =
+      All-turned Grown (λ x. n ≤ spare_of x) (λ x. n ≤ spare_of x) old.indexes new.indexes same.indexes
+      (λ x y some grown. omega (arith, some, grown.spare)) spare.each;
+}
+
+-- ---- a log of no commands
+
+-- Nothing has to be taken back.
+pub CanUndo-nil : (store : Tables) (undo : List Noted) → undo ≡ [] → CanUndo store undo
+CanUndo-nil store undo none = subst (CanUndo store) (sym none) (record {
+  spare = λ place stored there. record { key = omega arith; each = λ k d within. omega arith };
+  back = tt;
+})
+
+-- ---- a relation has turned
+
+module _ (old new : Tables) (place : ℕ) (was is : StoredRows) (there : IsAt old place was) (turned : Turns old place is new)
+    (links : new.links ≡ old.links) (width : is.width ≡ was.width) (key : is.key ≡ was.key) where
+  -- the log goes back where it did, over a world that is the one before
+  goes_back : (undo : List Noted) (world : World) → world_of old ≡ world → GoesBack (headings_of old) old.links undo (world_of old)
+      → GoesBack (headings_of new) new.links undo world
+  goes_back undo world same goes =
+      subst (λ (hs : List Heading). GoesBack hs new.links undo world) (sym (headings_turned old new place was is there turned width key))
+      (subst (λ (ls : List Reference). GoesBack (headings_of old) ls undo world) (sym links)
+      (subst (GoesBack (headings_of old) old.links undo) same goes))
+
+  -- each relation is the one that turned, or was there
+  each_spare : (P : ℕ → StoredRows → Type 0) → P place is → ((other : ℕ) (stored : StoredRows) → other ≢ place → IsAt old other stored → P other stored)
+      → (other : ℕ) (stored : StoredRows) → IsAt new other stored → P other stored
+  each_spare P here elsewhere other stored at =
+      ⊎_elim
+      (λ (same : other ≡ place).
+      subst (λ (n : ℕ). P n stored) (sym same)
+      (subst (P place) (one_relation is stored (sym (at_turned old new place was is there turned) ∙ (ap (slice_get new.tables) (sym same) ∙ at))) here))
+      (λ (apart : other ≢ place). elsewhere other stored apart (sym (at_other old new place was is there turned other apart) ∙ at))
+      (same_number other place)
+
+  -- With more room the log can be taken back still.
+  pub CanUndo-grown : (undo : List Noted) → SameButRoom was is → CanUndo old undo → CanUndo new undo
+  CanUndo-grown undo same can = record {
+    spare = each_spare (λ p s. HasSpare (owed p undo) s) (HasSpare-grown (owed place undo) was is same (can.spare place was there))
+        (λ other stored apart at. can.spare other stored at);
+    back = goes_back undo (world_of new) (sym (world_same old new place was is there turned (slots_same was is same))) can.back;
+  }
+
+  -- A command more that can be taken back.
+  pub CanUndo-noted : (undo : List Noted) (command : Noted) → command.table ≡ place → before command.entries (slot_at is.places) ≡ slot_at was.places
+      → IsReversible (headings_of old) old.links command (world_of new)
+      → HasSpare (owed place undo + length (named entry_name Old command.entries)) is → CanUndo old undo → CanUndo new (undo ++ command ∷ [])
+  CanUndo-noted undo command about makes reversible spare can = record {
+    spare = each_spare (λ p s. HasSpare (owed p (undo ++ command ∷ [])) s)
+        (HasSpare-less (owed place undo + length (named entry_name Old command.entries)) (owed place (undo ++ command ∷ [])) is
+        (omega (arith, owed-push place undo command, owed_by-own place command about)) spare)
+        (λ other stored apart at.
+        HasSpare-less (owed other undo) (owed other (undo ++ command ∷ [])) stored
+        (omega (arith, owed-push other undo command, owed_by-other other command (λ same. apart (sym same ∙ about)))) (can.spare other stored at));
+    back =
+        GoesBack-append (headings_of new) new.links undo (command ∷ []) (world_of new)
+        (goes_back undo (back command (world_of new)) (sym (back_is_old old new place was is there turned command about makes)) can.back) (
+          tt,
+          subst (λ (hs : List Heading). IsReversible hs new.links command (world_of new)) (sym (headings_turned old new place was is there turned width key))
+              (subst (λ (ls : List Reference). IsReversible (headings_of old) ls command (world_of new)) (sym links) reversible),
+        );
+  }
+
+-- ---- the newest command
+
+module _ (store : Tables) (undo : List Noted) (command : Noted) (can : CanUndo store (undo ++ command ∷ [])) where
+  pub newest_reversible : IsReversible (headings_of store) store.links command (world_of store)
+  newest_reversible = (GoesBack-newer (headings_of store) store.links undo (command ∷ []) (world_of store) can.back).1
+
+  pub newest_spare : (stored : StoredRows) → IsAt store command.table stored
+      → HasSpare (owed command.table undo + length (named entry_name Old command.entries)) stored
+  newest_spare stored at =
+      HasSpare-less (owed command.table (undo ++ command ∷ [])) (owed command.table undo + length (named entry_name Old command.entries)) stored
+      (omega (arith, owed-push command.table undo command, owed_by-own command.table command refl)) (can.spare command.table stored at)
+
+  pub newest_owed : (stored : StoredRows) → IsAt store command.table stored → HasSpare (length (named entry_name Old command.entries)) stored
+  newest_owed stored at =
+      HasSpare-less (owed command.table undo + length (named entry_name Old command.entries)) (length (named entry_name Old command.entries)) stored
+      (omega arith) (newest_spare stored at)
+
+  module _ (new : Tables) (was is : StoredRows) (there : IsAt store command.table was) (turned : Turns store command.table is new)
+      (links : new.links ≡ store.links) (taken : IsTakenBack was command.entries is) where
+    pub world_back : world_of new ≡ back command (world_of store)
+    world_back = new_is_back store new command.table was is there turned command refl taken.slots
+
+    -- Once it is taken back the others can be.
+    pub CanUndo-back : CanUndo new undo
+    CanUndo-back = record {
+      spare = each_spare store new command.table was is there turned links taken.form.width taken.form.key (λ p s. HasSpare (owed p undo) s)
+          (taken.spare (owed command.table undo) (newest_spare was there))
+          (λ other stored apart at.
+          HasSpare-less (owed other (undo ++ command ∷ [])) (owed other undo) stored (omega (arith, owed-push other undo command))
+          (can.spare other stored at));
+      back =
+          subst (λ (hs : List Heading). GoesBack hs new.links undo (world_of new))
+          (sym (headings_turned store new command.table was is there turned taken.form.width taken.form.key))
+          (subst (λ (ls : List Reference). GoesBack (headings_of store) ls undo (world_of new)) (sym links)
+          (subst (GoesBack (headings_of store) store.links undo) (sym world_back)
+          (GoesBack-older (headings_of store) store.links undo (command ∷ []) (world_of store) can.back)));
+    }

@@ -1,0 +1,58 @@
+use Rattle.std.proofs.Common.{◌≡◌, [], ◌∷◌, ◌++◌, ◌<◌, List, length, refl, sym, ap, ◌∙◌, subst, arith}
+use Rattle.std.specs.Prelude.{map}
+use Rattle.std.specs.List.{All}
+use Rattle.std.proofs.lemmas.List.{length-set}
+use Rattle.std.proofs.lemmas.List.Elements.{All-weaker}
+use Rattle.mm_relation.specs.Kept.{StoredRows}
+use Rattle.mm_relation.specs.RowLists.{rows_of}
+use Rattle.mm_store.specs.Tally.{noted_of}
+use Rattle.mm_store.specs.Worlds.{Noted}
+use Rattle.mm_store.proofs.Forms.{forms_same, forms_turned, forms_twice}
+use Rattle.mm_store.proofs.HiddenRows.{AllHidden, AllHidden-less, AllHidden-start, All_left, map_rows_turned, newest_hidden, tables_there}
+use Rattle.mm_store.proofs.Joining.{some_at}
+use Rattle.mm_store.proofs.store.Store.settle.Goals as goal
+
+pub loop-command-init : goal.loop-command-init
+loop-command-init c = record {
+  hidden = AllHidden-start c.args.self.now c.args.undo.now c.requires;
+  there = tables_there c.args.self.now c.args.undo.now c.requires;
+  rows = refl;
+  form = forms_same c.args.self.now.tables;
+  links = refl;
+}
+
+pub finish-requires-clause-hidden : goal.finish-requires-clause-hidden
+finish-requires-clause-hidden c =
+    let store = c.loop-command.self in
+    let hidden : AllHidden store (c.pop.new.self ++ noted_of c.in-Some.command ∷ []) =
+    subst (AllHidden store) c.in-Some.ensures c.loop-command.invariant.hidden in
+    newest_hidden store c.pop.new.self (noted_of c.in-Some.command) hidden
+
+pub loop-command-preserved : goal.loop-command-preserved
+loop-command-preserved c =
+    let store = c.loop-command.self in
+    let new = c.finish.new.self in
+    let older = c.pop.new.self in
+    let command : Noted = noted_of c.in-Some.command in
+    let before_it = c.loop-command.invariant in
+    let hidden : AllHidden store (older ++ command ∷ []) = subst (AllHidden store) c.in-Some.ensures before_it.hidden in
+    let there : All (λ (x : Noted). x.table < length store.tables) (older ++ command ∷ []) =
+    subst (All (λ (x : Noted). x.table < length store.tables)) c.in-Some.ensures before_it.there in
+    let parts = All_left (λ (x : Noted). x.table < length store.tables) older command there in
+    let was = some_at store.tables command.table parts.1 in
+    let done = c.finish.ensures.settled was.0 was.1 in
+    let many : length new.tables ≡ length store.tables =
+    ap (λ (ts : List StoredRows). length ts) done.1 ∙ length-set store.tables command.table done.0 in
+    record {
+      hidden =
+          subst (AllHidden new) (sym c.keep.ensures) (AllHidden-less store older command hidden new was.0 done.0 was.1 done.1 done.2);
+      there =
+          subst (All (λ (x : Noted). x.table < length new.tables)) (sym c.keep.ensures)
+          (All-weaker (λ (x : Noted). x.table < length store.tables) (λ (x : Noted). x.table < length new.tables) (λ x inside. omega (arith, inside, many))
+          older parts.0);
+      rows = map_rows_turned store new command.table was.0 done.0 was.1 done.1 done.2.rows ∙ before_it.rows;
+      form =
+          forms_twice c.args.self.now.tables store.tables new.tables before_it.form
+          (forms_turned store new command.table was.0 done.0 was.1 done.1 done.2.form);
+      links = c.finish.ensures.links ∙ before_it.links;
+    }

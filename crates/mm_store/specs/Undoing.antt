@@ -1,0 +1,75 @@
+-- When the commands of a log can be taken back.
+use Rattle.std.specs.Prelude.{◌≡◌, ◌≢◌, ℕ, ◌≤◌, ◌==◌, cond, List, [], ◌∷◌, length, map, Some, slice_get, sum_by, All, AllPairs, Contains}
+use Rattle.mm_partition.specs.Places.{Live}
+use Rattle.mm_relation.specs.Before.{StandsBack}
+use Rattle.mm_relation.specs.Differs.{Differs}
+use Rattle.mm_relation.specs.Edits.{entry_name, named}
+use Rattle.mm_relation.specs.Index.{spare_of}
+use Rattle.mm_relation.specs.Kept.{StoredRows}
+use Rattle.mm_relation.specs.Lawful.{IsLawful}
+use Rattle.mm_relation.specs.Refs.{HasRow, Slots}
+use Rattle.mm_relation.specs.declared.names.Side.TheVariants.{New, Old}
+use Rattle.mm_schema.specs.declared.reference.Reference.{Reference}
+use Rattle.mm_value.specs.declared.row_ref.RowRef.{RowRef}
+use Rattle.mm_value.specs.declared.values.Value.{Value}
+use Rattle.mm_store.specs.Links.{HasTargetRow, RefersTo}
+use Rattle.mm_store.specs.Tables.{IsAt, Tables}
+use Rattle.mm_store.specs.Worlds.{Noted, World, back_all, stood, world_of}
+
+-- How many columns a table has, and which of them is its key.
+pub record Heading : Type 0 where
+  pub width : ℕ
+  pub key : ℕ
+
+-- The heading of a relation.
+abbrev pub heading_of : StoredRows → Heading
+heading_of stored = record { width = stored.width; key = stored.key }
+
+-- The headings of all tables.
+abbrev pub headings_of : Tables → List Heading
+headings_of store = map heading_of store.tables
+
+-- No more than so many rows stand.
+abbrev pub HasAtMost : ℕ → Slots → Type 0
+HasAtMost n slots = (refs : List RowRef) → AllPairs (λ a b. a ≢ b) refs → All (HasRow slots) refs → length refs ≤ n
+
+-- The command can be taken back from what stands now: its entries tell of its table, the rows that stood before it are
+-- lawful and few, each of them has its targets, and each row of another table that refers to a row now referred to it before.
+pub record IsReversible (headings : List Heading) (links : List Reference) (command : Noted) (now : World) : Type 0 where
+  pub heading : Heading
+  pub there : slice_get headings command.table ≡ Some heading
+  pub stands : StandsBack command.entries (now command.table)
+  pub differs : Differs (now command.table) (stood command now) (named entry_name New command.entries) (named entry_name Old command.entries)
+  pub lawful : IsLawful heading.width heading.key (stood command now)
+  pub few : HasAtMost 1048576 (stood command now)
+  pub targets : (reference : Reference) → Contains links reference → reference.from ≡ command.table
+      → (other : Heading) → slice_get headings reference.to ≡ Some other
+      → (at : RowRef) (row : List Value) → stood command now at ≡ Live row → HasTargetRow reference.column other.key (now reference.to) row
+  pub referred : (reference : Reference) → Contains links reference → reference.to ≡ command.table
+      → (from : RowRef) (row : List Value) → now reference.from from ≡ Live row
+      → (at : RowRef) → RefersTo reference.column heading.key (now command.table) row at
+      → RefersTo reference.column heading.key (stood command now) row at
+
+-- Each command can be taken back once the newer ones are.
+abbrev pub GoesBack : List Heading → List Reference → List Noted → World → Type 0
+GoesBack headings links [] now = Unit {0}
+GoesBack headings links (command ∷ newer) now =
+    GoesBack headings links newer now × IsReversible headings links command (back_all newer now)
+
+-- How many entries a command puts into each index of a table when it is taken back: one for each row that it changed or removed.
+abbrev pub owed_by : ℕ → Noted → ℕ
+owed_by table command = cond (command.table == table) (length (named entry_name Old command.entries)) 0
+
+-- How many entries all commands put into each index of a table when they are taken back.
+abbrev pub owed : ℕ → List Noted → ℕ
+owed table undo = sum_by (owed_by table) undo
+
+-- The key index of a relation and each further one take so many more entries without growing.
+pub record HasSpare (n : ℕ) (stored : StoredRows) : Type 0 where
+  pub key : n ≤ stored.spare
+  pub each : All (λ x. n ≤ spare_of x) stored.indexes
+
+-- All commands of the log can be taken back, the newest first, and no index has to grow for it.
+pub record CanUndo (store : Tables) (undo : List Noted) : Type 0 where
+  pub spare : (place : ℕ) (stored : StoredRows) → IsAt store place stored → HasSpare (owed place undo) stored
+  pub back : GoesBack (headings_of store) store.links undo (world_of store)
