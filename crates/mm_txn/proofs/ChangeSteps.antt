@@ -35,10 +35,10 @@ use Rattle.mm_query.specs.declared.command.Mutation.{Mutation}
 use Rattle.mm_query.specs.declared.command.Mutation.TheVariants as written
 use Rattle.mm_query.proofs.Binds.{bound_pairs, bound_place, delete_pairs, update_pairs}
 use Rattle.mm_query.proofs.Due.{due_in_front_of_rows, passes_at_place}
-use Rattle.mm_txn.specs.Kept.{AreOf, instance_of}
+use Rattle.mm_txn.specs.Kept.{AreOf, instance_of, state_of}
 use Rattle.mm_txn.specs.TableEdits.{AreEditsOf}
 use Rattle.mm_txn.proofs.ReferenceRows.{AreToOthers, all_there, lacks_are, loses_are, others_at}
-use Rattle.mm_txn.proofs.DatabaseSteps.{change_is, due_of_rows, key_is, new_rows_in, rows_of_name, rows_there, some_there, state_of}
+use Rattle.mm_txn.proofs.DatabaseSteps.{change_is, due_of_rows, key_is, new_rows_in, rows_of_name, rows_there, some_there}
 use Rattle.mm_txn.proofs.RowsBeside.{AreOf-set, beside, instance_of-set}
 
 -- ---- what was bound
@@ -257,7 +257,7 @@ module _ (schema : Schema) (rs : List StoredRows) (are : AreOf schema.tables rs)
         let stored = stored_there.0 in
         let there = stored_there.1 in
         let new = each stored there in (
-          ap (λ rows. record { schema = schema; rows = rows })
+          ap (λ rows. record { schema = schema; rows = rows; saved = None })
               (ap instance_of new.1 ∙ instance_of-set rs place stored new.0 there new.2.rows_are),
           subst (AreOf schema.tables) (sym new.1) (AreOf-set schema.tables rs place stored new.0 there new.2.key new.2.width new.2.indexes are),
         )

@@ -16,25 +16,19 @@ use Rattle.mm_schema.proofs.Places.{place_from_some, place_within}
 use Rattle.mm_query.specs.Binding.{binding_conditions}
 use Rattle.mm_query.specs.Edits.{changed_table, own_pairs, value_conditions}
 use Rattle.mm_query.specs.Machine.{after_change, after_definition, change_conditions, some_is_referred, some_lacks_target}
-use Rattle.mm_query.specs.State.{State, rows_in}
+use Rattle.mm_query.specs.State.{rows_in}
 use Rattle.mm_query.specs.declared.command.Definition.TheVariants as define
 use Rattle.mm_query.specs.declared.command.Mutation.{Mutation}
 use Rattle.mm_query.proofs.Due.{due_behind_values, key_at_place}
-use Rattle.mm_txn.specs.Kept.{AreIndexes, AreOf, instance_of}
+use Rattle.mm_txn.specs.Kept.{AreIndexes, AreOf, instance_of, state_of}
 use Rattle.mm_txn.proofs.RowsBeside.{AreOf-push, as_many_rows, beside, changed_at_place, dropped_at_place, rows_after_change, rows_at_place}
-
--- ---- the state
-
--- the state of a catalog and of the rows beside its tables
-abbrev pub state_of : Schema → List StoredRows → State
-state_of schema rs = record { schema = schema; rows = instance_of rs }
 
 module _ (schema : Schema) (rs : List StoredRows) (are : AreOf schema.tables rs) where
   -- A new table beside which there are no rows is a new table of the state, ..
   pub table_added : (definition : TableDef) (stored : StoredRows) → rows_of stored ≡ []
       → state_of (with_table definition schema) (rs ++ stored ∷ []) ≡ after_definition (define.Table definition) (state_of schema rs)
   table_added definition stored none =
-      ap (λ rows. record { schema = with_table definition schema; rows = rows })
+      ap (λ rows. record { schema = with_table definition schema; rows = rows; saved = None })
       (map-append (λ (k : StoredRows). rows_of k) rs (stored ∷ []) ∙ ap (λ rows. instance_of rs ++ rows ∷ []) none)
 
   -- .. and those are its rows.
@@ -80,7 +74,7 @@ module _ (schema : Schema) (rs : List StoredRows) (are : AreOf schema.tables rs)
   table_dropped name place placed distinct =
       let found : place ≡ position_or_len (λ t. same_name name t.definition.name) schema.tables = place_found name place placed in
       let both = dropped_at_place name schema.tables rs are distinct (subst (λ p. p < length rs) found (rows_there name place placed)) in (
-        ap (λ rows. record { schema = without_table name schema; rows = rows }) (ap (λ p. instance_of (remove rs p)) found ∙ sym both.0),
+        ap (λ rows. record { schema = without_table name schema; rows = rows; saved = None }) (ap (λ p. instance_of (remove rs p)) found ∙ sym both.0),
         subst (λ p. AreOf (without_table name schema).tables (remove rs p)) (sym found) both.1,
       )
 
@@ -108,7 +102,7 @@ module _ (schema : Schema) (rs : List StoredRows) (are : AreOf schema.tables rs)
     pub change_is : HasDistinctNames schema → (new : StoredRows) → rows_of new ≡ changed stored.key pairs (rows_of stored)
         → state_of schema (slice_set rs place new) ≡ after_change mutation (state_of schema rs)
     change_is distinct new is =
-        ap (λ rows. record { schema = schema; rows = rows })
+        ap (λ rows. record { schema = schema; rows = rows; saved = None })
         (sym (ap (λ (ps : List Pair). changed_instance schema.tables (edits_of_one (changed_table mutation) ps) (instance_of rs)) are_pairs
         ∙ rows_changed (changed_table mutation) place placed stored there distinct new pairs is))
 

@@ -6,4 +6,5 @@ mod IndexesBeside
 mod KeptReferences
 mod ReferenceRows
 mod RowsBeside
+mod SavedRows
 mod Selecting

@@ -16,7 +16,7 @@ use Rattle.mm_relation.specs.declared.index.Index.{Index}
 use Rattle.mm_schema.specs.declared.column.Column.{Column}
 use Rattle.mm_schema.specs.declared.index.IndexDef.{IndexDef}
 use Rattle.mm_relation.specs.RowLists.{rows_of}
-use Rattle.mm_store.specs.Tables.{HasRows}
+use Rattle.mm_store.specs.Tables.{HasRows, SameForm}
 
 -- There are as many rows as tables.
 pub as_many_rows : (ts : List Table) (rs : List StoredRows) → AreOf ts rs → length rs ≡ length ts
@@ -100,6 +100,24 @@ AreOf-set (t ∷ ts) (r ∷ rs) zero old new h key width indexes are =
 AreOf-set (t ∷ ts) (r ∷ rs) (suc place) old new h key width indexes are = (are.0, AreOf-set ts rs place old new h key width indexes are.1)
 AreOf-set ts [] place old new h key width indexes are = cc
 AreOf-set [] (r ∷ rs) place old new h key width indexes are = absurd are
+
+-- Relations that have the columns, the keys and the indexes that they had are those of the same tables.
+pub AreOf-formed : (ts : List Table) (rs new : List StoredRows) → EachTurns SameForm rs new → AreOf ts rs → AreOf ts new
+AreOf-formed [] [] [] formed are = tt
+AreOf-formed [] [] (n ∷ ns) formed are = absurd (let size = formed.size in omega arith)
+AreOf-formed [] (r ∷ rs) new formed are = absurd are
+AreOf-formed (t ∷ ts) [] new formed are = absurd are
+AreOf-formed (t ∷ ts) (r ∷ rs) [] formed are = absurd (let size = formed.size in omega arith)
+AreOf-formed (t ∷ ts) (r ∷ rs) (n ∷ ns) formed are =
+    let first : SameForm r n = formed.each 0 r (omega arith) in
+    let later : EachTurns SameForm rs ns = record { size = (let size = formed.size in omega arith); each = λ k e below. formed.each (suc k) e (omega arith) } in (
+      record {
+        key = first.key ∙ are.0.key;
+        width = first.width ∙ are.0.width;
+        indexes = AreIndexes-turned t.definition.columns t.indexes r.indexes n.indexes first.indexes are.0.indexes;
+      },
+      AreOf-formed ts rs ns later are.1,
+    )
 
 -- What stands at a place may be put there.
 pub set_itself : (rs : List StoredRows) (place : ℕ) (stored : StoredRows) → slice_get rs place ≡ Some stored → rs ≡ slice_set rs place stored

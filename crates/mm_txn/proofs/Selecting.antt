@@ -25,7 +25,7 @@ use Rattle.mm_store.specs.Tables.{Tables, rows_at}
 use Rattle.mm_templist.specs.Combos.{Combos, combo_rows}
 use Rattle.mm_templist.specs.Results.{projected_rows, result_rows}
 use Rattle.mm_value.specs.declared.values.Value.{Value}
-use Rattle.mm_txn.specs.Kept.{AreOf, instance_of}
+use Rattle.mm_txn.specs.Kept.{AreOf, state_of}
 use Rattle.mm_txn.proofs.DatabaseSteps.{rows_of_name, rows_there}
 
 -- ---- the tables of FROM
@@ -41,7 +41,7 @@ entry [] place inside = absurd (omega (arith, inside))
 
 module _ (schema : Schema) (store : Tables) (are : AreOf schema.tables store.tables) where
   abbrev state : State
-  state = record { schema = schema; rows = instance_of store.tables }
+  state = state_of schema store.tables
 
   -- The relation at the place of a table's name is there, and has its rows.
   record IsFound (name : List ℕ) : Type 0 where

@@ -1,5 +1,5 @@
 -- How the database keeps the machine's state: a catalog, and beside each of its tables a relation.
-use Rattle.std.specs.Prelude.{◌≡◌, List, [], ◌∷◌, Some, length, map}
+use Rattle.std.specs.Prelude.{◌≡◌, List, [], ◌∷◌, Some, None, length, map}
 use Rattle.mm_relation.specs.Index.{column_of, kind_of}
 use Rattle.mm_relation.specs.Kept.{StoredRows}
 use Rattle.mm_relation.specs.RowLists.{rows_of}
@@ -12,10 +12,15 @@ use Rattle.mm_schema.specs.declared.column.Column.{Column}
 use Rattle.mm_schema.specs.declared.index.IndexDef.{IndexDef}
 use Rattle.mm_schema.specs.declared.table.Table.{Table}
 use Rattle.mm_store.specs.Tables.{Tables}
+use Rattle.mm_query.specs.State.{State}
 
 -- The rows of each relation.
 abbrev pub instance_of : List StoredRows → Instance
 instance_of stored = map rows_of stored
+
+-- The state of a catalog and of the rows beside its tables, where no transaction is open.
+abbrev pub state_of : Schema → List StoredRows → State
+state_of schema stored = record { schema = schema; rows = instance_of stored; saved = None }
 
 -- The index is on the column that is named, and of the kind.
 pub record IsIndex (columns : List Column) (definition : IndexDef) (index : Index) : Type 0 where

@@ -1,3 +1,4 @@
 pub mod Along
 pub mod Kept
+pub mod Saved
 pub mod TableEdits

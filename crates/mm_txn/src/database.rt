@@ -1,47 +1,57 @@
 //! The database: its calls are steps of the machine of row lists.
-ghost use Rattle.std.specs.Prelude.{◌≡◌, ◌<◌, ◌≤◌, Some, None, IfOk, OnOk, OnErr, MatchResult, length, pos};
+ghost use Rattle.std.specs.Prelude.{◌≡◌, ◌<◌, ◌≤◌, false, [], Some, None, IfOk, OnOk, OnErr, MatchResult, length, pos};
 ghost use Rattle.mm_relation.specs.Kept.{StoredRows};
 ghost use Rattle.mm_relation.specs.RowLists.{rows_of};
 ghost use Rattle.mm_schema.specs.Refused.{AnswersDue, first_refusal};
-ghost use Rattle.mm_store.specs.Tables.{AreFit, HasRows, IsAt, Turns, edit_conditions, rows_with};
+ghost use Rattle.mm_relation.specs.Index.{EachTurns};
+ghost use Rattle.mm_store.specs.Marks.{rows_at_mark};
+ghost use Rattle.mm_store.specs.Tables.{AreFit, HasRows, IsAt, SameForm, Turns, edit_conditions, rows_with};
+ghost use Rattle.mm_store.specs.Undoing.{CanUndo};
 ghost use Rattle.mm_query.specs.Edits.{own_pairs};
 ghost use Rattle.mm_query.specs.Machine.{conditions, plan_in, rows_by_index, state_after};
 ghost use Rattle.mm_query.specs.Resolving.{selected};
 ghost use Rattle.mm_query.specs.State.{first_state, rows_in};
-ghost use Rattle.mm_query.specs.declared.command.Command.TheVariants.{Define, Change, Scan, ScanIndex, Select, Explain};
-ghost use Rattle.mm_query.specs.declared.command.Definition.TheVariants as define;
+ghost use Rattle.mm_query.specs.declared.command.Command.TheVariants.{Define, Change, Scan, ScanIndex, Select, Explain, Begin, Commit, Rollback};
 ghost use Rattle.mm_value.specs.declared.values.Value.TheVariants.{Int};
 ghost use Rattle.mm_txn.specs.Along.{IsAlong};
+ghost use Rattle.mm_txn.specs.Kept.{instance_of};
+ghost use Rattle.mm_txn.specs.Saved.{saved_rows};
 
+use crate::definitions::define;
 use crate::edits::{TableEdits, edits_of};
 use crate::explain::explain_query;
 use crate::select::select_rows;
 use mm_query::{Definition, ItemList, Mutation, PlanLine, Query};
 use mm_relation::{Edit, Relation};
-use mm_schema::{Catalog, IndexDef, IndexKind, Name, TableDef};
+use mm_schema::{Catalog, IndexKind, Name};
 use mm_store::{Store, Undo};
 use mm_templist::ShownRows;
 use mm_value::{Refusal, Value};
-use std::alloc::{AllocError, Global};
+use std::alloc::Global;
 use std::marker::Model;
 
-/// A database: the catalog, and beside it the rows of its tables. A refused call changes nothing.
+/// A database: the catalog, and beside it the rows of its tables. A refused call changes nothing. In a transaction, from
+/// [`Db::begin`] to [`Db::commit`] or [`Db::rollback`], a log tells how to take back what was changed.
 #[derive(Drop)]
 pub struct Db {
     catalog: Catalog,
     store: Store,
+    /// What the open transaction has changed. Outside one it is empty, since each command is final at once.
     undo: Undo,
+    /// Whether a transaction is open.
+    is_open: bool,
 }
 
 impl Model for Db {
     ghost use Rattle.mm_query.specs.State.{State};
-    ghost use Rattle.mm_txn.specs.Kept.{AreKept, instance_of};
+    ghost use Rattle.mm_txn.specs.Kept.{instance_of};
+    ghost use Rattle.mm_txn.specs.Saved.{IsConsistent, saved_rows};
 
     ghost Value = { State };
 
-    ghost view = { λ d. record { schema = d.catalog; rows = instance_of d.store.tables } };
+    ghost view = { λ d. record { schema = d.catalog; rows = instance_of d.store.tables; saved = saved_rows d.is_open d.undo d.store } };
 
-    ghost invariant = { λ d. AreKept d.catalog d.store };
+    ghost invariant = { λ d. IsConsistent d.catalog d.store d.undo d.is_open };
 }
 
 impl Db {
@@ -53,103 +63,78 @@ impl Db {
             catalog: Catalog::new(alloc),
             store: Store::new(alloc),
             undo: Undo::new(alloc),
+            is_open: false,
         }
+    }
+
+    /// Begins a transaction. `TransactionOpen` where one is open. It takes no memory and no time that grows with the rows.
+    pub fn begin(&mut self) -> Result<(), Refusal>
+        ensures due { MatchResult result (λ _. first_refusal (conditions Begin self.old) ≡ None)
+            (λ refusal. first_refusal (conditions Begin self.old) ≡ Some refusal) }
+        ensures ok { OnOk result (self.new ≡ state_after Begin self.old) }
+        ensures err { OnErr result (self.new ≡ self.old) }
+    {
+        if self.is_open {
+            return Err(Refusal::TransactionOpen);
+        }
+        self.store.rows_stand();
+        self.is_open = true;
+        Ok(())
+    }
+
+    /// Ends a transaction and keeps what it changed. `NoTransaction` where none is open. It takes no memory, and looks at each
+    /// change of the transaction once.
+    pub fn commit(&mut self) -> Result<(), Refusal>
+        ensures due { MatchResult result (λ _. first_refusal (conditions Commit self.old) ≡ None)
+            (λ refusal. first_refusal (conditions Commit self.old) ≡ Some refusal) }
+        ensures ok { OnOk result (self.new ≡ state_after Commit self.old) }
+        ensures err { OnErr result (self.new ≡ self.old) }
+    {
+        if !self.is_open {
+            return Err(Refusal::NoTransaction);
+        }
+        settle_outside(false, &mut self.store, &mut self.undo);
+        self.is_open = false;
+        Ok(())
+    }
+
+    /// Ends a transaction and takes back what it changed: the rows are those at [`Db::begin`]. `NoTransaction` where none is open.
+    /// It takes no memory, so it can always be done. The changes are undone command by command, the newest first, as by the undo
+    /// log of Gray.
+    pub fn rollback(&mut self) -> Result<(), Refusal>
+        ensures due { MatchResult result (λ _. first_refusal (conditions Rollback self.old) ≡ None)
+            (λ refusal. first_refusal (conditions Rollback self.old) ≡ Some refusal) }
+        ensures ok { OnOk result (self.new ≡ state_after Rollback self.old) }
+        ensures err { OnErr result (self.new ≡ self.old) }
+    {
+        if !self.is_open {
+            return Err(Refusal::NoTransaction);
+        }
+        self.store.revert(&mut self.undo, 0);
+        self.is_open = false;
+        Ok(())
     }
 
     /// Changes the catalog. A new table comes last and has no rows; a table that is dropped takes its rows and its indexes with it,
     /// and those behind it move up; a new index is one over the rows that are there.
     ///
-    /// The first refusal that is due is answered. To a new table: `NoSuchTable` where a column refers to a table that isn't there;
-    /// `NameTaken` where its name is taken or a column stands twice; `TypeMismatch` where a column differs in type from the key of
-    /// the table that it refers to; `TooMany` where there are 64 tables already or it has more than 16 columns. To a table that is
-    /// dropped: `NoSuchTable` where none has the name; `InUse` where a column of another table refers to it. To a new index:
-    /// `NoSuchTable` and `NoSuchColumn` where its table or its column isn't there; `NameTaken` where an index of any table has its
-    /// name; `TooMany` where its table has 16 indexes already. To an index that is dropped: `NoSuchIndex` where none has the name.
-    /// `Memory` may come in their place and in that of success.
+    /// The first refusal that is due is answered: `NotInTransaction` where a transaction is open. To a new table: `NoSuchTable`
+    /// where a column refers to a table that isn't there; `NameTaken` where its name is taken or a column stands twice;
+    /// `TypeMismatch` where a column differs in type from the key of the table that it refers to; `TooMany` where there are 64
+    /// tables already or it has more than 16 columns. To a table that is dropped: `NoSuchTable` where none has the name; `InUse`
+    /// where a column of another table refers to it. To a new index: `NoSuchTable` and `NoSuchColumn` where its table or its
+    /// column isn't there; `NameTaken` where an index of any table has its name; `TooMany` where its table has 16 indexes
+    /// already. To an index that is dropped: `NoSuchIndex` where none has the name. `Memory` may come in their place and in that
+    /// of success.
     pub fn define(&mut self, alloc: Global, definition: Definition) -> Result<(), Refusal>
         ensures due { AnswersDue (first_refusal (conditions (Define definition) self.old)) result }
         ensures ok { OnOk result (self.new ≡ state_after (Define definition) self.old) }
         ensures err { OnErr result (self.new ≡ self.old) }
     {
-        match definition {
-            Definition::Table(definition) => self.add_table(alloc, definition),
-            Definition::DropTable(name) => self.drop_table(&name),
-            Definition::Index(index) => self.add_index(alloc, index),
-            Definition::DropIndex(name) => self.drop_index(&name),
+        if self.is_open {
+            return Err(Refusal::NotInTransaction);
         }
-    }
-
-    /// Adds a table with no rows, which comes last. The refusals are those of [`Catalog::add_table`].
-    fn add_table(&mut self, alloc: Global, definition: TableDef) -> Result<(), Refusal>
-        ensures due { AnswersDue (first_refusal (conditions (Define (define.Table definition)) self.old)) result }
-        ensures ok { OnOk result (self.new ≡ state_after (Define (define.Table definition)) self.old) }
-        ensures err { OnErr result (self.new ≡ self.old) }
-    {
-        if let Some(refusal) = self.catalog.table_refusal(&definition) {
-            return Err(refusal);
-        }
-        let references = self.catalog.references(alloc, &definition.columns)?;
-        let width = definition.columns.as_slice().len();
-        let key = definition.columns.key();
-        self.store
-            .add_table(alloc, width, key, references.as_slice())?;
-        if let Err(refusal) = self.catalog.add_table(definition) {
-            self.store.drop_table(self.store.len() - 1);
-            return Err(refusal);
-        }
-        Ok(())
-    }
-
-    /// Drops a table with its rows and indexes; those behind it move up. The refusals are those of [`Catalog::drop_table`].
-    fn drop_table(&mut self, name: &Name) -> Result<(), Refusal>
-        ensures due { AnswersDue (first_refusal (conditions (Define (define.DropTable name.now)) self.old)) result }
-        ensures ok { OnOk result (self.new ≡ state_after (Define (define.DropTable name.now)) self.old) }
-        ensures err { OnErr result (self.new ≡ self.old) }
-    {
-        let place = self.catalog.place_of(name).ok_or(Refusal::NoSuchTable)?;
-        self.catalog.drop_table(name)?;
-        self.store.drop_table(place);
-        Ok(())
-    }
-
-    /// Makes an index over the rows that are there. The refusals are those of [`Catalog::add_index`].
-    fn add_index(&mut self, alloc: Global, index: IndexDef) -> Result<(), Refusal>
-        ensures due { AnswersDue (first_refusal (conditions (Define (define.Index index)) self.old)) result }
-        ensures ok { OnOk result (self.new ≡ state_after (Define (define.Index index)) self.old) }
-        ensures err { OnErr result (self.new ≡ self.old) }
-    {
-        let place = self
-            .catalog
-            .place_of(&index.table)
-            .ok_or(Refusal::NoSuchTable)?;
-        let columns = &self.catalog.table_at(place).definition.columns;
-        let column = columns
-            .place_of(&index.column)
-            .ok_or(Refusal::NoSuchColumn)?;
-        let (name, kind) = (index.name.copy(), index.kind);
-        self.catalog.add_index(index)?;
-        if let Err(AllocError) = self.store.add_index(alloc, place, column, kind) {
-            let _ = self.catalog.drop_index(&name);
-            return Err(Refusal::Memory);
-        }
-        Ok(())
-    }
-
-    /// Drops an index. `NoSuchIndex` where none has the name.
-    fn drop_index(&mut self, name: &Name) -> Result<(), Refusal>
-        ensures due { AnswersDue (first_refusal (conditions (Define (define.DropIndex name.now)) self.old)) result }
-        ensures ok { OnOk result (self.new ≡ state_after (Define (define.DropIndex name.now)) self.old) }
-        ensures err { OnErr result (self.new ≡ self.old) }
-    {
-        let table = self
-            .catalog
-            .place_with_index(name)
-            .ok_or(Refusal::NoSuchIndex)?;
-        let indexes = &self.catalog.table_at(table).indexes;
-        let index = indexes.place_of(name).ok_or(Refusal::NoSuchIndex)?;
-        self.catalog.drop_index(name)?;
-        self.store.drop_index(table, index);
-        Ok(())
+        define(alloc, &mut self.catalog, &mut self.store, definition)
     }
 
     /// Changes the rows of a table, and tells how many rows that concerned: those that came, that meet the tests of an UPDATE, or
@@ -171,6 +156,7 @@ impl Db {
         let TableEdits { table, edits } = edits_of(alloc, &self.catalog, &self.store, mutation)?;
         let count = edits.len();
         make_edits(alloc, &mut self.store, table, edits, &mut self.undo)?;
+        settle_outside(self.is_open, &mut self.store, &mut self.undo);
         Ok(count)
     }
 
@@ -252,7 +238,8 @@ pub struct Along<'a> {
     pub kind: IndexKind,
 }
 
-/// Makes all edits of a table that its rows allow, or none. The refusals are those of [`Store::check`].
+/// Makes all edits of a table that its rows allow, and notes them in the log, or none. The refusals are those of
+/// [`Store::check`].
 fn make_edits(
     alloc: Global,
     store: &mut Store,
@@ -262,6 +249,7 @@ fn make_edits(
 ) -> Result<(), Refusal>
     requires there { table < length store.old.tables }
     requires fit { (stored : StoredRows) → IsAt store.old table stored → AreFit stored edits.items }
+    requires fits { CanUndo store.old undo.old }
     ensures due { (stored : StoredRows) → IsAt store.old table stored
         → AnswersDue (first_refusal (edit_conditions store.old table stored edits.items)) result }
     ensures ok { OnOk result ((stored : StoredRows) → IsAt store.old table stored
@@ -269,8 +257,26 @@ fn make_edits(
     ensures err { OnErr result ((stored : StoredRows) → IsAt store.old table stored
         → (new : StoredRows) × Turns store.old table new store.new × HasRows stored (rows_of stored) new) }
     ensures links { store.new.links ≡ store.old.links }
+    ensures kept { OnErr result (undo.new ≡ undo.old) }
+    ensures saved { rows_at_mark 0 undo.new store.new ≡ rows_at_mark 0 undo.old store.old }
+    ensures fits { CanUndo store.new undo.new }
 {
     store.check(alloc, table, edits.as_slice())?;
     store.apply(alloc, table, edits, undo)?;
     Ok(())
+}
+
+/// Makes what was done final, unless a transaction is open.
+fn settle_outside(is_open: bool, store: &mut Store, undo: &mut Undo)
+    requires { CanUndo store.old undo.old }
+    ensures rows { instance_of store.new.tables ≡ instance_of store.old.tables }
+    ensures form { EachTurns SameForm store.old.tables store.new.tables }
+    ensures links { store.new.links ≡ store.old.links }
+    ensures saved { saved_rows is_open undo.new store.new ≡ saved_rows is_open undo.old store.old }
+    ensures fits { CanUndo store.new undo.new }
+    ensures settled { is_open ≡ false → undo.new ≡ [] }
+{
+    if !is_open {
+        store.settle(undo);
+    }
 }

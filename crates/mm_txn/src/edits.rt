@@ -4,7 +4,7 @@ ghost use Rattle.mm_schema.specs.Refused.{AnswersDue, first_refusal};
 ghost use Rattle.mm_schema.specs.Schema.{HasDistinctNames};
 ghost use Rattle.mm_query.specs.Binding.{binding_conditions};
 ghost use Rattle.mm_query.specs.Edits.{value_conditions};
-ghost use Rattle.mm_txn.specs.Kept.{AreOf, instance_of};
+ghost use Rattle.mm_txn.specs.Kept.{AreOf, state_of};
 ghost use Rattle.mm_txn.specs.TableEdits.{AreEditsOf};
 
 use mm_edits::{additions, removals, updates};
@@ -34,7 +34,7 @@ pub(crate) fn edits_of(
 ) -> Result<TableEdits, Refusal>
     requires { AreOf catalog.now.tables store.now.tables }
     ensures due { AnswersDue (first_refusal (binding_conditions mutation catalog.now
-        ++ value_conditions mutation (record { schema = catalog.now; rows = instance_of store.now.tables }))) result }
+        ++ value_conditions mutation (state_of catalog.now store.now.tables))) result }
     ensures ok { IfOk result (λ e. AreEditsOf mutation catalog.now store.now.tables e.table e.edits.items) }
     ensures distinct { HasDistinctNames catalog.now }
 {

@@ -4,7 +4,7 @@ ghost use Rattle.mm_query.specs.Machine.{plan_in};
 ghost use Rattle.mm_query.specs.Resolving.{query_conditions};
 ghost use Rattle.mm_schema.specs.Refused.{AnswersDue, first_refusal};
 ghost use Rattle.mm_value.specs.declared.refusal.Refusal.TheVariants.{Memory};
-ghost use Rattle.mm_txn.specs.Kept.{instance_of};
+ghost use Rattle.mm_txn.specs.Kept.{instance_of, state_of};
 
 use mm_plan::plan;
 use mm_query::{ItemList, PlanLine, Query, bind_query};
@@ -22,7 +22,7 @@ pub(crate) fn explain_query(
     query: &Query,
 ) -> Result<ItemList<PlanLine>, Refusal>
     ensures due { AnswersDue (first_refusal (query_conditions query.now catalog.now)) result }
-    ensures lines { IfOk result (λ lines. lines ≡ plan_in (record { schema = catalog.now; rows = instance_of store.now.tables }) query.now) }
+    ensures lines { IfOk result (λ lines. lines ≡ plan_in (state_of catalog.now store.now.tables) query.now) }
 {
     bind_query(alloc, catalog, query)?;
     plan_now(alloc, catalog, store, query)
@@ -35,7 +35,7 @@ pub(crate) fn plan_now(
     store: &Store,
     query: &Query,
 ) -> Result<ItemList<PlanLine>, Refusal>
-    ensures lines { IfOk result (λ lines. lines ≡ plan_in (record { schema = catalog.now; rows = instance_of store.now.tables }) query.now) }
+    ensures lines { IfOk result (λ lines. lines ≡ plan_in (state_of catalog.now store.now.tables) query.now) }
     ensures memory { IfErr result (λ refusal. refusal ≡ Memory) }
 {
     let counts = row_counts(alloc, store)?;

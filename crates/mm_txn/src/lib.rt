@@ -5,6 +5,7 @@
 #![tactic(auto)]
 
 mod database;
+mod definitions;
 mod edits;
 mod explain;
 mod select;

@@ -3,7 +3,7 @@ ghost use Rattle.std.specs.Prelude.{◌≡◌, IfOk, pos};
 ghost use Rattle.mm_query.specs.Resolving.{select_conditions, selected};
 ghost use Rattle.mm_schema.specs.Refused.{AnswersDue, first_refusal};
 ghost use Rattle.mm_value.specs.declared.values.Value.TheVariants.{Int};
-ghost use Rattle.mm_txn.specs.Kept.{AreOf, instance_of};
+ghost use Rattle.mm_txn.specs.Kept.{AreOf, state_of};
 
 use crate::explain::plan_now;
 use mm_plan::{places_of, run_plan};
@@ -26,8 +26,8 @@ pub(crate) fn select_rows<'s>(
 ) -> Result<ShownRows<'s>, Refusal>
     requires zero { zero.now ≡ Int (pos 0) }
     requires kept { AreOf catalog.now.tables store.now.tables }
-    ensures due { AnswersDue (first_refusal (select_conditions query.now (record { schema = catalog.now; rows = instance_of store.now.tables }))) result }
-    ensures rows { IfOk result (λ rows. rows ≡ selected query.now (record { schema = catalog.now; rows = instance_of store.now.tables })) }
+    ensures due { AnswersDue (first_refusal (select_conditions query.now (state_of catalog.now store.now.tables))) result }
+    ensures rows { IfOk result (λ rows. rows ≡ selected query.now (state_of catalog.now store.now.tables)) }
 {
     let bound = bind_query(alloc, catalog, query)?;
     let tables = places_of(alloc, catalog, bound.from.as_slice())?;

@@ -7,8 +7,8 @@ use Rattle.mm_query.specs.Atoms.{range_conditions}
 use Rattle.mm_query.specs.Binding.{AssignmentsWithin, Binds, TestsWithin}
 use Rattle.mm_query.specs.Edits.{new_values, updates}
 use Rattle.mm_query.proofs.Binds.{delete_place, update_place}
+use Rattle.mm_txn.specs.Kept.{state_of}
 use Rattle.mm_txn.proofs.ChangeSteps.{bound_due, delete_owns, delete_within, insert_edits, place_within_rows, stored_edits, update_due, update_owns, update_within, width_is}
-use Rattle.mm_txn.proofs.DatabaseSteps.{state_of}
 use Rattle.mm_txn.proofs.edits.edits_of.Goals as goal
 
 pub returns-in_err-table-clause-due : goal.returns-in_err-table-clause-due

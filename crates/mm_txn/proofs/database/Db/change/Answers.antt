@@ -1,73 +1,94 @@
--- The new rows of the edits' table are the state's.
-use Rattle.std.proofs.Common.{◌≡◌, ℕ, Err, Ok, length, sym, ap, subst, ◌∙◌, arith}
+-- The new rows of the edits' table are the state's, and what is saved stays.
+use Rattle.std.proofs.Common.{◌≡◌, ℕ, cond, Err, Ok, Some, None, length, ap, ◌∙◌, arith}
 use Rattle.std.proofs.lemmas.Result.{err_from_is_err_and}
-use Rattle.mm_schema.specs.Refused.{AnswersDue, first_refusal}
+use Rattle.mm_schema.specs.Instance.{Instance}
 use Rattle.mm_query.specs.Edits.{own_pairs}
-use Rattle.mm_query.specs.Machine.{after_change, change_conditions}
 use Rattle.mm_query.specs.State.{State}
+use Rattle.mm_txn.specs.Kept.{state_of}
+use Rattle.mm_txn.specs.Saved.{saved_rows}
 use Rattle.mm_txn.proofs.ChangeSteps.{change_done, change_due, change_refused, change_within, early_due, edits_counted}
-use Rattle.mm_txn.proofs.DatabaseSteps.{state_of}
 use Rattle.mm_txn.proofs.KeptReferences.{all_to_others, kept_by_rows}
+use Rattle.mm_txn.proofs.RowsBeside.{AreOf-formed}
+use Rattle.mm_txn.proofs.SavedRows.{done_beside, due_beside, pairs_beside}
 use Rattle.mm_txn.proofs.database.Db.change.Goals as goal
 
 pub returns-in_err-table-clause-due : goal.returns-in_err-table-clause-due
 returns-in_err-table-clause-due c =
     let p = err_from_is_err_and c.from_residual.result c.from_residual.ensures.1 in
-    rw (p.1, p.2) (subst (λ (s : State). AnswersDue {T = ℕ} (first_refusal (change_conditions c.args.mutation s)) (Err c.in_err-table.field-0.0)) c.self.view_is
+    let saved = saved_rows c.self.inside.is_open c.self.inside.undo c.self.inside.store in
+    rw (p.1, p.2) (due_beside c.self.inside.catalog c.self.inside.store.tables saved c.args.mutation c.args.self.now c.self.view_is {T = ℕ} (Err c.in_err-table.field-0.0)
     (early_due c.args.mutation (state_of c.self.inside.catalog c.self.inside.store.tables) c.in_err-table.field-0.0 c.in_err-table.ensures.due))
 
 pub make_edits-requires-clause-there : goal.make_edits-requires-clause-there
 make_edits-requires-clause-there c =
-    change_within c.self.inside.catalog c.self.inside.store.tables c.self.invariant.relations c.args.mutation c.in_ok-table.field-0.table
+    change_within c.self.inside.catalog c.self.inside.store.tables c.self.invariant.kept.relations c.args.mutation c.in_ok-table.field-0.table
     c.in_ok-table.field-0.edits.items c.in_ok-table.ensures.ok
 
 pub invariant_of-self : goal.invariant_of-self
-invariant_of-self c =
-    kept_by_rows c.self.inside.catalog c.self.inside.store c.make_edits.new.store c.self.invariant
-    (change_refused c.self.inside.catalog c.self.inside.store.tables c.self.invariant.relations c.args.mutation c.in_ok-table.field-0.table
-    c.in_ok-table.field-0.edits.items c.in_ok-table.ensures.ok c.make_edits.new.store.tables c.in_err-make_edits.ensures.err).1
-    c.make_edits.ensures.links
+invariant_of-self c = record {
+  kept = kept_by_rows c.self.inside.catalog c.self.inside.store c.make_edits.new.store c.self.invariant.kept
+      (change_refused c.self.inside.catalog c.self.inside.store.tables c.self.invariant.kept.relations c.args.mutation c.in_ok-table.field-0.table
+      c.in_ok-table.field-0.edits.items c.in_ok-table.ensures.ok c.make_edits.new.store.tables c.in_err-make_edits.ensures.err).1
+      c.make_edits.ensures.links;
+  fits = c.make_edits.ensures.fits;
+  settled = λ closed. c.in_err-make_edits.ensures.kept ∙ c.self.invariant.settled closed;
+}
 
 pub returns-in_err-make_edits-clause-due : goal.returns-in_err-make_edits-clause-due
 returns-in_err-make_edits-clause-due c =
     let p = err_from_is_err_and c.from_residual-in_err-make_edits.result c.from_residual-in_err-make_edits.ensures.1 in
-    let due = change_due c.self.inside.catalog c.self.inside.store.tables c.self.invariant.relations c.args.mutation c.in_ok-table.field-0.table
+    let saved = saved_rows c.self.inside.is_open c.self.inside.undo c.self.inside.store in
+    let due = change_due c.self.inside.catalog c.self.inside.store.tables c.self.invariant.kept.relations c.args.mutation c.in_ok-table.field-0.table
     c.in_ok-table.field-0.edits.items c.in_ok-table.ensures.ok c.in_ok-table.ensures.distinct
-    (all_to_others c.self.inside.catalog c.self.invariant.targets c.self.invariant.others) c.in_ok-table.ensures.due
-    c.self.inside.store.links c.self.invariant.links {T = ℕ} (Err c.in_err-make_edits.field-0.0)
+    (all_to_others c.self.inside.catalog c.self.invariant.kept.targets c.self.invariant.kept.others) c.in_ok-table.ensures.due
+    c.self.inside.store.links c.self.invariant.kept.links {T = ℕ} (Err c.in_err-make_edits.field-0.0)
     c.in_err-make_edits.ensures.due in
-    rw (p.1, p.2) (subst (λ (s : State). AnswersDue {T = ℕ} (first_refusal (change_conditions c.args.mutation s)) (Err c.in_err-make_edits.field-0.0))
-    c.self.view_is due)
+    rw (p.1, p.2) (due_beside c.self.inside.catalog c.self.inside.store.tables saved c.args.mutation c.args.self.now c.self.view_is {T = ℕ} (Err c.in_err-make_edits.field-0.0)
+    due)
 
 pub returns-in_err-make_edits-clause-err : goal.returns-in_err-make_edits-clause-err
 returns-in_err-make_edits-clause-err c =
     let p = err_from_is_err_and c.from_residual-in_err-make_edits.result c.from_residual-in_err-make_edits.ensures.1 in
-    rw (p.1) ((change_refused c.self.inside.catalog c.self.inside.store.tables c.self.invariant.relations c.args.mutation c.in_ok-table.field-0.table
-    c.in_ok-table.field-0.edits.items c.in_ok-table.ensures.ok c.make_edits.new.store.tables c.in_err-make_edits.ensures.err).0 ∙ c.self.view_is)
+    let same = (change_refused c.self.inside.catalog c.self.inside.store.tables c.self.invariant.kept.relations c.args.mutation c.in_ok-table.field-0.table
+    c.in_ok-table.field-0.edits.items c.in_ok-table.ensures.ok c.make_edits.new.store.tables c.in_err-make_edits.ensures.err).0 in
+    let saved = ap (λ (rows : Instance). cond c.self.inside.is_open (Some rows) None) c.make_edits.ensures.saved in
+    rw (p.1) ((λ i. record (same i) { saved = saved i }) ∙ c.self.view_is)
 
 pub invariant_of-self-2 : goal.invariant_of-self-2
-invariant_of-self-2 c =
-    kept_by_rows c.self.inside.catalog c.self.inside.store c.make_edits.new.store c.self.invariant
-    (change_done c.self.inside.catalog c.self.inside.store.tables c.self.invariant.relations c.args.mutation c.in_ok-table.field-0.table
-    c.in_ok-table.field-0.edits.items c.in_ok-table.ensures.ok c.make_edits.new.store.tables c.in_ok-table.ensures.distinct c.in_ok-make_edits.ensures.ok).1
-    c.make_edits.ensures.links
+invariant_of-self-2 c = record {
+  kept = kept_by_rows c.self.inside.catalog c.self.inside.store c.settle_outside.new.store c.self.invariant.kept
+      (AreOf-formed c.self.inside.catalog.tables c.make_edits.new.store.tables c.settle_outside.new.store.tables c.settle_outside.ensures.form
+      (change_done c.self.inside.catalog c.self.inside.store.tables c.self.invariant.kept.relations c.args.mutation c.in_ok-table.field-0.table
+      c.in_ok-table.field-0.edits.items c.in_ok-table.ensures.ok c.make_edits.new.store.tables c.in_ok-table.ensures.distinct c.in_ok-make_edits.ensures.ok).1)
+      (c.settle_outside.ensures.links ∙ c.make_edits.ensures.links);
+  fits = c.settle_outside.ensures.fits;
+  settled = c.settle_outside.ensures.settled;
+}
 
 pub returns-clause-due : goal.returns-clause-due
 returns-clause-due c =
-    let due = change_due c.self.inside.catalog c.self.inside.store.tables c.self.invariant.relations c.args.mutation c.in_ok-table.field-0.table
+    let saved = saved_rows c.self.inside.is_open c.self.inside.undo c.self.inside.store in
+    let due = change_due c.self.inside.catalog c.self.inside.store.tables c.self.invariant.kept.relations c.args.mutation c.in_ok-table.field-0.table
     c.in_ok-table.field-0.edits.items c.in_ok-table.ensures.ok c.in_ok-table.ensures.distinct
-    (all_to_others c.self.inside.catalog c.self.invariant.targets c.self.invariant.others) c.in_ok-table.ensures.due
-    c.self.inside.store.links c.self.invariant.links {T = Unit {0}} (Ok tt) c.in_ok-make_edits.ensures.due in
-    sym (ap (λ (s : State). first_refusal (change_conditions c.args.mutation s)) c.self.view_is) ∙ due
+    (all_to_others c.self.inside.catalog c.self.invariant.kept.targets c.self.invariant.kept.others) c.in_ok-table.ensures.due
+    c.self.inside.store.links c.self.invariant.kept.links {T = Unit {0}} (Ok tt) c.in_ok-make_edits.ensures.due in
+    due_beside c.self.inside.catalog c.self.inside.store.tables saved c.args.mutation c.args.self.now c.self.view_is {T = Unit {0}} (Ok tt) due
 
 pub returns-clause-ok : goal.returns-clause-ok
 returns-clause-ok c =
-    (change_done c.self.inside.catalog c.self.inside.store.tables c.self.invariant.relations c.args.mutation c.in_ok-table.field-0.table
-    c.in_ok-table.field-0.edits.items c.in_ok-table.ensures.ok c.make_edits.new.store.tables c.in_ok-table.ensures.distinct c.in_ok-make_edits.ensures.ok).0
-    ∙ ap (after_change c.args.mutation) c.self.view_is
+    let saved = saved_rows c.self.inside.is_open c.self.inside.undo c.self.inside.store in
+    let done = (change_done c.self.inside.catalog c.self.inside.store.tables c.self.invariant.kept.relations c.args.mutation c.in_ok-table.field-0.table
+    c.in_ok-table.field-0.edits.items c.in_ok-table.ensures.ok c.make_edits.new.store.tables c.in_ok-table.ensures.distinct c.in_ok-make_edits.ensures.ok).0 in
+    done_beside c.self.inside.catalog c.self.inside.store.tables saved c.args.mutation c.args.self.now c.self.view_is c.settle_outside.new.store.tables
+    (saved_rows c.self.inside.is_open c.settle_outside.new.undo c.settle_outside.new.store)
+    ((λ i. record { schema = c.self.inside.catalog; rows = c.settle_outside.ensures.rows i; saved = None }) ∙ done)
+    (c.settle_outside.ensures.saved ∙ ap (λ (rows : Instance). cond c.self.inside.is_open (Some rows) None) c.make_edits.ensures.saved)
 
 pub returns-clause-count : goal.returns-clause-count
 returns-clause-count c =
+    let saved = saved_rows c.self.inside.is_open c.self.inside.undo c.self.inside.store in
     let counted : c.len-count.result ≡ length c.in_ok-table.field-0.edits.items = omega (arith, c.len-count.ensures, c.in_ok-table.field-0.edits.ok) in
-    counted ∙ edits_counted c.self.inside.catalog c.self.inside.store.tables c.self.invariant.relations c.args.mutation c.in_ok-table.field-0.table
-    c.in_ok-table.field-0.edits.items c.in_ok-table.ensures.ok ∙ ap (λ (s : State). length (own_pairs c.args.mutation s)) c.self.view_is
+    counted ∙ edits_counted c.self.inside.catalog c.self.inside.store.tables c.self.invariant.kept.relations c.args.mutation c.in_ok-table.field-0.table
+    c.in_ok-table.field-0.edits.items c.in_ok-table.ensures.ok
+    ∙ ap length (pairs_beside c.self.inside.catalog c.self.inside.store.tables saved c.args.mutation)
+    ∙ ap (λ (s : State). length (own_pairs c.args.mutation s)) c.self.view_is

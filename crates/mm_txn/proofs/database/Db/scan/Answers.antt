@@ -21,13 +21,13 @@ returns-in_err-place-clause-due c =
 
 pub table-requires : goal.table-requires
 table-requires c =
-    rows_there c.self.inside.catalog c.self.inside.store.tables c.self.invariant.relations c.args.table.now c.in_ok-place.place
+    rows_there c.self.inside.catalog c.self.inside.store.tables c.self.invariant.kept.relations c.args.table.now c.in_ok-place.place
     (sym c.place_of.ensures.place ∙ c.in_ok-place.ensures.ok_part)
 
 pub returns-clause-due : goal.returns-clause-due
 returns-clause-due c =
     let placed = sym c.place_of.ensures.place ∙ c.in_ok-place.ensures.ok_part in
-    let at = beside c.self.inside.catalog.tables c.self.inside.store.tables c.in_ok-place.place c.table.result.now c.self.invariant.relations c.table.ensures.at in
+    let at = beside c.self.inside.catalog.tables c.self.inside.store.tables c.in_ok-place.place c.table.result.now c.self.invariant.kept.relations c.table.ensures.at in
     let found = not_lacking c.args.table.now c.self.inside.catalog c.in_ok-place.place at.table placed at.there in
     let found_now : lacks_table c.args.table.now
     c.args.self.now.schema ≡ false = sym (ap (λ (s : State). lacks_table c.args.table.now s.schema) c.self.view_is) ∙ found in
@@ -36,6 +36,6 @@ returns-clause-due c =
 pub returns-clause-rows : goal.returns-clause-rows
 returns-clause-rows c =
     let placed = sym c.place_of.ensures.place ∙ c.in_ok-place.ensures.ok_part in
-    sym (rows_of_name c.self.inside.catalog c.self.inside.store.tables c.self.invariant.relations c.args.table.now c.in_ok-place.place placed c.table.result.now
+    sym (rows_of_name c.self.inside.catalog c.self.inside.store.tables c.self.invariant.kept.relations c.args.table.now c.in_ok-place.place placed c.table.result.now
     c.table.ensures.at)
     ∙ ap (λ (s : State). rows_in s c.args.table.now) c.self.view_is

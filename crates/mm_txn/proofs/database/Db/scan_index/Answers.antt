@@ -22,27 +22,27 @@ returns-in_err-index-clause-due c =
 
 pub returns-in_err-at-clause-due : goal.returns-in_err-at-clause-due
 returns-in_err-at-clause-due c =
-    absurd (table_there c.self.inside.catalog c.self.inside.store.tables c.self.invariant.relations c.args.name.now c.in_ok-index.index.now
+    absurd (table_there c.self.inside.catalog c.self.inside.store.tables c.self.invariant.kept.relations c.args.name.now c.in_ok-index.index.now
     (sym c.find_index.ensures.found ∙ ap option_copied c.in_ok-index.ensures.ok_part) c.find_index.ensures.in_place c.place_of.ensures.distinct
     (sym c.place_of.ensures.place ∙ c.in_err-at.ensures.ok_part))
 
 pub returns-in_err-place-clause-due : goal.returns-in_err-place-clause-due
 returns-in_err-place-clause-due c =
-    absurd (index_here c.self.inside.catalog c.self.inside.store.tables c.self.invariant.relations c.args.name.now c.in_ok-index.index.now
+    absurd (index_here c.self.inside.catalog c.self.inside.store.tables c.self.invariant.kept.relations c.args.name.now c.in_ok-index.index.now
     (sym c.find_index.ensures.found ∙ ap option_copied c.in_ok-index.ensures.ok_part) c.find_index.ensures.in_place c.place_of.ensures.distinct c.in_ok-at.at
     (sym c.place_of.ensures.place ∙ c.in_ok-at.ensures.ok_part) c.table_at-table.result.now c.table_at-table.ensures
     (sym c.place_of-2.ensures ∙ c.in_err-place.ensures.ok_part))
 
 pub returns-in_err-column-clause-due : goal.returns-in_err-column-clause-due
 returns-in_err-column-clause-due c =
-    absurd (column_there c.self.inside.catalog c.self.inside.store.tables c.self.invariant.relations c.args.name.now c.in_ok-index.index.now
+    absurd (column_there c.self.inside.catalog c.self.inside.store.tables c.self.invariant.kept.relations c.args.name.now c.in_ok-index.index.now
     (sym c.find_index.ensures.found ∙ ap option_copied c.in_ok-index.ensures.ok_part) c.find_index.ensures.in_place c.place_of.ensures.distinct c.in_ok-at.at
     (sym c.place_of.ensures.place ∙ c.in_ok-at.ensures.ok_part) c.table_at-table.result.now c.table_at-table.ensures
     (sym c.place_of-3.ensures ∙ c.in_err-column.ensures.ok_part))
 
 pub table-requires : goal.table-requires
 table-requires c =
-    relation_there c.self.inside.catalog c.self.inside.store.tables c.self.invariant.relations c.args.name.now c.in_ok-index.index.now
+    relation_there c.self.inside.catalog c.self.inside.store.tables c.self.invariant.kept.relations c.args.name.now c.in_ok-index.index.now
     (sym c.find_index.ensures.found ∙ ap option_copied c.in_ok-index.ensures.ok_part) c.find_index.ensures.in_place c.place_of.ensures.distinct c.in_ok-at.at
     (sym c.place_of.ensures.place ∙ c.in_ok-at.ensures.ok_part) c.table_at-table.result.now c.table_at-table.ensures
 
@@ -57,17 +57,17 @@ returns-clause-due c =
 pub returns-clause-along : goal.returns-clause-along
 returns-clause-along c = record {
   few = c.table.ensures.few;
-  within = along_within c.self.inside.catalog c.self.inside.store.tables c.self.invariant.relations c.args.name.now c.in_ok-index.index.now
+  within = along_within c.self.inside.catalog c.self.inside.store.tables c.self.invariant.kept.relations c.args.name.now c.in_ok-index.index.now
       (sym c.find_index.ensures.found ∙ ap option_copied c.in_ok-index.ensures.ok_part) c.find_index.ensures.in_place c.place_of.ensures.distinct c.in_ok-at.at
       (sym c.place_of.ensures.place ∙ c.in_ok-at.ensures.ok_part) c.table_at-table.result.now c.table_at-table.ensures c.in_ok-place.place
       (sym c.place_of-2.ensures ∙ c.in_ok-place.ensures.ok_part) c.in_ok-column.column (sym c.place_of-3.ensures ∙ c.in_ok-column.ensures.ok_part)
       c.table.result.now c.table.ensures.at;
-  index = has_index c.self.inside.catalog c.self.inside.store.tables c.self.invariant.relations c.args.name.now c.in_ok-index.index.now
+  index = has_index c.self.inside.catalog c.self.inside.store.tables c.self.invariant.kept.relations c.args.name.now c.in_ok-index.index.now
       (sym c.find_index.ensures.found ∙ ap option_copied c.in_ok-index.ensures.ok_part) c.find_index.ensures.in_place c.place_of.ensures.distinct c.in_ok-at.at
       (sym c.place_of.ensures.place ∙ c.in_ok-at.ensures.ok_part) c.table_at-table.result.now c.table_at-table.ensures c.in_ok-place.place
       (sym c.place_of-2.ensures ∙ c.in_ok-place.ensures.ok_part) c.in_ok-column.column (sym c.place_of-3.ensures ∙ c.in_ok-column.ensures.ok_part)
       c.table.result.now c.table.ensures.at;
-  rows_are = rows_along c.self.inside.catalog c.self.inside.store.tables c.self.invariant.relations c.args.name.now c.in_ok-index.index.now
+  rows_are = rows_along c.self.inside.catalog c.self.inside.store.tables c.self.invariant.kept.relations c.args.name.now c.in_ok-index.index.now
       (sym c.find_index.ensures.found ∙ ap option_copied c.in_ok-index.ensures.ok_part) c.find_index.ensures.in_place c.place_of.ensures.distinct c.in_ok-at.at
       (sym c.place_of.ensures.place ∙ c.in_ok-at.ensures.ok_part) c.table_at-table.result.now c.table_at-table.ensures c.in_ok-place.place
       (sym c.place_of-2.ensures ∙ c.in_ok-place.ensures.ok_part) c.in_ok-column.column (sym c.place_of-3.ensures ∙ c.in_ok-column.ensures.ok_part)

@@ -1,90 +1,84 @@
 -- The new index stands in the catalog and in the relation at the same place.
-use Rattle.std.proofs.Common.{◌≡◌, List, Err, Some, inl, sym, ap, subst, ◌∙◌, arith}
+use Rattle.std.proofs.Common.{◌≡◌, List, Some, None, inl, sym, ap, subst, ◌∙◌, arith}
 use Rattle.std.proofs.lemmas.Result.{err_from_is_err_and}
 use Rattle.mm_relation.specs.Kept.{StoredRows}
-use Rattle.mm_schema.specs.Indexes.{index_conditions}
-use Rattle.mm_schema.specs.Refused.{AnswersDue, first_refusal}
 use Rattle.mm_schema.specs.Schema.{Schema}
 use Rattle.mm_value.specs.declared.refusal.Refusal.{Refusal}
 use Rattle.mm_value.specs.declared.refusal.Refusal.TheVariants.{NoSuchColumn, NoSuchTable}
-use Rattle.mm_query.specs.Machine.{after_definition}
-use Rattle.mm_query.specs.State.{State}
-use Rattle.mm_query.specs.declared.command.Definition.TheVariants as define
 use Rattle.mm_query.proofs.Due.{lacks_nowhere}
-use Rattle.mm_txn.specs.Kept.{AreKept, AreOf}
-use Rattle.mm_txn.proofs.DatabaseSteps.{rows_there, state_of}
+use Rattle.mm_txn.specs.Kept.{AreKept, AreOf, state_of}
+use Rattle.mm_txn.proofs.DatabaseSteps.{rows_there}
 use Rattle.mm_txn.proofs.IndexSteps.{column_within, index_added, no_column_due, no_table_due, taken_back}
 use Rattle.mm_txn.proofs.KeptReferences.{kept_by_index, kept_by_rows}
-use Rattle.mm_txn.proofs.database.Db.add_index.Goals as goal
+use Rattle.mm_txn.proofs.definitions.add_index.Goals as goal
 
 pub returns-in_err-place-clause-due : goal.returns-in_err-place-clause-due
 returns-in_err-place-clause-due c =
     let p = err_from_is_err_and c.from_residual.result c.from_residual.ensures.1 in
-    let lacks = lacks_nowhere c.args.index.table c.self.inside.catalog (sym c.place_of.ensures.place ∙ c.in_err-place.ensures.ok_part) in
+    let lacks = lacks_nowhere c.args.index.table c.args.catalog.now (sym c.place_of.ensures.place ∙ c.in_err-place.ensures.ok_part) in
     let told : NoSuchTable ≡ c.in_err-place.field-0.0 = grind arith in
-    let due = no_table_due c.args.index c.self.inside.catalog lacks ∙ ap (λ (r : Refusal). Some r) told in
-    rw (p.1, p.2) (inl (sym (ap (λ (s : State). first_refusal (index_conditions c.args.index s.schema)) c.self.view_is) ∙ due))
+    let due = no_table_due c.args.index c.args.catalog.now lacks ∙ ap (λ (r : Refusal). Some r) told in
+    rw (p.1, p.2) (inl due)
 
 pub returns-in_err-column-clause-due : goal.returns-in_err-column-clause-due
 returns-in_err-column-clause-due c =
     let p = err_from_is_err_and c.from_residual-in_err-column.result c.from_residual-in_err-column.ensures.1 in
     let told : NoSuchColumn ≡ c.in_err-column.field-0.0 = grind arith in
-    let due = no_column_due c.args.index c.self.inside.catalog c.in_ok-place.place c.table_at.result.now
+    let due = no_column_due c.args.index c.args.catalog.now c.in_ok-place.place c.table_at.result.now
     (sym c.place_of.ensures.place ∙ c.in_ok-place.ensures.ok_part) c.table_at.ensures (sym c.place_of-2.ensures ∙ c.in_err-column.ensures.ok_part)
     ∙ ap (λ (r : Refusal). Some r) told in
-    rw (p.1, p.2) (inl (sym (ap (λ (s : State). first_refusal (index_conditions c.args.index s.schema)) c.self.view_is) ∙ due))
+    rw (p.1, p.2) (inl due)
 
 pub returns-in_err-add_index-clause-due : goal.returns-in_err-add_index-clause-due
 returns-in_err-add_index-clause-due c =
     let p = err_from_is_err_and c.from_residual-in_err-add_index.result c.from_residual-in_err-add_index.ensures.1 in
-    let same = ap (λ (s : State). first_refusal (index_conditions c.args.index s.schema)) c.self.view_is in
-    rw (p.1, p.2) (subst (λ due. AnswersDue {T = Unit {0}} due (Err c.in_err-add_index.field-0.0)) same c.in_err-add_index.ensures.due)
+    rw (p.1, p.2) c.in_err-add_index.ensures.due
 
 pub add_index-requires-2-clause-there : goal.add_index-requires-2-clause-there
 add_index-requires-2-clause-there c =
-    rows_there c.self.inside.catalog c.self.inside.store.tables c.self.invariant.relations c.args.index.table c.in_ok-place.place
+    rows_there c.args.catalog.now c.args.store.now.tables c.requires.relations c.args.index.table c.in_ok-place.place
     (sym c.place_of.ensures.place ∙ c.in_ok-place.ensures.ok_part)
 
 pub add_index-requires-2-clause-column : goal.add_index-requires-2-clause-column
 add_index-requires-2-clause-column c =
-    column_within c.self.inside.catalog c.self.inside.store.tables c.self.invariant.relations c.args.index c.in_ok-place.place
+    column_within c.args.catalog.now c.args.store.now.tables c.requires.relations c.args.index c.in_ok-place.place
     (sym c.place_of.ensures.place ∙ c.in_ok-place.ensures.ok_part) c.table_at.result.now c.table_at.ensures c.in_ok-column.column
     (sym c.place_of-2.ensures ∙ c.in_ok-column.ensures.ok_part)
 
-pub invariant_of-self-in-Err : goal.invariant_of-self-in-Err
-invariant_of-self-in-Err c =
-    let back = taken_back c.self.inside.catalog c.self.inside.store.tables c.self.invariant.relations c.args.index c.in_ok-place.place
+pub returns-in-Err-clause-kept : goal.returns-in-Err-clause-kept
+returns-in-Err-clause-kept c =
+    let back = taken_back c.args.catalog.now c.args.store.now.tables c.requires.relations c.args.index c.in_ok-place.place
     (sym c.place_of.ensures.place ∙ c.in_ok-place.ensures.ok_part) c.table_at.result.now c.table_at.ensures c.in_ok-column.column
     (sym c.place_of-2.ensures ∙ c.in_ok-column.ensures.ok_part)
     c.copy-name.result c.add_index.new.self c.drop_index.new.self c.drop_index.result c.copy-name.ensures c.in_ok-add_index.ensures.ok
     c.in_ok-add_index.ensures.due c.drop_index.ensures.due c.drop_index.ensures.ok in
     subst (λ (schema : Schema). AreKept schema c.add_index-2.new.self) (sym back)
-    (kept_by_rows c.self.inside.catalog c.self.inside.store c.add_index-2.new.self c.self.invariant
-    (subst (λ (rs : List StoredRows). AreOf c.self.inside.catalog.tables rs) (sym c.in-Err.ensures.err) c.self.invariant.relations)
+    (kept_by_rows c.args.catalog.now c.args.store.now c.add_index-2.new.self c.requires
+    (subst (λ (rs : List StoredRows). AreOf c.args.catalog.now.tables rs) (sym c.in-Err.ensures.err) c.requires.relations)
     c.add_index-2.ensures.links)
 
 pub returns-in-Err-clause-err : goal.returns-in-Err-clause-err
 returns-in-Err-clause-err c =
-    let back = taken_back c.self.inside.catalog c.self.inside.store.tables c.self.invariant.relations c.args.index c.in_ok-place.place
+    let back = taken_back c.args.catalog.now c.args.store.now.tables c.requires.relations c.args.index c.in_ok-place.place
     (sym c.place_of.ensures.place ∙ c.in_ok-place.ensures.ok_part) c.table_at.result.now c.table_at.ensures c.in_ok-column.column
     (sym c.place_of-2.ensures ∙ c.in_ok-column.ensures.ok_part)
     c.copy-name.result c.add_index.new.self c.drop_index.new.self c.drop_index.result c.copy-name.ensures c.in_ok-add_index.ensures.ok
     c.in_ok-add_index.ensures.due c.drop_index.ensures.due c.drop_index.ensures.ok in
-    (λ i. state_of (back i) (c.in-Err.ensures.err i)) ∙ c.self.view_is
+    λ i. state_of (back i) (c.in-Err.ensures.err i)
 
-pub invariant_of-self-in_default : goal.invariant_of-self-in_default
-invariant_of-self-in_default c =
-    let added = index_added c.self.inside.catalog c.self.inside.store.tables c.self.invariant.relations c.args.index c.in_ok-place.place
+pub returns-clause-kept : goal.returns-clause-kept
+returns-clause-kept c =
+    let added = index_added c.args.catalog.now c.args.store.now.tables c.requires.relations c.args.index c.in_ok-place.place
     (sym c.place_of.ensures.place ∙ c.in_ok-place.ensures.ok_part) c.table_at.result.now c.table_at.ensures c.in_ok-column.column
     (sym c.place_of-2.ensures ∙ c.in_ok-column.ensures.ok_part)
     c.place_of.ensures.distinct c.add_index-2.new.self.tables c.in_default.ensures.ok in
     subst (λ (schema : Schema). AreKept schema c.add_index-2.new.self) (sym c.in_ok-add_index.ensures.ok)
-    (kept_by_index c.self.inside.catalog c.self.inside.store c.add_index-2.new.self c.self.invariant c.args.index added.1 c.add_index-2.ensures.links)
+    (kept_by_index c.args.catalog.now c.args.store.now c.add_index-2.new.self c.requires c.args.index added.1 c.add_index-2.ensures.links)
 
 pub returns-clause-ok : goal.returns-clause-ok
 returns-clause-ok c =
-    let added = index_added c.self.inside.catalog c.self.inside.store.tables c.self.invariant.relations c.args.index c.in_ok-place.place
+    let added = index_added c.args.catalog.now c.args.store.now.tables c.requires.relations c.args.index c.in_ok-place.place
     (sym c.place_of.ensures.place ∙ c.in_ok-place.ensures.ok_part) c.table_at.result.now c.table_at.ensures c.in_ok-column.column
     (sym c.place_of-2.ensures ∙ c.in_ok-column.ensures.ok_part)
     c.place_of.ensures.distinct c.add_index-2.new.self.tables c.in_default.ensures.ok in
-    (λ i. record { schema = c.in_ok-add_index.ensures.ok i; rows = added.0 i }) ∙ ap (after_definition (define.Index c.args.index)) c.self.view_is
+    λ i. record { schema = c.in_ok-add_index.ensures.ok i; rows = added.0 i; saved = None }

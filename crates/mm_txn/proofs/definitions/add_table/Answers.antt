@@ -11,67 +11,66 @@ use Rattle.mm_txn.specs.Kept.{AreKept, AreOf}
 use Rattle.mm_txn.proofs.DatabaseSteps.{rows_added}
 use Rattle.mm_txn.proofs.KeptReferences.{back_to_old, kept_by_rows, kept_by_table, new_references, new_references_fit, none_to_last, references_before, remove_last}
 use Rattle.mm_txn.proofs.RowsBeside.{as_many_rows}
-use Rattle.mm_txn.proofs.database.Db.add_table.Goals as goal
+use Rattle.mm_txn.proofs.definitions.add_table.Goals as goal
 
 pub add_table-requires-clause-references : goal.add_table-requires-clause-references
 add_table-requires-clause-references c =
-    let catalog = c.self.inside.catalog in
+    let catalog = c.args.catalog.now in
     let due = sym c.table_refusal.ensures ∙ c.in_default.is in
     let refs = c.as_slice.ensures.value ∙ c.in_ok-references.ensures in
-    let many = as_many_rows catalog.tables c.self.inside.store.tables c.self.invariant.relations in
-    subst (λ rs. All (IsFrom (length c.self.inside.store.tables) (length c.as_slice-width.result.now)) rs) (sym refs)
+    let many = as_many_rows catalog.tables c.args.store.now.tables c.requires.relations in
+    subst (λ rs. All (IsFrom (length c.args.store.now.tables) (length c.as_slice-width.result.now)) rs) (sym refs)
     (subst (λ (n : ℕ). All (IsFrom n (length c.as_slice-width.result.now)) (new_references c.args.definition catalog)) (sym many)
     (subst (λ (w : ℕ). All (IsFrom (length catalog.tables) w) (new_references c.args.definition catalog)) (sym (ap length c.as_slice-width.ensures.value))
-    (new_references_fit c.args.definition catalog c.self.invariant.targets c.self.invariant.others due)))
+    (new_references_fit c.args.definition catalog c.requires.targets c.requires.others due)))
 
 pub drop_table-requires-clause-unused : goal.drop_table-requires-clause-unused
 drop_table-requires-clause-unused c =
-    let catalog = c.self.inside.catalog in
+    let catalog = c.args.catalog.now in
     let due = sym c.table_refusal.ensures ∙ c.in_default.is in
     let refs = c.as_slice.ensures.value ∙ c.in_ok-references.ensures in
     let new = c.in_ok-add_table.ensures.ok in
-    let many = as_many_rows catalog.tables c.self.inside.store.tables c.self.invariant.relations in
+    let many = as_many_rows catalog.tables c.args.store.now.tables c.requires.relations in
     let last : length catalog.tables ≡ c.len.result - 1 =
-    omega (arith, c.len.ensures, ap length new.1, length_push c.self.inside.store.tables new.0, many) in
+    omega (arith, c.len.ensures, ap length new.1, length_push c.args.store.now.tables new.0, many) in
     let links : c.add_table.new.self.links ≡ all_references catalog ++ new_references c.args.definition catalog =
-    c.in_ok-add_table.ensures.links ∙ λ i. c.self.invariant.links i ++ refs i in
+    c.in_ok-add_table.ensures.links ∙ λ i. c.requires.links i ++ refs i in
     subst (λ (n : ℕ). All (λ (r : Reference). r.to ≢ n) c.add_table.new.self.links) last
     (subst (λ rs. All (λ (r : Reference). r.to ≢ length catalog.tables) rs) (sym links)
     (none_to_last (length catalog.tables) (length c.args.definition.columns) (all_references catalog) (new_references c.args.definition catalog)
-    (references_before catalog c.self.invariant.targets c.self.invariant.others)
-    (new_references_fit c.args.definition catalog c.self.invariant.targets c.self.invariant.others due)))
+    (references_before catalog c.requires.targets c.requires.others)
+    (new_references_fit c.args.definition catalog c.requires.targets c.requires.others due)))
 
-pub invariant_of-self-in-Err : goal.invariant_of-self-in-Err
-invariant_of-self-in-Err c =
-    let catalog = c.self.inside.catalog in
+pub returns-in-Err-clause-kept : goal.returns-in-Err-clause-kept
+returns-in-Err-clause-kept c =
+    let catalog = c.args.catalog.now in
     let due = sym c.table_refusal.ensures ∙ c.in_default.is in
     let refs = c.as_slice.ensures.value ∙ c.in_ok-references.ensures in
     let new = c.in_ok-add_table.ensures.ok in
-    let many = as_many_rows catalog.tables c.self.inside.store.tables c.self.invariant.relations in
-    let last : c.len.result - 1 ≡ length c.self.inside.store.tables =
-    omega (arith, c.len.ensures, ap length new.1, length_push c.self.inside.store.tables new.0) in
-    let tables : c.drop_table.new.self.tables ≡ c.self.inside.store.tables =
-    c.drop_table.ensures.tables ∙ (λ i. remove (new.1 i) (last i)) ∙ remove_last c.self.inside.store.tables new.0 in
-    let links : c.drop_table.new.self.links ≡ c.self.inside.store.links =
+    let many = as_many_rows catalog.tables c.args.store.now.tables c.requires.relations in
+    let last : c.len.result - 1 ≡ length c.args.store.now.tables =
+    omega (arith, c.len.ensures, ap length new.1, length_push c.args.store.now.tables new.0) in
+    let tables : c.drop_table.new.self.tables ≡ c.args.store.now.tables =
+    c.drop_table.ensures.tables ∙ (λ i. remove (new.1 i) (last i)) ∙ remove_last c.args.store.now.tables new.0 in
+    let links : c.drop_table.new.self.links ≡ c.args.store.now.links =
     c.drop_table.ensures.links ∙ (λ i. links_without (last i) (c.in_ok-add_table.ensures.links i))
-    ∙ (λ i. links_without (many i) (c.self.invariant.links i ++ refs i))
+    ∙ (λ i. links_without (many i) (c.requires.links i ++ refs i))
     ∙ back_to_old (length catalog.tables) (length c.args.definition.columns) (all_references catalog) (new_references c.args.definition catalog)
-    (references_before catalog c.self.invariant.targets c.self.invariant.others)
-    (new_references_fit c.args.definition catalog c.self.invariant.targets c.self.invariant.others due)
-    ∙ sym c.self.invariant.links in
+    (references_before catalog c.requires.targets c.requires.others)
+    (new_references_fit c.args.definition catalog c.requires.targets c.requires.others due)
+    ∙ sym c.requires.links in
     subst (λ (schema : Schema). AreKept schema c.drop_table.new.self) (sym c.in-Err.ensures.err)
-    (kept_by_rows catalog c.self.inside.store c.drop_table.new.self c.self.invariant
-    (subst (λ (rs : List StoredRows). AreOf catalog.tables rs) (sym tables) c.self.invariant.relations) links)
+    (kept_by_rows catalog c.args.store.now c.drop_table.new.self c.requires
+    (subst (λ (rs : List StoredRows). AreOf catalog.tables rs) (sym tables) c.requires.relations) links)
 
-pub invariant_of-self-in_default-add_table : goal.invariant_of-self-in_default-add_table
-invariant_of-self-in_default-add_table c =
-    let old = c.self.inside in
+pub returns-clause-kept : goal.returns-clause-kept
+returns-clause-kept c =
     let due = sym c.table_refusal.ensures ∙ c.in_default.is in
     let refs = c.as_slice.ensures.value ∙ c.in_ok-references.ensures in
     let new = c.in_ok-add_table.ensures.ok in
-    let added = rows_added old.catalog old.store.tables c.self.invariant.relations c.args.definition new.0 (new.4 ∙ c.key-key.ensures.place)
+    let added = rows_added c.args.catalog.now c.args.store.now.tables c.requires.relations c.args.definition new.0 (new.4 ∙ c.key-key.ensures.place)
     (new.3 ∙ ap length c.as_slice-width.ensures.value) new.5 in
     subst (λ (schema : Schema). AreKept schema c.add_table.new.self) (sym c.in_default-add_table.ensures.ok)
-    (kept_by_table old.catalog old.store c.add_table.new.self c.self.invariant c.args.definition due
-    (subst (λ (rs : List StoredRows). AreOf (with_table c.args.definition old.catalog).tables rs) (sym new.1) added)
-    (c.in_ok-add_table.ensures.links ∙ ap (λ rs. old.store.links ++ rs) refs))
+    (kept_by_table c.args.catalog.now c.args.store.now c.add_table.new.self c.requires c.args.definition due
+    (subst (λ (rs : List StoredRows). AreOf (with_table c.args.definition c.args.catalog.now).tables rs) (sym new.1) added)
+    (c.in_ok-add_table.ensures.links ∙ ap (λ rs. c.args.store.now.links ++ rs) refs))

@@ -1,0 +1,54 @@
+-- The table at the place of a name goes from the catalog and from the store.
+use Rattle.std.proofs.Common.{◌≡◌, ◌≢◌, cond, List, Some, None, inl, sym, ap, subst, ◌∙◌, arith}
+use Rattle.std.specs.List.{All, list_any}
+use Rattle.std.proofs.lemmas.Result.{err_from_is_err_and}
+use Rattle.mm_relation.specs.Kept.{StoredRows}
+use Rattle.mm_schema.specs.Schema.{Schema, is_other_referring_to, without_table}
+use Rattle.mm_schema.specs.declared.reference.Reference.{Reference}
+use Rattle.mm_value.specs.declared.refusal.Refusal.{Refusal}
+use Rattle.mm_value.specs.declared.refusal.Refusal.TheVariants.{InUse, NoSuchTable}
+use Rattle.mm_query.proofs.Due.{lacks_nowhere}
+use Rattle.mm_txn.specs.Kept.{AreKept, AreOf, state_of}
+use Rattle.mm_txn.proofs.DatabaseSteps.{rows_there, some_there, table_dropped}
+use Rattle.mm_txn.proofs.KeptReferences.{kept_by_no_table, none_to_dropped}
+use Rattle.mm_txn.proofs.RowsBeside.{beside}
+use Rattle.mm_txn.proofs.definitions.drop_table.Goals as goal
+
+pub returns-in_err-place-clause-due : goal.returns-in_err-place-clause-due
+returns-in_err-place-clause-due c =
+    let p = err_from_is_err_and c.from_residual.result c.from_residual.ensures.1 in
+    let lacks = lacks_nowhere c.args.name.now c.args.catalog.now (sym c.place_of.ensures.place ∙ c.in_err-place.ensures.ok_part) in
+    let told : NoSuchTable ≡ c.in_err-place.field-0.0 = grind arith in
+    rw (p.1, p.2) (inl (ap (λ b. cond b (Some NoSuchTable) (cond (list_any (is_other_referring_to c.args.name.now) c.args.catalog.now.tables)
+    (Some InUse) None)) lacks ∙ ap (λ (r : Refusal). Some r) told))
+
+pub drop_table-requires-2-clause-there : goal.drop_table-requires-2-clause-there
+drop_table-requires-2-clause-there c =
+    rows_there c.args.catalog.now c.args.store.now.tables c.requires.relations c.args.name.now c.in_ok-place.place
+    (sym c.place_of.ensures.place ∙ c.in_ok-place.ensures.ok_part)
+
+pub drop_table-requires-2-clause-unused : goal.drop_table-requires-2-clause-unused
+drop_table-requires-2-clause-unused c =
+    let placed = sym c.place_of.ensures.place ∙ c.in_ok-place.ensures.ok_part in
+    let stored = some_there c.args.store.now.tables c.in_ok-place.place (rows_there c.args.catalog.now c.args.store.now.tables c.requires.relations
+    c.args.name.now c.in_ok-place.place placed) in
+    let at = beside c.args.catalog.now.tables c.args.store.now.tables c.in_ok-place.place stored.0 c.requires.relations stored.1 in
+    subst (All (λ (r : Reference). r.to ≢ c.in_ok-place.place)) (sym c.requires.links)
+    (none_to_dropped c.args.catalog.now c.args.name.now c.in_ok-place.place placed at.table at.there c.requires.targets c.requires.others
+    c.in_ok-drop_table.ensures.due)
+
+pub returns-clause-kept : goal.returns-clause-kept
+returns-clause-kept c =
+    let dropped = table_dropped c.args.catalog.now c.args.store.now.tables c.requires.relations c.args.name.now c.in_ok-place.place
+    (sym c.place_of.ensures.place ∙ c.in_ok-place.ensures.ok_part) c.place_of.ensures.distinct in
+    subst (λ (schema : Schema). AreKept schema c.drop_table-2.new.self) (sym c.in_ok-drop_table.ensures.ok)
+    (kept_by_no_table c.args.catalog.now c.args.store.now c.drop_table-2.new.self c.requires c.args.name.now c.in_ok-place.place
+    (sym c.place_of.ensures.place ∙ c.in_ok-place.ensures.ok_part) c.place_of.ensures.distinct c.in_ok-drop_table.ensures.due
+    (subst (λ (rs : List StoredRows). AreOf (without_table c.args.name.now c.args.catalog.now).tables rs) (sym c.drop_table-2.ensures.tables) dropped.1)
+    c.drop_table-2.ensures.links)
+
+pub returns-clause-ok : goal.returns-clause-ok
+returns-clause-ok c =
+    let dropped = table_dropped c.args.catalog.now c.args.store.now.tables c.requires.relations c.args.name.now c.in_ok-place.place
+    (sym c.place_of.ensures.place ∙ c.in_ok-place.ensures.ok_part) c.place_of.ensures.distinct in
+    (λ i. state_of (c.in_ok-drop_table.ensures.ok i) (c.drop_table-2.ensures.tables i)) ∙ dropped.0

@@ -1,0 +1,124 @@
+//! Changes of the catalog, and of the relations beside its tables. They are for a database in which no transaction is open.
+ghost use Rattle.std.specs.Prelude.{◌≡◌, OnOk, OnErr};
+ghost use Rattle.mm_schema.specs.Indexes.{drop_index_conditions, index_conditions};
+ghost use Rattle.mm_schema.specs.Refused.{AnswersDue, first_refusal};
+ghost use Rattle.mm_schema.specs.Schema.{drop_table_conditions, table_conditions};
+ghost use Rattle.mm_query.specs.Machine.{after_definition, definition_conditions};
+ghost use Rattle.mm_query.specs.declared.command.Definition.TheVariants as define;
+ghost use Rattle.mm_txn.specs.Kept.{AreKept, state_of};
+
+use mm_query::Definition;
+use mm_schema::{Catalog, IndexDef, Name, TableDef};
+use mm_store::Store;
+use mm_value::Refusal;
+use std::alloc::{AllocError, Global};
+
+/// Changes the catalog. The first refusal that is due is answered, or `Memory` in its place or in that of success.
+pub(crate) fn define(
+    alloc: Global,
+    catalog: &mut Catalog,
+    store: &mut Store,
+    definition: Definition,
+) -> Result<(), Refusal>
+    requires { AreKept catalog.old store.old }
+    ensures due { AnswersDue (first_refusal (definition_conditions definition (state_of catalog.old store.old.tables))) result }
+    ensures ok { OnOk result
+        (state_of catalog.new store.new.tables ≡ after_definition definition (state_of catalog.old store.old.tables)) }
+    ensures err { OnErr result (state_of catalog.new store.new.tables ≡ state_of catalog.old store.old.tables) }
+    ensures kept { AreKept catalog.new store.new }
+{
+    match definition {
+        Definition::Table(definition) => add_table(alloc, catalog, store, definition),
+        Definition::DropTable(name) => drop_table(catalog, store, &name),
+        Definition::Index(index) => add_index(alloc, catalog, store, index),
+        Definition::DropIndex(name) => drop_index(catalog, store, &name),
+    }
+}
+
+/// Adds a table with no rows, which comes last. The refusals are those of [`Catalog::add_table`].
+fn add_table(
+    alloc: Global,
+    catalog: &mut Catalog,
+    store: &mut Store,
+    definition: TableDef,
+) -> Result<(), Refusal>
+    requires { AreKept catalog.old store.old }
+    ensures due { AnswersDue (first_refusal (table_conditions definition catalog.old)) result }
+    ensures ok { OnOk result
+        (state_of catalog.new store.new.tables ≡ after_definition (define.Table definition) (state_of catalog.old store.old.tables)) }
+    ensures err { OnErr result (state_of catalog.new store.new.tables ≡ state_of catalog.old store.old.tables) }
+    ensures kept { AreKept catalog.new store.new }
+{
+    if let Some(refusal) = catalog.table_refusal(&definition) {
+        return Err(refusal);
+    }
+    let references = catalog.references(alloc, &definition.columns)?;
+    let width = definition.columns.as_slice().len();
+    let key = definition.columns.key();
+    store.add_table(alloc, width, key, references.as_slice())?;
+    if let Err(refusal) = catalog.add_table(definition) {
+        store.drop_table(store.len() - 1);
+        return Err(refusal);
+    }
+    Ok(())
+}
+
+/// Drops a table with its rows and indexes; those behind it move up. The refusals are those of [`Catalog::drop_table`].
+fn drop_table(catalog: &mut Catalog, store: &mut Store, name: &Name) -> Result<(), Refusal>
+    requires { AreKept catalog.old store.old }
+    ensures due { AnswersDue (first_refusal (drop_table_conditions name.now catalog.old)) result }
+    ensures ok { OnOk result
+        (state_of catalog.new store.new.tables ≡ after_definition (define.DropTable name.now) (state_of catalog.old store.old.tables)) }
+    ensures err { OnErr result (state_of catalog.new store.new.tables ≡ state_of catalog.old store.old.tables) }
+    ensures kept { AreKept catalog.new store.new }
+{
+    let place = catalog.place_of(name).ok_or(Refusal::NoSuchTable)?;
+    catalog.drop_table(name)?;
+    store.drop_table(place);
+    Ok(())
+}
+
+/// Makes an index over the rows that are there. The refusals are those of [`Catalog::add_index`].
+fn add_index(
+    alloc: Global,
+    catalog: &mut Catalog,
+    store: &mut Store,
+    index: IndexDef,
+) -> Result<(), Refusal>
+    requires { AreKept catalog.old store.old }
+    ensures due { AnswersDue (first_refusal (index_conditions index catalog.old)) result }
+    ensures ok { OnOk result
+        (state_of catalog.new store.new.tables ≡ after_definition (define.Index index) (state_of catalog.old store.old.tables)) }
+    ensures err { OnErr result (state_of catalog.new store.new.tables ≡ state_of catalog.old store.old.tables) }
+    ensures kept { AreKept catalog.new store.new }
+{
+    let place = catalog.place_of(&index.table).ok_or(Refusal::NoSuchTable)?;
+    let columns = &catalog.table_at(place).definition.columns;
+    let column = columns
+        .place_of(&index.column)
+        .ok_or(Refusal::NoSuchColumn)?;
+    let (name, kind) = (index.name.copy(), index.kind);
+    catalog.add_index(index)?;
+    if let Err(AllocError) = store.add_index(alloc, place, column, kind) {
+        let _ = catalog.drop_index(&name);
+        return Err(Refusal::Memory);
+    }
+    Ok(())
+}
+
+/// Drops an index. `NoSuchIndex` where none has the name.
+fn drop_index(catalog: &mut Catalog, store: &mut Store, name: &Name) -> Result<(), Refusal>
+    requires { AreKept catalog.old store.old }
+    ensures due { AnswersDue (first_refusal (drop_index_conditions name.now catalog.old)) result }
+    ensures ok { OnOk result
+        (state_of catalog.new store.new.tables ≡ after_definition (define.DropIndex name.now) (state_of catalog.old store.old.tables)) }
+    ensures err { OnErr result (state_of catalog.new store.new.tables ≡ state_of catalog.old store.old.tables) }
+    ensures kept { AreKept catalog.new store.new }
+{
+    let table = catalog.place_with_index(name).ok_or(Refusal::NoSuchIndex)?;
+    let indexes = &catalog.table_at(table).indexes;
+    let index = indexes.place_of(name).ok_or(Refusal::NoSuchIndex)?;
+    catalog.drop_index(name)?;
+    store.drop_index(table, index);
+    Ok(())
+}
