@@ -1,13 +1,18 @@
 -- What the definitions of a run come to.
-use Rattle.std.proofs.Common.{◌≡◌, ℕ, ◌+◌, ◌<◌, ◌≤◌, Bool, true, false, cond, ltb, List, length, Option, Some, None, Ok, Err, refl, sym, ap, ◌∙◌, arith, length-append}
+use Rattle.std.proofs.Common.{◌≡◌, ℕ, ◌+◌, ◌<◌, ◌≤◌, Bool, true, false, cond, ltb, not, List, length, Option, Some, None, is_some, Ok, Err, refl, sym, ap, ◌∙◌, arith, length-append}
+use Rattle.std.specs.Option.{unwrap_or}
 use Rattle.std.specs.Io.KnownBytes.{Consumes}
-use Rattle.mm_lang.proofs.Commands.{reads_long}
+use Rattle.mm_lang.proofs.Commands.{control_takes_none, reads_long}
 use Rattle.mm_lang.specs.Grammar.{command_of}
 use Rattle.mm_lang.specs.Reading.{is_nothing, read_as, reading, reading_takes_memory, takes_memory}
 use Rattle.mm_lang.specs.Tokens.{tokens}
-use Rattle.mm_value.specs.declared.refusal.Refusal.TheVariants.{LineTooLong, Memory}
+use Rattle.mm_value.specs.declared.refusal.Refusal.TheVariants.{LineTooLong, Memory, NoTransaction}
+use Rattle.mm_schema.specs.Instance.{Instance}
+use Rattle.mm_query.specs.Machine.{step}
 use Rattle.mm_query.specs.State.{State}
-use Rattle.mm_query.specs.declared.command.Command.TheVariants.{Nothing}
+use Rattle.mm_query.specs.declared.command.Command.TheVariants.{Nothing, Rollback}
+use Rattle.mm_query.specs.declared.reply.Reply.TheVariants.{Done, Refused}
+use Rattle.mm_query.proofs.Due.{step-done, step-refused}
 use Rattle.mmdb_core.specs.Run.{answer, outcome_of, refused_outcome}
 
 -- memory refused to a line that takes it
@@ -34,6 +39,24 @@ nothing_takes_none line nothing =
     either : (is_long : Bool) → reading_takes_memory (cond is_long (Err LineTooLong) (Ok Nothing)) ≡ false
     either true = refl
     either false = refl
+
+-- A line that reads as ROLLBACK gets the outcome of its step, whatever the choice.
+rollback_answer : (line : List ℕ) (state : State) (choice : Bool) → reading line ≡ Ok Rollback → answer choice line state ≡ step Rollback state
+rollback_answer line state choice reads =
+    not_refused line state choice (control_takes_none line Rollback reads refl) ∙ ap (λ r. outcome_of r state) reads
+
+pub rolled_back : (line : List ℕ) (state : State) (saved : Instance) (choice : Bool) → reading line ≡ Ok Rollback → state.saved ≡ Some saved
+    → answer choice line state ≡ record { reply = Some Done; state = record { schema = state.schema; rows = saved; saved = None } }
+rolled_back line state saved choice reads is =
+    rollback_answer line state choice reads
+    ∙ step-done Rollback state (ap (λ s. cond (not (is_some s)) (Some NoTransaction) None) is)
+    ∙ ap (λ s. record { reply = Some Done; state = record { schema = state.schema; rows = unwrap_or s state.rows; saved = None } }) is
+
+pub no_rollback_outside : (line : List ℕ) (state : State) (choice : Bool) → reading line ≡ Ok Rollback → state.saved ≡ None
+    → answer choice line state ≡ record { reply = Some (Refused NoTransaction); state = state }
+no_rollback_outside line state choice reads is =
+    rollback_answer line state choice reads
+    ∙ step-refused Rollback state NoTransaction (ap (λ s. cond (not (is_some s)) (Some NoTransaction) None) is)
 
 pub taken_within : (before after : Option (List ℕ)) (input left taken : List ℕ) (limit : ℕ) → before ≡ Some input → after ≡ Some left
     → Consumes before after taken → length taken ≤ limit + 1 → length input ≤ length left + (limit + 1)

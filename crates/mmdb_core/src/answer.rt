@@ -1,5 +1,5 @@
 //! One line and its reply.
-ghost use Rattle.std.specs.Prelude.{◌≡◌, ◌≤◌, Some, None, Ok, false, true, All, IfOk, OnOk, is_err, IsErr, length, map};
+ghost use Rattle.std.specs.Prelude.{◌≡◌, ◌≤◌, Some, None, Ok, false, true, All, IfOk, MatchResult, OnOk, is_err, IsErr, length, map};
 ghost use Rattle.std.specs.Io.KnownBytes.{Keeps};
 ghost use Rattle.mm_lang.specs.ReplyText.{reply_text, rows_text};
 ghost use Rattle.mm_partition.specs.Places.{IsLive, slot_at};
@@ -7,8 +7,9 @@ ghost use Rattle.mm_relation.specs.Refs.{row_at};
 ghost use Rattle.mm_lang.specs.Lines.{without_return};
 ghost use Rattle.mm_value.specs.Device.{Writes};
 ghost use Rattle.mm_value.specs.Watched.{inner_of, has_failed};
-ghost use Rattle.mm_query.specs.declared.command.Command.TheVariants.{Define, Change, Scan, ScanIndex, Select, Explain};
-ghost use Rattle.mm_query.specs.declared.reply.Reply.TheVariants.{Rows};
+ghost use Rattle.mm_query.specs.declared.command.Command.TheVariants.{Define, Change, Scan, ScanIndex, Select, Explain, Begin, Commit, Rollback};
+ghost use Rattle.mm_query.specs.Machine.{step};
+ghost use Rattle.mm_query.specs.declared.reply.Reply.TheVariants.{Done, Refused, Rows};
 ghost use Rattle.mmdb_core.specs.steps.Respond.{RepliesToLine, IsStep, RepliesToReading};
 ghost use Rattle.mmdb_core.specs.Run.{is_error};
 
@@ -68,6 +69,9 @@ fn respond<W: Write>(
         Ok(Command::Define(definition)) => define(alloc, database, definition),
         Ok(Command::Change(mutation)) => change(alloc, database, mutation),
         Ok(Command::Explain(query)) => explain(alloc, database, &query),
+        Ok(Command::Begin) => begin(database),
+        Ok(Command::Commit) => commit(database),
+        Ok(Command::Rollback) => rollback(database),
         Err(refusal) => Reply::Refused(refusal),
     };
     send(&reply, writer)
@@ -77,7 +81,35 @@ fn respond<W: Write>(
 fn define(alloc: Global, database: &mut Db, definition: Definition) -> Reply
     ensures { IsStep (Define definition) database.old (record { reply = Some result; state = database.new }) }
 {
-    match database.define(alloc, definition) {
+    done_or_refused(database.define(alloc, definition))
+}
+
+/// Begins a transaction. It takes no memory.
+fn begin(database: &mut Db) -> Reply
+    ensures { record { reply = Some result; state = database.new } ≡ step Begin database.old }
+{
+    done_or_refused(database.begin())
+}
+
+/// Ends a transaction and keeps what it changed. It takes no memory.
+fn commit(database: &mut Db) -> Reply
+    ensures { record { reply = Some result; state = database.new } ≡ step Commit database.old }
+{
+    done_or_refused(database.commit())
+}
+
+/// Ends a transaction and takes back what it changed. It takes no memory.
+fn rollback(database: &mut Db) -> Reply
+    ensures { record { reply = Some result; state = database.new } ≡ step Rollback database.old }
+{
+    done_or_refused(database.rollback())
+}
+
+/// The reply to a command that only does something.
+fn done_or_refused(done: Result<(), Refusal>) -> Reply
+    ensures { MatchResult done (λ _. result ≡ Done) (λ refusal. result ≡ Refused refusal) }
+{
+    match done {
         Ok(()) => Reply::Done,
         Err(refusal) => Reply::Refused(refusal),
     }

@@ -1,10 +1,14 @@
 //! Laws of the definitions that the contract of a run speaks of.
-ghost use Rattle.std.specs.Prelude.{◌≡◌, ◌+◌, ◌<◌, ◌≤◌, ℕ, Bool, true, false, List, length, Some, Result, IsErrOf};
+ghost use Rattle.std.specs.Prelude.{◌≡◌, ◌+◌, ◌<◌, ◌≤◌, ℕ, Bool, true, false, List, length, Some, None, Ok, Result, IsErrOf};
 ghost use Rattle.mm_lang.specs.Reading.{is_nothing, reading, takes_memory};
 ghost use Rattle.mm_query.specs.State.{State};
-ghost use Rattle.mm_query.specs.declared.reply.Reply.TheVariants.{Refused};
+ghost use Rattle.mm_query.specs.Transactions.{is_transaction_control};
+ghost use Rattle.mm_query.specs.declared.command.Command.{Command};
+ghost use Rattle.mm_query.specs.declared.command.Command.TheVariants.{Rollback};
+ghost use Rattle.mm_query.specs.declared.reply.Reply.TheVariants.{Done, Refused};
+ghost use Rattle.mm_schema.specs.Instance.{Instance};
 ghost use Rattle.mm_value.specs.Watched.{inner_of, has_failed};
-ghost use Rattle.mm_value.specs.declared.refusal.Refusal.TheVariants.{Memory};
+ghost use Rattle.mm_value.specs.declared.refusal.Refusal.TheVariants.{Memory, NoTransaction};
 ghost use Rattle.mmdb_core.specs.Run.{answer, outcome_of, TakesWithin};
 
 use crate::fault::RunFault;
@@ -22,11 +26,24 @@ pub fn answers_follow_the_choice()
         → answer a line state ≡ answer b line state }
 {}
 
-/// Just these lines take no memory: those that are too long, empty lines and comments.
+/// Just these lines take no memory: those that are too long, empty lines and comments, and those that begin or end a
+/// transaction.
 pub fn commands_take_memory()
     ensures long { (line : List ℕ) → 4096 < length line → takes_memory line ≡ false }
     ensures nothing { (line : List ℕ) → is_nothing line ≡ true → takes_memory line ≡ false }
-    ensures others { (line : List ℕ) → length line ≤ 4096 → is_nothing line ≡ false → takes_memory line ≡ true }
+    ensures transactions { (line : List ℕ) (command : Command) → reading line ≡ Ok command → is_transaction_control command ≡ true
+        → takes_memory line ≡ false }
+    ensures others { (line : List ℕ) → length line ≤ 4096 → is_nothing line ≡ false
+        → ((command : Command) → reading line ≡ Ok command → is_transaction_control command ≡ false) → takes_memory line ≡ true }
+{}
+
+/// In a transaction ROLLBACK is never refused, for want of memory neither: the rows are those that were saved at BEGIN, and
+/// the catalog stays. Outside one it is refused with `NoTransaction`.
+pub fn rollback_is_never_refused()
+    ensures done { (line : List ℕ) (state : State) (saved : Instance) (choice : Bool) → reading line ≡ Ok Rollback → state.saved ≡ Some saved
+        → answer choice line state ≡ record { reply = Some Done; state = record { schema = state.schema; rows = saved; saved = None } } }
+    ensures refused { (line : List ℕ) (state : State) (choice : Bool) → reading line ≡ Ok Rollback → state.saved ≡ None
+        → answer choice line state ≡ record { reply = Some (Refused NoTransaction); state = state } }
 {}
 
 /// Of a reader whose bytes are known, a run takes at most one byte more than its limit, and that one only where the input

@@ -10,6 +10,9 @@ mod run_script;
 mod window;
 
 pub use fault::{RunFault, exit_status};
-pub use laws::{answers_follow_the_choice, commands_take_memory, runs_take_within_their_limit};
+pub use laws::{
+    answers_follow_the_choice, commands_take_memory, rollback_is_never_refused,
+    runs_take_within_their_limit,
+};
 pub use limits::{Limits, MAX_MAX_INPUT, Totals};
 pub use run_script::run;

@@ -17,8 +17,8 @@ use std::io::{Read, Write};
 /// Reads commands from the reader, one a line, and writes their replies, each flushed as soon as it is written.
 ///
 /// What is written are the replies of the machine that keeps only lists of rows, whatever the input is, where
-/// a line that takes memory may be answered `error 90 memory` instead and then changes nothing. At most one byte more
-/// than the limit is taken.
+/// a line that takes memory may be answered `error 90 memory` instead and then changes nothing. `ROLLBACK` takes none, so in
+/// a transaction it is never refused. At most one byte more than the limit is taken.
 ///
 /// `Read` where the reader answered an error, `Write` where the writer answered one or took 0 of some bytes, `TooLong`
 /// where the reader gave more bytes than the limit.

@@ -9,7 +9,7 @@ use Rattle.mm_query.specs.declared.reply.Reply.TheVariants.{Refused}
 use Rattle.mmdb_core.specs.steps.Respond.{MayLeadTo}
 use Rattle.mmdb_core.proofs.Answering.{leads_step, sent}
 use Rattle.mmdb_core.proofs.answer.respond.Goals as goal
-use Rattle.mmdb_core.proofs.answer.respond.Goals.{in-Ok-Define, in-Ok-Change, in-Ok-Explain, in-Err}
+use Rattle.mmdb_core.proofs.answer.respond.Goals.{in-Ok-Define, in-Ok-Change, in-Ok-Explain, in-Ok-Begin, in-Ok-Commit, in-Ok-Rollback, in-Err}
 
 pub returns-in-Ok-Nothing : goal.returns-in-Ok-Nothing
 returns-in-Ok-Nothing g c = record {
@@ -39,6 +39,18 @@ returns g c =
           c.args.database.now
           (reply_and c.match-command.reply c.match-command.database) (reply_and w.explain-reply.result c.args.database.now)
           (ap (λ r. reply_and r c.match-command.database) w.reply-is ∙ ap (reply_and w.explain-reply.result) w.database-is) w.explain-reply.ensures
+      | in-Ok-Begin w ↦
+          subst (λ read. MayLeadTo read c.args.database.now (reply_and c.match-command.reply c.match-command.database))
+          (sym (w.in-Ok-Begin.is ∙ ap (λ (command : Command). Ok command) w.in-Ok-Begin.field-0-is))
+          (inl (ap (λ r. reply_and r c.match-command.database) w.reply-is ∙ ap (reply_and w.begin-reply.result) w.database-is ∙ w.begin-reply.ensures))
+      | in-Ok-Commit w ↦
+          subst (λ read. MayLeadTo read c.args.database.now (reply_and c.match-command.reply c.match-command.database))
+          (sym (w.in-Ok-Commit.is ∙ ap (λ (command : Command). Ok command) w.in-Ok-Commit.field-0-is))
+          (inl (ap (λ r. reply_and r c.match-command.database) w.reply-is ∙ ap (reply_and w.commit-reply.result) w.database-is ∙ w.commit-reply.ensures))
+      | in-Ok-Rollback w ↦
+          subst (λ read. MayLeadTo read c.args.database.now (reply_and c.match-command.reply c.match-command.database))
+          (sym (w.in-Ok-Rollback.is ∙ ap (λ (command : Command). Ok command) w.in-Ok-Rollback.field-0-is))
+          (inl (ap (λ r. reply_and r c.match-command.database) w.reply-is ∙ ap (reply_and w.rollback-reply.result) w.database-is ∙ w.rollback-reply.ensures))
       | in-Err w ↦
           subst (λ read. MayLeadTo read c.args.database.now (reply_and c.match-command.reply c.match-command.database)) (sym w.in-Err.is)
           (ap (λ r. reply_and r c.match-command.database) w.reply-is ∙ ap (reply_and (Refused w.in-Err.refusal)) w.database-is)
