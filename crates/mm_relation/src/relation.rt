@@ -8,6 +8,7 @@ mod checks;
 mod indexing;
 mod laws;
 mod lookup;
+mod prefix;
 mod reads;
 mod revert;
 mod served;

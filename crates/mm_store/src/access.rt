@@ -1,6 +1,6 @@
 //! Rows by their references, in the order of their keys and along indexes.
-ghost use Rattle.std.specs.Prelude.{◌≡◌, ℕ, ◌+◌, ◌<◌, ◌≤◌, length, map, min, All, IfOk, OnOk, OnErr};
-ghost use Rattle.std.specs.Option.{option_copied};
+ghost use Rattle.std.specs.Prelude.{◌≡◌, ℕ, ◌+◌, ◌<◌, ◌≤◌, length, map, min, All, IfOk, IfSome, OnOk, OnErr, Some, slice_get};
+ghost use Rattle.std.specs.Option.{option_copied, option_map};
 ghost use Rattle.mm_partition.specs.Places.{IsLive, Live, slot_at};
 ghost use Rattle.mm_relation.specs.Kept.{StoredRows};
 ghost use Rattle.mm_relation.specs.Reads.{Appends, AreMatches, HasIndex, IsRange};
@@ -10,6 +10,7 @@ ghost use Rattle.mm_schema.specs.Rows.{rows_by};
 ghost use Rattle.mm_schema.specs.Sorting.{in_order};
 ghost use Rattle.mm_schema.specs.declared.index.IndexKind.TheVariants as kind;
 ghost use Rattle.mm_store.specs.Tables.{IsAt};
+ghost use Rattle.mm_value.specs.Prefix.{order_prefix};
 
 use crate::meter::Meter;
 use crate::store::Store;
@@ -36,6 +37,17 @@ impl Store {
     {
         meter.count();
         self.table(table).row(at)
+    }
+
+    /// The `order_prefix` of what the row of a live reference of a table has in a column, without a look at the row, so that no
+    /// meter counts it. None where the prefixes of the column are not kept.
+    pub fn prefix_of(&self, table: usize, column: usize, at: RowRef) -> Option<u64>
+        requires there { table < length self.now.tables }
+        requires live { (stored : StoredRows) → IsAt self.now table stored → IsLive stored.places at }
+        ensures { (stored : StoredRows) → IsAt self.now table stored → IfSome result (λ prefix.
+            option_map order_prefix (slice_get (row_at (slot_at stored.places) at) column) ≡ Some prefix) }
+    {
+        self.table(table).prefix_of(column, at)
     }
 
     /// Copies of all rows of a table, in the order of their keys. `Memory` where memory is refused; that is the only refusal.
