@@ -1,12 +1,14 @@
 -- Walks along the rows of a table, and a value that is sought along them.
-use Rattle.std.proofs.Common.{◌≡◌, ℕ, ◌+◌, ◌<◌, ◌≤◌, Bool, true, false, List, [], ◌++◌, Some, length, get_or, take, drop, refl, sym, ap, ◌∙◌, subst, ◌-◌, arith, length-drop}
+use Rattle.std.proofs.Common.{◌≡◌, ℕ, ◌+◌, ◌<◌, ◌≤◌, Bool, true, false, List, [], ◌++◌, None, Some, length, get_or, take, drop, refl, sym, ap, ◌∙◌, subst, ◌-◌, arith, length-drop}
 use Rattle.std.specs.Prelude.{pos, slice_get}
 use Rattle.std.specs.List.{All, AllWithin, Contains, filter}
 use Rattle.std.specs.List.Sorted.{IsNonDecreasingBy, IsPermutation}
-use Rattle.std.specs.Option.{option_cmp}
-use Rattle.std.specs.Ordering.{is_eq, is_ge, is_gt, ordering_index}
+use Rattle.std.specs.Option.{ForSome, option_cmp, option_copied}
+use Rattle.std.specs.Cmp.{nat_cmp_total}
+use Rattle.std.specs.Ordering.{is_eq, is_ge, is_gt, nat_cmp, ordering_index}
 use Rattle.std.specs.declared.cmp.Ordering.{Ordering}
 use Rattle.std.specs.declared.cmp.Ordering.TheVariants.{Less, Equal, Greater}
+use Rattle.std.proofs.lemmas.Cmp.{tied_itself}
 use Rattle.std.proofs.lemmas.List.{append-nil, get_or-drop, get_or-take, length-take-le, take-append-drop, take_all}
 use Rattle.std.proofs.lemmas.List.Elements.{All-contains, filter-append}
 use Rattle.std.proofs.lemmas.List.Sorted.{All-permutation, IsNonDecreasingBy-drop, IsPermutation-refl}
@@ -27,10 +29,13 @@ use Rattle.mm_store.proofs.Joining.{one_relation, some_at}
 use Rattle.mm_store.specs.Tables.{IsAt}
 use Rattle.mm_templist.specs.Combos.{row_of}
 use Rattle.mm_value.specs.Order.{value_cmp}
+use Rattle.mm_value.specs.Prefix.{order_prefix}
 use Rattle.mm_value.specs.declared.row_ref.RowRef.{RowRef}
 use Rattle.mm_value.specs.declared.values.Value.{Value}
 use Rattle.mm_value.specs.declared.values.Value.TheVariants.{Int}
-use Rattle.mm_join.specs.Cursor.{HasSoughtColumn, IsAlong, lies_to}
+use Rattle.mm_join.proofs.Prefixed.{IsMonotone-stands_to}
+use Rattle.mm_join.specs.Column.{HasItsColumn}
+use Rattle.mm_join.specs.Cursor.{IsAlong, lies_to, stands_to}
 use Rattle.mm_join.specs.Equated.{HaveMatches}
 use Rattle.mm_join.specs.declared.cursor.Sought.{Sought}
 
@@ -65,21 +70,6 @@ less_is_not_equal : (o : Ordering) → o ≡ Less → is_eq o ≡ false
 less_is_not_equal o e = ap is_eq e
 
 module _ (sought : Sought) where
-  -- The row that the store gives has the column.
-  pub row_has_column : sought.table < length sought.store.now.tables → (at : RowRef) → HasSoughtColumn sought at
-      → (row : List Value) → row_of sought.store.now sought.table at ≡ row → sought.column < length row
-  row_has_column there at has row is =
-      let (stored, here) = some_at sought.store.now.tables sought.table there in
-      let wide = has stored here in
-      subst (λ r. sought.column < length r) (sym (ap row_in wide.live) ∙ (sym (row_here sought.store.now sought.table stored here at) ∙ is)) wide.column_in
-
-  -- Its value in the column tells how it stands to the value that is sought.
-  pub lies_by : (at : RowRef) (row : List Value) (x : Value) → row_of sought.store.now sought.table at ≡ row → slice_get row sought.column ≡ Some x
-      → lies_to sought at ≡ value_cmp x sought.value.now
-  lies_by at row x is has =
-      ap (λ r. option_cmp value_cmp (slice_get r sought.column) (Some sought.value.now)) is
-      ∙ ap (λ o. option_cmp value_cmp o (Some sought.value.now)) has
-
   -- ---- along the run
 
   abbrev pub equal : RowRef → Bool
@@ -97,49 +87,70 @@ module _ (sought : Sought) where
         ∙ (ap (λ xs. filter equal (take i refs) ++ xs) (sym none)
         ∙ (sym (filter-append equal (take i refs) (drop i refs)) ∙ ap (filter equal) (take-append-drop i refs)))
 
+  none_taken : (refs : List RowRef) (first : ℕ) → All (λ at. lies_to sought at ≡ Less) (take first refs) → filter equal (take first refs) ≡ []
+  none_taken refs first before =
+      filter-none equal (take first refs) (λ k d below. less_is_not_equal (lies_to sought (get_or (take first refs) k d)) (before k d below))
+
   -- The run lies behind all rows with lesser values.
   pub run_behind : (refs : List RowRef) (first : ℕ) → All (λ at. lies_to sought at ≡ Less) (take first refs)
       → filter equal (drop first refs) ≡ filter equal refs
   run_behind refs first before =
-      let none : filter equal (take first refs) ≡ [] = filter-none equal (take first refs)
-      (λ k d below. less_is_not_equal (lies_to sought (get_or (take first refs) k d)) (before k d below)) in
-      ap (λ xs. xs ++ filter equal (drop first refs)) (sym none)
+      ap (λ xs. xs ++ filter equal (drop first refs)) (sym (none_taken refs first before))
       ∙ (sym (filter-append equal (take first refs) (drop first refs)) ∙ ap (filter equal) (take-append-drop first refs))
+
+  -- There is no run where all rows are less, ..
+  pub none_at_end : (refs : List RowRef) (first : ℕ) → All (λ at. lies_to sought at ≡ Less) (take first refs) → first ≡ length refs
+      → filter equal refs ≡ []
+  none_at_end refs first before end = ap (filter equal) (sym (take_all first refs (omega (arith, end)))) ∙ none_taken refs first before
+
+  -- .. or the first one that is not is behind what is sought.
+  pub none_before : (refs : List RowRef) (first : ℕ) (d : RowRef) → first < length refs → IsAlong sought refs
+      → All (λ at. lies_to sought at ≡ Less) (take first refs) → is_gt (lies_to sought (get_or refs first d)) ≡ true → filter equal refs ≡ []
+  none_before refs first d within along before greater = sym (run_ends refs first d within along greater) ∙ none_taken refs first before
 
   -- The rest of the rows is in their order, too.
   pub along_rest : (refs : List RowRef) (n : ℕ) → IsAlong sought refs → IsAlong sought (drop n refs)
   along_rest refs n along = record {
     there = along.there;
-    wide = λ k d below. subst (HasSoughtColumn sought) (sym (get_or-drop n refs k d)) (along.wide (n + k) d (omega (arith, below, length-drop n refs)));
+    same = along.same;
+    wide = λ k d below. subst (HasItsColumn sought.of) (sym (get_or-drop n refs k d)) (along.wide (n + k) d (omega (arith, below, length-drop n refs)));
     rising = IsNonDecreasingBy-drop (λ at. ordering_index (lies_to sought at)) n refs along.rising;
   }
 
   -- ---- along a walk
 
-  module _ (stored : StoredRows) (here : IsAt sought.store.now sought.table stored) where
-    lies_here : lies_to sought ≡ place_by sought.column (slot_at stored.places) sought.value.now
-    lies_here = λ i at.
-        option_cmp value_cmp (slice_get (row_here sought.store.now sought.table stored here at i) sought.column) (Some sought.value.now)
+  module _ (stored : StoredRows) (here : IsAt sought.of.store.now sought.of.table stored) where
+    abbrev pub place_here : RowRef → Ordering
+    place_here at = stands_to (option_copied sought.value) sought.prefix (slice_get (row_at (slot_at stored.places) at) sought.of.column)
 
-    -- What lies at the value has it.
-    pub equal_here : (refs : List RowRef) → filter equal refs ≡ filter (has_value sought.column (slot_at stored.places) sought.value.now) refs
-    equal_here refs = ap (λ (place : RowRef → Ordering). filter (λ at. is_eq (place at)) refs) lies_here
+    pub lies_here : lies_to sought ≡ place_here
+    lies_here = λ i at.
+        stands_to (option_copied sought.value) sought.prefix
+        (slice_get (row_here sought.of.store.now sought.of.table stored here at i) sought.of.column)
+
+    -- What lies at a value has it.
+    pub equal_here : (value : Value) → option_copied sought.value ≡ Some value → (refs : List RowRef)
+        → filter equal refs ≡ filter (has_value sought.of.column (slot_at stored.places) value) refs
+    equal_here value is refs =
+        ap (λ (place : RowRef → Ordering). filter (λ at. is_eq (place at)) refs) lies_here
+        ∙ ap (λ o. filter (λ at. is_eq (stands_to o sought.prefix (slice_get (row_at (slot_at stored.places) at) sought.of.column))) refs) is
 
     -- A walk goes along the order of the values.
-    pub walk_along : sought.table < length sought.store.now.tables → (walk : List RowRef) → IsWalk sought.column stored walk → IsAlong sought walk
-    walk_along there walk is_walk =
-        let column = sought.column in
-        let value = sought.value.now in
+    pub walk_along : sought.of.table < length sought.of.store.now.tables → ForSome sought.value (λ v. sought.prefix ≡ order_prefix v.now)
+        → (walk : List RowRef) → IsWalk sought.of.column stored walk → IsAlong sought walk
+    walk_along there same walk is_walk =
+        let column = sought.of.column in
         let slots : Slots = slot_at stored.places in
         record {
           there = there;
+          same = same;
           wide = λ k d within other at.
               let wide = is_walk.ordered.covered k d within in
               subst (λ (s : StoredRows). HasColumn column (slot_at s.places) (get_or walk k d)) (one_relation stored other (sym here ∙ at))
               (record { row = wide.row; live = wide.live; column_in = wide.column_in });
           rising = subst (λ (place : RowRef → Ordering). IsNonDecreasingBy (λ at. ordering_index (place at)) walk) (sym lies_here)
               (IsNonDecreasingBy-places (IsWide column stored.key slots) (refs_by column stored.key slots) walk is_walk.ordered
-              (IsWide column stored.key slots) (place_by column slots value) (IsMonotone-at_value column stored.key slots value));
+              (IsWide column stored.key slots) place_here (IsMonotone-stands_to column stored.key slots (option_copied sought.value) sought.prefix));
         }
 
 -- The references of all rows are a walk along the key.
@@ -155,6 +166,17 @@ rest_of xs n = take_all (length xs - n) (drop n xs) (omega (arith, length-drop n
 
 -- ---- what is found
 
+-- A row of the table has a value in the column of a walk.
+has_value_there : (column : ℕ) (stored : StoredRows) (walk : List RowRef) → IsWalk column stored walk → (at : RowRef) → Contains stored.refs at
+    → slice_get (row_at (slot_at stored.places) at) column ≡ Some (value_in column (row_at (slot_at stored.places) at))
+has_value_there column stored walk is_walk at among =
+    let slots : Slots = slot_at stored.places in
+    let every : All (IsWide column stored.key slots) stored.refs =
+    All-permutation (IsWide column stored.key slots) walk stored.refs is_walk.same is_walk.ordered.covered in
+    let wide = All-contains (IsWide column stored.key slots) stored.refs at every among in
+    let within : column < length (row_at slots at) = subst (λ row. column < length row) (sym (ap row_in wide.live)) wide.column_in in
+    slice_get-get_or (row_at slots at) column (Int (pos 0)) within
+
 module _ (column : ℕ) (stored : StoredRows) (value : Value) (walk : List RowRef) (is_walk : IsWalk column stored walk) where
   abbrev slots : Slots
   slots = slot_at stored.places
@@ -162,11 +184,7 @@ module _ (column : ℕ) (stored : StoredRows) (value : Value) (walk : List RowRe
   -- A row of the table that has the value in the column passes the test.
   has_own : (at : RowRef) → Contains stored.refs at → value_in column (row_at slots at) ≡ value → has_value column slots value at ≡ true
   has_own at among is =
-      let every : All (IsWide column stored.key slots) stored.refs =
-      All-permutation (IsWide column stored.key slots) walk stored.refs is_walk.same is_walk.ordered.covered in
-      let wide = All-contains (IsWide column stored.key slots) stored.refs at every among in
-      let within : column < length (row_at slots at) = subst (λ row. column < length row) (sym (ap row_in wide.live)) wide.column_in in
-      ap is_eq (place_own (slice_get (row_at slots at) column) value (slice_get-get_or (row_at slots at) column (Int (pos 0)) within ∙ ap Some is))
+      ap is_eq (place_own (slice_get (row_at slots at) column) value (has_value_there column stored walk is_walk at among ∙ ap Some is))
 
   -- The rows of a walk that have a value are among all rows those that have it.
   pub walk_matches : (found : List RowRef) → found ≡ filter (has_value column slots value) walk → HaveMatches column slots value stored.refs found
@@ -175,4 +193,26 @@ module _ (column : ℕ) (stored : StoredRows) (value : Value) (walk : List RowRe
     has_own,
     subst (λ xs. IsPermutation xs (filter (has_value column slots value) stored.refs)) (sym is)
         (filter_moved (has_value column slots value) walk stored.refs is_walk.same),
+  )
+
+module _ (sought : Sought) (stored : StoredRows) (here : IsAt sought.of.store.now sought.of.table stored) (value : Value)
+    (any : option_copied sought.value ≡ None) (is : order_prefix value ≡ sought.prefix) (walk : List RowRef) (is_walk : IsWalk sought.of.column stored walk) where
+  -- A row that has a value lies at its prefix.
+  has_prefix : (at : RowRef) → Contains stored.refs at → value_in sought.of.column (row_at (slot_at stored.places) at) ≡ value → equal sought at ≡ true
+  has_prefix at among has =
+      let slots : Slots = slot_at stored.places in
+      let column = sought.of.column in
+      let there : slice_get (row_at slots at) column ≡ Some value = has_value_there column stored walk is_walk at among ∙ ap Some has in
+      ap is_eq
+      (ap (λ (place : RowRef → Ordering). place at) (lies_here sought stored here)
+      ∙ (ap (λ o. stands_to o sought.prefix (slice_get (row_at slots at) column)) any
+      ∙ (ap (stands_to None sought.prefix) there
+      ∙ (ap (λ n. nat_cmp n sought.prefix) is ∙ tied_itself nat_cmp_total sought.prefix))))
+
+  -- Where no row of a walk lies at a prefix, none has a value with it.
+  pub none_matches : filter (equal sought) walk ≡ [] → HaveMatches sought.of.column (slot_at stored.places) value stored.refs []
+  none_matches none = (
+    equal sought,
+    has_prefix,
+    subst (λ xs. IsPermutation xs (filter (equal sought) stored.refs)) none (filter_moved (equal sought) walk stored.refs is_walk.same),
   )

@@ -1,8 +1,10 @@
 pub mod Caps
 pub mod Chosen
+pub mod Columns
 pub mod Cursors
 pub mod JoinKeys
 pub mod JoinSteps
+pub mod Prefixed
 pub mod Probed
 pub mod Progress
 pub mod RowOfKey

@@ -9,7 +9,7 @@ use Rattle.std.specs.declared.cmp.Ordering.{Ordering}
 use Rattle.std.specs.declared.cmp.Ordering.TheVariants as ordering
 use Rattle.std.proofs.lemmas.Bool.{cases_Bool, eq-eqb, false≢true}
 use Rattle.std.proofs.lemmas.Cmp.{tied_itself}
-use Rattle.std.proofs.lemmas.List.{map-append}
+use Rattle.std.proofs.lemmas.List.{append-nil, map-append}
 use Rattle.std.proofs.lemmas.List.Elements.{All-filter, Contains-get_or, filter_agree}
 use Rattle.std.proofs.lemmas.List.Sorted.{All-permutation, IsPermutation-map, IsPermutation-push_more, IsPermutation-refl, IsPermutation-sym, IsPermutation-trans}
 use Rattle.mlhash.specs.Bag.{refs_of}
@@ -217,3 +217,11 @@ module _ (store : Tables) (outers : List ℕ) (table : ℕ) (atoms : List (Atom 
       (have_cover store table stored here atoms outers front (holds_there fronts i front there (AreLive store outers) every) key joins partial chosen
       found have)
       so_far
+
+  -- Where no row has that value, it is a combination further with nothing added.
+  pub none_step : (i : ℕ) (combos : List (List RowRef)) (front : List RowRef) → slice_get fronts i ≡ Some front
+      → HaveMatches key.column (slot_at stored.places) (sought key (map Some (rows_of_combo store outers front))) stored.refs []
+      → Progress store outers table atoms fronts i combos → Progress store outers table atoms fronts (i + 1) combos
+  none_step i combos front there have so_far =
+      subst (Progress store outers table atoms fronts (i + 1)) (append-nil combos)
+      (have_step i combos front (map Some (rows_of_combo store outers front)) [] there refl have so_far)

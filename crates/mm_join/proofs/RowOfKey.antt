@@ -53,7 +53,7 @@ module _ (store : Tables) where
   live_at (t ∷ tables) (r ∷ refs) live (suc k) d within = live_at tables refs live.1 k d (omega (arith, within))
 
   -- .. and its row stands at its place.
-  row_there : (tables : List ℕ) (front : List RowRef) → AreLive store tables front → (k : ℕ) (d : RowRef) → k < length tables
+  pub row_there : (tables : List ℕ) (front : List RowRef) → AreLive store tables front → (k : ℕ) (d : RowRef) → k < length tables
       → get_or (map Some (rows_of_combo store tables front)) k None ≡ Some (row_of store (get_or tables k 0) (get_or front k d))
   row_there [] [] live k d within = absurd (omega (arith, within))
   row_there [] (r ∷ refs) live k d within = absurd live

@@ -1,4 +1,5 @@
 pub mod Caps
+pub mod Column
 pub mod Cursor
 pub mod Equated
 pub mod Joined

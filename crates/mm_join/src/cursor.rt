@@ -1,16 +1,21 @@
 //! A place in a walk along a tree, for values that are looked up in ascending order.
-ghost use Rattle.std.specs.Prelude.{◌≡◌, ◌≢◌, ℕ, ◌<◌, ◌≤◌, All, IfOk, OnOk, drop, filter, length, take};
+ghost use Rattle.std.specs.Prelude.{◌≡◌, ◌≢◌, ℕ, ◌<◌, ◌≤◌, true, [], All, IfOk, OnOk, drop, filter, length, take};
+ghost use Rattle.std.specs.Option.{ForSome};
 ghost use Rattle.std.specs.Ordering.{is_eq};
-ghost use Rattle.mm_join.specs.Cursor.{HasSoughtColumn, IsAlong, lies_to};
+ghost use Rattle.mm_join.specs.Column.{HasItsColumn};
+ghost use Rattle.mm_join.specs.Cursor.{IsAlong, lies_to};
 ghost use Rattle.mm_join.specs.Equated.{HaveMatches};
 ghost use Rattle.mm_partition.specs.Places.{slot_at};
 ghost use Rattle.mm_relation.specs.Kept.{StoredRows};
 ghost use Rattle.mm_relation.specs.Reads.{IsWalk, has_value};
 ghost use Rattle.mm_select.specs.Asked.{IsTreeOn};
 ghost use Rattle.mm_store.specs.Tables.{IsAt};
+ghost use Rattle.mm_value.specs.Prefix.{order_prefix};
+ghost use Rattle.mm_value.specs.declared.values.Value.{Value as AnyValue};
 
+use crate::column::ColumnOf;
 use mm_store::{Meter, Store};
-use mm_value::{RowRef, Value, compare};
+use mm_value::{RowRef, Value, compare, order_prefix};
 use std::alloc::{AllocError, Global};
 use std::cmp::Ordering;
 use std::marker::Model;
@@ -66,60 +71,86 @@ impl Cursor {
     /// on. The meter counts each row that is looked at. `AllocError` where memory is refused.
     pub fn find(
         &mut self,
-        store: &Store,
         meter: &mut Meter,
-        table: usize,
-        column: usize,
+        of: ColumnOf<'_>,
         value: &Value,
         found: &mut Vec<RowRef>,
     ) -> Result<(), AllocError>
-        requires there { table < length store.now.tables }
-        requires walk { (stored : StoredRows) → IsAt store.now table stored → IsWalk column stored self.old }
+        requires there { of.table < length of.store.now.tables }
+        requires walk { (stored : StoredRows) → IsAt of.store.now of.table stored → IsWalk of.column stored self.old }
         ensures walk { self.new ≡ self.old }
-        ensures run { OnOk result ((stored : StoredRows) → IsAt store.now table stored
-            → found.new.items ≡ filter (has_value column (slot_at stored.places) value.now) self.old) }
-        ensures matches { OnOk result ((stored : StoredRows) → IsAt store.now table stored
-            → HaveMatches column (slot_at stored.places) value.now stored.refs found.new.items) }
+        ensures run { OnOk result ((stored : StoredRows) → IsAt of.entry.store.now of.entry.table stored
+            → found.new.items ≡ filter (has_value of.entry.column (slot_at stored.places) value.now) self.old) }
+        ensures matches { OnOk result ((stored : StoredRows) → IsAt of.entry.store.now of.entry.table stored
+            → HaveMatches of.entry.column (slot_at stored.places) value.now stored.refs found.new.items) }
     {
         let sought = Sought {
-            store,
-            table,
-            column,
-            value,
+            of,
+            prefix: order_prefix(value),
+            value: Some(value),
         };
         let refs = self.refs.as_slice();
-        let start = sought.start(meter, refs, self.at);
-        let first = sought.skip_less(meter, refs, start);
+        let first = sought.first(meter, refs, self.at);
         let copied = sought.copy_equal(meter, &refs[first..], found);
         self.at = first;
         copied
     }
+
+    /// Whether the prefixes tell that no row has a value with this prefix in the tree's column. Then the next look-up begins
+    /// where such a row would stand. The meter counts only rows whose prefixes are not kept.
+    pub fn has_none(&mut self, meter: &mut Meter, of: ColumnOf<'_>, prefix: u64) -> bool
+        requires there { of.table < length of.store.now.tables }
+        requires walk { (stored : StoredRows) → IsAt of.store.now of.table stored → IsWalk of.column stored self.old }
+        ensures walk { self.new ≡ self.old }
+        ensures none { result ≡ true → (stored : StoredRows) (value : AnyValue) → IsAt of.entry.store.now of.entry.table stored → order_prefix value ≡ prefix
+            → HaveMatches of.entry.column (slot_at stored.places) value stored.refs [] }
+    {
+        let sought = Sought {
+            of,
+            prefix,
+            value: None,
+        };
+        let refs = self.refs.as_slice();
+        // A row with the prefix stands just before: its value tells, and the place is kept for the look-up.
+        if self.at > 0 && sought.place(meter, refs[self.at - 1]).is_eq() {
+            return false;
+        }
+        let first = sought.first(meter, refs, self.at);
+        self.at = first;
+        first == refs.len() || sought.place(meter, refs[first]).is_gt()
+    }
 }
 
-/// A value that is sought in a column of a table.
+/// What is sought in a column of a table: a value, or any value with a prefix.
 #[derive(Clone, Copy)]
 struct Sought<'s> {
-    store: &'s Store,
-    /// The place of the table in the store.
-    table: usize,
-    /// The column, counted from 0.
-    column: usize,
-    value: &'s Value,
+    of: ColumnOf<'s>,
+    prefix: u64,
+    /// The value, if one is sought, which has that prefix.
+    value: Option<&'s Value>,
 }
 
 impl Sought<'_> {
-    /// How the value of a row stands to the one that is sought. The meter counts the row.
+    /// How the value of a row stands to what is sought: by their prefixes, and by the values where these are equal. The meter
+    /// counts the row if it is looked at.
     fn place(&self, meter: &mut Meter, at: RowRef) -> Ordering
-        requires there { self.now.table < length self.now.store.now.tables }
-        requires column { HasSoughtColumn self.now at }
+        requires there { self.now.of.table < length self.now.of.store.now.tables }
+        requires column { HasItsColumn self.now.of at }
+        requires same { ForSome self.now.value (λ value. self.now.prefix ≡ order_prefix value.now) }
         ensures { result ≡ lies_to self.now at }
     {
-        let row = self.store.row(meter, self.table, at);
-        compare(row.value(self.column), self.value)
+        let own = self.of.prefix(meter, at);
+        if own != self.prefix {
+            return own.cmp(&self.prefix);
+        }
+        match self.value {
+            Some(value) => compare(self.of.value(meter, at), value),
+            None => Ordering::Equal,
+        }
     }
 
-    /// Where along these references the search begins: where the last one ended, if the values of all rows before that are less,
-    /// or else at the front.
+    /// Where along these references the search begins: where the last one ended, if all rows before that are less, or else at
+    /// the front.
     fn start(&self, meter: &mut Meter, refs: &[RowRef], last: usize) -> usize
         requires along { IsAlong self.now refs.now }
         requires bound { last ≤ length refs.now }
@@ -132,7 +163,7 @@ impl Sought<'_> {
         last
     }
 
-    /// How many of these rows have lesser values, where those of the first `start` are less.
+    /// How many of these rows are less, where the first `start` are.
     fn skip_less(&self, meter: &mut Meter, refs: &[RowRef], start: usize) -> usize
         requires along { IsAlong self.now refs.now }
         requires bound { start ≤ length refs.now }
@@ -158,8 +189,20 @@ impl Sought<'_> {
         low
     }
 
-    /// Puts the first ones of these references, those of the rows that have the value, in the place of those that `found` has.
-    /// `AllocError` where memory is refused.
+    /// How many of these rows are less, where the last search ended at `last`.
+    fn first(&self, meter: &mut Meter, refs: &[RowRef], last: usize) -> usize
+        requires along { IsAlong self.now refs.now }
+        requires bound { last ≤ length refs.now }
+        ensures bound { result ≤ length refs.now }
+        ensures before { All (λ at. lies_to self.now at ≡ Ordering.Less) (take result refs.now) }
+        ensures rest { All (λ at. lies_to self.now at ≢ Ordering.Less) (drop result refs.now) }
+    {
+        let start = self.start(meter, refs, last);
+        self.skip_less(meter, refs, start)
+    }
+
+    /// Puts the first ones of these references, those of the rows that have what is sought, in the place of those that `found`
+    /// has. `AllocError` where memory is refused.
     fn copy_equal(
         &self,
         meter: &mut Meter,

@@ -1,6 +1,6 @@
 //! Join equalities of a further table.
-ghost use Rattle.std.specs.Prelude.{◌≡◌, ◌⊎◌, ℕ, ◌<◌, List, length, Contains, IfNone, IfSome};
-ghost use Rattle.mm_join.specs.Equated.{IsJoin, IsJoinEquality};
+ghost use Rattle.std.specs.Prelude.{◌≡◌, ◌⊎◌, ◌↔◌, ℕ, ◌<◌, List, length, pos, Contains, IfNone, IfSome, IsTrue};
+ghost use Rattle.mm_join.specs.Equated.{IsJoin, IsJoinEquality, added};
 ghost use Rattle.mm_join.specs.declared.key.Shift.TheVariants as shift;
 ghost use Rattle.mm_query.specs.declared.atom.Atom.{Atom as AnyAtom};
 
@@ -13,6 +13,18 @@ pub enum Shift {
     Plus(i64),
     /// The opposite of the number.
     Minus(i64),
+}
+
+impl Shift {
+    /// Whether each value stays.
+    pub(crate) fn adds_nothing(self) -> bool
+        ensures { IsTrue result ↔ added self ≡ pos 0 }
+    {
+        match self {
+            Shift::Plus(by) => by == 0,
+            Shift::Minus(by) => by == 0,
+        }
+    }
 }
 
 /// A join equality of a further table: the value in one of its columns has to be that of a field of the outer list, shifted.

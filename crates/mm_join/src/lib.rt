@@ -2,6 +2,7 @@
 #![tactic(auto)]
 
 mod built;
+mod column;
 mod cursor;
 mod followed;
 mod inner;

@@ -15,7 +15,7 @@ ghost use Rattle.mm_templist.specs.Combos.{AreLive, combo_rows};
 
 use crate::inner::{Inner, choose};
 use crate::key::JoinKey;
-use crate::ways::{Lookup, Way, find_partners};
+use crate::ways::{Lookup, Way, find_partners, lacks_partners};
 use mm_query::{Atom, FieldPlace};
 use mm_store::{Meter, Store};
 use mm_templist::{Descriptor, TempList};
@@ -128,6 +128,9 @@ pub(crate) fn probe<'a>(
     let mut list = TempList::new(alloc, descriptor);
     for i in 0..outer.len() {
         let front = outer.combo(i);
+        if lacks_partners(store, meter, inner.table, way, places, front, key) {
+            continue;
+        }
         choose(store, meter, places, front, &mut rows)?;
         find_partners(
             alloc,

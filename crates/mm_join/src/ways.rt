@@ -1,15 +1,19 @@
 //! Ways to the rows of the inner table that have a value.
-ghost use Rattle.std.specs.Prelude.{◌≡◌, ℕ, ◌+ℤ◌, ◌<◌, IfSome, OnOk, length, map, pos};
-ghost use Rattle.std.specs.Option.{option_copied, unwrap_or};
+ghost use Rattle.std.specs.Prelude.{◌≡◌, ℕ, ◌+ℤ◌, ◌<◌, true, [], IfSome, OnOk, Some, length, map, pos};
+ghost use Rattle.std.specs.Option.{option_copied, option_map, unwrap_or};
 ghost use Rattle.mm_join.specs.Equated.{HaveMatches, added, sought};
 ghost use Rattle.mm_join.specs.Ways.{IsLookup, IsWay};
 ghost use Rattle.mm_partition.specs.Places.{slot_at};
 ghost use Rattle.mm_query.specs.Queries.{value_at};
 ghost use Rattle.mm_relation.specs.Kept.{StoredRows};
+ghost use Rattle.mm_relation.specs.Reads.{IsWalk};
 ghost use Rattle.mm_store.specs.Tables.{IsAt};
+ghost use Rattle.mm_templist.specs.Combos.{AreLive, rows_of_combo};
+ghost use Rattle.mm_value.specs.Prefix.{order_prefix};
 ghost use Rattle.mm_value.specs.declared.values.Value.{Value as AnyValue};
 ghost use Rattle.mm_value.specs.declared.values.Value.TheVariants.{Int};
 
+use crate::column::ColumnOf;
 use crate::cursor::Cursor;
 use crate::key::{JoinKey, Shift};
 use mlhash::HashRefs;
@@ -87,16 +91,6 @@ fn look_up(
     Ok(())
 }
 
-/// A column of a table.
-#[derive(Clone, Copy)]
-pub(crate) struct ColumnOf<'s> {
-    pub store: &'s Store,
-    /// The place of the table in the store.
-    pub table: usize,
-    /// The column, counted from 0.
-    pub column: usize,
-}
-
 /// Puts the references of rows of a table, among them all that have this value in a column, in no promised order, in the place
 /// of those that `found` has. `AllocError` where memory is refused.
 fn find_matches(
@@ -115,7 +109,7 @@ fn find_matches(
 {
     match way {
         Way::Lookup(lookup) => look_up(alloc, of.store.table(of.table), *lookup, value, found),
-        Way::Walk(cursor) => cursor.find(of.store, meter, of.table, of.column, value, found),
+        Way::Walk(cursor) => cursor.find(meter, of, value, found),
     }
 }
 
@@ -183,5 +177,79 @@ pub(crate) fn find_partners(
         }
         Some(text) => find_matches(alloc, meter, of, way, text, found),
         None => find_number(alloc, meter, of, way, 0, key.shift, found),
+    }
+}
+
+/// The prefix of the value of a field in the row of a combination of these tables. None where it is not kept, or there is no
+/// such field.
+fn prefix_of_field(
+    store: &Store,
+    tables: &[usize],
+    front: &[RowRef],
+    field: FieldPlace,
+) -> Option<u64>
+    requires { AreLive store.now tables.now front.now }
+    ensures { IfSome result (λ prefix. option_map order_prefix (value_at (map Some (rows_of_combo store.now tables.now front.now)) field) ≡ Some prefix) }
+{
+    if field.place >= tables.len() {
+        return None;
+    }
+    store.prefix_of(tables[field.place], field.column, front[field.place])
+}
+
+/// Whether prefixes tell that no row of a table has, in the column of a key, the value that it asks for behind a combination of
+/// these tables, where it asks for a field's own value. A walk goes on to where such a row would stand.
+fn lacks_along(
+    store: &Store,
+    meter: &mut Meter,
+    table: usize,
+    cursor: &mut Cursor,
+    tables: &[usize],
+    front: &[RowRef],
+    key: JoinKey,
+) -> bool
+    requires there { table < length store.now.tables }
+    requires live { AreLive store.now tables.now front.now }
+    requires walk { (stored : StoredRows) → IsAt store.now table stored → IsWalk key.column stored cursor.old }
+    ensures none { result ≡ true → (stored : StoredRows) → IsAt store.now table stored → HaveMatches key.column (slot_at stored.places)
+        (sought key (map Some (rows_of_combo store.now tables.now front.now))) stored.refs [] }
+    ensures walk { cursor.new ≡ cursor.old }
+{
+    if !key.shift.adds_nothing() {
+        return false;
+    }
+    let column = key.column;
+    let of = ColumnOf {
+        store,
+        table,
+        column,
+    };
+    match prefix_of_field(store, tables, front, key.field) {
+        Some(prefix) => cursor.has_none(meter, of, prefix),
+        None => false,
+    }
+}
+
+/// Whether it is known with no look at a row that no row of a table has, in the column of a key, the value that it asks for
+/// behind a combination of these tables. Along a walk prefixes mostly tell.
+pub(crate) fn lacks_partners(
+    store: &Store,
+    meter: &mut Meter,
+    table: usize,
+    way: &mut Way<'_>,
+    tables: &[usize],
+    front: &[RowRef],
+    key: JoinKey,
+) -> bool
+    requires there { table < length store.now.tables }
+    requires live { AreLive store.now tables.now front.now }
+    requires way { (stored : StoredRows) → IsAt store.now table stored → IsWay stored way.old key.column }
+    ensures none { result ≡ true → (stored : StoredRows) → IsAt store.now table stored → HaveMatches key.column (slot_at stored.places)
+        (sought key (map Some (rows_of_combo store.now tables.now front.now))) stored.refs [] }
+    ensures way { (stored : StoredRows) → IsAt store.now table stored → IsWay stored way.new key.column }
+{
+    match way {
+        Way::Lookup(_) => false,
+        Way::Walk(cursor) => lacks_along(store, meter, table, cursor, tables, front, key),
     }
 }

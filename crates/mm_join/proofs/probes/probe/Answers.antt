@@ -1,4 +1,4 @@
-use Rattle.std.proofs.Common.{◌≡◌, ◌+◌, ◌≤◌, ◌++◌, List, Option, Some, Bor, inl, inr, get_or, length, map, sym, ap, ◌∙◌, subst}
+use Rattle.std.proofs.Common.{◌≡◌, ◌+◌, ◌≤◌, [], ◌++◌, List, Option, Some, Bor, inl, inr, get_or, length, map, sym, ap, ◌∙◌, subst}
 use Rattle.std.specs.Option.{option_copied}
 use Rattle.std.proofs.lemmas.Result.{err_from_is_err_and}
 use Rattle.mm_partition.specs.Places.{slot_at}
@@ -8,7 +8,7 @@ use Rattle.mm_templist.specs.Combos.{AreLive, Combos, rows_of_combo}
 use Rattle.mm_value.specs.declared.row_ref.RowRef.{RowRef}
 use Rattle.mm_join.proofs.Caps.{cap_within}
 use Rattle.mm_join.proofs.JoinSteps.{Row}
-use Rattle.mm_join.proofs.Probed.{have_live, have_step}
+use Rattle.mm_join.proofs.Probed.{have_live, have_step, none_step}
 use Rattle.mm_join.proofs.Progress.{Progress, holds_there, next_table, one_wider, due_end, due_on_way, joined_end, live_end}
 use Rattle.mm_join.specs.Equated.{HaveMatches, sought}
 use Rattle.mm_join.specs.Joined.{IsNext}
@@ -66,6 +66,36 @@ returns-in_err-add_all-clause-due c = λ table next.
       | inl due ↦ inl (due_on_way store outer c.args.descriptor.tables.now c.args.atoms.now table t wanted next.0 c.args.cap (c.loop-i.i + 1) tried _ step due)
       | inr memory ↦ inr memory
     ])
+
+pub choose-requires : goal.choose-requires
+choose-requires c =
+    let store = c.args.store.now in
+    let outer = c.args.outer.now in
+    subst (λ ts. AreLive store ts c.combo-front.result.now) (sym c.descriptor.ensures.tables)
+    (holds_there outer.combos c.loop-i.i c.combo-front.result.now c.combo-front.ensures (AreLive store outer.tables) c.requires.live)
+
+pub loop-i-preserved-then-lacks_partners : goal.loop-i-preserved-then-lacks_partners
+loop-i-preserved-then-lacks_partners c =
+    let store = c.args.store.now in
+    let outer = c.args.outer.now in
+    let relation = c.table.result.now in
+    let here = c.table.ensures.at in
+    let t = get_or c.args.descriptor.tables.now (length c.descriptor.result.tables.now) 0 in
+    let key = c.args.key in
+    let is = c.requires.tables in
+    let same : t ≡ is.0 = next_table c.descriptor.result.tables.now outer.tables c.args.descriptor.tables.now is.0 c.descriptor.ensures.tables is.1.0 in
+    let asked = c.requires.asked t relation (subst (IsNext store outer.tables c.args.descriptor.tables.now) (sym same) is.1) here in
+    let front = c.combo-front.result.now in
+    let none = subst (λ ts. HaveMatches key.column (slot_at relation.places) (sought key (map Some (rows_of_combo store ts front))) relation.refs [])
+    c.descriptor.ensures.tables (c.lacks_partners.ensures.none c.if-lacks_partners.true relation here) in
+    record {
+      tables = c.loop-i.invariant.tables;
+      fields = c.loop-i.invariant.fields;
+      few = c.loop-i.invariant.few;
+      way = c.lacks_partners.ensures.way;
+      progress = none_step store outer.tables t c.args.atoms.now outer.combos relation here c.is_kept.ensures c.requires.live key asked.1 c.loop-i.i
+          c.loop-i.list.combos front c.combo-front.ensures none c.loop-i.invariant.progress;
+    }
 
 pub loop-i-preserved : goal.loop-i-preserved
 loop-i-preserved c =

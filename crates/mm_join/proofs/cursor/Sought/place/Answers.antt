@@ -1,19 +1,29 @@
-use Rattle.std.proofs.Common.{sym, ◌∙◌}
-use Rattle.mm_select.proofs.Walks.{row_given}
-use Rattle.mm_join.proofs.Cursors.{lies_by, row_has_column}
+use Rattle.std.proofs.Common.{Some, None, sym, ap, ◌∙◌}
+use Rattle.std.proofs.lemmas.Cmp.{tied_itself}
+use Rattle.std.specs.Cmp.{nat_cmp_total}
+use Rattle.std.specs.Option.{option_cmp, option_copied}
+use Rattle.std.specs.Ordering.{nat_cmp}
+use Rattle.mm_join.proofs.Prefixed.{by_prefix}
+use Rattle.mm_join.specs.Column.{value_there}
+use Rattle.mm_join.specs.Cursor.{stands_to}
 use Rattle.mm_join.proofs.cursor.Sought.place.Goals as goal
 
-pub row-row-requires-clause-live : goal.row-row-requires-clause-live
-row-row-requires-clause-live c = λ stored here. let wide = c.requires.column stored here in (wide.row, wide.live)
-
-pub value-requires : goal.value-requires
-value-requires c =
+pub returns-then-own-self : goal.returns-then-own-self
+returns-then-own-self c =
     let sought = c.args.self.now in
-    row_has_column sought c.requires.there c.args.at c.requires.column c.row-row.result.now
-    (row_given sought.store.now sought.table c.args.at c.row-row.result.now c.requires.there c.row-row.ensures.row)
+    c.cmp.ensures
+    ∙ by_prefix sought.value sought.prefix c.requires.same (value_there sought.of c.args.at) c.prefix-own.result c.prefix-own.ensures c.if-own-self.true
 
-pub returns : goal.returns
-returns c =
+pub returns-in-Some : goal.returns-in-Some
+returns-in-Some c =
     let sought = c.args.self.now in
-    c.compare.ensures ∙ sym (lies_by sought c.args.at c.row-row.result.now c.value.result.now
-    (row_given sought.store.now sought.table c.args.at c.row-row.result.now c.requires.there c.row-row.ensures.row) c.value.ensures)
+    c.compare.ensures
+    ∙ sym (ap (λ o. stands_to (option_copied o) sought.prefix (value_there sought.of c.args.at)) c.in-Some.is
+    ∙ ap (stands_to (Some c.in-Some.value.now) sought.prefix) c.value.ensures)
+
+pub returns-in-None : goal.returns-in-None
+returns-in-None c =
+    let sought = c.args.self.now in
+    sym (ap (λ o. stands_to (option_copied o) sought.prefix (value_there sought.of c.args.at)) c.in-None.is
+    ∙ (ap (λ o. option_cmp nat_cmp o (Some sought.prefix)) c.prefix-own.ensures
+    ∙ (ap (λ n. nat_cmp n sought.prefix) c.if-own-self.false ∙ tied_itself nat_cmp_total sought.prefix)))
