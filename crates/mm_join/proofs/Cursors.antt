@@ -3,7 +3,7 @@ use Rattle.std.proofs.Common.{◌≡◌, ℕ, ◌+◌, ◌<◌, ◌≤◌, Bool,
 use Rattle.std.specs.Prelude.{pos, slice_get}
 use Rattle.std.specs.List.{All, AllWithin, Contains, filter}
 use Rattle.std.specs.List.Sorted.{IsNonDecreasingBy, IsPermutation}
-use Rattle.std.specs.Option.{ForSome, option_cmp, option_copied}
+use Rattle.std.specs.Option.{ForSome, option_copied}
 use Rattle.std.specs.Cmp.{nat_cmp_total}
 use Rattle.std.specs.Ordering.{is_eq, is_ge, is_gt, nat_cmp, ordering_index}
 use Rattle.std.specs.declared.cmp.Ordering.{Ordering}
@@ -18,17 +18,15 @@ use Rattle.mm_order.proofs.Ordered.{IsNonDecreasingBy-places}
 use Rattle.mm_order.proofs.Places.{greater_from}
 use Rattle.mm_partition.specs.Places.{slot_at}
 use Rattle.mm_query.specs.Atoms.{value_in}
-use Rattle.mm_relation.proofs.Seeks.{IsMonotone-at_value, place_own}
+use Rattle.mm_relation.proofs.Seeks.{place_own}
 use Rattle.mm_relation.specs.Index.{HasColumn}
 use Rattle.mm_relation.specs.Kept.{IsKept, StoredRows}
 use Rattle.mm_relation.specs.Reads.{IsWalk, has_value}
-use Rattle.mm_relation.specs.Refs.{IsWide, Slots, place_by, refs_by, row_at, row_in}
+use Rattle.mm_relation.specs.Refs.{IsWide, Slots, refs_by, row_at, row_in}
 use Rattle.mm_select.proofs.Along.{filter_moved}
 use Rattle.mm_select.proofs.Fits.{row_here}
-use Rattle.mm_store.proofs.Joining.{one_relation, some_at}
+use Rattle.mm_store.proofs.Joining.{one_relation}
 use Rattle.mm_store.specs.Tables.{IsAt}
-use Rattle.mm_templist.specs.Combos.{row_of}
-use Rattle.mm_value.specs.Order.{value_cmp}
 use Rattle.mm_value.specs.Prefix.{order_prefix}
 use Rattle.mm_value.specs.declared.row_ref.RowRef.{RowRef}
 use Rattle.mm_value.specs.declared.values.Value.{Value}

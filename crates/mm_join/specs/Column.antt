@@ -1,5 +1,5 @@
 -- A column of a table of a store.
-use Rattle.std.specs.Prelude.{List, Option, slice_get}
+use Rattle.std.specs.Prelude.{Option, slice_get}
 use Rattle.mm_partition.specs.Places.{slot_at}
 use Rattle.mm_relation.specs.Index.{HasColumn}
 use Rattle.mm_relation.specs.Kept.{StoredRows}

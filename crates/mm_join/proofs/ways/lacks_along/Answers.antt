@@ -8,7 +8,7 @@ use Rattle.mm_value.specs.declared.values.Value.{Value}
 use Rattle.mm_value.specs.declared.values.Value.TheVariants.{Int}
 use Rattle.mm_join.proofs.JoinKeys.{shifted_by_0}
 use Rattle.mm_join.proofs.Prefixed.{unwrapped}
-use Rattle.mm_join.specs.Equated.{HaveMatches, added, sought}
+use Rattle.mm_join.specs.Equated.{HaveMatches, sought}
 use Rattle.mm_join.proofs.ways.lacks_along.Goals as goal
 
 pub returns-in-Some-clause-none : goal.returns-in-Some-clause-none

@@ -1,8 +1,8 @@
-use Rattle.std.proofs.Common.{◌≡◌, ◌<◌, Some, arith, get_or, length, sym, ap, ◌∙◌, subst}
+use Rattle.std.proofs.Common.{◌<◌, arith, get_or, length, sym, ap, ◌∙◌, subst}
 use Rattle.std.specs.Option.{option_map}
 use Rattle.std.specs.Prelude.{slice_get}
 use Rattle.std.proofs.lemmas.Option.{IfSome_then, slice_get_within}
-use Rattle.mm_partition.specs.Places.{IsLive, slot_at}
+use Rattle.mm_partition.specs.Places.{IsLive}
 use Rattle.mm_query.specs.Atoms.{value_in}
 use Rattle.mm_relation.specs.Kept.{StoredRows}
 use Rattle.mm_select.proofs.Fits.{row_here}
