@@ -1,3 +1,4 @@
+pub mod Alone
 pub mod Along
 pub mod Asking
 pub mod Covered

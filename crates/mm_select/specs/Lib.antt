@@ -1,3 +1,4 @@
+pub mod Alone
 pub mod Asked
 pub mod Fitting
 pub mod Matches

@@ -10,7 +10,8 @@ ghost use Rattle.mm_select.specs.Matches.{Covers};
 ghost use Rattle.mm_store.specs.Tables.{IsAt};
 ghost use Rattle.mm_templist.specs.Combos.{AreLive};
 
-use mm_query::{Atom, FieldPlace, none_fails};
+use crate::row_test::{RowTest, some_asks_of_first};
+use mm_query::{Atom, FieldPlace};
 use mm_relation::Relation;
 use mm_store::{Meter, Store};
 use mm_templist::{Descriptor, TempList};
@@ -60,9 +61,14 @@ pub(crate) fn fitting<'a>(
 {
     let table = descriptor.tables[0];
     let mut list = TempList::new(alloc, descriptor);
+    let test = RowTest {
+        store,
+        table,
+        atoms,
+        asks: some_asks_of_first(atoms),
+    };
     for at in candidates {
-        let row = store.row(meter, table, *at);
-        if none_fails(atoms, &[Some(row)]) {
+        if test.admits(meter, *at) {
             list.push(&[], *at)?;
         }
     }

@@ -3,6 +3,7 @@
 
 mod candidates;
 mod indexed;
+mod row_test;
 mod scan;
 
 pub use indexed::{by_hash, by_tree};

@@ -3,13 +3,15 @@ ghost use Rattle.std.specs.Prelude.{◌≡◌, ℕ, ◌∷◌, ◌<◌, [], leng
 ghost use Rattle.mm_select.specs.Fitting.{AreFitting};
 ghost use Rattle.mm_templist.specs.Combos.{AreLive};
 
-use mm_query::{Atom, FieldPlace, none_fails};
+use crate::row_test::{RowTest, some_asks_of_first};
+use mm_query::{Atom, FieldPlace};
 use mm_store::{Meter, Store};
 use mm_templist::{Descriptor, TempList};
 use std::alloc::{AllocError, Global};
 
 /// The rows of a table of which no atom is false, found by a look at each of them, in key order (the sequential scan of Lehman
-/// and Carey, SIGMOD 1986). `AllocError` where memory is refused.
+/// and Carey, SIGMOD 1986). Where no atom asks anything of that table alone, all rows pass with no look at them. `AllocError`
+/// where memory is refused.
 pub fn by_scan<'a>(
     alloc: Global,
     store: &Store,
@@ -25,9 +27,14 @@ pub fn by_scan<'a>(
 {
     let table = descriptor.tables[0];
     let mut list = TempList::new(alloc, descriptor);
+    let test = RowTest {
+        store,
+        table,
+        atoms,
+        asks: some_asks_of_first(atoms),
+    };
     for at in store.key_walk(table) {
-        let row = store.row(meter, table, at);
-        if none_fails(atoms, &[Some(row)]) {
+        if test.admits(meter, at) {
             list.push(&[], at)?;
         }
     }

@@ -1,19 +1,19 @@
-use Rattle.std.proofs.Common.{◌≡◌, ◌+◌, ◌<◌, List, [], ◌∷◌, ◌++◌, length, get_or, take, sym, ap, ◌∙◌, subst}
+use Rattle.std.proofs.Common.{◌≡◌, ◌+◌, ◌<◌, List, [], ◌∷◌, ◌++◌, length, get_or, take, refl, sym, ap, ◌∙◌, subst}
 use Rattle.std.proofs.lemmas.List.{take_all}
 use Rattle.std.proofs.lemmas.List.Elements.{All-get_or}
 use Rattle.mm_partition.specs.Places.{IsLive}
 use Rattle.mm_store.proofs.Joining.{some_at}
 use Rattle.mm_store.proofs.Lists.{take_more}
-use Rattle.mm_templist.specs.Combos.{Combos}
+use Rattle.mm_templist.specs.Combos.{Combos, row_of}
 use Rattle.mm_value.specs.declared.row_ref.RowRef.{RowRef}
 use Rattle.mm_select.specs.Matches.{matches}
 use Rattle.mm_select.proofs.Fits.{matches_fit, matches_live}
-use Rattle.mm_select.proofs.Walks.{matches_more, matches_still, one_first, row_given}
-use Rattle.mm_select.proofs.candidates.fitting.Goals.{then-none_fails+in_ok-push, else-none_fails}
+use Rattle.mm_select.proofs.Walks.{matches_more, matches_still, one_first}
+use Rattle.mm_select.proofs.candidates.fitting.Goals.{then-admits+in_ok-push, else-admits}
 use Rattle.mm_select.proofs.candidates.fitting.Goals as goal
 
-pub row-row-requires-clause-live : goal.row-row-requires-clause-live
-row-row-requires-clause-live c = λ stored here.
+pub admits-requires-clause-live : goal.admits-requires-clause-live
+admits-requires-clause-live c = λ stored here.
     All-get_or (IsLive stored.places) c.args.candidates.now c.loop-at.at-index record { part = 0; slot = 0 } c.loop-at-test.true
     (c.requires.live (get_or c.args.descriptor.tables.now 0 0) stored (one_first c.args.descriptor.tables.now c.requires.one.0 c.requires.one.1) here)
 
@@ -25,26 +25,26 @@ loop-at-preserved c =
     let i = c.loop-at.at-index in
     let at : RowRef = get_or candidates i record { part = 0; slot = 0 } in
     let within : table < length store.tables = subst (λ l. get_or l 0 0 < length store.tables) (sym c.requires.one.1) c.requires.one.2 in
-    let is = row_given store table at c.row-row.result.now within c.row-row.ensures.row in
+    let row = row_of store table at in
     let more : take i candidates ++ at ∷ [] ≡ take (i + 1) candidates = sym (take_more candidates i record { part = 0; slot = 0 } c.loop-at-test.true) in
     let made = λ (combos : List (List RowRef)). let list : Combos = record {
       tables = c.args.descriptor.tables.now;
       fields = c.args.descriptor.fields.now;
       combos = combos;
     } in list in
-    elim c.if-none_fails.branch [
-      | then-none_fails+in_ok-push w ↦
+    elim c.if-admits.branch [
+      | then-admits+in_ok-push w ↦
           w.list-is
           ∙ (w.in_ok-push.ensures.ok
           ∙ (ap (λ (list : Combos). record list { combos = list.combos ++ (at ∷ []) ∷ [] }) c.loop-at.invariant
           ∙ ap made
-          (matches_more store table c.args.atoms.now [] [] (take i candidates) at c.row-row.result.now is w.if-none_fails.ensures
+          (matches_more store table c.args.atoms.now [] [] (take i candidates) at row refl w.if-admits.ensures
           ∙ ap (matches store table c.args.atoms.now [] []) more)))
-      | else-none_fails w ↦
+      | else-admits w ↦
           w.list-is
           ∙ (c.loop-at.invariant
           ∙ ap made
-          (matches_still store table c.args.atoms.now [] [] (take i candidates) at c.row-row.result.now is w.if-none_fails.ensures
+          (matches_still store table c.args.atoms.now [] [] (take i candidates) at row refl w.if-admits.ensures
           ∙ ap (matches store table c.args.atoms.now [] []) more))
     ]
 

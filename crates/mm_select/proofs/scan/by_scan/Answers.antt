@@ -1,4 +1,4 @@
-use Rattle.std.proofs.Common.{◌≡◌, ◌<◌, [], ◌∷◌, ◌++◌, length, get_or, map, sym, ap, ◌∙◌, subst}
+use Rattle.std.proofs.Common.{◌≡◌, ◌<◌, [], ◌∷◌, ◌++◌, length, get_or, map, refl, sym, ap, ◌∙◌, subst}
 use Rattle.std.proofs.lemmas.List.Sorted.{IsPermutation-refl}
 use Rattle.std.specs.List.{All}
 use Rattle.mm_partition.specs.Places.{IsLive}
@@ -7,11 +7,11 @@ use Rattle.mm_store.specs.Tables.{rows_at}
 use Rattle.mm_templist.specs.Combos.{Combos, row_of}
 use Rattle.mm_select.specs.Matches.{matching}
 use Rattle.mm_select.proofs.Fits.{matches_fit, matches_live, rows_along}
-use Rattle.mm_select.proofs.Walks.{holds_next, matches_more, matches_still, one_first, row_given, split_all, split_next}
+use Rattle.mm_select.proofs.Walks.{holds_next, matches_more, matches_still, one_first, split_all, split_next}
 use Rattle.mm_select.proofs.scan.by_scan.Goals as goal
 
-pub row-row-requires-clause-live : goal.row-row-requires-clause-live
-row-row-requires-clause-live c = λ stored here.
+pub admits-requires-clause-live : goal.admits-requires-clause-live
+admits-requires-clause-live c = λ stored here.
     holds_next (IsLive stored.places) c.key_walk-at-items.result c.loop-at.yielded c.next.new.self c.in-Some.at
     (sym c.into_iter-at-iterator.ensures.into_iter_gives ∙ (c.loop-at.invariant.split ∙ ap (λ l. c.loop-at.yielded ++ l) c.in-Some.ensures.steps))
     (c.key_walk-at-items.ensures.live stored here)
@@ -21,8 +21,8 @@ loop-at-preserved-in-Continue-1 c =
     let store = c.args.store.now in
     let table = get_or c.args.descriptor.tables.now 0 0 in
     let within : table < length store.tables = subst (λ l. get_or l 0 0 < length store.tables) (sym c.requires.1) c.requires.2 in
-    let combos = matches_more store table c.args.atoms.now [] [] c.loop-at.yielded c.in-Some.at c.row-row.result.now
-    (row_given store table c.in-Some.at c.row-row.result.now within c.row-row.ensures.row) c.if-none_fails.ensures in
+    let combos = matches_more store table c.args.atoms.now [] [] c.loop-at.yielded c.in-Some.at
+    (row_of store table c.in-Some.at) refl c.if-admits.ensures in
     record {
       split = split_next c.into_iter-at-iterator.result c.loop-at.yielded c.loop-at.at-iterator c.next.new.self c.in-Some.at
           c.loop-at.invariant.split c.in-Some.ensures.steps;
@@ -36,8 +36,8 @@ loop-at-preserved c =
     let store = c.args.store.now in
     let table = get_or c.args.descriptor.tables.now 0 0 in
     let within : table < length store.tables = subst (λ l. get_or l 0 0 < length store.tables) (sym c.requires.1) c.requires.2 in
-    let combos = matches_still store table c.args.atoms.now [] [] c.loop-at.yielded c.in-Some.at c.row-row.result.now
-    (row_given store table c.in-Some.at c.row-row.result.now within c.row-row.ensures.row) c.if-none_fails.ensures in
+    let combos = matches_still store table c.args.atoms.now [] [] c.loop-at.yielded c.in-Some.at
+    (row_of store table c.in-Some.at) refl c.if-admits.ensures in
     record {
       split = split_next c.into_iter-at-iterator.result c.loop-at.yielded c.loop-at.at-iterator c.next.new.self c.in-Some.at
           c.loop-at.invariant.split c.in-Some.ensures.steps;
