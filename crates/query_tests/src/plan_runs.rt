@@ -167,7 +167,7 @@ fn built_hash_reads_each_row_a_few_times(rt: HostRuntime) -> Result<(), Fail> {
 
     let (found, reads) = run_all(rt.alloc(), IndexKind::Tree, Method::BuiltHash)?;
     assert_eq!(rt; found, 1000);
-    assert!(rt; reads <= 5000);
+    assert!(rt; reads <= 3000);
     Ok(())
 }
 
@@ -199,7 +199,25 @@ fn precomputed_join_reads_few_rows(rt: HostRuntime) -> Result<(), Fail> {
 fn merge_reads_each_row_a_few_times(rt: HostRuntime) -> Result<(), Fail> {
     let (found, reads) = run_all(rt.alloc(), IndexKind::Tree, Method::TreeMerge)?;
     assert_eq!(rt; found, 1000);
-    assert!(rt; reads <= 8000);
+    assert!(rt; reads <= 4000);
+    Ok(())
+}
+
+#[test]
+fn merge_passes_over_rows_without_partners(rt: HostRuntime) -> Result<(), Fail> {
+    let alloc = rt.alloc();
+    let store = sample(alloc, IndexKind::Tree, [1000, 10], Values::Keys)?;
+    let plan = [line(Method::Scan)?, line(Method::TreeMerge)?];
+    let tests = [equal(INNER_VALUE, OUTER_VALUE, None)];
+    let (found, reads) = run(alloc, &store, &[0, 1], tests, &plan)?;
+    assert_eq!(rt; found, 10);
+    assert!(rt; reads <= 40);
+
+    // The same with the equality written the other way round.
+    let tests = [equal(OUTER_VALUE, INNER_VALUE, None)];
+    let (found, reads) = run(alloc, &store, &[0, 1], tests, &plan)?;
+    assert_eq!(rt; found, 10);
+    assert!(rt; reads <= 40);
     Ok(())
 }
 
