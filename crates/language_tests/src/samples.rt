@@ -135,23 +135,3 @@ pub fn with_atom(
         order,
     }
 }
-
-/// The query with one more position of ORDER.
-pub fn with_order(rt: &impl Abort, query: Query, position: usize) -> Query {
-    let Query {
-        distinct,
-        fields,
-        from,
-        atoms,
-        order,
-    } = query;
-    let mut positions = order.into_vec();
-    put(rt, &mut positions, position);
-    Query {
-        distinct,
-        fields,
-        from,
-        atoms,
-        order: ItemList::new(positions),
-    }
-}
