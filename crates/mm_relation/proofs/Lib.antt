@@ -18,7 +18,6 @@ pub mod Reverted
 pub mod Removed
 pub mod Rooms
 pub mod RowLists
-pub mod Samples
 pub mod Seeks
 mod Served
 pub mod SortedRows

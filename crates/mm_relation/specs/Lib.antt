@@ -13,7 +13,6 @@ pub mod Orders
 pub mod Reads
 pub mod Refs
 pub mod RowLists
-pub mod Sample
 pub mod Served
 pub mod Sorting
 pub mod Turned

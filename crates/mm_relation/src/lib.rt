@@ -19,8 +19,6 @@ mod moves;
 mod names;
 mod relation;
 mod sorting;
-#[cfg(test)]
-mod tests;
 mod tree_entries;
 mod tree_reads;
 

@@ -15,7 +15,6 @@ pub mod Referring
 pub mod Retying
 pub mod Reversible
 pub mod Reverting
-pub mod Samples
 pub mod Settling
 pub mod StandingRows
 pub mod Telling

@@ -3,7 +3,6 @@ pub mod Commands
 pub mod Joined
 pub mod Links
 pub mod Marks
-pub mod Sample
 pub mod Seen
 pub mod Tables
 pub mod Tally

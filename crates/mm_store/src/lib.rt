@@ -8,8 +8,6 @@ mod link;
 mod links;
 mod meter;
 mod store;
-#[cfg(test)]
-mod tests;
 mod undo;
 mod view;
 

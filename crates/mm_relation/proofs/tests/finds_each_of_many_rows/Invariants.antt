@@ -1,6 +1,0 @@
-use Rattle.mm_relation.specs.Sample.{IsSample}
-use Rattle.mm_relation.proofs.tests.finds_each_of_many_rows.Given as goal
-
--- the table keeps its columns and indexes
-abbrev pub invariant-loop-key : goal.invariant-loop-key
-invariant-loop-key g l = IsSample l.relation

@@ -1,5 +1,0 @@
-use Rattle.mm_relation.proofs.Samples.{none_among}
-use Rattle.mm_relation.proofs.tests.try_put.Goals as goal
-
-pub make-requires-clause-stay : goal.make-requires-clause-stay
-make-requires-clause-stay c = none_among c.args.relation.now.refs c.in_ok-edits.edits.items c.in_ok-edits.ensures.none

@@ -1,0 +1,2 @@
+mod PlainStores
+mod SampleEdits

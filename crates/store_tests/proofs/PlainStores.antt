@@ -1,0 +1,100 @@
+-- What the tests do to plain tables leaves them plain.
+use Rattle.std.proofs.Common.{◌≡◌, ℕ, ◌<◌, ◌≤◌, ◌⊎◌, inl, inr, List, [], ◌∷◌, Some, None, length, slice_get, get_or, sym, ap, ◌∙◌, subst, arith}
+use Rattle.std.specs.Prelude.{◌≢◌}
+use Rattle.std.specs.List.{All, AllPairs}
+use Rattle.std.proofs.lemmas.List.{length-set}
+use Rattle.std.proofs.lemmas.List.Elements.{All-cons, All-get_or, All-nil, All-same, All-set}
+use Rattle.std.proofs.lemmas.Option.{get_or_from_slice_get, slice_get_cases, slice_get_within}
+use Rattle.mm_partition.specs.Places.{IsLive, slot_at}
+use Rattle.mm_relation.specs.Edits.{new_rows}
+use Rattle.mm_relation.specs.Index.{EachTurns}
+use Rattle.mm_relation.specs.Kept.{StoredRows}
+use Rattle.mm_relation.specs.Reads.{AddsIndex}
+use Rattle.mm_relation.specs.Refs.{HasRow}
+use Rattle.mm_relation.specs.declared.edits.Edit.{Edit}
+use Rattle.mm_relation.specs.declared.edits.Edit.TheVariants.{Swap}
+use Rattle.mm_relation.proofs.Changed.{olds}
+use Rattle.store_tests.proofs.SampleEdits.{AreWide}
+use Rattle.mm_relation.proofs.Turning.{All-turned}
+use Rattle.mm_schema.specs.declared.index.IndexKind.{IndexKind}
+use Rattle.mm_value.specs.declared.row_ref.RowRef.{RowRef}
+use Rattle.mm_value.specs.declared.values.Value.{Value}
+use Rattle.store_tests.specs.SampleStore.{ArePlain, IsPlain}
+use Rattle.mm_store.specs.Tables.{AreFit, HasRows, IsAt, SameForm, Tables, Turns}
+
+-- a table is at each place below the count
+in_case : (items : List StoredRows) (place : ℕ) → place < length items
+    → ((x : StoredRows) × (place < length items) × (slice_get items place ≡ Some x) × (get_or items place x ≡ x))
+    ⊎ ((length items ≤ place) × (slice_get items place ≡ None))
+    → (x : StoredRows) × (slice_get items place ≡ Some x)
+in_case items place within (inl (x, below, at, read)) = (x, at)
+in_case items place within (inr (past, none)) = absurd (omega (arith, within, past))
+
+pub at_place : (view : Tables) (place : ℕ) → place < length view.tables → (stored : StoredRows) × IsAt view place stored
+at_place view place within = in_case view.tables place within (slice_get_cases view.tables place).1
+
+-- each of them is plain
+pub plain_at : (view : Tables) (place : ℕ) → ArePlain view → (stored : StoredRows) → IsAt view place stored → IsPlain stored
+plain_at view place plain stored at = subst IsPlain (get_or_from_slice_get view.tables place stored stored at)
+    (All-get_or IsPlain view.tables place stored (slice_get_within view.tables place stored at) plain)
+
+-- with a plain table in the place of one they are plain, and as many
+pub still_plain : (old new : Tables) (place : ℕ) (x : StoredRows) → ArePlain old → Turns old place x new → IsPlain x → ArePlain new
+still_plain old new place x plain turned fits = All-same IsPlain new.tables _ turned (All-set IsPlain old.tables place x fits plain)
+
+pub as_many : (old new : Tables) (place : ℕ) (x : StoredRows) → Turns old place x new → length new.tables ≡ length old.tables
+as_many old new place x turned = ap (λ (ts : List StoredRows). length ts) turned ∙ length-set old.tables place x
+
+-- rows of two values may be added to a plain table
+pub fits_plain : (view : Tables) (place : ℕ) → ArePlain view → (edits : List Edit) → olds edits ≡ [] → AreWide 2 (new_rows edits)
+    → (stored : StoredRows) → IsAt view place stored → AreFit stored edits
+fits_plain view place plain edits none wide stored at = record {
+  standing = record {
+    live = All-same (HasRow (slot_at stored.places)) (olds edits) [] none (All-nil (HasRow (slot_at stored.places)));
+    apart = subst (λ (refs : List RowRef). AllPairs (λ a b. a ≢ b) refs) (sym none) (λ i j d before within same. absurd (omega arith));
+  };
+  wide = subst (λ (n : ℕ). All (λ row. length row ≡ n) (new_rows edits)) (sym (plain_at view place plain stored at).width) wide;
+}
+
+-- a row of two values may take the place of a row of a plain table
+pub turns_plain : (view : Tables) (place : ℕ) → ArePlain view → (at : RowRef) (row : List Value)
+    → ((stored : StoredRows) → IsAt view place stored → IsLive stored.places at) → length row ≡ 2 → (edits : List Edit) → edits ≡ Swap at row ∷ []
+    → (stored : StoredRows) → IsAt view place stored → AreFit stored edits
+turns_plain view place plain at row live size edits is stored there =
+    subst (AreFit stored) (sym is) (record {
+      standing = record {
+        live = All-cons (HasRow (slot_at stored.places)) at [] (live stored there) (All-nil (HasRow (slot_at stored.places)));
+        apart = λ i j d before within same. absurd (omega arith);
+      };
+      wide = All-cons (λ (r : List Value). length r ≡ stored.width) row []
+          (size ∙ sym (plain_at view place plain stored there).width) (All-nil (λ (r : List Value). length r ≡ stored.width));
+    })
+
+-- what the edits of one table leave
+pub kept : (old new : Tables) (place : ℕ) → place < length old.tables → ArePlain old → (rows : StoredRows → List (List Value))
+    → ((stored : StoredRows) → IsAt old place stored → (x : StoredRows) × Turns old place x new × HasRows stored (rows stored) x)
+    → (length new.tables ≡ length old.tables) × ArePlain new
+kept old new place within plain rows told =
+    let found = at_place old place within in
+    let turned = told found.0 found.1 in
+    let was = plain_at old place plain found.0 found.1 in
+    let has : HasRows found.0 (rows found.0) turned.0 = turned.2 in
+    let fits : IsPlain turned.0 = record { width = has.width ∙ was.width } in
+    (as_many old new place turned.0 turned.1, still_plain old new place turned.0 plain turned.1 fits)
+
+-- so does what keeps the forms of all tables
+pub plain_formed : (old new : Tables) → EachTurns SameForm old.tables new.tables → ArePlain old → ArePlain new
+plain_formed old new forms plain =
+    All-turned SameForm IsPlain IsPlain old.tables new.tables forms (λ x y is same. record { width = same.width ∙ is.width }) plain
+
+-- and a further index
+pub plain_indexed : (old new : Tables) (place column : ℕ) (kind : IndexKind) → place < length old.tables → ArePlain old
+    → ((stored : StoredRows) → IsAt old place stored → (x : StoredRows) × Turns old place x new × (x ≡ record stored { indexes = x.indexes })
+    × AddsIndex column kind stored.indexes x.indexes)
+    → (length new.tables ≡ length old.tables) × ArePlain new
+plain_indexed old new place column kind within plain told =
+    let found = at_place old place within in
+    let turned = told found.0 found.1 in
+    let was = plain_at old place plain found.0 found.1 in
+    let fits : IsPlain turned.0 = record { width = ap (λ (s : StoredRows). s.width) turned.2 ∙ was.width } in
+    (as_many old new place turned.0 turned.1, still_plain old new place turned.0 plain turned.1 fits)

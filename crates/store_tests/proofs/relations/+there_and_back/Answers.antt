@@ -1,0 +1,69 @@
+use Rattle.std.proofs.Common.{◌≡◌, ℕ, List, sym, ap, ◌∙◌, subst}
+use Rattle.mm_partition.specs.Places.{slot_at}
+use Rattle.mm_relation.specs.Before.{before}
+use Rattle.mm_relation.specs.Differs.{Differs}
+use Rattle.mm_relation.specs.Edits.{Among, named, entry_name}
+use Rattle.mm_relation.specs.Kept.{StoredRows}
+use Rattle.mm_relation.specs.Lawful.{IsLawful}
+use Rattle.mm_relation.specs.Refs.{Slots}
+use Rattle.mm_relation.specs.declared.log.Entry.{Entry}
+use Rattle.mm_relation.specs.declared.names.Side.TheVariants.{Old, New}
+use Rattle.mm_relation.proofs.Changed.{olds}
+use Rattle.mm_relation.proofs.Lawful.{IsLawful-kept}
+use Rattle.mm_relation.proofs.TwinsAfter.{Standing-of_refs}
+use Rattle.store_tests.proofs.relations.+there_and_back.Goals as goal
+use Rattle.store_tests.proofs.relations.+there_and_back.Goals.{in-Some-checked_add, in-None}
+
+pub has_twins_with-requires : goal.has_twins_with-requires
+has_twins_with-requires t c =
+    let v = c.args.relation.now in
+    let stay : Among v.refs (olds c.in_ok-edits.edits.items) = subst (Among v.refs) (sym c.in_ok-edits.ensures.old) c.in-Some-rows_of.ensures in
+    Standing-of_refs v.width v.key (slot_at v.places) v.refs v.indexes c.is_kept.ensures c.in_ok-edits.edits.items stay.0 stay.1
+
+pub apply-requires-clause-standing : goal.apply-requires-clause-standing
+apply-requires-clause-standing t c =
+    let v = c.args.relation.now in
+    let stay : Among v.refs (olds c.in_ok-edits.edits.items) = subst (Among v.refs) (sym c.in_ok-edits.ensures.old) c.in-Some-rows_of.ensures in
+    Standing-of_refs v.width v.key (slot_at v.places) v.refs v.indexes c.is_kept.ensures c.in_ok-edits.edits.items stay.0 stay.1
+
+pub apply-requires-clause-keys : goal.apply-requires-clause-keys
+apply-requires-clause-keys t c =
+    let told = rw c.as_slice.ensures.value at c.in_ok-has_twins_with.ensures.apart in
+    told c.if-branch.false
+
+pub revert-requires-clause-differs : goal.revert-requires-clause-differs
+revert-requires-clause-differs t c =
+    let es : List Entry = c.apply.new.log.entries in
+    let now : StoredRows = c.match-checked_add.relation in
+    let slots : slot_at now.places ≡ slot_at c.apply.new.self.places = elim c.match-checked_add.branch [
+      | in-Some-checked_add w ↦ ap (λ (v : StoredRows). slot_at v.places) w.relation-is ∙ w.there_and_back-shown.ensures.slots
+      | in-None w ↦ ap (λ (v : StoredRows). slot_at v.places) w.relation-is
+    ] in
+    subst (λ (s : Slots). Differs s (before es s) (named entry_name New es) (named entry_name Old es)) (sym slots)
+    (subst (λ (s : Slots). Differs (slot_at c.apply.new.self.places) s (named entry_name New es) (named entry_name Old es)) (sym c.in_ok-apply.ensures.back)
+    c.in_ok-apply.ensures.differs)
+
+pub revert-requires-clause-lawful : goal.revert-requires-clause-lawful
+revert-requires-clause-lawful t c =
+    let es : List Entry = c.apply.new.log.entries in
+    let old : StoredRows = c.args.relation.now in
+    let now : StoredRows = c.match-checked_add.relation in
+    let slots : before es (slot_at now.places) ≡ slot_at old.places = elim c.match-checked_add.branch [
+      | in-Some-checked_add w ↦
+          ap (λ (v : StoredRows). before es (slot_at v.places)) w.relation-is ∙ (ap (before es) w.there_and_back-shown.ensures.slots ∙ c.in_ok-apply.ensures.back)
+      | in-None w ↦ ap (λ (v : StoredRows). before es (slot_at v.places)) w.relation-is ∙ c.in_ok-apply.ensures.back
+    ] in
+    let width : now.width ≡ old.width = elim c.match-checked_add.branch [
+      | in-Some-checked_add w ↦
+          ap (λ (v : StoredRows). v.width) w.relation-is ∙ (w.there_and_back-shown.ensures.sample.width ∙ sym c.requires.sample.width)
+      | in-None w ↦ ap (λ (v : StoredRows). v.width) w.relation-is ∙ c.in_ok-apply.ensures.width
+    ] in
+    let key : now.key ≡ old.key = elim c.match-checked_add.branch [
+      | in-Some-checked_add w ↦
+          ap (λ (v : StoredRows). v.key) w.relation-is ∙ (w.there_and_back-shown.ensures.key ∙ c.in_ok-apply.ensures.key)
+      | in-None w ↦ ap (λ (v : StoredRows). v.key) w.relation-is ∙ c.in_ok-apply.ensures.key
+    ] in
+    let was : IsLawful old.width old.key (slot_at old.places) =
+    IsLawful-kept old.width old.key (slot_at old.places) old.refs old.indexes c.is_kept.ensures in
+    subst (λ (n : ℕ). IsLawful n now.key (before es (slot_at now.places))) (sym width)
+    (subst (λ (n : ℕ). IsLawful old.width n (before es (slot_at now.places))) (sym key) (subst (IsLawful old.width old.key) (sym slots) was))

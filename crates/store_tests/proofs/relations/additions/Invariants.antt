@@ -1,0 +1,12 @@
+use Rattle.std.proofs.Common.{◌≡◌, []}
+use Rattle.mm_relation.specs.Edits.{new_rows}
+use Rattle.mm_relation.proofs.Changed.{olds}
+use Rattle.store_tests.proofs.SampleEdits.{AreWide}
+use Rattle.store_tests.proofs.relations.additions.Given as goal
+
+-- the edits so far name no rows, and their rows have three values
+abbrev pub invariant-loop-key : goal.invariant-loop-key
+invariant-loop-key l = record {
+  none : olds l.edits.items ≡ [];
+  wide : AreWide 3 (new_rows l.edits.items);
+}

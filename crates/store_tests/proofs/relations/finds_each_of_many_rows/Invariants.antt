@@ -1,0 +1,6 @@
+use Rattle.store_tests.specs.SampleRelation.{IsSample}
+use Rattle.store_tests.proofs.relations.finds_each_of_many_rows.Given as goal
+
+-- the table keeps its columns and indexes
+abbrev pub invariant-loop-key : goal.invariant-loop-key
+invariant-loop-key g l = IsSample l.relation

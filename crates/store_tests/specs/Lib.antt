@@ -1,0 +1,2 @@
+pub mod SampleRelation
+pub mod SampleStore

@@ -1,0 +1,497 @@
+//! What no clause says: that ample memory is never refused. And each call once on real rows.
+ghost use Rattle.std.specs.Prelude.{◌≡◌, ◌≤◌, List, [], ◌∷◌, length, All, Contains, Some, IfSome, IfOk};
+ghost use Rattle.mm_value.specs.declared.row_ref.RowRef.{RowRef as Ref};
+ghost use Rattle.mm_relation.specs.declared.names.Side.TheVariants as side;
+ghost use Rattle.mm_partition.specs.Places.{slot_at};
+ghost use Rattle.mm_relation.specs.Edits.{Among, edit_name, named, new_rows};
+ghost use Rattle.mm_relation.specs.Index.{spare_of};
+ghost use Rattle.mm_relation.specs.Kept.{Stay};
+ghost use Rattle.store_tests.specs.SampleRelation.{IsSample};
+
+use crate::triple::triple;
+use mm_order::OrderedRefs;
+use mm_relation::{Edit, Log, Relation};
+use mm_schema::IndexKind;
+use mm_value::{Row, RowRef, Value};
+use std::alloc::{AllocError, Global};
+use std::test::Fail;
+
+/// No rows, with a TREE index on the second column at place 0, and a HASH index at place 1.
+fn sample(alloc: Global) -> Result<Relation, AllocError>
+    ensures { IfOk result IsSample }
+{
+    let mut relation = Relation::new(alloc, 3, 0);
+    relation.add_index(alloc, 1, IndexKind::Tree)?;
+    relation.add_index(alloc, 1, IndexKind::Hash)?;
+    Ok(relation)
+}
+
+/// A row of a key, a digit and a mark.
+fn row_of(alloc: Global, key: i64, digit: i64, mark: i64) -> Result<Row, AllocError>
+    ensures { IfOk result (λ row. length row ≡ 3) }
+{
+    triple(alloc, key, digit, mark)
+}
+
+/// The addition of a row for each key, with its last decimal digit and the mark 0.
+fn additions(alloc: Global, keys: &[i64]) -> Result<Vec<Edit>, AllocError>
+    ensures none { IfOk result (λ edits. named edit_name side.Old edits.items ≡ []) }
+    ensures wide { IfOk result (λ edits. All (λ row. length row ≡ 3) (new_rows edits.items)) }
+{
+    let mut edits = Vec::new(alloc);
+    for key in keys {
+        edits.push(Edit::Add(row_of(alloc, *key, *key % 10, 0)?))?;
+    }
+    Ok(edits)
+}
+
+/// The edit of a row into one of another key and that key's last decimal digit, or out.
+fn edit_of(alloc: Global, at: RowRef, to: Option<i64>) -> Result<Edit, AllocError>
+    ensures old { IfOk result (λ edit. edit_name edit side.Old ≡ Some at) }
+    ensures wide { IfOk result (λ edit. All (λ row. length row ≡ 3) (new_rows (edit ∷ []))) }
+{
+    match to {
+        None => Ok(Edit::Gone(at)),
+        Some(key) => Ok(Edit::Swap(at, row_of(alloc, key, key % 10, 0)?)),
+    }
+}
+
+/// Makes the edits for good, and says that it did, unless two rows would have one key then.
+fn make(relation: &mut Relation, alloc: Global, edits: Vec<Edit>) -> Result<bool, AllocError>
+    requires sample { IsSample relation.old }
+    requires stay { (kept : List Ref) × Stay relation.old.refs edits.items kept }
+    requires wide { All (λ row. length row ≡ 3) (new_rows edits.items) }
+    ensures { IsSample relation.new }
+{
+    relation.is_kept();
+    if relation.has_twins_with(alloc, edits.as_slice())? {
+        return Ok(false);
+    }
+    let mut log = Log::new(alloc);
+    relation.apply(alloc, edits, 0, &mut log)?;
+    relation.settle(&mut log);
+    Ok(true)
+}
+
+/// Adds a row for each key.
+fn try_put(relation: &mut Relation, alloc: Global, keys: &[i64]) -> Result<bool, AllocError>
+    requires { IsSample relation.old }
+    ensures { IsSample relation.new }
+{
+    let edits = additions(alloc, keys)?;
+    make(relation, alloc, edits)
+}
+
+/// The same where memory is refused once at most.
+fn put(relation: &mut Relation, alloc: Global, keys: &[i64]) -> Result<bool, AllocError>
+    requires { IsSample relation.old }
+    ensures { IsSample relation.new }
+{
+    match try_put(relation, alloc, keys) {
+        Ok(done) => Ok(done),
+        Err(_) => try_put(relation, alloc, keys),
+    }
+}
+
+/// The reference of the row that has a key.
+fn at_key(relation: &Relation, key: i64) -> Option<RowRef>
+    ensures { IfSome result (Contains relation.now.refs) }
+{
+    relation.find(&Value::Int(key))
+}
+
+/// Turns the row of one key into that of another, or takes it out.
+fn try_turn(
+    relation: &mut Relation,
+    alloc: Global,
+    key: i64,
+    to: Option<i64>,
+) -> Result<bool, AllocError>
+    requires { IsSample relation.old }
+    ensures { IsSample relation.new }
+{
+    let Some(at) = at_key(relation, key) else {
+        return Ok(false);
+    };
+    let mut edits = Vec::new(alloc);
+    edits.push(edit_of(alloc, at, to)?)?;
+    make(relation, alloc, edits)
+}
+
+/// The same where memory is refused once at most.
+fn turn(
+    relation: &mut Relation,
+    alloc: Global,
+    key: i64,
+    to: Option<i64>,
+) -> Result<bool, AllocError>
+    requires { IsSample relation.old }
+    ensures { IsSample relation.new }
+{
+    match try_turn(relation, alloc, key, to) {
+        Ok(done) => Ok(done),
+        Err(_) => try_turn(relation, alloc, key, to),
+    }
+}
+
+/// The digit that stands beside a key, none where no row has the key.
+fn digit_of(relation: &Relation, key: i64) -> Option<i64> {
+    relation.is_kept();
+    let at = at_key(relation, key)?;
+    match relation.row(at).values().get(1) {
+        Some(Value::Int(number)) => Some(*number),
+        _ => None,
+    }
+}
+
+/// How many rows have a digit between two ends, by the TREE index.
+fn count_between(
+    relation: &Relation,
+    alloc: Global,
+    low: i64,
+    high: i64,
+) -> Result<usize, AllocError>
+    requires { IsSample relation.now }
+{
+    let mut found = Vec::new(alloc);
+    let low = Value::Int(low);
+    let high = Value::Int(high);
+    if relation
+        .tree_range(alloc, 0, Some(&low), Some(&high), &mut found)
+        .is_err()
+    {
+        relation.tree_range(alloc, 0, Some(&low), Some(&high), &mut found)?;
+    }
+    Ok(found.len())
+}
+
+/// How many rows have a digit, by the HASH index.
+fn count_of(relation: &Relation, alloc: Global, digit: i64) -> Result<usize, AllocError>
+    requires { IsSample relation.now }
+{
+    let mut found = Vec::new(alloc);
+    let digit = Value::Int(digit);
+    if relation.hash_matches(alloc, 1, &digit, &mut found).is_err() {
+        relation.hash_matches(alloc, 1, &digit, &mut found)?;
+    }
+    Ok(found.len())
+}
+
+/// How many rows there are in the order of the digits, of at most 1,000.
+fn count_by_digit(relation: &Relation, alloc: Global) -> Result<usize, AllocError>
+    requires { IsSample relation.now }
+{
+    if relation.len() > 1000 {
+        return Ok(0);
+    }
+    let ordered = match relation.ordered_by(alloc, 1) {
+        Ok(ordered) => ordered,
+        Err(_) => relation.ordered_by(alloc, 1)?,
+    };
+    Ok(ordered.len())
+}
+
+/// The digits beside the keys below 6.
+fn digits(relation: &Relation, alloc: Global) -> Result<Vec<Option<i64>>, AllocError> {
+    let mut found = Vec::new(alloc);
+    for key in 0..6 {
+        found.push(digit_of(relation, key))?;
+    }
+    Ok(found)
+}
+
+/// How many rows have each digit below 5, by the TREE index.
+fn counts_by_tree(relation: &Relation, alloc: Global) -> Result<Vec<usize>, AllocError>
+    requires { IsSample relation.now }
+{
+    let mut found = Vec::new(alloc);
+    for digit in 0..5 {
+        found.push(count_between(relation, alloc, digit, digit)?)?;
+    }
+    Ok(found)
+}
+
+/// The same by the HASH index.
+fn counts_by_hash(relation: &Relation, alloc: Global) -> Result<Vec<usize>, AllocError>
+    requires { IsSample relation.now }
+{
+    let mut found = Vec::new(alloc);
+    for digit in 0..5 {
+        found.push(count_of(relation, alloc, digit)?)?;
+    }
+    Ok(found)
+}
+
+/// What a table shows: the digits by their keys, and how many rows have each digit.
+#[derive(Drop)]
+struct Shown {
+    digits: Vec<Option<i64>>,
+    by_tree: Vec<usize>,
+    by_hash: Vec<usize>,
+}
+
+impl Shown {
+    fn is(&self, digits: &[Option<i64>], counts: &[usize]) -> bool {
+        self.digits.as_slice() == digits
+            && self.by_tree.as_slice() == counts
+            && self.by_hash.as_slice() == counts
+    }
+}
+
+fn look(relation: &Relation, alloc: Global) -> Result<Shown, AllocError>
+    requires { IsSample relation.now }
+{
+    Ok(Shown {
+        digits: digits(relation, alloc)?,
+        by_tree: counts_by_tree(relation, alloc)?,
+        by_hash: counts_by_hash(relation, alloc)?,
+    })
+}
+
+/// A command: two rows exchange their keys, another goes, and a new one comes.
+#[derive(Clone, Copy)]
+struct Exchange {
+    one: i64,
+    other: i64,
+    gone: i64,
+    key: i64,
+    digit: i64,
+}
+
+/// The references of the rows of a command, if they are there and are three.
+fn rows_of(relation: &Relation, exchange: Exchange) -> Option<(RowRef, RowRef, RowRef)>
+    ensures { IfSome result (λ (one, other, gone). Among relation.now.refs (one ∷ other ∷ gone ∷ [])) }
+{
+    let one = at_key(relation, exchange.one)?;
+    let other = at_key(relation, exchange.other)?;
+    let gone = at_key(relation, exchange.gone)?;
+    if one == other || one == gone || other == gone {
+        return None;
+    }
+    Some((one, other, gone))
+}
+
+/// The edits of a command on three rows, of which the first two keep their digits.
+fn edits_of(
+    relation: &Relation,
+    alloc: Global,
+    exchange: Exchange,
+    one: RowRef,
+    other: RowRef,
+    gone: RowRef,
+) -> Result<Vec<Edit>, AllocError>
+    ensures old { IfOk result (λ edits. named edit_name side.Old edits.items ≡ one ∷ other ∷ gone ∷ []) }
+    ensures wide { IfOk result (λ edits. All (λ row. length row ≡ 3) (new_rows edits.items)) }
+{
+    let digit = digit_of(relation, exchange.one).unwrap_or(0);
+    let first = row_of(alloc, exchange.other, digit, 0)?;
+    let digit = digit_of(relation, exchange.other).unwrap_or(0);
+    let second = row_of(alloc, exchange.one, digit, 0)?;
+    let new = row_of(alloc, exchange.key, exchange.digit, 0)?;
+    let edits = vec![in alloc;
+        Edit::Swap(one, first),
+        Edit::Swap(other, second),
+        Edit::Gone(gone),
+        Edit::Add(new),
+    ]?;
+    Ok(edits)
+}
+
+/// Makes the commands, each on top of the one before, looks at the table, and takes them back, the last first. None where
+/// one of them cannot be made.
+fn there_and_back(
+    relation: &mut Relation,
+    alloc: Global,
+    exchanges: &[Exchange],
+    owed: usize,
+) -> Result<Option<Shown>, AllocError>
+    requires sample { IsSample relation.old }
+    requires spare { owed ≤ relation.old.spare }
+    requires spares { All (λ x. owed ≤ spare_of x) relation.old.indexes }
+    ensures sample { IsSample relation.new }
+    ensures slots { slot_at relation.new.places ≡ slot_at relation.old.places }
+    ensures key { relation.new.key ≡ relation.old.key }
+    ensures spare { owed ≤ relation.new.spare }
+    ensures spares { All (λ x. owed ≤ spare_of x) relation.new.indexes }
+{
+    let Some((exchange, later)) = exchanges.split_first() else {
+        return Ok(Some(look(relation, alloc)?));
+    };
+    relation.is_kept();
+    let Some((one, other, gone)) = rows_of(relation, *exchange) else {
+        return Ok(None);
+    };
+    let edits = edits_of(relation, alloc, *exchange, one, other, gone)?;
+    if relation.has_twins_with(alloc, edits.as_slice())? {
+        return Ok(None);
+    }
+    let mut log = Log::new(alloc);
+    relation.apply(alloc, edits, owed, &mut log)?;
+    let shown = match owed.checked_add(log.owed()) {
+        Some(owed) => there_and_back(relation, alloc, later, owed),
+        None => Ok(None),
+    };
+    relation.revert(&mut log);
+    shown
+}
+
+#[test]
+fn starts_empty(rt: HostRuntime) -> Result<(), Fail> {
+    let alloc = rt.alloc();
+    let rows = Relation::new(alloc, 3, 0);
+    assert_eq!(rt; rows.len(), 0);
+    assert!(rt; rows.find(&Value::Int(3)).is_none());
+    Ok(())
+}
+
+/// The table of the tests, where memory is refused once at most.
+fn sample_again(alloc: Global) -> Result<Relation, AllocError>
+    ensures { IfOk result IsSample }
+{
+    match sample(alloc) {
+        Ok(relation) => Ok(relation),
+        Err(_) => sample(alloc),
+    }
+}
+
+#[test]
+fn refuses_twins(rt: HostRuntime) -> Result<(), Fail> {
+    let alloc = rt.alloc();
+    let mut relation = sample_again(alloc)?;
+    assert!(rt; put(&mut relation, alloc, &[3, 1, 2])?);
+    assert_eq!(rt; relation.len(), 3);
+
+    // Two new rows of one key, and a new row with the key of an old one.
+    assert!(rt; !put(&mut relation, alloc, &[5, 4, 5])?);
+    assert!(rt; !put(&mut relation, alloc, &[6, 2])?);
+    assert_eq!(rt; relation.len(), 3);
+    assert_eq!(rt; digit_of(&relation, 5), None);
+
+    assert!(rt; put(&mut relation, alloc, &[])?);
+    assert!(rt; put(&mut relation, alloc, &[14])?);
+    assert_eq!(rt; digit_of(&relation, 14), Some(4));
+    Ok(())
+}
+
+#[test]
+fn keeps_indexes(rt: HostRuntime) -> Result<(), Fail> {
+    let alloc = rt.alloc();
+    let mut relation = sample_again(alloc)?;
+    assert!(rt; put(&mut relation, alloc, &[1, 11, 22, 35, 21])?);
+    assert_eq!(rt; count_between(&relation, alloc, 1, 2)?, 4);
+    assert_eq!(rt; count_of(&relation, alloc, 1)?, 3);
+    assert_eq!(rt; count_by_digit(&relation, alloc)?, 5);
+
+    assert!(rt; turn(&mut relation, alloc, 11, Some(15))?);
+    assert!(rt; turn(&mut relation, alloc, 22, None)?);
+    assert_eq!(rt; count_between(&relation, alloc, 1, 2)?, 2);
+    assert_eq!(rt; count_of(&relation, alloc, 1)?, 2);
+    assert_eq!(rt; count_of(&relation, alloc, 5)?, 2);
+    assert_eq!(rt; count_of(&relation, alloc, 2)?, 0);
+    Ok(())
+}
+
+/// A thousand keys in an order that looks random: the multiples of 619 modulo the prime 1,009 go round all numbers.
+fn shuffled_keys(alloc: Global) -> Result<Vec<i64>, AllocError> {
+    let mut keys = Vec::new(alloc);
+    if keys.reserve(1000).is_err() {
+        keys.reserve(1000)?;
+    }
+    for k in 0..1000u32 {
+        keys.push(i64::from(k * 619 % 1009))?;
+    }
+    Ok(keys)
+}
+
+#[test]
+fn builds_full_trees_over_rows(rt: HostRuntime) -> Result<(), Fail> {
+    let alloc = rt.alloc();
+    let mut relation = sample_again(alloc)?;
+    let keys = shuffled_keys(alloc)?;
+    assert!(rt; put(&mut relation, alloc, keys.as_slice())?);
+    assert!(rt; relation.len() <= 1000);
+    let ordered = match relation.ordered_by(alloc, 1) {
+        Ok(ordered) => ordered,
+        Err(_) => relation.ordered_by(alloc, 1)?,
+    };
+    // 63 nodes, as many as six levels have.
+    assert_eq!(rt; ordered.len(), 1000);
+    assert_eq!(rt; ordered.height(), 6);
+    if relation.add_index(alloc, 1, IndexKind::Tree).is_err() {
+        relation.add_index(alloc, 1, IndexKind::Tree)?;
+    }
+    if relation.add_index(alloc, 0, IndexKind::Tree).is_err() {
+        relation.add_index(alloc, 0, IndexKind::Tree)?;
+    }
+    assert_eq!(rt; relation.len(), 1000);
+    Ok(())
+}
+
+#[test]
+fn finds_each_of_many_rows(rt: HostRuntime) -> Result<(), Fail> {
+    let alloc = rt.alloc();
+    let mut relation = sample_again(alloc)?;
+    let keys = shuffled_keys(alloc)?;
+    assert!(rt; put(&mut relation, alloc, keys.as_slice())?);
+    assert_eq!(rt; relation.len(), 1000);
+    assert!(rt; !put(&mut relation, alloc, &[2000, 619])?);
+
+    for key in &keys {
+        assert_eq!(rt; digit_of(&relation, *key), Some(*key % 10));
+        assert!(rt; turn(&mut relation, alloc, *key, None)?);
+        assert_eq!(rt; digit_of(&relation, *key), None);
+    }
+    assert_eq!(rt; relation.len(), 0);
+    relation.trim_spares(1);
+    assert_eq!(rt; relation.len(), 0);
+    Ok(())
+}
+
+/// The same as `there_and_back` with nothing owed, where memory is refused once at most.
+fn try_exchanges(
+    relation: &mut Relation,
+    alloc: Global,
+    exchanges: &[Exchange],
+) -> Result<Option<Shown>, AllocError>
+    requires { IsSample relation.old }
+    ensures { IsSample relation.new }
+{
+    match there_and_back(relation, alloc, exchanges, 0) {
+        Ok(shown) => Ok(shown),
+        Err(_) => there_and_back(relation, alloc, exchanges, 0),
+    }
+}
+
+#[test]
+fn takes_commands_back(rt: HostRuntime) -> Result<(), Fail> {
+    let alloc = rt.alloc();
+    let mut relation = sample_again(alloc)?;
+    assert!(rt; put(&mut relation, alloc, &[1, 2, 3, 4])?);
+    let first = Exchange {
+        one: 1,
+        other: 2,
+        gone: 3,
+        key: 5,
+        digit: 1,
+    };
+    let second = Exchange {
+        one: 2,
+        other: 5,
+        gone: 1,
+        key: 3,
+        digit: 3,
+    };
+
+    let once = try_exchanges(&mut relation, alloc, &[first])?;
+    let digits = [None, Some(2), Some(1), None, Some(4), Some(1)];
+    assert!(rt; once.is_some_and(|shown| shown.is(&digits, &[0, 2, 1, 0, 1])));
+
+    let twice = try_exchanges(&mut relation, alloc, &[first, second])?;
+    let digits = [None, None, Some(1), Some(3), Some(4), Some(1)];
+    assert!(rt; twice.is_some_and(|shown| shown.is(&digits, &[0, 2, 0, 1, 1])));
+
+    let back = try_exchanges(&mut relation, alloc, &[])?;
+    let digits = [None, Some(1), Some(2), Some(3), Some(4), None];
+    assert!(rt; back.is_some_and(|shown| shown.is(&digits, &[0, 1, 1, 1, 1])));
+    Ok(())
+}

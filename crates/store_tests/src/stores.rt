@@ -1,0 +1,587 @@
+//! What no clause says: that ample memory is never refused. And two tables with real rows, of which one may refer to the other.
+ghost use Rattle.std.specs.Prelude.{◌≡◌, ◌<◌, ◌≤◌, [], ◌∷◌, length, All, Contains, IfOk, IfSome};
+ghost use Rattle.mm_relation.specs.Kept.{StoredRows};
+ghost use Rattle.mm_store.specs.Tables.{AreFit, IsAt, IsFrom};
+ghost use Rattle.mm_relation.specs.declared.names.Side.TheVariants as side;
+ghost use Rattle.mm_relation.specs.Edits.{edit_name, named, new_rows};
+ghost use Rattle.mm_partition.specs.Places.{IsLive};
+ghost use Rattle.mm_schema.specs.declared.reference.Reference.{Reference as Link};
+ghost use Rattle.store_tests.specs.SampleStore.{ArePlain};
+ghost use Rattle.mm_store.specs.Undoing.{CanUndo};
+
+use mm_relation::Edit;
+use mm_schema::{IndexKind, Reference};
+use mm_store::{Store, Undo};
+use mm_value::{Refusal, Row, RowRef, Value};
+use std::alloc::{AllocError, Global};
+use std::marker::Model;
+use std::test::Fail;
+
+/// Adds an index on the second column of a table.
+fn add_index(
+    store: &mut Store,
+    alloc: Global,
+    table: usize,
+    kind: IndexKind,
+) -> Result<(), AllocError>
+    requires there { table < length store.old.tables }
+    requires plain { ArePlain store.old }
+    ensures count { length store.new.tables ≡ length store.old.tables }
+    ensures plain { ArePlain store.new }
+    ensures links { store.new.links ≡ store.old.links }
+{
+    store.add_index(alloc, table, 1, kind)?;
+    Ok(())
+}
+
+/// Two tables of two columns each, with no rows, a TREE and a HASH index on the second column of both, and these references from
+/// the second table.
+fn sample(alloc: Global, references: &[Reference]) -> Result<Store, AllocError>
+    requires { All (IsFrom 1 2) references.now }
+    ensures two { IfOk result (λ store. length store.tables ≡ 2) }
+    ensures plain { IfOk result ArePlain }
+    ensures links { IfOk result (λ store. store.links ≡ references.now) }
+{
+    let mut store = Store::new(alloc);
+    store.add_table(alloc, 2, 0, &[])?;
+    store.add_table(alloc, 2, 0, references)?;
+    add_index(&mut store, alloc, 0, IndexKind::Tree)?;
+    add_index(&mut store, alloc, 0, IndexKind::Hash)?;
+    add_index(&mut store, alloc, 1, IndexKind::Tree)?;
+    add_index(&mut store, alloc, 1, IndexKind::Hash)?;
+    Ok(store)
+}
+
+/// The same where memory is refused once at most.
+fn sample_again(alloc: Global, references: &[Reference]) -> Result<Store, AllocError>
+    requires { All (IsFrom 1 2) references.now }
+    ensures two { IfOk result (λ store. length store.tables ≡ 2) }
+    ensures plain { IfOk result ArePlain }
+    ensures links { IfOk result (λ store. store.links ≡ references.now) }
+{
+    match sample(alloc, references) {
+        Ok(store) => Ok(store),
+        Err(_) => sample(alloc, references),
+    }
+}
+
+/// A row of a key and its last decimal digit.
+fn row_of(alloc: Global, key: i64) -> Result<Row, AllocError>
+    ensures { IfOk result (λ row. length row ≡ 2) }
+{
+    let values = vec![in alloc; Value::Int(key), Value::Int(key % 10)]?;
+    Ok(Row::new(values))
+}
+
+/// The addition of a row for each key.
+fn additions(alloc: Global, keys: &[i64]) -> Result<Vec<Edit>, AllocError>
+    ensures none { IfOk result (λ edits. named edit_name side.Old edits.items ≡ []) }
+    ensures wide { IfOk result (λ edits. All (λ row. length row ≡ 2) (new_rows edits.items)) }
+{
+    let mut edits = Vec::new(alloc);
+    for key in keys {
+        edits.push(Edit::Add(row_of(alloc, *key)?))?;
+    }
+    Ok(edits)
+}
+
+/// Makes the edits of a table, notes them, and says that it did, unless they are refused.
+fn note(
+    store: &mut Store,
+    alloc: Global,
+    table: usize,
+    edits: Vec<Edit>,
+    undo: &mut Undo,
+) -> Result<bool, AllocError>
+    requires there { table < length store.old.tables }
+    requires plain { ArePlain store.old }
+    requires fit { (stored : StoredRows) → IsAt store.old table stored → AreFit stored edits.items }
+    requires fits { CanUndo store.old undo.old }
+    ensures count { length store.new.tables ≡ length store.old.tables }
+    ensures plain { ArePlain store.new }
+    ensures links { store.new.links ≡ store.old.links }
+    ensures longer { length undo.old ≤ length undo.new }
+    ensures fits { CanUndo store.new undo.new }
+{
+    match store.check(alloc, table, edits.as_slice()) {
+        Ok(()) => {}
+        Err(Refusal::Memory) => return Err(AllocError),
+        Err(_) => return Ok(false),
+    }
+    store.apply(alloc, table, edits, undo)?;
+    Ok(true)
+}
+
+/// A log of no commands.
+fn empty_log(store: &Store, alloc: Global) -> Undo
+    ensures { CanUndo store.now result }
+{
+    let _tables = store.len();
+    Undo::new(alloc)
+}
+
+/// The reference of the row of a key.
+fn at_key(store: &Store, table: usize, key: i64) -> Option<RowRef>
+    requires { table < length store.now.tables }
+    ensures { IfSome result (λ at. (stored : StoredRows) → IsAt store.now table stored → IsLive stored.places at) }
+{
+    let relation = store.table(table);
+    relation.is_kept();
+    relation.find(&Value::Int(key))
+}
+
+/// A change of one row, or the addition of rows.
+#[derive(Clone, Copy)]
+enum Step<'a> {
+    /// A row for each key.
+    Put(&'a [i64]),
+    /// The row of a key gets another second value.
+    Turn(i64, i64),
+    /// The row of a key goes.
+    Remove(i64),
+}
+
+/// A step in a table, and whether it is made.
+type Trial<'a> = (usize, Step<'a>, bool);
+
+/// Notes a step in a table, and says that it did, unless there is no row of the key or the step is refused.
+fn try_step(
+    store: &mut Store,
+    alloc: Global,
+    table: usize,
+    step: Step,
+    undo: &mut Undo,
+) -> Result<bool, AllocError>
+    requires there { table < length store.old.tables }
+    requires plain { ArePlain store.old }
+    requires fits { CanUndo store.old undo.old }
+    ensures count { length store.new.tables ≡ length store.old.tables }
+    ensures plain { ArePlain store.new }
+    ensures links { store.new.links ≡ store.old.links }
+    ensures longer { length undo.old ≤ length undo.new }
+    ensures fits { CanUndo store.new undo.new }
+{
+    match step {
+        Step::Put(keys) => {
+            let edits = additions(alloc, keys)?;
+            note(store, alloc, table, edits, undo)
+        }
+        Step::Turn(key, value) => {
+            let Some(at) = at_key(store, table, key) else {
+                return Ok(false);
+            };
+            let values = vec![in alloc; Value::Int(key), Value::Int(value)]?;
+            let mut edits = Vec::new(alloc);
+            edits.push(Edit::Swap(at, Row::new(values)))?;
+            note(store, alloc, table, edits, undo)
+        }
+        Step::Remove(key) => {
+            let Some(at) = at_key(store, table, key) else {
+                return Ok(false);
+            };
+            let mut edits = Vec::new(alloc);
+            edits.push(Edit::Gone(at))?;
+            note(store, alloc, table, edits, undo)
+        }
+    }
+}
+
+/// The same where memory is refused once at most.
+fn make_step(
+    store: &mut Store,
+    alloc: Global,
+    table: usize,
+    one: Step,
+    undo: &mut Undo,
+) -> Result<bool, AllocError>
+    requires there { table < length store.old.tables }
+    requires plain { ArePlain store.old }
+    requires fits { CanUndo store.old undo.old }
+    ensures count { length store.new.tables ≡ length store.old.tables }
+    ensures plain { ArePlain store.new }
+    ensures links { store.new.links ≡ store.old.links }
+    ensures longer { length undo.old ≤ length undo.new }
+    ensures fits { CanUndo store.new undo.new }
+{
+    match try_step(store, alloc, table, one, undo) {
+        Ok(done) => Ok(done),
+        Err(_) => try_step(store, alloc, table, one, undo),
+    }
+}
+
+/// Adds a row for each key to a table for good, and says that it did, unless that is refused.
+fn put(store: &mut Store, alloc: Global, table: usize, keys: &[i64]) -> Result<bool, AllocError>
+    requires there { table < length store.old.tables }
+    requires plain { ArePlain store.old }
+    ensures count { length store.new.tables ≡ length store.old.tables }
+    ensures plain { ArePlain store.new }
+    ensures links { store.new.links ≡ store.old.links }
+{
+    let mut undo = empty_log(store, alloc);
+    let done = make_step(store, alloc, table, Step::Put(keys), &mut undo)?;
+    store.settle(&mut undo);
+    Ok(done)
+}
+
+/// Whether a table has a row of a key.
+fn has_key(store: &Store, table: usize, key: i64) -> bool
+    requires { table < length store.now.tables }
+{
+    store.table(table).find(&Value::Int(key)).is_some()
+}
+
+#[test]
+fn starts_empty(rt: HostRuntime) -> Result<(), Fail> {
+    let store = Store::new(rt.alloc());
+    assert_eq!(rt; store.len(), 0);
+    Ok(())
+}
+
+#[test]
+fn keeps_tables_apart(rt: HostRuntime) -> Result<(), Fail> {
+    let alloc = rt.alloc();
+    let mut store = sample_again(alloc, &[])?;
+    assert_eq!(rt; store.len(), 2);
+    assert!(rt; put(&mut store, alloc, 0, &[1, 2, 3])?);
+    assert!(rt; put(&mut store, alloc, 1, &[3, 14])?);
+
+    // A key is taken in its own table alone.
+    assert!(rt; !put(&mut store, alloc, 1, &[5, 14])?);
+    assert!(rt; put(&mut store, alloc, 0, &[14])?);
+    assert_eq!(rt; store.table(0).len(), 4);
+    assert_eq!(rt; store.table(1).len(), 2);
+    assert!(rt; !has_key(&store, 1, 5));
+
+    // The second moves up, with its rows.
+    store.drop_table(0);
+    assert_eq!(rt; store.len(), 1);
+    assert_eq!(rt; store.table(0).len(), 2);
+    assert!(rt; has_key(&store, 0, 14));
+    assert!(rt; !has_key(&store, 0, 1));
+    Ok(())
+}
+
+/// The second column of the second table refers to the first.
+const LAST_DIGIT: Reference = Reference {
+    from: 1,
+    column: 1,
+    to: 0,
+};
+
+/// What stands in the second column beside a key, and none where no row has the key.
+fn value_at(store: &Store, table: usize, key: i64) -> Option<i64>
+    requires { table < length store.now.tables }
+{
+    let at = at_key(store, table, key)?;
+    match store.table(table).row(at).values().get(1) {
+        Some(Value::Int(number)) => Some(*number),
+        _ => None,
+    }
+}
+
+/// The row that the row of a key of the second table refers to.
+fn target_of(store: &Store, key: i64) -> Option<RowRef>
+    requires two { length store.now.tables ≡ 2 }
+    requires link { Contains store.now.links (record { from = 1; column = 1; to = 0 }) }
+{
+    let at = at_key(store, 1, key)?;
+    Some(store.follow(1, 1, at))
+}
+
+/// How many rows of a table have a value in the second column, by its TREE index.
+fn count_by_tree(
+    store: &Store,
+    alloc: Global,
+    table: usize,
+    value: i64,
+) -> Result<usize, AllocError>
+    requires { table < length store.now.tables }
+{
+    let Some(index) = store.table(table).index_of(1, IndexKind::Tree) else {
+        return Ok(0);
+    };
+    let value = Value::Int(value);
+    let mut found = Vec::new(alloc);
+    store.tree_range(alloc, table, index, Some(&value), Some(&value), &mut found)?;
+    Ok(found.len())
+}
+
+/// The same by its HASH index.
+fn count_by_hash(
+    store: &Store,
+    alloc: Global,
+    table: usize,
+    value: i64,
+) -> Result<usize, AllocError>
+    requires { table < length store.now.tables }
+{
+    let Some(index) = store.table(table).index_of(1, IndexKind::Hash) else {
+        return Ok(0);
+    };
+    let value = Value::Int(value);
+    let mut found = Vec::new(alloc);
+    store.hash_matches(alloc, table, index, &value, &mut found)?;
+    Ok(found.len())
+}
+
+/// The rows of a key in two tables, what stands beside the key, and the row to which that of the second table refers.
+#[derive(PartialEq, Clone, Copy)]
+struct AtKey {
+    first: Option<RowRef>,
+    second: Option<RowRef>,
+    values: (Option<i64>, Option<i64>),
+    target: Option<RowRef>,
+}
+
+fn look_at_key(store: &Store, key: i64) -> AtKey
+    requires two { length store.now.tables ≡ 2 }
+    requires link { Contains store.now.links (record { from = 1; column = 1; to = 0 }) }
+{
+    AtKey {
+        first: at_key(store, 0, key),
+        second: at_key(store, 1, key),
+        values: (value_at(store, 0, key), value_at(store, 1, key)),
+        target: target_of(store, key),
+    }
+}
+
+/// What two tables show of each key below 30, and how many rows of the second have each digit, by its TREE and its HASH index.
+#[derive(PartialEq, Drop)]
+struct Shown {
+    rows: Vec<AtKey>,
+    counts: Vec<(usize, usize)>,
+}
+
+fn try_look(store: &Store, alloc: Global) -> Result<Shown, AllocError>
+    requires two { length store.now.tables ≡ 2 }
+    requires link { Contains store.now.links (record { from = 1; column = 1; to = 0 }) }
+{
+    let mut rows = Vec::new(alloc);
+    for key in 0..30 {
+        rows.push(look_at_key(store, key))?;
+    }
+    let mut counts = Vec::new(alloc);
+    for digit in 0..10 {
+        let by_tree = count_by_tree(store, alloc, 1, digit)?;
+        counts.push((by_tree, count_by_hash(store, alloc, 1, digit)?))?;
+    }
+    Ok(Shown { rows, counts })
+}
+
+/// Two tables of which the second refers to the first, and the log of what is made of them.
+#[derive(Drop)]
+struct Case {
+    store: Store,
+    undo: Undo,
+}
+
+impl Model for Case {
+    ghost use Rattle.store_tests.specs.SampleStore.{IsCase};
+    ghost use Rattle.mm_store.specs.Tables.{Tables};
+
+    ghost Value = { Tables };
+
+    ghost view = { λ c. c.store };
+
+    ghost invariant = { λ c. IsCase c.store c.undo };
+}
+
+impl Case {
+    /// Rows of these keys in the two tables.
+    fn new(alloc: Global, first: &[i64], second: &[i64]) -> Result<Case, AllocError> {
+        let mut store = sample_again(alloc, &[LAST_DIGIT])?;
+        put(&mut store, alloc, 0, first)?;
+        put(&mut store, alloc, 1, second)?;
+        let undo = empty_log(&store, alloc);
+        Ok(Case { store, undo })
+    }
+
+    /// Makes a step in a table, and says that it did, unless there is no such table or the step is refused.
+    fn step(&mut self, alloc: Global, table: usize, step: Step) -> Result<bool, AllocError> {
+        if table >= self.store.len() {
+            return Ok(false);
+        }
+        make_step(&mut self.store, alloc, table, step, &mut self.undo)
+    }
+
+    /// Tries steps one after the other, each in a table, and says whether just those were made that are told to be.
+    fn goes_as(&mut self, alloc: Global, trials: &[Trial]) -> Result<bool, AllocError> {
+        let mut all = true;
+        for (table, step, made) in trials {
+            all &= self.step(alloc, *table, *step)? == *made;
+        }
+        Ok(all)
+    }
+
+    /// The same, and then whether all is as it was once they are taken back.
+    fn comes_back(&mut self, alloc: Global, trials: &[Trial]) -> Result<bool, AllocError> {
+        let mark = self.undo.mark();
+        let shown = self.look(alloc)?;
+        let told = self.goes_as(alloc, trials)?;
+        Ok(told && self.go_back(mark) && self.shows(alloc, &shown)?)
+    }
+
+    /// Tries steps and then more of them, takes these back and then those, and says whether all is as it was each time.
+    fn comes_back_twice(
+        &mut self,
+        alloc: Global,
+        trials: &[Trial],
+        more: &[Trial],
+    ) -> Result<bool, AllocError> {
+        let mark = self.undo.mark();
+        let shown = self.look(alloc)?;
+        let told = self.goes_as(alloc, trials)? && self.comes_back(alloc, more)?;
+        Ok(told && self.go_back(mark) && self.shows(alloc, &shown)?)
+    }
+
+    /// Goes back to a mark, and says that it did, unless the log has fewer commands.
+    fn go_back(&mut self, mark: usize) -> bool {
+        if mark > self.undo.mark() {
+            return false;
+        }
+        self.store.revert(&mut self.undo, mark);
+        true
+    }
+
+    /// Makes all commands final.
+    fn finish(&mut self) {
+        self.store.settle(&mut self.undo);
+    }
+
+    /// The row of a key of the first table.
+    fn first(&self, key: i64) -> Option<RowRef> {
+        at_key(&self.store, 0, key)
+    }
+
+    /// The row of a key of the second table.
+    fn second(&self, key: i64) -> Option<RowRef> {
+        at_key(&self.store, 1, key)
+    }
+
+    /// The row to which that of a key of the second table refers.
+    fn target(&self, key: i64) -> Option<RowRef> {
+        target_of(&self.store, key)
+    }
+
+    /// What the tables show.
+    fn look(&self, alloc: Global) -> Result<Shown, AllocError> {
+        match try_look(&self.store, alloc) {
+            Ok(shown) => Ok(shown),
+            Err(_) => try_look(&self.store, alloc),
+        }
+    }
+
+    /// Whether the tables show what they showed.
+    fn shows(&self, alloc: Global, shown: &Shown) -> Result<bool, AllocError> {
+        let now = self.look(alloc)?;
+        Ok(now == *shown)
+    }
+
+    /// Adds a row for each key below a number, which all refer to the row of key 0, each by a command of its own, and then lets
+    /// all refer to that of key 1.
+    fn turn_many(&mut self, alloc: Global, count: u32) -> Result<bool, AllocError> {
+        let mut all = true;
+        for n in 0..count {
+            let key = 10 * i64::from(n);
+            all &= self.step(alloc, 1, Step::Put(&[key]))?;
+            all &= self.step(alloc, 1, Step::Turn(key, 1))?;
+        }
+        Ok(all)
+    }
+
+    /// The same, and then whether all is as it was once they are taken back.
+    fn many_come_back(&mut self, alloc: Global, count: u32) -> Result<bool, AllocError> {
+        let shown = self.look(alloc)?;
+        let all = self.turn_many(alloc, count)?;
+        Ok(all && self.go_back(0) && self.shows(alloc, &shown)?)
+    }
+}
+
+#[test]
+fn keeps_targets_of_references(rt: HostRuntime) -> Result<(), Fail> {
+    let alloc = rt.alloc();
+    let mut case = Case::new(alloc, &[1, 3], &[])?;
+
+    // A row needs its target.
+    let trials = [
+        (1, Step::Put(&[12]), false),
+        (1, Step::Put(&[13, 23]), true),
+    ];
+    assert!(rt; case.goes_as(alloc, &trials)?);
+    assert!(rt; case.first(3).is_some());
+    assert_eq!(rt; case.target(13), case.first(3));
+
+    // A target stays until the last of its rows goes.
+    let trials = [
+        (0, Step::Remove(3), false),
+        (1, Step::Remove(13), true),
+        (0, Step::Remove(3), false),
+        (1, Step::Remove(23), true),
+        (0, Step::Remove(3), true),
+    ];
+    assert!(rt; case.goes_as(alloc, &trials)?);
+    Ok(())
+}
+
+/// A new target, and a row that refers to it.
+const FIRST_STEPS: [Trial; 2] = [(0, Step::Put(&[4]), true), (1, Step::Turn(11, 4), true)];
+
+/// The row of key 1 is referred to no more, that of key 2 once its last referrer has gone.
+const MORE_STEPS: [Trial; 7] = [
+    (0, Step::Remove(1), true),
+    (0, Step::Remove(2), false),
+    (1, Step::Remove(12), true),
+    (0, Step::Remove(2), true),
+    (1, Step::Put(&[14, 24]), true),
+    (1, Step::Turn(23, 4), true),
+    (1, Step::Turn(23, 5), false),
+];
+
+#[test]
+fn goes_back_to_marks(rt: HostRuntime) -> Result<(), Fail> {
+    let alloc = rt.alloc();
+    let mut case = Case::new(alloc, &[1, 2, 3], &[11, 12, 23])?;
+    assert!(rt; case.comes_back_twice(alloc, &FIRST_STEPS, &MORE_STEPS)?);
+    assert_eq!(rt; case.undo.mark(), 0);
+    Ok(())
+}
+
+#[test]
+fn makes_again_what_was_taken_back(rt: HostRuntime) -> Result<(), Fail> {
+    let alloc = rt.alloc();
+    let mut case = Case::new(alloc, &[1, 2, 3], &[11, 12, 23])?;
+    assert!(rt; case.comes_back(alloc, &FIRST_STEPS)?);
+    assert!(rt; case.goes_as(alloc, &FIRST_STEPS)?);
+    case.finish();
+    assert!(rt; case.first(4).is_some());
+    assert_eq!(rt; case.target(11), case.first(4));
+    Ok(())
+}
+
+#[test]
+fn gives_places_out_again(rt: HostRuntime) -> Result<(), Fail> {
+    let alloc = rt.alloc();
+    let mut case = Case::new(alloc, &[2, 3], &[12])?;
+    let place = case.second(12);
+
+    // The place of a hidden row is not given out until the command is final.
+    let trials = [(1, Step::Remove(12), true), (1, Step::Put(&[22]), true)];
+    assert!(rt; case.goes_as(alloc, &trials)?);
+    assert!(rt; case.second(22) != place);
+    case.finish();
+    assert!(rt; case.step(alloc, 1, Step::Put(&[13]))?);
+    assert_eq!(rt; case.second(13), place);
+    Ok(())
+}
+
+#[test]
+fn takes_many_changes_back(rt: HostRuntime) -> Result<(), Fail> {
+    let alloc = rt.alloc();
+    let mut case = Case::new(alloc, &[0, 1], &[])?;
+    assert!(rt; case.many_come_back(alloc, 5000)?);
+
+    // No row refers to the targets any more.
+    let trials = [(0, Step::Remove(0), true), (0, Step::Remove(1), true)];
+    assert!(rt; case.goes_as(alloc, &trials)?);
+    Ok(())
+}
