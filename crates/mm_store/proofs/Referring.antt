@@ -1,6 +1,6 @@
 -- Rows that refer to rows, sought by their references.
 use Rattle.std.proofs.Common.{◌≡◌, ◌≢◌, ℕ, ◌<◌, ◌≤◌, ◌⊎◌, Bool, true, false, List, [], ◌∷◌, length, get_or, Option, None, Some, ⊎_elim, refl, sym, ap, ◌∙◌, subst, arith}
-use Rattle.std.specs.Prelude.{map, slice_get, is_some, IfSome, IfNone}
+use Rattle.std.specs.Prelude.{map, not, slice_get, is_some, IfSome, IfNone}
 use Rattle.std.specs.List.{All, Contains, list_any}
 use Rattle.std.specs.Option.{option_cmp}
 use Rattle.std.specs.Ordering.{is_eq, ordering_reverse}
@@ -29,7 +29,7 @@ use Rattle.mm_value.specs.Order.{value_cmp}
 use Rattle.mm_value.specs.declared.row_ref.RowRef.{RowRef}
 use Rattle.mm_value.specs.declared.values.Value.{Value}
 use Rattle.mm_store.specs.Links.{Follows, IsTied, RefersTo}
-use Rattle.mm_schema.specs.References.{is_referred, refers}
+use Rattle.mm_schema.specs.References.{is_referred, lacks_target_row, refers}
 
 equal_exact : (a b : Option Value) → option_cmp value_cmp a b ≡ Equal → a ≡ b
 equal_exact None None e = refl
@@ -139,6 +139,17 @@ module _ (column key : ℕ) (now then : Slots) (ties : Ties) (follows : Follows 
       let tied : IsTied column key then (Live live.0) (target_at ties from)
       = subst (λ (c : Content). IsTied column key then c (target_at ties from)) live.1 (follows from) in
       (tied.0, tied.1, subst (λ (c : Content). RefersTo column key then (row_in c) tied.0) (sym live.1) tied.2)
+
+  -- a row that has the value of a live row refers to the row that this one is tied to
+  pub target_kept : (at : RowRef) → HasRow now at → (row : List Value) → slice_get row column ≡ slice_get (row_at now at) column
+      → (width : ℕ) (refs : List RowRef) (indexes : List Index) → IsKept width key then refs indexes
+      → lacks_target_row column key (map (row_at then) refs) row ≡ false
+  target_kept at live row same width refs indexes kept =
+      let tied = tied_to at live in
+      let here : Contains refs tied.0 = (kept.held tied.0).1 tied.2.live in
+      ap not (list_any-map (row_at then) (refers column key row) refs
+      ∙ list_any_at (λ x. refers column key row (row_at then x)) refs here.0 tied.0 here.1
+      (ap (λ x. refers column key row (row_at then x)) here.2 ∙ refers_same column key row (row_at then tied.0) (same ∙ tied.2.same)))
 
   module _ (from_width from_key : ℕ) (from_refs : List RowRef) (from_indexes : List Index) (from_kept : IsKept from_width from_key now from_refs from_indexes)
       (width : ℕ) (refs : List RowRef) (indexes : List Index) (kept : IsKept width key then refs indexes) (at : RowRef) (live : HasRow then at) where

@@ -64,7 +64,8 @@ fn retie(link: &mut Link, tables: &[Relation], table: usize, entries: &[Entry])
 
 /// Whether a new row of a table refers to no row.
 pub fn new_orphans(links: &[Link], tables: &[Relation], table: usize, edits: &[Edit]) -> bool
-    requires { AreJoined tables.now links.now }
+    requires joined { AreJoined tables.now links.now }
+    requires fit { (stored : StoredRows) → slice_get tables.now table ≡ Some stored → AreFit stored edits.now }
     ensures { result ≡ list_any (finds_orphan tables.now table (new_rows edits.now)) (map (λ link. link.reference) links.now) }
 {
     for link in links {
@@ -77,10 +78,12 @@ pub fn new_orphans(links: &[Link], tables: &[Relation], table: usize, edits: &[E
 
 /// Whether a new row of a table refers to no row by a link.
 fn brings_orphan(link: &Link, tables: &[Relation], table: usize, edits: &[Edit]) -> bool
-    requires { IsJoined tables.now link.now.reference link.now.ties }
+    requires joined { IsJoined tables.now link.now.reference link.now.ties }
+    requires fit { (stored : StoredRows) → slice_get tables.now table ≡ Some stored → AreFit stored edits.now }
     ensures { result ≡ finds_orphan tables.now table (new_rows edits.now) link.now.reference }
 {
-    link.reference.from == table && link.has_orphans(&tables[link.reference.to], edits)
+    let Reference { from, to, .. } = link.reference;
+    from == table && link.has_orphans(&tables[from], &tables[to], edits)
 }
 
 /// Whether the edits of a table take a row, or its key, to which a row refers.

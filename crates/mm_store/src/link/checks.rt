@@ -1,5 +1,5 @@
 //! What refuses a change because of a foreign key.
-ghost use Rattle.std.specs.Prelude.{◌≡◌, ◌∷◌, ◌↔◌, [], length, All, IsTrue};
+ghost use Rattle.std.specs.Prelude.{◌≡◌, ◌∷◌, [], true, false, length, All};
 ghost use Rattle.std.specs.List.{list_any};
 ghost use Rattle.mm_partition.specs.Places.{IsLive, slot_at};
 ghost use Rattle.mm_relation.specs.Changes.{Standing};
@@ -15,12 +15,15 @@ use mm_relation::{Edit, Relation};
 use mm_value::{Row, RowRef, compare};
 
 impl Link {
-    /// Whether a new row of the edits refers to no row. It takes O(m log n) comparisons for m edits and n target rows.
-    pub(crate) fn has_orphans(&self, to: &Relation, edits: &[Edit]) -> bool
+    /// Whether a new row of the edits of the referring table refers to no row. It takes O(m log n) comparisons for n target rows
+    /// and m edits that add a row or bring another reference.
+    pub(crate) fn has_orphans(&self, from: &Relation, to: &Relation, edits: &[Edit]) -> bool
+        requires follows { Follows self.now.reference.column to.now.key (slot_at from.now.places) (slot_at to.now.places) self.now.ties }
+        requires standing { Standing (slot_at from.now.places) edits.now }
         ensures { result ≡ list_any (lacks_target_row self.now.reference.column to.now.key (rows_of to.now)) (new_rows edits.now) }
     {
         for edit in edits {
-            if self.brings_orphan(to, edit) {
+            if self.brings_orphan(from, to, edit) {
                 return true;
             }
         }
@@ -28,12 +31,32 @@ impl Link {
     }
 
     /// Whether the new row of an edit refers to no row.
-    fn brings_orphan(&self, to: &Relation, edit: &Edit) -> bool
+    fn brings_orphan(&self, from: &Relation, to: &Relation, edit: &Edit) -> bool
+        requires follows { Follows self.now.reference.column to.now.key (slot_at from.now.places) (slot_at to.now.places) self.now.ties }
+        requires standing { Standing (slot_at from.now.places) (edit.now ∷ []) }
         ensures { result ≡ list_any (lacks_target_row self.now.reference.column to.now.key (rows_of to.now)) (new_rows (edit.now ∷ [])) }
     {
         match edit {
-            Edit::Add(row) | Edit::Swap(_, row) => self.is_orphan(to, row),
+            Edit::Add(row) => self.is_orphan(to, row),
+            // What the old row refers to is there, so a row that refers to the same is not sought.
+            Edit::Swap(at, row) => !self.keeps_target(from, to, *at, row)
+                && self.is_orphan(to, row),
             Edit::Gone(_) => false,
+        }
+    }
+
+    /// Whether a row refers by its value to what a live row refers to; then there is a row that it refers to.
+    fn keeps_target(&self, from: &Relation, to: &Relation, at: RowRef, row: &Row) -> bool
+        requires follows { Follows self.now.reference.column to.now.key (slot_at from.now.places) (slot_at to.now.places) self.now.ties }
+        requires live { IsLive from.now.places at }
+        ensures { result ≡ true → lacks_target_row self.now.reference.column to.now.key (rows_of to.now) row.now ≡ false }
+    {
+        from.is_kept();
+        to.is_kept();
+        let column = self.reference.column;
+        match (from.row(at).values().get(column), row.values().get(column)) {
+            (Some(old), Some(new)) => compare(old, new).is_eq(),
+            _ => false,
         }
     }
 

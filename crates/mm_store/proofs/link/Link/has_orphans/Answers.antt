@@ -6,8 +6,14 @@ use Rattle.mm_relation.specs.Edits.{new_rows}
 use Rattle.mm_relation.specs.declared.edits.Edit.{Edit}
 use Rattle.mm_relation.specs.RowLists.{rows_of}
 use Rattle.mm_schema.specs.References.{lacks_target_row}
-use Rattle.mm_store.proofs.EditLists.{any_new_row}
+use Rattle.mm_partition.specs.Places.{slot_at}
+use Rattle.mm_store.proofs.EditLists.{Standing-at, any_new_row}
 use Rattle.mm_store.proofs.link.Link.has_orphans.Goals as goal
+
+pub brings_orphan-requires-clause-standing : goal.brings_orphan-requires-clause-standing
+brings_orphan-requires-clause-standing c =
+    Standing-at (slot_at c.args.from.now.places) c.args.edits.now c.loop-edit.edit-index c.edit-item.result c.loop-edit-test.true c.edit-item.is
+    c.requires.standing
 
 pub returns-then-brings_orphan : goal.returns-then-brings_orphan
 returns-then-brings_orphan c =
