@@ -6,5 +6,6 @@ pub mod Outcomes
 pub mod Prefixes
 pub mod Quotes
 pub mod RowTexts
+pub mod SameRows
 pub mod Spelling
 pub mod Writing

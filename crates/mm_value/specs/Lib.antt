@@ -1,4 +1,6 @@
 pub mod Device
+pub mod Equality
+pub mod EqualityLaws
 pub mod Hash
 pub mod Literal
 pub mod Order

@@ -3,6 +3,7 @@
 
 mod col_type;
 mod device;
+mod equality;
 mod literals;
 mod prefix;
 mod printed;
@@ -14,6 +15,7 @@ mod values;
 
 pub use col_type::ColType;
 pub use device::{MAX_RETRIES, Watched, WriteFault, put_all};
+pub use equality::equality_is_exact;
 pub use literals::{literals_are_exact, read_int, read_literal};
 pub use prefix::{order_prefix, prefixes_keep_order};
 pub use printed::{write_row, write_tuple};
