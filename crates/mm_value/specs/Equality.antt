@@ -1,22 +1,18 @@
 -- When two values or two rows are one, and what a hasher is given of them.
-use Rattle.std.specs.Prelude.{ℕ, Bool, false, List, [], ◌∷◌}
-use Rattle.std.specs.Cmp.Lexicographic.{pointwise}
+use Rattle.std.specs.Prelude.{ℕ, Bool, List, [], ◌∷◌}
 use Rattle.std.specs.Hash.{HashWrites, i64, slice}
-use Rattle.std.specs.Ordering.{int_eq}
-use Rattle.std.specs.Str.{bytes_eq}
+use Rattle.std.specs.Ordering.{is_eq}
+use Rattle.mm_value.specs.Order.{value_cmp, row_cmp}
 use Rattle.mm_value.specs.declared.values.Value.{Value}
 use Rattle.mm_value.specs.declared.values.Value.TheVariants.{Int, Text}
 
--- Two values are one: the same whole number, or texts of the same bytes.
+-- Two values are one: they tie in the value order.
 abbrev pub same_value : Value → Value → Bool
-same_value (Int a) (Int b) = int_eq a b
-same_value (Int a) (Text b) = false
-same_value (Text a) (Int b) = false
-same_value (Text a) (Text b) = bytes_eq a b
+same_value a b = is_eq (value_cmp a b)
 
--- Two rows are one: they are equally long, and their values are the same at each place.
+-- Two rows are one: they tie in the row order.
 abbrev pub same_row : List Value → List Value → Bool
-same_row = pointwise same_value
+same_row a b = is_eq (row_cmp a b)
 
 -- A text is hashed as its bytes, in one piece.
 abbrev pub text_input : List ℕ → HashWrites
