@@ -14,7 +14,7 @@ use Rattle.mm_schema.specs.Indexes.{table_with_index, table_without_index, with_
 use Rattle.mm_schema.specs.Name.{same_name}
 use Rattle.mm_schema.specs.References.{HasTargets, RefersToOthers, above, all_references, in_front, moved_up, reference_at, references_behind, references_from, references_of}
 use Rattle.mm_schema.specs.Refused.{first_refusal}
-use Rattle.mm_schema.specs.Schema.{HasDistinctNames, Schema, drop_table_conditions, is_other_referring_to, lacks_table, lacks_target, table_conditions, table_named, table_place, with_table, without_table}
+use Rattle.mm_schema.specs.Schema.{HasDistinctNames, Schema, drop_table_conditions, is_other_referring_to, lacks_table, lacks_target, reads_table, table_conditions, table_named, table_place, with_table, without_table}
 use Rattle.mm_schema.specs.declared.column.Column.{Column}
 use Rattle.mm_schema.specs.declared.index.IndexDef.{IndexDef}
 use Rattle.mm_schema.specs.declared.reference.Reference.{Reference}
@@ -76,15 +76,15 @@ module _ (change : Table → Table) (same : (t : Table) → (change t).definitio
   first_kept name [] = refl
   first_kept name (t ∷ ts) = λ i. cond (not (same_name name (same t i).name)) (1 + first_kept name ts i) 0
 
-  place_kept : (name : List ℕ) (schema : Schema) → table_place name (record { tables = map change schema.tables }) ≡ table_place name schema
+  place_kept : (name : List ℕ) (schema : Schema) → table_place name (record schema { tables = map change schema.tables }) ≡ table_place name schema
   place_kept name schema = λ i.
       cond (ltb (first_kept name schema.tables i) (length-map schema.tables change i)) (Some (first_kept name schema.tables i)) None
 
-  reference_kept : (schema : Schema) (from : ℕ) → reference_at (record { tables = map change schema.tables }) from ≡ reference_at schema from
+  reference_kept : (schema : Schema) (from : ℕ) → reference_at (record schema { tables = map change schema.tables }) from ≡ reference_at schema from
   reference_kept schema from = λ i r. record { from = from; column = r.0; to = unwrap_or (place_kept r.1 schema i) 0 }
 
   behind_kept : (schema : Schema) (place : ℕ) (tables : List Table)
-      → references_behind (record { tables = map change schema.tables }) place (map change tables) ≡ references_behind schema place tables
+      → references_behind (record schema { tables = map change schema.tables }) place (map change tables) ≡ references_behind schema place tables
   behind_kept schema place [] = refl
   behind_kept schema place (t ∷ ts) = λ i. map (reference_kept schema place i) (references_of (same t i).columns) ++ behind_kept schema (place + 1) ts i
 
@@ -347,7 +347,8 @@ references_without_table name schema place found distinct whole due =
     let at : place ≡ first name schema.tables = place_from_some (has name) schema.tables place found in
     let start : 0 + first name schema.tables ≡ first name schema.tables = omega arith in
     tables_move name schema distinct 0 schema.tables start distinct
-    (refer_to_others name schema distinct schema.tables (recursion_from_All _ schema.tables whole) (second_none _ _ _ _ _ due))
+    (refer_to_others name schema distinct schema.tables (recursion_from_All _ schema.tables whole)
+    (or_parts (list_any (is_other_referring_to name) schema.tables) (list_any (reads_table name) schema.standing) (second_none _ _ _ _ _ due)).0)
     ∙ ap (λ k. map (moved_up k) (filter (λ r. not (r.from == k)) (all_references schema))) (sym at)
 
 -- ---- the places of a reference
@@ -470,7 +471,7 @@ pub others_left : (name : List ℕ) (schema : Schema) → RefersToOthers schema 
 others_left name schema others = All-filter (λ t. not (has name t)) OfOthers schema.tables others
 
 module _ (change : Table → Table) (same : (t : Table) → (change t).definition ≡ t.definition) where
-  others_kept : (schema : Schema) → RefersToOthers schema → RefersToOthers (record { tables = map change schema.tables })
+  others_kept : (schema : Schema) → RefersToOthers schema → RefersToOthers (record schema { tables = map change schema.tables })
   others_kept schema others =
       All-map OfOthers change schema.tables
       (All-weaker OfOthers (λ t. OfOthers (change t)) (λ t is. ap (λ (d : TableDef). list_any (refers_to d.name) d.columns) (same t) ∙ is)

@@ -12,6 +12,7 @@ use Rattle.mm_schema.specs.Catalog.{Tables, IsKeyedByName, IsSound, tables_of}
 use Rattle.mm_schema.specs.Indexes.{HasOwnIndexes, has_twin_indexes, indexes_of}
 use Rattle.mm_schema.specs.Refused.{first_refusal}
 use Rattle.mm_schema.specs.Schema.{HasDistinctNames, Schema, table_conditions, table_named, table_place, with_table, without_table}
+use Rattle.mm_schema.specs.declared.standing.StandingDef.{StandingDef}
 use Rattle.mm_schema.specs.declared.table.Table.{Table}
 use Rattle.mm_schema.specs.declared.table.TableDef.{TableDef}
 use Rattle.mm_schema.proofs.Instances.{LackName, name_of, others_lack}
@@ -40,7 +41,7 @@ place_in_names name [] = refl
 place_in_names name (t ∷ ts) = ap (λ n. cond (not (same_name name t.definition.name)) (1 + n) 0) (place_in_names name ts)
 
 -- The place of a key is the place of the table of that name.
-pub place_of_key : (name : List ℕ) (tables : Tables) (schema : Schema) → IsKeyedByName tables → record { tables = tables_of tables } ≡ schema
+pub place_of_key : {standing : List StandingDef} (name : List ℕ) (tables : Tables) (schema : Schema) → IsKeyedByName tables → record { tables = tables_of tables; standing = standing } ≡ schema
     → position (same_name name) (keys_of tables.entries) ≡ table_place name schema
 place_of_key name tables schema keyed view =
     ap (position (same_name name)) (keys_are_names tables keyed)
@@ -49,7 +50,7 @@ place_of_key name tables schema keyed view =
     ∙ ap (table_place name) view
 
 -- Keys that differ are names that differ.
-pub distinct_names : (tables : Tables) (schema : Schema) → IsKeyedByName tables → record { tables = tables_of tables } ≡ schema
+pub distinct_names : {standing : List StandingDef} (tables : Tables) (schema : Schema) → IsKeyedByName tables → record { tables = tables_of tables; standing = standing } ≡ schema
     → IsDistinct same_name (keys_of tables.entries) → HasDistinctNames schema
 distinct_names tables schema keyed view distinct =
     subst HasDistinctNames view (subst (IsDistinct same_name) (keys_are_names tables keyed) distinct)
@@ -62,13 +63,13 @@ found name (e ∷ es) keyed =
     ∙ ap (cond (same_name name e.1.definition.name) (Some e.1)) (found name es keyed.1)
 
 -- A name without a table is no key.
-absent_key : (name : List ℕ) (tables : Tables) (schema : Schema) → IsKeyedByName tables → record { tables = tables_of tables } ≡ schema
+absent_key : {standing : List StandingDef} (name : List ℕ) (tables : Tables) (schema : Schema) → IsKeyedByName tables → record { tables = tables_of tables; standing = standing } ≡ schema
     → table_named name schema ≡ None → lookup (same_name name) tables.entries ≡ None
 absent_key name tables schema keyed view none =
     found name tables.entries (recursion_from_All IsKeyed tables.entries keyed) ∙ ap (table_named name) view ∙ none
 
 -- A table that nothing refuses has a new name, so its entry comes last.
-pub entry_comes_last : (definition : TableDef) (tables : Tables) (schema : Schema) → IsKeyedByName tables → record { tables = tables_of tables } ≡ schema
+pub entry_comes_last : {standing : List StandingDef} (definition : TableDef) (tables : Tables) (schema : Schema) → IsKeyedByName tables → record { tables = tables_of tables; standing = standing } ≡ schema
     → first_refusal (table_conditions definition schema) ≡ None → (table : Table)
     → insert_entry same_name tables.entries definition.name table ≡ tables.entries ++ (definition.name, table) ∷ []
 entry_comes_last definition tables schema keyed view due table =
@@ -100,10 +101,10 @@ sound_push definition old new pushed sound = record {
 }
 
 -- One more entry is one more table.
-pub view_push : (definition : TableDef) (old new : Tables) (schema : Schema) → IsPushed definition old new
-    → record { tables = tables_of old } ≡ schema → record { tables = tables_of new } ≡ with_table definition schema
-view_push definition old new schema pushed view =
-    ap (λ ts. record { tables = ts }) (tables_pushed definition old new pushed)
+pub view_push : {standing : List StandingDef} (definition : TableDef) (old new : Tables) (schema : Schema) → IsPushed definition old new
+    → record { tables = tables_of old; standing = standing } ≡ schema → record { tables = tables_of new; standing = standing } ≡ with_table definition schema
+view_push {standing} definition old new schema pushed view =
+    ap (λ ts. record { tables = ts; standing = standing }) (tables_pushed definition old new pushed)
     ∙ ap (with_table definition) view
 
 -- ---- a table gone
@@ -142,7 +143,7 @@ module _ (name : List ℕ) where
       by true later = keyed.1
       by false later = (keyed.0, later)
 
-  module _ (old new : Tables) (schema : Schema) (sound : IsSound old) (view : record { tables = tables_of old } ≡ schema)
+  module _ {standing : List StandingDef} (old new : Tables) (schema : Schema) (sound : IsSound old) (view : record { tables = tables_of old; standing = standing } ≡ schema)
       (distinct : HasDistinctNames schema) (removed : new.entries ≡ shift_remove_entry (same_name name) old.entries) where
     left : tables_of new ≡ filter other (tables_of old)
     left =
@@ -159,5 +160,5 @@ module _ (name : List ℕ) where
     }
 
     -- .. and the others are there in order.
-    pub view_without : record { tables = tables_of new } ≡ without_table name schema
-    view_without = ap (λ ts. record { tables = ts }) left ∙ ap (without_table name) view
+    pub view_without : record { tables = tables_of new; standing = standing } ≡ without_table name schema
+    view_without = ap (λ ts. record { tables = ts; standing = standing }) left ∙ ap (without_table name) view

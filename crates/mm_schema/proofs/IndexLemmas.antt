@@ -11,6 +11,7 @@ use Rattle.mm_schema.specs.Name.{same_name}
 use Rattle.mm_schema.specs.Refused.{AnswersDue, first_refusal}
 use Rattle.mm_schema.specs.Schema.{HasDistinctNames, Schema, table_place}
 use Rattle.mm_schema.specs.declared.index.IndexDef.{IndexDef}
+use Rattle.mm_schema.specs.declared.standing.StandingDef.{StandingDef}
 use Rattle.mm_schema.specs.declared.table.Table.{Table}
 use Rattle.mm_value.specs.declared.refusal.Refusal.{Refusal}
 use Rattle.mm_value.specs.declared.refusal.Refusal.TheVariants.{Memory, NameTaken, NoSuchColumn, NoSuchTable, TooMany}
@@ -152,13 +153,13 @@ pub only_memory : {T : Type 0} (due : Option Refusal) (result : Result T Refusal
 only_memory due (Ok value) none memory = none
 only_memory due (Err refusal) none memory = inr memory
 
-module _ (index : IndexDef) (old : Tables) (schema : Schema) (sound : IsSound old) (view : record { tables = tables_of old } ≡ schema)
+module _ {standing : List StandingDef} (index : IndexDef) (old : Tables) (schema : Schema) (sound : IsSound old) (view : record { tables = tables_of old; standing = standing } ≡ schema)
     (distinct : HasDistinctNames schema) (due : first_refusal (index_conditions index schema) ≡ None) (place : ℕ)
     (placed : table_place index.table schema ≡ Some place) (t : Table) (here : slice_get (tables_of old) place ≡ Some t) where
   abbrev has_name : Table → Bool
   has_name u = same_name index.table (name_of u)
 
-  names_differ : HasDistinctNames (record { tables = tables_of old })
+  names_differ : HasDistinctNames (record { tables = tables_of old; standing = standing })
   names_differ = subst HasDistinctNames (sym view) distinct
 
   at : place ≡ position_or_len has_name (tables_of old)
@@ -199,18 +200,18 @@ module _ (index : IndexDef) (old : Tables) (schema : Schema) (sound : IsSound ol
     }
 
     pub view_with : {T : Type 0} (result : Result T Refusal) → OnOk result (is ≡ t.indexes ++ index ∷ [])
-        → OnOk result (record { tables = tables_of new } ≡ with_index index schema)
-    view_with (Ok value) ok = ap (λ ts. record { tables = ts }) (tables_with ok) ∙ ap (with_index index) view
+        → OnOk result (record { tables = tables_of new; standing = standing } ≡ with_index index schema)
+    view_with (Ok value) ok = ap (λ ts. record { tables = ts; standing = standing }) (tables_with ok) ∙ ap (with_index index) view
     view_with (Err refusal) ok = tt
 
     pub view_same : {T : Type 0} (result : Result T Refusal) → OnErr result (is ≡ t.indexes)
-        → OnErr result (record { tables = tables_of new } ≡ schema)
+        → OnErr result (record { tables = tables_of new; standing = standing } ≡ schema)
     view_same (Ok value) err = tt
-    view_same (Err refusal) err = ap (λ ts. record { tables = ts }) (tables_same err) ∙ view
+    view_same (Err refusal) err = ap (λ ts. record { tables = ts; standing = standing }) (tables_same err) ∙ view
 
 -- ---- an index gone
 
-module _ (name : List ℕ) (old : Tables) (schema : Schema) (sound : IsSound old) (view : record { tables = tables_of old } ≡ schema) (place : ℕ)
+module _ {standing : List StandingDef} (name : List ℕ) (old : Tables) (schema : Schema) (sound : IsSound old) (view : record { tables = tables_of old; standing = standing } ≡ schema) (place : ℕ)
     (placed : position (λ t. is_taken name t.indexes) schema.tables ≡ Some place) (t : Table) (here : slice_get (tables_of old) place ≡ Some t) where
   abbrev has_index : Table → Bool
   has_index u = is_taken name u.indexes
@@ -240,5 +241,5 @@ module _ (name : List ℕ) (old : Tables) (schema : Schema) (sound : IsSound old
           (λ u. All-filter (λ i. not (same_name name i.name)) (λ i. i.table ≡ name_of u) u.indexes) (tables_of old) sound.in_place));
     }
 
-    pub view_without_index : record { tables = tables_of new } ≡ without_index name schema
-    view_without_index = ap (λ ts. record { tables = ts }) tables_without ∙ ap (without_index name) view
+    pub view_without_index : record { tables = tables_of new; standing = standing } ≡ without_index name schema
+    view_without_index = ap (λ ts. record { tables = ts; standing = standing }) tables_without ∙ ap (without_index name) view

@@ -10,6 +10,7 @@ pub mod NameLemmas
 pub mod Orderings
 pub mod Places
 pub mod References
+pub mod StandingLemmas
 pub mod StrictOrder
 pub mod TwinIndexes
 pub mod Twins

@@ -9,7 +9,7 @@ use Rattle.mm_schema.specs.Indexes.{table_with_index, table_without_index, with_
 use Rattle.mm_schema.specs.Name.{same_name}
 use Rattle.mm_schema.specs.References.{HasTargets}
 use Rattle.mm_schema.specs.Refused.{first_refusal}
-use Rattle.mm_schema.specs.Schema.{Schema, drop_table_conditions, is_other_referring_to, lacks_table, lacks_target, table_conditions, with_table, without_table}
+use Rattle.mm_schema.specs.Schema.{Schema, drop_table_conditions, is_other_referring_to, lacks_table, lacks_target, reads_table, table_conditions, with_table, without_table}
 use Rattle.mm_schema.specs.declared.column.Column.{Column}
 use Rattle.mm_schema.specs.declared.index.IndexDef.{IndexDef}
 use Rattle.mm_schema.specs.declared.table.Table.{Table}
@@ -71,7 +71,7 @@ targets_added definition schema whole due =
 -- ---- other indexes
 
 module _ (change : Table → Table) (same : (t : Table) → (change t).definition ≡ t.definition) where
-  as_there : (name : List ℕ) (tables : List Table) → lacks name (map change tables) ≡ lacks name tables
+  pub as_there : (name : List ℕ) (tables : List Table) → lacks name (map change tables) ≡ lacks name tables
   as_there name [] = refl
   as_there name (t ∷ ts) =
       ap (λ d. is_none (cond (same_name name d.name) (Some (change t)) (find (λ u. same_name name (name_of u)) (map change ts)))) (same t)
@@ -84,9 +84,9 @@ module _ (change : Table → Table) (same : (t : Table) → (change t).definitio
       by false later = later
 
   -- Where each table keeps its definition, targets stay.
-  targets_kept : (schema : Schema) → HasTargets schema → HasTargets (record { tables = map change schema.tables })
+  targets_kept : (schema : Schema) → HasTargets schema → HasTargets (record schema { tables = map change schema.tables })
   targets_kept schema whole =
-      let new : Schema = record { tables = map change schema.tables } in
+      let new : Schema = record schema { tables = map change schema.tables } in
       All-map (λ t. list_any (lacks_target new) t.definition.columns ≡ false) change schema.tables
       (All-weaker (λ t. list_any (lacks_target schema) t.definition.columns ≡ false)
       (λ t. list_any (lacks_target new) (change t).definition.columns ≡ false)
@@ -164,4 +164,5 @@ module _ (gone : List ℕ) where
   pub targets_left : (schema : Schema) → HasTargets schema → first_refusal (drop_table_conditions gone schema) ≡ None → HasTargets (without_table gone schema)
   targets_left schema whole due =
       All-from_recursion _ _
-      (tables_left schema schema.tables (recursion_from_All _ schema.tables whole) (second_none _ _ _ _ _ due))
+      (tables_left schema schema.tables (recursion_from_All _ schema.tables whole)
+      (or_parts (list_any (is_other_referring_to gone) schema.tables) (list_any (reads_table gone) schema.standing) (second_none _ _ _ _ _ due)).0)

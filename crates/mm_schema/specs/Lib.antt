@@ -8,5 +8,6 @@ pub mod Refused
 pub mod Rows
 pub mod Schema
 pub mod Sorting
+pub mod Standing
 pub use Rattle.mm_value.specs.Order
 pub use Rattle.mm_value.specs.Types

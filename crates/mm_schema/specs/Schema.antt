@@ -1,4 +1,4 @@
--- The catalog: its tables in order of creation, and what refuses that one is made or dropped.
+-- The catalog: its tables and its standing queries, and what refuses that a table is made or dropped.
 use Rattle.std.specs.Prelude.{ℕ, Bool, false, not, List, [], ◌∷◌, ◌++◌, Option, filter, length, map, find, position, is_some, is_none, nat_lt, nat_le, ◌||◌, ◌&&◌}
 use Rattle.std.specs.List.{IsDistinct, list_any}
 use Rattle.std.specs.Option.{option_map_or, unwrap_or}
@@ -6,13 +6,15 @@ use Rattle.mm_schema.specs.Name.{same_name}
 use Rattle.mm_schema.specs.Columns.{column_place, differs_from_key, has_twin_names, key_place, refers_to, target_of}
 use Rattle.mm_schema.specs.Refused.{Condition}
 use Rattle.mm_schema.specs.declared.column.Column.{Column}
+use Rattle.mm_schema.specs.declared.standing.StandingDef.{StandingDef}
 use Rattle.mm_schema.specs.declared.table.Table.{Table}
 use Rattle.mm_schema.specs.declared.table.TableDef.{TableDef}
 use Rattle.mm_value.specs.declared.refusal.Refusal.TheVariants.{InUse, NameTaken, NoSuchTable, TooMany, TypeMismatch}
 
--- The tables, in order of creation.
+-- The tables and the standing queries, each in order of creation.
 pub record Schema : Type 0 where
   pub tables : List Table
+  pub standing : List StandingDef
 
 -- No two tables have one name.
 abbrev pub HasDistinctNames : Schema → Type 0
@@ -76,11 +78,19 @@ with_table definition schema = record schema { tables = schema.tables ++ record 
 abbrev pub is_other_referring_to : List ℕ → Table → Bool
 is_other_referring_to name table = not (same_name name table.definition.name) && list_any (refers_to name) table.definition.columns
 
+-- The standing query reads the table of a name.
+abbrev pub reads_table : List ℕ → StandingDef → Bool
+reads_table name query = list_any (same_name name) query.tables
+
+-- A column of another table refers to the table of a name, or a standing query reads it.
+abbrev pub is_in_use : List ℕ → Schema → Bool
+is_in_use name schema = list_any (is_other_referring_to name) schema.tables || list_any (reads_table name) schema.standing
+
 -- What refuses that a table is dropped, in the one order.
 abbrev pub drop_table_conditions : List ℕ → Schema → List Condition
 drop_table_conditions name schema =
     record { holds = lacks_table name schema; refusal = NoSuchTable }
-    ∷ record { holds = list_any (is_other_referring_to name) schema.tables; refusal = InUse }
+    ∷ record { holds = is_in_use name schema; refusal = InUse }
     ∷ []
 
 -- The catalog without the table of a name; the others stay in order.

@@ -1,5 +1,5 @@
 //! The catalog.
-ghost use Rattle.std.specs.Prelude.{◌≡◌, ◌<◌, ◌||◌, is_some, [], Some, None, length, map, position, slice_get, IfOk, MatchResult, OnOk, OnErr};
+ghost use Rattle.std.specs.Prelude.{◌≡◌, ◌<◌, ◌||◌, false, is_some, [], Some, None, length, map, position, slice_get, IfOk, MatchResult, OnOk, OnErr};
 ghost use Rattle.std.specs.List.{list_any};
 ghost use Rattle.std.specs.Option.{option_copied};
 ghost use Rattle.mm_schema.specs.Columns.{has_twin_names};
@@ -7,12 +7,14 @@ ghost use Rattle.mm_schema.specs.Indexes.{HasDistinctIndexes, HasIndexesInPlace,
 ghost use Rattle.mm_schema.specs.Name.{same_name};
 ghost use Rattle.mm_schema.specs.References.{reference_at, references_of};
 ghost use Rattle.mm_schema.specs.Refused.{AnswersDue, first_refusal};
-ghost use Rattle.mm_schema.specs.Schema.{HasDistinctNames, drop_table_conditions, is_other_referring_to, lacks_target, mismatches_target, passes_table_limits, table_conditions, table_named, table_place, with_table, without_table};
+ghost use Rattle.mm_schema.specs.Schema.{HasDistinctNames, drop_table_conditions, is_in_use, is_other_referring_to, lacks_target, mismatches_target, passes_table_limits, table_conditions, table_named, table_place, with_table, without_table};
+ghost use Rattle.mm_schema.specs.Standing.{HasDistinctStanding, drop_standing_conditions, lacks_some_table, standing_conditions, standing_named, standing_place, with_standing, without_standing};
 
 use crate::column::{Column, Columns};
 use crate::index::{IndexDef, Indexes};
 use crate::name::Name;
 use crate::reference::Reference;
+use crate::standing::{StandingDef, StandingQueries, TableNames};
 use crate::table::{Table, TableDef};
 use indexmap::IndexMap;
 use mm_value::Refusal;
@@ -25,11 +27,15 @@ pub const MAX_TABLES: usize = 64;
 pub const MAX_COLUMNS: usize = 16;
 /// The most indexes that a table has, beside the one on its key.
 pub const MAX_INDEXES: usize = 16;
+/// The most standing queries that a catalog has.
+pub const MAX_STANDING: usize = 32;
 
-/// The tables that there are, in order of creation, no two of one name.
+/// The tables and the standing queries that there are, each in order of creation, no two tables and no two standing queries
+/// of one name. A table and a standing query may have one name.
 #[derive(Drop)]
 pub struct Catalog {
     tables: IndexMap<Name, Table>,
+    standing: StandingQueries,
 }
 
 impl Model for Catalog {
@@ -38,18 +44,20 @@ impl Model for Catalog {
 
     ghost Value = { Schema };
 
-    ghost view = { λ c. record { tables = tables_of c.tables } };
+    ghost view = { λ c. record { tables = tables_of c.tables; standing = c.standing } };
 
     ghost invariant = { λ c. IsSound c.tables };
 }
 
 impl Catalog {
-    /// A catalog with no table. It takes no memory.
+    /// A catalog with no table and no standing query. It takes no memory.
     pub fn new(alloc: Global) -> Catalog
-        ensures { result.tables ≡ [] }
+        ensures tables { result.tables ≡ [] }
+        ensures standing { result.standing ≡ [] }
     {
         Catalog {
             tables: IndexMap::new(alloc),
+            standing: StandingQueries::new(alloc),
         }
     }
 
@@ -146,7 +154,8 @@ impl Catalog {
     }
 
     /// Drops a table and its indexes. The others stay in order. It takes no memory. `NoSuchTable` where no table has
-    /// the name, else `InUse` where a column of another table refers to it. A refused call changes nothing.
+    /// the name, else `InUse` where a column of another table refers to it or a standing query reads it. A refused call
+    /// changes nothing.
     pub fn drop_table(&mut self, name: &Name) -> Result<(), Refusal>
         ensures due { MatchResult result (λ _. first_refusal (drop_table_conditions name.now self.old) ≡ None)
             (λ refusal. first_refusal (drop_table_conditions name.now self.old) ≡ Some refusal) }
@@ -163,8 +172,15 @@ impl Catalog {
         Ok(())
     }
 
-    /// Whether a column of another table refers to the table of a name.
+    /// Whether a column of another table refers to the table of a name, or a standing query reads it.
     fn is_in_use(&self, name: &Name) -> bool
+        ensures { result ≡ is_in_use name.now self.now }
+    {
+        self.is_referred_to(name) || self.standing.read(name)
+    }
+
+    /// Whether a column of another table refers to the table of a name.
+    fn is_referred_to(&self, name: &Name) -> bool
         ensures { result ≡ list_any (is_other_referring_to name.now) self.now.tables }
     {
         self.tables().iter().any(|table| *name != table.definition.name
@@ -218,6 +234,74 @@ impl Catalog {
         };
         self.tables[place].indexes.remove(name);
         Ok(())
+    }
+
+    /// Adds a standing query by its name and the tables that it reads, which are there. It comes last. `NameTaken` where some
+    /// standing query has its name, else `TooMany` where there are 32 already. `Memory` may come in their place and in that of
+    /// success. A refused call changes nothing.
+    pub fn add_standing(&mut self, name: Name, tables: TableNames) -> Result<(), Refusal>
+        requires { lacks_some_table tables self.old ≡ false }
+        ensures due { AnswersDue (first_refusal (standing_conditions name self.old)) result }
+        ensures ok { OnOk result (self.new ≡ with_standing (record { name = name; tables = tables }) self.old) }
+        ensures err { OnErr result (self.new ≡ self.old) }
+    {
+        if let Some(refusal) = self.standing_refusal(&name) {
+            return Err(refusal);
+        }
+        self.standing.push(StandingDef { name, tables })
+    }
+
+    /// What refuses a new standing query by its name: the refusal that `add_standing` answers where memory suffices, or none
+    /// where it would be added. It takes no memory.
+    pub fn standing_refusal(&self, name: &Name) -> Option<Refusal>
+        ensures { result ≡ first_refusal (standing_conditions name.now self.now) }
+    {
+        if self.find_standing(name).is_some() {
+            Some(Refusal::NameTaken)
+        } else if self.standing().len() >= MAX_STANDING {
+            Some(Refusal::TooMany)
+        } else {
+            None
+        }
+    }
+
+    /// Drops a standing query. The others stay in order. It takes no memory. `NoSuchStandingQuery` where none has the name. A
+    /// refused call changes nothing.
+    pub fn drop_standing(&mut self, name: &Name) -> Result<(), Refusal>
+        ensures due { MatchResult result (λ _. first_refusal (drop_standing_conditions name.now self.old) ≡ None)
+            (λ refusal. first_refusal (drop_standing_conditions name.now self.old) ≡ Some refusal) }
+        ensures ok { OnOk result (self.new ≡ without_standing name.now self.old) }
+        ensures err { OnErr result (self.new ≡ self.old) }
+    {
+        if self.find_standing(name).is_none() {
+            return Err(Refusal::NoSuchStandingQuery);
+        }
+        self.standing.remove(name);
+        Ok(())
+    }
+
+    /// The standing queries, in order of creation. No two have one name.
+    pub fn standing(&self) -> &[StandingDef]
+        ensures value { result.now ≡ self.now.standing }
+        ensures distinct { HasDistinctStanding self.now }
+    {
+        self.standing.as_slice()
+    }
+
+    /// The standing query of a name, none where none has it. It looks through all, at most 32.
+    pub fn find_standing(&self, name: &Name) -> Option<&StandingDef>
+        ensures { option_copied result ≡ standing_named name.now self.now }
+    {
+        self.standing().iter().find(|query| *name == query.name)
+    }
+
+    /// The place of the standing query of a name in the order of creation, counted from 0; none where none has it. It looks
+    /// through all, at most 32.
+    pub fn standing_place_of(&self, name: &Name) -> Option<usize>
+        ensures place { result ≡ standing_place name.now self.now }
+        ensures distinct { HasDistinctStanding self.now }
+    {
+        self.standing().iter().position(|query| *name == query.name)
     }
 
     /// The index of a name, or none where no index has it. It looks through the indexes of all tables, at most 1,024:

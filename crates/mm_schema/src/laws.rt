@@ -1,5 +1,5 @@
 //! Laws of the definitions of this crate, which the clauses here and in the crates above speak of.
-ghost use Rattle.std.specs.Prelude.{◌≡◌, ◌⊎◌, ℕ, List, Option, Some, None, Contains};
+ghost use Rattle.std.specs.Prelude.{◌≡◌, ◌⊎◌, ℕ, false, List, Option, Some, None, Contains};
 ghost use Rattle.std.specs.Cmp.{IsTotalOrder};
 ghost use Rattle.std.specs.List.Sorted.{IsPermutation, IsSorted};
 ghost use Rattle.std.specs.declared.cmp.Ordering.{Ordering};
@@ -11,7 +11,9 @@ ghost use Rattle.mm_schema.specs.Refused.{first_refusal};
 ghost use Rattle.mm_schema.specs.Rows.{Pair, changed, column_cmp};
 ghost use Rattle.mm_schema.specs.Schema.{Schema, drop_table_conditions, table_conditions, with_table, without_table};
 ghost use Rattle.mm_schema.specs.Sorting.{in_order};
+ghost use Rattle.mm_schema.specs.Standing.{ReadsTables, lacks_some_table, with_standing, without_standing};
 ghost use Rattle.mm_schema.specs.declared.index.IndexDef.{IndexDef};
+ghost use Rattle.mm_schema.specs.declared.standing.StandingDef.{StandingDef};
 ghost use Rattle.mm_schema.specs.declared.table.TableDef.{TableDef};
 
 /// Putting in order sorts: the list has the same elements afterwards, and none is less than the one before it, in any
@@ -43,6 +45,8 @@ pub fn references_have_targets()
         → HasTargets (without_table name schema) }
     ensures index { (index : IndexDef) (schema : Schema) → HasTargets schema → HasTargets (with_index index schema) }
     ensures no_index { (name : List ℕ) (schema : Schema) → HasTargets schema → HasTargets (without_index name schema) }
+    ensures standing { (query : StandingDef) (schema : Schema) → HasTargets schema → HasTargets (with_standing query schema) }
+    ensures no_standing { (name : List ℕ) (schema : Schema) → HasTargets schema → HasTargets (without_standing name schema) }
 {}
 
 /// Tables refer to others: where no column refers to its own table, that is so after each change of the catalog that
@@ -53,4 +57,19 @@ pub fn tables_refer_to_others()
     ensures no_table { (name : List ℕ) (schema : Schema) → RefersToOthers schema → RefersToOthers (without_table name schema) }
     ensures index { (index : IndexDef) (schema : Schema) → RefersToOthers schema → RefersToOthers (with_index index schema) }
     ensures no_index { (name : List ℕ) (schema : Schema) → RefersToOthers schema → RefersToOthers (without_index name schema) }
+    ensures standing { (query : StandingDef) (schema : Schema) → RefersToOthers schema → RefersToOthers (with_standing query schema) }
+    ensures no_standing { (name : List ℕ) (schema : Schema) → RefersToOthers schema → RefersToOthers (without_standing name schema) }
+{}
+
+/// Standing queries read tables that are there: where each reads only such tables, that is so after each change of the
+/// catalog that nothing refuses, where a new standing query reads such tables.
+pub fn standing_queries_read_tables()
+    ensures table { (definition : TableDef) (schema : Schema) → ReadsTables schema → ReadsTables (with_table definition schema) }
+    ensures no_table { (name : List ℕ) (schema : Schema) → ReadsTables schema → first_refusal (drop_table_conditions name schema) ≡ None
+        → ReadsTables (without_table name schema) }
+    ensures index { (index : IndexDef) (schema : Schema) → ReadsTables schema → ReadsTables (with_index index schema) }
+    ensures no_index { (name : List ℕ) (schema : Schema) → ReadsTables schema → ReadsTables (without_index name schema) }
+    ensures standing { (query : StandingDef) (schema : Schema) → ReadsTables schema → lacks_some_table query.tables schema ≡ false
+        → ReadsTables (with_standing query schema) }
+    ensures no_standing { (name : List ℕ) (schema : Schema) → ReadsTables schema → ReadsTables (without_standing name schema) }
 {}

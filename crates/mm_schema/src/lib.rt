@@ -7,14 +7,17 @@ mod index;
 mod laws;
 mod name;
 mod reference;
+mod standing;
 mod table;
 
-pub use catalog::{Catalog, MAX_COLUMNS, MAX_INDEXES, MAX_TABLES};
+pub use catalog::{Catalog, MAX_COLUMNS, MAX_INDEXES, MAX_STANDING, MAX_TABLES};
 pub use column::{Column, Columns, Role};
 pub use index::{IndexDef, IndexId, IndexKind, Indexes};
 pub use laws::{
-    changes_are_exact, in_order_sorts, references_have_targets, tables_refer_to_others,
+    changes_are_exact, in_order_sorts, references_have_targets, standing_queries_read_tables,
+    tables_refer_to_others,
 };
 pub use name::Name;
 pub use reference::Reference;
+pub use standing::{StandingDef, TableNames};
 pub use table::{Table, TableDef};

@@ -12,3 +12,9 @@ returns-clause-index c = others_indexed
 
 pub returns-clause-no_index : goal.returns-clause-no_index
 returns-clause-no_index c = others_unindexed
+
+pub returns-clause-standing : goal.returns-clause-standing
+returns-clause-standing c = λ query schema whole. whole
+
+pub returns-clause-no_standing : goal.returns-clause-no_standing
+returns-clause-no_standing c = λ name schema whole. whole
