@@ -11,6 +11,7 @@ use Rattle.mm_value.specs.declared.refusal.Refusal.{Refusal}
 use Rattle.mm_query.specs.Binding.{binding_conditions}
 use Rattle.mm_query.specs.Edits.{changed_table, own_pairs, value_conditions}
 use Rattle.mm_query.specs.Machine.{after_change, change_conditions, conditions, reply_to, row_conditions, state_after, step, unless_refused}
+use Rattle.mm_query.specs.Standing.{growth_conditions}
 use Rattle.mm_query.specs.State.{State}
 use Rattle.mm_query.specs.declared.command.Command.{Command}
 use Rattle.mm_query.specs.declared.command.Mutation.{Mutation}
@@ -45,11 +46,12 @@ due_in_front_of_rows mutation state refusal h =
     ap first_refusal (sym (append_assoc (binding_conditions mutation state.schema) (value_conditions mutation state) _))
     ∙ due_in_front (binding_conditions mutation state.schema ++ value_conditions mutation state) _ refusal h
 
--- .. and what neither refuses by the rows, if at all.
+-- .. and what neither refuses by the rows or the standing queries, if at all.
 pub due_behind_values : (mutation : Mutation) (state : State)
     → first_refusal (binding_conditions mutation state.schema ++ value_conditions mutation state) ≡ None
     → first_refusal (change_conditions mutation state)
-    ≡ first_refusal (row_conditions (changed_table mutation) (own_pairs mutation state) state (after_change mutation state))
+    ≡ first_refusal (row_conditions (changed_table mutation) (own_pairs mutation state) state (after_change mutation state)
+    ++ growth_conditions (after_change mutation state))
 due_behind_values mutation state none =
     ap first_refusal (sym (append_assoc (binding_conditions mutation state.schema) (value_conditions mutation state) _))
     ∙ due_behind (binding_conditions mutation state.schema ++ value_conditions mutation state) _ none

@@ -10,29 +10,28 @@ use Rattle.mm_schema.specs.Indexes.{table_with_index, table_without_index}
 use Rattle.mm_schema.specs.Instance.{Instance}
 use Rattle.mm_schema.specs.Name.{same_name}
 use Rattle.mm_schema.specs.References.{HasTargets, in_front, lacks_target_row, lose_targets, references_from, references_of, refers}
-use Rattle.mm_schema.specs.Refused.{first_refusal}
+use Rattle.mm_schema.specs.Refused.{Condition, first_refusal}
 use Rattle.mm_schema.specs.Rows.{Pair, has_twin_keys, table_rows_conditions}
-use Rattle.mm_schema.specs.Schema.{Schema, columns_named, drop_table_conditions, is_other_referring_to, key_named, lacks_table, lacks_target}
+use Rattle.mm_schema.specs.Schema.{Schema, columns_named, drop_table_conditions, is_other_referring_to, key_named, lacks_table, lacks_target, reads_table}
 use Rattle.mm_schema.specs.declared.column.Column.{Column}
 use Rattle.mm_schema.specs.declared.table.Table.{Table}
 use Rattle.mm_schema.specs.declared.table.TableDef.{TableDef}
-use Rattle.mm_schema.proofs.Dues.{none_due_behind}
 use Rattle.mm_schema.proofs.Instances.{AreBeside, beside_from_order, name_of}
 use Rattle.mm_schema.proofs.NameLemmas.{differs_back, same_bytes}
 use Rattle.mm_schema.proofs.References.{same_with, same_without, second_none, targets_added, targets_indexed, targets_left, targets_unindexed}
 use Rattle.mm_schema.proofs.StrictOrder.{AllByRecursion-IsIn, IsIn}
 use Rattle.mm_schema.proofs.Twins.{Row}
 use Rattle.mm_value.specs.declared.refusal.Refusal.{Refusal}
-use Rattle.mm_query.specs.Binding.{binding_conditions}
-use Rattle.mm_query.specs.Edits.{changed_table, own_pairs, value_conditions}
-use Rattle.mm_query.specs.Machine.{after_all, after_change, after_definition, change_conditions, definition_conditions, row_conditions, some_is_referred, some_lacks_target}
+use Rattle.mm_query.specs.Edits.{changed_table, own_pairs}
+use Rattle.mm_query.specs.Machine.{after_all, after_change, after_definition, change_conditions, definition_conditions, some_is_referred, some_lacks_target}
+use Rattle.mm_query.specs.Standing.{growth_conditions}
 use Rattle.mm_query.specs.State.{State, first_state, rows_in}
 use Rattle.mm_query.specs.declared.command.Command.{Command}
 use Rattle.mm_query.specs.declared.command.Definition.{Definition}
 use Rattle.mm_query.specs.declared.command.Definition.TheVariants as define
 use Rattle.mm_query.specs.declared.command.Mutation.{Mutation}
 use Rattle.mm_query.proofs.FoundTargets.{found_among, none_among, none_by_each, refers_still}
-use Rattle.mm_query.proofs.KeyOrder.{IsKept, kept_at_first, kept_by_change, kept_by_definition}
+use Rattle.mm_query.proofs.KeyOrder.{IsKept, kept_at_first, kept_by_change, kept_by_definition, none_due_by_rows}
 use Rattle.mm_query.proofs.NamedRows.{has, no_rows_behind, rows_behind, rows_changed, rows_gone, rows_kept, rows_left, rows_of_others, table_behind, table_left, told_kept}
 use Rattle.mm_query.proofs.Throughout.{HoldsThroughout, held_by_all}
 
@@ -177,17 +176,18 @@ found_without_table gone state due found name =
       | inr other ↦
           found_again state new name (ap columns_of (table_left gone name other tables)) (rows_left gone name other tables state.rows)
           (λ r column row here is.
-          let apart = not_to_dropped gone state (second_none _ _ _ _ _ due) name other r column in
+          let apart = not_to_dropped gone state (or_parts (list_any (is_other_referring_to gone) state.schema.tables) (list_any (reads_table gone) state.schema.standing)
+          (second_none _ _ _ _ _ due)).0 name other r column in
           same_target state new r row (ap key_of (table_left gone r.1 apart tables)) (rows_left gone r.1 apart tables state.rows) is)
           (found name)
     ]
 
 -- Where each table keeps its definition and all rows stay, so do all targets.
 found_with_definitions : (change : Table → Table) → ((t : Table) → (change t).definition ≡ t.definition) → (state : State) → AllFindTargets state
-    → AllFindTargets (record state { schema = record { tables = map change state.schema.tables } })
+    → AllFindTargets (record state { schema = record state.schema { tables = map change state.schema.tables } })
 found_with_definitions change same state found name =
     let tables = state.schema.tables in
-    let new : State = record state { schema = record { tables = map change tables } } in
+    let new : State = record state { schema = record state.schema { tables = map change tables } } in
     found_again state new name (told_kept change same name (λ d. d.columns) [] tables) (rows_kept change same name tables state.rows)
     (λ r column row here is.
     same_target state new r row (told_kept change same r.1 (λ d. key_place d.columns) 0 tables) (rows_kept change same r.1 tables state.rows) is)
@@ -250,9 +250,9 @@ module _ (mutation : Mutation) (state : State) (beside : AreBeside state.schema.
         found_again state after name refl (rows_of_others its_table its_pairs name other state.schema.tables state.rows) (target_still name) (found name)
   ]
 
-neither_refused : (key : ℕ) (rows : List Row) (lacks referred : Bool) → first_refusal (table_rows_conditions key rows lacks referred) ≡ None
-    → (lacks ≡ false) × (referred ≡ false)
-neither_refused key rows lacks referred due = (second_none (has_twin_keys key rows) _ _ _ _ due, third_none (has_twin_keys key rows) _ _ _ _ _ _ due)
+neither_refused : (key : ℕ) (rows : List Row) (lacks referred : Bool) (behind : List Condition)
+    → first_refusal (table_rows_conditions key rows lacks referred ++ behind) ≡ None → (lacks ≡ false) × (referred ≡ false)
+neither_refused key rows lacks referred behind due = (second_none (has_twin_keys key rows) _ _ _ _ due, third_none (has_twin_keys key rows) _ _ _ _ _ _ due)
 
 -- ---- every step
 
@@ -260,7 +260,7 @@ neither_refused key rows lacks referred due = (second_none (has_twin_keys key ro
 record IsReferential (schema : Schema) (rows : Instance) : Type 0 where
   kept : IsKept schema rows
   targets : HasTargets schema
-  found : AllFindTargets (record { schema = schema; rows = rows; saved = None })
+  found : AllFindTargets (record { schema = schema; rows = rows; queries = []; saved = None })
 
 beside_of : (state : State) → IsKept state.schema state.rows → AreBeside state.schema.tables state.rows
 beside_of state kept = beside_from_order state.schema.tables state.rows kept.order
@@ -295,8 +295,7 @@ found_by_change mutation state due is =
     let after = after_change mutation state in
     let none =
     neither_refused (key_named table state.schema) (rows_in after table) (some_lacks_target table after) (some_is_referred table pairs state)
-    (none_due_behind (value_conditions mutation state) (row_conditions table pairs state after)
-    (none_due_behind (binding_conditions mutation state.schema) (value_conditions mutation state ++ row_conditions table pairs state after) due)) in
+    (growth_conditions after) (none_due_by_rows mutation state due) in
     found_after mutation state (beside_of state is.kept) is.targets none.1 none.0 is.found
 
 referential_by_change : (mutation : Mutation) (state : State) → first_refusal (change_conditions mutation state) ≡ None

@@ -6,7 +6,7 @@ use Rattle.mm_schema.specs.Columns.{key_place}
 use Rattle.mm_schema.specs.Indexes.{table_with_index, table_without_index}
 use Rattle.mm_schema.specs.Instance.{AreInKeyOrder, Instance}
 use Rattle.mm_schema.specs.Name.{same_name}
-use Rattle.mm_schema.specs.Refused.{ascend, first_refusal}
+use Rattle.mm_schema.specs.Refused.{Condition, ascend, first_refusal}
 use Rattle.mm_schema.specs.Rows.{has_twin_keys, table_rows_conditions}
 use Rattle.mm_schema.specs.Schema.{HasDistinctNames, Schema, key_named}
 use Rattle.mm_schema.specs.declared.table.Table.{Table}
@@ -21,6 +21,7 @@ use Rattle.mm_value.specs.declared.refusal.Refusal.TheVariants.{DuplicateKey}
 use Rattle.mm_query.specs.Binding.{binding_conditions}
 use Rattle.mm_query.specs.Edits.{changed_table, own_pairs, value_conditions}
 use Rattle.mm_query.specs.Machine.{after_all, after_change, after_definition, change_conditions, conditions, definition_conditions, row_conditions, some_is_referred, some_lacks_target}
+use Rattle.mm_query.specs.Standing.{growth_conditions}
 use Rattle.mm_query.specs.State.{State, first_state, rows_in}
 use Rattle.mm_query.specs.declared.command.Command.{Command}
 use Rattle.mm_query.specs.declared.command.Command.TheVariants.{Nothing, Define, Change, Scan, ScanIndex, Select, Explain, Begin, Commit, Rollback}
@@ -73,7 +74,7 @@ kept_by_drop_table name state kept = record {
 
 -- Where each table keeps its definition and all rows stay, names are distinct still and rows in key order.
 kept_with_definitions : (change : Table → Table) → ((t : Table) → (change t).definition ≡ t.definition) → (state : State) → IsKept state.schema state.rows
-    → IsKept (record { tables = map change state.schema.tables }) state.rows
+    → IsKept (record state.schema { tables = map change state.schema.tables }) state.rows
 kept_with_definitions change same state kept = record {
   distinct = subst (IsDistinct same_name) (sym (names_kept change same state.schema.tables)) kept.distinct;
   order = AreInKeyOrder-kept change same state.schema.tables state.rows kept.order;
@@ -86,9 +87,20 @@ kept_by_definition (define.DropTable name) state due kept = kept_by_drop_table n
 kept_by_definition (define.Index index) state due kept = kept_with_definitions (table_with_index index) (same_with index) state kept
 kept_by_definition (define.DropIndex name) state due kept = kept_with_definitions (table_without_index name) (same_without name) state kept
 
-no_twins : (key : ℕ) (rows : List Row) (lacks referred : Bool) → first_refusal (table_rows_conditions key rows lacks referred) ≡ None
-    → has_twin_keys key rows ≡ false
-no_twins key rows lacks referred due = first_none (has_twin_keys key rows) DuplicateKey _ due
+no_twins : (key : ℕ) (rows : List Row) (lacks referred : Bool) (behind : List Condition)
+    → first_refusal (table_rows_conditions key rows lacks referred ++ behind) ≡ None → has_twin_keys key rows ≡ false
+no_twins key rows lacks referred behind due = first_none (has_twin_keys key rows) DuplicateKey _ due
+
+-- Where nothing refuses a change, neither its rows nor the standing queries do.
+pub none_due_by_rows : (mutation : Mutation) (state : State) → first_refusal (change_conditions mutation state) ≡ None
+    → first_refusal (row_conditions (changed_table mutation) (own_pairs mutation state) state (after_change mutation state)
+    ++ growth_conditions (after_change mutation state)) ≡ None
+none_due_by_rows mutation state due =
+    let by_rows =
+    row_conditions (changed_table mutation) (own_pairs mutation state) state (after_change mutation state)
+    ++ growth_conditions (after_change mutation state) in
+    none_due_behind (value_conditions mutation state) by_rows
+    (none_due_behind (binding_conditions mutation state.schema) (value_conditions mutation state ++ by_rows) due)
 
 pub kept_by_change : (mutation : Mutation) (state : State) → first_refusal (change_conditions mutation state) ≡ None → IsKept state.schema state.rows
     → IsKept state.schema (after_change mutation state).rows
@@ -97,10 +109,8 @@ kept_by_change mutation state due kept = record {
   order = AreInKeyOrder-changed (changed_table mutation) (own_pairs mutation state) state.schema.tables state.rows kept.order kept.distinct
       (no_twins (key_named (changed_table mutation) state.schema) (rows_in (after_change mutation state) (changed_table mutation))
       (some_lacks_target (changed_table mutation) (after_change mutation state)) (some_is_referred (changed_table mutation) (own_pairs mutation state) state)
-      (none_due_behind (value_conditions mutation state)
-      (row_conditions (changed_table mutation) (own_pairs mutation state) state (after_change mutation state))
-      (none_due_behind (binding_conditions mutation state.schema)
-      (value_conditions mutation state ++ row_conditions (changed_table mutation) (own_pairs mutation state) state (after_change mutation state)) due)));
+      (growth_conditions (after_change mutation state))
+      (none_due_by_rows mutation state due));
 }
 
 -- ---- every state

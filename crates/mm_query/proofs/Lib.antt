@@ -10,6 +10,7 @@ pub mod PlainEval
 mod PlanLines
 pub mod QueryLaws
 pub mod SortedRows
+pub mod StandingQueries
 mod Throughout
 mod Transactions
 mod Tuples

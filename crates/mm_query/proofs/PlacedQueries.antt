@@ -25,7 +25,7 @@ use Rattle.mm_query.proofs.FoundTargets.{found_among, none_among}
 use Rattle.mm_query.proofs.Within.{placed_within}
 
 -- Where nothing is refused, no condition holds.
-none_hold : (cs : List Condition) → first_refusal cs ≡ None → AllByRecursion (λ c. c.holds ≡ false) cs
+pub none_hold : (cs : List Condition) → first_refusal cs ≡ None → AllByRecursion (λ c. c.holds ≡ false) cs
 none_hold [] e = tt
 none_hold (c ∷ cs) e = by c.holds refl e (none_hold cs)
   where

@@ -54,7 +54,8 @@ saved_by_definition (define.DropTable name) state = refl
 saved_by_definition (define.Index index) state = refl
 saved_by_definition (define.DropIndex name) state = refl
 
-none_later : (b : Bool) (refusal : Refusal) (rest : Option Refusal) → cond b (Some refusal) rest ≡ None → rest ≡ None
+-- Where nothing is refused, nothing is by what comes later.
+pub none_later : (b : Bool) (refusal : Refusal) (rest : Option Refusal) → cond b (Some refusal) rest ≡ None → rest ≡ None
 none_later true refusal rest due = absurd (cc)
 none_later false refusal rest due = due
 

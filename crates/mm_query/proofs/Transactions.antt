@@ -11,6 +11,7 @@ use Rattle.mm_value.specs.declared.refusal.Refusal.TheVariants.{NoTransaction, N
 use Rattle.mm_query.specs.Machine.{Outcome, after_all, conditions, definition_conditions, reply_to, state_after, step, unless_refused}
 use Rattle.mm_query.specs.State.{State, has_transaction}
 use Rattle.mm_query.specs.Transactions.{is_data_manipulation, is_transaction_control}
+use Rattle.mm_query.specs.declared.bound_query.BoundQuery.{BoundQuery}
 use Rattle.mm_query.specs.declared.command.Command.{Command}
 use Rattle.mm_query.specs.declared.command.Command.TheVariants.{Nothing, Define, Change, Scan, ScanIndex, Select, Explain, Begin, Commit, Rollback}
 use Rattle.mm_query.specs.declared.command.Definition.{Definition}
@@ -22,8 +23,9 @@ use Rattle.mm_query.proofs.Throughout.{kept_by_step, none_saved}
 -- ---- inside a transaction
 
 -- what a transaction that saved some rows keeps
-record IsInside (schema : Schema) (rows : Instance) (state : State) : Type 0 where
+record IsInside (schema : Schema) (queries : List BoundQuery) (rows : Instance) (state : State) : Type 0 where
   same : state.schema ≡ schema
+  standing : state.queries ≡ queries
   saved : state.saved ≡ Some rows
 
 definition_refused : (definition : Definition) (state : State) → has_transaction state ≡ true
@@ -32,27 +34,27 @@ definition_refused definition state open_now =
     step-refused (Define definition) state NotInTransaction
     (ap (λ b. cond b (Some NotInTransaction) (first_refusal (definition_conditions definition state))) open_now)
 
-module _ (schema : Schema) (rows : Instance) where
-  inside_by_definition : (definition : Definition) (state : State) → IsInside schema rows state → IsInside schema rows (step (Define definition) state).state
+module _ (schema : Schema) (queries : List BoundQuery) (rows : Instance) where
+  inside_by_definition : (definition : Definition) (state : State) → IsInside schema queries rows state → IsInside schema queries rows (step (Define definition) state).state
   inside_by_definition definition state inside =
-      subst (λ (o : Outcome). IsInside schema rows o.state) (sym (definition_refused definition state (ap is_some inside.saved))) inside
+      subst (λ (o : Outcome). IsInside schema queries rows o.state) (sym (definition_refused definition state (ap is_some inside.saved))) inside
 
-  inside_by_step : (command : Command) (state : State) → is_transaction_control command ≡ false → IsInside schema rows state
-      → IsInside schema rows (step command state).state
+  inside_by_step : (command : Command) (state : State) → is_transaction_control command ≡ false → IsInside schema queries rows state
+      → IsInside schema queries rows (step command state).state
   inside_by_step Nothing state free inside = inside
   inside_by_step (Define definition) state free inside = inside_by_definition definition state inside
   inside_by_step (Change mutation) state free inside =
-      kept_by_step (IsInside schema rows) (Change mutation) state (λ due. record { same = inside.same; saved = inside.saved }) inside
-  inside_by_step (Scan table) state free inside = kept_by_step (IsInside schema rows) (Scan table) state (λ due. inside) inside
-  inside_by_step (ScanIndex index) state free inside = kept_by_step (IsInside schema rows) (ScanIndex index) state (λ due. inside) inside
-  inside_by_step (Select query) state free inside = kept_by_step (IsInside schema rows) (Select query) state (λ due. inside) inside
-  inside_by_step (Explain query) state free inside = kept_by_step (IsInside schema rows) (Explain query) state (λ due. inside) inside
+      kept_by_step (IsInside schema queries rows) (Change mutation) state (λ due. record { same = inside.same; standing = inside.standing; saved = inside.saved }) inside
+  inside_by_step (Scan table) state free inside = kept_by_step (IsInside schema queries rows) (Scan table) state (λ due. inside) inside
+  inside_by_step (ScanIndex index) state free inside = kept_by_step (IsInside schema queries rows) (ScanIndex index) state (λ due. inside) inside
+  inside_by_step (Select query) state free inside = kept_by_step (IsInside schema queries rows) (Select query) state (λ due. inside) inside
+  inside_by_step (Explain query) state free inside = kept_by_step (IsInside schema queries rows) (Explain query) state (λ due. inside) inside
   inside_by_step Begin state free inside = cc
   inside_by_step Commit state free inside = cc
   inside_by_step Rollback state free inside = cc
 
-  inside_by_all : (commands : List Command) (state : State) → list_any is_transaction_control commands ≡ false → IsInside schema rows state
-      → IsInside schema rows (after_all commands state)
+  inside_by_all : (commands : List Command) (state : State) → list_any is_transaction_control commands ≡ false → IsInside schema queries rows state
+      → IsInside schema queries rows (after_all commands state)
   inside_by_all [] state free inside = inside
   inside_by_all (command ∷ commands) state free inside =
       let each = or_parts (is_transaction_control command) (list_any is_transaction_control commands) free in
@@ -71,9 +73,10 @@ module _ (state : State) (closed : has_transaction state ≡ false) where
   reached commands = after_all commands (record state { saved = Some state.rows })
 
   module _ (commands : List Command) (free : list_any is_transaction_control commands ≡ false) where
-    inside : IsInside state.schema state.rows (reached commands)
+    inside : IsInside state.schema state.queries state.rows (reached commands)
     unfolding reached
-    inside = inside_by_all state.schema state.rows commands (record state { saved = Some state.rows }) free (record { same = refl; saved = refl })
+    inside = inside_by_all state.schema state.queries state.rows commands (record state { saved = Some state.rows }) free
+        (record { same = refl; standing = refl; saved = refl })
 
     ended : (ending : Command) → first_refusal (conditions ending (reached commands)) ≡ None
         → after_all (Begin ∷ commands ++ ending ∷ []) state ≡ state_after ending (reached commands)
@@ -90,8 +93,8 @@ module _ (state : State) (closed : has_transaction state ≡ false) where
     pub rolled_back : after_all (Begin ∷ commands ++ Rollback ∷ []) state ≡ state
     rolled_back =
         ended Rollback is_open
-        ∙ (λ i. record { schema = inside.same i; rows = unwrap_or (inside.saved i) (reached commands).rows; saved = None })
-        ∙ (λ i. record { schema = state.schema; rows = state.rows; saved = sym (none_saved state.saved closed) i })
+        ∙ (λ i. record { schema = inside.same i; rows = unwrap_or (inside.saved i) (reached commands).rows; queries = inside.standing i; saved = None })
+        ∙ (λ i. record { schema = state.schema; rows = state.rows; queries = state.queries; saved = sym (none_saved state.saved closed) i })
 
     -- COMMIT changes nothing but that no rows are saved.
     pub committed : after_all (Begin ∷ commands ++ Commit ∷ []) state ≡ record (after_all (Begin ∷ commands) state) { saved = None }

@@ -9,6 +9,7 @@ pub mod Plans
 pub mod Queries
 pub mod Resolving
 pub mod Serving
+pub mod Standing
 pub mod State
 pub mod Transactions
 pub mod Walk

@@ -19,6 +19,7 @@ use Rattle.mm_query.specs.Binding.{binding_conditions}
 use Rattle.mm_query.specs.Edits.{changed_table, edits, own_pairs, value_conditions}
 use Rattle.mm_query.specs.Plans.{plan_of}
 use Rattle.mm_query.specs.Resolving.{query_conditions, select_conditions, selected}
+use Rattle.mm_query.specs.Standing.{growth_conditions}
 use Rattle.mm_query.specs.State.{State, has_transaction, rows_in}
 use Rattle.mm_query.specs.declared.command.Command.{Command}
 use Rattle.mm_query.specs.declared.command.Command.TheVariants.{Nothing, Define, Change, Scan, ScanIndex, Select, Explain, Begin, Commit, Rollback}
@@ -72,11 +73,13 @@ abbrev pub row_conditions : List ℕ → List Pair → State → State → List 
 row_conditions table pairs before after =
     table_rows_conditions (key_named table before.schema) (rows_in after table) (some_lacks_target table after) (some_is_referred table pairs before)
 
--- What refuses a change of rows, in the one order: first by the catalog alone, then by the values that it computes.
+-- What refuses a change of rows, in the one order: first by the catalog alone, then by the values that it computes, then by the
+-- rows of its table, and last by the standing queries.
 abbrev pub change_conditions : Mutation → State → List Condition
 change_conditions mutation state =
     binding_conditions mutation state.schema ++ (value_conditions mutation state
-    ++ row_conditions (changed_table mutation) (own_pairs mutation state) state (after_change mutation state))
+    ++ (row_conditions (changed_table mutation) (own_pairs mutation state) state (after_change mutation state)
+    ++ growth_conditions (after_change mutation state)))
 
 -- ---- rows by an index
 

@@ -92,21 +92,33 @@ abbrev pub passes_query_limits : Query → Bool
 passes_query_limits query =
     nat_lt 4 (length query.from) || nat_lt 16 (length query.fields) || nat_lt 16 (length query.atoms) || nat_lt 16 (length query.order)
 
--- What refuses a query by the catalog alone, in the one order.
-abbrev pub query_conditions : Query → Schema → List Condition
-query_conditions query schema =
+-- What refuses a query by tables, columns and positions that are missing, in the one order.
+abbrev pub missing_conditions : Query → Schema → List Condition
+missing_conditions query schema =
     record { holds = list_any (λ (item : FromItem). lacks_table item.table schema) query.from; refusal = NoSuchTable }
     ∷ record {
       holds = some_field (field_lacks_column schema query.from) query || list_any (lacks_position query.fields) query.order;
       refusal = NoSuchColumn;
     }
-    ∷ record { holds = has_twin_aliases query.from; refusal = AliasTaken }
+    ∷ []
+
+-- What refuses a query by its aliases and its types, in the one order.
+abbrev pub ill_formed_conditions : Query → Schema → List Condition
+ill_formed_conditions query schema =
+    record { holds = has_twin_aliases query.from; refusal = AliasTaken }
     ∷ record { holds = some_field (lacks_alias query.from) query; refusal = NoSuchAlias }
     ∷ record {
       holds = list_any (λ (a : Atom FieldName). mismatches (field_type schema query.from) a.left a.right) query.atoms;
       refusal = TypeMismatch;
     }
-    ∷ record { holds = passes_query_limits query; refusal = TooMany }
+    ∷ []
+
+-- What refuses a query by the catalog alone, in the one order.
+abbrev pub query_conditions : Query → Schema → List Condition
+query_conditions query schema =
+    missing_conditions query schema
+    ++ ill_formed_conditions query schema
+    ++ record { holds = passes_query_limits query; refusal = TooMany }
     ∷ []
 
 -- ---- what a query in which no condition holds reads
@@ -141,6 +153,10 @@ bag_in state query = bag (placed_query state.schema query) (rows_in state)
 abbrev pub select_conditions : Query → State → List Condition
 select_conditions query state = query_conditions query state.schema ++ size_conditions (bag_in state query)
 
+-- The rows that a bound query gives over the rows of a state, in their order.
+abbrev pub answer_in : State → BoundQuery → List (List Value)
+answer_in state query = shown query (eval query (rows_in state))
+
 -- The rows that a SELECT gives, in their order.
 abbrev pub selected : Query → State → List (List Value)
-selected query state = let bound = placed_query state.schema query in shown bound (eval bound (rows_in state))
+selected query state = answer_in state (placed_query state.schema query)

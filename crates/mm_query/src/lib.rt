@@ -8,6 +8,7 @@ mod combination;
 mod command;
 mod item_list;
 mod laws;
+mod listing;
 mod place;
 mod plain;
 mod plan_laws;
@@ -17,6 +18,7 @@ mod query_laws;
 mod reply;
 mod row_list;
 mod scope;
+mod standing_laws;
 mod update;
 
 pub use atom::{Assignment, Atom, Comparison, Operand};
@@ -30,6 +32,7 @@ pub use laws::{
     rows_keep_their_targets, rows_stay_in_key_order, transactions_do_what_commands_do,
     transactions_stand_alone,
 };
+pub use listing::{ListedQuery, ListedTable, Listing};
 pub use place::{MAX_TESTS, column_named, column_refusal, place_assignments, place_tests};
 pub use plain::{MAX_COMBINATIONS, PlainRows, plain_eval};
 pub use plan_laws::plans_go_along_from;
@@ -42,4 +45,8 @@ pub use query_laws::{
 pub use reply::Reply;
 pub use row_list::RowList;
 pub use scope::{MAX_FROM, MAX_PARTS, Scope};
+pub use standing_laws::{
+    standing_queries_are_shown, standing_queries_stay_bound, standing_queries_stay_within_limit,
+    watch_conditions_ascend,
+};
 pub use update::updated_row;

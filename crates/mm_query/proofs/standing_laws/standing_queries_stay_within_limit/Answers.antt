@@ -1,0 +1,8 @@
+use Rattle.mm_query.proofs.StandingQueries.{limit_by_change, limit_by_watch}
+use Rattle.mm_query.proofs.standing_laws.standing_queries_stay_within_limit.Goals as goal
+
+pub returns-clause-change : goal.returns-clause-change
+returns-clause-change c = limit_by_change
+
+pub returns-clause-watch : goal.returns-clause-watch
+returns-clause-watch c = λ name query state within due. limit_by_watch name query state due within
