@@ -7,6 +7,7 @@ pub mod Forms
 pub mod HiddenRows
 pub mod Joining
 pub mod Lists
+pub mod Looked
 pub mod MarkLaws
 pub mod Moving
 pub mod OnlyReference

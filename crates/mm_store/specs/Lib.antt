@@ -2,6 +2,7 @@ pub mod Behind
 pub mod Commands
 pub mod Joined
 pub mod Links
+pub mod Looked
 pub mod Marks
 pub mod Seen
 pub mod Tables

@@ -2,16 +2,18 @@
 ghost use Rattle.std.specs.Prelude.{◌≡◌, ℕ, ◌+◌, ◌<◌, ◌≤◌, length, map, min, All, IfOk, IfSome, OnOk, OnErr, Some, slice_get};
 ghost use Rattle.std.specs.Option.{option_copied, option_map};
 ghost use Rattle.mm_partition.specs.Places.{IsLive, Live, slot_at};
-ghost use Rattle.mm_relation.specs.Kept.{StoredRows};
+ghost use Rattle.mm_relation.specs.Kept.{IsKept, StoredRows};
 ghost use Rattle.mm_relation.specs.Reads.{Appends, AreMatches, HasIndex, IsRange};
 ghost use Rattle.mm_relation.specs.Refs.{row_at};
 ghost use Rattle.mm_relation.specs.RowLists.{rows_of};
 ghost use Rattle.mm_schema.specs.Rows.{rows_by};
 ghost use Rattle.mm_schema.specs.Sorting.{in_order};
 ghost use Rattle.mm_schema.specs.declared.index.IndexKind.TheVariants as kind;
+ghost use Rattle.mm_store.specs.Looked.{IsFirstOn, IsIndexOn};
 ghost use Rattle.mm_store.specs.Tables.{IsAt};
 ghost use Rattle.mm_value.specs.Prefix.{order_prefix};
 
+use crate::column_index::{ColumnIndex, append_matches, first_index};
 use crate::meter::Meter;
 use crate::store::Store;
 use mm_relation::Relation;
@@ -26,6 +28,17 @@ impl Store {
         ensures { (stored : StoredRows) → IsAt self.now table stored → result ≡ length (rows_of stored) }
     {
         self.table(table).len()
+    }
+
+    /// The references of a table's relation are those of its live rows, in key order and no two of one key; there are at most
+    /// 1,048,576, each live row has the relation's width, and each index keeps the references. The call does nothing.
+    pub fn is_kept(&self, table: usize)
+        requires { table < length self.now.tables }
+        ensures kept { (stored : StoredRows) → IsAt self.now table stored
+            → IsKept stored.width stored.key (slot_at stored.places) stored.refs stored.indexes }
+        ensures few { (stored : StoredRows) → IsAt self.now table stored → length stored.refs ≤ 1048576 }
+    {
+        self.table(table).is_kept();
     }
 
     /// The row of a live reference of a table. The meter counts it.
@@ -87,6 +100,54 @@ impl Store {
         ensures live { (stored : StoredRows) → IsAt self.now table stored → All (IsLive stored.places) result }
     {
         self.table(table).tree_walk(index)
+    }
+
+    /// The index in which values of a column of a table are looked up: of those on the column the one that was created first,
+    /// where the key's own comes before all others. None exactly where the column has no index.
+    pub fn index_on(&self, table: usize, column: usize) -> Option<ColumnIndex>
+        requires { table < length self.now.tables }
+        ensures { (stored : StoredRows) → IsAt self.now table stored → IsFirstOn stored column result }
+    {
+        first_index(self.table(table), column)
+    }
+
+    /// Appends the references of the rows of a table that have this value in the column of an index of it, each once and in no
+    /// promised order. `AllocError` where memory is refused; then `out` holds what it held.
+    pub fn matches(
+        &self,
+        alloc: Global,
+        table: usize,
+        index: ColumnIndex,
+        value: &Value,
+        out: &mut Vec<RowRef>,
+    ) -> Result<(), AllocError>
+        requires there { table < length self.now.tables }
+        requires index { (stored : StoredRows) → IsAt self.now table stored → (column : ℕ) × IsIndexOn stored column index }
+        ensures ok { OnOk result ((stored : StoredRows) (column : ℕ) → IsAt self.now table stored → IsIndexOn stored column index
+            → Appends (AreMatches column (slot_at stored.places) value.now stored.refs) out.old.items out.new.items) }
+        ensures err { OnErr result (out.new.items ≡ out.old.items) }
+    {
+        append_matches(alloc, self.table(table), index, value, out)
+    }
+
+    /// Appends the references of the rows of a table whose keys are between two ends, these included, in the order of the key.
+    /// An end that is not given leaves its side open. `AllocError` where memory is refused; then `out` holds what it held.
+    pub fn key_range(
+        &self,
+        alloc: Global,
+        table: usize,
+        low: Option<&Value>,
+        high: Option<&Value>,
+        out: &mut Vec<RowRef>,
+    ) -> Result<(), AllocError>
+        requires { table < length self.now.tables }
+        ensures ok { OnOk result ((stored : StoredRows) → IsAt self.now table stored
+            → Appends (IsRange stored.key stored (option_copied low.entry) (option_copied high.entry)) out.old.items out.new.items) }
+        ensures err { OnErr result (out.new.items ≡ out.old.items) }
+    {
+        let relation = self.table(table);
+        relation.is_kept();
+        relation.key_range(alloc, low, high, out)
     }
 
     /// Appends the references of the rows whose values in the column of the TREE index at a place of a table's are between two

@@ -4,6 +4,7 @@
 #![tactic(auto)]
 
 mod access;
+mod column_index;
 mod link;
 mod links;
 mod meter;
@@ -11,6 +12,7 @@ mod store;
 mod undo;
 mod view;
 
+pub use column_index::ColumnIndex;
 pub use meter::Meter;
 pub use store::Store;
 pub use undo::Undo;

@@ -1,16 +1,19 @@
 //! What a query sees of a store.
-ghost use Rattle.std.specs.Prelude.{◌≡◌, ℕ, ◌+◌, ◌<◌, length, map, min, All, IfOk, OnOk, OnErr};
+ghost use Rattle.std.specs.Prelude.{◌≡◌, ℕ, ◌+◌, ◌<◌, ◌≤◌, length, map, min, All, OnOk, OnErr, Contains};
 ghost use Rattle.std.specs.Option.{option_copied};
 ghost use Rattle.mm_partition.specs.Places.{IsLive, Live, slot_at};
-ghost use Rattle.mm_relation.specs.Kept.{StoredRows};
+ghost use Rattle.mm_relation.specs.Kept.{IsKept, StoredRows};
 ghost use Rattle.mm_relation.specs.Reads.{Appends, AreMatches, HasIndex, IsRange};
 ghost use Rattle.mm_relation.specs.Refs.{row_at};
 ghost use Rattle.mm_relation.specs.RowLists.{rows_of};
 ghost use Rattle.mm_schema.specs.Rows.{rows_by};
 ghost use Rattle.mm_schema.specs.Sorting.{in_order};
 ghost use Rattle.mm_schema.specs.declared.index.IndexKind.TheVariants as kind;
+ghost use Rattle.mm_store.specs.Links.{RefersTo};
+ghost use Rattle.mm_store.specs.Looked.{IsFirstOn, IsIndexOn};
 ghost use Rattle.mm_store.specs.Tables.{IsAt};
 
+use crate::column_index::ColumnIndex;
 use crate::meter::Meter;
 use crate::store::Store;
 use mm_value::{Row, RowRef, Value};
@@ -19,6 +22,7 @@ use std::marker::Model;
 use ttree::Iter;
 
 /// The rows of a store, found by its access calls, and each that is looked at counted by one meter.
+#[derive(Drop)]
 pub struct View<'a> {
     store: &'a Store,
     meter: &'a mut Meter,
@@ -67,5 +71,138 @@ impl<'a> View<'a> {
         ensures { (stored : StoredRows) → IsAt self.now.store table stored → result ≡ length (rows_of stored) }
     {
         self.store.len_of(table)
+    }
+
+    /// The references of a table's relation are those of its live rows, in key order and no two of one key; there are at most
+    /// 1,048,576, each live row has the relation's width, and each index keeps the references. The call does nothing.
+    pub fn is_kept(&self, table: usize)
+        requires { table < length self.now.store.tables }
+        ensures kept { (stored : StoredRows) → IsAt self.now.store table stored
+            → IsKept stored.width stored.key (slot_at stored.places) stored.refs stored.indexes }
+        ensures few { (stored : StoredRows) → IsAt self.now.store table stored → length stored.refs ≤ 1048576 }
+    {
+        self.store.is_kept(table);
+    }
+
+    /// The index in which values of a column of a table are looked up: of those on the column the one that was created first,
+    /// where the key's own comes before all others. None exactly where the column has no index.
+    pub fn index_on(&self, table: usize, column: usize) -> Option<ColumnIndex>
+        requires { table < length self.now.store.tables }
+        ensures { (stored : StoredRows) → IsAt self.now.store table stored → IsFirstOn stored column result }
+    {
+        self.store.index_on(table, column)
+    }
+
+    /// Appends the references of the rows of a table that have this value in the column of an index of it, each once and in no
+    /// promised order. No row is counted. `AllocError` where memory is refused; then `out` holds what it held.
+    pub fn matches(
+        &self,
+        alloc: Global,
+        table: usize,
+        index: ColumnIndex,
+        value: &Value,
+        out: &mut Vec<RowRef>,
+    ) -> Result<(), AllocError>
+        requires there { table < length self.now.store.tables }
+        requires index { (stored : StoredRows) → IsAt self.now.store table stored → (column : ℕ) × IsIndexOn stored column index }
+        ensures ok { OnOk result ((stored : StoredRows) (column : ℕ) → IsAt self.now.store table stored → IsIndexOn stored column index
+            → Appends (AreMatches column (slot_at stored.places) value.now stored.refs) out.old.items out.new.items) }
+        ensures err { OnErr result (out.new.items ≡ out.old.items) }
+    {
+        self.store.matches(alloc, table, index, value, out)
+    }
+
+    /// Appends the references of the rows of a table whose keys are between two ends, these included, in the order of the key.
+    /// An end that is not given leaves its side open. No row is counted. `AllocError` where memory is refused; then `out` holds
+    /// what it held.
+    pub fn key_range(
+        &self,
+        alloc: Global,
+        table: usize,
+        low: Option<&Value>,
+        high: Option<&Value>,
+        out: &mut Vec<RowRef>,
+    ) -> Result<(), AllocError>
+        requires { table < length self.now.store.tables }
+        ensures ok { OnOk result ((stored : StoredRows) → IsAt self.now.store table stored
+            → Appends (IsRange stored.key stored (option_copied low.entry) (option_copied high.entry)) out.old.items out.new.items) }
+        ensures err { OnErr result (out.new.items ≡ out.old.items) }
+    {
+        self.store.key_range(alloc, table, low, high, out)
+    }
+
+    /// Appends the references of the rows whose values in the column of the TREE index at a place of a table's are between two
+    /// ends, these included, in the order of the walk along it. An end that is not given leaves its side open. No row is counted.
+    /// `AllocError` where memory is refused; then `out` holds what it held.
+    pub fn tree_range(
+        &self,
+        alloc: Global,
+        table: usize,
+        index: usize,
+        low: Option<&Value>,
+        high: Option<&Value>,
+        out: &mut Vec<RowRef>,
+    ) -> Result<(), AllocError>
+        requires there { table < length self.now.store.tables }
+        requires tree { (stored : StoredRows) → IsAt self.now.store table stored → (column : ℕ) × HasIndex stored.indexes index column kind.Tree }
+        ensures ok { OnOk result ((stored : StoredRows) (column : ℕ) → IsAt self.now.store table stored
+            → HasIndex stored.indexes index column kind.Tree
+            → Appends (IsRange column stored (option_copied low.entry) (option_copied high.entry)) out.old.items out.new.items) }
+        ensures err { OnErr result (out.new.items ≡ out.old.items) }
+    {
+        self.store.tree_range(alloc, table, index, low, high, out)
+    }
+
+    /// Appends the references of the rows whose value in the column of the HASH index at a place of a table's is this one, in no
+    /// promised order. No row is counted. `AllocError` where memory is refused; then `out` holds what it held.
+    pub fn hash_matches(
+        &self,
+        alloc: Global,
+        table: usize,
+        index: usize,
+        value: &Value,
+        out: &mut Vec<RowRef>,
+    ) -> Result<(), AllocError>
+        requires there { table < length self.now.store.tables }
+        requires hash { (stored : StoredRows) → IsAt self.now.store table stored → (column : ℕ) × HasIndex stored.indexes index column kind.Hash }
+        ensures ok { OnOk result ((stored : StoredRows) (column : ℕ) → IsAt self.now.store table stored
+            → HasIndex stored.indexes index column kind.Hash
+            → Appends (AreMatches column (slot_at stored.places) value.now stored.refs) out.old.items out.new.items) }
+        ensures err { OnErr result (out.new.items ≡ out.old.items) }
+    {
+        self.store.hash_matches(alloc, table, index, value, out)
+    }
+
+    /// The references of all rows of a table, in the order of their keys, without a copy. No row is counted.
+    pub fn key_walk(&self, table: usize) -> Iter<'a>
+        requires { table < length self.now.store.tables }
+        ensures rows { (stored : StoredRows) → IsAt self.now.store table stored
+            → map (row_at (slot_at stored.places)) result ≡ rows_of stored }
+        ensures live { (stored : StoredRows) → IsAt self.now.store table stored → All (IsLive stored.places) result }
+    {
+        self.store.key_walk(table)
+    }
+
+    /// The references of all rows along the TREE index at a place of a table's, counted from 0: in the order of its column, those
+    /// of one value in the order of the key. Without a copy, and no row is counted.
+    pub fn walk(&self, table: usize, index: usize) -> Iter<'a>
+        requires there { table < length self.now.store.tables }
+        requires tree { (stored : StoredRows) → IsAt self.now.store table stored → (column : ℕ) × HasIndex stored.indexes index column kind.Tree }
+        ensures rows { (stored : StoredRows) (column : ℕ) → IsAt self.now.store table stored → HasIndex stored.indexes index column kind.Tree
+            → map (row_at (slot_at stored.places)) result ≡ in_order (rows_by column stored.key) (rows_of stored) }
+        ensures live { (stored : StoredRows) → IsAt self.now.store table stored → All (IsLive stored.places) result }
+    {
+        self.store.walk(table, index)
+    }
+
+    /// The row that a row refers to by a column, without a search and without a look at either.
+    pub fn follow(&self, table: usize, column: usize, at: RowRef) -> RowRef
+        requires refers { (to : ℕ) × Contains self.now.store.links (record { from = table; column = column; to = to }) }
+        requires live { (stored : StoredRows) → IsAt self.now.store table stored → IsLive stored.places at }
+        ensures { (stored : StoredRows) → IsAt self.now.store table stored
+            → (target : StoredRows) × (to : ℕ) × Contains self.now.store.links (record { from = table; column = column; to = to })
+            × IsAt self.now.store to target × RefersTo column target.key (slot_at target.places) (row_at (slot_at stored.places) at) result }
+    {
+        self.store.follow(table, column, at)
     }
 }

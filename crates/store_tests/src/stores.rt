@@ -11,7 +11,7 @@ ghost use Rattle.mm_store.specs.Undoing.{CanUndo};
 
 use mm_relation::Edit;
 use mm_schema::{IndexKind, Reference};
-use mm_store::{Store, Undo};
+use mm_store::{Meter, Store, Undo};
 use mm_value::{Refusal, Row, RowRef, Value};
 use std::alloc::{AllocError, Global};
 use std::marker::Model;
@@ -324,6 +324,44 @@ fn count_by_hash(
     Ok(found.len())
 }
 
+/// How many rows of a table have a value in a column, by the first index on the column, if it has one.
+fn count_by_first(
+    store: &Store,
+    alloc: Global,
+    table: usize,
+    column: usize,
+    value: i64,
+) -> Result<Option<usize>, AllocError>
+    requires { table < length store.now.tables }
+{
+    let mut meter = Meter::new();
+    let view = store.view(&mut meter);
+    let Some(index) = view.index_on(table, column) else {
+        return Ok(None);
+    };
+    let mut found = Vec::new(alloc);
+    view.matches(alloc, table, index, &Value::Int(value), &mut found)?;
+    Ok(Some(found.len()))
+}
+
+/// How many keys of a table lie between two, these included.
+fn count_between(
+    store: &Store,
+    alloc: Global,
+    table: usize,
+    low: i64,
+    high: i64,
+) -> Result<usize, AllocError>
+    requires { table < length store.now.tables }
+{
+    let mut meter = Meter::new();
+    let view = store.view(&mut meter);
+    let (low, high) = (Value::Int(low), Value::Int(high));
+    let mut found = Vec::new(alloc);
+    view.key_range(alloc, table, Some(&low), Some(&high), &mut found)?;
+    Ok(found.len())
+}
+
 /// The rows of a key in two tables, what stands beside the key, and the row to which that of the second table refers.
 #[derive(PartialEq, Clone, Copy)]
 struct AtKey {
@@ -471,6 +509,11 @@ impl Case {
         }
     }
 
+    /// How many rows of the second table have a value in a column, by the first index on the column, if it has one.
+    fn count(&self, alloc: Global, column: usize, value: i64) -> Result<Option<usize>, AllocError> {
+        count_by_first(&self.store, alloc, 1, column, value)
+    }
+
     /// Whether the tables show what they showed.
     fn shows(&self, alloc: Global, shown: &Shown) -> Result<bool, AllocError> {
         let now = self.look(alloc)?;
@@ -520,6 +563,18 @@ fn keeps_targets_of_references(rt: HostRuntime) -> Result<(), Fail> {
         (0, Step::Remove(3), true),
     ];
     assert!(rt; case.goes_as(alloc, &trials)?);
+    Ok(())
+}
+
+#[test]
+fn looks_values_up(rt: HostRuntime) -> Result<(), Fail> {
+    let alloc = rt.alloc();
+    let case = Case::new(alloc, &[2, 3], &[12, 13, 22])?;
+    assert_eq!(rt; case.count(alloc, 0, 22)?, Some(1));
+    assert_eq!(rt; case.count(alloc, 0, 23)?, Some(0));
+    assert_eq!(rt; case.count(alloc, 1, 2)?, Some(2));
+    assert_eq!(rt; case.count(alloc, 2, 2)?, None);
+    assert_eq!(rt; count_between(&case.store, alloc, 1, 13, 30)?, 2);
     Ok(())
 }
 

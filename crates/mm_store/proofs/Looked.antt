@@ -1,0 +1,155 @@
+-- Which index is the first on a column, and what is found along it.
+use Rattle.std.proofs.Common.{◌≡◌, ◌≢◌, ℕ, ◌+◌, ◌<◌, ◌≤◌, Bool, true, false, cond, ◌&&◌, List, [], ◌∷◌, ◌++◌, length, get_or, Option, Some, None, ⊎_elim, refl, sym, ap, ◌∙◌, subst, arith}
+use Rattle.std.specs.Prelude.{IfNone, IfSome, position}
+use Rattle.std.specs.List.{filter, position_or_len}
+use Rattle.std.specs.List.Sorted.{IsPermutation}
+use Rattle.std.specs.Ordering.{is_eq, is_ge, is_le}
+use Rattle.std.specs.declared.cmp.Ordering.{Ordering}
+use Rattle.std.specs.declared.cmp.Ordering.TheVariants as ordering
+use Rattle.std.proofs.lemmas.Bool.{cases_lt, eq-eqb, false≢true}
+use Rattle.std.proofs.lemmas.List.Elements.{filter_agree}
+use Rattle.std.proofs.lemmas.List.Sorted.{IsPermutation-refl}
+use Rattle.std.proofs.lemmas.List.Sums.{fails_before_first}
+use Rattle.mm_order.specs.Probe.{entries_between, is_between}
+use Rattle.mm_partition.specs.Places.{slot_at}
+use Rattle.mm_relation.proofs.Bags.{IsPermutation-filter}
+use Rattle.mm_relation.proofs.RefTests.{same_from_test, test_from_same}
+use Rattle.mm_relation.specs.Before.{same_ref}
+use Rattle.mm_relation.specs.Index.{column_of, kind_of}
+use Rattle.mm_relation.specs.Kept.{IsKept, StoredRows}
+use Rattle.mm_relation.specs.Reads.{Appends, AreMatches, HasIndex, IsOn, IsRange, end_place, has_value}
+use Rattle.mm_relation.specs.Refs.{Slots, place_by}
+use Rattle.mm_relation.specs.Served.{is_on, same_kind}
+use Rattle.mm_relation.specs.declared.index.Index.{Index}
+use Rattle.mm_schema.specs.declared.index.IndexKind.{IndexKind}
+use Rattle.mm_schema.specs.declared.index.IndexKind.TheVariants as kind
+use Rattle.mm_value.specs.declared.row_ref.RowRef.{RowRef}
+use Rattle.mm_value.specs.declared.values.Value.{Value}
+use Rattle.mm_store.specs.Looked.{IsFirstOn, IsIndexOn, created_before}
+use Rattle.mm_store.specs.declared.column_index.ColumnIndex.{ColumnIndex}
+use Rattle.mm_store.specs.declared.column_index.ColumnIndex.TheVariants.{Key, Tree, Hash}
+
+-- ---- the first place of a list that passes
+
+module _ {X : Type 0} (p : X → Bool) (xs : List X) where
+  least_cases : (i k : ℕ) (b : Bool) → position_or_len p xs ≤ k → cond b (Some (position_or_len p xs)) None ≡ Some i → i ≤ k
+  least_cases i k true below e =
+      let is : position_or_len p xs ≡ i = cc in
+      subst (λ n. n ≤ k) is below
+  least_cases i k false below e = cc
+
+  not_before : (k : ℕ) (d : X) → p (get_or xs k d) ≡ true → position_or_len p xs ≤ k
+  not_before k d passes =
+      ⊎_elim
+      (λ (before : k < position_or_len p xs). absurd (false≢true (sym (fails_before_first p xs k d before) ∙ passes)))
+      (λ (behind : position_or_len p xs ≤ k). behind)
+      (cases_lt k (position_or_len p xs))
+
+  position_least : (i k : ℕ) (d : X) → Some i ≡ position p xs → p (get_or xs k d) ≡ true → i ≤ k
+  position_least i k d found passes =
+      least_cases i k _ (not_before k d passes) (sym found)
+
+-- ---- the first index on a column
+
+same_kind_itself : (a : IndexKind) → same_kind a a ≡ true
+same_kind_itself kind.Tree = refl
+same_kind_itself kind.Hash = refl
+
+test_from_IsOn : (column : ℕ) (k : IndexKind) (x : Index) → IsOn column k x → is_on column k x ≡ true
+test_from_IsOn column k x on =
+    ap (λ b. b && same_kind (kind_of x) k) (eq-eqb (column_of x) column on.0)
+    ∙ ap (λ own. same_kind own k) on.1 ∙ same_kind_itself k
+
+any_of : (xs : List Index) (n : ℕ) → n < length xs → Index
+any_of [] n within = absurd (omega arith)
+any_of (x ∷ xs) n within = x
+
+-- No index of a kind on the column stands before the one that a search finds.
+least_on : (column : ℕ) (k : IndexKind) (indexes : List Index) (found place : ℕ) → Some found ≡ position (is_on column k) indexes
+    → HasIndex indexes place column k → found ≤ place
+least_on column k indexes found place is has =
+    let d : Index = any_of indexes place has.0 in
+    position_least (is_on column k) indexes found place d is (test_from_IsOn column k (get_or indexes place d) (has.1 d))
+
+-- what a search for an index of a kind tells
+pub record Sought (stored : StoredRows) (column : ℕ) (k : IndexKind) (result : Option ℕ) : Type 0 where
+  pub first : result ≡ position (is_on column k) stored.indexes
+  pub found : IfSome result (λ place. HasIndex stored.indexes place column k)
+  pub none : IfNone result ((place : ℕ) → HasIndex stored.indexes place column k → ⊥)
+
+module _ (stored : StoredRows) (column : ℕ) (apart : column ≢ stored.key) where
+  first_tree : (tree : ℕ) → Sought stored column kind.Tree (Some tree)
+      → ((hash : ℕ) → HasIndex stored.indexes hash column kind.Hash → tree ≤ hash) → IsFirstOn stored column (Some (Tree tree))
+  first_tree tree sought before = (sought.found, least)
+    where
+      least : (other : ColumnIndex) → IsIndexOn stored column other → tree + 1 ≤ created_before other
+      least Key is = absurd (apart is)
+      least (Tree place) has = omega (arith, least_on column kind.Tree stored.indexes tree place sought.first has)
+      least (Hash place) has = omega (arith, before place has)
+
+  first_hash : (hash : ℕ) → Sought stored column kind.Hash (Some hash)
+      → ((tree : ℕ) → HasIndex stored.indexes tree column kind.Tree → hash ≤ tree) → IsFirstOn stored column (Some (Hash hash))
+  first_hash hash sought before = (sought.found, least)
+    where
+      least : (other : ColumnIndex) → IsIndexOn stored column other → hash + 1 ≤ created_before other
+      least Key is = absurd (apart is)
+      least (Tree place) has = omega (arith, before place has)
+      least (Hash place) has = omega (arith, least_on column kind.Hash stored.indexes hash place sought.first has)
+
+  pub tree_before_hash : (tree hash : ℕ) → tree < hash → Sought stored column kind.Tree (Some tree) → Sought stored column kind.Hash (Some hash)
+      → IsFirstOn stored column (Some (Tree tree))
+  tree_before_hash tree hash before trees hashes =
+      first_tree tree trees (λ place has. omega (arith, before, least_on column kind.Hash stored.indexes hash place hashes.first has))
+
+  pub hash_before_tree : (tree hash : ℕ) → hash ≤ tree → Sought stored column kind.Tree (Some tree) → Sought stored column kind.Hash (Some hash)
+      → IsFirstOn stored column (Some (Hash hash))
+  hash_before_tree tree hash before trees hashes =
+      first_hash hash hashes (λ place has. omega (arith, before, least_on column kind.Tree stored.indexes tree place trees.first has))
+
+  pub tree_alone : (tree : ℕ) → Sought stored column kind.Tree (Some tree) → Sought stored column kind.Hash None
+      → IsFirstOn stored column (Some (Tree tree))
+  tree_alone tree trees hashes = first_tree tree trees (λ place has. absurd (hashes.none place has))
+
+  pub hash_alone : (hash : ℕ) → Sought stored column kind.Tree None → Sought stored column kind.Hash (Some hash)
+      → IsFirstOn stored column (Some (Hash hash))
+  hash_alone hash trees hashes = first_hash hash hashes (λ place has. absurd (trees.none place has))
+
+  pub none_there : Sought stored column kind.Tree None → Sought stored column kind.Hash None
+      → (index : ColumnIndex) → IsIndexOn stored column index → ⊥
+  none_there trees hashes Key is = apart is
+  none_there trees hashes (Tree place) has = trees.none place has
+  none_there trees hashes (Hash place) has = hashes.none place has
+
+-- ---- rows of one value
+
+not_apart : (o : Ordering) → (is_ge o && is_le o) ≡ is_eq o
+not_apart ordering.Less = refl
+not_apart ordering.Equal = refl
+not_apart ordering.Greater = refl
+
+-- The range from a value to itself are the rows that have it.
+pub matches_in_range : (column : ℕ) (stored : StoredRows) (value : Value) (found : List RowRef) → IsRange column stored (Some value) (Some value) found
+    → AreMatches column (slot_at stored.places) value stored.refs found
+matches_in_range column stored value found (walk, is_walk, is) =
+    let slots : Slots = slot_at stored.places in
+    let place : RowRef → Ordering = place_by column slots value in
+    let met : RowRef → Bool = has_value column slots value in
+    subst (λ (xs : List RowRef). IsPermutation xs (filter met stored.refs))
+    (sym (is ∙ filter_agree (is_between place place) met (λ at. not_apart (place at)) walk))
+    (IsPermutation-filter same_ref same_from_test (λ a. test_from_same a a refl) met walk stored.refs is_walk.same)
+
+-- The range along the key.
+pub range_of_keys : (stored : StoredRows) → IsKept stored.width stored.key (slot_at stored.places) stored.refs stored.indexes
+    → (low high : Option Value) (old new : List RowRef)
+    → new ≡ old ++ entries_between (end_place stored.key (slot_at stored.places) low) (end_place stored.key (slot_at stored.places) high) stored.refs
+    → Appends (IsRange stored.key stored low high) old new
+range_of_keys stored kept low high old new is = (
+  entries_between (end_place stored.key (slot_at stored.places) low) (end_place stored.key (slot_at stored.places) high) stored.refs,
+  is,
+  (stored.refs, record { ordered = kept.by_key; same = IsPermutation-refl stored.refs }, refl),
+)
+
+pub appends_matches : (column : ℕ) (stored : StoredRows) (value : Value) (old new : List RowRef)
+    → Appends (IsRange column stored (Some value) (Some value)) old new
+    → Appends (AreMatches column (slot_at stored.places) value stored.refs) old new
+appends_matches column stored value old new (found, is, range) = (found, is, matches_in_range column stored value found range)

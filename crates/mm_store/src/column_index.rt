@@ -1,0 +1,63 @@
+//! The index in which values of a column are looked up.
+ghost use Rattle.std.specs.Prelude.{◌≡◌, ℕ, OnOk, OnErr};
+ghost use Rattle.mm_partition.specs.Places.{slot_at};
+ghost use Rattle.mm_relation.specs.Reads.{Appends, AreMatches};
+ghost use Rattle.mm_store.specs.Looked.{IsFirstOn, IsIndexOn};
+
+use mm_relation::Relation;
+use mm_schema::IndexKind;
+use mm_value::{RowRef, Value};
+use std::alloc::{AllocError, Global};
+
+/// An index of a table.
+#[derive(Clone, Copy, Debug, PartialEq, Eq)]
+pub enum ColumnIndex {
+    /// The index on the key, which is a tree.
+    Key,
+    /// The TREE index at this place of the table's, counted from 0.
+    Tree(usize),
+    /// The HASH index at this place of the table's, counted from 0.
+    Hash(usize),
+}
+
+/// The index of a relation on a column that was created first, if it has one there.
+pub(crate) fn first_index(relation: &Relation, column: usize) -> Option<ColumnIndex>
+    ensures { IsFirstOn relation.now column result }
+{
+    if column == relation.key() {
+        return Some(ColumnIndex::Key);
+    }
+    let tree = relation.index_of(column, IndexKind::Tree);
+    let hash = relation.index_of(column, IndexKind::Hash);
+    match (tree, hash) {
+        (Some(tree), Some(hash)) if tree < hash => Some(ColumnIndex::Tree(tree)),
+        (Some(_), Some(hash)) => Some(ColumnIndex::Hash(hash)),
+        (Some(tree), None) => Some(ColumnIndex::Tree(tree)),
+        (None, Some(hash)) => Some(ColumnIndex::Hash(hash)),
+        (None, None) => None,
+    }
+}
+
+/// Appends the references of the rows of a relation that have this value in the column of an index, in no promised order.
+/// `AllocError` where memory is refused; then `out` holds what it held.
+pub(crate) fn append_matches(
+    alloc: Global,
+    relation: &Relation,
+    index: ColumnIndex,
+    value: &Value,
+    out: &mut Vec<RowRef>,
+) -> Result<(), AllocError>
+    requires { (column : ℕ) × IsIndexOn relation.now column index }
+    ensures ok { OnOk result ((column : ℕ) → IsIndexOn relation.now column index
+        → Appends (AreMatches column (slot_at relation.now.places) value.now relation.now.refs) out.old.items out.new.items) }
+    ensures err { OnErr result (out.new.items ≡ out.old.items) }
+{
+    relation.is_kept();
+    match index {
+        ColumnIndex::Key => relation.key_range(alloc, Some(value), Some(value), out),
+        ColumnIndex::Tree(place) => {
+            relation.tree_range(alloc, place, Some(value), Some(value), out)
+        }
+        ColumnIndex::Hash(place) => relation.hash_matches(alloc, place, value, out),
+    }
+}

@@ -1,0 +1,4 @@
+use Rattle.store_tests.proofs.stores.count_by_first.Goals as goal
+
+pub matches-requires-clause-index : goal.matches-requires-clause-index
+matches-requires-clause-index c = λ stored at. (c.args.column, (c.in-Some.ensures stored at).0)
