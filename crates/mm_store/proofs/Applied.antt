@@ -1,41 +1,38 @@
 -- The edits of one table, and the links of all.
-use Rattle.std.proofs.Common.{◌≡◌, ◌≢◌, ℕ, zero, suc, ◌≤◌, ◌&&◌, ◌||◌, ◌++◌, Bool, true, false, not, List, [], ◌∷◌, length, get_or, Some, refl, sym, ap, ◌∙◌, subst, arith}
+use Rattle.std.proofs.Common.{◌≡◌, ℕ, zero, suc, ◌≤◌, ◌&&◌, ◌||◌, ◌++◌, Bool, true, false, not, List, [], ◌∷◌, get_or, Some, refl, sym, ap, ◌∙◌, subst, arith}
 use Rattle.std.specs.Prelude.{map, Option, slice_get, slice_set, IsPermutation}
 use Rattle.std.specs.Bool.{◌==◌}
 use Rattle.std.specs.List.{All, Contains, list_any}
 use Rattle.std.specs.Option.{option_map_or}
-use Rattle.std.proofs.lemmas.Bool.{eq-eqb, eqb-true, or_parts}
-use Rattle.std.proofs.lemmas.List.{get_or-map, length-map}
+use Rattle.std.proofs.lemmas.Bool.{eq-eqb, eqb-true}
 use Rattle.std.proofs.lemmas.List.Elements.{All-contains, All-head, All-set, All-tail, Contains-append_right, Contains-get_or}
 use Rattle.std.proofs.lemmas.List.Folds.{Any-from_list_any, list_any-append, list_any_at, list_any_none}
 use Rattle.std.proofs.lemmas.List.Sorted.{Contains-permutation, IsPermutation-sym, list_any-IsPermutation}
 use Rattle.std.proofs.lemmas.Option.{get_or_from_slice_get, slice_get_within}
 use Rattle.mm_foreign.specs.Ties.{Ties}
 use Rattle.mm_partition.specs.Places.{Live, extent_of, slot_at}
-use Rattle.mm_relation.specs.Changes.{AreHidden, Changes}
+use Rattle.mm_relation.specs.Changes.{Changes}
 use Rattle.mm_relation.specs.Edits.{new_rows}
 use Rattle.mm_relation.specs.Index.{EachTurns}
 use Rattle.mm_relation.specs.Kept.{StoredRows, rows_after}
-use Rattle.mm_relation.specs.Refs.{row_at, row_in}
+use Rattle.mm_relation.specs.Refs.{row_at}
 use Rattle.mm_relation.specs.RowLists.{edit_pairs, rows_of}
 use Rattle.mm_relation.specs.declared.edits.Edit.{Edit}
 use Rattle.mm_relation.specs.declared.log.Entry.{Entry}
 use Rattle.mm_relation.proofs.Apply.{split}
 use Rattle.mm_relation.proofs.Changed.{olds}
-use Rattle.mm_relation.proofs.Removed.{Frees}
 use Rattle.mm_relation.proofs.RowLists.{IsPermutation-changed}
-use Rattle.mm_relation.proofs.Turning.{All-turned}
 use Rattle.mm_relation.proofs.Twins.{list_any-map}
 use Rattle.mm_value.specs.declared.row_ref.RowRef.{RowRef}
 use Rattle.mm_value.specs.declared.values.Value.{Value}
-use Rattle.mm_store.specs.Joined.{AreJoined, CanRetie, HasGrownTo, IsJoined, IsRetied, IsSound, IsTable}
-use Rattle.mm_store.specs.Links.{Follows, HasTargetRow, Joins}
+use Rattle.mm_store.specs.Joined.{AreJoined, HasGrownTo, IsJoined, IsSound, IsTable}
+use Rattle.mm_store.specs.Links.{Follows, HasTargetRow}
 use Rattle.mm_schema.specs.References.{lacks_target_row, lose_targets, refers}
 use Rattle.mm_store.specs.Tables.{AreFit, finds_orphan, makes_orphan, rows_with}
 use Rattle.mm_store.specs.declared.link.Link.{Link}
 use Rattle.mm_schema.specs.declared.reference.Reference.{Reference}
-use Rattle.mm_store.proofs.Edited.{Follows-edited_target, Follows-freed_source, Follows-freed_target, IsJoined-grown, IsJoined-same, SameRows}
-use Rattle.mm_store.proofs.Joining.{IsJoined-set, get_set_other, one_relation}
+use Rattle.mm_store.proofs.Edited.{Follows-edited_target, IsJoined-grown, IsJoined-same, SameRows}
+use Rattle.mm_store.proofs.Joining.{one_relation}
 use Rattle.mm_store.proofs.Lists.{none_of}
 use Rattle.mm_store.proofs.Referring.{refers_same, same_from_refers, tied_to}
 use Rattle.mm_store.proofs.Retying.{CanTurn, listed_row}

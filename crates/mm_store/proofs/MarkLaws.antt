@@ -1,28 +1,24 @@
 -- What stood at a mark depends on what stands, and not on how many slots there are.
-use Rattle.std.proofs.Common.{◌≡◌, ◌≢◌, ℕ, suc, ◌+◌, ◌≤◌, true, false, List, [], ◌∷◌, ◌++◌, length, get_or, Some, refl, sym, ap, ◌∙◌, subst, ⊎_elim, arith}
+use Rattle.std.proofs.Common.{◌≡◌, ◌≢◌, ℕ, suc, ◌+◌, ◌≤◌, true, false, List, [], ◌∷◌, ◌++◌, length, Some, refl, sym, ap, ◌∙◌, subst, ⊎_elim, arith}
 use Rattle.std.specs.Prelude.{◌==◌, map, slice_get, drop, take}
 use Rattle.std.specs.List.{All}
-use Rattle.std.proofs.lemmas.Bool.{cases_Bool, cond-false, cond-true, eq-eqb, eqb-true}
+use Rattle.std.proofs.lemmas.Bool.{cases_Bool, cond-false, cond-true, eqb-true}
 use Rattle.std.proofs.lemmas.List.{drop-append-le, drop_all, take-append-drop}
 use Rattle.std.proofs.lemmas.List.Elements.{All-head, All-tail}
-use Rattle.mm_partition.specs.Places.{Content, Free, Live, Hidden, extent_of, slot_at, slot_index_of}
+use Rattle.mm_partition.specs.Places.{Free, Live, Hidden, extent_of, slot_at, slot_index_of}
 use Rattle.mm_relation.specs.Before.{Stands, StandsBack, before}
 use Rattle.mm_relation.specs.Kept.{StoredRows}
 use Rattle.mm_relation.specs.RowLists.{rows_of}
 use Rattle.mm_relation.specs.Refs.{Slots}
 use Rattle.mm_relation.specs.declared.log.Entry.{Entry}
 use Rattle.mm_relation.specs.declared.log.Entry.TheVariants.{Added, Changed, Removed}
-use Rattle.mm_relation.proofs.RefTests.{same_number}
-use Rattle.mm_schema.specs.declared.reference.Reference.{Reference}
 use Rattle.mm_value.specs.declared.row_ref.RowRef.{RowRef}
-use Rattle.mm_value.specs.declared.values.Value.{Value}
 use Rattle.mm_store.specs.Behind.{ref_of}
 use Rattle.mm_store.specs.Joined.{IsTable}
 use Rattle.mm_store.specs.Marks.{references_below, rows_at_mark, rows_from, rows_now, rows_standing}
 use Rattle.mm_store.specs.Tables.{IsAt, Tables}
 use Rattle.mm_store.specs.Undoing.{CanUndo, GoesBack, Heading, heading_of, headings_of}
-use Rattle.mm_store.specs.Worlds.{Noted, World, back, back_all, slots_of, stood, world_of}
-use Rattle.mm_store.proofs.Joining.{one_relation}
+use Rattle.mm_store.specs.Worlds.{Noted, World, back_all, slots_of, world_of}
 use Rattle.mm_store.proofs.StandingRows.{IsFreeFrom, IsFreeFrom-extent, rows_standing-extent, rows_standing-own}
 use Rattle.mm_store.proofs.Telling.{step_other}
 use Rattle.mm_store.proofs.Worlds.{GoesBack-newer, back_all-append}

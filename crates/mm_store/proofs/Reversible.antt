@@ -1,7 +1,7 @@
 -- A command that was made can be taken back.
-use Rattle.std.proofs.Common.{◌≡◌, ◌≢◌, ℕ, zero, suc, ◌<◌, ◌≤◌, List, [], ◌∷◌, length, get_or, Option, Some, refl, sym, ap, ◌∙◌, subst, arith}
-use Rattle.std.specs.Prelude.{map, slice_get, slice_set}
-use Rattle.std.specs.List.{All, AllPairs, Contains}
+use Rattle.std.proofs.Common.{◌≡◌, ℕ, zero, suc, ◌<◌, List, [], ◌∷◌, length, get_or, Option, Some, sym, ap, ◌∙◌, subst, arith}
+use Rattle.std.specs.Prelude.{map, slice_get}
+use Rattle.std.specs.List.{All, Contains}
 use Rattle.std.specs.Option.{option_cmp}
 use Rattle.std.specs.declared.cmp.Ordering.TheVariants.{Equal}
 use Rattle.std.specs.Cmp.Lexicographic.{options_total}
@@ -10,7 +10,7 @@ use Rattle.std.proofs.lemmas.List.{length-append}
 use Rattle.std.proofs.lemmas.List.Elements.{All-head, All-tail}
 use Rattle.std.proofs.lemmas.List.Sorted.{length_permutation}
 use Rattle.mm_foreign.specs.Ties.{Ties, target_at}
-use Rattle.mm_partition.specs.Places.{Live, extent_of, slot_at}
+use Rattle.mm_partition.specs.Places.{Live, slot_at}
 use Rattle.mm_relation.specs.Before.{StandsBack, before}
 use Rattle.mm_relation.specs.Differs.{Differs}
 use Rattle.mm_relation.specs.Edits.{entry_name, named}
@@ -19,7 +19,7 @@ use Rattle.mm_relation.specs.Lawful.{IsLawful}
 use Rattle.mm_relation.specs.Refs.{HasRow, Slots, row_at, row_in}
 use Rattle.mm_relation.specs.declared.log.Entry.{Entry}
 use Rattle.mm_relation.specs.declared.names.Side.TheVariants.{New, Old}
-use Rattle.mm_relation.proofs.Phase.{distinct, split_off}
+use Rattle.mm_relation.proofs.Phase.{split_off}
 use Rattle.mm_relation.proofs.Lawful.{IsLawful-kept}
 use Rattle.mm_schema.specs.Rows.{column_cmp}
 use Rattle.mm_schema.specs.declared.reference.Reference.{Reference}
@@ -31,7 +31,7 @@ use Rattle.mm_store.specs.Joined.{AreJoined, IsJoined, IsTable}
 use Rattle.mm_store.specs.Links.{Follows, HasTargetRow, IsTied, RefersTo}
 use Rattle.mm_store.specs.Tables.{Tables, Turns}
 use Rattle.mm_store.specs.Undoing.{HasAtMost, Heading, IsReversible, heading_of}
-use Rattle.mm_store.specs.Worlds.{Noted, World, slots_of, stood, world_of}
+use Rattle.mm_store.specs.Worlds.{Noted, slots_of, stood, world_of}
 use Rattle.mm_store.specs.declared.link.Link.{Link}
 use Rattle.mm_store.proofs.Applied.{table_at}
 use Rattle.mm_store.proofs.Joining.{one_relation}

@@ -1,5 +1,5 @@
 -- A store whose newest command is taken back.
-use Rattle.std.proofs.Common.{◌≡◌, ℕ, zero, suc, ◌<◌, ◌≤◌, List, [], ◌∷◌, length, get_or, Option, Some, refl, sym, ap, ◌∙◌, subst, arith}
+use Rattle.std.proofs.Common.{◌≡◌, ℕ, zero, suc, ◌<◌, List, [], ◌∷◌, length, get_or, Option, Some, refl, sym, ap, ◌∙◌, subst, arith}
 use Rattle.std.specs.Prelude.{map, slice_get, slice_set}
 use Rattle.std.specs.List.{All, Contains}
 use Rattle.std.proofs.lemmas.List.{get_or-map, length-map}
@@ -11,16 +11,15 @@ use Rattle.mm_relation.specs.Edits.{entry_name, named}
 use Rattle.mm_relation.specs.Index.{EachTurns}
 use Rattle.mm_relation.specs.Kept.{IsKept, StoredRows}
 use Rattle.mm_relation.specs.Lawful.{IsLawful}
-use Rattle.mm_relation.specs.Refs.{HasRow, Slots}
+use Rattle.mm_relation.specs.Refs.{Slots}
 use Rattle.mm_relation.specs.Turned.{Turned}
 use Rattle.mm_relation.specs.declared.log.Entry.{Entry}
 use Rattle.mm_relation.specs.declared.names.Side.TheVariants.{New, Old}
 use Rattle.mm_relation.proofs.Phase.{distinct}
-use Rattle.mm_schema.specs.declared.reference.Reference.{Reference}
 use Rattle.mm_value.specs.declared.row_ref.RowRef.{RowRef}
 use Rattle.mm_value.specs.declared.values.Value.{Value}
 use Rattle.mm_store.specs.Joined.{CanRetie, IsJoined, IsRetied, IsSound, IsTable}
-use Rattle.mm_store.specs.Links.{Follows, HasTargetRow, IsTied, Joins, RefersTo}
+use Rattle.mm_store.specs.Links.{Follows, HasTargetRow, IsTied, RefersTo}
 use Rattle.mm_store.specs.Tables.{Tables}
 use Rattle.mm_store.specs.Undoing.{HasAtMost, Heading, IsReversible, heading_of}
 use Rattle.mm_store.specs.Worlds.{Noted, slots_of, stood, world_of}

@@ -1,6 +1,6 @@
 -- A store in which hidden rows are freed.
-use Rattle.std.proofs.Common.{◌≡◌, ℕ, List, Some, refl, sym, ◌∙◌, subst, get_or, arith}
-use Rattle.std.specs.Prelude.{min, slice_get, slice_set}
+use Rattle.std.proofs.Common.{◌≡◌, ℕ, List, Some, sym, subst, get_or, arith}
+use Rattle.std.specs.Prelude.{slice_get, slice_set}
 use Rattle.std.proofs.lemmas.List.Elements.{All-set}
 use Rattle.mm_partition.specs.Places.{extent_of, slot_at}
 use Rattle.mm_relation.specs.Changes.{AreHidden}

@@ -1,7 +1,6 @@
 -- A log that can be taken back: when it is new, with one command more, and with one less.
-use Rattle.std.proofs.Common.{◌≡◌, ◌≢◌, ℕ, ◌+◌, ◌≤◌, List, [], ◌∷◌, ◌++◌, length, Some, refl, sym, ap, ◌∙◌, subst, ⊎_elim, arith}
+use Rattle.std.proofs.Common.{◌≡◌, ◌≢◌, ℕ, ◌+◌, ◌≤◌, List, [], ◌∷◌, ◌++◌, length, refl, sym, ap, ◌∙◌, subst, ⊎_elim, arith}
 use Rattle.std.specs.Prelude.{slice_get}
-use Rattle.std.specs.List.{All}
 use Rattle.std.proofs.lemmas.List.Elements.{All-weaker}
 use Rattle.mm_partition.specs.Places.{slot_at}
 use Rattle.mm_relation.specs.Before.{before}
@@ -15,7 +14,7 @@ use Rattle.mm_relation.proofs.Turning.{All-turned}
 use Rattle.mm_schema.specs.declared.reference.Reference.{Reference}
 use Rattle.mm_store.specs.Commands.{IsTakenBack}
 use Rattle.mm_store.specs.Tables.{IsAt, Tables, Turns}
-use Rattle.mm_store.specs.Undoing.{CanUndo, GoesBack, HasSpare, Heading, IsReversible, headings_of, owed, owed_by}
+use Rattle.mm_store.specs.Undoing.{CanUndo, GoesBack, HasSpare, Heading, IsReversible, headings_of, owed}
 use Rattle.mm_store.specs.Worlds.{Noted, World, back, world_of}
 use Rattle.mm_store.proofs.Joining.{one_relation}
 use Rattle.mm_store.proofs.Owing.{owed-push, owed_by-other, owed_by-own}

@@ -1,5 +1,4 @@
-use Rattle.std.proofs.Common.{◌≡◌, true, sym, ap, ◌∙◌}
-use Rattle.std.specs.Prelude.{slice_get}
+use Rattle.std.proofs.Common.{◌≡◌, true, sym, ◌∙◌}
 use Rattle.mm_partition.specs.Places.{slot_at}
 use Rattle.mm_schema.specs.Rows.{same_in_column}
 use Rattle.mm_relation.proofs.Unmoved.{one_value}

@@ -1,8 +1,7 @@
-use Rattle.std.proofs.Common.{◌≡◌, ℕ, ◌+◌, ◌<◌, ◌≤◌, List, [], ◌∷◌, ◌++◌, length, slice_index, slice_set, refl, sym, ap, ◌∙◌, subst, arith}
+use Rattle.std.proofs.Common.{◌≡◌, ℕ, ◌+◌, ◌≤◌, List, [], ◌∷◌, ◌++◌, length, slice_index, slice_set, refl, sym, ap, ◌∙◌, subst}
 use Rattle.std.specs.Prelude.{drop, map}
 use Rattle.std.proofs.lemmas.List.{drop-append-le, map-append}
 use Rattle.std.proofs.lemmas.Result.{err_from_is_err_and}
-use Rattle.mm_partition.specs.Places.{slot_at}
 use Rattle.mm_relation.specs.Edits.{edit_name, entry_name, named}
 use Rattle.mm_relation.specs.Kept.{SameButRoom, StoredRows}
 use Rattle.mm_relation.specs.declared.edits.Edit.{Edit}
@@ -10,7 +9,7 @@ use Rattle.mm_relation.specs.declared.log.Entry.{Entry}
 use Rattle.mm_relation.specs.declared.names.Side.TheVariants.{Old}
 use Rattle.mm_relation.proofs.Rooms.{slots_same}
 use Rattle.mm_store.specs.Commands.{IsEdited}
-use Rattle.mm_store.specs.Tables.{IsAt, Tables, Turns}
+use Rattle.mm_store.specs.Tables.{IsAt, Turns}
 use Rattle.mm_store.specs.Tally.{IsTallied, noted_of}
 use Rattle.mm_store.specs.Undoing.{CanUndo, HasSpare, headings_of, owed}
 use Rattle.mm_store.specs.Worlds.{Noted, back_all, world_of}

@@ -1,6 +1,6 @@
-use Rattle.std.proofs.Common.{◌≡◌, ℕ, false, ◌+◌, ◌<◌, ◌≤◌, List, length, get_or, Some, refl, sym, ap, ◌∙◌, subst, arith}
+use Rattle.std.proofs.Common.{◌≡◌, ℕ, false, ◌<◌, ◌≤◌, List, length, Some, refl, sym, ap, ◌∙◌, subst, arith}
 use Rattle.std.specs.Prelude.{map, slice_get, slice_set}
-use Rattle.std.specs.List.{All, Contains}
+use Rattle.std.specs.List.{All}
 use Rattle.std.proofs.lemmas.List.{length-map, length-set}
 use Rattle.std.proofs.lemmas.List.Elements.{All-contains, All-set}
 use Rattle.std.proofs.lemmas.Result.{err_from_is_err_and}
@@ -22,14 +22,14 @@ use Rattle.mm_schema.specs.declared.reference.Reference.{Reference}
 use Rattle.mm_value.specs.declared.row_ref.RowRef.{RowRef}
 use Rattle.mm_store.specs.Commands.{IsEdited}
 use Rattle.mm_store.specs.Joined.{CanRetie, HasGrown, HasGrownTo, IsJoined, IsRetied, IsTable}
-use Rattle.mm_store.specs.Tables.{AreLawful, IsAt, Tables, makes_orphan, rows_with}
+use Rattle.mm_store.specs.Tables.{AreLawful, Tables, makes_orphan, rows_with}
 use Rattle.mm_store.specs.Undoing.{IsReversible, headings_of}
 use Rattle.mm_store.specs.Worlds.{Noted, world_of}
 use Rattle.mm_store.specs.declared.link.Link.{Link}
 use Rattle.mm_store.proofs.Applied.{CanTurn-edited, Follows-edited, IsWhole, IsWhole-all, references_same, set_own, table_at, targets_edited}
 use Rattle.mm_store.proofs.Applying.{SameButRoom-refl, only, there_inside, told_of}
 use Rattle.mm_store.proofs.Edited.{IsJoined-grown, IsJoined-same, SameRows-from_room}
-use Rattle.mm_store.proofs.Joining.{at_index, get_set_same, link_at, one_relation}
+use Rattle.mm_store.proofs.Joining.{at_index, get_set_same, one_relation}
 use Rattle.mm_store.proofs.Lists.{none_of}
 use Rattle.mm_store.proofs.Retying.{CanRetie-turned, CanTurn, IsSound-turned}
 use Rattle.mm_store.proofs.Reversible.{IsReversible-made}

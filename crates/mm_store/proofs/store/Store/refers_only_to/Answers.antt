@@ -1,4 +1,4 @@
-use Rattle.std.proofs.Common.{◌≡◌, Bool, true, false, not, ◌&&◌, ◌↔◌, List, map, ap, sym, ◌∙◌, subst}
+use Rattle.std.proofs.Common.{◌≡◌, Bool, true, not, ◌&&◌, ◌↔◌, List, map, ap, sym, ◌∙◌, subst}
 use Rattle.std.specs.List.{list_any}
 use Rattle.mm_relation.proofs.Twins.{list_any-map}
 use Rattle.mm_schema.specs.declared.reference.Reference.{Reference}

@@ -1,5 +1,4 @@
 use Rattle.std.proofs.Common.{◌≡◌, ◌≤◌, length, sym, ◌∙◌, arith}
-use Rattle.mm_store.specs.Marks.{rows_at_mark}
 use Rattle.mm_store.specs.Undoing.{headings_of}
 use Rattle.mm_store.proofs.Forms.{headings_formed}
 use Rattle.mm_store.proofs.MarkLaws.{rows_at_end, rows_still}

@@ -1,4 +1,4 @@
-use Rattle.std.proofs.Common.{◌≡◌, ◌++◌, ◌≤◌, ℕ, List, length}
+use Rattle.std.proofs.Common.{◌≡◌, ◌++◌, ◌≤◌, List, length}
 use Rattle.mm_relation.specs.Index.{EachTurns}
 use Rattle.mm_store.specs.Tables.{SameForm}
 use Rattle.mm_store.specs.Undoing.{CanUndo}

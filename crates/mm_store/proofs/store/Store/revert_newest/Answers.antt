@@ -1,5 +1,4 @@
-use Rattle.std.proofs.Common.{◌≡◌, [], ◌∷◌, ◌++◌, Some, subst}
-use Rattle.std.specs.Prelude.{slice_get}
+use Rattle.std.proofs.Common.{[], ◌∷◌, ◌++◌, subst}
 use Rattle.mm_relation.specs.Kept.{StoredRows}
 use Rattle.mm_store.specs.Commands.{IsTakenBack}
 use Rattle.mm_store.specs.Tables.{IsAt, Turns}

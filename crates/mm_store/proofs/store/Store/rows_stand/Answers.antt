@@ -1,5 +1,4 @@
 use Rattle.std.proofs.Common.{subst}
-use Rattle.std.specs.Prelude.{map}
 use Rattle.std.specs.List.{All}
 use Rattle.mm_store.specs.Joined.{IsTable}
 use Rattle.mm_store.specs.Tables.{Tables}

@@ -7,7 +7,6 @@ use Rattle.mm_partition.specs.Places.{slot_at}
 use Rattle.mm_relation.specs.Edits.{entry_name, named}
 use Rattle.mm_relation.specs.Index.{EachTurns, spare_of}
 use Rattle.mm_relation.specs.Kept.{IsKept, StoredRows}
-use Rattle.mm_relation.specs.declared.index.Index.{Index}
 use Rattle.mm_relation.specs.declared.log.Entry.{Entry}
 use Rattle.mm_relation.specs.declared.names.Side.TheVariants.{Old}
 use Rattle.mm_relation.proofs.Turning.{All-turned}
@@ -16,7 +15,7 @@ use Rattle.mm_store.specs.Commands.{IsTakenBack}
 use Rattle.mm_store.specs.Joined.{CanRetie, IsRetied}
 use Rattle.mm_store.specs.Tables.{Tables}
 use Rattle.mm_store.specs.Undoing.{HasSpare, IsReversible, heading_of, headings_of}
-use Rattle.mm_store.specs.Worlds.{Noted, world_of}
+use Rattle.mm_store.specs.Worlds.{world_of}
 use Rattle.mm_store.specs.declared.link.Link.{Link}
 use Rattle.mm_store.proofs.Applied.{references_same}
 use Rattle.mm_store.proofs.Applying.{only, there_inside, told_of}
