@@ -20,7 +20,7 @@ use Rattle.mm_schema.proofs.References.{as_there, first_none, same_with, same_wi
 use Rattle.mm_value.specs.declared.refusal.Refusal.TheVariants.{AliasTaken, NoSuchAlias, NoSuchColumn, NoSuchTable, NotInTransaction, StandingListTooLarge, TooMany, TypeMismatch}
 use Rattle.mm_query.specs.Edits.{changed_table, own_pairs}
 use Rattle.mm_query.specs.Machine.{after_change, after_definition, change_conditions, conditions, definition_conditions, row_conditions, state_after, step}
-use Rattle.mm_query.specs.Queries.{eval, rows_by_columns, shown}
+use Rattle.mm_query.specs.Queries.{bag, bag_of, eval, rows_by_columns, shown}
 use Rattle.mm_query.specs.Resolving.{IsAtomWithin, IsFieldWithin, IsQueryWithin, answer_in, column_of, passes_query_limits, placed_query, query_conditions, selected, width_at}
 use Rattle.mm_query.specs.Standing.{AreBeside, AreBound, HasQueries, after_unwatch, after_watch, growth_conditions, outgrows, query_named, shown_rows, tables_read, watch_conditions, without_query}
 use Rattle.mm_query.specs.State.{State, first_state, has_transaction, rows_in}
@@ -35,7 +35,7 @@ use Rattle.mm_query.specs.declared.command.Mutation.{Mutation}
 use Rattle.mm_query.specs.declared.query.FromItem.{FromItem}
 use Rattle.mm_query.specs.declared.query.Query.{Query}
 use Rattle.mm_query.proofs.KeyOrder.{none_due_by_rows}
-use Rattle.mm_query.proofs.NamedRows.{table_behind, table_left, told_kept}
+use Rattle.mm_query.proofs.NamedRows.{rows_of_others, table_behind, table_left, told_kept}
 use Rattle.mm_query.proofs.PlacedQueries.{none_hold, query_within}
 use Rattle.mm_query.proofs.QueryLaws.{shown_permutation, shown_sorted}
 use Rattle.mm_query.proofs.Throughout.{kept_by_step, none_later}
@@ -390,3 +390,16 @@ limit_by_change mutation state due =
     first_none (list_any (outgrows (after_change mutation state)) (after_change mutation state).queries) StandingListTooLarge None
     (none_due_behind (row_conditions (changed_table mutation) (own_pairs mutation state) state (after_change mutation state))
     (growth_conditions (after_change mutation state)) (none_due_by_rows mutation state due))
+
+-- A query that does not read the changed table has the combinations that it had.
+pub same_bag : (mutation : Mutation) (state : State) (query : BoundQuery) → list_any (same_name (changed_table mutation)) (tables_read query) ≡ false
+    → bag query (rows_in (after_change mutation state)) ≡ bag query (rows_in state)
+same_bag mutation state query unread = ap (bag_of query) (lists query.from unread)
+  where
+    lists : (from : List FromItem) → list_any (same_name (changed_table mutation)) (map (λ (item : FromItem). item.table) from) ≡ false
+        → map (λ (item : FromItem). rows_in (after_change mutation state) item.table) from ≡ map (λ (item : FromItem). rows_in state item.table) from
+    lists [] unread = refl
+    lists (item ∷ items) unread =
+        let p = or_parts (same_name (changed_table mutation) item.table)
+        (list_any (same_name (changed_table mutation)) (map (λ (x : FromItem). x.table) items)) unread in
+        λ i. rows_of_others (changed_table mutation) (own_pairs mutation state) item.table p.0 state.schema.tables state.rows i ∷ lists items p.1 i

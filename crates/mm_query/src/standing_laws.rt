@@ -4,10 +4,11 @@ ghost use Rattle.std.specs.List.{list_any};
 ghost use Rattle.std.specs.List.Sorted.{IsPermutation, IsSorted};
 ghost use Rattle.mm_schema.specs.Name.{same_name};
 ghost use Rattle.mm_schema.specs.Refused.{ascend, first_refusal};
+ghost use Rattle.mm_query.specs.Edits.{changed_table};
 ghost use Rattle.mm_query.specs.Machine.{after_change, change_conditions, step};
-ghost use Rattle.mm_query.specs.Queries.{eval, rows_by_columns};
+ghost use Rattle.mm_query.specs.Queries.{bag, eval, rows_by_columns};
 ghost use Rattle.mm_query.specs.Resolving.{selected};
-ghost use Rattle.mm_query.specs.Standing.{AreBound, HasQueries, after_unwatch, after_watch, outgrows, query_named, shown_rows, unwatch_conditions, watch_conditions};
+ghost use Rattle.mm_query.specs.Standing.{AreBound, HasQueries, after_unwatch, after_watch, outgrows, query_named, shown_rows, tables_read, unwatch_conditions, watch_conditions};
 ghost use Rattle.mm_query.specs.State.{State, first_state, rows_in};
 ghost use Rattle.mm_query.specs.declared.bound_query.BoundQuery.{BoundQuery};
 ghost use Rattle.mm_query.specs.declared.command.Command.{Command};
@@ -51,10 +52,13 @@ pub fn standing_queries_are_shown()
 {}
 
 /// No more than 1,048,576 combinations fit a standing query over the rows after a change that nothing refuses, nor over the
-/// rows when it is kept.
+/// rows when it is kept. A query that doesn't read the changed table has the combinations that it had.
 pub fn standing_queries_stay_within_limit()
     ensures change { (mutation : Mutation) (state : State) → first_refusal (change_conditions mutation state) ≡ None
         → list_any (outgrows (after_change mutation state)) (after_change mutation state).queries ≡ false }
+    ensures others { (mutation : Mutation) (state : State) (query : BoundQuery)
+        → list_any (same_name (changed_table mutation)) (tables_read query) ≡ false
+        → bag query (rows_in (after_change mutation state)) ≡ bag query (rows_in state) }
     ensures watch { (name : List ℕ) (query : Query) (state : State) → list_any (outgrows state) state.queries ≡ false
         → first_refusal (watch_conditions name query state) ≡ None
         → list_any (outgrows (after_watch name query state)) (after_watch name query state).queries ≡ false }
