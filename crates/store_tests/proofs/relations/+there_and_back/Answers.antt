@@ -1,5 +1,6 @@
 use Rattle.std.proofs.Common.{◌≡◌, ℕ, List, sym, ap, ◌∙◌, subst}
 use Rattle.mm_partition.specs.Places.{slot_at}
+use Rattle.mm_relation.specs.Changes.{Standing}
 use Rattle.mm_relation.specs.Before.{before}
 use Rattle.mm_relation.specs.Differs.{Differs}
 use Rattle.mm_relation.specs.Edits.{Among, named, entry_name}
@@ -18,7 +19,8 @@ pub has_twins_with-requires : goal.has_twins_with-requires
 has_twins_with-requires t c =
     let v = c.args.relation.now in
     let stay : Among v.refs (olds c.in_ok-edits.edits.items) = subst (Among v.refs) (sym c.in_ok-edits.ensures.old) c.in-Some-rows_of.ensures in
-    Standing-of_refs v.width v.key (slot_at v.places) v.refs v.indexes c.is_kept.ensures c.in_ok-edits.edits.items stay.0 stay.1
+    subst (Standing (slot_at v.places)) (sym c.as_slice.ensures.value)
+    (Standing-of_refs v.width v.key (slot_at v.places) v.refs v.indexes c.is_kept.ensures c.in_ok-edits.edits.items stay.0 stay.1)
 
 pub apply-requires-clause-standing : goal.apply-requires-clause-standing
 apply-requires-clause-standing t c =

@@ -1,12 +1,14 @@
-use Rattle.std.proofs.Common.{sym, ◌∙◌}
+use Rattle.std.proofs.Common.{sym, ◌∙◌, subst}
 use Rattle.mm_partition.specs.Places.{slot_at}
+use Rattle.mm_relation.specs.Changes.{Standing}
 use Rattle.mm_relation.proofs.TwinsAfter.{Standing-of_refs}
 use Rattle.store_tests.proofs.relations.make.Goals as goal
 
 pub has_twins_with-requires : goal.has_twins_with-requires
 has_twins_with-requires c =
     let v = c.args.relation.now in
-    Standing-of_refs v.width v.key (slot_at v.places) v.refs v.indexes c.is_kept.ensures c.args.edits.items c.requires.stay.0 c.requires.stay.1
+    subst (Standing (slot_at v.places)) (sym c.as_slice.ensures.value)
+    (Standing-of_refs v.width v.key (slot_at v.places) v.refs v.indexes c.is_kept.ensures c.args.edits.items c.requires.stay.0 c.requires.stay.1)
 
 pub apply-requires-clause-standing : goal.apply-requires-clause-standing
 apply-requires-clause-standing c =
