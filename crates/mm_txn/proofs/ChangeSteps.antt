@@ -257,7 +257,7 @@ module _ (schema : Schema) (rs : List StoredRows) (are : AreOf schema.tables rs)
         let stored = stored_there.0 in
         let there = stored_there.1 in
         let new = each stored there in (
-          ap (λ rows. record { schema = schema; rows = rows; saved = None })
+          ap (λ rows. record { schema = schema; rows = rows; queries = []; saved = None })
               (ap instance_of new.1 ∙ instance_of-set rs place stored new.0 there new.2.rows_are),
           subst (AreOf schema.tables) (sym new.1) (AreOf-set schema.tables rs place stored new.0 there new.2.key new.2.width new.2.indexes are),
         )

@@ -28,7 +28,7 @@ module _ (schema : Schema) (rs : List StoredRows) (are : AreOf schema.tables rs)
   pub table_added : (definition : TableDef) (stored : StoredRows) → rows_of stored ≡ []
       → state_of (with_table definition schema) (rs ++ stored ∷ []) ≡ after_definition (define.Table definition) (state_of schema rs)
   table_added definition stored none =
-      ap (λ rows. record { schema = with_table definition schema; rows = rows; saved = None })
+      ap (λ rows. record { schema = with_table definition schema; rows = rows; queries = []; saved = None })
       (map-append (λ (k : StoredRows). rows_of k) rs (stored ∷ []) ∙ ap (λ rows. instance_of rs ++ rows ∷ []) none)
 
   -- .. and those are its rows.
@@ -74,7 +74,7 @@ module _ (schema : Schema) (rs : List StoredRows) (are : AreOf schema.tables rs)
   table_dropped name place placed distinct =
       let found : place ≡ position_or_len (λ t. same_name name t.definition.name) schema.tables = place_found name place placed in
       let both = dropped_at_place name schema.tables rs are distinct (subst (λ p. p < length rs) found (rows_there name place placed)) in (
-        ap (λ rows. record { schema = without_table name schema; rows = rows; saved = None }) (ap (λ p. instance_of (remove rs p)) found ∙ sym both.0),
+        ap (λ rows. record { schema = without_table name schema; rows = rows; queries = []; saved = None }) (ap (λ p. instance_of (remove rs p)) found ∙ sym both.0),
         subst (λ p. AreOf (without_table name schema).tables (remove rs p)) (sym found) both.1,
       )
 
@@ -102,7 +102,7 @@ module _ (schema : Schema) (rs : List StoredRows) (are : AreOf schema.tables rs)
     pub change_is : HasDistinctNames schema → (new : StoredRows) → rows_of new ≡ changed stored.key pairs (rows_of stored)
         → state_of schema (slice_set rs place new) ≡ after_change mutation (state_of schema rs)
     change_is distinct new is =
-        ap (λ rows. record { schema = schema; rows = rows; saved = None })
+        ap (λ rows. record { schema = schema; rows = rows; queries = []; saved = None })
         (sym (ap (λ (ps : List Pair). changed_instance schema.tables (edits_of_one (changed_table mutation) ps) (instance_of rs)) are_pairs
         ∙ rows_changed (changed_table mutation) place placed stored there distinct new pairs is))
 

@@ -11,7 +11,7 @@ use Rattle.mm_schema.specs.Indexes.{with_index, without_index}
 use Rattle.mm_schema.specs.Name.{same_name}
 use Rattle.mm_schema.specs.References.{HasTargets, RefersToOthers, above, all_references, in_front, moved_up, reference_at, references_behind, references_from, references_of}
 use Rattle.mm_schema.specs.Refused.{first_refusal}
-use Rattle.mm_schema.specs.Schema.{HasDistinctNames, Schema, drop_table_conditions, is_other_referring_to, lacks_table, lacks_target, table_conditions, table_place, with_table, without_table}
+use Rattle.mm_schema.specs.Schema.{HasDistinctNames, Schema, drop_table_conditions, is_other_referring_to, lacks_table, lacks_target, reads_table, table_conditions, table_place, with_table, without_table}
 use Rattle.mm_schema.specs.declared.column.Column.{Column}
 use Rattle.mm_schema.specs.declared.index.IndexDef.{IndexDef}
 use Rattle.mm_schema.specs.declared.reference.Reference.{Reference}
@@ -108,7 +108,7 @@ module _ (schema : Schema) (name : List ℕ) (place : ℕ) (placed : table_place
       → All (λ r. r.to ≢ place) (all_references schema)
   none_to_dropped targets others due =
       tables_aside 0 schema.tables
-      (each schema.tables (recursion_from_All _ schema.tables targets) (recursion_from_All _ schema.tables others) (second_none _ _ _ _ _ due))
+      (each schema.tables (recursion_from_All _ schema.tables targets) (recursion_from_All _ schema.tables others) (or_parts (list_any (is_other_referring_to name) schema.tables) (list_any (reads_table name) schema.standing) (second_none _ _ _ _ _ due)).0)
     where
       each : (ts : List Table) → AllByRecursion (λ t. list_any (lacks_target schema) t.definition.columns ≡ false) ts
           → AllByRecursion (λ t. list_any (refers_to t.definition.name) t.definition.columns ≡ false) ts → list_any (is_other_referring_to name) ts ≡ false
@@ -248,7 +248,7 @@ remove_last (y ∷ ys) x = ap (λ others. y ∷ others) (remove_last ys x)
 module _ (schema : Schema) (old new : Tables) (kept : AreKept schema old) where
   -- A change of rows keeps all, ..
   pub kept_by_rows : AreOf schema.tables new.tables → new.links ≡ old.links → AreKept schema new
-  kept_by_rows are links = record { relations = are; links = links ∙ kept.links; targets = kept.targets; others = kept.others }
+  kept_by_rows are links = record { relations = are; links = links ∙ kept.links; targets = kept.targets; others = kept.others; unwatched = kept.unwatched }
 
   -- .. so does an index that comes or goes, ..
   pub kept_by_index : (index : IndexDef) → AreOf (with_index index schema).tables new.tables → new.links ≡ old.links → AreKept (with_index index schema) new
@@ -257,6 +257,7 @@ module _ (schema : Schema) (old new : Tables) (kept : AreKept schema old) where
     links = links ∙ kept.links ∙ sym (references_with_index index schema);
     targets = targets_indexed index schema kept.targets;
     others = others_indexed index schema kept.others;
+    unwatched = kept.unwatched;
   }
 
   pub kept_by_no_index : (name : List ℕ) → AreOf (without_index name schema).tables new.tables → new.links ≡ old.links
@@ -266,6 +267,7 @@ module _ (schema : Schema) (old new : Tables) (kept : AreKept schema old) where
     links = links ∙ kept.links ∙ sym (references_without_index name schema);
     targets = targets_unindexed name schema kept.targets;
     others = others_unindexed name schema kept.others;
+    unwatched = kept.unwatched;
   }
 
   -- .. a table that comes with its references, ..
@@ -279,6 +281,7 @@ module _ (schema : Schema) (old new : Tables) (kept : AreKept schema old) where
         ∙ sym (references_with_table definition schema kept.targets due);
     targets = targets_added definition schema kept.targets due;
     others = others_added definition schema kept.others due;
+    unwatched = kept.unwatched;
   }
 
   -- .. and one that goes with them.
@@ -290,4 +293,5 @@ module _ (schema : Schema) (old new : Tables) (kept : AreKept schema old) where
     links = links ∙ ap (links_without place) kept.links ∙ sym (references_without_table name schema place placed distinct kept.targets due);
     targets = targets_left name schema kept.targets due;
     others = others_left name schema kept.others;
+    unwatched = kept.unwatched;
   }

@@ -18,9 +18,9 @@ use Rattle.mm_query.specs.State.{State}
 abbrev pub instance_of : List StoredRows → Instance
 instance_of stored = map rows_of stored
 
--- The state of a catalog and of the rows beside its tables, where no transaction is open.
+-- The state of a catalog and of the rows beside its tables, where no transaction is open and no standing query is kept.
 abbrev pub state_of : Schema → List StoredRows → State
-state_of schema stored = record { schema = schema; rows = instance_of stored; saved = None }
+state_of schema stored = record { schema = schema; rows = instance_of stored; queries = []; saved = None }
 
 -- The index is on the column that is named, and of the kind.
 pub record IsIndex (columns : List Column) (definition : IndexDef) (index : Index) : Type 0 where
@@ -48,9 +48,10 @@ AreOf [] (r ∷ rs) = ⊥
 AreOf (t ∷ ts) [] = ⊥
 
 -- There is a relation for each table; the store's references are those of the catalog's columns, and each is to another table
--- that is there.
+-- that is there. No standing query is kept.
 pub record AreKept (schema : Schema) (store : Tables) : Type 0 where
   pub relations : AreOf schema.tables store.tables
   pub links : store.links ≡ all_references schema
   pub targets : HasTargets schema
   pub others : RefersToOthers schema
+  pub unwatched : schema.standing ≡ []

@@ -43,13 +43,14 @@ pub struct Db {
 }
 
 impl Model for Db {
+    ghost use Rattle.std.specs.Prelude.{[]};
     ghost use Rattle.mm_query.specs.State.{State};
     ghost use Rattle.mm_txn.specs.Kept.{instance_of};
     ghost use Rattle.mm_txn.specs.Saved.{IsConsistent, saved_rows};
 
     ghost Value = { State };
 
-    ghost view = { λ d. record { schema = d.catalog; rows = instance_of d.store.tables; saved = saved_rows d.is_open d.undo d.store } };
+    ghost view = { λ d. record { schema = d.catalog; rows = instance_of d.store.tables; queries = []; saved = saved_rows d.is_open d.undo d.store } };
 
     ghost invariant = { λ d. IsConsistent d.catalog d.store d.undo d.is_open };
 }

@@ -46,11 +46,11 @@ rollback_answer line state choice reads =
     not_refused line state choice (control_takes_none line Rollback reads refl) ∙ ap (λ r. outcome_of r state) reads
 
 pub rolled_back : (line : List ℕ) (state : State) (saved : Instance) (choice : Bool) → reading line ≡ Ok Rollback → state.saved ≡ Some saved
-    → answer choice line state ≡ record { reply = Some Done; state = record { schema = state.schema; rows = saved; saved = None } }
+    → answer choice line state ≡ record { reply = Some Done; state = record { schema = state.schema; rows = saved; queries = state.queries; saved = None } }
 rolled_back line state saved choice reads is =
     rollback_answer line state choice reads
     ∙ step-done Rollback state (ap (λ s. cond (not (is_some s)) (Some NoTransaction) None) is)
-    ∙ ap (λ s. record { reply = Some Done; state = record { schema = state.schema; rows = unwrap_or s state.rows; saved = None } }) is
+    ∙ ap (λ s. record { reply = Some Done; state = record { schema = state.schema; rows = unwrap_or s state.rows; queries = state.queries; saved = None } }) is
 
 pub no_rollback_outside : (line : List ℕ) (state : State) (choice : Bool) → reading line ≡ Ok Rollback → state.saved ≡ None
     → answer choice line state ≡ record { reply = Some (Refused NoTransaction); state = state }

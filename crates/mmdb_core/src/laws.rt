@@ -41,7 +41,7 @@ pub fn commands_take_memory()
 /// the catalog stays. Outside one it is refused with `NoTransaction`.
 pub fn rollback_is_never_refused()
     ensures done { (line : List ℕ) (state : State) (saved : Instance) (choice : Bool) → reading line ≡ Ok Rollback → state.saved ≡ Some saved
-        → answer choice line state ≡ record { reply = Some Done; state = record { schema = state.schema; rows = saved; saved = None } } }
+        → answer choice line state ≡ record { reply = Some Done; state = record { schema = state.schema; rows = saved; queries = state.queries; saved = None } } }
     ensures refused { (line : List ℕ) (state : State) (choice : Bool) → reading line ≡ Ok Rollback → state.saved ≡ None
         → answer choice line state ≡ record { reply = Some (Refused NoTransaction); state = state } }
 {}

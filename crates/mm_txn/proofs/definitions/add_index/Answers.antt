@@ -1,5 +1,5 @@
 -- The new index stands in the catalog and in the relation at the same place.
-use Rattle.std.proofs.Common.{◌≡◌, List, Some, None, inl, sym, ap, subst, ◌∙◌, arith}
+use Rattle.std.proofs.Common.{◌≡◌, [], List, Some, None, inl, sym, ap, subst, ◌∙◌, arith}
 use Rattle.std.proofs.lemmas.Result.{err_from_is_err_and}
 use Rattle.mm_relation.specs.Kept.{StoredRows}
 use Rattle.mm_schema.specs.Schema.{Schema}
@@ -81,4 +81,4 @@ returns-clause-ok c =
     (sym c.place_of.ensures.place ∙ c.in_ok-place.ensures.ok_part) c.table_at.result.now c.table_at.ensures c.in_ok-column.column
     (sym c.place_of-2.ensures ∙ c.in_ok-column.ensures.ok_part)
     c.place_of.ensures.distinct c.add_index-2.new.self.tables c.in_default.ensures.ok in
-    λ i. record { schema = c.in_ok-add_index.ensures.ok i; rows = added.0 i; saved = None }
+    λ i. record { schema = c.in_ok-add_index.ensures.ok i; rows = added.0 i; queries = []; saved = None }

@@ -1,5 +1,5 @@
 -- The index goes from the catalog and from the relation of its table.
-use Rattle.std.proofs.Common.{◌≡◌, cond, Some, None, inl, sym, ap, subst, ◌∙◌, arith}
+use Rattle.std.proofs.Common.{◌≡◌, [], cond, Some, None, inl, sym, ap, subst, ◌∙◌, arith}
 use Rattle.std.proofs.lemmas.Result.{err_from_is_err_and}
 use Rattle.mm_schema.specs.Schema.{Schema}
 use Rattle.mm_schema.proofs.IndexLemmas.{lacks_nowhere}
@@ -47,4 +47,4 @@ returns-clause-ok c =
     let dropped = index_dropped c.args.catalog.now c.args.store.now.tables c.requires.relations c.args.name.now c.in_ok-table.table
     (sym c.place_with_index.ensures.place ∙ c.in_ok-table.ensures.ok_part) c.table_at.result.now c.table_at.ensures
     c.place_with_index.ensures.distinct c.in_ok-index.index (sym c.place_of.ensures ∙ c.in_ok-index.ensures.ok_part) c.drop_index-2.new.self.tables c.drop_index-2.ensures.tables in
-    λ i. record { schema = c.in_ok-drop_index.ensures.ok i; rows = dropped.0 i; saved = None }
+    λ i. record { schema = c.in_ok-drop_index.ensures.ok i; rows = dropped.0 i; queries = []; saved = None }

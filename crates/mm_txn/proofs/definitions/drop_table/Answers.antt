@@ -1,9 +1,9 @@
 -- The table at the place of a name goes from the catalog and from the store.
 use Rattle.std.proofs.Common.{◌≡◌, ◌≢◌, cond, List, Some, None, inl, sym, ap, subst, ◌∙◌, arith}
-use Rattle.std.specs.List.{All, list_any}
+use Rattle.std.specs.List.{All}
 use Rattle.std.proofs.lemmas.Result.{err_from_is_err_and}
 use Rattle.mm_relation.specs.Kept.{StoredRows}
-use Rattle.mm_schema.specs.Schema.{Schema, is_other_referring_to, without_table}
+use Rattle.mm_schema.specs.Schema.{Schema, is_in_use, without_table}
 use Rattle.mm_schema.specs.declared.reference.Reference.{Reference}
 use Rattle.mm_value.specs.declared.refusal.Refusal.{Refusal}
 use Rattle.mm_value.specs.declared.refusal.Refusal.TheVariants.{InUse, NoSuchTable}
@@ -19,7 +19,7 @@ returns-in_err-place-clause-due c =
     let p = err_from_is_err_and c.from_residual.result c.from_residual.ensures.1 in
     let lacks = lacks_nowhere c.args.name.now c.args.catalog.now (sym c.place_of.ensures.place ∙ c.in_err-place.ensures.ok_part) in
     let told : NoSuchTable ≡ c.in_err-place.field-0.0 = grind arith in
-    rw (p.1, p.2) (inl (ap (λ b. cond b (Some NoSuchTable) (cond (list_any (is_other_referring_to c.args.name.now) c.args.catalog.now.tables)
+    rw (p.1, p.2) (inl (ap (λ b. cond b (Some NoSuchTable) (cond (is_in_use c.args.name.now c.args.catalog.now)
     (Some InUse) None)) lacks ∙ ap (λ (r : Refusal). Some r) told))
 
 pub drop_table-requires-2-clause-there : goal.drop_table-requires-2-clause-there

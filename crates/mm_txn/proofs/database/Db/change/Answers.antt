@@ -1,5 +1,5 @@
 -- The new rows of the edits' table are the state's, and what is saved stays.
-use Rattle.std.proofs.Common.{◌≡◌, ℕ, cond, Err, Ok, Some, None, length, ap, ◌∙◌, arith}
+use Rattle.std.proofs.Common.{◌≡◌, ℕ, cond, [], Err, Ok, Some, None, length, ap, ◌∙◌, arith}
 use Rattle.std.proofs.lemmas.Result.{err_from_is_err_and}
 use Rattle.mm_schema.specs.Instance.{Instance}
 use Rattle.mm_query.specs.Edits.{own_pairs}
@@ -81,7 +81,7 @@ returns-clause-ok c =
     c.in_ok-table.field-0.edits.items c.in_ok-table.ensures.ok c.make_edits.new.store.tables c.in_ok-table.ensures.distinct c.in_ok-make_edits.ensures.ok).0 in
     done_beside c.self.inside.catalog c.self.inside.store.tables saved c.args.mutation c.args.self.now c.self.view_is c.settle_outside.new.store.tables
     (saved_rows c.self.inside.is_open c.settle_outside.new.undo c.settle_outside.new.store)
-    ((λ i. record { schema = c.self.inside.catalog; rows = c.settle_outside.ensures.rows i; saved = None }) ∙ done)
+    ((λ i. record { schema = c.self.inside.catalog; rows = c.settle_outside.ensures.rows i; queries = []; saved = None }) ∙ done)
     (c.settle_outside.ensures.saved ∙ ap (λ (rows : Instance). cond c.self.inside.is_open (Some rows) None) c.make_edits.ensures.saved)
 
 pub returns-clause-count : goal.returns-clause-count
