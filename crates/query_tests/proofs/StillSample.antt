@@ -6,7 +6,7 @@ use Rattle.std.proofs.lemmas.Option.{get_or_from_slice_get, slice_get_within}
 use Rattle.mm_relation.specs.Kept.{StoredRows}
 use Rattle.mm_relation.specs.Reads.{AddsIndex}
 use Rattle.mm_schema.specs.declared.index.IndexKind.{IndexKind}
-use Rattle.mm_store.proofs.Samples.{at_place}
+use Rattle.store_tests.proofs.PlainStores.{at_place}
 use Rattle.mm_store.specs.Tables.{HasRows, IsAt, Tables, Turns}
 use Rattle.mm_value.specs.declared.values.Value.{Value}
 use Rattle.query_tests.specs.Sample.{IsSample}

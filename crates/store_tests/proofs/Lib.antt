@@ -1,2 +1,2 @@
-mod PlainStores
-mod SampleEdits
+pub mod PlainStores
+pub mod SampleEdits

@@ -1,5 +1,5 @@
 use Rattle.std.proofs.Common.{List, length, ap}
-use Rattle.mm_relation.proofs.Samples.{none_named, wide_added}
+use Rattle.store_tests.proofs.SampleEdits.{none_named, wide_added}
 use Rattle.mm_value.specs.declared.values.Value.{Value}
 use Rattle.query_tests.proofs.samples.additions.Goals as goal
 

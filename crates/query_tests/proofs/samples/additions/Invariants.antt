@@ -1,7 +1,7 @@
 use Rattle.std.proofs.Common.{◌≡◌, []}
 use Rattle.mm_relation.specs.Edits.{new_rows}
 use Rattle.mm_relation.proofs.Changed.{olds}
-use Rattle.mm_relation.proofs.Samples.{AreWide}
+use Rattle.store_tests.proofs.SampleEdits.{AreWide}
 use Rattle.query_tests.proofs.samples.additions.Given as goal
 
 -- the edits so far name no rows, and their rows have two values
