@@ -1,0 +1,6 @@
+pub mod Entries
+pub mod Listing
+pub mod Passing
+pub mod Purging
+pub mod Reordering
+pub mod Undoing

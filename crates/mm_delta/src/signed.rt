@@ -1,0 +1,12 @@
+//! Changes of counts.
+
+use mm_value::Row;
+
+/// A row, and by how much its count changes.
+#[derive(Debug, Drop)]
+pub struct Signed {
+    /// The row.
+    pub row: Row,
+    /// The change of its count.
+    pub count: i128,
+}
