@@ -1,5 +1,5 @@
 //! Columns.
-ghost use Rattle.std.specs.Prelude.{◌≡◌, ◌↔◌, ◌<◌, IsSome, IfSome, length, position};
+ghost use Rattle.std.specs.Prelude.{◌≡◌, ◌↔◌, ◌<◌, IsSome, IfOk, IfSome, length, position};
 ghost use Rattle.std.specs.List.{list_any};
 ghost use Rattle.mm_schema.specs.Name.{same_name};
 ghost use Rattle.std.specs.Option.{option_copied};
@@ -7,6 +7,7 @@ ghost use Rattle.mm_schema.specs.Columns.{column_place, differs_from_key, has_tw
 
 use crate::name::Name;
 use mm_value::ColType;
+use std::alloc::{AllocError, Global};
 use std::marker::Model;
 
 /// What a column is for.
@@ -31,7 +32,31 @@ pub struct Column {
     pub role: Role,
 }
 
+impl Role {
+    /// A copy of the role. It takes no memory.
+    fn copy(&self) -> Role
+        ensures { result ≡ self.now }
+    {
+        match self {
+            Role::Key => Role::Key,
+            Role::Plain => Role::Plain,
+            Role::Reference(table) => Role::Reference(table.copy()),
+        }
+    }
+}
+
 impl Column {
+    /// A copy of the column. It takes no memory.
+    fn copy(&self) -> Column
+        ensures { result ≡ self.now }
+    {
+        Column {
+            name: self.name.copy(),
+            col_type: self.col_type,
+            role: self.role.copy(),
+        }
+    }
+
     /// Whether it is the key.
     pub fn is_key(&self) -> bool
         ensures { result ≡ is_key self.now }
@@ -91,6 +116,20 @@ impl Columns {
         }
         let key = find_key(&items)?;
         Some(Columns { items, key })
+    }
+
+    /// A copy of the columns. `AllocError` where memory is refused.
+    pub(crate) fn copy(&self, alloc: Global) -> Result<Columns, AllocError>
+        ensures { IfOk result (λ copy. copy ≡ self.now) }
+    {
+        let mut items = Vec::with_capacity(alloc, self.items.len())?;
+        for column in self.as_slice() {
+            items.push(column.copy())?;
+        }
+        Ok(Columns {
+            items,
+            key: self.key,
+        })
     }
 
     /// The columns from left to right, of which just one is the key.

@@ -1,12 +1,12 @@
 //! Indexes as the catalog has them.
-ghost use Rattle.std.specs.Prelude.{◌≡◌, ◌++◌, [], ◌∷◌, not, filter, position, IfErr, OnOk, OnErr};
+ghost use Rattle.std.specs.Prelude.{◌≡◌, ◌++◌, [], ◌∷◌, not, filter, position, IfErr, IfOk, OnOk, OnErr};
 ghost use Rattle.std.specs.List.{list_any};
 ghost use Rattle.mm_schema.specs.Name.{same_name};
 ghost use Rattle.mm_value.specs.declared.refusal.Refusal.TheVariants.{Memory};
 
 use crate::name::Name;
 use mm_value::Refusal;
-use std::alloc::Global;
+use std::alloc::{AllocError, Global};
 use std::marker::Model;
 
 /// How an index finds rows.
@@ -29,6 +29,20 @@ pub struct IndexDef {
     pub column: Name,
     /// How it finds them.
     pub kind: IndexKind,
+}
+
+impl IndexDef {
+    /// A copy of the definition. It takes no memory.
+    fn copy(&self) -> IndexDef
+        ensures { result ≡ self.now }
+    {
+        IndexDef {
+            name: self.name.copy(),
+            table: self.table.copy(),
+            column: self.column.copy(),
+            kind: self.kind,
+        }
+    }
 }
 
 /// Which index is meant.
@@ -63,6 +77,17 @@ impl Indexes {
         Indexes {
             items: Vec::new(alloc),
         }
+    }
+
+    /// A copy of the indexes' definitions. `AllocError` where memory is refused.
+    pub(crate) fn copy(&self, alloc: Global) -> Result<Indexes, AllocError>
+        ensures { IfOk result (λ copy. copy ≡ self.now) }
+    {
+        let mut items = Vec::with_capacity(alloc, self.items.len())?;
+        for index in self.as_slice() {
+            items.push(index.copy())?;
+        }
+        Ok(Indexes { items })
     }
 
     /// The indexes.
