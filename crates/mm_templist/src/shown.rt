@@ -46,7 +46,7 @@ impl<'s> Model for ShownRows<'s> {
 impl<'s> ShownRows<'s> {
     /// So many rows of this width, of which the values stand one behind the other: sorted by their values in the columns of
     /// `order`, and as whole rows where these are equal; with `distinct` one of each. `AllocError` where memory is refused.
-    pub(crate) fn sorted(
+    pub fn sorted(
         alloc: Global,
         values: Vec<&'s Value>,
         width: usize,
