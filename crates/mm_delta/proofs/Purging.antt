@@ -28,6 +28,14 @@ module _ (row : List Value) (i : ℕ) (es fs : Entries) (once : IsOnce es) (at :
     entry_gone =
         ap is_some (found row ∙ ap (λ b. cond b None (lookup (same_row row) es)) (same_row_equiv.refl row))
 
+    -- No entry comes.
+    pub entry_was : (q : List Value) → has_entry q fs ≡ true → has_entry q es ≡ true
+    entry_was q had = by (same_row row q) (ap is_some (found q))
+      where
+        by : (b : Bool) → has_entry q fs ≡ is_some (cond b None (lookup (same_row q) es)) → has_entry q es ≡ true
+        by true e = absurd (true≢false (sym had ∙ e))
+        by false e = sym e ∙ had
+
   within : i < length es
   within = by (slice_get_cases es i).1
     where

@@ -116,12 +116,28 @@ impl Counted {
         requires count { pos 0 ≤ℤ (pos (count_in change.row self.old.entries) +ℤ change.count) }
         requires total { (pos (total_of self.old.entries) +ℤ change.count) <ℤ pos (2 ^ 64) }
         ensures added { Adds change self.old.entries self.new.entries }
+        ensures total { pos (total_of self.new.entries) ≡ pos (total_of self.old.entries) +ℤ change.count }
         ensures kept { has_entry change.row self.old.entries ≡ true → self.new.room ≡ self.old.room }
         ensures used { self.old.room ≤ self.new.room + 1 }
     {
         let Signed { row, count } = change;
         self.total = changed(self.total, count);
         add_count(&mut self.counts, row, count);
+    }
+
+    /// Adds to the count of a row that has an entry, which keeps its place. It asks for a count that stays at 0 or above, and for
+    /// a total below 2^64. It takes no memory, and the row stays the caller's.
+    pub fn add_found(&mut self, change: &Signed)
+        requires found { has_entry change.now.row self.old.entries ≡ true }
+        requires count { pos 0 ≤ℤ (pos (count_in change.now.row self.old.entries) +ℤ change.now.count) }
+        requires total { (pos (total_of self.old.entries) +ℤ change.now.count) <ℤ pos (2 ^ 64) }
+        ensures added { Adds change.now self.old.entries self.new.entries }
+        ensures total { pos (total_of self.new.entries) ≡ pos (total_of self.old.entries) +ℤ change.now.count }
+        ensures room { self.new.room ≡ self.old.room }
+    {
+        let Signed { row, count } = change;
+        self.total = changed(self.total, *count);
+        change_found(&mut self.counts, row, *count);
     }
 
     /// Adds 1 to the count of a row, and makes room for its entry where that is needed. `Memory` is the only refusal; it is
@@ -155,7 +171,9 @@ impl Counted {
     /// Drops the entry of a row where its count is 0. No count changes.
     pub fn purge_row(&mut self, row: &Row)
         ensures counts { (other : List Val) → count_in other self.new.entries ≡ count_in other self.old.entries }
+        ensures total { total_of self.new.entries ≡ total_of self.old.entries }
         ensures gone { count_in row.now self.old.entries ≡ 0 → has_entry row.now self.new.entries ≡ false }
+        ensures others { (other : List Val) → has_entry other self.new.entries ≡ true → has_entry other self.old.entries ≡ true }
         ensures kept { 0 < count_in row.now self.old.entries → self.new.entries ≡ self.old.entries }
         ensures room { self.old.room ≤ self.new.room }
     {
@@ -200,11 +218,31 @@ fn add_count(counts: &mut IndexMap<Row, usize>, row: Row, change: i128)
     ensures used { spare counts.old ≤ spare counts.new + 1 }
     ensures once { IsOnce counts.new.entries }
 {
-    match counts.get_mut(&row) {
-        Some(count) => *count = changed(*count, change),
-        None => {
-            counts.insert(row, changed(0, change)).unwrap();
+    if !change_found(counts, &row, change) {
+        counts.insert(row, changed(0, change)).unwrap();
+    }
+}
+
+// Adds to the count of a row where it has an entry, and tells whether it has.
+fn change_found(counts: &mut IndexMap<Row, usize>, row: &Row, change: i128) -> bool
+    requires once { IsOnce counts.old.entries }
+    requires least { pos 0 ≤ℤ (pos (count_in row.now counts.old.entries) +ℤ change) }
+    requires most { (pos (count_in row.now counts.old.entries) +ℤ change) <ℤ pos (2 ^ 64) }
+    ensures found { result ≡ has_entry row.now counts.old.entries }
+    ensures added { has_entry row.now counts.old.entries ≡ true
+        → Adds (record { row = row.now; count = change }) counts.old.entries counts.new.entries }
+    ensures total { has_entry row.now counts.old.entries ≡ true
+        → pos (total_of counts.new.entries) ≡ pos (total_of counts.old.entries) +ℤ change }
+    ensures room { spare counts.new ≡ spare counts.old }
+    ensures once { IsOnce counts.new.entries }
+    ensures kept { has_entry row.now counts.old.entries ≡ false → counts.new ≡ counts.old }
+{
+    match counts.get_mut(row) {
+        Some(count) => {
+            *count = changed(*count, change);
+            true
         }
+        None => false,
     }
 }
 

@@ -1,10 +1,23 @@
-//! The change of a query's result by counts of rows.
+//! How the rows that a standing query shows change with the rows of its tables.
 #![tactic(auto)]
 
+mod bag_change;
+mod chosen;
 mod counted;
+mod counting;
 mod differing;
+mod edited;
+mod known;
+mod law;
+mod look_up;
+mod rows;
 mod signed;
+mod term;
+mod walk;
 
+pub use bag_change::delta;
 pub use counted::{Counted, counts_are_undone};
 pub use differing::difference;
+pub use edited::TableEdits;
+pub use law::change_is_the_sum_of_its_terms;
 pub use signed::Signed;

@@ -1,0 +1,151 @@
+-- The rows that are gone over at a place.
+use Rattle.std.proofs.Common.{◌≡◌, ℕ, ◌+◌, ◌≤◌, ◌<◌, Bool, true, false, cond, nat_lt, List, [], ◌∷◌, ◌++◌, length, map, get_or, take, append_assoc, Option, Some, None, refl, sym, ap, ◌∙◌, arith}
+use Rattle.std.specs.List.{cons_option, filter, filter_map, sum_by}
+use Rattle.std.specs.List.Sorted.{IsPermutation}
+use Rattle.std.specs.Option.{option_map_or}
+use Rattle.std.proofs.lemmas.List.{length-map, take_more}
+use Rattle.std.proofs.lemmas.List.Elements.{filter_map-append}
+use Rattle.std.proofs.lemmas.List.Sums.{sum_by-append}
+use Rattle.std.proofs.lemmas.List.Sorted.{length_permutation, sum_by-IsPermutation}
+use Rattle.mm_partition.specs.Places.{slot_at}
+use Rattle.mm_relation.specs.Edits.{new_rows}
+use Rattle.mm_relation.specs.Kept.{IsKept, StoredRows}
+use Rattle.mm_relation.specs.Refs.{Slots, row_at}
+use Rattle.mm_relation.specs.RowLists.{rows_of}
+use Rattle.mm_relation.specs.declared.edits.Edit.{Edit}
+use Rattle.mm_relation.specs.declared.edits.Edit.TheVariants.{Add, Swap, Gone}
+use Rattle.mm_store.specs.Tables.{AreFit, IsAt, Tables, rows_with}
+use Rattle.mm_value.specs.declared.row_ref.RowRef.{RowRef}
+use Rattle.mm_value.specs.declared.values.Value.{Value}
+use Rattle.mm_delta.specs.Candidates.{Required, having, passes}
+use Rattle.mm_delta.specs.Edited.{before_at, edits_at, walked}
+use Rattle.mm_delta.specs.Steps.{AreAlike, EachFit, coming, edits_walked, stays}
+use Rattle.mm_delta.specs.declared.edited.TableEdits.{TableEdits}
+use Rattle.mm_delta.proofs.SumOfTerms.{sum_by-filter}
+use Rattle.mm_delta.proofs.Goes.{after_edits}
+use Rattle.mm_delta.proofs.Product.{filter-map}
+use Rattle.mm_delta.proofs.Sums.{sum_by-map, sum_by_same}
+
+fit_nothing : (stored : StoredRows) → AreFit stored []
+fit_nothing stored = record {
+  standing = record { live = λ k d within. absurd (omega arith); apart = λ i j d before within. absurd (omega arith) };
+  wide = λ k d within. absurd (omega arith);
+}
+
+-- The edits that count at a place fit.
+pub fit_walked : (store : Tables) (changes : List TableEdits) (k j table : ℕ) (stored : StoredRows) → EachFit store changes → IsAt store table stored
+    → AreFit stored (edits_walked changes k j table)
+fit_walked store changes k j table stored fit at = by (nat_lt j k)
+  where
+    by : (b : Bool) → AreFit stored (cond b (edits_at changes table) [])
+    by true = fit table stored at
+    by false = fit_nothing stored
+
+-- The rows at a place are those with the edits that count there.
+pub walked_is : (store : Tables) (changes : List TableEdits) (tables : List ℕ) (k j : ℕ) (stored : StoredRows) → IsAt store (get_or tables j 0) stored
+    → walked store changes tables k j ≡ rows_with stored (edits_walked changes k j (get_or tables j 0))
+walked_is store changes tables k j stored at =
+    (λ i. cond (nat_lt j k) (option_map_or (λ s. rows_with s (edits_at changes (get_or tables j 0))) (at i) []) (option_map_or rows_of (at i) []))
+    ∙ by (nat_lt j k)
+  where
+    by : (b : Bool) → cond b (rows_with stored (edits_at changes (get_or tables j 0))) (rows_of stored)
+        ≡ rows_with stored (cond b (edits_at changes (get_or tables j 0)) [])
+    by true = refl
+    by false = refl
+
+-- What comes and has what is required, edit by edit.
+pub coming_all : (r : Option Required) (edits : List Edit) → filter_map (coming r) edits ≡ having r (new_rows edits)
+coming_all r [] = refl
+coming_all r (Add row ∷ edits) = one (passes r row) row (coming_all r edits)
+  where
+    one : (b : Bool) (row : List Value) → filter_map (coming r) edits ≡ having r (new_rows edits)
+        → cons_option (cond b (Some row) None) (filter_map (coming r) edits) ≡ cond b (row ∷ having r (new_rows edits)) (having r (new_rows edits))
+    one true row h = ap (λ l. row ∷ l) h
+    one false row h = h
+coming_all r (Swap at row ∷ edits) = one (passes r row) row (coming_all r edits)
+  where
+    one : (b : Bool) (row : List Value) → filter_map (coming r) edits ≡ having r (new_rows edits)
+        → cons_option (cond b (Some row) None) (filter_map (coming r) edits) ≡ cond b (row ∷ having r (new_rows edits)) (having r (new_rows edits))
+    one true row h = ap (λ l. row ∷ l) h
+    one false row h = h
+coming_all r (Gone at ∷ edits) = coming_all r edits
+
+-- One edit more.
+pub coming_more : {X : Type 0} (g : Edit → Option X) (edits : List Edit) (i : ℕ) (edit : Edit) (first rows next : List X) → i < length edits
+    → edit ≡ get_or edits i edit → rows ≡ first ++ filter_map g (take i edits) → next ≡ rows ++ cons_option (g edit) []
+    → next ≡ first ++ filter_map g (take (i + 1) edits)
+coming_more g edits i edit first rows next inside is so_far last =
+    last ∙ ap (λ l. l ++ cons_option (g edit) []) so_far ∙ append_assoc first (filter_map g (take i edits)) (cons_option (g edit) [])
+    ∙ ap (λ l. first ++ l) (sym (filter_map-append g (take i edits) (edit ∷ [])))
+    ∙ ap (λ l. first ++ filter_map g l) (ap (λ e. take i edits ++ e ∷ []) is ∙ sym (take_more edits i edit inside))
+
+pub before_is : (store : Tables) (table : ℕ) (stored : StoredRows) → IsAt store table stored → before_at store table ≡ rows_of stored
+before_is store table stored at = ap (λ o. option_map_or rows_of o []) at
+
+swapped : (a b : Bool) (n : ℕ) → cond a (cond b n 0) 0 ≡ cond b (cond a n 0) 0
+swapped true true n = refl
+swapped true false n = refl
+swapped false true n = refl
+swapped false false n = refl
+
+module _ (stored : StoredRows) (was : IsKept stored.width stored.key (slot_at stored.places) stored.refs stored.indexes) (r : Option Required)
+    (refs : List RowRef) (found : IsPermutation refs (filter (λ at. passes r (row_at (slot_at stored.places) at)) stored.refs)) where
+  abbrev now : Slots
+  now = slot_at stored.places
+
+  abbrev test : RowRef → Bool
+  test at = passes r (row_at now at)
+
+  -- What stays of the references that are found, and what comes and has what is required, is what has it after the edits.
+  pub found_alike : (edits : List Edit) → AreFit stored edits → (rows all : List (List Value))
+      → rows ≡ map (row_at now) (filter (stays edits) refs) → all ≡ rows ++ having r (new_rows edits)
+      → AreAlike all (having r (rows_with stored edits))
+  found_alike edits fit rows all is sum f =
+      let h : RowRef → ℕ = λ at. cond (stays edits at) (f (row_at now at)) 0 in
+      let g : List Value → ℕ = λ x. cond (passes r x) (f x) 0 in
+      omega (
+        arith,
+        ap (sum_by f) (sum ∙ ap (λ l. l ++ having r (new_rows edits)) is),
+        sum_by-append f (map (row_at now) (filter (stays edits) refs)) (having r (new_rows edits)),
+        sum_by-map f (row_at now) (filter (stays edits) refs),
+        sum_by-filter (λ at. f (row_at now at)) (stays edits) refs,
+        sum_by-IsPermutation h refs (filter test stored.refs) found,
+        sum_by-filter h test stored.refs,
+        sum_by_same (λ at. cond (test at) (h at) 0) (λ at. cond (stays edits at) (g (row_at now at)) 0) stored.refs
+            (λ at. swapped (test at) (stays edits at) (f (row_at now at))),
+        sum_by-filter (λ at. g (row_at now at)) (stays edits) stored.refs,
+        sum_by-map g (row_at now) (filter (stays edits) stored.refs),
+        after_edits stored was edits fit g,
+        sum_by-filter f (passes r) (rows_with stored edits),
+        sum_by-filter f (passes r) (new_rows edits),
+      )
+
+  -- As many references are found as rows have what is required.
+  pub found_count : length refs ≡ length (having r (rows_of stored))
+  found_count =
+      sym (length_permutation refs (filter test stored.refs) found)
+      ∙ sym (ap length (filter-map (passes r) (row_at now) stored.refs) ∙ length-map (filter test stored.refs) (row_at now))
+
+fewer : {X : Type 0} (p : X → Bool) (xs : List X) → length (filter p xs) ≤ length xs
+fewer p [] = omega arith
+fewer p (x ∷ xs) = by (p x) (fewer p xs)
+  where
+    by : (b : Bool) → length (filter p xs) ≤ length xs → length (cond b (x ∷ filter p xs) (filter p xs)) ≤ length (x ∷ xs)
+    by true h = omega (arith, h)
+    by false h = omega (arith, h)
+
+-- No more is read than rows have what is required.
+pub few_read : (store : Tables) (table : ℕ) (stored : StoredRows) → IsAt store table stored
+    → IsKept stored.width stored.key (slot_at stored.places) stored.refs stored.indexes → (r r' : Option Required) (refs : List RowRef)
+    → IsPermutation refs (filter (λ at. passes r (row_at (slot_at stored.places) at)) stored.refs) → r ≡ r' → (edits : List Edit) (left : List RowRef)
+    → left ≡ filter (stays edits) refs → length left ≤ length (having r' (before_at store table))
+few_read store table stored at was r r' refs found same edits left is =
+    let alike : length (having r (rows_of stored)) ≡ length (having r' (before_at store table)) =
+    λ i. length (having (same i) (sym (before_is store table stored at) i)) in
+    omega (
+      arith,
+      ap length is,
+      fewer (stays edits) refs,
+      found_count stored was r refs found,
+      alike,
+    )

@@ -1,0 +1,81 @@
+-- The references that a look-up or a walk over the key finds.
+use Rattle.std.proofs.Common.{◌≡◌, ℕ, ◌<◌, Bool, true, cond, List, [], ◌∷◌, ◌++◌, length, get_or, Some, None, Option, refl, sym, ap, ◌∙◌, subst, arith}
+use Rattle.std.specs.Prelude.{pos}
+use Rattle.std.specs.List.{All, filter}
+use Rattle.std.specs.List.Sorted.{IsPermutation}
+use Rattle.std.specs.Option.{option_cmp}
+use Rattle.std.specs.Ordering.{is_eq}
+use Rattle.std.proofs.lemmas.List.Elements.{All-filter, All-head, All-tail, Contains-get_or}
+use Rattle.std.proofs.lemmas.List.Sorted.{All-permutation, IsPermutation-sym}
+use Rattle.std.proofs.lemmas.Option.{slice_get-get_or}
+use Rattle.mm_partition.specs.Places.{IsLive, slot_at}
+use Rattle.mm_relation.specs.Kept.{IsKept, StoredRows}
+use Rattle.mm_relation.specs.Reads.{Appends, AreMatches, IsRange, has_value}
+use Rattle.mm_relation.specs.Refs.{Slots, row_at, row_in}
+use Rattle.mm_relation.specs.declared.index.Index.{Index}
+use Rattle.mm_store.specs.Looked.{IsIndexOn}
+use Rattle.mm_store.specs.declared.column_index.ColumnIndex.{ColumnIndex}
+use Rattle.mm_store.specs.declared.column_index.ColumnIndex.TheVariants.{Key, Tree, Hash}
+use Rattle.mm_value.specs.Order.{value_cmp}
+use Rattle.mm_value.specs.declared.row_ref.RowRef.{RowRef}
+use Rattle.mm_value.specs.declared.values.Value.{Value}
+use Rattle.mm_value.specs.declared.values.Value.TheVariants.{Int}
+use Rattle.mm_delta.specs.Candidates.{Required, passes}
+
+any_of : (xs : List Index) (n : ℕ) → n < length xs → Index
+any_of [] n within = absurd (omega arith)
+any_of (x ∷ xs) n within = x
+
+filter_same : {X : Type 0} (p q : X → Bool) (xs : List X) → All (λ x. p x ≡ q x) xs → filter p xs ≡ filter q xs
+filter_same p q [] all = refl
+filter_same p q (x ∷ xs) all =
+    λ i. cond (All-head (λ y. p y ≡ q y) x xs all i) (x ∷ filter_same p q xs (All-tail (λ y. p y ≡ q y) x xs all) i) (filter_same p q xs (All-tail (λ y. p y ≡ q y) x xs all) i)
+
+filter_everything : {X : Type 0} (xs : List X) → filter (λ x. true) xs ≡ xs
+filter_everything [] = refl
+filter_everything (x ∷ xs) = ap (λ l. x ∷ l) (filter_everything xs)
+
+module _ (stored : StoredRows) (was : IsKept stored.width stored.key (slot_at stored.places) stored.refs stored.indexes) where
+  abbrev now : Slots
+  now = slot_at stored.places
+
+  -- the rows that have what is required
+  abbrev pub Finds : Option Required → List RowRef → Type 0
+  Finds required found = IsPermutation found (filter (λ at. passes required (row_at now at)) stored.refs)
+
+  column_in : (column : ℕ) (index : ColumnIndex) → IsIndexOn stored column index → column < stored.width
+  column_in column Key is = subst (λ n. n < stored.width) (sym is) was.key_in
+  column_in column (Tree place) has =
+      let d : Index = any_of stored.indexes place has.0 in subst (λ n. n < stored.width) (has.1 d).0 (was.columns place d has.0)
+  column_in column (Hash place) has =
+      let d : Index = any_of stored.indexes place has.0 in subst (λ n. n < stored.width) (has.1 d).0 (was.columns place d has.0)
+
+  all_live : All (IsLive stored.places) stored.refs
+  all_live k d within = (was.held (get_or stored.refs k d)).0 (Contains-get_or stored.refs k d within)
+
+  same_value : (column : ℕ) (value : Value) → column < stored.width → All (λ at. has_value column now value at ≡ passes (Some (column, value)) (row_at now at)) stored.refs
+  same_value column value within k d below =
+      let at : RowRef = get_or stored.refs k d in
+      let live = all_live k d below in
+      let wide : length (row_at now at) ≡ stored.width = ap (λ c. length (row_in c)) live.1 ∙ was.wide at live.0 live.1 in
+      ap (λ o. is_eq (option_cmp value_cmp o (Some value))) (slice_get-get_or (row_at now at) column (Int (pos 0)) (omega (arith, within, wide)))
+
+  -- What a look-up appends to nothing is all that has the value.
+  pub found_by_value : (column : ℕ) (index : ColumnIndex) (value : Value) (old new : List RowRef) → IsIndexOn stored column index → old ≡ []
+      → Appends (AreMatches column now value stored.refs) old new → Finds (Some (column, value)) new
+  found_by_value column index value old new on empty (found, is, same) =
+      subst (IsPermutation new) (filter_same (has_value column now value) (λ at. passes (Some (column, value)) (row_at now at)) stored.refs
+      (same_value column value (column_in column index on)))
+      (subst (λ l. IsPermutation l (filter (has_value column now value) stored.refs)) (sym (is ∙ ap (λ l. l ++ found) empty)) same)
+
+  -- What a walk over the whole key appends to nothing is all there is.
+  pub found_by_key : (old new : List RowRef) → old ≡ [] → Appends (IsRange stored.key stored None None) old new → Finds None new
+  found_by_key old new empty (found, is, range) =
+      let all : new ≡ range.0 = is ∙ ap (λ l. l ++ found) empty ∙ range.2 ∙ filter_everything range.0 in
+      subst (IsPermutation new) (sym (filter_everything stored.refs)) (subst (λ l. IsPermutation l stored.refs) (sym all) range.1.same)
+
+  pub found_live : (required : Option Required) (found : List RowRef) → Finds required found → All (IsLive stored.places) found
+  found_live required found same =
+      All-permutation (IsLive stored.places) (filter (λ at. passes required (row_at now at)) stored.refs) found
+      (IsPermutation-sym found (filter (λ at. passes required (row_at now at)) stored.refs) same)
+      (All-filter (λ at. passes required (row_at now at)) (IsLive stored.places) stored.refs all_live)

@@ -1,0 +1,36 @@
+use Rattle.std.proofs.Common.{◌≡◌, ◌+◌, ◌∙◌, Some, ap, length, set, arith}
+use Rattle.std.proofs.lemmas.Result.{on_ok_weaker}
+use Rattle.mm_delta.specs.Counts.{count_in, count_of}
+use Rattle.mm_delta.specs.Edited.{after_at, before_at, walked}
+use Rattle.mm_delta.specs.Steps.{reads_for}
+use Rattle.mm_delta.specs.Walk.{found, one_row, other_places}
+use Rattle.mm_delta.proofs.Product.{found_from_row, one_row_is, open_start}
+use Rattle.mm_delta.proofs.walk.Walk.from_row.Goals as goal
+
+pub extend-requires-clause-vacant : goal.extend-requires-clause-vacant
+extend-requires-clause-vacant c =
+    let m_is : c.with-chosen.result ≡ one_row (length c.args.self.now.tables.now) c.args.self.now.place c.args.row.now =
+    c.with-chosen.ensures ∙ ap (λ l. set l c.args.self.now.place (Some c.args.row.now)) c.new.ensures ∙ one_row_is (length c.args.self.now.tables.now) c.args.self.now.place c.args.row.now c.requires.place in
+    let js_is : c.deref.result.now ≡ other_places (length c.args.self.now.tables.now) c.args.self.now.place = c.deref.ensures.value ∙ c.in_ok-others.ensures.ok in
+    open_start (length c.args.self.now.tables.now) c.args.self.now.place c.args.row.now c.deref.result.now c.with-chosen.result js_is m_is
+
+pub returns-clause-counted : goal.returns-clause-counted
+returns-clause-counted c =
+    let m_is : c.with-chosen.result ≡ one_row (length c.args.self.now.tables.now) c.args.self.now.place c.args.row.now =
+    c.with-chosen.ensures ∙ ap (λ l. set l c.args.self.now.place (Some c.args.row.now)) c.new.ensures ∙ one_row_is (length c.args.self.now.tables.now) c.args.self.now.place c.args.row.now c.requires.place in
+    let js_is : c.deref.result.now ≡ other_places (length c.args.self.now.tables.now) c.args.self.now.place = c.deref.ensures.value ∙ c.in_ok-others.ensures.ok in
+    on_ok_weaker c.extend.result
+    (λ counted other. counted other
+    ∙ ap (λ n. count_in other c.args.out.now.entries + n)
+    (ap (count_of other) ((λ i. found c.args.self.now.query.now (walked c.args.view.now.store c.args.self.now.changes.now c.args.self.now.tables.now c.args.self.now.place) (js_is i) (m_is i))
+    ∙ found_from_row c.args.self.now.query.now c.args.self.now.tables.now (after_at c.args.view.now.store c.args.self.now.changes.now) (before_at c.args.view.now.store) c.args.row.now c.args.self.now.place c.requires.place)))
+    c.extend.ensures.counted
+
+pub returns-clause-reads : goal.returns-clause-reads
+returns-clause-reads c =
+    let m_is : c.with-chosen.result ≡ one_row (length c.args.self.now.tables.now) c.args.self.now.place c.args.row.now =
+    c.with-chosen.ensures ∙ ap (λ l. set l c.args.self.now.place (Some c.args.row.now)) c.new.ensures ∙ one_row_is (length c.args.self.now.tables.now) c.args.self.now.place c.args.row.now c.requires.place in
+    let js_is : c.deref.result.now ≡ other_places (length c.args.self.now.tables.now) c.args.self.now.place = c.deref.ensures.value ∙ c.in_ok-others.ensures.ok in
+    let same : reads_for c.args.self.now.query.now c.args.view.now.store c.args.self.now.changes.now c.args.self.now.tables.now c.args.self.now.place c.deref.result.now c.with-chosen.result ≡ reads_for c.args.self.now.query.now c.args.view.now.store c.args.self.now.changes.now c.args.self.now.tables.now c.args.self.now.place (other_places (length c.args.self.now.tables.now) c.args.self.now.place) (one_row (length c.args.self.now.tables.now) c.args.self.now.place c.args.row.now) =
+    λ i. reads_for c.args.self.now.query.now c.args.view.now.store c.args.self.now.changes.now c.args.self.now.tables.now c.args.self.now.place (js_is i) (m_is i) in
+    omega (arith, c.extend.ensures.reads, same)

@@ -1,0 +1,49 @@
+-- The rows of tables before and after a change by edits.
+use Rattle.std.specs.Prelude.{ℕ, ◌==◌, Bool, false, ◌||◌, List, [], find, map, slice_get}
+use Rattle.std.specs.List.{list_any}
+use Rattle.std.specs.Option.{option_map_or}
+use Rattle.mm_partition.specs.Places.{slot_at}
+use Rattle.mm_relation.specs.Edits.{edit_name, named, new_rows}
+use Rattle.mm_relation.specs.Index.{column_of}
+use Rattle.mm_relation.specs.Kept.{StoredRows}
+use Rattle.mm_relation.specs.Refs.{row_at}
+use Rattle.mm_relation.specs.declared.edits.Edit.{Edit}
+use Rattle.mm_relation.specs.declared.index.Index.{Index}
+use Rattle.mm_relation.specs.declared.names.Side.TheVariants.{Old}
+use Rattle.mm_store.specs.Tables.{Tables, rows_at, rows_with}
+use Rattle.mm_value.specs.declared.values.Value.{Value}
+use Rattle.mm_delta.specs.Walk.{rows_around}
+use Rattle.mm_delta.specs.declared.edited.TableEdits.{TableEdits}
+
+-- The edits of a table.
+abbrev pub edits_at : List TableEdits → ℕ → List Edit
+edits_at changes table = option_map_or (λ (c : TableEdits). c.edits.now) (find (λ (c : TableEdits). c.table == table) changes) []
+
+-- The rows that a table has before the change.
+abbrev pub before_at : Tables → ℕ → List (List Value)
+before_at store table = rows_at store.tables table
+
+-- The rows that it has after the change.
+abbrev pub after_at : Tables → List TableEdits → ℕ → List (List Value)
+after_at store changes table = option_map_or (λ stored. rows_with stored (edits_at changes table)) (slice_get store.tables table) []
+
+-- Its rows that go.
+abbrev pub gone_at : Tables → List TableEdits → ℕ → List (List Value)
+gone_at store changes table =
+    option_map_or (λ stored. map (row_at (slot_at stored.places)) (named edit_name Old (edits_at changes table))) (slice_get store.tables table) []
+
+-- The rows that come.
+abbrev pub come_at : List TableEdits → ℕ → List (List Value)
+come_at changes table = new_rows (edits_at changes table)
+
+-- A relation has an index on the column. It always has one on its key.
+abbrev pub is_indexed : StoredRows → ℕ → Bool
+is_indexed stored column = (column == stored.key) || list_any (λ (index : Index). column_of index == column) stored.indexes
+
+-- The relation of a table has an index on the column.
+abbrev pub has_index : Tables → ℕ → ℕ → Bool
+has_index store table column = option_map_or (λ stored. is_indexed stored column) (slice_get store.tables table) false
+
+-- The rows at each place of FROM while those at place k are edited: those after the change before it, and those before the change behind it.
+abbrev pub walked : Tables → List TableEdits → List ℕ → ℕ → ℕ → List (List Value)
+walked store changes tables k = rows_around tables k (after_at store changes) (before_at store)

@@ -1,0 +1,80 @@
+-- What the steps of a walk go by.
+use Rattle.std.specs.Prelude.{◌≡◌, ℕ, ◌+◌, ◌<◌, ◌++◌, Bool, false, not, if◌then◌else◌, List, [], Option, Some, None, filter, get_or, length, nat_lt, IsPermutation}
+use Rattle.std.specs.List.{AllByRecursion, list_any, sum_by}
+use Rattle.std.specs.Option.{option_map}
+use Rattle.mm_relation.specs.Before.{same_ref}
+use Rattle.mm_partition.specs.Places.{slot_at}
+use Rattle.mm_relation.specs.Edits.{new_row}
+use Rattle.mm_relation.specs.Refs.{row_at}
+use Rattle.mm_relation.specs.Kept.{StoredRows}
+use Rattle.mm_relation.specs.declared.edits.Edit.{Edit}
+use Rattle.mm_relation.specs.declared.edits.Edit.TheVariants.{Add, Swap, Gone}
+use Rattle.mm_store.specs.Looked.{IsIndexOn}
+use Rattle.mm_store.specs.Tables.{AreFit, IsAt, Tables}
+use Rattle.mm_value.specs.declared.row_ref.RowRef.{RowRef}
+use Rattle.mm_value.specs.declared.values.Value.{Value}
+use Rattle.mm_query.specs.Queries.{Partial}
+use Rattle.mm_query.specs.declared.bound_query.BoundQuery.{BoundQuery}
+use Rattle.mm_delta.specs.Candidates.{Required, candidates, passes}
+use Rattle.mm_delta.specs.Edited.{before_at, come_at, edits_at, gone_at, has_index, walked}
+use Rattle.mm_delta.specs.Walk.{one_row, other_places}
+use Rattle.mm_delta.specs.declared.edited.TableEdits.{TableEdits}
+use Rattle.mm_delta.specs.declared.look_up.LookUp.{LookUp}
+
+-- The edit takes the row of a reference away, or puts another one in its place.
+abbrev pub takes : RowRef → Edit → Bool
+takes at (Add row) = false
+takes at (Swap other row) = same_ref other at
+takes at (Gone other) = same_ref other at
+
+-- No edit does so.
+abbrev pub stays : List Edit → RowRef → Bool
+stays edits at = not (list_any (takes at) edits)
+
+-- What a look-up requires of a row.
+abbrev pub asked : Option LookUp → Option Required
+asked look_up = option_map (λ (l : LookUp). (l.column, l.value)) look_up
+
+-- The table has the index of the look-up, and it is on its column.
+abbrev pub IsServed : Tables → ℕ → LookUp → Type 0
+IsServed store table look_up = (stored : StoredRows) → IsAt store table stored → IsIndexOn stored look_up.column look_up.index
+
+-- The edits of each table fit it.
+abbrev pub EachFit : Tables → List TableEdits → Type 0
+EachFit store changes = (table : ℕ) (stored : StoredRows) → IsAt store table stored → AreFit stored (edits_at changes table)
+
+-- Each of the places is one of FROM, and its table is there.
+abbrev pub HasTables : List ℕ → Tables → List ℕ → Type 0
+HasTables tables store places = AllByRecursion (λ j. (j < length tables) × (get_or tables j 0 < length store.tables)) places
+
+-- How many rows may be read for some rows, in which places are still without one.
+abbrev pub reads_for : BoundQuery → Tables → List TableEdits → List ℕ → ℕ → List ℕ → Partial → ℕ
+reads_for query store changes tables k places rows =
+    candidates (λ j. has_index store (get_or tables j 0)) query.atoms (λ j. before_at store (get_or tables j 0)) (walked store changes tables k) places rows
+
+-- How many rows may be read for the edited rows at a place of FROM: for each of them it itself, and those with which it may be combined.
+abbrev pub term_reads : BoundQuery → Tables → List TableEdits → List ℕ → ℕ → ℕ
+term_reads query store changes tables k =
+    sum_by (λ row. 1 + reads_for query store changes tables k (other_places (length tables) k) (one_row (length tables) k row))
+    (gone_at store changes (get_or tables k 0) ++ come_at changes (get_or tables k 0))
+
+-- The edits of a table that count at a place while place k has an edited row: all of them before it, and none behind it.
+abbrev pub edits_walked : List TableEdits → ℕ → ℕ → ℕ → List Edit
+edits_walked changes k place table = if nat_lt place k then edits_at changes table else []
+
+-- Two lists have the same rows, each as often.
+abbrev pub AreAlike : List (List Value) → List (List Value) → Type 0
+AreAlike xs ys = (f : List Value → ℕ) → sum_by f xs ≡ sum_by f ys
+
+-- The row, where it is there and passes a test.
+abbrev pub kept_if : (List Value → Bool) → Option (List Value) → Option (List Value)
+kept_if test None = None
+kept_if test (Some row) = if test row then Some row else None
+
+-- The row that an edit brings, where it has what is required.
+abbrev pub coming : Option Required → Edit → Option (List Value)
+coming required edit = kept_if (passes required) (new_row edit)
+
+-- These references of a table are those of its rows that have what is required, each once.
+abbrev pub IsFoundOf : Option Required → StoredRows → List RowRef → Type 0
+IsFoundOf required stored found = IsPermutation found (filter (λ at. passes required (row_at (slot_at stored.places) at)) stored.refs)

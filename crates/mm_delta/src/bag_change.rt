@@ -1,0 +1,60 @@
+//! By how much a query's bag changes when tables are edited.
+ghost use Rattle.std.specs.Prelude.{◌≡◌, ◌≢◌, ◌+◌, ◌<◌, ◌≤◌, ◌^◌, ◌<ℤ◌, neg_ℤ, pos, List, length, map, All, IfErr, IfOk};
+ghost use Rattle.std.specs.List.{IsDistinct, range_with_len, sum_by};
+ghost use Rattle.mm_value.specs.Equality.{same_row};
+ghost use Rattle.mm_value.specs.declared.refusal.Refusal.TheVariants.{Memory};
+ghost use Rattle.mm_value.specs.declared.values.Value.{Value as AnyValue};
+ghost use Rattle.mm_delta.specs.Change.{change_between};
+ghost use Rattle.mm_delta.specs.Counts.{signed_count};
+ghost use Rattle.mm_delta.specs.declared.signed.Signed.{Signed as Change};
+ghost use Rattle.mm_delta.specs.Edited.{after_at, before_at};
+ghost use Rattle.mm_delta.specs.Steps.{EachFit, term_reads};
+
+use crate::counted::Counted;
+use crate::differing::difference;
+use crate::edited::TableEdits;
+use crate::signed::Signed;
+use crate::walk::Walk;
+use mm_query::BoundQuery;
+use mm_store::View;
+use mm_value::Refusal;
+use std::alloc::Global;
+
+/// By how much the count of each row in a query's bag changes when tables are edited: one entry for each row whose count
+/// changes, and none for any other. `tables` are the store's places of the tables of FROM, at most 4, in their order; the edits
+/// of each table fit it, and are not made yet. Of a table only rows that go are read, and those that an edited row may be
+/// combined with. `Memory` is the only refusal; nothing but the count of reads has changed then.
+pub fn delta<'c, 'a: 'c>(
+    alloc: Global,
+    view: &mut View<'a>,
+    query: &'c BoundQuery,
+    tables: &'c [usize],
+    changes: &'c [TableEdits<'c>],
+) -> Result<Vec<Signed>, Refusal>
+    requires few { length tables.now ≤ 4 }
+    requires there { All (λ table. table < length view.old.store.tables) tables.now }
+    requires fit { EachFit view.old.store changes.now }
+    ensures change { IfOk result (λ found. (row : List AnyValue) → signed_count row found.items
+        ≡ change_between query.now (map (before_at view.old.store) tables.now) (map (after_at view.old.store changes.now) tables.now) row) }
+    ensures once { IfOk result (λ found. IsDistinct same_row (map (λ (change : Change). change.row) found.items)) }
+    ensures nonzero { IfOk result (λ found. All (λ (change : Change). change.count ≢ pos 0) found.items) }
+    ensures small { IfOk result (λ found. All (λ (change : Change). (neg_ℤ (pos (2 ^ 64)) <ℤ change.count) × (change.count <ℤ pos (2 ^ 64))) found.items) }
+    ensures reads { view.new.reads ≤ view.old.reads
+        + sum_by (term_reads query.now view.old.store changes.now tables.now) (range_with_len 0 (length tables.now)) }
+    ensures same { view.new.store ≡ view.old.store }
+    ensures memory { IfErr result (λ refusal. refusal ≡ Memory) }
+{
+    let mut comes = Counted::new(alloc);
+    let mut goes = Counted::new(alloc);
+    for place in 0..tables.len() {
+        view.is_kept(tables[place]);
+        let walk = Walk {
+            query,
+            tables,
+            changes,
+            place,
+        };
+        walk.add_term(alloc, view, &mut comes, &mut goes)?;
+    }
+    difference(alloc, &comes, goes)
+}

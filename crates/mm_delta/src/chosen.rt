@@ -1,0 +1,59 @@
+//! Rows chosen at places of FROM.
+ghost use Rattle.std.specs.Prelude.{◌≡◌, ◌<◌, ◌≤◌, length, map, replicate, set, None, Some};
+ghost use Rattle.std.specs.Option.{option_copied};
+
+use mm_query::MAX_FROM;
+use mm_value::Row;
+use std::marker::Model;
+
+/// For each place of FROM a row, or none yet.
+#[derive(Drop)]
+pub(crate) struct Chosen<'c> {
+    rows: [Option<&'c Row>; MAX_FROM],
+    places: usize,
+}
+
+impl<'c> Model for Chosen<'c> {
+    ghost use Rattle.std.specs.Prelude.{◌≡◌, ◌≤◌, length, map, take};
+    ghost use Rattle.std.specs.Option.{option_copied};
+    ghost use Rattle.mm_query.specs.Queries.{Partial};
+
+    ghost Value = { Partial };
+
+    ghost view = { λ c. take c.places (map option_copied c.rows) };
+
+    ghost invariant = { λ c. (c.places ≤ 4) × (length c.rows ≡ 4) };
+}
+
+impl<'c> Chosen<'c> {
+    /// No row at any of so many places.
+    pub(crate) fn new(places: usize) -> Chosen<'c>
+        requires { places ≤ MAX_FROM }
+        ensures { result ≡ replicate places None }
+    {
+        Chosen {
+            rows: [None; MAX_FROM],
+            places,
+        }
+    }
+
+    /// For each place the row there, if there is one.
+    pub(crate) fn as_slice(&self) -> &[Option<&'c Row>]
+        ensures { map option_copied result.now ≡ self.now }
+    {
+        &self.rows[..self.places]
+    }
+
+    /// The same with a row at a place.
+    pub(crate) fn with(&self, place: usize, row: &'c Row) -> Chosen<'c>
+        requires { place < length self.now }
+        ensures { result ≡ set self.now place (Some row.now) }
+    {
+        let mut rows = self.rows;
+        rows[place] = Some(row);
+        Chosen {
+            rows,
+            places: self.places,
+        }
+    }
+}

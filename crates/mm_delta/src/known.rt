@@ -1,0 +1,99 @@
+//! Values that are known of the rows that are there.
+ghost use Rattle.std.specs.Prelude.{◌≡◌, ◌-ℤ◌, pos, map, IfErr, IfOk};
+ghost use Rattle.std.specs.Option.{option_copied, option_map};
+ghost use Rattle.mm_value.specs.declared.refusal.Refusal.TheVariants.{Memory};
+ghost use Rattle.mm_value.specs.declared.values.Value.TheVariants.{Int};
+ghost use Rattle.mm_query.specs.Atoms.{shifted, value_in};
+ghost use Rattle.mm_query.specs.Queries.{value_at};
+ghost use Rattle.mm_delta.specs.Candidates.{kept_within, known_operand};
+
+use mm_query::{FieldPlace, Operand};
+use mm_value::{Refusal, Row, Value};
+use std::alloc::Global;
+
+/// The value of a row in a column, and this 0 past its end.
+pub(crate) fn value_in<'v>(row: &'v Row, column: usize, zero: &'v Value) -> &'v Value
+    requires { zero.now ≡ Int (pos 0) }
+    ensures { result.now ≡ value_in column row.now }
+{
+    match row.values().get(column) {
+        Some(value) => value,
+        None => zero,
+    }
+}
+
+/// The value of a field, where its place has a row. A row that ends before the column reads as this 0.
+pub(crate) fn value_of<'v>(
+    rows: &[Option<&'v Row>],
+    field: FieldPlace,
+    zero: &'v Value,
+) -> Option<&'v Value>
+    requires { zero.now ≡ Int (pos 0) }
+    ensures { option_copied result ≡ value_at (map option_copied rows.now) field }
+{
+    match rows.get(field.place) {
+        Some(Some(row)) => Some(value_in(row, field.column, zero)),
+        _ => None,
+    }
+}
+
+/// A copy of a value, if there is one. `Memory` is the only refusal.
+pub(crate) fn copied(alloc: Global, value: Option<&Value>) -> Result<Option<Value>, Refusal>
+    ensures ok { IfOk result (λ copy. copy ≡ option_copied value.entry) }
+    ensures memory { IfErr result (λ refusal. refusal ≡ Memory) }
+{
+    match value {
+        Some(value) => Ok(Some(value.copy(alloc)?)),
+        None => Ok(None),
+    }
+}
+
+/// A value with a number added, if there is one and the sum is one of 64 bits. A text stays. `Memory` is the only refusal.
+pub(crate) fn raised(
+    alloc: Global,
+    value: Option<&Value>,
+    by: i64,
+) -> Result<Option<Value>, Refusal>
+    ensures ok { IfOk result (λ raised. raised ≡ kept_within (option_map (shifted by) (option_copied value.entry))) }
+    ensures memory { IfErr result (λ refusal. refusal ≡ Memory) }
+{
+    match value {
+        Some(Value::Int(number)) => Ok(number.checked_add(by).map(Value::Int)),
+        Some(Value::Text(text)) => Ok(Some(Value::Text(text.copy(alloc)?))),
+        None => Ok(None),
+    }
+}
+
+/// A value with a number taken away, if there is one and the rest is a number of 64 bits. A text stays. `Memory` is the only
+/// refusal.
+pub(crate) fn lowered(
+    alloc: Global,
+    value: Option<&Value>,
+    by: i64,
+) -> Result<Option<Value>, Refusal>
+    ensures ok { IfOk result (λ lowered. lowered ≡ kept_within (option_map (shifted (pos 0 -ℤ by)) (option_copied value.entry))) }
+    ensures memory { IfErr result (λ refusal. refusal ≡ Memory) }
+{
+    match value {
+        Some(Value::Int(number)) => Ok(number.checked_sub(by).map(Value::Int)),
+        Some(Value::Text(text)) => Ok(Some(Value::Text(text.copy(alloc)?))),
+        None => Ok(None),
+    }
+}
+
+/// The value of an operand, where it is known and a row may have it. `Memory` is the only refusal.
+pub(crate) fn known_operand(
+    alloc: Global,
+    operand: &Operand<FieldPlace>,
+    rows: &[Option<&Row>],
+) -> Result<Option<Value>, Refusal>
+    ensures ok { IfOk result (λ value. value ≡ known_operand (value_at (map option_copied rows.now)) operand.now) }
+    ensures memory { IfErr result (λ refusal. refusal ≡ Memory) }
+{
+    let zero = Value::Int(0);
+    match operand {
+        Operand::Literal(value) => Ok(Some(value.copy(alloc)?)),
+        Operand::Column(field) => copied(alloc, value_of(rows, *field, &zero)),
+        Operand::Shifted(field, by) => raised(alloc, value_of(rows, *field, &zero), *by),
+    }
+}

@@ -1,0 +1,147 @@
+//! By which index the rows at a place are found.
+ghost use Rattle.std.specs.Prelude.{◌≡◌, ◌<◌, length, map, is_some, IfErr, IfOk, IfSome};
+ghost use Rattle.std.specs.Option.{option_copied};
+ghost use Rattle.mm_relation.specs.Kept.{StoredRows};
+ghost use Rattle.mm_store.specs.Looked.{IsIndexOn};
+ghost use Rattle.mm_store.specs.Tables.{IsAt};
+ghost use Rattle.mm_value.specs.declared.refusal.Refusal.TheVariants.{Memory};
+ghost use Rattle.mm_query.specs.Queries.{value_at};
+ghost use Rattle.mm_delta.specs.Candidates.{asked_by, asked_of, asked_of_right, known_operand as known_operand_lem, required};
+ghost use Rattle.mm_delta.specs.Edited.{has_index};
+ghost use Rattle.mm_delta.specs.Steps.{IsServed, asked};
+
+use crate::known::{copied, known_operand, lowered, value_of};
+use mm_query::{Atom, Comparison, FieldPlace, Operand};
+use mm_store::{ColumnIndex, View};
+use mm_value::{Refusal, Row, Value};
+use std::alloc::Global;
+
+/// A look-up of a value in an index.
+#[derive(Drop)]
+pub(crate) struct LookUp {
+    /// The column of the index, counted from 0.
+    pub(crate) column: usize,
+    /// The index.
+    pub(crate) index: ColumnIndex,
+    /// The value that a row must have there.
+    pub(crate) value: Value,
+}
+
+/// What is known where rows are looked for.
+#[derive(Drop)]
+pub(crate) struct Site<'s, 'a> {
+    /// The store.
+    pub(crate) view: &'s View<'a>,
+    /// The table.
+    pub(crate) table: usize,
+    /// Its place in FROM.
+    pub(crate) place: usize,
+    /// The rows that are there at the other places.
+    pub(crate) rows: &'s [Option<&'s Row>],
+}
+
+impl Site<'_, '_> {
+    /// The index on a column, if there is one.
+    fn index_of(&self, column: usize) -> Option<ColumnIndex>
+        requires { self.now.table < length self.now.view.now.store.tables }
+        ensures there { is_some result ≡ has_index self.now.view.now.store self.now.table column }
+        ensures served { IfSome result (λ index. (stored : StoredRows) → IsAt self.now.view.now.store self.now.table stored → IsIndexOn stored column index) }
+    {
+        self.view.index_on(self.table, column)
+    }
+
+    /// The look-up by what an equality asks of its left side. `Memory` is the only refusal.
+    fn by_left(&self, alloc: Global, atom: &Atom<FieldPlace>) -> Result<Option<LookUp>, Refusal>
+        requires { self.now.table < length self.now.view.now.store.tables }
+        ensures ok { IfOk result (λ found. asked found ≡ asked_of (has_index self.now.view.now.store self.now.table) self.now.place atom.now.left
+            (known_operand_lem (value_at (map option_copied self.now.rows.now)) atom.now.right)) }
+        ensures served { IfOk result (λ found. IfSome found (IsServed self.now.view.now.store self.now.table)) }
+        ensures memory { IfErr result (λ refusal. refusal ≡ Memory) }
+    {
+        if atom.left.place != self.place {
+            return Ok(None);
+        }
+        let column = atom.left.column;
+        let Some(index) = self.index_of(column) else {
+            return Ok(None);
+        };
+        let Some(value) = known_operand(alloc, &atom.right, self.rows)? else {
+            return Ok(None);
+        };
+        Ok(Some(LookUp {
+            column,
+            index,
+            value,
+        }))
+    }
+
+    /// The look-up by what an equality asks of its right side. `Memory` is the only refusal.
+    fn by_right(&self, alloc: Global, atom: &Atom<FieldPlace>) -> Result<Option<LookUp>, Refusal>
+        requires { self.now.table < length self.now.view.now.store.tables }
+        ensures ok { IfOk result (λ found. asked found ≡ asked_of_right (has_index self.now.view.now.store self.now.table) self.now.place
+            (value_at (map option_copied self.now.rows.now) atom.now.left) atom.now.right) }
+        ensures served { IfOk result (λ found. IfSome found (IsServed self.now.view.now.store self.now.table)) }
+        ensures memory { IfErr result (λ refusal. refusal ≡ Memory) }
+    {
+        let (field, by) = match &atom.right {
+            Operand::Literal(_) => return Ok(None),
+            Operand::Column(field) => (*field, None),
+            Operand::Shifted(field, by) => (*field, Some(*by)),
+        };
+        if field.place != self.place {
+            return Ok(None);
+        }
+        let column = field.column;
+        let Some(index) = self.index_of(column) else {
+            return Ok(None);
+        };
+        let zero = Value::Int(0);
+        let left = value_of(self.rows, atom.left, &zero);
+        let value = match by {
+            None => copied(alloc, left)?,
+            Some(by) => lowered(alloc, left, by)?,
+        };
+        Ok(value.map(|value| LookUp {
+            column,
+            index,
+            value,
+        }))
+    }
+
+    /// The look-up by what an atom asks. `Memory` is the only refusal.
+    fn by_atom(&self, alloc: Global, atom: &Atom<FieldPlace>) -> Result<Option<LookUp>, Refusal>
+        requires { self.now.table < length self.now.view.now.store.tables }
+        ensures ok { IfOk result (λ found. asked found ≡ asked_by (has_index self.now.view.now.store self.now.table) self.now.place
+            (map option_copied self.now.rows.now) atom.now atom.now.comparison) }
+        ensures served { IfOk result (λ found. IfSome found (IsServed self.now.view.now.store self.now.table)) }
+        ensures memory { IfErr result (λ refusal. refusal ≡ Memory) }
+    {
+        let Comparison::Equal = atom.comparison else {
+            return Ok(None);
+        };
+        match self.by_left(alloc, atom)? {
+            Some(found) => Ok(Some(found)),
+            None => self.by_right(alloc, atom),
+        }
+    }
+
+    /// The look-up by what the first atom that does requires of a row there, if any does. `Memory` is the only refusal.
+    pub(crate) fn look_up(
+        &self,
+        alloc: Global,
+        atoms: &[Atom<FieldPlace>],
+    ) -> Result<Option<LookUp>, Refusal>
+        requires { self.now.table < length self.now.view.now.store.tables }
+        ensures ok { IfOk result (λ found. asked found ≡ required (has_index self.now.view.now.store self.now.table) atoms.now
+            (map option_copied self.now.rows.now) self.now.place) }
+        ensures served { IfOk result (λ found. IfSome found (IsServed self.now.view.now.store self.now.table)) }
+        ensures memory { IfErr result (λ refusal. refusal ≡ Memory) }
+    {
+        for atom in atoms {
+            if let Some(found) = self.by_atom(alloc, atom)? {
+                return Ok(Some(found));
+            }
+        }
+        Ok(None)
+    }
+}

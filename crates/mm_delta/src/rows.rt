@@ -1,0 +1,157 @@
+//! The rows that are gone over at a place of FROM.
+ghost use Rattle.std.specs.Prelude.{◌≡◌, ◌+◌, ◌++◌, ◌<◌, ◌≤◌, [], filter, filter_map, length, map, All, IfErr, IfOk, IfSome, None, OnOk, Some};
+ghost use Rattle.mm_partition.specs.Places.{IsLive, slot_at};
+ghost use Rattle.std.specs.List.{cons_option};
+ghost use Rattle.std.specs.Option.{option_copied};
+ghost use Rattle.mm_relation.specs.Kept.{StoredRows};
+ghost use Rattle.mm_relation.specs.Refs.{row_at};
+ghost use Rattle.mm_store.specs.Tables.{IsAt};
+ghost use Rattle.mm_value.specs.declared.refusal.Refusal.TheVariants.{Memory};
+ghost use Rattle.mm_value.specs.declared.values.Value.TheVariants.{Int};
+ghost use Rattle.mm_delta.specs.Candidates.{passes};
+ghost use Rattle.mm_delta.specs.Steps.{IsFoundOf, IsServed, asked, coming, stays};
+
+use crate::edited::{row_come, stays};
+use crate::known::value_in;
+use crate::look_up::LookUp;
+use mm_relation::Edit;
+use mm_store::View;
+use mm_value::{Refusal, Row, RowRef, Value, compare};
+use std::alloc::Global;
+
+/// The references of the rows of a table that have the value of a look-up, each once and in no promised order. No row is read.
+/// `Memory` is the only refusal.
+fn matching(
+    alloc: Global,
+    view: &View<'_>,
+    table: usize,
+    look_up: &LookUp,
+) -> Result<Vec<RowRef>, Refusal>
+    requires there { table < length view.now.store.tables }
+    requires served { IsServed view.now.store table look_up.now }
+    ensures found { IfOk result (λ found. (stored : StoredRows) → IsAt view.now.store table stored
+        → IsFoundOf (Some (look_up.now.column, look_up.now.value)) stored found.items) }
+    ensures memory { IfErr result (λ refusal. refusal ≡ Memory) }
+{
+    view.is_kept(table);
+    let mut found = Vec::new(alloc);
+    view.matches(alloc, table, look_up.index, &look_up.value, &mut found)?;
+    Ok(found)
+}
+
+/// The references of all rows of a table, each once and in no promised order. No row is read. `Memory` is the only refusal.
+fn all_of(alloc: Global, view: &View<'_>, table: usize) -> Result<Vec<RowRef>, Refusal>
+    requires { table < length view.now.store.tables }
+    ensures found { IfOk result (λ found. (stored : StoredRows) → IsAt view.now.store table stored → IsFoundOf None stored found.items) }
+    ensures memory { IfErr result (λ refusal. refusal ≡ Memory) }
+{
+    view.is_kept(table);
+    let mut found = Vec::new(alloc);
+    view.key_range(alloc, table, None, None, &mut found)?;
+    Ok(found)
+}
+
+/// The references of the rows of a table that have what a look-up requires, or of all rows where there is none, each once and in
+/// no promised order. No row is read. `Memory` is the only refusal.
+pub(crate) fn references(
+    alloc: Global,
+    view: &View<'_>,
+    table: usize,
+    look_up: &Option<LookUp>,
+) -> Result<Vec<RowRef>, Refusal>
+    requires there { table < length view.now.store.tables }
+    requires served { IfSome look_up.now (IsServed view.now.store table) }
+    ensures found { IfOk result (λ found. (stored : StoredRows) → IsAt view.now.store table stored → IsFoundOf (asked look_up.now) stored found.items) }
+    ensures memory { IfErr result (λ refusal. refusal ≡ Memory) }
+{
+    match look_up {
+        Some(look_up) => matching(alloc, view, table, look_up),
+        None => all_of(alloc, view, table),
+    }
+}
+
+/// Those of some references of which no edit takes the row away. `Memory` is the only refusal.
+pub(crate) fn standing(
+    alloc: Global,
+    edits: &[Edit],
+    refs: &[RowRef],
+) -> Result<Vec<RowRef>, Refusal>
+    ensures ok { IfOk result (λ left. left.items ≡ filter (stays edits.now) refs.now) }
+    ensures memory { IfErr result (λ refusal. refusal ≡ Memory) }
+{
+    Ok(
+        refs.iter()
+            .copied()
+            .filter(|at| stays(edits, *at))
+            .collect(alloc)?,
+    )
+}
+
+/// The rows of references. Each is read once. `Memory` is the only refusal.
+pub(crate) fn read_all<'c, 'a: 'c>(
+    alloc: Global,
+    view: &mut View<'a>,
+    table: usize,
+    refs: &[RowRef],
+) -> Result<Vec<&'c Row>, Refusal>
+    requires there { table < length view.old.store.tables }
+    requires live { (stored : StoredRows) → IsAt view.old.store table stored → All (IsLive stored.places) refs.now }
+    ensures rows { IfOk result (λ rows. (stored : StoredRows) → IsAt view.old.store table stored
+        → map (λ row. row.now) rows.items ≡ map (row_at (slot_at stored.places)) refs.now) }
+    ensures reads { view.new.reads ≤ view.old.reads + length refs.now }
+    ensures same { view.new.store ≡ view.old.store }
+    ensures memory { IfErr result (λ refusal. refusal ≡ Memory) }
+{
+    let mut rows = Vec::new(alloc);
+    for at in refs {
+        rows.push(view.row(table, *at))?;
+    }
+    Ok(rows)
+}
+
+/// Whether a row has what a look-up requires, if there is one.
+fn fits(look_up: &Option<LookUp>, row: &Row) -> bool
+    ensures { result ≡ passes (asked look_up.now) row.now }
+{
+    let zero = Value::Int(0);
+    match look_up {
+        Some(look_up) => compare(value_in(row, look_up.column, &zero), &look_up.value).is_eq(),
+        None => true,
+    }
+}
+
+/// The row that an edit brings, if it has what a look-up requires.
+fn coming<'c>(edit: &'c Edit, look_up: &Option<LookUp>) -> Option<&'c Row>
+    ensures { option_copied result ≡ coming (asked look_up.now) edit.now }
+{
+    match row_come(edit) {
+        Some(row) if fits(look_up, row) => Some(row),
+        _ => None,
+    }
+}
+
+/// Adds a row, if there is one. `Memory` is the only refusal.
+fn push_some<'c>(rows: &mut Vec<&'c Row>, row: Option<&'c Row>) -> Result<(), Refusal>
+    ensures added { OnOk result (map (λ row. row.now) rows.new.items ≡ map (λ row. row.now) rows.old.items ++ cons_option (option_copied row.entry) []) }
+    ensures memory { IfErr result (λ refusal. refusal ≡ Memory) }
+{
+    if let Some(row) = row {
+        rows.push(row)?;
+    }
+    Ok(())
+}
+
+/// Adds those of the rows that edits bring that have what a look-up requires. `Memory` is the only refusal.
+pub(crate) fn add_coming<'c>(
+    rows: &mut Vec<&'c Row>,
+    edits: &'c [Edit],
+    look_up: &Option<LookUp>,
+) -> Result<(), Refusal>
+    ensures added { OnOk result (map (λ row. row.now) rows.new.items ≡ map (λ row. row.now) rows.old.items ++ filter_map (coming (asked look_up.now)) edits.now) }
+    ensures memory { IfErr result (λ refusal. refusal ≡ Memory) }
+{
+    for edit in edits {
+        push_some(rows, coming(edit, look_up))?;
+    }
+    Ok(())
+}

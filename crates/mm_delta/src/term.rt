@@ -1,0 +1,141 @@
+//! What the edited rows at one place of FROM add.
+ghost use Rattle.std.specs.Prelude.{◌≡◌, ◌+◌, ◌<◌, ◌≤◌, ◌++◌, [], ◌∷◌, List, length, map, All, IfErr, IfOk, OnOk};
+ghost use Rattle.std.specs.List.{cons_option, sum_by};
+ghost use Rattle.mm_partition.specs.Places.{slot_at};
+ghost use Rattle.mm_relation.specs.Edits.{edit_name, named, new_rows};
+ghost use Rattle.mm_relation.specs.Kept.{StoredRows};
+ghost use Rattle.mm_relation.specs.Refs.{row_at};
+ghost use Rattle.mm_relation.specs.declared.names.Side.TheVariants.{Old};
+ghost use Rattle.mm_store.specs.Tables.{AreFit, IsAt};
+ghost use Rattle.mm_value.specs.declared.refusal.Refusal.TheVariants.{Memory};
+ghost use Rattle.mm_value.specs.declared.values.Value.{Value as AnyValue};
+ghost use Rattle.mm_query.specs.Queries.{bag_of};
+ghost use Rattle.mm_delta.specs.Counts.{count_in, count_of};
+ghost use Rattle.mm_delta.specs.Edited.{after_at, before_at, come_at, gone_at};
+ghost use Rattle.mm_delta.specs.Steps.{EachFit, HasTables, reads_for, term_reads};
+ghost use Rattle.mm_delta.specs.Terms.{lists_around};
+ghost use Rattle.mm_delta.specs.Walk.{one_row, other_places};
+
+use crate::counted::Counted;
+use crate::edited::{edits_of, row_gone};
+use crate::rows::{add_coming, read_all};
+use crate::walk::Walk;
+use mm_relation::Edit;
+use mm_store::View;
+use mm_value::{Refusal, Row, RowRef};
+use std::alloc::Global;
+
+impl<'c> Walk<'c> {
+    /// Counts the projected row of each fitting combination that has one of these rows at the place of the edited row, for each
+    /// of them. `Memory` is the only refusal.
+    pub(crate) fn from_rows<'a: 'c>(
+        &self,
+        alloc: Global,
+        view: &mut View<'a>,
+        rows: &[&'c Row],
+        out: &mut Counted,
+    ) -> Result<(), Refusal>
+        requires place { self.now.place < length self.now.tables.now }
+        requires few { length self.now.tables.now ≤ 4 }
+        requires there { HasTables self.now.tables.now view.old.store (other_places (length self.now.tables.now) self.now.place) }
+        requires fit { EachFit view.old.store self.now.changes.now }
+        ensures counted { OnOk result ((other : List AnyValue) → count_in other out.new.entries ≡ count_in other out.old.entries
+            + sum_by (λ x. count_of other (bag_of self.now.query.now
+            (lists_around 0 (after_at view.old.store self.now.changes.now) (λ _. x ∷ []) (before_at view.old.store) self.now.tables.now self.now.place)))
+            (map (λ row. row.now) rows.now)) }
+        ensures reads { let n = length self.now.tables.now in view.new.reads ≤ view.old.reads
+            + sum_by (λ x. reads_for self.now.query.now view.old.store self.now.changes.now self.now.tables.now self.now.place
+            (other_places n self.now.place) (one_row n self.now.place x)) (map (λ row. row.now) rows.now) }
+        ensures same { view.new.store ≡ view.old.store }
+        ensures memory { IfErr result (λ refusal. refusal ≡ Memory) }
+    {
+        for row in rows {
+            self.from_row(alloc, view, *row, out)?;
+        }
+        Ok(())
+    }
+
+    /// Counts the projected row of each fitting combination that has an edited row at the place of one: those with a row that
+    /// comes into the one bag, those with a row that goes into the other. `Memory` is the only refusal.
+    pub(crate) fn add_term<'a: 'c>(
+        &self,
+        alloc: Global,
+        view: &mut View<'a>,
+        comes: &mut Counted,
+        goes: &mut Counted,
+    ) -> Result<(), Refusal>
+        requires place { self.now.place < length self.now.tables.now }
+        requires few { length self.now.tables.now ≤ 4 }
+        requires there { All (λ table. table < length view.old.store.tables) self.now.tables.now }
+        requires fit { EachFit view.old.store self.now.changes.now }
+        ensures comes { OnOk result ((row : List AnyValue) → count_in row comes.new.entries ≡ count_in row comes.old.entries
+            + count_of row (bag_of self.now.query.now (lists_around 0 (after_at view.old.store self.now.changes.now) (come_at self.now.changes.now)
+            (before_at view.old.store) self.now.tables.now self.now.place))) }
+        ensures goes { OnOk result ((row : List AnyValue) → count_in row goes.new.entries ≡ count_in row goes.old.entries
+            + count_of row (bag_of self.now.query.now (lists_around 0 (after_at view.old.store self.now.changes.now) (gone_at view.old.store self.now.changes.now)
+            (before_at view.old.store) self.now.tables.now self.now.place))) }
+        ensures reads { view.new.reads ≤ view.old.reads
+            + term_reads self.now.query.now view.old.store self.now.changes.now self.now.tables.now self.now.place }
+        ensures same { view.new.store ≡ view.old.store }
+        ensures memory { IfErr result (λ refusal. refusal ≡ Memory) }
+    {
+        let table = self.tables[self.place];
+        let edits = edits_of(self.changes, table);
+        let gone = rows_gone(alloc, view, table, edits)?;
+        let come = rows_come(alloc, edits)?;
+        self.from_rows(alloc, view, &gone, goes)?;
+        self.from_rows(alloc, view, &come, comes)
+    }
+}
+
+/// The rows that edits of a table take away. Each is read once. `Memory` is the only refusal.
+fn rows_gone<'c, 'a: 'c>(
+    alloc: Global,
+    view: &mut View<'a>,
+    table: usize,
+    edits: &[Edit],
+) -> Result<Vec<&'c Row>, Refusal>
+    requires there { table < length view.old.store.tables }
+    requires fit { (stored : StoredRows) → IsAt view.old.store table stored → AreFit stored edits.now }
+    ensures rows { IfOk result (λ rows. (stored : StoredRows) → IsAt view.old.store table stored
+        → map (λ row. row.now) rows.items ≡ map (row_at (slot_at stored.places)) (named edit_name Old edits.now)) }
+    ensures reads { view.new.reads ≤ view.old.reads + length (named edit_name Old edits.now) }
+    ensures same { view.new.store ≡ view.old.store }
+    ensures memory { IfErr result (λ refusal. refusal ≡ Memory) }
+{
+    let refs = references_gone(alloc, edits)?;
+    read_all(alloc, view, table, &refs)
+}
+
+/// The references of the rows that edits take away. `Memory` is the only refusal.
+fn references_gone(alloc: Global, edits: &[Edit]) -> Result<Vec<RowRef>, Refusal>
+    ensures ok { IfOk result (λ refs. refs.items ≡ named edit_name Old edits.now) }
+    ensures memory { IfErr result (λ refusal. refusal ≡ Memory) }
+{
+    let mut refs = Vec::new(alloc);
+    for edit in edits {
+        push_reference(&mut refs, row_gone(edit))?;
+    }
+    Ok(refs)
+}
+
+/// Adds a reference, if there is one. `Memory` is the only refusal.
+fn push_reference(refs: &mut Vec<RowRef>, at: Option<RowRef>) -> Result<(), Refusal>
+    ensures added { OnOk result (refs.new.items ≡ refs.old.items ++ cons_option at []) }
+    ensures memory { IfErr result (λ refusal. refusal ≡ Memory) }
+{
+    if let Some(at) = at {
+        refs.push(at)?;
+    }
+    Ok(())
+}
+
+/// The rows that edits bring. `Memory` is the only refusal.
+fn rows_come<'c>(alloc: Global, edits: &'c [Edit]) -> Result<Vec<&'c Row>, Refusal>
+    ensures ok { IfOk result (λ rows. map (λ row. row.now) rows.items ≡ new_rows edits.now) }
+    ensures memory { IfErr result (λ refusal. refusal ≡ Memory) }
+{
+    let mut rows = Vec::new(alloc);
+    add_coming(&mut rows, edits, &None)?;
+    Ok(rows)
+}

@@ -1,0 +1,178 @@
+//! The combinations that have an edited row at one place of FROM.
+ghost use Rattle.std.specs.Prelude.{◌≡◌, ◌+◌, ◌<◌, ◌≤◌, [], ◌∷◌, List, length, map, get_or, IfErr, IfOk, IfSome, OnOk};
+ghost use Rattle.mm_value.specs.declared.refusal.Refusal.TheVariants.{Memory};
+ghost use Rattle.mm_value.specs.declared.values.Value.{Value as AnyValue};
+ghost use Rattle.mm_query.specs.Queries.{bag_of};
+ghost use Rattle.mm_delta.specs.Candidates.{having, required};
+ghost use Rattle.mm_delta.specs.Counts.{count_in, count_of};
+ghost use Rattle.mm_delta.specs.Edited.{after_at, before_at, has_index, walked};
+ghost use Rattle.mm_delta.specs.Steps.{AreAlike, EachFit, HasTables, IsServed, asked, edits_walked, reads_for};
+ghost use Rattle.mm_delta.specs.Terms.{lists_around};
+ghost use Rattle.mm_delta.specs.Walk.{AreOpen, found, one_row, other_places as other_places_lem};
+
+use crate::chosen::Chosen;
+use crate::counted::Counted;
+use crate::counting::count_row;
+use crate::edited::{TableEdits, edits_of};
+use crate::look_up::{LookUp, Site};
+use crate::rows::{add_coming, read_all, references, standing};
+use mm_query::{BoundQuery, none_fails, values_of};
+use mm_relation::Edit;
+use mm_store::View;
+use mm_value::{Refusal, Row};
+use std::alloc::Global;
+
+/// What is walked: a query, a change, and the place of FROM that has an edited row.
+#[derive(Drop)]
+pub(crate) struct Walk<'c> {
+    /// The query.
+    pub(crate) query: &'c BoundQuery,
+    /// The store's place of each table of FROM.
+    pub(crate) tables: &'c [usize],
+    /// The edits of the tables that are changed.
+    pub(crate) changes: &'c [TableEdits<'c>],
+    /// The place of FROM that has an edited row.
+    pub(crate) place: usize,
+}
+
+impl<'c> Walk<'c> {
+    /// The edits that count at a place of FROM: those of its table before the place of the edited row, and none behind it.
+    fn edits_at(&self, place: usize, table: usize) -> &'c [Edit]
+        ensures { result.now ≡ edits_walked self.now.changes.now self.now.place place table }
+    {
+        if place < self.place {
+            edits_of(self.changes, table)
+        } else {
+            &[]
+        }
+    }
+
+    /// The look-up of the rows at a place, if one serves. `Memory` is the only refusal.
+    fn look_up_at(
+        &self,
+        alloc: Global,
+        view: &View<'_>,
+        chosen: &Chosen<'c>,
+        place: usize,
+    ) -> Result<Option<LookUp>, Refusal>
+        requires { (place < length self.now.tables.now) × (get_or self.now.tables.now place 0 < length view.now.store.tables) }
+        ensures ok { IfOk result (λ found. asked found
+            ≡ required (has_index view.now.store (get_or self.now.tables.now place 0)) self.now.query.now.atoms chosen.now place) }
+        ensures served { IfOk result (λ found. IfSome found (IsServed view.now.store (get_or self.now.tables.now place 0))) }
+        ensures memory { IfErr result (λ refusal. refusal ≡ Memory) }
+    {
+        let site = Site {
+            view,
+            table: self.tables[place],
+            place,
+            rows: chosen.as_slice(),
+        };
+        site.look_up(alloc, self.query.atoms.as_slice())
+    }
+
+    /// The rows at a place that have what is required of them: before the place of the edited row those after the change, behind
+    /// it those before the change. Only rows that were there before are read. `Memory` is the only refusal.
+    fn rows_at<'a: 'c>(
+        &self,
+        alloc: Global,
+        view: &mut View<'a>,
+        chosen: &Chosen<'c>,
+        place: usize,
+    ) -> Result<Vec<&'c Row>, Refusal>
+        requires there { (place < length self.now.tables.now) × (get_or self.now.tables.now place 0 < length view.old.store.tables) }
+        requires fit { EachFit view.old.store self.now.changes.now }
+        ensures rows { IfOk result (λ rows. AreAlike (map (λ row. row.now) rows.items)
+            (having (required (has_index view.old.store (get_or self.now.tables.now place 0)) self.now.query.now.atoms chosen.now place)
+            (walked view.old.store self.now.changes.now self.now.tables.now self.now.place place))) }
+        ensures reads { view.new.reads ≤ view.old.reads
+            + length (having (required (has_index view.old.store (get_or self.now.tables.now place 0)) self.now.query.now.atoms chosen.now place)
+            (before_at view.old.store (get_or self.now.tables.now place 0))) }
+        ensures same { view.new.store ≡ view.old.store }
+        ensures memory { IfErr result (λ refusal. refusal ≡ Memory) }
+    {
+        let table = self.tables[place];
+        view.is_kept(table);
+        let look_up = self.look_up_at(alloc, view, chosen, place)?;
+        let refs = references(alloc, view, table, &look_up)?;
+        let edits = self.edits_at(place, table);
+        let left = standing(alloc, edits, &refs)?;
+        let mut rows = read_all(alloc, view, table, &left)?;
+        add_coming(&mut rows, edits, &look_up)?;
+        Ok(rows)
+    }
+
+    /// Counts the projected row of each fitting combination that completes the chosen rows by rows at the other places. `Memory`
+    /// is the only refusal.
+    pub(crate) fn extend<'a: 'c>(
+        &self,
+        alloc: Global,
+        view: &mut View<'a>,
+        chosen: &Chosen<'c>,
+        others: &[usize],
+        out: &mut Counted,
+    ) -> Result<(), Refusal>
+        requires vacant { AreOpen others.now chosen.now }
+        requires there { HasTables self.now.tables.now view.old.store others.now }
+        requires fit { EachFit view.old.store self.now.changes.now }
+        ensures counted { OnOk result ((row : List AnyValue) → count_in row out.new.entries ≡ count_in row out.old.entries
+            + count_of row (found self.now.query.now (walked view.old.store self.now.changes.now self.now.tables.now self.now.place) others.now chosen.now)) }
+        ensures reads { view.new.reads ≤ view.old.reads
+            + reads_for self.now.query.now view.old.store self.now.changes.now self.now.tables.now self.now.place others.now chosen.now }
+        ensures same { view.new.store ≡ view.old.store }
+        ensures memory { IfErr result (λ refusal. refusal ≡ Memory) }
+    {
+        if !none_fails(self.query.atoms.as_slice(), chosen.as_slice()) {
+            return Ok(());
+        }
+        match others.split_first() {
+            None => count_row(
+                out,
+                values_of(alloc, self.query.fields.as_slice(), chosen.as_slice())?,
+            ),
+            Some((place, rest)) => {
+                let rows = self.rows_at(alloc, view, chosen, *place)?;
+                for row in &rows {
+                    let next = chosen.with(*place, *row);
+                    self.extend(alloc, view, &next, rest, out)?;
+                }
+                Ok(())
+            }
+        }
+    }
+
+    /// Counts the projected row of each fitting combination that has this row at the place of the edited row. `Memory` is the
+    /// only refusal.
+    pub(crate) fn from_row<'a: 'c>(
+        &self,
+        alloc: Global,
+        view: &mut View<'a>,
+        row: &'c Row,
+        out: &mut Counted,
+    ) -> Result<(), Refusal>
+        requires place { self.now.place < length self.now.tables.now }
+        requires few { length self.now.tables.now ≤ 4 }
+        requires there { HasTables self.now.tables.now view.old.store (other_places_lem (length self.now.tables.now) self.now.place) }
+        requires fit { EachFit view.old.store self.now.changes.now }
+        ensures counted { OnOk result ((other : List AnyValue) → count_in other out.new.entries ≡ count_in other out.old.entries
+            + count_of other (bag_of self.now.query.now
+            (lists_around 0 (after_at view.old.store self.now.changes.now) (λ _. row.now ∷ []) (before_at view.old.store) self.now.tables.now self.now.place))) }
+        ensures reads { let n = length self.now.tables.now in view.new.reads ≤ view.old.reads
+            + reads_for self.now.query.now view.old.store self.now.changes.now self.now.tables.now self.now.place
+            (other_places_lem n self.now.place) (one_row n self.now.place row.now) }
+        ensures same { view.new.store ≡ view.old.store }
+        ensures memory { IfErr result (λ refusal. refusal ≡ Memory) }
+    {
+        let places = self.tables.len();
+        let chosen = Chosen::new(places).with(self.place, row);
+        let others = other_places(alloc, places, self.place)?;
+        self.extend(alloc, view, &chosen, &others, out)
+    }
+}
+
+/// All places but one. `Memory` is the only refusal.
+fn other_places(alloc: Global, places: usize, place: usize) -> Result<Vec<usize>, Refusal>
+    ensures ok { IfOk result (λ others. others.items ≡ other_places_lem places place) }
+    ensures memory { IfErr result (λ refusal. refusal ≡ Memory) }
+{
+    Ok((0..places).filter(|j| *j != place).collect(alloc)?)
+}
