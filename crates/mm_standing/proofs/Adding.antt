@@ -1,0 +1,135 @@
+-- What the bags have where one of them is another.
+use Rattle.std.proofs.Common.{◌≡◌, ◌≢◌, ℕ, zero, suc, ℤ, pos, ◌+◌, ◌+ℤ◌, ◌≤◌, ◌<◌, ◌≤ℤ◌, ◌<ℤ◌, ◌^◌, Bool, true, false, true≢false, cond, List, [], ◌∷◌, length, map, get_or, set, refl, sym, ap, ◌∙◌, subst, arith}
+use Rattle.std.specs.Prelude.{◌==◌}
+use Rattle.std.proofs.lemmas.Int.{ints}
+use Rattle.std.proofs.lemmas.Bool.{eq-eqb, eqb-true}
+use Rattle.std.proofs.lemmas.List.{length-set}
+use Rattle.mm_value.specs.Equality.{same_row}
+use Rattle.mm_value.specs.EqualityLaws.{same_row_equiv}
+use Rattle.mm_value.specs.declared.values.Value.{Value}
+use Rattle.mm_delta.specs.Counts.{Adds, Counts, Entries, count_in, has_entry, signed_count, total_of}
+use Rattle.mm_delta.proofs.Undoing.{found_all, kept_all}
+use Rattle.mm_standing.specs.Bags.{AddedTo, IsWithin, entries_at, list_change, room_at, row_change}
+use Rattle.mm_standing.specs.declared.change.ListChange.{ListChange}
+
+pub at_map : {X Y : Type 0} (f : X → Y) (xs : List X) (i : ℕ) (d : X) (e : Y) → i < length xs → get_or (map f xs) i e ≡ f (get_or xs i d)
+at_map f [] i d e h = absurd (omega (arith, h))
+at_map f (x ∷ xs) zero d e h = refl
+at_map f (x ∷ xs) (suc i) d e h = at_map f xs i d e (omega (arith, h))
+
+pub set_here : {X Y : Type 0} (f : X → Y) (xs : List X) (i : ℕ) (y : X) (e : Y) → i < length xs → get_or (map f (set xs i y)) i e ≡ f y
+set_here f [] i y e h = absurd (omega (arith, h))
+set_here f (x ∷ xs) zero y e h = refl
+set_here f (x ∷ xs) (suc i) y e h = set_here f xs i y e (omega (arith, h))
+
+pub set_other : {X Y : Type 0} (f : X → Y) (xs : List X) (i j : ℕ) (y : X) (e : Y) → j ≢ i → get_or (map f (set xs i y)) j e ≡ get_or (map f xs) j e
+set_other f [] i j y e apart = refl
+set_other f (x ∷ xs) zero zero y e apart = absurd (apart refl)
+set_other f (x ∷ xs) zero (suc j) y e apart = refl
+set_other f (x ∷ xs) (suc i) zero y e apart = refl
+set_other f (x ∷ xs) (suc i) (suc j) y e apart = set_other f xs i j y e (λ same. apart (ap suc same))
+
+pub not_same : (i j : ℕ) → (i == j) ≡ false → j ≢ i
+not_same i j e same = true≢false (sym (eq-eqb i j (sym same)) ∙ e)
+
+none_more : (a : ℤ) → a ≡ a +ℤ pos 0
+none_more a = omega (arith, ints)
+
+-- A bag stands in the place of another.
+module _ (bags : List Counts) (at : ℕ) (b0 b1 : Counts) (there : at < length bags) (is : b0 ≡ get_or bags at b0) where
+  pub entries_here : entries_at bags at ≡ b0.entries
+  entries_here = at_map (λ (b : Counts). b.entries) bags at b0 [] there ∙ ap (λ (b : Counts). b.entries) (sym is)
+
+  pub room_here : room_at bags at ≡ b0.room
+  room_here = at_map (λ (b : Counts). b.room) bags at b0 0 there ∙ ap (λ (b : Counts). b.room) (sym is)
+
+  pub new_here : entries_at (set bags at b1) at ≡ b1.entries
+  new_here = set_here (λ (b : Counts). b.entries) bags at b1 [] there
+
+  -- What is another in one bag is so in its place, and nowhere else.
+  pub lifted : {X : Type 0} (g : Entries → X) (h : X → Bool → X) → ((x : X) → h x false ≡ x) → g b1.entries ≡ h (g b0.entries) true
+      → (list : ℕ) → g (entries_at (set bags at b1) list) ≡ h (g (entries_at bags list)) (at == list)
+  lifted {X} g h stays step list = by (at == list) refl
+    where
+      by : (b : Bool) → (at == list) ≡ b → g (entries_at (set bags at b1) list) ≡ h (g (entries_at bags list)) b
+      by true e =
+          let same : at ≡ list = eqb-true at list e in
+          ap (λ l. g (entries_at (set bags at b1) l)) (sym same) ∙ ap g new_here ∙ step
+          ∙ ap (λ es. h (g es) true) (sym entries_here)
+          ∙ ap (λ l. h (g (entries_at bags l)) true) same
+      by false e =
+          ap g (set_other (λ (b : Counts). b.entries) bags at list b1 [] (not_same at list e)) ∙ sym (stays (g (entries_at bags list)))
+
+  -- Nothing is another where the bag has it as before.
+  pub unchanged : {X : Type 0} (g : Entries → X) → g b1.entries ≡ g b0.entries → (list : ℕ)
+      → g (entries_at (set bags at b1) list) ≡ g (entries_at bags list)
+  unchanged g same list = lifted g (λ x b. x) (λ x. refl) same list
+
+  pub entry_kept : ((row : List Value) → has_entry row b0.entries ≡ true → has_entry row b1.entries ≡ true)
+      → (list : ℕ) (row : List Value) → has_entry row (entries_at bags list) ≡ true → has_entry row (entries_at (set bags at b1) list) ≡ true
+  entry_kept keeps list row had = by (at == list) refl
+    where
+      by : (b : Bool) → (at == list) ≡ b → has_entry row (entries_at (set bags at b1) list) ≡ true
+      by true e =
+          let same : at ≡ list = eqb-true at list e in
+          ap (λ l. has_entry row (entries_at (set bags at b1) l)) (sym same) ∙ ap (has_entry row) new_here
+          ∙ keeps row (ap (has_entry row) (sym entries_here) ∙ ap (λ l. has_entry row (entries_at bags l)) same ∙ had)
+      by false e = ap (has_entry row) (set_other (λ (b : Counts). b.entries) bags at list b1 [] (not_same at list e)) ∙ had
+
+  pub room_used : b0.room ≤ b1.room + 1 → (list : ℕ) → room_at bags list ≤ room_at (set bags at b1) list + cond (at == list) 1 0
+  room_used used list = by (at == list) refl
+    where
+      by : (b : Bool) → (at == list) ≡ b → room_at bags list ≤ room_at (set bags at b1) list + cond b 1 0
+      by true e =
+          let same : at ≡ list = eqb-true at list e in
+          let before_it : room_at bags list ≡ b0.room = ap (room_at bags) (sym same) ∙ room_here in
+          let after_it : room_at (set bags at b1) list ≡ b1.room = ap (room_at (set bags at b1)) (sym same) ∙ set_here (λ (b : Counts). b.room) bags at b1 0 there in
+          omega (arith, used, before_it, after_it)
+      by false e =
+          let same : room_at (set bags at b1) list ≡ room_at bags list = set_other (λ (b : Counts). b.room) bags at list b1 0 (not_same at list e) in
+          omega (arith, same)
+
+-- A change that is added to one bag.
+module _ (bags : List Counts) (c : ListChange) (b0 b1 : Counts) (there : c.list < length bags) (is : b0 ≡ get_or bags c.list b0) where
+  pub added : Adds c.change b0.entries b1.entries → pos (total_of b1.entries) ≡ pos (total_of b0.entries) +ℤ c.change.count
+      → b0.room ≤ b1.room + 1 → AddedTo c bags (set bags c.list b1)
+  added adds total used = record {
+    counts = λ list row.
+        lifted bags c.list b0 b1 there is (λ es. pos (count_in row es)) (λ x b. x +ℤ cond b (signed_count row (c.change ∷ [])) (pos 0)) (λ x. sym (none_more x)) (adds.counts row) list;
+    totals = λ list.
+        lifted bags c.list b0 b1 there is (λ es. pos (total_of es)) (λ x b. x +ℤ cond b c.change.count (pos 0)) (λ x. sym (none_more x)) total list;
+    found = ap (has_entry c.change.row) (set_here (λ (b : Counts). b.entries) bags c.list b1 [] there)
+        ∙ (found_all (c.change ∷ []) b0.entries b1.entries (b1.entries, adds, refl)).0;
+    kept = entry_kept bags c.list b0 b1 there is (λ row had. kept_all (c.change ∷ []) b0.entries b1.entries (b1.entries, adds, refl) row had);
+    rooms = room_used bags c.list b0 b1 there is used;
+    size = length-set bags c.list b1;
+  }
+
+itself : (row : List Value) → same_row row row ≡ true
+itself row = same_row_equiv.refl row
+
+pub eq_itself : (n : ℕ) → (n == n) ≡ true
+eq_itself n = eq-eqb n n refl
+
+least : (n x d : ℤ) → x ≡ d → pos 0 ≤ℤ (n +ℤ (x +ℤ pos 0)) → pos 0 ≤ℤ (n +ℤ d)
+least n x d e h = omega (arith, ints)
+
+most : (n x d : ℤ) → x ≡ d → (n +ℤ (x +ℤ pos 0)) <ℤ pos (2 ^ 64) → (n +ℤ d) <ℤ pos (2 ^ 64)
+most n x d e h = omega (arith, ints)
+
+no_more : (d : ℤ) → d +ℤ pos 0 ≡ d
+no_more d = omega (arith, ints)
+
+-- What one change asks of the count of its row.
+pub count_here : (bags : List Counts) (c : ListChange) → IsWithin bags (c ∷ []) → pos 0 ≤ℤ (pos (count_in c.change.row (entries_at bags c.list)) +ℤ c.change.count)
+count_here bags c w =
+    least (pos (count_in c.change.row (entries_at bags c.list))) (row_change c.list c.change.row c) c.change.count
+    (ap (λ b. cond b (signed_count c.change.row (c.change ∷ [])) (pos 0)) (eq_itself c.list)
+    ∙ ap (λ b. cond b c.change.count (pos 0) +ℤ pos 0) (itself c.change.row) ∙ no_more c.change.count)
+    (w.counts c.list c.change.row)
+
+-- What one change asks of the number of rows.
+pub total_here : (bags : List Counts) (c : ListChange) → IsWithin bags (c ∷ []) → (pos (total_of (entries_at bags c.list)) +ℤ c.change.count) <ℤ pos (2 ^ 64)
+total_here bags c w =
+    most (pos (total_of (entries_at bags c.list))) (list_change c.list c) c.change.count
+    (ap (λ b. cond b c.change.count (pos 0)) (eq_itself c.list)) (w.totals c.list)

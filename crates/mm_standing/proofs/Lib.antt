@@ -1,0 +1,16 @@
+pub mod Adding
+pub mod Counting
+pub mod Found
+pub mod InPlace
+pub mod Net
+pub mod Others
+pub mod Preparing
+pub mod Purged
+pub mod Pushing
+pub mod Ready
+pub mod Rest
+pub mod Segments
+pub mod Stages
+pub mod Steps
+pub mod Totals
+pub mod Values

@@ -1,0 +1,87 @@
+-- What stays sound where a bag goes, or what is ready.
+use Rattle.std.proofs.Common.{◌≡◌, ℕ, zero, suc, pos, ◌+ℤ◌, ◌<ℤ◌, ◌≤ℤ◌, ◌≤◌, ◌<◌, ◌^◌, ◌⊎◌, inl, inr, ⊎_elim, List, [], ◌∷◌, ◌++◌, length, map, get_or, refl, sym, subst, arith}
+use Rattle.std.specs.List.{All, remove}
+use Rattle.std.proofs.lemmas.Int.{ints}
+use Rattle.mm_delta.specs.Counts.{Counts, Entries, count_in, total_of}
+use Rattle.mm_standing.specs.Bags.{HasEntry, IsSound, IsWithin, done_of, entries_at, opposite, room_at}
+use Rattle.mm_standing.specs.declared.change.ListChange.{ListChange}
+use Rattle.mm_standing.specs.declared.change.Prepared.{Prepared}
+use Rattle.mm_standing.proofs.Stages.{nothing_left, nothing_to_add}
+
+none : {X : Type 0} (P : X → Type 0) → All P []
+none P k d h = absurd (omega (arith, h))
+
+-- What is ready can go.
+pub sound_discarded : (bags : List Counts) (prepared : List Prepared) (log : List ListChange) → IsSound bags prepared log → IsSound bags [] log
+sound_discarded bags prepared log sound = record {
+  within = nothing_to_add bags (nothing_left bags (done_of prepared) sound.within);
+  there = none (λ (d : ListChange). d.list < length bags);
+  opposites = none (λ (p : Prepared). p.undo ≡ opposite p.done);
+  rooms = λ list. let least : 0 ≤ room_at bags list = omega arith in least;
+  undo = sound.undo;
+  logged = sound.logged;
+}
+
+-- What is at a place without one element is at some place with it.
+removed_at : {X Y : Type 0} (f : X → Y) (xs : List X) (i k : ℕ) (e : Y) → (j : ℕ) × (get_or (map f (remove xs i)) k e ≡ get_or (map f xs) j e)
+removed_at f [] zero k e = (k, refl)
+removed_at f [] (suc i) k e = (k, refl)
+removed_at f (x ∷ xs) zero k e = (suc k, refl)
+removed_at f (x ∷ xs) (suc i) zero e = (zero, refl)
+removed_at f (x ∷ xs) (suc i) (suc k) e = let r = removed_at f xs i k e in (suc r.0, r.1)
+
+positive : (n : ℕ) → pos 0 ≤ℤ (pos n +ℤ pos 0)
+positive n = omega (arith, ints)
+
+-- A bag can go where nothing is ready and the log is empty.
+pub sound_less : (bags : List Counts) (place : ℕ) → IsSound bags [] [] → IsSound (remove bags place) [] []
+sound_less bags place sound =
+    let old : IsWithin bags [] = nothing_left bags [] sound.undo in
+    let left : List Counts = remove bags place in
+    let now : IsWithin left [] = record {
+      counts = λ list row. positive (count_in row (entries_at left list));
+      totals = λ list.
+          let r = removed_at (λ (b : Counts). b.entries) bags place list [] in
+          subst (λ (es : Entries). (pos (total_of es) +ℤ pos 0) <ℤ pos (2 ^ 64)) (sym r.1) (old.totals r.0);
+    } in
+    record {
+      within = nothing_to_add left now;
+      there = none (λ (d : ListChange). d.list < length left);
+      opposites = none (λ (p : Prepared). p.undo ≡ opposite p.done);
+      rooms = λ list. let least : 0 ≤ room_at left list = omega arith in least;
+      undo = nothing_to_add left now;
+      logged = none (HasEntry left);
+    }
+
+-- What is at a place with one element more is at the same place without it, or it is that element.
+pushed_at : {X Y : Type 0} (f : X → Y) (xs : List X) (x : X) (k : ℕ) (e : Y)
+    → (get_or (map f (xs ++ x ∷ [])) k e ≡ get_or (map f xs) k e) ⊎ (get_or (map f (xs ++ x ∷ [])) k e ≡ f x)
+pushed_at f [] x zero e = inr refl
+pushed_at f [] x (suc k) e = inl refl
+pushed_at f (y ∷ ys) x zero e = inl refl
+pushed_at f (y ∷ ys) x (suc k) e = pushed_at f ys x k e
+
+few : (n : ℕ) → n < 2 ^ 64 → (pos n +ℤ pos 0) <ℤ pos (2 ^ 64)
+few n h = omega (arith, ints)
+
+-- A bag of fewer than 2^64 rows can come where nothing is ready and the log is empty.
+pub sound_more : (bags : List Counts) (bag : Counts) → total_of bag.entries < 2 ^ 64 → IsSound bags [] [] → IsSound (bags ++ bag ∷ []) [] []
+sound_more bags bag fits sound =
+    let old : IsWithin bags [] = nothing_left bags [] sound.undo in
+    let all : List Counts = bags ++ bag ∷ [] in
+    let now : IsWithin all [] = record {
+      counts = λ list row. positive (count_in row (entries_at all list));
+      totals = λ list.
+          ⊎_elim
+          (λ same. subst (λ (es : Entries). (pos (total_of es) +ℤ pos 0) <ℤ pos (2 ^ 64)) (sym same) (old.totals list))
+          (λ here. subst (λ (es : Entries). (pos (total_of es) +ℤ pos 0) <ℤ pos (2 ^ 64)) (sym here) (few (total_of bag.entries) fits))
+          (pushed_at (λ (b : Counts). b.entries) bags bag list []);
+    } in
+    record {
+      within = nothing_to_add all now;
+      there = none (λ (d : ListChange). d.list < length all);
+      opposites = none (λ (p : Prepared). p.undo ≡ opposite p.done);
+      rooms = λ list. let least : 0 ≤ room_at all list = omega arith in least;
+      undo = nothing_to_add all now;
+      logged = none (HasEntry all);
+    }

@@ -1,0 +1,111 @@
+-- The stages through which changes are added, from the last to the first.
+use Rattle.std.proofs.Common.{◌≡◌, ℕ, zero, suc, ℤ, pos, ◌+◌, ◌+ℤ◌, neg_ℤ, ◌≤◌, ◌<◌, ◌≤ℤ◌, ◌<ℤ◌, ◌^◌, ◌⊎◌, inl, inr, Bool, true, false, cond, List, [], ◌∷◌, ◌++◌, length, drop, refl, sym, ap, ◌∙◌, subst, arith}
+use Rattle.std.specs.Prelude.{◌==◌}
+use Rattle.std.proofs.lemmas.Int.{ints}
+use Rattle.std.proofs.Math.Seq.{drop-length, drop-nil}
+use Rattle.mm_value.specs.Equality.{same_row}
+use Rattle.mm_value.specs.declared.values.Value.{Value}
+use Rattle.mm_delta.specs.Counts.{Counts, count_in, total_of}
+use Rattle.mm_standing.specs.Bags.{AddedTo, CanAdd, IsWithin, count_with, entries_at, list_change, opposite, row_change, sum_over, total_with}
+use Rattle.mm_standing.specs.declared.change.ListChange.{ListChange}
+
+-- ---- lists
+
+pub drop_found : {X : Type 0} (k : ℕ) (xs : List X) (x : X) → (j : ℕ) × (drop j (xs ++ x ∷ []) ≡ drop k xs ++ x ∷ [])
+drop_found zero xs x = (zero, refl)
+drop_found (suc k) [] x = (zero, refl)
+drop_found (suc k) (y ∷ ys) x = let r = drop_found k ys x in (suc r.0, r.1)
+
+pub drop_cases : {X : Type 0} (k : ℕ) (xs : List X) (x : X) → (drop k (xs ++ x ∷ []) ≡ drop k xs ++ x ∷ []) ⊎ (drop k (xs ++ x ∷ []) ≡ [])
+drop_cases zero xs x = inl refl
+drop_cases (suc k) [] x = inr (drop-nil k)
+drop_cases (suc k) (y ∷ ys) x = drop_cases k ys x
+
+-- ---- sums
+
+one : (a : ℤ) → a +ℤ pos 0 ≡ pos 0 +ℤ a
+one a = omega (arith, ints)
+
+apart : (a b c : ℤ) → a +ℤ (b +ℤ c) ≡ (a +ℤ b) +ℤ c
+apart a b c = omega (arith, ints)
+
+pub sum_push : (f : ListChange → ℤ) (cs : List ListChange) (c : ListChange) → sum_over f (cs ++ c ∷ []) ≡ sum_over f cs +ℤ f c
+sum_push f [] c = one (f c)
+sum_push f (x ∷ cs) c = ap (λ s. f x +ℤ s) (sum_push f cs c) ∙ apart (f x) (sum_over f cs) (f c)
+
+shift : (n1 n0 s d t : ℤ) → n1 ≡ n0 +ℤ d → t ≡ s +ℤ d → n1 +ℤ s ≡ n0 +ℤ t
+shift n1 n0 s d t p q = omega (arith, ints)
+
+turn : (n1 n0 s d u t : ℤ) → n1 ≡ n0 +ℤ d → u ≡ neg_ℤ d → t ≡ s +ℤ u → n1 +ℤ t ≡ n0 +ℤ s
+turn n1 n0 s d u t p q r = omega (arith, ints)
+
+neg_row : (a b : Bool) (n : ℤ) → cond a (cond b (neg_ℤ n) (pos 0) +ℤ pos 0) (pos 0) ≡ neg_ℤ (cond a (cond b n (pos 0) +ℤ pos 0) (pos 0))
+neg_row true true n = omega (arith, ints)
+neg_row true false n = omega (arith, ints)
+neg_row false b n = omega (arith, ints)
+
+neg_list : (a : Bool) (n : ℤ) → cond a (neg_ℤ n) (pos 0) ≡ neg_ℤ (cond a n (pos 0))
+neg_list true n = refl
+neg_list false n = omega (arith, ints)
+
+-- ---- stages
+
+pub nothing_left : (bags : List Counts) (cs : List ListChange) → CanAdd bags cs → IsWithin bags []
+nothing_left bags cs can = subst (IsWithin bags) (drop-length cs) (can (length cs))
+
+pub nothing_to_add : (bags : List Counts) → IsWithin bags [] → CanAdd bags []
+nothing_to_add bags w k = subst (IsWithin bags) (sym (drop-nil k)) w
+
+pub last_one : (bags : List Counts) (cs : List ListChange) (c : ListChange) → CanAdd bags (cs ++ c ∷ []) → IsWithin bags (c ∷ [])
+last_one bags cs c can =
+    let r = drop_found (length cs) cs c in
+    subst (IsWithin bags) (r.1 ∙ ap (λ l. l ++ c ∷ []) (drop-length cs)) (can r.0)
+
+module _ (c : ListChange) (old new : List Counts) (adds : AddedTo c old new) where
+  -- A change that is added is one less to add.
+  pub count_moved : (rest : List ListChange) (list : ℕ) (row : List Value) → count_with new rest list row ≡ count_with old (rest ++ c ∷ []) list row
+  count_moved rest list row =
+      shift (pos (count_in row (entries_at new list))) (pos (count_in row (entries_at old list))) (sum_over (row_change list row) rest) (row_change list row c)
+      (sum_over (row_change list row) (rest ++ c ∷ [])) (adds.counts list row) (sum_push (row_change list row) rest c)
+
+  total_moved : (rest : List ListChange) (list : ℕ) → total_with new rest list ≡ total_with old (rest ++ c ∷ []) list
+  total_moved rest list =
+      shift (pos (total_of (entries_at new list))) (pos (total_of (entries_at old list))) (sum_over (list_change list) rest) (list_change list c)
+      (sum_over (list_change list) (rest ++ c ∷ [])) (adds.totals list) (sum_push (list_change list) rest c)
+
+  within_moved : (rest : List ListChange) → IsWithin old (rest ++ c ∷ []) → IsWithin new rest
+  within_moved rest w = record {
+    counts = λ list row. subst (λ z. pos 0 ≤ℤ z) (sym (count_moved rest list row)) (w.counts list row);
+    totals = λ list. subst (λ z. z <ℤ pos (2 ^ 64)) (sym (total_moved rest list)) (w.totals list);
+  }
+
+  pub can_still : (cs : List ListChange) → CanAdd old (cs ++ c ∷ []) → CanAdd new cs
+  can_still cs can k =
+      let r = drop_found k cs c in
+      within_moved (drop k cs) (subst (IsWithin old) r.1 (can r.0))
+
+  -- A change that is added can be undone, and then all is as before.
+  pub count_back : (rest : List ListChange) (list : ℕ) (row : List Value) → count_with new (rest ++ opposite c ∷ []) list row ≡ count_with old rest list row
+  count_back rest list row =
+      turn (pos (count_in row (entries_at new list))) (pos (count_in row (entries_at old list))) (sum_over (row_change list row) rest) (row_change list row c)
+      (row_change list row (opposite c)) (sum_over (row_change list row) (rest ++ opposite c ∷ [])) (adds.counts list row)
+      (neg_row (c.list == list) (same_row row c.change.row) c.change.count) (sum_push (row_change list row) rest (opposite c))
+
+  total_back : (rest : List ListChange) (list : ℕ) → total_with new (rest ++ opposite c ∷ []) list ≡ total_with old rest list
+  total_back rest list =
+      turn (pos (total_of (entries_at new list))) (pos (total_of (entries_at old list))) (sum_over (list_change list) rest) (list_change list c)
+      (list_change list (opposite c)) (sum_over (list_change list) (rest ++ opposite c ∷ [])) (adds.totals list)
+      (neg_list (c.list == list) c.change.count) (sum_push (list_change list) rest (opposite c))
+
+  within_back : (rest : List ListChange) → IsWithin old rest → IsWithin new (rest ++ opposite c ∷ [])
+  within_back rest w = record {
+    counts = λ list row. subst (λ z. pos 0 ≤ℤ z) (sym (count_back rest list row)) (w.counts list row);
+    totals = λ list. subst (λ z. z <ℤ pos (2 ^ 64)) (sym (total_back rest list)) (w.totals list);
+  }
+
+  pub can_undo : (log : List ListChange) → IsWithin new [] → CanAdd old log → CanAdd new (log ++ opposite c ∷ [])
+  can_undo log now can k = by (drop_cases k log (opposite c))
+    where
+      by : ((drop k (log ++ opposite c ∷ []) ≡ drop k log ++ opposite c ∷ []) ⊎ (drop k (log ++ opposite c ∷ []) ≡ [])) → IsWithin new (drop k (log ++ opposite c ∷ []))
+      by (inl e) = subst (IsWithin new) (sym e) (within_back (drop k log) (can k))
+      by (inr e) = subst (IsWithin new) (sym e) now

@@ -1,0 +1,44 @@
+-- The values are those of the rows that are shown, and these are as wide as the query.
+use Rattle.std.proofs.Common.{◌≡◌, ◌*◌, ◌++◌, List, length, sym, ap, ◌∙◌}
+use Rattle.std.specs.Borrow.{Bor}
+use Rattle.std.specs.List.{All}
+use Rattle.std.proofs.lemmas.List.{length-map}
+use Rattle.mm_value.specs.declared.values.Value.{Value}
+use Rattle.mm_schema.specs.Sorting.{in_order}
+use Rattle.mm_query.specs.Queries.{rows_by_columns}
+use Rattle.mm_templist.specs.Pieces.{pieces}
+use Rattle.mm_templist.specs.Runs.{referred}
+use Rattle.mm_standing.specs.Showing.{rows_shown, values_in_turn}
+use Rattle.mm_standing.proofs.Totals.{rows_wide, shown_from_entries}
+use Rattle.mm_standing.proofs.Values.{length_in_turn, pieces_in_turn}
+use Rattle.mm_standing.proofs.listing.list_shown.Goals as goal
+use Rattle.mm_standing.proofs.listing.list_shown.Goals.{In_ok-push_entries}
+
+abbrev rows_of : (c : In_ok-push_entries) → List (List Value)
+rows_of c = rows_shown c.args.query.now.distinct c.args.bag.now.entries
+
+wide : (c : In_ok-push_entries) → All (λ (row : List Value). length row ≡ length c.args.query.now.fields) (rows_of c)
+wide c =
+    rows_wide c.args.query.now c.args.query.now.distinct c.args.bag.now.entries c.requires.0 c.count_shown-count.ensures.once c.requires.1
+
+values_are : (c : In_ok-push_entries) → referred c.push_entries.new.values.items ≡ values_in_turn (rows_of c)
+values_are c = c.in_ok-push_entries.ensures ∙ ap (λ (refs : List (Bor Value)). referred refs ++ values_in_turn (rows_of c)) c.in_ok-values.ensures.items
+
+pub sorted-requires : goal.sorted-requires
+sorted-requires c =
+    let w = (goal.at.sorted-requires c).In_ok-push_entries in
+    let refs : List (Bor Value) = c.push_entries.new.values.items in
+    let long = length-map refs (λ (value : Bor Value). value.now) in
+    let are = ap (λ (values : List Value). length values) (values_are w) in
+    let turn = length_in_turn (length c.args.query.now.fields) (rows_of w) (wide w) in
+    sym long ∙ are ∙ turn ∙ (λ k. sym c.count_shown-count.ensures.count k * length (sym c.as_slice-width.ensures k))
+
+pub returns-clause-shown : goal.returns-clause-shown
+returns-clause-shown c = λ rows bag.
+    let w = (goal.at.returns-clause-shown c).In_ok-push_entries in
+    let query = c.args.query.now in
+    c.in_ok-sorted.ensures
+    ∙ (λ k. in_order (rows_by_columns (c.as_slice-order.ensures k))
+    (pieces (length (c.as_slice-width.ensures k)) (c.count_shown-count.ensures.count k) (values_are w k)))
+    ∙ ap (in_order (rows_by_columns query.order)) (pieces_in_turn (length query.fields) (rows_of w) (wide w))
+    ∙ shown_from_entries c.args.bag.now.entries rows c.count_shown-count.ensures.once bag query

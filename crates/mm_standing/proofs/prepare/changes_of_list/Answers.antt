@@ -1,0 +1,66 @@
+-- The changes of a query's bag are those of its list, and bring it to as many rows as its query has after the edits.
+use Rattle.std.proofs.Common.{◌≡◌, ◌⊎◌, inl, inr, ◌<◌, ◌≤◌, ◌+ℤ◌, ◌-ℤ◌, ℕ, ℤ, pos, Bool, true, false, cond, List, Some, None, length, map, refl, sym, ap, ◌∙◌, arith}
+use Rattle.std.proofs.lemmas.Bool.{le-ltb, lt-ltb}
+use Rattle.std.proofs.lemmas.Int.{ints}
+use Rattle.mm_value.specs.declared.refusal.Refusal.{Refusal}
+use Rattle.mm_value.specs.declared.refusal.Refusal.TheVariants.{StandingListTooLarge}
+use Rattle.mm_value.specs.declared.values.Value.{Value}
+use Rattle.mm_query.specs.declared.bound_query.BoundQuery.{BoundQuery}
+use Rattle.mm_delta.specs.Change.{change_between}
+use Rattle.mm_delta.specs.Counts.{count_of, signed_count, total_of}
+use Rattle.mm_delta.specs.Edited.{after_at, before_at}
+use Rattle.mm_delta.specs.declared.signed.Signed.{Signed}
+use Rattle.mm_standing.specs.Queries.{RowsByPlace, StandingQuery, bag_over}
+use Rattle.mm_standing.proofs.Net.{brings, sum_of, total_after}
+use Rattle.mm_standing.proofs.prepare.changes_of_list.Goals as goal
+use Rattle.mm_standing.proofs.prepare.changes_of_list.Goals.{After-new_total}
+
+changed_by : (query : BoundQuery) (tables read : List ℕ) (standing : StandingQuery) (before after : RowsByPlace) (changes : List Signed)
+    → read ≡ tables → record { query = query; tables = tables } ≡ standing
+    → ((row : List Value) → signed_count row changes ≡ change_between query (map before read) (map after read) row)
+    → (row : List Value) → signed_count row changes ≡ pos (count_of row (bag_over after standing)) -ℤ pos (count_of row (bag_over before standing))
+changed_by query tables read standing before after changes same is h row =
+    h row
+    ∙ ap (λ (ts : List ℕ). change_between query (map before ts) (map after ts) row) same
+    ∙ ap (λ (s : StandingQuery). pos (count_of row (bag_over after s)) -ℤ pos (count_of row (bag_over before s))) is
+
+change : (c : After-new_total) → (row : List Value) → signed_count row c.in_ok-changed.changed.items
+    ≡ pos (count_of row (bag_over (after_at c.args.view.now.store c.args.changes.now) c.args.watched.now))
+    -ℤ pos (count_of row (bag_over (before_at c.args.view.now.store) c.args.watched.now))
+change c =
+    changed_by c.watched.inside.query c.watched.inside.tables.items c.as_slice.result.now c.args.watched.now
+    (before_at c.args.view.now.store) (after_at c.args.view.now.store c.args.changes.now) c.in_ok-changed.changed.items
+    c.as_slice.ensures.value c.watched.view_is c.in_ok-changed.ensures.change
+
+rows : (c : After-new_total) → c.new_total.result ≡ pos (length (bag_over (after_at c.args.view.now.store c.args.changes.now) c.args.watched.now))
+rows c =
+    c.new_total.ensures
+    ∙ (λ i. pos (c.total.ensures i) +ℤ sum_of (c.as_slice-2.ensures.value i))
+    ∙ total_after c.args.bag.now.entries c.in_ok-changed.changed.items (bag_over (after_at c.args.view.now.store c.args.changes.now) c.args.watched.now)
+    (bag_over (before_at c.args.view.now.store) c.args.watched.now) c.in_ok-changed.ensures.once c.len.ensures.once c.requires.fits (change c)
+
+due : (b : Bool) → b ≡ true → cond b (Some StandingListTooLarge) None ≡ Some StandingListTooLarge
+due b e = ap (λ (t : Bool). cond t (Some StandingListTooLarge) None) e
+
+not_due : (b : Bool) → b ≡ false → cond b (Some StandingListTooLarge) None ≡ None
+not_due b e = ap (λ (t : Bool). cond t (Some StandingListTooLarge) None) e
+
+pub returns-then-new_total-clause-due : goal.returns-then-new_total-clause-due
+returns-then-new_total-clause-due c =
+    let is = rows (goal.at.returns-then-new_total-clause-due c).After-new_total in
+    let more = c.if-new_total.true in
+    inl (due _ (lt-ltb 1048576 _ (omega (arith, ints, is, more))))
+
+pub returns-clause-due : goal.returns-clause-due
+returns-clause-due c =
+    let is = rows (goal.at.returns-clause-due c).After-new_total in
+    let few = c.if-new_total.false in
+    not_due _ (le-ltb 1048576 _ (omega (arith, ints, is, few)))
+
+pub returns-clause-brings : goal.returns-clause-brings
+returns-clause-brings c =
+    let is = rows (goal.at.returns-clause-brings c).After-new_total in
+    let few = c.if-new_total.false in
+    brings c.args.bag.now.entries c.in_ok-changed.changed.items (bag_over (after_at c.args.view.now.store c.args.changes.now) c.args.watched.now)
+    (bag_over (before_at c.args.view.now.store) c.args.watched.now) c.in_ok-changed.ensures.once c.len.ensures.once c.requires.fits
+    (change (goal.at.returns-clause-brings c).After-new_total) c.requires.few (omega (arith, ints, is, few)) c.in_ok-changed.ensures.small

@@ -1,0 +1,48 @@
+-- The bags have the room, and the log has it.
+use Rattle.std.proofs.Common.{◌≡◌, ℕ, ◌≤◌, ◌<◌, List, [], length, map, slice_index, sym, ap, ◌∙◌, subst, arith}
+use Rattle.std.specs.List.{All}
+use Rattle.std.proofs.lemmas.List.{length-map}
+use Rattle.std.proofs.lemmas.List.Elements.{All-weaker}
+use Rattle.mm_delta.specs.Counts.{Counts}
+use Rattle.mm_standing.specs.Bags.{CanAdd, IsSound, done_of, number_for, room_at}
+use Rattle.mm_standing.specs.State.{Lists}
+use Rattle.mm_standing.specs.declared.change.ListChange.{ListChange}
+use Rattle.mm_standing.specs.declared.change.Prepared.{Prepared}
+use Rattle.mm_standing.proofs.Preparing.{size, sound_prepared, sound_roomier, within_roomier}
+use Rattle.mm_standing.proofs.standing.Standing.put_prepared.Goals as goal
+
+pub invariant_of-self-2 : goal.invariant_of-self-2
+invariant_of-self-2 c =
+    let old = c.self.inside in
+    let bags = c.reserve_each.new.bags.items in
+    let changes = c.args.changes.items in
+    let ps = c.in_ok-self-inside.field-0.items in
+    let same = c.reserve_each.ensures.entries in
+    let many = size old.bags.items bags same in
+    let empty = ap (λ (v : Lists). v.prepared) c.self.view_is ∙ c.requires.prepared in
+    let sound : IsSound old.bags.items [] old.log.items =
+    subst (λ (qs : List Prepared). IsSound old.bags.items qs old.log.items) empty c.self.invariant.0 in
+    let can : CanAdd old.bags.items changes = subst (λ (v : Lists). CanAdd v.bags changes) (sym c.self.view_is) c.requires.within in
+    let there : All (λ (d : ListChange). d.list < length old.bags.items) changes =
+    subst (λ (v : Lists). All (λ (d : ListChange). d.list < length v.bags) changes) (sym c.self.view_is) c.requires.there in
+    let done = c.in_ok-self-inside.ensures.done in
+    let rooms : (list : ℕ) → number_for list changes ≤ room_at bags list =
+    λ list.
+    let r = c.in_ok-reserve_each.ensures.room list in
+    let n = c.in_ok-numbers.ensures.numbers list in
+    let v = ap (λ (xs : List ℕ). slice_index xs list) c.as_slice-2.ensures.value in
+    let w = ap (λ (xs : List ListChange). number_for list xs) c.as_slice.ensures.value in
+    omega (arith, r, n, v, w) in
+    let ready : IsSound bags ps old.log.items =
+    sound_prepared bags old.log.items changes ps done (λ k. within_roomier old.bags.items bags same _ (can k))
+    (All-weaker (λ (d : ListChange). d.list < length old.bags.items) (λ (d : ListChange). d.list < length bags) (λ d h. omega (arith, h, many)) changes there)
+    c.in_ok-self-inside.ensures.opposites rooms
+    (sound_roomier old.bags.items bags same [] old.log.items c.reserve_each.ensures.kept sound) in
+    let length_is = ap (λ (cs : List ListChange). length cs) done in
+    let mapped = length-map ps (λ (p : Prepared). p.done) in
+    let room = c.in_ok-reserve.ensures.ok in
+    let asked = c.len-2.ensures in (
+      subst (IsSound bags ps) (sym c.reserve.ensures.items) ready,
+      omega (arith, length_is, mapped, room, asked, c.in_ok-self-inside.field-0.ok.0, c.args.changes.ok.0),
+      c.self.invariant.2 ∙ sym many,
+    )

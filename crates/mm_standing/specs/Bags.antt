@@ -1,0 +1,101 @@
+-- The bags of standing queries, and changes of the counts of their rows.
+use Rattle.std.specs.Prelude.{◌≡◌, ◌==◌, ℕ, ℤ, pos, ◌+◌, ◌≤◌, ◌<◌, ◌^◌, ◌+ℤ◌, ◌≤ℤ◌, ◌<ℤ◌, neg_ℤ, true, if◌then◌else◌, All, length, List, [], ◌∷◌, count_by, drop, map, slice_index_or}
+use Rattle.mm_value.specs.declared.values.Value.{Value}
+use Rattle.mm_delta.specs.Counts.{Counts, Entries, count_in, count_of, has_entry, signed_count, total_of}
+use Rattle.mm_delta.specs.declared.signed.Signed.{Signed}
+use Rattle.mm_standing.specs.declared.change.ListChange.{ListChange}
+use Rattle.mm_standing.specs.declared.change.Prepared.{Prepared}
+
+-- The entries of the bag of a list; none where there is no such list.
+abbrev pub entries_at : List Counts → ℕ → Entries
+entries_at bags list = slice_index_or (map (λ (bag : Counts). bag.entries) bags) list []
+
+-- The room that the bag of a list has for new entries.
+abbrev pub room_at : List Counts → ℕ → ℕ
+room_at bags list = slice_index_or (map (λ (bag : Counts). bag.room) bags) list 0
+
+-- What changes add up to, where each is read as a number.
+abbrev pub sum_over : {X : Type 0} → (X → ℤ) → List X → ℤ
+sum_over f [] = pos 0
+sum_over f (c ∷ cs) = f c +ℤ sum_over f cs
+
+-- What a change adds to the count of a row of a list.
+abbrev pub row_change : ℕ → List Value → ListChange → ℤ
+row_change list row c = if c.list == list then signed_count row (c.change ∷ []) else pos 0
+
+-- What a change adds to the number of rows of a list.
+abbrev pub list_change : ℕ → ListChange → ℤ
+list_change list c = if c.list == list then c.change.count else pos 0
+
+-- The count of a row of a list with changes added.
+abbrev pub count_with : List Counts → List ListChange → ℕ → List Value → ℤ
+count_with bags changes list row = pos (count_in row (entries_at bags list)) +ℤ sum_over (row_change list row) changes
+
+-- How many rows a list has with changes added.
+abbrev pub total_with : List Counts → List ListChange → ℕ → ℤ
+total_with bags changes list = pos (total_of (entries_at bags list)) +ℤ sum_over (list_change list) changes
+
+-- With changes added no count is below 0, and no list has 2^64 rows or more.
+pub record IsWithin (bags : List Counts) (changes : List ListChange) : Type 0 where
+  pub counts : (list : ℕ) (row : List Value) → pos 0 ≤ℤ count_with bags changes list row
+  pub totals : (list : ℕ) → total_with bags changes list <ℤ pos (2 ^ 64)
+
+-- Changes can be added one after another, from the last to the first.
+abbrev pub CanAdd : List Counts → List ListChange → Type 0
+CanAdd bags changes = (k : ℕ) → IsWithin bags (drop k changes)
+
+-- Changes bring the count of each row of a bag to what it is in a list of rows. On the way, from the last to the first, no count
+-- falls below 0 and the bag has fewer than 2^64 rows; each has an opposite that fits.
+pub record Brings (changes : List Signed) (entries : Entries) (rows : List (List Value)) : Type 0 where
+  pub counts : (row : List Value) → pos (count_in row entries) +ℤ signed_count row changes ≡ pos (count_of row rows)
+  pub stages : (k : ℕ) (row : List Value) → pos 0 ≤ℤ (pos (count_in row entries) +ℤ signed_count row (drop k changes))
+  pub totals : (k : ℕ) → (pos (total_of entries) +ℤ sum_over (λ (change : Signed). change.count) (drop k changes)) <ℤ pos (2 ^ 64)
+  pub small : All (λ (change : Signed). pos 0 ≤ℤ (change.count +ℤ pos (2 ^ 64))) changes
+
+-- How many of the changes are of one list.
+abbrev pub number_for : ℕ → List ListChange → ℕ
+number_for list changes = count_by (λ (c : ListChange). c.list == list) changes
+
+-- The change that undoes one.
+abbrev pub opposite : ListChange → ListChange
+opposite c = record { list = c.list; change = record { row = c.change.row; count = neg_ℤ c.change.count } }
+
+-- The change takes away no more than 2^64, so that it has an opposite that fits.
+abbrev pub IsSmall : ListChange → Type 0
+IsSmall c = pos 0 ≤ℤ (c.change.count +ℤ pos (2 ^ 64))
+
+-- The changes that are ready to be made.
+abbrev pub done_of : List Prepared → List ListChange
+done_of prepared = map (λ (p : Prepared). p.done) prepared
+
+-- A list of the change is there, and its row has an entry in it.
+abbrev pub HasEntry : List Counts → ListChange → Type 0
+HasEntry bags c = (c.list < length bags) × (has_entry c.change.row (entries_at bags c.list) ≡ true)
+
+-- What is ready can be made with the room that is there, and what the log has can be added with none.
+pub record IsSound (bags : List Counts) (prepared : List Prepared) (log : List ListChange) : Type 0 where
+  pub within : CanAdd bags (done_of prepared)
+  pub there : All (λ (c : ListChange). c.list < length bags) (done_of prepared)
+  pub opposites : All (λ (p : Prepared). p.undo ≡ opposite p.done) prepared
+  pub rooms : (list : ℕ) → number_for list (done_of prepared) ≤ room_at bags list
+  pub undo : CanAdd bags log
+  pub logged : All (HasEntry bags) log
+
+-- A change is added: to the count of its row in its list, and to no other.
+pub record AddedTo (c : ListChange) (old new : List Counts) : Type 0 where
+  pub counts : (list : ℕ) (row : List Value) → pos (count_in row (entries_at new list)) ≡ pos (count_in row (entries_at old list)) +ℤ row_change list row c
+  pub totals : (list : ℕ) → pos (total_of (entries_at new list)) ≡ pos (total_of (entries_at old list)) +ℤ list_change list c
+  pub found : has_entry c.change.row (entries_at new c.list) ≡ true
+  pub kept : (list : ℕ) (row : List Value) → has_entry row (entries_at old list) ≡ true → has_entry row (entries_at new list) ≡ true
+  pub rooms : (list : ℕ) → room_at old list ≤ room_at new list + (if c.list == list then 1 else 0)
+  pub size : length new ≡ length old
+
+-- All that was ready is made: each count is another by it, and is what it was at each mark where the log is undone.
+pub record Made (bags : List Counts) (prepared : List Prepared) (log : List ListChange) (bags' : List Counts) (prepared' : List Prepared)
+    (log' : List ListChange) : Type 0 where
+  pub counts : (list : ℕ) (row : List Value) → count_with bags' (done_of prepared') list row ≡ count_with bags (done_of prepared) list row
+  pub undone : (mark : ℕ) → mark ≤ length log → (list : ℕ) (row : List Value)
+      → count_with bags' (drop mark log') list row ≡ count_with bags (drop mark log) list row
+  pub longer : length log' + length prepared' ≡ length log + length prepared
+  pub older : length log ≤ length log'
+  pub size : length bags' ≡ length bags

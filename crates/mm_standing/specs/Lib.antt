@@ -1,0 +1,4 @@
+pub mod Bags
+pub mod Queries
+pub mod Showing
+pub mod State

@@ -1,0 +1,67 @@
+-- Standing queries, and what their lists are to hold (materialized views kept by counts: Blakeley, Larson and Tompa).
+use Rattle.std.specs.Prelude.{◌≡◌, ℕ, ℤ, pos, ◌<◌, ◌≤◌, All, Bool, if◌then◌else◌, List, [], ◌∷◌, Some, length, map, nat_lt, slice_get}
+use Rattle.std.specs.List.{list_any, range_with_len, sum_by}
+use Rattle.mm_schema.specs.Refused.{Condition}
+use Rattle.mm_store.specs.Tables.{Tables}
+use Rattle.mm_value.specs.declared.refusal.Refusal.TheVariants.{StandingListTooLarge}
+use Rattle.mm_value.specs.declared.values.Value.{Value}
+use Rattle.mm_query.specs.Queries.{bag_of, one_of_each, shown}
+use Rattle.mm_query.specs.declared.bound_query.BoundQuery.{BoundQuery}
+use Rattle.mm_delta.specs.Counts.{Entries, count_in, count_of}
+use Rattle.mm_delta.specs.Steps.{term_reads}
+use Rattle.mm_delta.specs.declared.edited.TableEdits.{TableEdits}
+
+-- A query, and the place in the store of each table of its FROM list.
+pub record StandingQuery : Type 0 where
+  pub query : BoundQuery
+  pub tables : List ℕ
+
+-- The rows of the table at each place.
+abbrev pub RowsByPlace : Type 0
+RowsByPlace = ℕ → List (List Value)
+
+-- The bag of a standing query over the rows of the tables.
+abbrev pub bag_over : RowsByPlace → StandingQuery → List (List Value)
+bag_over rows standing = bag_of standing.query (map rows standing.tables)
+
+-- Entries have each row as often as a list of rows has it.
+abbrev pub IsBagOf : Entries → List (List Value) → Type 0
+IsBagOf entries rows = (row : List Value) → count_in row entries ≡ count_of row rows
+
+-- The counts, list by list and row by row, are those of the bags of the standing queries over the rows of the tables.
+abbrev pub AreCounts : (ℕ → List Value → ℤ) → RowsByPlace → List StandingQuery → Type 0
+AreCounts counts rows queries =
+    (list : ℕ) (standing : StandingQuery) → slice_get queries list ≡ Some standing
+    → (row : List Value) → counts list row ≡ pos (count_of row (bag_over rows standing))
+
+-- What a query shows of its bag: with DISTINCT one of each row, in the query's order.
+abbrev pub shown_of : BoundQuery → List (List Value) → List (List Value)
+shown_of query rows = shown query (if query.distinct then one_of_each rows else rows)
+
+-- All tables of a standing query are there, at most 4.
+pub record IsServed (store : Tables) (standing : StandingQuery) : Type 0 where
+  pub there : All (λ table. table < length store.tables) standing.tables
+  pub few : length standing.tables ≤ 4
+
+-- ---- the limit of rows
+
+-- A bag has more than 1,048,576 rows.
+abbrev pub is_too_large : List (List Value) → Bool
+is_too_large rows = nat_lt 1048576 (length rows)
+
+-- What refuses a list by the number of its rows.
+abbrev pub list_conditions : List (List Value) → List Condition
+list_conditions rows = record { holds = is_too_large rows; refusal = StandingListTooLarge } ∷ []
+
+-- What refuses a change of tables: over the rows after it the list of a standing query is too large.
+abbrev pub change_conditions : RowsByPlace → List StandingQuery → List Condition
+change_conditions after queries =
+    record { holds = list_any (λ standing. is_too_large (bag_over after standing)) queries; refusal = StandingListTooLarge } ∷ []
+
+-- ---- how many rows are read
+
+-- How many rows may be read for a standing query when tables are edited: for each edited row at each place of its FROM that row,
+-- and those with which it may be combined. None where it reads no table that is edited.
+abbrev pub query_reads : Tables → List TableEdits → StandingQuery → ℕ
+query_reads store changes standing =
+    sum_by (term_reads standing.query store changes standing.tables) (range_with_len 0 (length standing.tables))

@@ -1,0 +1,46 @@
+-- The standing queries with their lists.
+use Rattle.std.specs.Prelude.{◌≡◌, ℕ, ℤ, pos, ◌≤◌, All, List, drop, length}
+use Rattle.mm_store.specs.Tables.{Tables}
+use Rattle.mm_value.specs.declared.values.Value.{Value}
+use Rattle.mm_delta.specs.Counts.{Counts, count_in}
+use Rattle.mm_standing.specs.Bags.{count_with, done_of, entries_at}
+use Rattle.mm_standing.specs.Queries.{AreCounts, IsServed, RowsByPlace, StandingQuery, bag_over}
+use Rattle.mm_standing.specs.declared.change.ListChange.{ListChange}
+use Rattle.mm_standing.specs.declared.change.Prepared.{Prepared}
+
+-- The standing queries in order of creation, for each the bag of its rows, the changes that are ready to be made, and the log
+-- of changes that undo what was made.
+pub record Lists : Type 0 where
+  pub queries : List StandingQuery
+  pub bags : List Counts
+  pub prepared : List Prepared
+  pub log : List ListChange
+  pub reads : ℕ
+
+-- The count of a row of a list as it is now.
+abbrev pub count_now : Lists → ℕ → List Value → ℤ
+count_now lists list row = pos (count_in row (entries_at lists.bags list))
+
+-- The count that a row of a list had at a mark.
+abbrev pub count_at : ℕ → ℕ → List Value → Lists → ℤ
+count_at mark list row lists = count_with lists.bags (drop mark lists.log) list row
+
+-- The lists have just the rows of their queries over the rows of the tables.
+abbrev pub FitNow : RowsByPlace → Lists → Type 0
+FitNow rows lists = AreCounts (count_now lists) rows lists.queries
+
+-- They had at a mark.
+abbrev pub FitAt : ℕ → RowsByPlace → Lists → Type 0
+FitAt mark rows lists = AreCounts (λ list row. count_at mark list row lists) rows lists.queries
+
+-- They will have once what is prepared is made.
+abbrev pub FitPrepared : RowsByPlace → Lists → Type 0
+FitPrepared rows lists = AreCounts (λ list row. count_with lists.bags (done_of lists.prepared) list row) rows lists.queries
+
+-- Over the rows of the tables no more than 1,048,576 combinations fit any of the queries.
+abbrev pub AreFew : RowsByPlace → List StandingQuery → Type 0
+AreFew rows queries = All (λ standing. length (bag_over rows standing) ≤ 1048576) queries
+
+-- All tables of the standing queries are there.
+abbrev pub AreServed : Tables → List StandingQuery → Type 0
+AreServed store queries = All (IsServed store) queries

@@ -1,0 +1,97 @@
+//! What the lists show.
+ghost use Rattle.std.specs.Prelude.{◌≡◌, ◌++◌, List, length, replicate, IfErr, IfOk, OnOk};
+ghost use Rattle.mm_delta.specs.Counts.{IsOnce};
+ghost use Rattle.mm_query.specs.Queries.{bag_of};
+ghost use Rattle.mm_templist.specs.Runs.{referred};
+ghost use Rattle.mm_value.specs.declared.refusal.Refusal.TheVariants.{Memory};
+ghost use Rattle.mm_value.specs.declared.values.Value.{Value as Val};
+ghost use Rattle.mm_standing.specs.Queries.{IsBagOf, shown_of};
+ghost use Rattle.mm_standing.specs.Showing.{rows_shown, times_shown, values_in_turn};
+
+use mm_delta::Counted;
+use mm_query::BoundQuery;
+use mm_templist::ShownRows;
+use mm_value::{Refusal, Row, Value};
+use std::alloc::{AllocError, Global};
+
+/// How many rows of a bag are shown: with `distinct` one of each.
+pub(crate) fn count_shown(distinct: bool, bag: &Counted) -> usize
+    ensures count { result ≡ length (rows_shown distinct bag.now.entries) }
+    ensures once { IsOnce bag.now.entries }
+{
+    let entries = bag.len();
+    if !distinct {
+        return bag.total();
+    }
+    let mut count = 0;
+    for i in 0..entries {
+        count += times_shown(true, bag.entry(i).1);
+    }
+    count
+}
+
+/// The rows of a bag as its query shows them. `Memory` is the only refusal.
+pub(crate) fn list_shown<'s>(
+    alloc: Global,
+    query: &BoundQuery,
+    bag: &'s Counted,
+) -> Result<ShownRows<'s>, Refusal>
+    requires { (lists : List (List (List Val))) × IsBagOf bag.now.entries (bag_of query.now lists) }
+    ensures shown { IfOk result (λ shown. (rows : List (List Val)) → IsBagOf bag.now.entries rows → shown ≡ shown_of query.now rows) }
+    ensures memory { IfErr result (λ refusal. refusal ≡ Memory) }
+{
+    let width = query.fields.as_slice().len();
+    let count = count_shown(query.distinct, bag);
+    let mut values = Vec::with_capacity(alloc, count.saturating_mul(width))?;
+    push_entries(&mut values, query.distinct, bag)?;
+    // with DISTINCT no row is there twice, so none is left out here
+    let order = query.order.as_slice();
+    Ok(ShownRows::sorted(alloc, values, width, count, false, order)?)
+}
+
+/// Puts references to the values of the rows of a bag at the end, of each row as often as it is shown.
+fn push_entries<'s>(
+    values: &mut Vec<&'s Value>,
+    distinct: bool,
+    bag: &'s Counted,
+) -> Result<(), AllocError>
+    ensures { OnOk result (referred values.new.items
+        ≡ referred values.old.items ++ values_in_turn (rows_shown distinct bag.now.entries)) }
+{
+    for i in 0..bag.len() {
+        let (row, count) = bag.entry(i);
+        push_copies(values, row, times_shown(distinct, count))?;
+    }
+    Ok(())
+}
+
+/// Puts references to the values of a row at the end, so many times.
+fn push_copies<'s>(
+    values: &mut Vec<&'s Value>,
+    row: &'s Row,
+    copies: usize,
+) -> Result<(), AllocError>
+    ensures { OnOk result (referred values.new.items ≡ referred values.old.items ++ values_in_turn (replicate copies row.now)) }
+{
+    for _ in 0..copies {
+        push_row(values, row)?;
+    }
+    Ok(())
+}
+
+/// Puts references to the values of a row at the end.
+fn push_row<'s>(values: &mut Vec<&'s Value>, row: &'s Row) -> Result<(), AllocError>
+    ensures { OnOk result (referred values.new.items ≡ referred values.old.items ++ row.now) }
+{
+    for value in row.values() {
+        values.push(value)?;
+    }
+    Ok(())
+}
+
+/// How often a row of this count is shown: with `distinct` at most once.
+fn times_shown(distinct: bool, count: usize) -> usize
+    ensures { result ≡ times_shown distinct count }
+{
+    if distinct { count.min(1) } else { count }
+}

@@ -1,0 +1,65 @@
+//! The bag of a query when it begins to stand.
+ghost use Rattle.std.specs.Prelude.{◌≡◌, ◌≢◌, ◌<◌, ◌≤◌, ◌^◌, All, length, map, IfErr, IfOk};
+ghost use Rattle.mm_delta.specs.Counts.{total_of};
+ghost use Rattle.mm_query.specs.Queries.{bag_of};
+ghost use Rattle.mm_schema.specs.Refused.{AnswersDue, first_refusal};
+ghost use Rattle.mm_standing.specs.Queries.{IsBagOf, list_conditions};
+ghost use Rattle.mm_store.specs.Tables.{rows_at};
+ghost use Rattle.mm_value.specs.declared.refusal.Refusal.TheVariants.{Memory, ResultTooLarge, StandingListTooLarge};
+
+use mm_delta::Counted;
+use mm_plan::run_plan;
+use mm_query::{BoundQuery, PlanLine};
+use mm_store::{Meter, Store};
+use mm_value::{Refusal, Row};
+use std::alloc::Global;
+
+/// The bag of a query over the rows of a store, found by the lines of a plan. `StandingListTooLarge` where more than 1,048,576
+/// combinations fit; `Memory` may come in its place and in that of success.
+pub(crate) fn bag_now(
+    alloc: Global,
+    store: &Store,
+    query: &BoundQuery,
+    tables: &[usize],
+    plan: &[PlanLine],
+) -> Result<Counted, Refusal>
+    requires there { All (λ table. table < length store.now.tables) tables.now }
+    requires few { length tables.now ≤ 4 }
+    ensures due { AnswersDue (first_refusal (list_conditions (bag_of query.now (map (rows_at store.now.tables) tables.now)))) result }
+    ensures ok { IfOk result (λ bag. IsBagOf bag.entries (bag_of query.now (map (rows_at store.now.tables) tables.now))) }
+    ensures total { IfOk result (λ bag. total_of bag.entries < 2 ^ 64) }
+{
+    let mut meter = Meter::new();
+    let list = match run_plan(alloc, store, &mut meter, query, tables, plan) {
+        Ok(list) => list,
+        Err(refusal) => return Err(as_list(refusal)),
+    };
+    let rows = list.project_sorted(alloc, store, &mut meter, false, &[])?;
+    counted(alloc, rows)
+}
+
+/// The refusal of a standing query in place of that of a result.
+fn as_list(refusal: Refusal) -> Refusal
+    ensures large { refusal ≡ ResultTooLarge → result ≡ StandingListTooLarge }
+    ensures other { refusal ≢ ResultTooLarge → result ≡ refusal }
+{
+    match refusal {
+        Refusal::ResultTooLarge => Refusal::StandingListTooLarge,
+        other => other,
+    }
+}
+
+/// The bag of some rows. `Memory` is the only refusal.
+fn counted(alloc: Global, rows: Vec<Row>) -> Result<Counted, Refusal>
+    ensures ok { IfOk result (λ bag. IsBagOf bag.entries rows.items) }
+    ensures total { IfOk result (λ bag. total_of bag.entries < 2 ^ 64) }
+    ensures memory { IfErr result (λ refusal. refusal ≡ Memory) }
+{
+    let mut bag = Counted::new(alloc);
+    for row in rows {
+        bag.count_up(row)?;
+    }
+    // it is a usize
+    let _total = bag.total();
+    Ok(bag)
+}
