@@ -1,12 +1,11 @@
 -- The bag of the rows that a plan finds.
-use Rattle.std.proofs.Common.{◌≡◌, ◌≢◌, ◌⊎◌, inl, inr, ℕ, pos, ◌+◌, ◌+ℤ◌, Bool, true, false, cond, List, [], ◌∷◌, ◌++◌, Option, Some, None, length, map, refl, sym, ap, ◌∙◌, subst, arith}
+use Rattle.std.proofs.Common.{◌≡◌, ℕ, pos, ◌+◌, ◌+ℤ◌, Bool, true, false, cond, List, [], ◌∷◌, ◌++◌, Some, map, sym, ap, ◌∙◌, subst, arith}
 use Rattle.std.specs.List.Sorted.{IsPermutation}
 use Rattle.std.proofs.lemmas.Int.{ints}
 use Rattle.std.proofs.lemmas.List.Sorted.{IsPermutation-map, IsPermutation-sym, IsPermutation-trans, sum_by-IsPermutation}
 use Rattle.std.proofs.lemmas.List.Sums.{sum_by_push}
 use Rattle.mm_value.specs.Equality.{same_row}
 use Rattle.mm_value.specs.declared.values.Value.{Value}
-use Rattle.mm_schema.specs.Sorting.{in_order}
 use Rattle.mm_schema.proofs.InOrder.{IsPermutation-in_order}
 use Rattle.mm_query.specs.Queries.{bag_of, rows_by_columns, values_of}
 use Rattle.mm_query.specs.declared.bound_query.BoundQuery.{BoundQuery}
@@ -15,7 +14,7 @@ use Rattle.mm_store.specs.Tables.{Tables, rows_at}
 use Rattle.mm_templist.specs.Combos.{Combos, combo_rows}
 use Rattle.mm_templist.specs.Results.{projected_rows, result_rows}
 use Rattle.mm_select.specs.Fitting.{AreFitting, fitting}
-use Rattle.mm_delta.specs.Counts.{Adds, Entries, count_in, count_of}
+use Rattle.mm_delta.specs.Counts.{Adds, Entries, count_in}
 use Rattle.mm_standing.specs.Queries.{IsBagOf}
 
 -- ---- one row after another

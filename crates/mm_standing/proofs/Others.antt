@@ -1,18 +1,11 @@
 -- The rows of a list that are others than one.
-use Rattle.std.proofs.Common.{◌≡◌, ℕ, suc, ◌+◌, Bool, true, false, cond, not, List, [], ◌∷◌, Some, None, Option, length, refl, sym, ap, ◌∙◌, arith}
-use Rattle.std.specs.List.{filter, sum}
-use Rattle.std.specs.Map.{keys_of, lookup, values_of}
-use Rattle.std.specs.Option.{unwrap_or}
+use Rattle.std.proofs.Common.{◌≡◌, ℕ, suc, ◌+◌, Bool, true, false, cond, not, List, [], ◌∷◌, length, refl, sym, ap, ◌∙◌, arith}
+use Rattle.std.specs.List.{filter}
 use Rattle.std.proofs.lemmas.List.Sums.{sum_by-cons}
-use Rattle.std.proofs.lemmas.Map.{lookup-none}
-use Rattle.std.proofs.lemmas.Map.Entries.{none_past_head}
-use Rattle.std.proofs.lemmas.Map.Keys.{IsDistinct-tail}
 use Rattle.mm_value.specs.Equality.{same_row}
 use Rattle.mm_value.specs.EqualityLaws.{same_row_equiv}
 use Rattle.mm_value.specs.declared.values.Value.{Value}
-use Rattle.mm_value.proofs.SameRows.{rows_exact}
-use Rattle.mm_delta.specs.Counts.{Entries, IsOnce, count_in, count_of, total_of}
-use Rattle.mm_standing.specs.Queries.{IsBagOf}
+use Rattle.mm_delta.specs.Counts.{count_of}
 
 abbrev pub Rows : Type 0
 Rows = List (List Value)

@@ -1,12 +1,11 @@
 -- What stays sound where a change is made or undone.
-use Rattle.std.proofs.Common.{◌≡◌, ℕ, ℤ, pos, ◌+◌, ◌+ℤ◌, ◌≤ℤ◌, ◌<ℤ◌, ◌^◌, ◌≤◌, ◌<◌, ◌⊎◌, inl, inr, true, cond, List, [], ◌∷◌, ◌++◌, Some, length, map, drop, refl, sym, ap, ◌∙◌, subst, arith}
+use Rattle.std.proofs.Common.{◌≡◌, ℕ, pos, ◌+◌, ◌+ℤ◌, ◌≤ℤ◌, ◌<ℤ◌, ◌^◌, ◌≤◌, ◌<◌, true, cond, List, [], ◌∷◌, ◌++◌, Some, length, drop, refl, sym, ap, ◌∙◌, subst, arith}
 use Rattle.std.specs.Prelude.{◌==◌}
 use Rattle.std.specs.List.{All}
 use Rattle.std.proofs.lemmas.Int.{ints}
 use Rattle.std.proofs.lemmas.List.{map-append, drop-append-le, length_push}
 use Rattle.std.proofs.lemmas.List.Elements.{All-pop, All-push, All-weaker}
 use Rattle.std.proofs.lemmas.List.Sums.{sum_by_push}
-use Rattle.mm_value.specs.declared.values.Value.{Value}
 use Rattle.mm_delta.specs.Counts.{Counts, count_in, has_entry, total_of}
 use Rattle.mm_standing.specs.Bags.{AddedTo, CanAdd, HasEntry, IsSound, IsWithin, Made, count_with, done_of, entries_at, number_for, opposite, room_at}
 use Rattle.mm_standing.specs.declared.change.ListChange.{ListChange}

@@ -1,5 +1,5 @@
 -- A bag as counts has as many rows as the rows that it stands for, and shows the same.
-use Rattle.std.proofs.Common.{◌≡◌, ℕ, zero, suc, pos, ◌+◌, ◌<◌, min, Bool, true, false, cond, List, [], ◌∷◌, ◌++◌, get_or, length, map, replicate, Some, refl, sym, ap, ◌∙◌, subst, arith}
+use Rattle.std.proofs.Common.{◌≡◌, ℕ, zero, suc, pos, ◌+◌, ◌<◌, min, Bool, true, false, cond, List, [], ◌∷◌, get_or, length, map, replicate, Some, refl, sym, ap, ◌∙◌, arith}
 use Rattle.std.specs.List.{All, filter, sum_by}
 use Rattle.std.specs.List.Sorted.{IsPermutation}
 use Rattle.std.specs.Map.{keys_of, lookup, values_of}
@@ -16,7 +16,7 @@ use Rattle.mm_value.specs.declared.values.Value.{Value}
 use Rattle.mm_value.specs.declared.values.Value.TheVariants.{Int}
 use Rattle.mm_value.proofs.SameRows.{rows_exact}
 use Rattle.mm_schema.specs.Sorting.{in_order}
-use Rattle.mm_query.specs.Queries.{bag_of, combinations, fits, one_of_each, projected, rows_by_columns, shown, value_at}
+use Rattle.mm_query.specs.Queries.{bag_of, combinations, fits, one_of_each, projected, rows_by_columns, value_at}
 use Rattle.mm_query.specs.declared.bound_query.BoundQuery.{BoundQuery}
 use Rattle.mm_query.proofs.QueryLaws.{one_counted, shown_permutation}
 use Rattle.mm_query.proofs.SortedRows.{shown_of_permutation}

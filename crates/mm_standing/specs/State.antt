@@ -1,5 +1,5 @@
 -- The standing queries with their lists.
-use Rattle.std.specs.Prelude.{◌≡◌, ℕ, ℤ, pos, ◌≤◌, All, List, drop, length}
+use Rattle.std.specs.Prelude.{ℕ, ℤ, pos, ◌≤◌, All, List, drop, length}
 use Rattle.mm_store.specs.Tables.{Tables}
 use Rattle.mm_value.specs.declared.values.Value.{Value}
 use Rattle.mm_delta.specs.Counts.{Counts, count_in}

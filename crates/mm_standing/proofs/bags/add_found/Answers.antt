@@ -1,5 +1,5 @@
 -- The bag of the change's list has it added, and the others are as they were.
-use Rattle.std.proofs.Common.{◌≡◌, ◌+◌, ◌<◌, ◌≤◌, true, pos, ◌+ℤ◌, ◌≤ℤ◌, ◌<ℤ◌, ◌^◌, sym, ap, ◌∙◌, subst, arith}
+use Rattle.std.proofs.Common.{pos, ◌+ℤ◌, ◌≤ℤ◌, ◌<ℤ◌, ◌^◌, sym, ap, ◌∙◌, subst, arith}
 use Rattle.mm_delta.specs.Counts.{Entries, count_in, has_entry, total_of}
 use Rattle.mm_standing.proofs.Adding.{added, count_here, entries_here, total_here}
 use Rattle.mm_standing.proofs.bags.add_found.Goals as goal

@@ -1,5 +1,5 @@
 -- One change more is made, and is in the log.
-use Rattle.std.proofs.Common.{◌≡◌, ◌++◌, ◌∷◌, [], List, inr, length, subst, sym, arith}
+use Rattle.std.proofs.Common.{◌++◌, ◌∷◌, [], List, inr, subst, sym, arith}
 use Rattle.mm_standing.specs.Bags.{IsSound, Made}
 use Rattle.mm_standing.specs.declared.change.Prepared.{Prepared}
 use Rattle.mm_standing.proofs.Steps.{made_more, made_none, next_room, next_there, next_within, sound_made}

@@ -1,13 +1,12 @@
 -- The changes of a query's bag are those of its list, and bring it to as many rows as its query has after the edits.
-use Rattle.std.proofs.Common.{◌≡◌, ◌⊎◌, inl, inr, ◌<◌, ◌≤◌, ◌+ℤ◌, ◌-ℤ◌, ℕ, ℤ, pos, Bool, true, false, cond, List, Some, None, length, map, refl, sym, ap, ◌∙◌, arith}
+use Rattle.std.proofs.Common.{◌≡◌, inl, ◌+ℤ◌, ◌-ℤ◌, ℕ, pos, Bool, true, false, cond, List, Some, None, length, map, ap, ◌∙◌, arith}
 use Rattle.std.proofs.lemmas.Bool.{le-ltb, lt-ltb}
 use Rattle.std.proofs.lemmas.Int.{ints}
-use Rattle.mm_value.specs.declared.refusal.Refusal.{Refusal}
 use Rattle.mm_value.specs.declared.refusal.Refusal.TheVariants.{StandingListTooLarge}
 use Rattle.mm_value.specs.declared.values.Value.{Value}
 use Rattle.mm_query.specs.declared.bound_query.BoundQuery.{BoundQuery}
 use Rattle.mm_delta.specs.Change.{change_between}
-use Rattle.mm_delta.specs.Counts.{count_of, signed_count, total_of}
+use Rattle.mm_delta.specs.Counts.{count_of, signed_count}
 use Rattle.mm_delta.specs.Edited.{after_at, before_at}
 use Rattle.mm_delta.specs.declared.signed.Signed.{Signed}
 use Rattle.mm_standing.specs.Queries.{RowsByPlace, StandingQuery, bag_over}

@@ -1,6 +1,5 @@
 -- One list more has its changes, or is too large.
-use Rattle.std.proofs.Common.{◌≡◌, ◌++◌, ◌+◌, ◌<◌, ◌≤◌, ◌⊎◌, inl, inr, ℕ, Bool, true, false, cond, true≢false, add-one, is_some, List, Some, None, get_or, length, pos, take, refl, sym, ap, ◌∙◌, subst, arith}
-use Rattle.std.specs.Prelude.{slice_get}
+use Rattle.std.proofs.Common.{◌≡◌, ◌+◌, ◌<◌, ◌≤◌, ◌⊎◌, inl, inr, ℕ, Bool, true, false, cond, true≢false, add-one, is_some, List, Some, None, get_or, length, pos, take, refl, sym, ap, ◌∙◌, subst, arith}
 use Rattle.std.specs.List.{All, list_any, sum_by}
 use Rattle.std.proofs.lemmas.Int.{ints}
 use Rattle.std.proofs.lemmas.List.{take_all}
@@ -12,11 +11,10 @@ use Rattle.mm_value.specs.declared.refusal.Refusal.{Refusal}
 use Rattle.mm_value.specs.declared.refusal.Refusal.TheVariants.{Memory, StandingListTooLarge}
 use Rattle.mm_value.specs.declared.values.Value.{Value}
 use Rattle.mm_store.specs.Tables.{IsAt, Tables}
-use Rattle.mm_delta.specs.Counts.{Counts, count_in, count_of}
+use Rattle.mm_delta.specs.Counts.{count_in, count_of}
 use Rattle.mm_delta.specs.Edited.{after_at, before_at}
-use Rattle.mm_standing.specs.Bags.{Brings, entries_at}
-use Rattle.mm_standing.specs.Queries.{IsBagOf, StandingQuery, bag_over, is_too_large, query_reads}
-use Rattle.mm_standing.specs.declared.change.ListChange.{ListChange}
+use Rattle.mm_standing.specs.Bags.{Brings}
+use Rattle.mm_standing.specs.Queries.{StandingQuery, bag_over, is_too_large, query_reads}
 use Rattle.mm_standing.proofs.Adding.{entries_here}
 use Rattle.mm_standing.proofs.Segments.{All_more, IsStage, stage_more}
 use Rattle.mm_standing.proofs.prepare.changes_of_lists.Goals as goal

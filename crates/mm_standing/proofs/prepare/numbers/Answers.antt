@@ -1,5 +1,5 @@
 -- No list has more changes than there are.
-use Rattle.std.proofs.Common.{◌≡◌, ◌<◌, length, slice_index, take, sym, ◌∙◌, subst, arith}
+use Rattle.std.proofs.Common.{◌≡◌, ◌<◌, slice_index, take, sym, ◌∙◌, subst, arith}
 use Rattle.std.specs.Prelude.{◌==◌}
 use Rattle.std.proofs.lemmas.List.{get_or_default, length-take}
 use Rattle.std.proofs.lemmas.List.Sums.{count_by-le-length}

@@ -1,10 +1,9 @@
 -- The bags have the room, and the log has it.
-use Rattle.std.proofs.Common.{◌≡◌, ℕ, ◌≤◌, ◌<◌, List, [], length, map, slice_index, sym, ap, ◌∙◌, subst, arith}
+use Rattle.std.proofs.Common.{ℕ, ◌≤◌, ◌<◌, List, [], length, slice_index, sym, ap, ◌∙◌, subst, arith}
 use Rattle.std.specs.List.{All}
 use Rattle.std.proofs.lemmas.List.{length-map}
 use Rattle.std.proofs.lemmas.List.Elements.{All-weaker}
-use Rattle.mm_delta.specs.Counts.{Counts}
-use Rattle.mm_standing.specs.Bags.{CanAdd, IsSound, done_of, number_for, room_at}
+use Rattle.mm_standing.specs.Bags.{CanAdd, IsSound, number_for, room_at}
 use Rattle.mm_standing.specs.State.{Lists}
 use Rattle.mm_standing.specs.declared.change.ListChange.{ListChange}
 use Rattle.mm_standing.specs.declared.change.Prepared.{Prepared}
