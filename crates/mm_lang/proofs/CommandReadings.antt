@@ -18,7 +18,7 @@ use Rattle.mm_query.specs.declared.command.Mutation.TheVariants as change
 use Rattle.mm_lang.specs.declared.keyword.Keyword.{Keyword}
 use Rattle.mm_lang.specs.declared.keyword.Keyword.TheVariants as keyword
 use Rattle.mm_lang.specs.declared.reader.Reader.{Reader}
-use Rattle.mm_lang.specs.Grammar.{name, column, index_kind, tuple, comma_list, table, drop, dropped, index, insert, scan, scan_of, assignment, tests_on, update, delete}
+use Rattle.mm_lang.specs.Grammar.{name, column, index_kind, tuple, comma_list, table, drop, dropped, index, insert, scan, scan_of, show, assignment, tests_on, unwatch, update, delete}
 use Rattle.mm_lang.specs.Phrases.{Phrase, ◌>>=◌, ◌>>◌, say, one_word, only_if, the_keyword, has_keyword, in_parentheses}
 use Rattle.mm_lang.specs.Reading.{assignment_literals, first_fault, literals_of, test_literals}
 use Rattle.mm_lang.specs.Tokens.{tokens}
@@ -85,6 +85,25 @@ module _ (make : List ℕ → Command) (none : (n : List ℕ) → literals_of (m
   pub made_given : (old new : Reader) (n : List ℕ) → Gives name no_literals old new n → Gives (name >>= (λ n. say (make n))) literals_of old new (make n)
   unfolding say_made
   made_given old new n g = command_took (name >>= say_made) old new (make n) (none n) (took_then say_made (took g) (took_say (make n) new))
+
+-- SHOW and UNWATCH
+
+pub show_no_name : (old : Reader) (e : Refusal) → Fails name old e → Fails show old e
+unfolding show
+show_no_name old e h = fails_first name (λ n. say (command.Show n)) old e h
+
+pub show_given : (old new : Reader) (n : List ℕ) → Gives name no_literals old new n → Gives show literals_of old new (command.Show n)
+unfolding show
+show_given old new n g = made_given (λ m. command.Show m) (λ m. refl) old new n g
+
+pub unwatch_no_name : (old : Reader) (e : Refusal) → Fails name old e → Fails unwatch old e
+unfolding unwatch
+unwatch_no_name old e h = fails_first name (λ n. say (command.Define (define.Unwatch n))) old e h
+
+pub unwatch_given : (old new : Reader) (n : List ℕ) → Gives name no_literals old new n
+    → Gives unwatch literals_of old new (command.Define (define.Unwatch n))
+unfolding unwatch
+unwatch_given old new n g = made_given (λ m. command.Define (define.Unwatch m)) (λ m. refl) old new n g
 
 -- INDEX
 

@@ -9,7 +9,7 @@ use Rattle.mm_value.specs.declared.values.Value.TheVariants.{Int, Text}
 use Rattle.mm_value.specs.Literal.{is_within_limit}
 use Rattle.mm_query.specs.Transactions.{is_transaction_control}
 use Rattle.mm_query.specs.declared.command.Command.{Command}
-use Rattle.mm_query.specs.declared.command.Command.TheVariants.{Nothing, Define, Change, Scan, ScanIndex, Select, Explain, Begin, Commit, Rollback}
+use Rattle.mm_query.specs.declared.command.Command.TheVariants.{Nothing, Define, Change, Scan, ScanIndex, Select, Explain, Show, Tables, Begin, Commit, Rollback}
 use Rattle.mm_lang.specs.declared.keyword.Keyword.{Keyword}
 use Rattle.mm_lang.specs.declared.keyword.Keyword.TheVariants as keyword
 use Rattle.mm_lang.specs.declared.reader.Reader.{Reader}
@@ -19,7 +19,7 @@ use Rattle.mm_lang.specs.Reading.{Reads, command_takes_memory, first_fault, is_n
 use Rattle.mm_lang.specs.Spelling.{word}
 use Rattle.mm_lang.specs.Tokens.{Token, tokens}
 use Rattle.mm_lang.specs.Words.{keyword_named}
-use Rattle.mm_lang.specs.steps.Parsing.{AnswersReading, Fails, Finishes, Gives, IsMissing, is_whole_command, no_literals}
+use Rattle.mm_lang.specs.steps.Parsing.{AnswersReading, Fails, Finishes, Gives, IsMissing, is_control_keyword, no_literals}
 use Rattle.mm_lang.specs.steps.Parts.{Front, said_same}
 use Rattle.mm_lang.proofs.Readings.{took}
 use Rattle.mm_lang.proofs.SpelledCommands.{command_read}
@@ -67,6 +67,8 @@ tokens_take ts (Some (Scan table)) is free = limits_take (Scan table) (literals_
 tokens_take ts (Some (ScanIndex index)) is free = limits_take (ScanIndex index) (literals_of (ScanIndex index)) refl
 tokens_take ts (Some (Select query)) is free = limits_take (Select query) (literals_of (Select query)) refl
 tokens_take ts (Some (Explain query)) is free = limits_take (Explain query) (literals_of (Explain query)) refl
+tokens_take ts (Some (Show name)) is free = limits_take (Show name) (literals_of (Show name)) refl
+tokens_take ts (Some Tables) is free = limits_take Tables (literals_of Tables) refl
 tokens_take ts (Some Begin) is free = absurd (false≢true (sym (free Begin refl)))
 tokens_take ts (Some Commit) is free = absurd (false≢true (sym (free Commit refl)))
 tokens_take ts (Some Rollback) is free = absurd (false≢true (sym (free Rollback refl)))
@@ -93,15 +95,15 @@ control_takes_none line c is control = ap reading_takes_memory is ∙ by c contr
     by Rollback control = refl
     by _ control = absurd (false≢true control)
 
--- Where the first word is no command by itself, what the tokens read as takes memory.
-behind_takes : (ts us : List Token) (k : Keyword) → one_word keyword_named ts ≡ Some (k, us) → is_whole_command k ≡ false
+-- Where the first word neither begins nor ends a transaction, what the tokens read as takes memory.
+behind_takes : (ts us : List Token) (k : Keyword) → one_word keyword_named ts ≡ Some (k, us) → is_control_keyword k ≡ false
     → reading_takes_memory (read_as (command_of ts)) ≡ true
 behind_takes ts us k first more = tokens_take ts (command_of ts) refl by
   where
-    begins : (wanted : Keyword) → one_word keyword_named (word wanted ∷ []) ≡ Some (wanted, []) → ts ≡ word wanted ∷ [] → is_whole_command wanted ≡ false
+    begins : (wanted : Keyword) → one_word keyword_named (word wanted ∷ []) ≡ Some (wanted, []) → ts ≡ word wanted ∷ [] → is_control_keyword wanted ≡ false
     begins wanted named spelled =
         let same : ◌≡◌ {A = Option (Front Keyword)} (Some (k, us)) (Some (wanted, [])) = sym first ∙ ap (one_word keyword_named) spelled ∙ named in
-        subst (λ w. is_whole_command w ≡ false) (said_same k wanted us [] same).0 more
+        subst (λ w. is_control_keyword w ≡ false) (said_same k wanted us [] same).0 more
 
     by : (c : Command) → command_of ts ≡ Some c → is_transaction_control c ≡ false
     by Begin is = begins keyword.Begin refl (command_read ts Begin is)
@@ -123,7 +125,7 @@ pub no_keyword : (old : Reader) (e : Refusal) → IsMissing (one_word keyword_na
 no_keyword old e h = no_command old e h.0 (ap (option_and_then (λ (r : Front Keyword). command_behind r.0 r.1)) h.1)
 
 pub nothing_behind : (old mid : Reader) (k : Keyword) (e : Refusal) → Gives (one_word keyword_named) no_literals old mid k
-    → Fails (command_behind k) mid e → (e ≡ Memory → is_whole_command k ≡ false) → AnswersReading (read_as (command_of (tokens old.rest.now))) (Err e)
+    → Fails (command_behind k) mid e → (e ≡ Memory → is_control_keyword k ≡ false) → AnswersReading (read_as (command_of (tokens old.rest.now))) (Err e)
 nothing_behind old mid k e g (inl h) more =
     let t = took g in no_command old e h.0 (ap (option_and_then (λ (r : Front Keyword). command_behind r.0 r.1)) t.is ∙ h.1)
 nothing_behind old mid k e g (inr h) more =

@@ -48,7 +48,7 @@ tokens_quote bs = refl
 word_byte_not : (b n : ℕ) → is_word_byte b ≡ true → is_word_byte n ≡ false → eqb b n ≡ false
 word_byte_not b n word other = ne_eqb b n (λ e. false≢true (sym other ∙ ap is_word_byte (sym e) ∙ word))
 
-word_step : (b : ℕ) (bs : List ℕ) → is_word_byte b ≡ true → tokens (b ∷ bs) ≡ onto_word b (begins_word bs) (tokens bs)
+pub word_step : (b : ℕ) (bs : List ℕ) → is_word_byte b ≡ true → tokens (b ∷ bs) ≡ onto_word b (begins_word bs) (tokens bs)
 unfolding lexed
 word_step b bs word =
     cond-false (is_blank b) _ _ (or_from (eqb b 32) (eqb b 9) (word_byte_not b 32 word refl) (word_byte_not b 9 word refl))

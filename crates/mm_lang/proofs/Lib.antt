@@ -3,6 +3,7 @@ pub mod Commands
 mod Exactness
 mod Fronts
 mod Lexing
+mod ListingTexts
 mod Lists
 mod LiteralOrder
 mod Literals
@@ -17,4 +18,5 @@ mod SpelledSelect
 mod SpelledWords
 mod StepTexts
 mod Texts
+mod ToldAgain
 mod TupleValues

@@ -209,6 +209,9 @@ spelled_literals ts (command.Define (define.Index i)) h =
     ∙ behind_name i.table (Mark Open ∷ behind) h.1
     ∙ behind_name i.column (Mark Close ∷ word (kind_word i.kind) ∷ []) h.2 ∙ kind_no_literal i.kind)
 spelled_literals ts (command.Define (define.DropIndex n)) h = sym (ap among h.1 ∙ behind_name n [] h.0)
+spelled_literals ts (command.Define (define.Watch watched)) h =
+    sym (ap among h.3 ∙ behind_name watched.name (word keyword.Select ∷ h.0) h.1 ∙ query_among h.0 watched.query h.2)
+spelled_literals ts (command.Define (define.Unwatch n)) h = sym (ap among h.1 ∙ behind_name n [] h.0)
 spelled_literals ts (command.Change (change.Insert table tuples)) h =
     sym (
     ap among h.3 ∙ behind_name table h.0 h.1 ∙ ap among (sym (append-nil h.0))
@@ -225,6 +228,8 @@ spelled_literals ts (command.Scan table) h = sym (ap among h.1 ∙ behind_name t
 spelled_literals ts (command.ScanIndex i) h = sym (ap among h.1 ∙ behind_name i [] h.0)
 spelled_literals ts (command.Select q) h = sym (ap among h.2 ∙ query_among h.0 q h.1)
 spelled_literals ts (command.Explain q) h = sym (ap among h.2 ∙ query_among h.0 q h.1)
+spelled_literals ts (command.Show n) h = sym (ap among h.1 ∙ behind_name n [] h.0)
+spelled_literals ts command.Tables h = sym (ap among h)
 spelled_literals ts command.Begin h = sym (ap among h)
 spelled_literals ts command.Commit h = sym (ap among h)
 spelled_literals ts command.Rollback h = sym (ap among h)

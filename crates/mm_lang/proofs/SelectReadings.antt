@@ -13,13 +13,14 @@ use Rattle.mm_value.proofs.Limits.{int_within}
 use Rattle.mm_query.specs.declared.atom.Atom.{Atom}
 use Rattle.mm_query.specs.declared.command.Command.{Command}
 use Rattle.mm_query.specs.declared.command.Command.TheVariants as command
+use Rattle.mm_query.specs.declared.command.Definition.TheVariants as define
 use Rattle.mm_query.specs.declared.query.FieldName.{FieldName}
 use Rattle.mm_query.specs.declared.query.FromItem.{FromItem}
 use Rattle.mm_query.specs.declared.query.Query.{Query}
 use Rattle.mm_lang.specs.declared.keyword.Keyword.TheVariants as keyword
 use Rattle.mm_lang.specs.declared.reader.Reader.{Reader}
 use Rattle.mm_lang.specs.declared.token.Symbol.TheVariants as symbol
-use Rattle.mm_lang.specs.Grammar.{name, comma_list, explain, field, from_item, position, order, query, select, tests_on}
+use Rattle.mm_lang.specs.Grammar.{name, comma_list, explain, field, from_item, position, order, query, select, tests_on, watch}
 use Rattle.mm_lang.specs.Phrases.{Phrase, ◌>>=◌, ◌>>◌, say, one, word_of, the_symbol, the_keyword, has_keyword}
 use Rattle.mm_lang.specs.Reading.{literals_of, position_literals, query_literals, test_literals}
 use Rattle.mm_lang.specs.Tokens.{tokens}
@@ -213,7 +214,7 @@ module _ (old mid : Reader) (distinct : Bool) (fields : List FieldName) (from : 
       given_both (tests_on field) order (say_query distinct fields from) (flat_map test_literals) (flat_map position_literals) query_literals (λ x y. refl)
       old mid new asked positions g h
 
--- ---- SELECT and EXPLAIN
+-- ---- SELECT, EXPLAIN and WATCH
 
 pub select_no_query : (old : Reader) (e : Refusal) → Fails query old e → Fails select old e
 unfolding select
@@ -242,3 +243,38 @@ module _ (old mid : Reader) (g : Gives (the_keyword keyword.Select) no_literals 
   explain_given new q h =
       reads_behind (the_keyword keyword.Select) (λ u. query >>= say_plan) literals_of old mid new tt (Ok (command.Explain q)) (took g)
       (given_made query (λ q. command.Explain q) query_literals literals_of (λ x. refl) h)
+
+say_watch : List ℕ → Query → Command
+say_watch n q = command.Define (define.Watch (record { name = n; query = q }))
+
+after_select : List ℕ → Phrase Command
+after_select n = query >>= (λ q. say (command.Define (define.Watch (record { name = n; query = q }))))
+
+after_named : List ℕ → Phrase Command
+after_named n = the_keyword keyword.Select >> after_select n
+
+pub watch_no_name : (old : Reader) (e : Refusal) → Fails name old e → Fails watch old e
+unfolding watch after_named after_select
+watch_no_name old e h = fails_first name after_named old e h
+
+module _ (old mid : Reader) (n : List ℕ) (g : Gives name no_literals old mid n) where
+  pub watch_no_select : (e : Refusal) → Fails (the_keyword keyword.Select) mid e → Fails watch old e
+  unfolding watch after_named after_select
+  watch_no_select e h = let t = took g in fails_next name after_named old mid n e t.is (fails_first (the_keyword keyword.Select) (λ u. after_select n) mid e h)
+
+  module _ (behind : Reader) (k : Gives (the_keyword keyword.Select) no_literals mid behind tt) where
+    pub watch_no_query : (e : Refusal) → Fails query behind e → Fails watch old e
+    unfolding watch after_named after_select say_watch
+    watch_no_query e h =
+        let t = took g in
+        let u = took k in
+        fails_next name after_named old mid n e t.is
+        (fails_next (the_keyword keyword.Select) (λ u. after_select n) mid behind tt e u.is (fails_first query (λ q. say (say_watch n q)) behind e h))
+
+    pub watch_given : (new : Reader) (q : Query) → Gives query query_literals behind new q
+        → Gives watch literals_of old new (command.Define (define.Watch (record { name = n; query = q })))
+    unfolding watch after_named after_select say_watch
+    watch_given new q h =
+        reads_behind name after_named literals_of old mid new n (Ok (say_watch n q)) (took g)
+        (reads_behind (the_keyword keyword.Select) (λ u. after_select n) literals_of mid behind new tt (Ok (say_watch n q)) (took k)
+        (given_made query (say_watch n) query_literals literals_of (λ x. refl) h))

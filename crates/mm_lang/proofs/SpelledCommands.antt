@@ -20,7 +20,7 @@ use Rattle.mm_query.specs.declared.command.Mutation.TheVariants as change
 use Rattle.mm_lang.specs.declared.keyword.Keyword.{Keyword}
 use Rattle.mm_lang.specs.declared.keyword.Keyword.TheVariants as keyword
 use Rattle.mm_lang.specs.declared.token.Symbol.TheVariants.{Open, Close, Comma}
-use Rattle.mm_lang.specs.Grammar.{literal_of, name, type_named, col_type, reference, role_behind, role, column, kind_named, index_kind, tuple, comma_list, table, drop, dropped, index, insert, scan, scan_of, command_behind, command_of}
+use Rattle.mm_lang.specs.Grammar.{literal_of, name, type_named, col_type, reference, role_behind, role, column, kind_named, index_kind, tuple, comma_list, table, drop, dropped, index, insert, scan, scan_of, show, unwatch, command_behind, command_of}
 use Rattle.mm_lang.specs.Phrases.{Phrase, ◌>>=◌, ◌>>◌, say, one, one_word, the_symbol, the_keyword, has_keyword, only_if, in_parentheses, alone}
 use Rattle.mm_lang.specs.Spelling.{word, type_word, kind_word, SpellsLiteral, SpellsOne, SpellsList, SpellsInParentheses, SpellsTuple, SpellsRole, SpellsColumn, SpellsCommand}
 use Rattle.mm_lang.specs.Tokens.{Token, Word, Mark}
@@ -28,7 +28,7 @@ use Rattle.mm_lang.specs.Words.{keyword_named}
 use Rattle.mm_lang.specs.steps.Parts.{Front, said_same, tested, chained, then_parts, word_parts, in_parentheses_parts}
 use Rattle.mm_lang.proofs.SpelledWords.{symbol_read, keyword_read, named_read, has_keyword_read, name_no_keyword, name_read, name_spelled, literal_read, literal_spelled}
 use Rattle.mm_lang.proofs.SpelledAtoms.{comma, delete_read, delete_spelled, update_read, update_spelled}
-use Rattle.mm_lang.proofs.SpelledSelect.{select_read, select_spelled, explain_read, explain_spelled}
+use Rattle.mm_lang.proofs.SpelledSelect.{select_read, select_spelled, explain_read, explain_spelled, watch_read, watch_spelled}
 use Rattle.mm_lang.proofs.Exactness.{IsExact, Always, one_exact, list_exact, parentheses_exact}
 
 -- tuples
@@ -225,6 +225,28 @@ scan_index_spelled : (i : List ℕ) → IsName i → scan (word keyword.Index �
 unfolding scan
 scan_index_spelled i named = made_spelled (scan_of true) i named
 
+-- SHOW and UNWATCH
+
+show_read : (ts : List Token) (c : Command) → show ts ≡ Some (c, []) → SpellsCommand (word keyword.Show ∷ ts) c
+unfolding show
+show_read ts c e =
+    let p = made_read (λ n. command.Show n) ts c e in
+    subst (SpellsCommand (word keyword.Show ∷ ts)) p.3 (p.1, ap (λ l. word keyword.Show ∷ l) p.2)
+
+show_spelled : (n : List ℕ) → IsName n → show (Word n ∷ []) ≡ Some (command.Show n, [])
+unfolding show
+show_spelled n named = made_spelled (λ n. command.Show n) n named
+
+unwatch_read : (ts : List Token) (c : Command) → unwatch ts ≡ Some (c, []) → SpellsCommand (word keyword.Unwatch ∷ ts) c
+unfolding unwatch
+unwatch_read ts c e =
+    let p = made_read (λ n. command.Define (define.Unwatch n)) ts c e in
+    subst (SpellsCommand (word keyword.Unwatch ∷ ts)) p.3 (p.1, ap (λ l. word keyword.Unwatch ∷ l) p.2)
+
+unwatch_spelled : (n : List ℕ) → IsName n → unwatch (Word n ∷ []) ≡ Some (command.Define (define.Unwatch n), [])
+unfolding unwatch
+unwatch_spelled n named = made_spelled (λ n. command.Define (define.Unwatch n)) n named
+
 -- DROP
 
 dropped_read : (k : Keyword) (ts : List Token) (c : Command) → dropped k ts ≡ Some (c, []) → SpellsCommand (word keyword.Drop ∷ word k ∷ ts) c
@@ -355,7 +377,7 @@ table_spelled n columns inner named one h =
     (ap (in_parentheses (comma_list column)) (sym (append-nil inner)) ∙ table_columns_exact.complete inner columns [] h tt)
     ∙ cond-true (eqb (key_count columns) 1) _ _ (eq-eqb (key_count columns) 1 one)
 
--- BEGIN, COMMIT and ROLLBACK
+-- BEGIN, COMMIT, ROLLBACK and TABLES
 
 whole_read : (k : Keyword) (whole : Command) → SpellsCommand (word k ∷ []) whole → (ts : List Token) (c : Command)
     → ◌≡◌ {A = Option (Front Command)} (Some (whole, ts)) (Some (c, [])) → SpellsCommand (word k ∷ ts) c
@@ -376,8 +398,12 @@ behind_read keyword.Insert ts c e = insert_read ts c e
 behind_read keyword.Rollback ts c e = whole_read keyword.Rollback command.Rollback refl ts c e
 behind_read keyword.Scan ts c e = scan_read ts c e
 behind_read keyword.Select ts c e = select_read ts c e
+behind_read keyword.Show ts c e = show_read ts c e
 behind_read keyword.Table ts c e = table_read ts c e
+behind_read keyword.Tables ts c e = whole_read keyword.Tables command.Tables refl ts c e
+behind_read keyword.Unwatch ts c e = unwatch_read ts c e
 behind_read keyword.Update ts c e = update_read ts c e
+behind_read keyword.Watch ts c e = watch_read ts c e
 behind_read _ ts c e = let answer : Front Command = (c, []) in absurd (none-some answer e)
 
 alone_read : (x c : Command) (us : List Token) → alone x us ≡ Some c → (x ≡ c) × (us ≡ [])
@@ -405,6 +431,10 @@ command_spelled ts (command.Define (define.Index i)) h =
     ap command_of h.3 ∙ ap (option_and_then (λ (r : Front Command). alone r.0 r.1)) (index_spelled i.name i.table i.column i.kind h.0 h.1 h.2)
 command_spelled ts (command.Define (define.DropIndex n)) h =
     ap command_of h.1 ∙ ap (option_and_then (λ (r : Front Command). alone r.0 r.1)) (drop_index_spelled n h.0)
+command_spelled ts (command.Define (define.Watch watched)) h =
+    ap command_of h.3 ∙ ap (option_and_then (λ (r : Front Command). alone r.0 r.1)) (watch_spelled watched.name h.0 watched.query h.1 h.2)
+command_spelled ts (command.Define (define.Unwatch n)) h =
+    ap command_of h.1 ∙ ap (option_and_then (λ (r : Front Command). alone r.0 r.1)) (unwatch_spelled n h.0)
 command_spelled ts (command.Change (change.Insert t tuples)) h =
     ap command_of h.3 ∙ ap (option_and_then (λ (r : Front Command). alone r.0 r.1)) (insert_spelled t tuples h.0 h.1 h.2)
 command_spelled ts (command.Change (change.Update t set asked)) h =
@@ -417,6 +447,8 @@ command_spelled ts (command.Select q) h =
     ap command_of h.2 ∙ ap (option_and_then (λ (r : Front Command). alone r.0 r.1)) (select_spelled h.0 q h.1)
 command_spelled ts (command.Explain q) h =
     ap command_of h.2 ∙ ap (option_and_then (λ (r : Front Command). alone r.0 r.1)) (explain_spelled h.0 q h.1)
+command_spelled ts (command.Show n) h = ap command_of h.1 ∙ ap (option_and_then (λ (r : Front Command). alone r.0 r.1)) (show_spelled n h.0)
+command_spelled ts command.Tables h = ap command_of h
 command_spelled ts command.Begin h = ap command_of h
 command_spelled ts command.Commit h = ap command_of h
 command_spelled ts command.Rollback h = ap command_of h

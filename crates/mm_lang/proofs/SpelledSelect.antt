@@ -1,18 +1,20 @@
--- Queries, SELECT and EXPLAIN: what is read is spelled so, and what is spelled is read.
+-- Queries, SELECT, EXPLAIN and WATCH: what is read is spelled so, and what is spelled is read.
 use Rattle.std.proofs.Common.{◌≡◌, ⊎_elim, ℕ, Bool, true, false, cond, List, [], ◌∷◌, ◌++◌, Option, Some, None, refl, sym, ap, subst, ◌∙◌, append-nil, append_assoc}
 use Rattle.std.specs.Option.{option_and_then, option_or}
 use Rattle.std.specs.Str.Parse.{digits_value}
 use Rattle.std.proofs.lemmas.Option.{none-some, same_Some}
+use Rattle.mm_schema.specs.Name.{IsName}
 use Rattle.mm_value.specs.Literal.{is_numeral}
 use Rattle.mm_query.specs.declared.atom.Atom.{Atom}
 use Rattle.mm_query.specs.declared.command.Command.{Command}
 use Rattle.mm_query.specs.declared.command.Command.TheVariants as command
+use Rattle.mm_query.specs.declared.command.Definition.TheVariants as define
 use Rattle.mm_query.specs.declared.query.FieldName.{FieldName}
 use Rattle.mm_query.specs.declared.query.FromItem.{FromItem}
 use Rattle.mm_query.specs.declared.query.Query.{Query}
 use Rattle.mm_lang.specs.declared.keyword.Keyword.TheVariants as keyword
 use Rattle.mm_lang.specs.declared.token.Symbol.TheVariants as symbol
-use Rattle.mm_lang.specs.Grammar.{name, comma_list, field, from_item, position, explain, order, query, select, shift, tests_on}
+use Rattle.mm_lang.specs.Grammar.{name, comma_list, field, from_item, position, explain, order, query, select, shift, tests_on, watch}
 use Rattle.mm_lang.specs.Phrases.{Phrase, ◌>>=◌, ◌>>◌, say, word_of, the_symbol, the_keyword, has_keyword}
 use Rattle.mm_lang.specs.Spelling.{word, SpellsCommand, SpellsDistinct, SpellsField, SpellsFromItem, SpellsList, SpellsOne, SpellsOrder, SpellsPosition, SpellsQuery, SpellsTestsOn}
 use Rattle.mm_lang.specs.Tokens.{Token, Word, Mark}
@@ -218,7 +220,7 @@ query_spelled : (ts : List Token) (q : Query) → SpellsQuery ts q → query ts 
 query_spelled ts q h =
     ap query (h.10 ∙ regrouped h.0 h.1 (word keyword.From ∷ h.2) h.3 h.4) ∙ parts_spelled q h.0 h.1 h.2 h.3 h.4 h.5 h.6 h.7 h.8 h.9
 
--- ---- SELECT and EXPLAIN
+-- ---- SELECT, EXPLAIN and WATCH
 
 -- a query alone behind what makes a command of it
 module _ (make : Query → Command) where
@@ -256,3 +258,33 @@ explain_read ts c e =
 pub explain_spelled : (ts : List Token) (q : Query) → SpellsQuery ts q → explain (word keyword.Select ∷ ts) ≡ Some (command.Explain q, [])
 unfolding explain
 explain_spelled ts q h = made_spelled (λ q. command.Explain q) ts q h
+
+say_watch : List ℕ → Query → Command
+say_watch n q = command.Define (define.Watch (record { name = n; query = q }))
+
+after_select : List ℕ → Phrase Command
+after_select n = query >>= (λ q. say (say_watch n q))
+
+after_named : List ℕ → Phrase Command
+after_named n = the_keyword keyword.Select >> after_select n
+
+pub watch_read : (ts : List Token) (c : Command) → watch ts ≡ Some (c, []) → SpellsCommand (word keyword.Watch ∷ ts) c
+unfolding watch after_named after_select say_watch
+watch_read ts c e =
+    let p = then_parts name after_named ts c [] e in
+    let r = then_parts (the_keyword keyword.Select) (λ u. after_select p.0) p.1 c [] p.3 in
+    let q = made_read (say_watch p.0) r.1 c r.3 in
+    let n = name_read ts p.0 p.1 p.2 in
+    subst (SpellsCommand (word keyword.Watch ∷ ts)) q.2 (
+      r.1,
+      n.1,
+      q.1,
+      ap (λ l. word keyword.Watch ∷ l) (n.0 ∙ ap (λ l. Word p.0 ∷ l) (keyword_read keyword.Select p.1 r.1 r.2)),
+    )
+
+pub watch_spelled : (n : List ℕ) (ts : List Token) (q : Query) → IsName n → SpellsQuery ts q
+    → watch (Word n ∷ word keyword.Select ∷ ts) ≡ Some (command.Define (define.Watch (record { name = n; query = q })), [])
+unfolding watch after_named after_select say_watch
+watch_spelled n ts q named h =
+    ap (option_and_then (λ (r : Front (List ℕ)). after_named r.0 r.1)) (name_spelled n (word keyword.Select ∷ ts) named)
+    ∙ made_spelled (say_watch n) ts q h

@@ -271,6 +271,26 @@ select = do
   asked ← query
   say (command.Select asked)
 
+-- SHOW, and behind it: name
+unfoldable pub show : Phrase Command
+show = do
+  name ← name
+  say (command.Show name)
+
+-- UNWATCH, and behind it: name
+unfoldable pub unwatch : Phrase Command
+unwatch = do
+  name ← name
+  say (command.Define (define.Unwatch name))
+
+-- WATCH, and behind it: name SELECT query
+unfoldable pub watch : Phrase Command
+watch = do
+  its_name ← name
+  the_keyword keyword.Select
+  asked ← query
+  say (command.Define (define.Watch (record { name = its_name; query = asked })))
+
 -- EXPLAIN, and behind it: SELECT query
 unfoldable pub explain : Phrase Command
 explain = do
@@ -290,8 +310,12 @@ command_behind keyword.Insert = insert
 command_behind keyword.Rollback = say command.Rollback
 command_behind keyword.Scan = scan
 command_behind keyword.Select = select
+command_behind keyword.Show = show
 command_behind keyword.Table = table
+command_behind keyword.Tables = say command.Tables
+command_behind keyword.Unwatch = unwatch
 command_behind keyword.Update = update
+command_behind keyword.Watch = watch
 command_behind _ = never
 
 -- The command that tokens read as, its numbers and texts of any size.

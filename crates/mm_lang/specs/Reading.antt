@@ -12,7 +12,9 @@ use Rattle.mm_query.specs.declared.atom.Atom.{Atom}
 use Rattle.mm_query.specs.declared.atom.Operand.{Operand}
 use Rattle.mm_query.specs.declared.atom.Operand.TheVariants.{Literal, Column, Shifted}
 use Rattle.mm_query.specs.declared.command.Command.{Command}
-use Rattle.mm_query.specs.declared.command.Command.TheVariants.{Nothing, Define, Change, Scan, ScanIndex, Select, Explain, Begin, Commit, Rollback}
+use Rattle.mm_query.specs.declared.command.Command.TheVariants.{Nothing, Define, Change, Scan, ScanIndex, Select, Explain, Show, Tables, Begin, Commit, Rollback}
+use Rattle.mm_query.specs.declared.command.Definition.{Definition}
+use Rattle.mm_query.specs.declared.command.Definition.TheVariants as define
 use Rattle.mm_query.specs.declared.command.Mutation.TheVariants.{Insert, Update, Delete}
 use Rattle.mm_query.specs.declared.query.Query.{Query}
 use Rattle.mm_lang.specs.Grammar.{command_of, literal_of}
@@ -60,10 +62,19 @@ literals_among [] = []
 literals_among (Mark Minus ∷ Word word ∷ ts) = cons_option (literal_of (Signed word)) (literals_among ts)
 literals_among (t ∷ ts) = cons_option (literal_of t) (literals_among ts)
 
+-- the literals of a change of the catalog, from left to right
+abbrev pub definition_literals : Definition → List Value
+definition_literals (define.Table definition) = []
+definition_literals (define.DropTable name) = []
+definition_literals (define.Index index) = []
+definition_literals (define.DropIndex name) = []
+definition_literals (define.Watch watched) = query_literals watched.query
+definition_literals (define.Unwatch name) = []
+
 -- the literals of a command, from left to right
 abbrev pub literals_of : Command → List Value
 literals_of Nothing = []
-literals_of (Define definition) = []
+literals_of (Define definition) = definition_literals definition
 literals_of (Change (Insert table tuples)) = flat_map (λ tuple. tuple) tuples
 literals_of (Change (Update table assignments tests)) = flat_map assignment_literals assignments ++ flat_map test_literals tests
 literals_of (Change (Delete table tests)) = flat_map test_literals tests
@@ -71,6 +82,8 @@ literals_of (Scan table) = []
 literals_of (ScanIndex index) = []
 literals_of (Select query) = query_literals query
 literals_of (Explain query) = query_literals query
+literals_of (Show name) = []
+literals_of Tables = []
 literals_of Begin = []
 literals_of Commit = []
 literals_of Rollback = []
@@ -114,6 +127,8 @@ command_takes_memory (Scan table) = true
 command_takes_memory (ScanIndex index) = true
 command_takes_memory (Select query) = true
 command_takes_memory (Explain query) = true
+command_takes_memory (Show name) = true
+command_takes_memory Tables = true
 command_takes_memory Begin = false
 command_takes_memory Commit = false
 command_takes_memory Rollback = false

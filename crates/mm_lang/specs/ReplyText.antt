@@ -1,18 +1,30 @@
 -- The text of a reply.
-use Rattle.std.specs.Prelude.{ℕ, List, [], ◌∷◌, ◌++◌, All, codes, length}
+use Rattle.std.specs.Prelude.{ℕ, List, [], ◌∷◌, ◌++◌, All, IfSome, codes, length}
 use Rattle.std.specs.Fmt.{decimal}
 use Rattle.std.specs.List.{flat_map}
 use Rattle.mm_value.specs.Refusals.{refusal_number, refusal_text}
 use Rattle.mm_value.specs.Written.{row_text}
 use Rattle.mm_value.specs.declared.values.Value.{Value}
+use Rattle.mm_schema.specs.Columns.{target_of}
 use Rattle.mm_schema.specs.Name.{IsName}
+use Rattle.mm_schema.specs.declared.column.Column.{Column}
+use Rattle.mm_schema.specs.declared.column.Role.{Role}
+use Rattle.mm_schema.specs.declared.column.Role.TheVariants as role
+use Rattle.mm_schema.specs.declared.index.IndexDef.{IndexDef}
 use Rattle.mm_schema.specs.declared.index.IndexId.{IndexId}
 use Rattle.mm_schema.specs.declared.index.IndexId.TheVariants as id
+use Rattle.mm_schema.specs.declared.table.TableDef.{TableDef}
 use Rattle.mm_query.specs.Plans.{line_alias}
+use Rattle.mm_query.specs.declared.listing.ListedQuery.{ListedQuery}
+use Rattle.mm_query.specs.declared.listing.ListedTable.{ListedTable}
+use Rattle.mm_query.specs.declared.listing.Listing.{Listing as Told}
 use Rattle.mm_query.specs.declared.plan_line.PlanLine.{PlanLine}
 use Rattle.mm_query.specs.declared.plan_line.PlanLine.TheVariants as line
 use Rattle.mm_query.specs.declared.reply.Reply.{Reply}
-use Rattle.mm_query.specs.declared.reply.Reply.TheVariants.{Done, Count, Rows, Steps, Refused}
+use Rattle.mm_query.specs.declared.reply.Reply.TheVariants.{Done, Count, Rows, Steps, Listing, Refused}
+use Rattle.mm_lang.specs.declared.keyword.Keyword.TheVariants as keyword
+use Rattle.mm_lang.specs.Spelling.{kind_word, type_word}
+use Rattle.mm_lang.specs.Words.{keyword_text}
 
 -- a line for each item, and then their number
 abbrev pub counted_lines : {X : Type 0} → (X → List ℕ) → List ℕ → List X → List ℕ
@@ -48,15 +60,74 @@ line_text step = line_alias step ++ way_text step
 abbrev pub steps_text : List PlanLine → List ℕ
 steps_text steps = counted_lines line_text (codes "steps ") steps
 
+-- what a column is for, as TABLE has it, behind a space: KEY, REF name, or nothing
+abbrev pub role_text : Role → List ℕ
+role_text role.Key = 32 ∷ keyword_text keyword.Key
+role_text role.Plain = []
+role_text (role.Reference table) = 32 ∷ keyword_text keyword.Ref ++ 32 ∷ table
+
+-- a column, as TABLE has it
+abbrev pub column_text : Column → List ℕ
+column_text column = column.name ++ 32 ∷ keyword_text (type_word column.col_type) ++ role_text column.role
+
+-- columns, a comma and a space between each two
+abbrev pub columns_text : List Column → List ℕ
+columns_text [] = []
+columns_text (c ∷ []) = column_text c
+columns_text (c ∷ d ∷ cs) = column_text c ++ 44 ∷ 32 ∷ columns_text (d ∷ cs)
+
+-- the end of a line that tells how many rows there are
+abbrev pub rows_told : ℕ → List ℕ
+rows_told n = codes " rows " ++ decimal n ++ 10 ∷ []
+
+-- an index as the INDEX that makes it: INDEX name ON name (name) kind
+abbrev pub index_told : IndexDef → List ℕ
+index_told index =
+    codes "INDEX " ++ index.name ++ codes " ON " ++ index.table ++ codes " (" ++ index.column ++ codes ") " ++ keyword_text (kind_word index.kind)
+
+-- the line of an index
+abbrev pub index_line : IndexDef → List ℕ
+index_line index = index_told index ++ 10 ∷ []
+
+-- a table as the TABLE that makes it: TABLE name (column, ..)
+abbrev pub table_told : TableDef → List ℕ
+table_told definition = codes "TABLE " ++ definition.name ++ (codes " (" ++ columns_text definition.columns ++ codes ")")
+
+-- the line of a table
+abbrev pub table_line : ListedTable → List ℕ
+table_line listed = table_told listed.table.definition ++ rows_told listed.rows
+
+-- the line of a table, and then one for each of its indexes
+abbrev pub table_lines : ListedTable → List ℕ
+table_lines listed = table_line listed ++ flat_map index_line listed.table.indexes
+
+-- the line of a standing query: WATCH name rows n
+abbrev pub query_line : ListedQuery → List ℕ
+query_line listed = codes "WATCH " ++ listed.name ++ rows_told listed.rows
+
+-- the lines of all tables, then those of all standing queries, and then how many tables there are
+abbrev pub listing_text : Told → List ℕ
+listing_text listing =
+    flat_map table_lines listing.tables ++ flat_map query_line listing.standing ++ (codes "tables " ++ decimal (length listing.tables) ++ 10 ∷ [])
+
 -- each line of a reply ends with a line feed
 abbrev pub reply_text : Reply → List ℕ
 reply_text Done = codes "ok" ++ 10 ∷ []
 reply_text (Count n) = codes "ok " ++ decimal n ++ 10 ∷ []
 reply_text (Rows rows) = rows_text rows
 reply_text (Steps steps) = steps_text steps
+reply_text (Listing listing) = listing_text listing
 reply_text (Refused refusal) = codes "error " ++ decimal (refusal_number refusal) ++ 32 ∷ refusal_text refusal ++ 10 ∷ []
 
 -- The lines of a plan are of tables whose aliases are names; a reply without a plan has none.
 abbrev pub HasNames : Reply → Type 0
 HasNames (Steps steps) = All (λ (step : PlanLine). IsName (line_alias step)) steps
 HasNames _ = Unit {0}
+
+-- The name of a table, those of its columns and those of the tables that these refer to are names.
+abbrev pub HasTableNames : TableDef → Type 0
+HasTableNames definition = IsName definition.name × All (λ (c : Column). IsName c.name × IfSome (target_of c) IsName) definition.columns
+
+-- The names of an index, of its table and of its column are names.
+abbrev pub HasIndexNames : IndexDef → Type 0
+HasIndexNames index = IsName index.name × IsName index.table × IsName index.column

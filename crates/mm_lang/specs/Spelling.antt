@@ -170,6 +170,10 @@ SpellsQuery ts query =
 --         | SCAN INDEX name
 --         | SELECT query
 --         | EXPLAIN SELECT query
+--         | WATCH name SELECT query
+--         | UNWATCH name
+--         | SHOW name
+--         | TABLES
 --         | BEGIN
 --         | COMMIT
 --         | ROLLBACK
@@ -185,6 +189,10 @@ SpellsCommand ts (command.Define (define.Index index)) =
     × (ts ≡ word keyword.Index ∷ Word index.name ∷ word keyword.On ∷ Word index.table ∷ Mark Open ∷ Word index.column ∷ Mark Close
     ∷ word (kind_word index.kind) ∷ [])
 SpellsCommand ts (command.Define (define.DropIndex name)) = IsName name × (ts ≡ word keyword.Drop ∷ word keyword.Index ∷ Word name ∷ [])
+SpellsCommand ts (command.Define (define.Watch watched)) =
+    (behind : List Token) × IsName watched.name × SpellsQuery behind watched.query
+    × (ts ≡ word keyword.Watch ∷ Word watched.name ∷ word keyword.Select ∷ behind)
+SpellsCommand ts (command.Define (define.Unwatch name)) = IsName name × (ts ≡ word keyword.Unwatch ∷ Word name ∷ [])
 SpellsCommand ts (command.Change (change.Insert table tuples)) =
     (inner : List Token) × IsName table × SpellsList (Mark Comma) SpellsTuple inner tuples × (ts ≡ word keyword.Insert ∷ Word table ∷ inner)
 SpellsCommand ts (command.Change (change.Update table assignments tests)) =
@@ -197,6 +205,8 @@ SpellsCommand ts (command.ScanIndex index) = IsName index × (ts ≡ word keywor
 SpellsCommand ts (command.Select query) = (behind : List Token) × SpellsQuery behind query × (ts ≡ word keyword.Select ∷ behind)
 SpellsCommand ts (command.Explain query) =
     (behind : List Token) × SpellsQuery behind query × (ts ≡ word keyword.Explain ∷ word keyword.Select ∷ behind)
+SpellsCommand ts (command.Show name) = IsName name × (ts ≡ word keyword.Show ∷ Word name ∷ [])
+SpellsCommand ts command.Tables = ts ≡ word keyword.Tables ∷ []
 SpellsCommand ts command.Begin = ts ≡ word keyword.Begin ∷ []
 SpellsCommand ts command.Commit = ts ≡ word keyword.Commit ∷ []
 SpellsCommand ts command.Rollback = ts ≡ word keyword.Rollback ∷ []

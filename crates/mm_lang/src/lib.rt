@@ -5,6 +5,7 @@ mod atoms;
 mod columns;
 mod grammar;
 mod keyword;
+mod listing_text;
 mod phrase;
 mod reader;
 mod reading;
@@ -18,7 +19,7 @@ pub use keyword::Keyword;
 pub use mm_query::{Command, Reply};
 pub use reading::{MAX_LINE_BYTES, parse};
 pub use reply_text::{
-    replies_are_told_apart, write_reply, write_row_count, write_row_line, write_rows,
-    write_tuple_line,
+    definitions_are_told_as_written, replies_are_told_apart, write_reply, write_row_count,
+    write_row_line, write_rows, write_tuple_line,
 };
 pub use token::Symbol;

@@ -1,10 +1,10 @@
 //! What a line reads as.
 ghost use Rattle.std.specs.Prelude.{◌≡◌, false, Err};
 ghost use Rattle.std.specs.List.{list_all};
-ghost use Rattle.mm_lang.specs.Grammar.{command_behind, command_of, delete, drop, dropped, index, insert, scan, table, update};
+ghost use Rattle.mm_lang.specs.Grammar.{command_behind, command_of, delete, drop, dropped, index, insert, scan, show, table, unwatch, update};
 ghost use Rattle.mm_lang.specs.Reading.{Reads, is_comment, is_nothing, literals_of, read_as};
 ghost use Rattle.mm_lang.specs.Tokens.{tokens, is_blank};
-ghost use Rattle.mm_lang.specs.steps.Parsing.{AnswersReading, ReadsPhrase, is_whole_command};
+ghost use Rattle.mm_lang.specs.steps.Parsing.{AnswersReading, ReadsPhrase, is_control_keyword};
 ghost use Rattle.mm_value.specs.declared.refusal.Refusal.TheVariants.{Memory};
 
 use crate::atoms::{AssignmentPhrase, read_tests};
@@ -12,7 +12,7 @@ use crate::columns::ColumnPhrase;
 use crate::keyword::Keyword;
 use crate::phrase::{Separator, read_in_parentheses, read_items, read_list};
 use crate::reader::Reader;
-use crate::select::{read_explain, read_select};
+use crate::select::{read_explain, read_select, read_watch};
 use crate::token::is_blank;
 use crate::tuples::TuplePhrase;
 use mm_query::{Command, Definition, Mutation, RowList};
@@ -31,7 +31,8 @@ pub const MAX_LINE_BYTES: usize = 4096;
 /// where a test is `name op value`, an op one of `=`, `<`, `<=`, `>` and `>=`, and a value `literal`, `name`, `name + digits`
 /// or `name - digits`; `SCAN name` and `SCAN INDEX name`;
 /// `SELECT [DISTINCT] field, .. FROM name name, .. [WHERE test AND ..] [ORDER digits, ..]`, where a field is `name . name`,
-/// and stands for a column in the tests too; `EXPLAIN` and such a `SELECT`; or `BEGIN`, `COMMIT` or `ROLLBACK`.
+/// and stands for a column in the tests too; `EXPLAIN` and such a `SELECT`; `WATCH name` and such a `SELECT`; `UNWATCH name`;
+/// `SHOW name`; `TABLES`; or `BEGIN`, `COMMIT` or `ROLLBACK`.
 /// `LineTooLong` where the line has more than 4,096 bytes, `Syntax` where it has no reading, else `NumberOutOfRange` or
 /// `TextTooLong` where its first literal from the left past its limit is a number or a text; digits behind a minus count
 /// as the negative number, and digits of ORDER are numbers too. `Memory` may come in place of any answer but `LineTooLong`,
@@ -76,11 +77,11 @@ fn read_command(alloc: Global, line: &[u8]) -> Result<Command, Refusal>
     Ok(command)
 }
 
-// What stands behind the keyword that a command begins with. A keyword that is a command by itself takes no memory.
+// What stands behind the keyword that a command begins with. One that begins or ends a transaction takes no memory.
 #[tactic(auto, using(crate::proofs::CommandReadings::whole_given))]
 fn read_behind(keyword: Keyword, reader: &mut Reader<'_>) -> Result<Command, Refusal>
     ensures reads { ReadsPhrase (command_behind keyword) literals_of reader.old reader.new result }
-    ensures memory { result ≡ Err Memory → is_whole_command keyword ≡ false }
+    ensures memory { result ≡ Err Memory → is_control_keyword keyword ≡ false }
 {
     match keyword {
         Keyword::Begin => Ok(Command::Begin),
@@ -93,8 +94,12 @@ fn read_behind(keyword: Keyword, reader: &mut Reader<'_>) -> Result<Command, Ref
         Keyword::Rollback => Ok(Command::Rollback),
         Keyword::Scan => read_scan(reader),
         Keyword::Select => read_select(reader),
+        Keyword::Show => read_show(reader),
         Keyword::Table => read_table(reader),
+        Keyword::Tables => Ok(Command::Tables),
+        Keyword::Unwatch => read_unwatch(reader),
         Keyword::Update => read_update(reader),
+        Keyword::Watch => read_watch(reader),
         _ => Err(Refusal::Syntax),
     }
 }
@@ -181,6 +186,20 @@ fn read_scan(reader: &mut Reader<'_>) -> Result<Command, Refusal>
     } else {
         Ok(Command::Scan(name))
     }
+}
+
+fn read_show(reader: &mut Reader<'_>) -> Result<Command, Refusal>
+    ensures { ReadsPhrase show literals_of reader.old reader.new result }
+{
+    let name = reader.name()?;
+    Ok(Command::Show(name))
+}
+
+fn read_unwatch(reader: &mut Reader<'_>) -> Result<Command, Refusal>
+    ensures { ReadsPhrase unwatch literals_of reader.old reader.new result }
+{
+    let name = reader.name()?;
+    Ok(Command::Define(Definition::Unwatch(name)))
 }
 
 fn read_table(reader: &mut Reader<'_>) -> Result<Command, Refusal>

@@ -1,5 +1,5 @@
 //! The text of replies.
-ghost use Rattle.std.specs.Prelude.{◌≡◌, ◌⊎◌, ℕ, false, List, IsTrue, [], ◌∷◌, ◌++◌, codes, decimal, map};
+ghost use Rattle.std.specs.Prelude.{◌≡◌, ◌⊎◌, ℕ, false, List, IsTrue, [], ◌∷◌, ◌++◌, Some, codes, decimal, map};
 ghost use Rattle.std.specs.Char.{is_ascii_digit};
 ghost use Rattle.mm_value.specs.Device.{Writes};
 ghost use Rattle.mm_value.specs.Watched.{has_failed};
@@ -8,8 +8,16 @@ ghost use Rattle.mm_value.specs.Written.{row_text};
 ghost use Rattle.mm_query.specs.declared.reply.Reply.{Reply};
 ghost use Rattle.mm_query.specs.declared.plan_line.PlanLine.{PlanLine as AnyLine};
 ghost use Rattle.mm_query.specs.declared.reply.Reply.TheVariants.{Refused, Steps};
-ghost use Rattle.mm_lang.specs.ReplyText.{HasNames, index_text, line_text, reply_text, rows_text, steps_text, way_text};
+ghost use Rattle.mm_query.specs.declared.command.Command.TheVariants.{Define};
+ghost use Rattle.mm_query.specs.declared.command.Definition.TheVariants.{Table as MakeTable, Index as MakeIndex};
+ghost use Rattle.mm_schema.specs.Columns.{key_count};
+ghost use Rattle.mm_schema.specs.declared.index.IndexDef.{IndexDef};
+ghost use Rattle.mm_schema.specs.declared.table.TableDef.{TableDef};
+ghost use Rattle.mm_lang.specs.Grammar.{command_of};
+ghost use Rattle.mm_lang.specs.ReplyText.{HasIndexNames, HasNames, HasTableNames, index_text, index_told, line_text, reply_text, rows_text, steps_text, table_told, way_text};
+ghost use Rattle.mm_lang.specs.Tokens.{tokens};
 
+use crate::listing_text::write_listing;
 use itoa::Buffer;
 use mm_query::{PlanLine, Reply};
 use mm_schema::IndexId;
@@ -17,7 +25,8 @@ use mm_value::{Refusal, Row, Value, Watched, WriteFault, put_all, write_row, wri
 use std::io::Write;
 
 /// Writes a reply, each line of it with its line feed: `ok`, `ok` and a count, a line for each row and then their
-/// number, a line for each table of a plan and then their number, or `error` with the number and the text of a refusal. Takes no memory.
+/// number, a line for each table of a plan and then their number, a line for each table, for each of its indexes and for each
+/// standing query and then the number of tables, or `error` with the number and the text of a refusal. Takes no memory.
 /// After `WriteFault` the writer has failed, and a front of the reply's text was written.
 pub fn write_reply<W: Write>(reply: &Reply, writer: &mut Watched<W>) -> Result<(), WriteFault>
     requires { has_failed writer.old ≡ false }
@@ -28,6 +37,7 @@ pub fn write_reply<W: Write>(reply: &Reply, writer: &mut Watched<W>) -> Result<(
         Reply::Count(count) => write_count(b"ok ", *count, writer),
         Reply::Rows(rows) => write_rows(rows.as_slice(), writer),
         Reply::Steps(steps) => write_steps(steps.as_slice(), writer),
+        Reply::Listing(listing) => write_listing(listing, writer),
         Reply::Refused(refusal) => write_refusal(*refusal, writer),
     }
 }
@@ -55,6 +65,14 @@ pub fn replies_are_told_apart()
         → reply_text reply ≡ codes "error " ++ digit ∷ rest → (refusal : Refusal) × (reply ≡ Refused refusal) }
     ensures or_plans { (reply : Reply) (rest : List ℕ) → reply_text reply ≡ codes "error " ++ rest
         → ((refusal : Refusal) × (reply ≡ Refused refusal)) ⊎ ((steps : List AnyLine) × (reply ≡ Steps steps)) }
+{}
+
+/// What is told of a table, up to the number of its rows, is a line that reads as the TABLE that makes it, and the line of an
+/// index is one that reads as the INDEX that makes it.
+pub fn definitions_are_told_as_written()
+    ensures table { (definition : TableDef) → HasTableNames definition → key_count definition.columns ≡ 1
+        → command_of (tokens (table_told definition)) ≡ Some (Define (MakeTable definition)) }
+    ensures index { (index : IndexDef) → HasIndexNames index → command_of (tokens (index_told index)) ≡ Some (Define (MakeIndex index)) }
 {}
 
 /// Writes the line of a row in a reply of rows. Takes no memory. After `WriteFault` the writer has failed, and a front of
@@ -169,7 +187,7 @@ fn index_bytes(index: &IndexId) -> &[u8]
 }
 
 /// Writes two texts, one behind the other.
-fn write_two<W: Write>(
+pub(crate) fn write_two<W: Write>(
     first: &[u8],
     second: &[u8],
     writer: &mut Watched<W>,
@@ -182,7 +200,7 @@ fn write_two<W: Write>(
 }
 
 /// Writes four texts, one behind the other.
-fn write_four<W: Write>(
+pub(crate) fn write_four<W: Write>(
     first: &[u8],
     second: &[u8],
     third: &[u8],
@@ -196,8 +214,8 @@ fn write_four<W: Write>(
     write_two(third, fourth, writer)
 }
 
-// A line that ends with a count.
-fn write_count<W: Write>(
+/// Writes the end of a line: a label, a count and the line feed.
+pub(crate) fn write_count<W: Write>(
     label: &[u8],
     count: usize,
     writer: &mut Watched<W>,
@@ -231,7 +249,11 @@ fn write_refusal<W: Write>(refusal: Refusal, writer: &mut Watched<W>) -> Result<
     put_all(writer, b"\n")
 }
 
-fn write_after_space<W: Write>(text: &[u8], writer: &mut Watched<W>) -> Result<(), WriteFault>
+/// Writes a text behind a space.
+pub(crate) fn write_after_space<W: Write>(
+    text: &[u8],
+    writer: &mut Watched<W>,
+) -> Result<(), WriteFault>
     requires { has_failed writer.old ≡ false }
     ensures { Writes W.contents writer.old writer.new result (32 ∷ text.now) }
 {

@@ -1,5 +1,5 @@
 //! Queries, and the commands that have one.
-ghost use Rattle.mm_lang.specs.Grammar.{explain, query, select};
+ghost use Rattle.mm_lang.specs.Grammar.{explain, query, select, watch};
 ghost use Rattle.mm_lang.specs.Reading.{literals_of, query_literals};
 ghost use Rattle.mm_lang.specs.steps.Parsing.{ReadsPhrase};
 
@@ -8,7 +8,7 @@ use crate::keyword::Keyword;
 use crate::phrase::{Phrase, Separator, read_clause, read_items};
 use crate::reader::Reader;
 use crate::token::Symbol;
-use mm_query::{Command, FieldName, FromItem, Query};
+use mm_query::{Command, Definition, FieldName, FromItem, NamedQuery, Query};
 use mm_value::Refusal;
 
 /// By its table's alias and its name, with a dot between them.
@@ -117,6 +117,18 @@ pub(crate) fn read_explain(reader: &mut Reader<'_>) -> Result<Command, Refusal>
     reader.expect_keyword(Keyword::Select)?;
     let query = read_query(reader)?;
     Ok(Command::Explain(query))
+}
+
+/// Reads what stands behind `WATCH`: a name, `SELECT` and a query. `Syntax` where the name or the keyword does not stand there;
+/// the other errors are those of [`read_query`].
+pub(crate) fn read_watch(reader: &mut Reader<'_>) -> Result<Command, Refusal>
+    ensures { ReadsPhrase watch literals_of reader.old reader.new result }
+{
+    let name = reader.name()?;
+    reader.expect_keyword(Keyword::Select)?;
+    let query = read_query(reader)?;
+    let watched = NamedQuery { name, query };
+    Ok(Command::Define(Definition::Watch(watched)))
 }
 
 /// Reads a query: `DISTINCT` if it is there, fields, `FROM` and tables, and then the tests of a WHERE

@@ -271,6 +271,8 @@ targets_by_definition (define.Table definition) state due targets = targets_adde
 targets_by_definition (define.DropTable name) state due targets = targets_left name state.schema targets due
 targets_by_definition (define.Index index) state due targets = targets_indexed index state.schema targets
 targets_by_definition (define.DropIndex name) state due targets = targets_unindexed name state.schema targets
+targets_by_definition (define.Watch watched) state due targets = targets
+targets_by_definition (define.Unwatch name) state due targets = targets
 
 found_by_definition : (definition : Definition) (state : State) → first_refusal (definition_conditions definition state) ≡ None
     → IsReferential state.schema state.rows → AllFindTargets (after_definition definition state)
@@ -278,6 +280,8 @@ found_by_definition (define.Table definition) state due is = found_with_table de
 found_by_definition (define.DropTable name) state due is = found_without_table name state due is.found
 found_by_definition (define.Index index) state due is = found_with_definitions (table_with_index index) (same_with index) state is.found
 found_by_definition (define.DropIndex name) state due is = found_with_definitions (table_without_index name) (same_without name) state is.found
+found_by_definition (define.Watch watched) state due is = is.found
+found_by_definition (define.Unwatch name) state due is = is.found
 
 referential_by_definition : (definition : Definition) (state : State) → first_refusal (definition_conditions definition state) ≡ None
     → IsReferential state.schema state.rows → IsReferential (after_definition definition state).schema (after_definition definition state).rows

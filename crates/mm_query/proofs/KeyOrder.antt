@@ -24,7 +24,7 @@ use Rattle.mm_query.specs.Machine.{after_all, after_change, after_definition, ch
 use Rattle.mm_query.specs.Standing.{growth_conditions}
 use Rattle.mm_query.specs.State.{State, first_state, rows_in}
 use Rattle.mm_query.specs.declared.command.Command.{Command}
-use Rattle.mm_query.specs.declared.command.Command.TheVariants.{Nothing, Define, Change, Scan, ScanIndex, Select, Explain, Begin, Commit, Rollback}
+use Rattle.mm_query.specs.declared.command.Command.TheVariants.{Nothing, Define, Change, Scan, ScanIndex, Select, Explain, Show, Tables, Begin, Commit, Rollback}
 use Rattle.mm_query.specs.declared.command.Definition.{Definition}
 use Rattle.mm_query.specs.declared.command.Definition.TheVariants as define
 use Rattle.mm_query.specs.declared.command.Mutation.{Mutation}
@@ -38,6 +38,8 @@ ascending (Define (define.Table definition)) state = refl
 ascending (Define (define.DropTable name)) state = refl
 ascending (Define (define.Index index)) state = refl
 ascending (Define (define.DropIndex name)) state = refl
+ascending (Define (define.Watch watched)) state = refl
+ascending (Define (define.Unwatch name)) state = refl
 ascending (Change (Insert table tuples)) state = refl
 ascending (Change (Update table assignments tests)) state = refl
 ascending (Change (Delete table tests)) state = refl
@@ -45,6 +47,8 @@ ascending (Scan table) state = refl
 ascending (ScanIndex index) state = refl
 ascending (Select query) state = refl
 ascending (Explain query) state = refl
+ascending (Show name) state = refl
+ascending Tables state = refl
 ascending Begin state = refl
 ascending Commit state = refl
 ascending Rollback state = refl
@@ -86,6 +90,8 @@ kept_by_definition (define.Table definition) state due kept = kept_by_table defi
 kept_by_definition (define.DropTable name) state due kept = kept_by_drop_table name state kept
 kept_by_definition (define.Index index) state due kept = kept_with_definitions (table_with_index index) (same_with index) state kept
 kept_by_definition (define.DropIndex name) state due kept = kept_with_definitions (table_without_index name) (same_without name) state kept
+kept_by_definition (define.Watch watched) state due kept = record { distinct = kept.distinct; order = kept.order }
+kept_by_definition (define.Unwatch name) state due kept = record { distinct = kept.distinct; order = kept.order }
 
 no_twins : (key : ℕ) (rows : List Row) (lacks referred : Bool) (behind : List Condition)
     → first_refusal (table_rows_conditions key rows lacks referred ++ behind) ≡ None → has_twin_keys key rows ≡ false

@@ -1,5 +1,5 @@
 -- Standing queries beside the catalog: they are bound, they are shown, and they keep within their limit.
-use Rattle.std.proofs.Common.{◌≡◌, ℕ, zero, suc, ◌<◌, ◌||◌, Bool, true, false, cond, not, List, [], ◌∷◌, ◌++◌, Option, Some, None, filter, find, is_some, length, map, nat_le, slice_get, refl, sym, ap, ◌∙◌, subst}
+use Rattle.std.proofs.Common.{◌≡◌, ℕ, zero, suc, ◌<◌, Bool, true, false, cond, not, List, [], ◌∷◌, ◌++◌, Option, Some, None, filter, find, is_some, length, map, nat_le, refl, sym, ap, ◌∙◌, subst}
 use Rattle.std.specs.List.{All, AllByRecursion, list_any}
 use Rattle.std.specs.List.Sorted.{IsPermutation, IsSorted}
 use Rattle.std.specs.Option.{option_map_or}
@@ -8,7 +8,7 @@ use Rattle.std.proofs.lemmas.List.Elements.{All-from_recursion, All-nil, All-pus
 use Rattle.std.proofs.lemmas.List.Folds.{list_any-append}
 use Rattle.mm_schema.specs.Indexes.{table_with_index, table_without_index}
 use Rattle.mm_schema.specs.Name.{same_name}
-use Rattle.mm_schema.specs.Refused.{Condition, ascend, first_refusal}
+use Rattle.mm_schema.specs.Refused.{Condition, first_refusal}
 use Rattle.mm_schema.specs.Schema.{Schema, columns_named, is_other_referring_to, lacks_table, reads_table, with_table, without_table}
 use Rattle.mm_schema.specs.declared.column.Column.{Column}
 use Rattle.mm_schema.specs.declared.standing.StandingDef.{StandingDef}
@@ -21,14 +21,14 @@ use Rattle.mm_value.specs.declared.refusal.Refusal.TheVariants.{AliasTaken, NoSu
 use Rattle.mm_query.specs.Edits.{changed_table, own_pairs}
 use Rattle.mm_query.specs.Machine.{after_change, after_definition, change_conditions, conditions, definition_conditions, row_conditions, state_after, step}
 use Rattle.mm_query.specs.Queries.{bag, bag_of, eval, rows_by_columns, shown}
-use Rattle.mm_query.specs.Resolving.{IsAtomWithin, IsFieldWithin, IsQueryWithin, answer_in, column_of, passes_query_limits, placed_query, query_conditions, selected, width_at}
+use Rattle.mm_query.specs.Resolving.{IsAtomWithin, IsFieldWithin, IsQueryWithin, answer_in, passes_query_limits, placed_query, query_conditions, selected, width_at}
 use Rattle.mm_query.specs.Standing.{AreBeside, AreBound, HasQueries, after_unwatch, after_watch, growth_conditions, outgrows, query_named, shown_rows, tables_read, watch_conditions, without_query}
 use Rattle.mm_query.specs.State.{State, first_state, has_transaction, rows_in}
 use Rattle.mm_query.specs.declared.atom.Atom.{Atom}
 use Rattle.mm_query.specs.declared.bound_query.BoundQuery.{BoundQuery}
 use Rattle.mm_query.specs.declared.bound_query.FieldPlace.{FieldPlace}
 use Rattle.mm_query.specs.declared.command.Command.{Command}
-use Rattle.mm_query.specs.declared.command.Command.TheVariants.{Nothing, Define, Change, Scan, ScanIndex, Select, Explain, Begin, Commit, Rollback}
+use Rattle.mm_query.specs.declared.command.Command.TheVariants.{Nothing, Define, Change, Scan, ScanIndex, Select, Explain, Show, Tables, Begin, Commit, Rollback}
 use Rattle.mm_query.specs.declared.command.Definition.{Definition}
 use Rattle.mm_query.specs.declared.command.Definition.TheVariants as define
 use Rattle.mm_query.specs.declared.command.Mutation.{Mutation}
@@ -39,11 +39,6 @@ use Rattle.mm_query.proofs.NamedRows.{rows_of_others, table_behind, table_left, 
 use Rattle.mm_query.proofs.PlacedQueries.{none_hold, query_within}
 use Rattle.mm_query.proofs.QueryLaws.{shown_permutation, shown_sorted}
 use Rattle.mm_query.proofs.Throughout.{kept_by_step, none_later}
-
--- ---- the conditions in order
-
-pub watch_ascending : (name : List ℕ) (query : Query) (state : State) → ascend (watch_conditions name query state) ≡ true
-watch_ascending name query state = refl
 
 -- ---- queries over another catalog
 
@@ -127,8 +122,6 @@ unread_beside gone (s ∷ ss) [] beside unread = absurd beside
 
 -- ---- changes of the catalog
 
--- ---- changes of the catalog
-
 abbrev columns_in : Option Table → List Column
 columns_in table = option_map_or (λ (t : Table). t.definition.columns) table []
 
@@ -149,54 +142,6 @@ stays_kept change same schema name there kept =
 -- Each standing query has its query beside it, which is bound.
 abbrev IsWatched : State → Type 0
 IsWatched state = HasQueries state × AreBound state
-
-watched_by_definition : (definition : Definition) (state : State) → first_refusal (definition_conditions definition state) ≡ None → IsWatched state
-    → IsWatched (after_definition definition state)
-watched_by_definition (define.Table definition) state due is = (
-  is.0,
-  all_still state.schema (with_table definition state.schema) none_out (stays_behind definition state.schema) state.queries (all_read_on state.queries) is.1,
-)
-watched_by_definition (define.DropTable name) state due is =
-    let unused = or_parts (list_any (is_other_referring_to name) state.schema.tables) (list_any (reads_table name) state.schema.standing)
-    (second_none _ _ _ _ _ due) in (
-      is.0,
-      all_still state.schema (without_table name state.schema) (same_name name) (stays_left name state.schema) state.queries
-          (unread_beside name state.schema.standing state.queries is.0 unused.1) is.1,
-    )
-watched_by_definition (define.Index index) state due is = (
-  is.0,
-  all_still state.schema (after_definition (define.Index index) state).schema none_out (stays_kept (table_with_index index) (same_with index) state.schema)
-      state.queries (all_read_on state.queries) is.1,
-)
-watched_by_definition (define.DropIndex name) state due is = (
-  is.0,
-  all_still state.schema (after_definition (define.DropIndex name) state).schema none_out
-      (stays_kept (table_without_index name) (same_without name) state.schema) state.queries (all_read_on state.queries) is.1,
-)
-
-watched_by_command : (command : Command) (state : State) → first_refusal (conditions command state) ≡ None → IsWatched state
-    → IsWatched (state_after command state)
-watched_by_command Nothing state due is = is
-watched_by_command (Define definition) state due is =
-    watched_by_definition definition state
-    (none_later (has_transaction state) NotInTransaction (first_refusal (definition_conditions definition state)) due) is
-watched_by_command (Change mutation) state due is = is
-watched_by_command (Scan table) state due is = is
-watched_by_command (ScanIndex index) state due is = is
-watched_by_command (Select query) state due is = is
-watched_by_command (Explain query) state due is = is
-watched_by_command Begin state due is = is
-watched_by_command Commit state due is = is
-watched_by_command Rollback state due is = is
-
-pub watched_at_first : HasQueries first_state × AreBound first_state
-watched_at_first = (tt, All-nil _)
-
--- Each command leaves it so, ..
-pub watched_by_step : (command : Command) (state : State) → HasQueries state → AreBound state
-    → HasQueries (step command state).state × AreBound (step command state).state
-watched_by_step command state beside bound =
-    kept_by_step IsWatched command state (λ due. watched_by_command command state due (beside, bound)) (beside, bound)
 
 -- ---- one more standing query
 
@@ -231,8 +176,8 @@ module _ (name : List ℕ) (query : Query) (state : State) where
         (cond (hold.1.1.1.0 i) (Some AliasTaken)
         (cond (hold.1.1.1.1.0 i) (Some NoSuchAlias) (cond (hold.1.1.1.1.1.0 i) (Some TypeMismatch) (cond (limits.0 i) (Some TooMany) None)))))
 
-    -- .. so does a new standing query that nothing refuses, ..
-    pub watched_by_watch : HasQueries state → AreBound state → HasQueries watching × AreBound watching
+    -- A new standing query that nothing refuses leaves each with its query beside it, which is bound, ..
+    watched_by_watch : HasQueries state → AreBound state → HasQueries watching × AreBound watching
     watched_by_watch beside bound_now = (
       beside_behind state.schema.standing state.queries (record { name = name; tables = tables_read bound }) bound beside refl,
       All-push (IsQueryWithin watching.schema) state.queries bound
@@ -274,7 +219,7 @@ module _ (gone : List ℕ) where
         by false later = (each.0, later)
 
   -- .. and so does one that is dropped.
-  pub watched_by_unwatch : (state : State) → HasQueries state → AreBound state → HasQueries (after_unwatch gone state) × AreBound (after_unwatch gone state)
+  watched_by_unwatch : (state : State) → HasQueries state → AreBound state → HasQueries (after_unwatch gone state) × AreBound (after_unwatch gone state)
   watched_by_unwatch state beside bound =
       let new = (after_unwatch gone state).schema in (
         beside_left state.schema.standing state.queries beside,
@@ -283,6 +228,60 @@ module _ (gone : List ℕ) where
             (recursion_from_All (IsQueryWithin new) state.queries
             (all_still state.schema new none_out (λ name there kept. (there, refl)) state.queries (all_read_on state.queries) bound))),
       )
+
+-- ---- every step
+
+watched_by_definition : (definition : Definition) (state : State) → first_refusal (definition_conditions definition state) ≡ None → IsWatched state
+    → IsWatched (after_definition definition state)
+watched_by_definition (define.Table definition) state due is = (
+  is.0,
+  all_still state.schema (with_table definition state.schema) none_out (stays_behind definition state.schema) state.queries (all_read_on state.queries) is.1,
+)
+watched_by_definition (define.DropTable name) state due is =
+    let unused = or_parts (list_any (is_other_referring_to name) state.schema.tables) (list_any (reads_table name) state.schema.standing)
+    (second_none _ _ _ _ _ due) in (
+      is.0,
+      all_still state.schema (without_table name state.schema) (same_name name) (stays_left name state.schema) state.queries
+          (unread_beside name state.schema.standing state.queries is.0 unused.1) is.1,
+    )
+watched_by_definition (define.Index index) state due is = (
+  is.0,
+  all_still state.schema (after_definition (define.Index index) state).schema none_out (stays_kept (table_with_index index) (same_with index) state.schema)
+      state.queries (all_read_on state.queries) is.1,
+)
+watched_by_definition (define.DropIndex name) state due is = (
+  is.0,
+  all_still state.schema (after_definition (define.DropIndex name) state).schema none_out
+      (stays_kept (table_without_index name) (same_without name) state.schema) state.queries (all_read_on state.queries) is.1,
+)
+watched_by_definition (define.Watch watched) state due is = watched_by_watch watched.name watched.query state due is.0 is.1
+watched_by_definition (define.Unwatch name) state due is = watched_by_unwatch name state is.0 is.1
+
+watched_by_command : (command : Command) (state : State) → first_refusal (conditions command state) ≡ None → IsWatched state
+    → IsWatched (state_after command state)
+watched_by_command Nothing state due is = is
+watched_by_command (Define definition) state due is =
+    watched_by_definition definition state
+    (none_later (has_transaction state) NotInTransaction (first_refusal (definition_conditions definition state)) due) is
+watched_by_command (Change mutation) state due is = is
+watched_by_command (Scan table) state due is = is
+watched_by_command (ScanIndex index) state due is = is
+watched_by_command (Select query) state due is = is
+watched_by_command (Explain query) state due is = is
+watched_by_command (Show name) state due is = is
+watched_by_command Tables state due is = is
+watched_by_command Begin state due is = is
+watched_by_command Commit state due is = is
+watched_by_command Rollback state due is = is
+
+pub watched_at_first : HasQueries first_state × AreBound first_state
+watched_at_first = (tt, All-nil _)
+
+-- So does each command.
+pub watched_by_step : (command : Command) (state : State) → HasQueries state → AreBound state
+    → HasQueries (step command state).state × AreBound (step command state).state
+watched_by_step command state beside bound =
+    kept_by_step IsWatched command state (λ due. watched_by_command command state due (beside, bound)) (beside, bound)
 
 -- ---- what is shown
 

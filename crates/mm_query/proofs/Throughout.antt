@@ -11,7 +11,7 @@ use Rattle.mm_value.specs.declared.refusal.Refusal.TheVariants.{NotInTransaction
 use Rattle.mm_query.specs.Machine.{Outcome, after_all, after_change, after_definition, change_conditions, conditions, definition_conditions, reply_to, state_after, step, unless_refused}
 use Rattle.mm_query.specs.State.{State, has_transaction}
 use Rattle.mm_query.specs.declared.command.Command.{Command}
-use Rattle.mm_query.specs.declared.command.Command.TheVariants.{Nothing, Define, Change, Scan, ScanIndex, Select, Explain, Begin, Commit, Rollback}
+use Rattle.mm_query.specs.declared.command.Command.TheVariants.{Nothing, Define, Change, Scan, ScanIndex, Select, Explain, Show, Tables, Begin, Commit, Rollback}
 use Rattle.mm_query.specs.declared.command.Definition.{Definition}
 use Rattle.mm_query.specs.declared.command.Definition.TheVariants as define
 use Rattle.mm_query.specs.declared.command.Mutation.{Mutation}
@@ -53,6 +53,8 @@ saved_by_definition (define.Table definition) state = refl
 saved_by_definition (define.DropTable name) state = refl
 saved_by_definition (define.Index index) state = refl
 saved_by_definition (define.DropIndex name) state = refl
+saved_by_definition (define.Watch watched) state = refl
+saved_by_definition (define.Unwatch name) state = refl
 
 -- Where nothing is refused, nothing is by what comes later.
 pub none_later : (b : Bool) (refusal : Refusal) (rest : Option Refusal) → cond b (Some refusal) rest ≡ None → rest ≡ None
@@ -88,6 +90,8 @@ module _ (P : Schema → Instance → Type 0)
   held_by_command (ScanIndex index) state due held = held
   held_by_command (Select query) state due held = held
   held_by_command (Explain query) state due held = held
+  held_by_command (Show name) state due held = held
+  held_by_command Tables state due held = held
   held_by_command Begin state due held = record { rows = held.rows; saved = held.rows }
   held_by_command Commit state due held = record { rows = held.rows; saved = tt }
   held_by_command Rollback state due held = record { rows = restored (P state.schema) state.rows state.saved held.rows held.saved; saved = tt }

@@ -13,7 +13,7 @@ use Rattle.mm_query.specs.State.{State, has_transaction}
 use Rattle.mm_query.specs.Transactions.{is_data_manipulation, is_transaction_control}
 use Rattle.mm_query.specs.declared.bound_query.BoundQuery.{BoundQuery}
 use Rattle.mm_query.specs.declared.command.Command.{Command}
-use Rattle.mm_query.specs.declared.command.Command.TheVariants.{Nothing, Define, Change, Scan, ScanIndex, Select, Explain, Begin, Commit, Rollback}
+use Rattle.mm_query.specs.declared.command.Command.TheVariants.{Nothing, Define, Change, Scan, ScanIndex, Select, Explain, Show, Tables, Begin, Commit, Rollback}
 use Rattle.mm_query.specs.declared.command.Definition.{Definition}
 use Rattle.mm_query.specs.declared.command.Mutation.TheVariants.{Insert, Update, Delete}
 use Rattle.mm_query.specs.declared.reply.Reply.TheVariants.{Refused}
@@ -49,6 +49,8 @@ module _ (schema : Schema) (queries : List BoundQuery) (rows : Instance) where
   inside_by_step (ScanIndex index) state free inside = kept_by_step (IsInside schema queries rows) (ScanIndex index) state (λ due. inside) inside
   inside_by_step (Select query) state free inside = kept_by_step (IsInside schema queries rows) (Select query) state (λ due. inside) inside
   inside_by_step (Explain query) state free inside = kept_by_step (IsInside schema queries rows) (Explain query) state (λ due. inside) inside
+  inside_by_step (Show name) state free inside = kept_by_step (IsInside schema queries rows) (Show name) state (λ due. inside) inside
+  inside_by_step Tables state free inside = inside
   inside_by_step Begin state free inside = cc
   inside_by_step Commit state free inside = cc
   inside_by_step Rollback state free inside = cc
@@ -135,6 +137,8 @@ step_beside saved command state free = by command free
     by (ScanIndex index) free = beside (ScanIndex index) refl refl refl
     by (Select query) free = beside (Select query) refl refl refl
     by (Explain query) free = beside (Explain query) refl refl refl
+    by (Show name) free = beside (Show name) refl refl refl
+    by Tables free = refl
     by Begin free = absurd (false≢true free)
     by Commit free = absurd (false≢true free)
     by Rollback free = absurd (false≢true free)

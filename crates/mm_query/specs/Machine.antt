@@ -19,17 +19,17 @@ use Rattle.mm_query.specs.Binding.{binding_conditions}
 use Rattle.mm_query.specs.Edits.{changed_table, edits, own_pairs, value_conditions}
 use Rattle.mm_query.specs.Plans.{plan_of}
 use Rattle.mm_query.specs.Resolving.{query_conditions, select_conditions, selected}
-use Rattle.mm_query.specs.Standing.{growth_conditions}
+use Rattle.mm_query.specs.Standing.{after_unwatch, after_watch, growth_conditions, listing, shown_rows, unwatch_conditions, watch_conditions}
 use Rattle.mm_query.specs.State.{State, has_transaction, rows_in}
 use Rattle.mm_query.specs.declared.command.Command.{Command}
-use Rattle.mm_query.specs.declared.command.Command.TheVariants.{Nothing, Define, Change, Scan, ScanIndex, Select, Explain, Begin, Commit, Rollback}
+use Rattle.mm_query.specs.declared.command.Command.TheVariants.{Nothing, Define, Change, Scan, ScanIndex, Select, Explain, Show, Tables, Begin, Commit, Rollback}
 use Rattle.mm_query.specs.declared.command.Definition.{Definition}
 use Rattle.mm_query.specs.declared.command.Definition.TheVariants as define
 use Rattle.mm_query.specs.declared.command.Mutation.{Mutation}
 use Rattle.mm_query.specs.declared.plan_line.PlanLine.{PlanLine}
 use Rattle.mm_query.specs.declared.query.Query.{Query}
 use Rattle.mm_query.specs.declared.reply.Reply.{Reply}
-use Rattle.mm_query.specs.declared.reply.Reply.TheVariants.{Done, Count, Rows, Steps, Refused}
+use Rattle.mm_query.specs.declared.reply.Reply.TheVariants.{Done, Count, Rows, Steps, Listing, Refused}
 
 -- ---- changes of the catalog
 
@@ -39,9 +39,11 @@ definition_conditions (define.Table definition) state = table_conditions definit
 definition_conditions (define.DropTable name) state = drop_table_conditions name state.schema
 definition_conditions (define.Index index) state = index_conditions index state.schema
 definition_conditions (define.DropIndex name) state = drop_index_conditions name state.schema
+definition_conditions (define.Watch watched) state = watch_conditions watched.name watched.query state
+definition_conditions (define.Unwatch name) state = unwatch_conditions name state
 
 -- The state after a change of the catalog: a new table comes last and has no rows, a table that is dropped takes its rows with
--- it, and an index leaves all rows as they are.
+-- it, and an index or a standing query leaves all rows as they are.
 abbrev pub after_definition : Definition → State → State
 after_definition (define.Table definition) state =
     record state { schema = with_table definition state.schema; rows = state.rows ++ [] ∷ [] }
@@ -49,6 +51,8 @@ after_definition (define.DropTable name) state =
     record state { schema = without_table name state.schema; rows = without_rows name state.schema.tables state.rows }
 after_definition (define.Index index) state = record state { schema = with_index index state.schema }
 after_definition (define.DropIndex name) state = record state { schema = without_index name state.schema }
+after_definition (define.Watch watched) state = after_watch watched.name watched.query state
+after_definition (define.Unwatch name) state = after_unwatch name state
 
 -- ---- changes of rows
 
@@ -124,13 +128,15 @@ conditions (Scan table) state = record { holds = lacks_table table state.schema;
 conditions (ScanIndex index) state = record { holds = lacks_index index state.schema; refusal = NoSuchIndex } ∷ []
 conditions (Select query) state = select_conditions query state
 conditions (Explain query) state = query_conditions query state.schema
+conditions (Show name) state = unwatch_conditions name state
+conditions Tables state = []
 conditions Begin state = record { holds = has_transaction state; refusal = TransactionOpen } ∷ []
 conditions Commit state = record { holds = not (has_transaction state); refusal = NoTransaction } ∷ []
 conditions Rollback state = record { holds = not (has_transaction state); refusal = NoTransaction } ∷ []
 
 -- What a command answers that nothing refuses; an empty line has no reply. A change tells how many pairs its own table has,
 -- SCAN gives the rows of its table in key order, SCAN INDEX those of its index's table in the order of the index, SELECT those of
--- its query, and EXPLAIN the plan of its query.
+-- its query, EXPLAIN the plan of its query, SHOW the rows of its standing query, and TABLES tells of the catalog.
 abbrev pub reply_to : Command → State → Option Reply
 reply_to Nothing state = None
 reply_to (Define definition) state = Some Done
@@ -139,6 +145,8 @@ reply_to (Scan table) state = Some (Rows (rows_in state table))
 reply_to (ScanIndex index) state = Some (Rows (rows_by_index state index))
 reply_to (Select query) state = Some (Rows (selected query state))
 reply_to (Explain query) state = Some (Steps (plan_in state query))
+reply_to (Show name) state = Some (Rows (shown_rows name state))
+reply_to Tables state = Some (Listing (listing state))
 reply_to Begin state = Some Done
 reply_to Commit state = Some Done
 reply_to Rollback state = Some Done
@@ -152,6 +160,8 @@ state_after (Scan table) state = state
 state_after (ScanIndex index) state = state
 state_after (Select query) state = state
 state_after (Explain query) state = state
+state_after (Show name) state = state
+state_after Tables state = state
 state_after Begin state = after_begin state
 state_after Commit state = after_commit state
 state_after Rollback state = after_rollback state

@@ -4,7 +4,6 @@ use Rattle.std.specs.List.{list_any}
 use Rattle.std.specs.Option.{option_map_or}
 use Rattle.mm_schema.specs.Name.{same_name}
 use Rattle.mm_schema.specs.Refused.{Condition}
-use Rattle.mm_schema.specs.Schema.{Schema}
 use Rattle.mm_schema.specs.Standing.{drop_standing_conditions, standing_named, with_standing, without_standing}
 use Rattle.mm_schema.specs.declared.standing.StandingDef.{StandingDef}
 use Rattle.mm_schema.specs.declared.table.Table.{Table}
@@ -14,8 +13,6 @@ use Rattle.mm_query.specs.Queries.{bag}
 use Rattle.mm_query.specs.Resolving.{IsQueryWithin, answer_in, ill_formed_conditions, missing_conditions, passes_query_limits, placed_query}
 use Rattle.mm_query.specs.State.{State, rows_in}
 use Rattle.mm_query.specs.declared.bound_query.BoundQuery.{BoundQuery}
-use Rattle.mm_query.specs.declared.listing.ListedQuery.{ListedQuery}
-use Rattle.mm_query.specs.declared.listing.ListedTable.{ListedTable}
 use Rattle.mm_query.specs.declared.listing.Listing.{Listing}
 use Rattle.mm_query.specs.declared.query.FromItem.{FromItem}
 use Rattle.mm_query.specs.declared.query.Query.{Query}

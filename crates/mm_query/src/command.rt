@@ -33,6 +33,15 @@ pub enum Mutation {
     },
 }
 
+/// A query, and the name that it is kept under.
+#[derive(Debug, Drop)]
+pub struct NamedQuery {
+    /// The name.
+    pub name: Name,
+    /// The query.
+    pub query: Query,
+}
+
 /// A change of the catalog.
 #[derive(Debug, Drop)]
 pub enum Definition {
@@ -44,6 +53,10 @@ pub enum Definition {
     Index(IndexDef),
     /// Drops the index of this name.
     DropIndex(Name),
+    /// Keeps a query as a standing query.
+    Watch(NamedQuery),
+    /// Drops the standing query of this name.
+    Unwatch(Name),
 }
 
 /// A command: what a line reads as.
@@ -64,6 +77,10 @@ pub enum Command {
     Select(Query),
     /// Asks for the plan of a query, a line for each of its tables.
     Explain(Query),
+    /// Asks for the rows that the standing query of this name shows.
+    Show(Name),
+    /// Asks what tables, indexes and standing queries there are, and how many rows the tables and the standing queries have.
+    Tables,
     /// Opens a transaction.
     Begin,
     /// Ends the transaction that is open. What was changed in it stays.

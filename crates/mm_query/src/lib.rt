@@ -25,7 +25,7 @@ pub use atom::{Assignment, Atom, Comparison, Operand};
 pub use bind::{BoundChange, bind_change};
 pub use bound_query::{BoundQuery, FieldPlace, bind_query};
 pub use combination::{none_fails, values_of};
-pub use command::{Command, Definition, Mutation};
+pub use command::{Command, Definition, Mutation, NamedQuery};
 pub use item_list::ItemList;
 pub use laws::{
     commit_keeps_the_rows, conditions_ascend, rollback_restores_the_rows_at_begin,
@@ -47,6 +47,5 @@ pub use row_list::RowList;
 pub use scope::{MAX_FROM, MAX_PARTS, Scope};
 pub use standing_laws::{
     standing_queries_are_shown, standing_queries_stay_bound, standing_queries_stay_within_limit,
-    watch_conditions_ascend,
 };
 pub use update::updated_row;

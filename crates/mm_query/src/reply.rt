@@ -1,5 +1,6 @@
 //! Replies.
 use crate::item_list::ItemList;
+use crate::listing::Listing;
 use crate::plan_line::PlanLine;
 use crate::row_list::RowList;
 use mm_value::Refusal;
@@ -15,6 +16,8 @@ pub enum Reply {
     Rows(RowList),
     /// These lines of a plan, in this order.
     Steps(ItemList<PlanLine>),
+    /// The tables with their indexes, and the standing queries.
+    Listing(Listing),
     /// It was refused, and changed nothing.
     Refused(Refusal),
 }

@@ -1,36 +1,26 @@
 //! Laws of standing queries.
-ghost use Rattle.std.specs.Prelude.{◌≡◌, ℕ, false, None, Some, List, IsTrue};
+ghost use Rattle.std.specs.Prelude.{◌≡◌, ℕ, false, None, Some, List};
 ghost use Rattle.std.specs.List.{list_any};
 ghost use Rattle.std.specs.List.Sorted.{IsPermutation, IsSorted};
 ghost use Rattle.mm_schema.specs.Name.{same_name};
-ghost use Rattle.mm_schema.specs.Refused.{ascend, first_refusal};
+ghost use Rattle.mm_schema.specs.Refused.{first_refusal};
 ghost use Rattle.mm_query.specs.Edits.{changed_table};
 ghost use Rattle.mm_query.specs.Machine.{after_change, change_conditions, step};
 ghost use Rattle.mm_query.specs.Queries.{bag, eval, rows_by_columns};
 ghost use Rattle.mm_query.specs.Resolving.{selected};
-ghost use Rattle.mm_query.specs.Standing.{AreBound, HasQueries, after_unwatch, after_watch, outgrows, query_named, shown_rows, tables_read, unwatch_conditions, watch_conditions};
+ghost use Rattle.mm_query.specs.Standing.{AreBound, HasQueries, after_unwatch, after_watch, outgrows, query_named, shown_rows, tables_read, watch_conditions};
 ghost use Rattle.mm_query.specs.State.{State, first_state, rows_in};
 ghost use Rattle.mm_query.specs.declared.bound_query.BoundQuery.{BoundQuery};
 ghost use Rattle.mm_query.specs.declared.command.Command.{Command};
 ghost use Rattle.mm_query.specs.declared.command.Mutation.{Mutation};
 ghost use Rattle.mm_query.specs.declared.query.Query.{Query};
 
-/// The conditions of a new standing query stand in the one order of refusals, and so do those of one that is dropped.
-pub fn watch_conditions_ascend()
-    ensures watch { (name : List ℕ) (query : Query) (state : State) → IsTrue (ascend (watch_conditions name query state)) }
-    ensures unwatch { (name : List ℕ) (state : State) → IsTrue (ascend (unwatch_conditions name state)) }
-{}
-
 /// Each standing query has its bound query beside it, all of whose tables and columns are there: at first, and after each
-/// command and after each standing query that is kept or dropped, where it was so before.
+/// command where it was so before.
 pub fn standing_queries_stay_bound()
     ensures first { HasQueries first_state × AreBound first_state }
     ensures step { (command : Command) (state : State) → HasQueries state → AreBound state
         → HasQueries (step command state).state × AreBound (step command state).state }
-    ensures watch { (name : List ℕ) (query : Query) (state : State) → HasQueries state → AreBound state
-        → first_refusal (watch_conditions name query state) ≡ None → HasQueries (after_watch name query state) × AreBound (after_watch name query state) }
-    ensures unwatch { (name : List ℕ) (state : State) → HasQueries state → AreBound state
-        → HasQueries (after_unwatch name state) × AreBound (after_unwatch name state) }
 {}
 
 /// A standing query shows just the rows that its query gives over the rows now, sorted as a SELECT would: right after it is

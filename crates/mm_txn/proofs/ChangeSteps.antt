@@ -21,24 +21,30 @@ use Rattle.mm_schema.proofs.Dues.{due_behind, due_in_front}
 use Rattle.mm_schema.proofs.Places.{table_at_place}
 use Rattle.mm_schema.proofs.Twins.{Row}
 use Rattle.mm_store.specs.Tables.{AreFit, HasRows, edit_conditions, finds_orphan, makes_orphan, rows_with}
+use Rattle.mm_standing.specs.Queries.{StandingQuery, change_conditions as list_conditions}
 use Rattle.mm_value.specs.declared.refusal.Refusal.{Refusal}
 use Rattle.mm_value.specs.declared.refusal.Refusal.TheVariants.{NoSuchTable, TypeMismatch, WrongNumberOfValues}
 use Rattle.mm_query.specs.Atoms.{range_conditions}
 use Rattle.mm_query.specs.Binding.{AssignmentsWithin, Binds, TestsWithin, binding_conditions, has_other_length, has_type_mismatch}
 use Rattle.mm_query.specs.Edits.{changed_table, new_values, own_pairs, removals, updates, value_conditions}
 use Rattle.mm_query.specs.Machine.{after_change, change_conditions, some_is_referred, some_lacks_target}
+use Rattle.mm_query.specs.Standing.{growth_conditions}
 use Rattle.mm_query.specs.State.{State, rows_in}
 use Rattle.mm_query.specs.declared.atom.Assignment.{Assignment}
 use Rattle.mm_query.specs.declared.atom.Atom.{Atom}
 use Rattle.mm_query.specs.declared.bind.BoundChange.TheVariants as bound
+use Rattle.mm_query.specs.declared.bound_query.BoundQuery.{BoundQuery}
 use Rattle.mm_query.specs.declared.command.Mutation.{Mutation}
 use Rattle.mm_query.specs.declared.command.Mutation.TheVariants as written
 use Rattle.mm_query.proofs.Binds.{bound_pairs, bound_place, delete_pairs, update_pairs}
 use Rattle.mm_query.proofs.Due.{due_in_front_of_rows, passes_at_place}
-use Rattle.mm_txn.specs.Kept.{AreOf, instance_of, state_of}
-use Rattle.mm_txn.specs.TableEdits.{AreEditsOf}
+use Rattle.mm_txn.specs.Kept.{AreOf, instance_of, state_of, watched_state}
+use Rattle.mm_txn.specs.TableEdits.{AreEditsOf, rows_edited}
+use Rattle.mm_txn.specs.Watched.{IsPlaced, queries_of, rows_by_place}
+use Rattle.mm_txn.proofs.ListedRows.{edited_is, growth_placed}
+use Rattle.mm_txn.proofs.SavedRows.{pairs_watched, values_watched}
 use Rattle.mm_txn.proofs.ReferenceRows.{AreToOthers, all_there, lacks_are, loses_are, others_at}
-use Rattle.mm_txn.proofs.DatabaseSteps.{change_is, due_of_rows, key_is, new_rows_in, rows_of_name, rows_there, some_there}
+use Rattle.mm_txn.proofs.DatabaseSteps.{all_rows_after, change_is, due_of_rows, key_is, new_rows_in, rows_of_name, rows_there, some_there}
 use Rattle.mm_txn.proofs.RowsBeside.{AreOf-set, beside, instance_of-set}
 
 -- ---- what was bound
@@ -188,11 +194,13 @@ pub bound_due : (mutation : Mutation) (state : State) (refusal : Refusal)
 bound_due mutation state refusal due =
     ⊎_elim (λ h. inl (due_in_front (binding_conditions mutation state.schema) (value_conditions mutation state) refusal h)) (λ m. inr m) due
 
--- What is due of a change before its rows are looked at is due of it.
-pub early_due : (mutation : Mutation) (state : State) (refusal : Refusal)
-    → AnswersDue {T = Unit {0}} (first_refusal (binding_conditions mutation state.schema ++ value_conditions mutation state)) (Err refusal)
-    → AnswersDue {T = Unit {0}} (first_refusal (change_conditions mutation state)) (Err refusal)
-early_due mutation state refusal due = ⊎_elim (λ h. inl (due_in_front_of_rows mutation state refusal h)) (λ m. inr m) due
+-- What is due of a change before its rows are looked at is due of it, whatever the standing queries.
+pub early_due : (mutation : Mutation) (schema : Schema) (rs : List StoredRows) (queries : List BoundQuery) (refusal : Refusal)
+    → AnswersDue {T = Unit {0}} (first_refusal (binding_conditions mutation schema ++ value_conditions mutation (state_of schema rs))) (Err refusal)
+    → AnswersDue {T = Unit {0}} (first_refusal (change_conditions mutation (watched_state schema rs queries))) (Err refusal)
+early_due mutation schema rs queries refusal due =
+    ⊎_elim (λ h. inl (due_in_front_of_rows mutation (watched_state schema rs queries) refusal
+    (ap (λ values. first_refusal (binding_conditions mutation schema ++ values)) (sym (values_watched schema rs queries mutation)) ∙ h))) (λ m. inr m) due
 
 module _ (schema : Schema) (rs : List StoredRows) (are : AreOf schema.tables rs) (mutation : Mutation) (place : ℕ) (edits : List Edit)
     (are_edits : AreEditsOf mutation schema rs place edits) where
@@ -208,56 +216,69 @@ module _ (schema : Schema) (rs : List StoredRows) (are : AreOf schema.tables rs)
       let stored = stored_there.0 in
       sym (length-map edits (edit_pair (slot_at stored.places))) ∙ ap length (are_edits.pairs stored stored_there.1)
 
-  -- What the relation and the references refuse of the edits is what the state refuses of the change.
-  pub change_due : HasDistinctNames schema → AreToOthers schema
+  module _ (queries : List BoundQuery) where
+    own : (stored : StoredRows) → slice_get rs place ≡ Some stored → own_pairs mutation (watched_state schema rs queries) ≡ edit_pairs (slot_at stored.places) edits
+    own stored there = sym (pairs_watched schema rs queries mutation) ∙ sym (are_edits.pairs stored there)
+
+  -- What the relation, the references and the lists refuse of the edits is what the state refuses of the change.
+  pub change_due : (lists : List StandingQuery) → All (IsPlaced schema) lists → HasDistinctNames schema → AreToOthers schema
       → first_refusal (binding_conditions mutation schema ++ value_conditions mutation (state_of schema rs)) ≡ None
       → (links : List Reference) → links ≡ all_references schema → {T : Type 0} (result : Result T Refusal)
       → ((stored : StoredRows) → slice_get rs place ≡ Some stored
-      → AnswersDue (first_refusal (edit_conditions (record { tables = rs; links = links }) place stored edits)) result)
-      → AnswersDue (first_refusal (change_conditions mutation (state_of schema rs))) result
-  change_due distinct others none links are_links result each =
+      → AnswersDue (first_refusal (edit_conditions (record { tables = rs; links = links }) place stored edits
+      ++ list_conditions (rows_edited (record { tables = rs; links = links }) place edits) lists)) result)
+      → AnswersDue (first_refusal (change_conditions mutation (watched_state schema rs (queries_of lists)))) result
+  change_due lists are_placed distinct others none links are_links result each =
       let stored = stored_there.0 in
       let there = stored_there.1 in
       let at = beside schema.tables rs place stored are there in
       let pairs = edit_pairs (slot_at stored.places) edits in
       let name = changed_table mutation in
-      let owns : own_pairs mutation (state_of schema rs) ≡ pairs = sym (are_edits.pairs stored there) in
-      let rows = new_rows_in schema rs are mutation place are_edits.placed stored there pairs owns in
-      let lacking : some_lacks_target name (after_change mutation (state_of schema rs)) ≡ list_any (finds_orphan rs place (rows_with stored edits)) links =
-      sym (lacks_are schema rs are name place are_edits.placed (own_pairs mutation (state_of schema rs)) (rows_in (after_change mutation (state_of schema rs)) name)
+      let queries = queries_of lists in
+      let state = watched_state schema rs queries in
+      let owns : own_pairs mutation state ≡ pairs = own queries stored there in
+      let rows = new_rows_in schema rs are queries mutation place are_edits.placed stored there pairs owns in
+      let lacking : some_lacks_target name (after_change mutation state) ≡ list_any (finds_orphan rs place (rows_with stored edits)) links =
+      sym (lacks_are schema rs are name place are_edits.placed (own_pairs mutation state) (rows_in (after_change mutation state) name)
       at.table at.there (others_at schema name place are_edits.placed at.table at.there others))
       ∙ λ i. list_any (finds_orphan rs place (rows i)) (sym are_links i) in
-      let referred : some_is_referred name (own_pairs mutation (state_of schema rs)) (state_of schema rs) ≡ list_any (makes_orphan rs place stored.key pairs) links =
-      ap (λ ps. some_is_referred name ps (state_of schema rs)) owns
+      let referred : some_is_referred name (own_pairs mutation state) state ≡ list_any (makes_orphan rs place stored.key pairs) links =
+      ap (λ ps. some_is_referred name ps state) owns
       ∙ sym (loses_are schema name place are_edits.placed at.table at.there rs are distinct (key_named name schema) pairs (all_there schema others))
       ∙ λ i. list_any (makes_orphan rs place (key_is schema rs are name place are_edits.placed stored there i) pairs) (sym are_links i) in
+      let growth : growth_conditions (after_change mutation state) ≡ list_conditions (rows_edited (record { tables = rs; links = links }) place edits) lists =
+      growth_placed (after_change mutation state) lists refl are_placed
+      ∙ ap (λ all. list_conditions (rows_by_place all) lists) (all_rows_after schema rs are queries mutation place are_edits.placed stored there pairs owns distinct)
+      ∙ ap (λ by. list_conditions by lists) (sym (edited_is (record { tables = rs; links = links }) place edits stored there)) in
       subst (λ due. AnswersDue due result)
-      (due_of_rows schema rs are mutation place are_edits.placed stored there pairs owns none
-      (list_any (finds_orphan rs place (rows_with stored edits)) links) (list_any (makes_orphan rs place stored.key pairs) links) lacking referred)
+      (due_of_rows schema rs are queries mutation place are_edits.placed stored there pairs owns
+      (ap (λ values. first_refusal (binding_conditions mutation schema ++ values)) (sym (values_watched schema rs queries mutation)) ∙ none)
+      (list_any (finds_orphan rs place (rows_with stored edits)) links) (list_any (makes_orphan rs place stored.key pairs) links) lacking referred
+      (list_conditions (rows_edited (record { tables = rs; links = links }) place edits) lists) growth)
       (each stored there)
 
-  module _ (tables : List StoredRows) where
+  module _ (queries : List BoundQuery) (tables : List StoredRows) where
     pub change_done : HasDistinctNames schema → ((stored : StoredRows) → slice_get rs place ≡ Some stored
         → (new : StoredRows) × (tables ≡ slice_set rs place new) × HasRows stored (rows_with stored edits) new)
-        → (state_of schema tables ≡ after_change mutation (state_of schema rs)) × AreOf schema.tables tables
+        → (watched_state schema tables queries ≡ after_change mutation (watched_state schema rs queries)) × AreOf schema.tables tables
     change_done distinct each =
         let stored = stored_there.0 in
         let there = stored_there.1 in
         let new = each stored there in (
-          ap (state_of schema) new.1
-              ∙ change_is schema rs are mutation place are_edits.placed stored there (edit_pairs (slot_at stored.places) edits) (sym (are_edits.pairs stored there))
+          ap (λ ts. watched_state schema ts queries) new.1
+              ∙ change_is schema rs are queries mutation place are_edits.placed stored there (edit_pairs (slot_at stored.places) edits) (own queries stored there)
               distinct new.0 new.2.rows_are,
           subst (AreOf schema.tables) (sym new.1) (AreOf-set schema.tables rs place stored new.0 there new.2.key new.2.width new.2.indexes are),
         )
 
+  module _ (tables : List StoredRows) where
     pub change_refused : ((stored : StoredRows) → slice_get rs place ≡ Some stored
         → (new : StoredRows) × (tables ≡ slice_set rs place new) × HasRows stored (rows_of stored) new)
-        → (state_of schema tables ≡ state_of schema rs) × AreOf schema.tables tables
+        → (instance_of tables ≡ instance_of rs) × AreOf schema.tables tables
     change_refused each =
         let stored = stored_there.0 in
         let there = stored_there.1 in
         let new = each stored there in (
-          ap (λ rows. record { schema = schema; rows = rows; queries = []; saved = None })
-              (ap instance_of new.1 ∙ instance_of-set rs place stored new.0 there new.2.rows_are),
+          ap instance_of new.1 ∙ instance_of-set rs place stored new.0 there new.2.rows_are,
           subst (AreOf schema.tables) (sym new.1) (AreOf-set schema.tables rs place stored new.0 there new.2.key new.2.width new.2.indexes are),
         )

@@ -248,7 +248,7 @@ remove_last (y ∷ ys) x = ap (λ others. y ∷ others) (remove_last ys x)
 module _ (schema : Schema) (old new : Tables) (kept : AreKept schema old) where
   -- A change of rows keeps all, ..
   pub kept_by_rows : AreOf schema.tables new.tables → new.links ≡ old.links → AreKept schema new
-  kept_by_rows are links = record { relations = are; links = links ∙ kept.links; targets = kept.targets; others = kept.others; unwatched = kept.unwatched }
+  kept_by_rows are links = record { relations = are; links = links ∙ kept.links; targets = kept.targets; others = kept.others }
 
   -- .. so does an index that comes or goes, ..
   pub kept_by_index : (index : IndexDef) → AreOf (with_index index schema).tables new.tables → new.links ≡ old.links → AreKept (with_index index schema) new
@@ -257,7 +257,6 @@ module _ (schema : Schema) (old new : Tables) (kept : AreKept schema old) where
     links = links ∙ kept.links ∙ sym (references_with_index index schema);
     targets = targets_indexed index schema kept.targets;
     others = others_indexed index schema kept.others;
-    unwatched = kept.unwatched;
   }
 
   pub kept_by_no_index : (name : List ℕ) → AreOf (without_index name schema).tables new.tables → new.links ≡ old.links
@@ -267,7 +266,6 @@ module _ (schema : Schema) (old new : Tables) (kept : AreKept schema old) where
     links = links ∙ kept.links ∙ sym (references_without_index name schema);
     targets = targets_unindexed name schema kept.targets;
     others = others_unindexed name schema kept.others;
-    unwatched = kept.unwatched;
   }
 
   -- .. a table that comes with its references, ..
@@ -281,7 +279,6 @@ module _ (schema : Schema) (old new : Tables) (kept : AreKept schema old) where
         ∙ sym (references_with_table definition schema kept.targets due);
     targets = targets_added definition schema kept.targets due;
     others = others_added definition schema kept.others due;
-    unwatched = kept.unwatched;
   }
 
   -- .. and one that goes with them.
@@ -293,5 +290,4 @@ module _ (schema : Schema) (old new : Tables) (kept : AreKept schema old) where
     links = links ∙ ap (links_without place) kept.links ∙ sym (references_without_table name schema place placed distinct kept.targets due);
     targets = targets_left name schema kept.targets due;
     others = others_left name schema kept.others;
-    unwatched = kept.unwatched;
   }

@@ -4,7 +4,15 @@ mod Explaining
 mod IndexSteps
 mod IndexesBeside
 mod KeptReferences
+mod ListSteps
+mod ListedRows
+mod OpenSteps
 mod ReferenceRows
 mod RowsBeside
 mod SavedRows
 mod Selecting
+mod Resting
+mod Naming
+mod Placed
+mod WatchSteps
+mod Showing

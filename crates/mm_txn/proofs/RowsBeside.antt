@@ -142,34 +142,37 @@ instance_of-set (r ∷ rs) zero old new h same =
     λ i. (same ∙ sym (ap rows_of was)) i ∷ instance_of rs
 instance_of-set (r ∷ rs) (suc place) old new h same = ap (λ others. rows_of r ∷ others) (instance_of-set rs place old new h same)
 
-module _ (name : List ℕ) (pairs : List Pair) (old new : StoredRows) (is : rows_of new ≡ changed old.key pairs (rows_of old)) where
+module _ (name : List ℕ) (pairs : List Pair) (old : StoredRows) where
   own_or_others : (t : Table) (ts : List Table) (r : StoredRows) (rs : List StoredRows) (n : ℕ) (b : Bool) → same_name name (name_of t) ≡ b
       → AreOf (t ∷ ts) (r ∷ rs) → IsDistinct same_name (map name_of (t ∷ ts)) → slice_get (r ∷ rs) (cond (not b) (1 + n) 0) ≡ Some old
-      → (slice_get rs n ≡ Some old → changed_instance ts (edits_of_one name pairs) (instance_of rs) ≡ instance_of (slice_set rs n new))
-      → changed_instance (t ∷ ts) (edits_of_one name pairs) (instance_of (r ∷ rs)) ≡ instance_of (slice_set (r ∷ rs) (cond (not b) (1 + n) 0) new)
+      → (slice_get rs n ≡ Some old
+      → changed_instance ts (edits_of_one name pairs) (instance_of rs) ≡ slice_set (instance_of rs) n (changed old.key pairs (rows_of old)))
+      → changed_instance (t ∷ ts) (edits_of_one name pairs) (instance_of (r ∷ rs))
+      ≡ slice_set (instance_of (r ∷ rs)) (cond (not b) (1 + n) 0) (changed old.key pairs (rows_of old))
   own_or_others t ts r rs n true own are distinct here rest =
       let same : r ≡ old = cc in
-      let becomes : changed (key_place t.definition.columns) (pairs_of (name_of t) (edits_of_one name pairs)) (rows_of r) ≡ rows_of new =
+      let becomes : changed (key_place t.definition.columns) (pairs_of (name_of t) (edits_of_one name pairs)) (rows_of r) ≡ changed old.key pairs (rows_of old) =
       ap (λ key. changed key (pairs_of (name_of t) (edits_of_one name pairs)) (rows_of r)) (sym are.0.key)
       ∙ ap (λ ps. changed r.key ps (rows_of r)) (pairs_of-own name pairs (name_of t) own)
-      ∙ ap (λ (k : StoredRows). changed k.key pairs (rows_of k)) same ∙ sym is in
+      ∙ ap (λ (k : StoredRows). changed k.key pairs (rows_of k)) same in
       λ i. becomes i ∷ changed_instance-others name pairs ts (instance_of rs) (are_beside ts rs are.1) (others_lack name t ts own distinct) i
   own_or_others t ts r rs n false other are distinct here rest =
       let next : 1 + n ≡ suc n = omega arith in
       (λ i. changed (key_place t.definition.columns) (pairs_of-other name pairs (name_of t) other i) (rows_of r)
       ∷ rest (subst (λ k. slice_get (r ∷ rs) k ≡ Some old) next here) i)
-      ∙ ap (λ k. instance_of (slice_set (r ∷ rs) k new)) (sym next)
+      ∙ ap (λ k. slice_set (instance_of (r ∷ rs)) k (changed old.key pairs (rows_of old))) (sym next)
 
   -- The rows at the place of a name are changed by its pairs, and no others.
-  pub changed_at_place : (ts : List Table) (rs : List StoredRows) → AreOf ts rs → IsDistinct same_name (map name_of ts)
+  pub changed_rows_at_place : (ts : List Table) (rs : List StoredRows) → AreOf ts rs → IsDistinct same_name (map name_of ts)
       → slice_get rs (position_or_len (λ t. same_name name (name_of t)) ts) ≡ Some old
-      → changed_instance ts (edits_of_one name pairs) (instance_of rs) ≡ instance_of (slice_set rs (position_or_len (λ t. same_name name (name_of t)) ts) new)
-  changed_at_place (t ∷ ts) (r ∷ rs) are distinct here =
+      → changed_instance ts (edits_of_one name pairs) (instance_of rs)
+      ≡ slice_set (instance_of rs) (position_or_len (λ t. same_name name (name_of t)) ts) (changed old.key pairs (rows_of old))
+  changed_rows_at_place (t ∷ ts) (r ∷ rs) are distinct here =
       own_or_others t ts r rs (position_or_len (λ u. same_name name (name_of u)) ts) (same_name name (name_of t)) refl are distinct here
-      (changed_at_place ts rs are.1 (IsDistinct-tail same_name (name_of t) (map name_of ts) distinct))
-  changed_at_place [] [] are distinct here = refl
-  changed_at_place [] (r ∷ rs) are distinct here = absurd are
-  changed_at_place (t ∷ ts) [] are distinct here = absurd are
+      (changed_rows_at_place ts rs are.1 (IsDistinct-tail same_name (name_of t) (map name_of ts) distinct))
+  changed_rows_at_place [] [] are distinct here = refl
+  changed_rows_at_place [] (r ∷ rs) are distinct here = absurd are
+  changed_rows_at_place (t ∷ ts) [] are distinct here = absurd are
 
 module _ (name : List ℕ) (pairs : List Pair) (old : StoredRows) where
   its_own_or_others : (t : Table) (ts : List Table) (r : StoredRows) (rs : List StoredRows) (n : ℕ) (b : Bool) → same_name name (name_of t) ≡ b

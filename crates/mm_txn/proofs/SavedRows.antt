@@ -1,8 +1,10 @@
 -- What changes rows does not look at the rows that are saved, and keeps them.
-use Rattle.std.proofs.Common.{◌≡◌, Result, List, Option, refl, ap, subst, ◌∙◌}
-use Rattle.mm_query.specs.Edits.{own_pairs}
+use Rattle.std.proofs.Common.{◌≡◌, Bool, true, false, cond, Result, Err, List, ◌++◌, Option, Some, None, refl, ap, subst, ◌∙◌}
+use Rattle.mm_query.specs.Binding.{binding_conditions}
+use Rattle.mm_query.specs.Edits.{own_pairs, value_conditions}
 use Rattle.mm_query.specs.Machine.{after_change, change_conditions}
 use Rattle.mm_query.specs.State.{State}
+use Rattle.mm_query.specs.declared.bound_query.BoundQuery.{BoundQuery}
 use Rattle.mm_query.specs.declared.command.Mutation.{Mutation}
 use Rattle.mm_query.specs.declared.command.Mutation.TheVariants.{Insert, Update, Delete}
 use Rattle.mm_relation.specs.Kept.{StoredRows}
@@ -10,39 +12,59 @@ use Rattle.mm_schema.specs.Instance.{Instance}
 use Rattle.mm_schema.specs.Refused.{AnswersDue, Condition, first_refusal}
 use Rattle.mm_schema.specs.Schema.{Schema}
 use Rattle.mm_value.specs.declared.refusal.Refusal.{Refusal}
-use Rattle.mm_txn.specs.Kept.{state_of}
+use Rattle.mm_txn.specs.Kept.{state_of, watched_state}
 
 -- The state with these rows saved.
-abbrev pub state_with : Schema → List StoredRows → Option Instance → State
-state_with schema rs saved = record (state_of schema rs) { saved = saved }
+abbrev pub state_with : Schema → List StoredRows → List BoundQuery → Option Instance → State
+state_with schema rs queries saved = record (watched_state schema rs queries) { saved = saved }
 
-module _ (schema : Schema) (rs : List StoredRows) (saved : Option Instance) where
-  pub pairs_beside : (mutation : Mutation) → own_pairs mutation (state_of schema rs) ≡ own_pairs mutation (state_with schema rs saved)
+-- Rows that are saved are the same where what is kept of them is.
+pub same_saved : (is_open : Bool) (a b : Instance) → cond is_open (Some a) None ≡ cond is_open (Some b) None → is_open ≡ true → a ≡ b
+same_saved true a b same e = cc
+same_saved false a b same e = cc
+
+module _ (schema : Schema) (rs : List StoredRows) (queries : List BoundQuery) where
+  -- What a change asks for does not depend on the standing queries.
+  pub pairs_watched : (mutation : Mutation) → own_pairs mutation (state_of schema rs) ≡ own_pairs mutation (watched_state schema rs queries)
+  pairs_watched (Insert table tuples) = refl
+  pairs_watched (Update table assignments tests) = refl
+  pairs_watched (Delete table tests) = refl
+
+  pub values_watched : (mutation : Mutation) → value_conditions mutation (state_of schema rs) ≡ value_conditions mutation (watched_state schema rs queries)
+  values_watched (Insert table tuples) = refl
+  values_watched (Update table assignments tests) = refl
+  values_watched (Delete table tests) = refl
+
+module _ (schema : Schema) (rs : List StoredRows) (queries : List BoundQuery) (saved : Option Instance) where
+  pub pairs_beside : (mutation : Mutation) → own_pairs mutation (state_of schema rs) ≡ own_pairs mutation (state_with schema rs queries saved)
   pairs_beside (Insert table tuples) = refl
   pairs_beside (Update table assignments tests) = refl
   pairs_beside (Delete table tests) = refl
 
-  conditions_beside : (mutation : Mutation) → change_conditions mutation (state_of schema rs) ≡ change_conditions mutation (state_with schema rs saved)
+  conditions_beside : (mutation : Mutation)
+      → change_conditions mutation (watched_state schema rs queries) ≡ change_conditions mutation (state_with schema rs queries saved)
   conditions_beside (Insert table tuples) = refl
   conditions_beside (Update table assignments tests) = refl
   conditions_beside (Delete table tests) = refl
 
   after_beside : (mutation : Mutation)
-      → record (after_change mutation (state_of schema rs)) { saved = saved } ≡ after_change mutation (state_with schema rs saved)
+      → record (after_change mutation (watched_state schema rs queries)) { saved = saved } ≡ after_change mutation (state_with schema rs queries saved)
   after_beside (Insert table tuples) = refl
   after_beside (Update table assignments tests) = refl
   after_beside (Delete table tests) = refl
 
-  module _ (mutation : Mutation) (state : State) (is : state_with schema rs saved ≡ state) where
+  module _ (mutation : Mutation) (state : State) (is : state_with schema rs queries saved ≡ state) where
     -- What is due of a change outside a transaction is due of it with saved rows, ..
-    pub due_beside : {T : Type 0} (result : Result T Refusal) → AnswersDue (first_refusal (change_conditions mutation (state_of schema rs))) result
+    pub due_beside : {T : Type 0} (result : Result T Refusal) → AnswersDue (first_refusal (change_conditions mutation (watched_state schema rs queries))) result
         → AnswersDue (first_refusal (change_conditions mutation state)) result
     due_beside {T} result due =
         subst (λ (s : State). AnswersDue {T = T} (first_refusal (change_conditions mutation s)) result) is
         (subst (λ (cs : List Condition). AnswersDue {T = T} (first_refusal cs) result) (conditions_beside mutation) due)
 
     -- .. and so is what it makes of the rows.
-    pub done_beside : (new : List StoredRows) (later : Option Instance) → state_of schema new ≡ after_change mutation (state_of schema rs)
-        → later ≡ saved → state_with schema new later ≡ after_change mutation state
-    done_beside new later done same =
-        (λ i. record (done i) { saved = same i }) ∙ after_beside mutation ∙ ap (after_change mutation) is
+    pub done_beside : (new : List StoredRows) (left : List BoundQuery) (later : Option Instance) → left ≡ queries
+        → watched_state schema new queries ≡ after_change mutation (watched_state schema rs queries)
+        → later ≡ saved → state_with schema new left later ≡ after_change mutation state
+    done_beside new left later kept done same =
+        ap (λ qs. state_with schema new qs later) kept
+        ∙ (λ i. record (done i) { saved = same i }) ∙ after_beside mutation ∙ ap (after_change mutation) is

@@ -13,14 +13,19 @@ use Rattle.mm_schema.specs.declared.index.IndexDef.{IndexDef}
 use Rattle.mm_schema.specs.declared.table.Table.{Table}
 use Rattle.mm_store.specs.Tables.{Tables}
 use Rattle.mm_query.specs.State.{State}
+use Rattle.mm_query.specs.declared.bound_query.BoundQuery.{BoundQuery}
 
 -- The rows of each relation.
 abbrev pub instance_of : List StoredRows → Instance
 instance_of stored = map rows_of stored
 
--- The state of a catalog and of the rows beside its tables, where no transaction is open and no standing query is kept.
+-- The state of a catalog, of the rows beside its tables and of the queries beside its standing queries, where no transaction is open.
+abbrev pub watched_state : Schema → List StoredRows → List BoundQuery → State
+watched_state schema stored queries = record { schema = schema; rows = instance_of stored; queries = queries; saved = None }
+
+-- The same with no standing query.
 abbrev pub state_of : Schema → List StoredRows → State
-state_of schema stored = record { schema = schema; rows = instance_of stored; queries = []; saved = None }
+state_of schema stored = watched_state schema stored []
 
 -- The index is on the column that is named, and of the kind.
 pub record IsIndex (columns : List Column) (definition : IndexDef) (index : Index) : Type 0 where
@@ -48,10 +53,9 @@ AreOf [] (r ∷ rs) = ⊥
 AreOf (t ∷ ts) [] = ⊥
 
 -- There is a relation for each table; the store's references are those of the catalog's columns, and each is to another table
--- that is there. No standing query is kept.
+-- that is there.
 pub record AreKept (schema : Schema) (store : Tables) : Type 0 where
   pub relations : AreOf schema.tables store.tables
   pub links : store.links ≡ all_references schema
   pub targets : HasTargets schema
   pub others : RefersToOthers schema
-  pub unwatched : schema.standing ≡ []

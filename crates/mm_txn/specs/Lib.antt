@@ -1,4 +1,6 @@
 pub mod Along
 pub mod Kept
+pub mod Rest
 pub mod Saved
 pub mod TableEdits
+pub mod Watched

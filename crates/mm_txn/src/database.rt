@@ -1,5 +1,5 @@
 //! The database: its calls are steps of the machine of row lists.
-ghost use Rattle.std.specs.Prelude.{◌≡◌, ◌<◌, ◌≤◌, false, [], Some, None, IfOk, OnOk, OnErr, MatchResult, length, pos};
+ghost use Rattle.std.specs.Prelude.{◌≡◌, ◌<◌, ◌≤◌, false, [], Some, None, IfErr, IfOk, OnOk, OnErr, MatchResult, length, pos};
 ghost use Rattle.mm_relation.specs.Kept.{StoredRows};
 ghost use Rattle.mm_relation.specs.RowLists.{rows_of};
 ghost use Rattle.mm_schema.specs.Refused.{AnswersDue, first_refusal};
@@ -10,20 +10,25 @@ ghost use Rattle.mm_store.specs.Undoing.{CanUndo};
 ghost use Rattle.mm_query.specs.Edits.{own_pairs};
 ghost use Rattle.mm_query.specs.Machine.{conditions, plan_in, rows_by_index, state_after};
 ghost use Rattle.mm_query.specs.Resolving.{selected};
+ghost use Rattle.mm_query.specs.Standing.{listing as listing_of, shown_rows};
+ghost use Rattle.mm_value.specs.declared.refusal.Refusal.TheVariants.{Memory};
 ghost use Rattle.mm_query.specs.State.{first_state, rows_in};
-ghost use Rattle.mm_query.specs.declared.command.Command.TheVariants.{Define, Change, Scan, ScanIndex, Select, Explain, Begin, Commit, Rollback};
+ghost use Rattle.mm_query.specs.declared.command.Command.TheVariants.{Define, Change, Scan, ScanIndex, Select, Explain, Show, Begin, Commit, Rollback};
 ghost use Rattle.mm_value.specs.declared.values.Value.TheVariants.{Int};
 ghost use Rattle.mm_txn.specs.Along.{IsAlong};
 ghost use Rattle.mm_txn.specs.Kept.{instance_of};
 ghost use Rattle.mm_txn.specs.Saved.{saved_rows};
 
+use crate::changes::{make_edits, settle_outside};
 use crate::definitions::define;
 use crate::edits::{TableEdits, edits_of};
 use crate::explain::explain_query;
+use crate::listing::list_tables;
 use crate::select::select_rows;
-use mm_query::{Definition, ItemList, Mutation, PlanLine, Query};
-use mm_relation::{Edit, Relation};
+use mm_query::{Definition, ItemList, Listing, Mutation, PlanLine, Query};
+use mm_relation::Relation;
 use mm_schema::{Catalog, IndexKind, Name};
+use mm_standing::Standing;
 use mm_store::{Store, Undo};
 use mm_templist::ShownRows;
 use mm_value::{Refusal, Value};
@@ -38,21 +43,28 @@ pub struct Db {
     store: Store,
     /// What the open transaction has changed. Outside one it is empty, since each command is final at once.
     undo: Undo,
+    /// The standing queries with their lists, and what the open transaction has changed of these.
+    standing: Standing,
     /// Whether a transaction is open.
     is_open: bool,
 }
 
 impl Model for Db {
-    ghost use Rattle.std.specs.Prelude.{[]};
     ghost use Rattle.mm_query.specs.State.{State};
     ghost use Rattle.mm_txn.specs.Kept.{instance_of};
     ghost use Rattle.mm_txn.specs.Saved.{IsConsistent, saved_rows};
+    ghost use Rattle.mm_txn.specs.Watched.{queries_of};
 
     ghost Value = { State };
 
-    ghost view = { λ d. record { schema = d.catalog; rows = instance_of d.store.tables; queries = []; saved = saved_rows d.is_open d.undo d.store } };
+    ghost view = { λ d. record {
+      schema = d.catalog;
+      rows = instance_of d.store.tables;
+      queries = queries_of d.standing.queries;
+      saved = saved_rows d.is_open d.undo d.store;
+    } };
 
-    ghost invariant = { λ d. IsConsistent d.catalog d.store d.undo d.is_open };
+    ghost invariant = { λ d. IsConsistent d.catalog d.store d.undo d.standing d.is_open };
 }
 
 impl Db {
@@ -64,6 +76,7 @@ impl Db {
             catalog: Catalog::new(alloc),
             store: Store::new(alloc),
             undo: Undo::new(alloc),
+            standing: Standing::new(alloc),
             is_open: false,
         }
     }
@@ -94,7 +107,7 @@ impl Db {
         if !self.is_open {
             return Err(Refusal::NoTransaction);
         }
-        settle_outside(false, &mut self.store, &mut self.undo);
+        settle_outside(false, &mut self.store, &mut self.undo, &mut self.standing);
         self.is_open = false;
         Ok(())
     }
@@ -112,21 +125,26 @@ impl Db {
             return Err(Refusal::NoTransaction);
         }
         self.store.revert(&mut self.undo, 0);
+        self.standing.revert(0);
         self.is_open = false;
         Ok(())
     }
 
     /// Changes the catalog. A new table comes last and has no rows; a table that is dropped takes its rows and its indexes with it,
-    /// and those behind it move up; a new index is one over the rows that are there.
+    /// and those behind it move up; a new index is one over the rows that are there; a new standing query comes last, and its list
+    /// has the rows that it gives now.
     ///
     /// The first refusal that is due is answered: `NotInTransaction` where a transaction is open. To a new table: `NoSuchTable`
     /// where a column refers to a table that isn't there; `NameTaken` where its name is taken or a column stands twice;
     /// `TypeMismatch` where a column differs in type from the key of the table that it refers to; `TooMany` where there are 64
     /// tables already or it has more than 16 columns. To a table that is dropped: `NoSuchTable` where none has the name; `InUse`
-    /// where a column of another table refers to it. To a new index: `NoSuchTable` and `NoSuchColumn` where its table or its
-    /// column isn't there; `NameTaken` where an index of any table has its name; `TooMany` where its table has 16 indexes
-    /// already. To an index that is dropped: `NoSuchIndex` where none has the name. `Memory` may come in their place and in that
-    /// of success.
+    /// where a column of another table refers to it or a standing query reads it. To a new index: `NoSuchTable` and `NoSuchColumn`
+    /// where its table or its column isn't there; `NameTaken` where an index of any table has its name; `TooMany` where its table
+    /// has 16 indexes already. To an index that is dropped: `NoSuchIndex` where none has the name. To a new standing query: those
+    /// of [`Db::select`] but for `ResultTooLarge`; behind `NoSuchColumn` comes `NameTaken` where a standing query has its name;
+    /// `TooMany` also where there are 32 standing queries already; and last `StandingListTooLarge` where more than 1,048,576
+    /// combinations of rows fit. To a standing query that is dropped: `NoSuchStandingQuery` where none has the name. `Memory` may
+    /// come in their place and in that of success.
     pub fn define(&mut self, alloc: Global, definition: Definition) -> Result<(), Refusal>
         ensures due { AnswersDue (first_refusal (conditions (Define definition) self.old)) result }
         ensures ok { OnOk result (self.new ≡ state_after (Define definition) self.old) }
@@ -135,7 +153,13 @@ impl Db {
         if self.is_open {
             return Err(Refusal::NotInTransaction);
         }
-        define(alloc, &mut self.catalog, &mut self.store, definition)
+        define(
+            alloc,
+            &mut self.catalog,
+            &mut self.store,
+            &mut self.standing,
+            definition,
+        )
     }
 
     /// Changes the rows of a table, and tells how many rows that concerned: those that came, that meet the tests of an UPDATE, or
@@ -147,7 +171,8 @@ impl Db {
     /// table is wide; `TooMany` where there are more than 16 tests. By the rows: `ArithmeticOutOfRange` where a new value doesn't
     /// fit 64 bits; `DuplicateKey` where two rows would have one key; `NoTargetRow` where a foreign key would refer to no row;
     /// `RowIsReferenced` where a row would be gone, or its key, to which a row of another table refers; `TableFull` where there
-    /// would be more than 1,048,576 rows. `Memory` may come in their place and in that of success.
+    /// would be more than 1,048,576 rows. By the standing queries: `StandingListTooLarge` where over the rows after the change more
+    /// than 1,048,576 combinations fit one of them. `Memory` may come in their place and in that of success.
     pub fn change(&mut self, alloc: Global, mutation: Mutation) -> Result<usize, Refusal>
         ensures due { AnswersDue (first_refusal (conditions (Change mutation) self.old)) result }
         ensures ok { OnOk result (self.new ≡ state_after (Change mutation) self.old) }
@@ -156,8 +181,20 @@ impl Db {
     {
         let TableEdits { table, edits } = edits_of(alloc, &self.catalog, &self.store, mutation)?;
         let count = edits.len();
-        make_edits(alloc, &mut self.store, table, edits, &mut self.undo)?;
-        settle_outside(self.is_open, &mut self.store, &mut self.undo);
+        make_edits(
+            alloc,
+            &mut self.store,
+            &mut self.standing,
+            table,
+            edits,
+            &mut self.undo,
+        )?;
+        settle_outside(
+            self.is_open,
+            &mut self.store,
+            &mut self.undo,
+            &mut self.standing,
+        );
         Ok(count)
     }
 
@@ -215,6 +252,28 @@ impl Db {
         explain_query(alloc, &self.catalog, &self.store, query)
     }
 
+    /// The rows that a standing query shows, in their order; no value is copied, and no row of a table is looked at.
+    /// `NoSuchStandingQuery` where none has the name; `Memory` may come in its place and in that of success.
+    pub fn show(&self, alloc: Global, name: &Name) -> Result<ShownRows<'_>, Refusal>
+        ensures due { AnswersDue (first_refusal (conditions (Show name.now) self.now)) result }
+        ensures rows { IfOk result (λ rows. rows ≡ shown_rows name.now self.now) }
+    {
+        let place = self
+            .catalog
+            .standing_place_of(name)
+            .ok_or(Refusal::NoSuchStandingQuery)?;
+        self.standing.list(alloc, place)
+    }
+
+    /// What there is: the tables with their indexes and how many rows each has, and the standing queries and how many rows each
+    /// shows, all in the order of creation. `Memory` is the only refusal.
+    pub fn tables(&self, alloc: Global) -> Result<Listing, Refusal>
+        ensures listing { IfOk result (λ listing. listing ≡ listing_of self.now) }
+        ensures memory { IfErr result (λ refusal. refusal ≡ Memory) }
+    {
+        list_tables(alloc, &self.catalog, &self.store, &self.standing)
+    }
+
     /// The relation of a table, which has at most 1,048,576 rows. `NoSuchTable` where none has the name. It takes no memory.
     pub fn scan(&self, table: &Name) -> Result<&Relation, Refusal>
         ensures due { MatchResult result (λ _. first_refusal (conditions (Scan table.now) self.now) ≡ None)
@@ -237,47 +296,4 @@ pub struct Along<'a> {
     pub column: usize,
     /// How it finds rows.
     pub kind: IndexKind,
-}
-
-/// Makes all edits of a table that its rows allow, and notes them in the log, or none. The refusals are those of
-/// [`Store::check`].
-fn make_edits(
-    alloc: Global,
-    store: &mut Store,
-    table: usize,
-    edits: Vec<Edit>,
-    undo: &mut Undo,
-) -> Result<(), Refusal>
-    requires there { table < length store.old.tables }
-    requires fit { (stored : StoredRows) → IsAt store.old table stored → AreFit stored edits.items }
-    requires fits { CanUndo store.old undo.old }
-    ensures due { (stored : StoredRows) → IsAt store.old table stored
-        → AnswersDue (first_refusal (edit_conditions store.old table stored edits.items)) result }
-    ensures ok { OnOk result ((stored : StoredRows) → IsAt store.old table stored
-        → (new : StoredRows) × Turns store.old table new store.new × HasRows stored (rows_with stored edits.items) new) }
-    ensures err { OnErr result ((stored : StoredRows) → IsAt store.old table stored
-        → (new : StoredRows) × Turns store.old table new store.new × HasRows stored (rows_of stored) new) }
-    ensures links { store.new.links ≡ store.old.links }
-    ensures kept { OnErr result (undo.new ≡ undo.old) }
-    ensures saved { rows_at_mark 0 undo.new store.new ≡ rows_at_mark 0 undo.old store.old }
-    ensures fits { CanUndo store.new undo.new }
-{
-    store.check(alloc, table, edits.as_slice())?;
-    store.apply(alloc, table, edits, undo)?;
-    Ok(())
-}
-
-/// Makes what was done final, unless a transaction is open.
-fn settle_outside(is_open: bool, store: &mut Store, undo: &mut Undo)
-    requires { CanUndo store.old undo.old }
-    ensures rows { instance_of store.new.tables ≡ instance_of store.old.tables }
-    ensures form { EachTurns SameForm store.old.tables store.new.tables }
-    ensures links { store.new.links ≡ store.old.links }
-    ensures saved { saved_rows is_open undo.new store.new ≡ saved_rows is_open undo.old store.old }
-    ensures fits { CanUndo store.new undo.new }
-    ensures settled { is_open ≡ false → undo.new ≡ [] }
-{
-    if !is_open {
-        store.settle(undo);
-    }
 }

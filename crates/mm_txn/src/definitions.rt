@@ -6,9 +6,12 @@ ghost use Rattle.mm_schema.specs.Schema.{drop_table_conditions, table_conditions
 ghost use Rattle.mm_query.specs.Machine.{after_definition, definition_conditions};
 ghost use Rattle.mm_query.specs.declared.command.Definition.TheVariants as define;
 ghost use Rattle.mm_txn.specs.Kept.{AreKept, state_of};
+ghost use Rattle.mm_txn.specs.Rest.{AreAtRest, state_at_rest};
 
+use crate::watching::{unwatch, watch};
 use mm_query::Definition;
 use mm_schema::{Catalog, IndexDef, Name, TableDef};
+use mm_standing::Standing;
 use mm_store::Store;
 use mm_value::Refusal;
 use std::alloc::{AllocError, Global};
@@ -18,20 +21,23 @@ pub(crate) fn define(
     alloc: Global,
     catalog: &mut Catalog,
     store: &mut Store,
+    standing: &mut Standing,
     definition: Definition,
 ) -> Result<(), Refusal>
-    requires { AreKept catalog.old store.old }
-    ensures due { AnswersDue (first_refusal (definition_conditions definition (state_of catalog.old store.old.tables))) result }
+    requires { AreAtRest catalog.old store.old standing.old }
+    ensures due { AnswersDue (first_refusal (definition_conditions definition (state_at_rest catalog.old store.old standing.old))) result }
     ensures ok { OnOk result
-        (state_of catalog.new store.new.tables ≡ after_definition definition (state_of catalog.old store.old.tables)) }
-    ensures err { OnErr result (state_of catalog.new store.new.tables ≡ state_of catalog.old store.old.tables) }
-    ensures kept { AreKept catalog.new store.new }
+        (state_at_rest catalog.new store.new standing.new ≡ after_definition definition (state_at_rest catalog.old store.old standing.old)) }
+    ensures err { OnErr result (state_at_rest catalog.new store.new standing.new ≡ state_at_rest catalog.old store.old standing.old) }
+    ensures rest { AreAtRest catalog.new store.new standing.new }
 {
     match definition {
         Definition::Table(definition) => add_table(alloc, catalog, store, definition),
-        Definition::DropTable(name) => drop_table(catalog, store, &name),
+        Definition::DropTable(name) => drop_table(catalog, store, standing, &name),
         Definition::Index(index) => add_index(alloc, catalog, store, index),
         Definition::DropIndex(name) => drop_index(catalog, store, &name),
+        Definition::Watch(named) => watch(alloc, catalog, store, standing, named),
+        Definition::Unwatch(name) => unwatch(catalog, standing, &name),
     }
 }
 
@@ -64,17 +70,23 @@ fn add_table(
 }
 
 /// Drops a table with its rows and indexes; those behind it move up. The refusals are those of [`Catalog::drop_table`].
-fn drop_table(catalog: &mut Catalog, store: &mut Store, name: &Name) -> Result<(), Refusal>
-    requires { AreKept catalog.old store.old }
+fn drop_table(
+    catalog: &mut Catalog,
+    store: &mut Store,
+    standing: &mut Standing,
+    name: &Name,
+) -> Result<(), Refusal>
+    requires { AreAtRest catalog.old store.old standing.old }
     ensures due { AnswersDue (first_refusal (drop_table_conditions name.now catalog.old)) result }
-    ensures ok { OnOk result
-        (state_of catalog.new store.new.tables ≡ after_definition (define.DropTable name.now) (state_of catalog.old store.old.tables)) }
-    ensures err { OnErr result (state_of catalog.new store.new.tables ≡ state_of catalog.old store.old.tables) }
-    ensures kept { AreKept catalog.new store.new }
+    ensures ok { OnOk result (state_at_rest catalog.new store.new standing.new
+        ≡ after_definition (define.DropTable name.now) (state_at_rest catalog.old store.old standing.old)) }
+    ensures err { OnErr result (state_at_rest catalog.new store.new standing.new ≡ state_at_rest catalog.old store.old standing.old) }
+    ensures rest { AreAtRest catalog.new store.new standing.new }
 {
     let place = catalog.place_of(name).ok_or(Refusal::NoSuchTable)?;
     catalog.drop_table(name)?;
     store.drop_table(place);
+    standing.table_dropped(place);
     Ok(())
 }
 

@@ -4,10 +4,13 @@
 //! A call that may take memory is handed the allocator; no other call takes any.
 #![tactic(auto)]
 
+mod changes;
 mod database;
 mod definitions;
 mod edits;
 mod explain;
+mod listing;
 mod select;
+mod watching;
 
 pub use database::{Along, Db};

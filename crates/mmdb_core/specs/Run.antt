@@ -13,7 +13,7 @@ use Rattle.mm_query.specs.Machine.{Outcome, step}
 use Rattle.mm_query.specs.State.{State, first_state}
 use Rattle.mm_query.specs.declared.command.Command.{Command}
 use Rattle.mm_query.specs.declared.reply.Reply.{Reply}
-use Rattle.mm_query.specs.declared.reply.Reply.TheVariants.{Done, Count, Rows, Steps, Refused}
+use Rattle.mm_query.specs.declared.reply.Reply.TheVariants.{Done, Count, Rows, Steps, Listing, Refused}
 use Rattle.mmdb_core.specs.declared.fault.RunFault.{RunFault}
 use Rattle.mmdb_core.specs.declared.fault.RunFault.TheVariants.{Read, Write, TooLong}
 use Rattle.mmdb_core.specs.declared.limits.Totals.{Totals}
@@ -44,6 +44,7 @@ is_error (Some Done) = false
 is_error (Some (Count n)) = false
 is_error (Some (Rows rows)) = false
 is_error (Some (Steps lines)) = false
+is_error (Some (Listing told)) = false
 is_error (Some (Refused refusal)) = true
 
 -- What a run writes, and how many of its replies are an `error`.

@@ -7,7 +7,7 @@ ghost use Rattle.mm_relation.specs.Refs.{row_at};
 ghost use Rattle.mm_lang.specs.Lines.{without_return};
 ghost use Rattle.mm_value.specs.Device.{Writes};
 ghost use Rattle.mm_value.specs.Watched.{inner_of, has_failed};
-ghost use Rattle.mm_query.specs.declared.command.Command.TheVariants.{Define, Change, Scan, ScanIndex, Select, Explain, Begin, Commit, Rollback};
+ghost use Rattle.mm_query.specs.declared.command.Command.TheVariants.{Define, Change, Scan, ScanIndex, Select, Explain, Show, Tables, Begin, Commit, Rollback};
 ghost use Rattle.mm_query.specs.Machine.{step};
 ghost use Rattle.mm_query.specs.declared.reply.Reply.TheVariants.{Done, Refused, Rows};
 ghost use Rattle.mmdb_core.specs.steps.Respond.{RepliesToLine, IsStep, RepliesToReading};
@@ -66,9 +66,11 @@ fn respond<W: Write>(
         Ok(Command::Scan(table)) => return answer_scan(database, &table, writer),
         Ok(Command::ScanIndex(index)) => return answer_index_scan(alloc, database, &index, writer),
         Ok(Command::Select(query)) => return answer_select(alloc, database, &query, writer),
+        Ok(Command::Show(name)) => return answer_show(alloc, database, &name, writer),
         Ok(Command::Define(definition)) => define(alloc, database, definition),
         Ok(Command::Change(mutation)) => change(alloc, database, mutation),
         Ok(Command::Explain(query)) => explain(alloc, database, &query),
+        Ok(Command::Tables) => tables(alloc, database),
         Ok(Command::Begin) => begin(database),
         Ok(Command::Commit) => commit(database),
         Ok(Command::Rollback) => rollback(database),
@@ -135,6 +137,16 @@ fn explain(alloc: Global, database: &Db, query: &Query) -> Reply
     }
 }
 
+/// What there is: the tables, their indexes and the standing queries.
+fn tables(alloc: Global, database: &Db) -> Reply
+    ensures { IsStep Tables database.now (record { reply = Some result; state = database.now }) }
+{
+    match database.tables(alloc) {
+        Ok(listing) => Reply::Listing(listing),
+        Err(refusal) => Reply::Refused(refusal),
+    }
+}
+
 /// Answers the rows of a table, which are written from where they lie.
 fn answer_scan<W: Write>(
     database: &Db,
@@ -191,6 +203,22 @@ fn answer_select<W: Write>(
 {
     let zero = Value::Int(0);
     match database.select(alloc, query, &zero) {
+        Ok(rows) => send_shown(&rows, writer),
+        Err(refusal) => send(&Reply::Refused(refusal), writer),
+    }
+}
+
+/// Answers the rows that a standing query shows, which are written from where their values lie.
+fn answer_show<W: Write>(
+    alloc: Global,
+    database: &Db,
+    name: &Name,
+    writer: &mut Watched<W>,
+) -> Result<bool, WriteFault>
+    requires { has_failed writer.old ≡ false }
+    ensures { RepliesToReading W.contents writer.old writer.new (Ok (Show name.now)) database.now database.now result }
+{
+    match database.show(alloc, name) {
         Ok(rows) => send_shown(&rows, writer),
         Err(refusal) => send(&Reply::Refused(refusal), writer),
     }

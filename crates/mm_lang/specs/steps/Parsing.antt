@@ -24,12 +24,12 @@ abbrev pub AnswersReading : Result Command Refusal → Result Command Refusal �
 AnswersReading due (Ok command) = due ≡ Ok command
 AnswersReading due (Err refusal) = (due ≡ Err refusal) ⊎ ((refusal ≡ Memory) × IsTrue (reading_takes_memory due))
 
--- The keyword is a command by itself.
-abbrev pub is_whole_command : Keyword → Bool
-is_whole_command keyword.Begin = true
-is_whole_command keyword.Commit = true
-is_whole_command keyword.Rollback = true
-is_whole_command _ = false
+-- The keyword is BEGIN, COMMIT or ROLLBACK.
+abbrev pub is_control_keyword : Keyword → Bool
+is_control_keyword keyword.Begin = true
+is_control_keyword keyword.Commit = true
+is_control_keyword keyword.Rollback = true
+is_control_keyword _ = false
 
 -- The tokens begin with no word.
 abbrev pub BeginsNoWord : List Token → Type 0

@@ -1,4 +1,4 @@
-use Rattle.std.proofs.Common.{◌+◌, ◌/◌, ◌%◌, ◌^◌, ◌<◌, ◌≤◌, sym, ◌∙◌, ◌≡◌, ◌≢◌, ◌⊎◌, inl, inr, true, List, ℕ, [], ◌∷◌, ◌++◌, codes, decimal, length, get_or, refl, ap, arith}
+use Rattle.std.proofs.Common.{◌+◌, ◌/◌, ◌%◌, ◌^◌, ◌<◌, ◌≤◌, sym, ◌∙◌, ◌≡◌, ◌≢◌, ◌⊎◌, inl, inr, true, List, ℕ, [], ◌∷◌, ◌++◌, codes, decimal, length, get_or, refl, ap, append_assoc, arith}
 use Rattle.std.proofs.lemmas.Fmt.{decimal_digit, decimal_step}
 use Rattle.std.specs.Char.{is_ascii_digit}
 use Rattle.std.specs.List.{flat_map}
@@ -7,8 +7,9 @@ use Rattle.mm_value.specs.declared.refusal.Refusal.{Refusal}
 use Rattle.mm_value.specs.declared.refusal.Refusal.TheVariants.{LineTooLong, Syntax, NumberOutOfRange, TextTooLong, NoSuchTable, NoSuchColumn, NoSuchIndex, NoSuchStandingQuery, NameTaken, AliasTaken, NoSuchAlias, TypeMismatch, WrongNumberOfValues, ArithmeticOutOfRange, DuplicateKey, NoTargetRow, RowIsReferenced, InUse, TableFull, ResultTooLarge, StandingListTooLarge, TooMany, TransactionOpen, NoTransaction, NotInTransaction, Memory}
 use Rattle.mm_query.specs.declared.plan_line.PlanLine.{PlanLine}
 use Rattle.mm_query.specs.declared.reply.Reply.{Reply}
-use Rattle.mm_query.specs.declared.reply.Reply.TheVariants.{Done, Count, Rows, Steps, Refused}
-use Rattle.mm_lang.specs.ReplyText.{HasNames, line_text, reply_text}
+use Rattle.mm_query.specs.declared.reply.Reply.TheVariants.{Done, Count, Rows, Steps, Listing, Refused}
+use Rattle.mm_lang.specs.ReplyText.{HasNames, line_text, query_line, reply_text, table_lines}
+use Rattle.mm_lang.proofs.ListingTexts.{listing_is_no_refusal}
 use Rattle.mm_lang.proofs.ReplyLemmas.{item_line, row_line}
 use Rattle.mm_lang.proofs.StepTexts.{steps_are_no_refusal}
 use Rattle.mm_lang.proofs.reply_text.replies_are_told_apart.Goals as goal
@@ -18,6 +19,10 @@ ends Done = (codes "ok", refl)
 ends (Count n) = (codes "ok " ++ decimal n, refl)
 ends (Rows rows) = (flat_map row_line rows ++ codes "rows " ++ decimal (length rows), refl)
 ends (Steps steps) = (flat_map (item_line line_text (codes "steps ")) steps ++ codes "steps " ++ decimal (length steps), refl)
+ends (Listing listing) = (
+  flat_map table_lines listing.tables ++ flat_map query_line listing.standing ++ (codes "tables " ++ decimal (length listing.tables)),
+  sym (append_assoc (flat_map table_lines listing.tables ++ flat_map query_line listing.standing) (codes "tables " ++ decimal (length listing.tables)) (10 ∷ [])),
+)
 ends (Refused refusal) = (codes "error " ++ decimal (refusal_number refusal) ++ 32 ∷ refusal_text refusal, refl)
 
 not_e : (b : ℕ) → b ≡ 101 → b ≢ 101 → ⊥
@@ -30,6 +35,7 @@ only_refusals (Count n) digit rest named is e = absurd (not_e 111 (ap (λ l. get
 only_refusals (Rows []) digit rest named is e = absurd (not_e 114 (ap (λ l. get_or l 0 0) e) (omega arith))
 only_refusals (Rows (row ∷ rows)) digit rest named is e = absurd (not_e 40 (ap (λ l. get_or l 0 0) e) (omega arith))
 only_refusals (Steps steps) digit rest named is e = absurd (steps_are_no_refusal steps digit rest named is e)
+only_refusals (Listing listing) digit rest named is e = absurd (listing_is_no_refusal listing.tables listing.standing (digit ∷ rest) e)
 only_refusals (Refused refusal) digit rest named is e = (refusal, refl)
 
 -- A refusal's number has two digits.
@@ -90,6 +96,7 @@ or_plans (Count n) rest e = absurd (not_e 111 (ap (λ l. get_or l 0 0) e) (omega
 or_plans (Rows []) rest e = absurd (not_e 114 (ap (λ l. get_or l 0 0) e) (omega arith))
 or_plans (Rows (row ∷ rows)) rest e = absurd (not_e 40 (ap (λ l. get_or l 0 0) e) (omega arith))
 or_plans (Steps steps) rest e = inr (steps, refl)
+or_plans (Listing listing) rest e = absurd (listing_is_no_refusal listing.tables listing.standing rest e)
 or_plans (Refused refusal) rest e = inl (refusal, refl)
 
 pub returns-clause-or_plans : goal.returns-clause-or_plans

@@ -8,9 +8,12 @@ use Rattle.mm_schema.specs.declared.reference.Reference.{Reference}
 use Rattle.mm_value.specs.declared.refusal.Refusal.{Refusal}
 use Rattle.mm_value.specs.declared.refusal.Refusal.TheVariants.{InUse, NoSuchTable}
 use Rattle.mm_query.proofs.Due.{lacks_nowhere}
-use Rattle.mm_txn.specs.Kept.{AreKept, AreOf, state_of}
+use Rattle.mm_query.specs.State.{State}
+use Rattle.mm_txn.specs.Kept.{AreOf, instance_of}
+use Rattle.mm_txn.specs.Rest.{AreAtRest, state_at_rest}
 use Rattle.mm_txn.proofs.DatabaseSteps.{rows_there, some_there, table_dropped}
 use Rattle.mm_txn.proofs.KeptReferences.{kept_by_no_table, none_to_dropped}
+use Rattle.mm_txn.proofs.Resting.{rest_by_no_table, state_by_no_table}
 use Rattle.mm_txn.proofs.RowsBeside.{beside}
 use Rattle.mm_txn.proofs.definitions.drop_table.Goals as goal
 
@@ -24,31 +27,44 @@ returns-in_err-place-clause-due c =
 
 pub drop_table-requires-2-clause-there : goal.drop_table-requires-2-clause-there
 drop_table-requires-2-clause-there c =
-    rows_there c.args.catalog.now c.args.store.now.tables c.requires.relations c.args.name.now c.in_ok-place.place
+    rows_there c.args.catalog.now c.args.store.now.tables c.requires.kept.relations c.args.name.now c.in_ok-place.place
     (sym c.place_of.ensures.place ∙ c.in_ok-place.ensures.ok_part)
 
 pub drop_table-requires-2-clause-unused : goal.drop_table-requires-2-clause-unused
 drop_table-requires-2-clause-unused c =
     let placed = sym c.place_of.ensures.place ∙ c.in_ok-place.ensures.ok_part in
-    let stored = some_there c.args.store.now.tables c.in_ok-place.place (rows_there c.args.catalog.now c.args.store.now.tables c.requires.relations
+    let stored = some_there c.args.store.now.tables c.in_ok-place.place (rows_there c.args.catalog.now c.args.store.now.tables c.requires.kept.relations
     c.args.name.now c.in_ok-place.place placed) in
-    let at = beside c.args.catalog.now.tables c.args.store.now.tables c.in_ok-place.place stored.0 c.requires.relations stored.1 in
-    subst (All (λ (r : Reference). r.to ≢ c.in_ok-place.place)) (sym c.requires.links)
-    (none_to_dropped c.args.catalog.now c.args.name.now c.in_ok-place.place placed at.table at.there c.requires.targets c.requires.others
+    let at = beside c.args.catalog.now.tables c.args.store.now.tables c.in_ok-place.place stored.0 c.requires.kept.relations stored.1 in
+    subst (All (λ (r : Reference). r.to ≢ c.in_ok-place.place)) (sym c.requires.kept.links)
+    (none_to_dropped c.args.catalog.now c.args.name.now c.in_ok-place.place placed at.table at.there c.requires.kept.targets c.requires.kept.others
     c.in_ok-drop_table.ensures.due)
 
-pub returns-clause-kept : goal.returns-clause-kept
-returns-clause-kept c =
-    let dropped = table_dropped c.args.catalog.now c.args.store.now.tables c.requires.relations c.args.name.now c.in_ok-place.place
-    (sym c.place_of.ensures.place ∙ c.in_ok-place.ensures.ok_part) c.place_of.ensures.distinct in
-    subst (λ (schema : Schema). AreKept schema c.drop_table-2.new.self) (sym c.in_ok-drop_table.ensures.ok)
-    (kept_by_no_table c.args.catalog.now c.args.store.now c.drop_table-2.new.self c.requires c.args.name.now c.in_ok-place.place
-    (sym c.place_of.ensures.place ∙ c.in_ok-place.ensures.ok_part) c.place_of.ensures.distinct c.in_ok-drop_table.ensures.due
-    (subst (λ (rs : List StoredRows). AreOf (without_table c.args.name.now c.args.catalog.now).tables rs) (sym c.drop_table-2.ensures.tables) dropped.1)
-    c.drop_table-2.ensures.links)
+pub returns-clause-rest : goal.returns-clause-rest
+returns-clause-rest c =
+    let schema = c.args.catalog.now in
+    let store = c.args.store.now in
+    let name = c.args.name.now in
+    let placed = sym c.place_of.ensures.place ∙ c.in_ok-place.ensures.ok_part in
+    let dropped = table_dropped schema store.tables c.requires.kept.relations name c.in_ok-place.place placed c.place_of.ensures.distinct in
+    let rows = ap (λ (rs : List StoredRows). instance_of rs) c.drop_table-2.ensures.tables ∙ ap (λ (s : State). s.rows) dropped.0 in
+    let kept = kept_by_no_table schema store c.drop_table-2.new.self c.requires.kept name c.in_ok-place.place placed c.place_of.ensures.distinct
+    c.in_ok-drop_table.ensures.due
+    (subst (λ (rs : List StoredRows). AreOf (without_table name schema).tables rs) (sym c.drop_table-2.ensures.tables) dropped.1)
+    c.drop_table-2.ensures.links in
+    subst (λ (s : Schema). AreAtRest s c.drop_table-2.new.self c.table_dropped.new.self) (sym c.in_ok-drop_table.ensures.ok)
+    (subst (AreAtRest (without_table name schema) c.drop_table-2.new.self) (sym c.table_dropped.ensures)
+    (rest_by_no_table schema store c.drop_table-2.new.self c.args.standing.now c.requires name c.in_ok-place.place placed c.place_of.ensures.distinct
+    c.in_ok-drop_table.ensures.due kept rows))
 
 pub returns-clause-ok : goal.returns-clause-ok
 returns-clause-ok c =
-    let dropped = table_dropped c.args.catalog.now c.args.store.now.tables c.requires.relations c.args.name.now c.in_ok-place.place
-    (sym c.place_of.ensures.place ∙ c.in_ok-place.ensures.ok_part) c.place_of.ensures.distinct in
-    (λ i. state_of (c.in_ok-drop_table.ensures.ok i) (c.drop_table-2.ensures.tables i)) ∙ dropped.0
+    let schema = c.args.catalog.now in
+    let store = c.args.store.now in
+    let name = c.args.name.now in
+    let placed = sym c.place_of.ensures.place ∙ c.in_ok-place.ensures.ok_part in
+    let dropped = table_dropped schema store.tables c.requires.kept.relations name c.in_ok-place.place placed c.place_of.ensures.distinct in
+    let rows = ap (λ (rs : List StoredRows). instance_of rs) c.drop_table-2.ensures.tables ∙ ap (λ (s : State). s.rows) dropped.0 in
+    (λ i. state_at_rest (c.in_ok-drop_table.ensures.ok i) c.drop_table-2.new.self (c.table_dropped.ensures i))
+    ∙ state_by_no_table schema store c.drop_table-2.new.self c.args.standing.now c.requires name c.in_ok-place.place placed c.place_of.ensures.distinct
+    c.in_ok-drop_table.ensures.due rows

@@ -1,8 +1,8 @@
-use Rattle.std.proofs.Common.{Ok, inl}
+use Rattle.std.proofs.Common.{Ok, inl, refl}
 use Rattle.mm_query.specs.declared.command.Command.TheVariants.{Select}
 use Rattle.mm_query.specs.declared.reply.Reply.TheVariants.{Rows, Refused}
 use Rattle.mmdb_core.proofs.Answering.{sent}
-use Rattle.mmdb_core.proofs.Selects.{select_leads, select_refused}
+use Rattle.mmdb_core.proofs.Selects.{refused_leads, select_leads}
 use Rattle.mmdb_core.proofs.answer.answer_select.Goals as goal
 
 pub returns-in-Ok : goal.returns-in-Ok
@@ -17,4 +17,4 @@ returns g c =
     let query = c.args.query.now in
     let database = c.args.database.now in
     sent (Refused c.in-Err.refusal) (Ok (Select query)) database database c.send.ensures.written c.send.ensures.refused
-    (select_refused query database c.in-Err.refusal c.in-Err.ensures.due)
+    (refused_leads (Select query) refl database c.in-Err.refusal c.in-Err.ensures.due)

@@ -1,7 +1,7 @@
 use Rattle.std.proofs.Common.{Some, None, false, Ok, inl, refl, sym, ap, subst, ◌∙◌}
 use Rattle.mm_value.proofs.Writing.{Writes-nil}
 use Rattle.mm_query.specs.declared.command.Command.{Command}
-use Rattle.mm_query.specs.declared.command.Command.TheVariants.{Define, Change, Explain}
+use Rattle.mm_query.specs.declared.command.Command.TheVariants.{Define, Change, Explain, Tables}
 use Rattle.mm_query.specs.Machine.{Outcome}
 use Rattle.mm_query.specs.State.{State}
 use Rattle.mm_query.specs.declared.reply.Reply.{Reply}
@@ -9,7 +9,7 @@ use Rattle.mm_query.specs.declared.reply.Reply.TheVariants.{Refused}
 use Rattle.mmdb_core.specs.steps.Respond.{MayLeadTo}
 use Rattle.mmdb_core.proofs.Answering.{leads_step, sent}
 use Rattle.mmdb_core.proofs.answer.respond.Goals as goal
-use Rattle.mmdb_core.proofs.answer.respond.Goals.{in-Ok-Define, in-Ok-Change, in-Ok-Explain, in-Ok-Begin, in-Ok-Commit, in-Ok-Rollback, in-Err}
+use Rattle.mmdb_core.proofs.answer.respond.Goals.{in-Ok-Define, in-Ok-Change, in-Ok-Explain, in-Ok-Tables, in-Ok-Begin, in-Ok-Commit, in-Ok-Rollback, in-Err}
 
 pub returns-in-Ok-Nothing : goal.returns-in-Ok-Nothing
 returns-in-Ok-Nothing g c = record {
@@ -39,6 +39,11 @@ returns g c =
           c.args.database.now
           (reply_and c.match-command.reply c.match-command.database) (reply_and w.explain-reply.result c.args.database.now)
           (ap (λ r. reply_and r c.match-command.database) w.reply-is ∙ ap (reply_and w.explain-reply.result) w.database-is) w.explain-reply.ensures
+      | in-Ok-Tables w ↦
+          leads_step Tables refl c.args.command (w.in-Ok-Tables.is ∙ ap (λ (command : Command). Ok command) w.in-Ok-Tables.field-0-is)
+          c.args.database.now
+          (reply_and c.match-command.reply c.match-command.database) (reply_and w.tables-reply.result c.args.database.now)
+          (ap (λ r. reply_and r c.match-command.database) w.reply-is ∙ ap (reply_and w.tables-reply.result) w.database-is) w.tables-reply.ensures
       | in-Ok-Begin w ↦
           subst (λ read. MayLeadTo read c.args.database.now (reply_and c.match-command.reply c.match-command.database))
           (sym (w.in-Ok-Begin.is ∙ ap (λ (command : Command). Ok command) w.in-Ok-Begin.field-0-is))

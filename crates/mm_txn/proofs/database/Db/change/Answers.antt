@@ -1,14 +1,17 @@
 -- The new rows of the edits' table are the state's, and what is saved stays.
-use Rattle.std.proofs.Common.{◌≡◌, ℕ, cond, [], Err, Ok, Some, None, length, ap, ◌∙◌, arith}
+use Rattle.std.proofs.Common.{◌≡◌, ℕ, cond, Err, Ok, Some, None, length, ap, ◌∙◌, arith}
 use Rattle.std.proofs.lemmas.Result.{err_from_is_err_and}
 use Rattle.mm_schema.specs.Instance.{Instance}
 use Rattle.mm_query.specs.Edits.{own_pairs}
 use Rattle.mm_query.specs.State.{State}
-use Rattle.mm_txn.specs.Kept.{state_of}
+use Rattle.mm_standing.specs.Queries.{StandingQuery}
+use Rattle.mm_txn.specs.Kept.{watched_state}
 use Rattle.mm_txn.specs.Saved.{saved_rows}
+use Rattle.mm_txn.specs.Watched.{queries_of}
 use Rattle.mm_txn.proofs.ChangeSteps.{change_done, change_due, change_refused, change_within, early_due, edits_counted}
-use Rattle.mm_txn.proofs.KeptReferences.{all_to_others, kept_by_rows}
-use Rattle.mm_txn.proofs.RowsBeside.{AreOf-formed}
+use Rattle.mm_txn.proofs.KeptReferences.{all_to_others}
+use Rattle.mm_txn.proofs.ListedRows.{served}
+use Rattle.mm_txn.proofs.OpenSteps.{changed, refused}
 use Rattle.mm_txn.proofs.SavedRows.{done_beside, due_beside, pairs_beside}
 use Rattle.mm_txn.proofs.database.Db.change.Goals as goal
 
@@ -16,35 +19,41 @@ pub returns-in_err-table-clause-due : goal.returns-in_err-table-clause-due
 returns-in_err-table-clause-due c =
     let p = err_from_is_err_and c.from_residual.result c.from_residual.ensures.1 in
     let saved = saved_rows c.self.inside.is_open c.self.inside.undo c.self.inside.store in
-    rw (p.1, p.2) (due_beside c.self.inside.catalog c.self.inside.store.tables saved c.args.mutation c.args.self.now c.self.view_is {T = ℕ} (Err c.in_err-table.field-0.0)
-    (early_due c.args.mutation (state_of c.self.inside.catalog c.self.inside.store.tables) c.in_err-table.field-0.0 c.in_err-table.ensures.due))
+    let queries = queries_of c.self.inside.standing.queries in
+    rw (p.1, p.2) (due_beside c.self.inside.catalog c.self.inside.store.tables queries saved c.args.mutation c.args.self.now c.self.view_is {T = ℕ}
+    (Err c.in_err-table.field-0.0)
+    (early_due c.args.mutation c.self.inside.catalog c.self.inside.store.tables queries c.in_err-table.field-0.0 c.in_err-table.ensures.due))
 
 pub make_edits-requires-clause-there : goal.make_edits-requires-clause-there
 make_edits-requires-clause-there c =
     change_within c.self.inside.catalog c.self.inside.store.tables c.self.invariant.kept.relations c.args.mutation c.in_ok-table.field-0.table
     c.in_ok-table.field-0.edits.items c.in_ok-table.ensures.ok
 
+pub make_edits-requires-clause-served : goal.make_edits-requires-clause-served
+make_edits-requires-clause-served c =
+    served c.self.inside.catalog c.self.inside.store c.self.invariant.kept.relations c.self.inside.standing.queries c.self.invariant.placed.placed
+
 pub invariant_of-self : goal.invariant_of-self
-invariant_of-self c = record {
-  kept = kept_by_rows c.self.inside.catalog c.self.inside.store c.make_edits.new.store c.self.invariant.kept
-      (change_refused c.self.inside.catalog c.self.inside.store.tables c.self.invariant.kept.relations c.args.mutation c.in_ok-table.field-0.table
-      c.in_ok-table.field-0.edits.items c.in_ok-table.ensures.ok c.make_edits.new.store.tables c.in_err-make_edits.ensures.err).1
-      c.make_edits.ensures.links;
-  fits = c.make_edits.ensures.fits;
-  settled = λ closed. c.in_err-make_edits.ensures.kept ∙ c.self.invariant.settled closed;
-}
+invariant_of-self c =
+    refused c.self.inside.catalog c.self.inside.store c.self.inside.undo c.self.inside.standing c.self.inside.is_open c.self.invariant
+    c.make_edits.new.store c.make_edits.new.undo c.make_edits.new.standing
+    (change_refused c.self.inside.catalog c.self.inside.store.tables c.self.invariant.kept.relations c.args.mutation c.in_ok-table.field-0.table
+    c.in_ok-table.field-0.edits.items c.in_ok-table.ensures.ok c.make_edits.new.store.tables c.in_err-make_edits.ensures.err).1
+    c.make_edits.ensures.links c.make_edits.ensures.saved c.make_edits.ensures.fits c.make_edits.ensures.listed c.make_edits.ensures.queries
+    c.make_edits.ensures.undone c.in_err-make_edits.ensures.kept c.in_err-make_edits.ensures.log
 
 pub returns-in_err-make_edits-clause-due : goal.returns-in_err-make_edits-clause-due
 returns-in_err-make_edits-clause-due c =
     let p = err_from_is_err_and c.from_residual-in_err-make_edits.result c.from_residual-in_err-make_edits.ensures.1 in
     let saved = saved_rows c.self.inside.is_open c.self.inside.undo c.self.inside.store in
+    let lists = c.self.inside.standing.queries in
     let due = change_due c.self.inside.catalog c.self.inside.store.tables c.self.invariant.kept.relations c.args.mutation c.in_ok-table.field-0.table
-    c.in_ok-table.field-0.edits.items c.in_ok-table.ensures.ok c.in_ok-table.ensures.distinct
+    c.in_ok-table.field-0.edits.items c.in_ok-table.ensures.ok lists c.self.invariant.placed.placed c.in_ok-table.ensures.distinct
     (all_to_others c.self.inside.catalog c.self.invariant.kept.targets c.self.invariant.kept.others) c.in_ok-table.ensures.due
     c.self.inside.store.links c.self.invariant.kept.links {T = ℕ} (Err c.in_err-make_edits.field-0.0)
     c.in_err-make_edits.ensures.due in
-    rw (p.1, p.2) (due_beside c.self.inside.catalog c.self.inside.store.tables saved c.args.mutation c.args.self.now c.self.view_is {T = ℕ} (Err c.in_err-make_edits.field-0.0)
-    due)
+    rw (p.1, p.2) (due_beside c.self.inside.catalog c.self.inside.store.tables (queries_of lists) saved c.args.mutation c.args.self.now c.self.view_is {T = ℕ}
+    (Err c.in_err-make_edits.field-0.0) due)
 
 pub returns-in_err-make_edits-clause-err : goal.returns-in_err-make_edits-clause-err
 returns-in_err-make_edits-clause-err c =
@@ -52,36 +61,42 @@ returns-in_err-make_edits-clause-err c =
     let same = (change_refused c.self.inside.catalog c.self.inside.store.tables c.self.invariant.kept.relations c.args.mutation c.in_ok-table.field-0.table
     c.in_ok-table.field-0.edits.items c.in_ok-table.ensures.ok c.make_edits.new.store.tables c.in_err-make_edits.ensures.err).0 in
     let saved = ap (λ (rows : Instance). cond c.self.inside.is_open (Some rows) None) c.make_edits.ensures.saved in
-    rw (p.1) ((λ i. record (same i) { saved = saved i }) ∙ c.self.view_is)
+    let queries = ap queries_of c.make_edits.ensures.queries in
+    rw (p.1) ((λ i. record { schema = c.self.inside.catalog; rows = same i; queries = queries i; saved = saved i }) ∙ c.self.view_is)
 
 pub invariant_of-self-2 : goal.invariant_of-self-2
-invariant_of-self-2 c = record {
-  kept = kept_by_rows c.self.inside.catalog c.self.inside.store c.settle_outside.new.store c.self.invariant.kept
-      (AreOf-formed c.self.inside.catalog.tables c.make_edits.new.store.tables c.settle_outside.new.store.tables c.settle_outside.ensures.form
-      (change_done c.self.inside.catalog c.self.inside.store.tables c.self.invariant.kept.relations c.args.mutation c.in_ok-table.field-0.table
-      c.in_ok-table.field-0.edits.items c.in_ok-table.ensures.ok c.make_edits.new.store.tables c.in_ok-table.ensures.distinct c.in_ok-make_edits.ensures.ok).1)
-      (c.settle_outside.ensures.links ∙ c.make_edits.ensures.links);
-  fits = c.settle_outside.ensures.fits;
-  settled = c.settle_outside.ensures.settled;
-}
+invariant_of-self-2 c =
+    changed c.self.inside.catalog c.self.inside.store c.self.inside.undo c.self.inside.standing c.self.inside.is_open c.self.invariant
+    c.make_edits.new.store c.make_edits.new.undo c.make_edits.new.standing
+    (change_done c.self.inside.catalog c.self.inside.store.tables c.self.invariant.kept.relations c.args.mutation c.in_ok-table.field-0.table
+    c.in_ok-table.field-0.edits.items c.in_ok-table.ensures.ok (queries_of c.self.inside.standing.queries) c.make_edits.new.store.tables
+    c.in_ok-table.ensures.distinct c.in_ok-make_edits.ensures.ok).1
+    c.make_edits.ensures.links c.make_edits.ensures.saved c.make_edits.ensures.fits c.make_edits.ensures.listed c.make_edits.ensures.queries
+    c.make_edits.ensures.undone
+    c.settle_outside.new.store c.settle_outside.new.undo c.settle_outside.new.standing c.settle_outside.ensures.rows c.settle_outside.ensures.form
+    c.settle_outside.ensures.links c.settle_outside.ensures.saved c.settle_outside.ensures.fits c.settle_outside.ensures.queries
+    c.settle_outside.ensures.counts c.settle_outside.ensures.ready c.settle_outside.ensures.open c.settle_outside.ensures.settled
 
 pub returns-clause-due : goal.returns-clause-due
 returns-clause-due c =
     let saved = saved_rows c.self.inside.is_open c.self.inside.undo c.self.inside.store in
+    let lists = c.self.inside.standing.queries in
     let due = change_due c.self.inside.catalog c.self.inside.store.tables c.self.invariant.kept.relations c.args.mutation c.in_ok-table.field-0.table
-    c.in_ok-table.field-0.edits.items c.in_ok-table.ensures.ok c.in_ok-table.ensures.distinct
+    c.in_ok-table.field-0.edits.items c.in_ok-table.ensures.ok lists c.self.invariant.placed.placed c.in_ok-table.ensures.distinct
     (all_to_others c.self.inside.catalog c.self.invariant.kept.targets c.self.invariant.kept.others) c.in_ok-table.ensures.due
     c.self.inside.store.links c.self.invariant.kept.links {T = Unit {0}} (Ok tt) c.in_ok-make_edits.ensures.due in
-    due_beside c.self.inside.catalog c.self.inside.store.tables saved c.args.mutation c.args.self.now c.self.view_is {T = Unit {0}} (Ok tt) due
+    due_beside c.self.inside.catalog c.self.inside.store.tables (queries_of lists) saved c.args.mutation c.args.self.now c.self.view_is {T = Unit {0}} (Ok tt) due
 
 pub returns-clause-ok : goal.returns-clause-ok
 returns-clause-ok c =
     let saved = saved_rows c.self.inside.is_open c.self.inside.undo c.self.inside.store in
+    let queries = queries_of c.self.inside.standing.queries in
     let done = (change_done c.self.inside.catalog c.self.inside.store.tables c.self.invariant.kept.relations c.args.mutation c.in_ok-table.field-0.table
-    c.in_ok-table.field-0.edits.items c.in_ok-table.ensures.ok c.make_edits.new.store.tables c.in_ok-table.ensures.distinct c.in_ok-make_edits.ensures.ok).0 in
-    done_beside c.self.inside.catalog c.self.inside.store.tables saved c.args.mutation c.args.self.now c.self.view_is c.settle_outside.new.store.tables
-    (saved_rows c.self.inside.is_open c.settle_outside.new.undo c.settle_outside.new.store)
-    ((λ i. record { schema = c.self.inside.catalog; rows = c.settle_outside.ensures.rows i; queries = []; saved = None }) ∙ done)
+    c.in_ok-table.field-0.edits.items c.in_ok-table.ensures.ok queries c.make_edits.new.store.tables c.in_ok-table.ensures.distinct c.in_ok-make_edits.ensures.ok).0 in
+    done_beside c.self.inside.catalog c.self.inside.store.tables queries saved c.args.mutation c.args.self.now c.self.view_is c.settle_outside.new.store.tables
+    (queries_of c.settle_outside.new.standing.queries) (saved_rows c.self.inside.is_open c.settle_outside.new.undo c.settle_outside.new.store)
+    (ap queries_of (c.settle_outside.ensures.queries ∙ c.make_edits.ensures.queries))
+    ((λ i. record { schema = c.self.inside.catalog; rows = c.settle_outside.ensures.rows i; queries = queries; saved = None }) ∙ done)
     (c.settle_outside.ensures.saved ∙ ap (λ (rows : Instance). cond c.self.inside.is_open (Some rows) None) c.make_edits.ensures.saved)
 
 pub returns-clause-count : goal.returns-clause-count
@@ -90,5 +105,5 @@ returns-clause-count c =
     let counted : c.len-count.result ≡ length c.in_ok-table.field-0.edits.items = omega (arith, c.len-count.ensures, c.in_ok-table.field-0.edits.ok) in
     counted ∙ edits_counted c.self.inside.catalog c.self.inside.store.tables c.self.invariant.kept.relations c.args.mutation c.in_ok-table.field-0.table
     c.in_ok-table.field-0.edits.items c.in_ok-table.ensures.ok
-    ∙ ap length (pairs_beside c.self.inside.catalog c.self.inside.store.tables saved c.args.mutation)
+    ∙ ap length (pairs_beside c.self.inside.catalog c.self.inside.store.tables (queries_of c.self.inside.standing.queries) saved c.args.mutation)
     ∙ ap (λ (s : State). length (own_pairs c.args.mutation s)) c.self.view_is

@@ -1,0 +1,120 @@
+-- The lists of standing queries through changes of rows, and through what keeps or takes these back.
+use Rattle.std.proofs.Common.{◌≡◌, ℕ, pos, ◌+◌, ◌+ℤ◌, ◌≤◌, Bool, true, false, cond, List, [], ◌∷◌, ◌++◌, Some, None, Err, inl, inr, length, map, drop, slice_get, slice_index_or, refl, sym, ap, subst, ◌∙◌, ⊎_elim, add-zero, arith}
+use Rattle.std.specs.List.{All}
+use Rattle.mm_delta.specs.Counts.{Counts, Entries, count_in}
+use Rattle.mm_schema.specs.Instance.{Instance}
+use Rattle.mm_schema.specs.Refused.{AnswersDue, Condition, first_refusal}
+use Rattle.mm_schema.specs.Schema.{Schema}
+use Rattle.mm_schema.proofs.Dues.{due_behind, due_in_front}
+use Rattle.mm_standing.specs.Bags.{Made, count_with, done_of, entries_at, row_change, sum_over}
+use Rattle.mm_standing.specs.Queries.{RowsByPlace, StandingQuery}
+use Rattle.mm_standing.specs.State.{AreFew, FitNow, FitPrepared, Lists, count_at, count_now}
+use Rattle.mm_value.specs.declared.refusal.Refusal.{Refusal}
+use Rattle.mm_value.specs.declared.values.Value.{Value}
+use Rattle.mm_txn.specs.Saved.{AreSaved}
+use Rattle.mm_txn.specs.Watched.{AreListed, ArePlaced, rows_by_place}
+
+-- The entries of all bags.
+abbrev pub entries_of : List Counts → List Entries
+entries_of bags = map (λ (bag : Counts). bag.entries) bags
+
+-- With nothing to add a count is as it is.
+pub count_plain : (bags : List Counts) (list : ℕ) (row : List Value) → count_with bags [] list row ≡ pos (count_in row (entries_at bags list))
+count_plain bags list row = ap (λ n. pos n) (add-zero (count_in row (entries_at bags list)))
+
+-- Bags with the same entries have the same counts.
+pub same_counts : (old new : Lists) → entries_of new.bags ≡ entries_of old.bags → (list : ℕ) (row : List Value)
+    → count_now new list row ≡ count_now old list row
+same_counts old new same list row = ap (λ es. pos (count_in row (slice_index_or es list []))) same
+
+-- At the first mark too, where they have the same log.
+pub same_first : (old new : Lists) → entries_of new.bags ≡ entries_of old.bags → new.log ≡ old.log → (list : ℕ) (row : List Value)
+    → count_at 0 list row new ≡ count_at 0 list row old
+same_first old new same log list row =
+    λ i. pos (count_in row (slice_index_or (same i) list [])) +ℤ sum_over (row_change list row) (log i)
+
+-- ---- lists that keep their counts
+
+module _ (rows : Instance) (old new : Lists) (queries : new.queries ≡ old.queries) where
+  few_still : AreFew (rows_by_place rows) old.queries → AreFew (rows_by_place rows) new.queries
+  few_still few = subst (AreFew (rows_by_place rows)) (sym queries) few
+
+  -- Lists that keep their counts have the same rows.
+  pub listed_still : AreListed rows old → ((list : ℕ) (row : List Value) → count_now new list row ≡ count_now old list row) → new.prepared ≡ []
+      → AreListed rows new
+  listed_still listed counts ready = record {
+    fits = λ list standing there row. counts list row
+        ∙ listed.fits list standing (subst (λ qs. slice_get qs list ≡ Some standing) queries there) row;
+    few = few_still listed.few;
+    ready = ready;
+  }
+
+  -- Lists whose counts at the first mark are what they were have the same saved rows.
+  pub saved_still : AreSaved rows old → ((list : ℕ) (row : List Value) → count_at 0 list row new ≡ count_at 0 list row old) → AreSaved rows new
+  saved_still saved counts = record {
+    fits = λ list standing there row. counts list row
+        ∙ saved.fits list standing (subst (λ qs. slice_get qs list ≡ Some standing) queries there) row;
+    few = few_still saved.few;
+  }
+
+  -- Lists that are as they were at the first mark have the saved rows.
+  pub listed_back : AreSaved rows old → ((list : ℕ) (row : List Value) → count_at 0 list row new ≡ count_at 0 list row old)
+      → new.log ≡ [] → new.prepared ≡ [] → AreListed rows new
+  listed_back saved counts log ready = record {
+    fits = λ list standing there row.
+        sym (count_plain new.bags list row)
+        ∙ ap (λ cs. count_with new.bags cs list row) (sym log)
+        ∙ counts list row
+        ∙ saved.fits list standing (subst (λ qs. slice_get qs list ≡ Some standing) queries there) row;
+    few = few_still saved.few;
+    ready = ready;
+  }
+
+-- The same where the saved rows are written in another way.
+pub saved_through : (rows later : Instance) (old new : Lists) → new.queries ≡ old.queries → later ≡ rows → AreSaved rows old
+    → ((list : ℕ) (row : List Value) → count_at 0 list row new ≡ count_at 0 list row old) → AreSaved later new
+saved_through rows later old new queries same saved counts =
+    subst (λ (r : Instance). AreSaved r new) (sym same) (saved_still rows old new queries saved counts)
+
+-- With an empty log the rows now are those to go back to.
+pub saved_now : (rows : Instance) (lists : Lists) → lists.log ≡ [] → AreListed rows lists → AreSaved rows lists
+saved_now rows lists log listed = record {
+  fits = λ list standing there row.
+      ap (λ cs. count_with lists.bags cs list row) log ∙ count_plain lists.bags list row ∙ listed.fits list standing there row;
+  few = listed.few;
+}
+
+-- Beside each standing query stands its list, as long as neither changes.
+pub placed_still : (schema : Schema) (old new : List StandingQuery) → new ≡ old → ArePlaced schema old → ArePlaced schema new
+placed_still schema old new same placed = subst (ArePlaced schema) (sym same) placed
+
+-- ---- a change that is made
+
+module _ (old mid new : Lists) (entries : entries_of mid.bags ≡ entries_of old.bags) (made : Made mid.bags mid.prepared mid.log new.bags [] new.log) where
+  -- What was prepared for the rows after a change has these rows once it is made.
+  pub listed_made : (rows : Instance) (after : RowsByPlace) → after ≡ rows_by_place rows → FitPrepared after mid → new.queries ≡ mid.queries
+      → AreFew after mid.queries → new.prepared ≡ [] → AreListed rows new
+  listed_made rows after is fits queries few ready = record {
+    fits = λ list standing there row.
+        sym (count_plain new.bags list row)
+        ∙ made.counts list row
+        ∙ subst (λ (r : RowsByPlace). FitPrepared r mid) is fits list standing (subst (λ qs. slice_get qs list ≡ Some standing) queries there) row;
+    few = subst (AreFew (rows_by_place rows)) (sym queries) (subst (λ (r : RowsByPlace). AreFew r mid.queries) is few);
+    ready = ready;
+  }
+
+  -- At the first mark each list is what it was.
+  pub undone_made : mid.log ≡ old.log → (list : ℕ) (row : List Value) → count_at 0 list row new ≡ count_at 0 list row old
+  undone_made log list row = made.undone 0 (omega arith) list row ∙ same_first old mid entries log list row
+
+-- ---- what is refused
+
+-- A refusal that is due in front is due of all conditions, ..
+pub front_due : (cs ds : List Condition) (refusal : Refusal) → AnswersDue {T = Unit {0}} (first_refusal cs) (Err refusal)
+    → AnswersDue {T = Unit {0}} (first_refusal (cs ++ ds)) (Err refusal)
+front_due cs ds refusal due = ⊎_elim (λ h. inl (due_in_front cs ds refusal h)) (λ m. inr m) due
+
+-- .. and so is one behind where none is due in front.
+pub behind_due : (cs ds : List Condition) (refusal : Refusal) → first_refusal cs ≡ None → AnswersDue {T = Unit {0}} (first_refusal ds) (Err refusal)
+    → AnswersDue {T = Unit {0}} (first_refusal (cs ++ ds)) (Err refusal)
+behind_due cs ds refusal none due = ⊎_elim (λ h. inl (due_behind cs ds none ∙ h)) (λ m. inr m) due

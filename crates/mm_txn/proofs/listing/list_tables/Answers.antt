@@ -1,0 +1,10 @@
+use Rattle.std.proofs.Common.{◌≡◌, ◌∙◌}
+use Rattle.mm_txn.specs.Kept.{instance_of}
+use Rattle.mm_txn.proofs.listing.list_tables.Goals as goal
+
+pub returns-clause-listing : goal.returns-clause-listing
+returns-clause-listing c =
+    λ i. record {
+      tables = (c.new.ensures ∙ c.in_ok-listed_tables.ensures.tables) i;
+      standing = (c.new-2.ensures ∙ c.in_ok-listed_queries.ensures.queries (instance_of c.args.store.now.tables) c.requires.listed) i;
+    }

@@ -1,0 +1,35 @@
+-- How the database keeps the machine's standing queries: for each its list, as counts of rows.
+use Rattle.std.specs.Prelude.{◌≡◌, ℕ, ◌≤◌, All, List, [], length, map, slice_index_or}
+use Rattle.mm_schema.specs.Instance.{Instance}
+use Rattle.mm_schema.specs.Schema.{Schema}
+use Rattle.mm_query.specs.Resolving.{IsQueryWithin}
+use Rattle.mm_query.specs.Standing.{AreBeside}
+use Rattle.mm_query.specs.declared.bound_query.BoundQuery.{BoundQuery}
+use Rattle.mm_plan.specs.From.{places_in}
+use Rattle.mm_standing.specs.Queries.{RowsByPlace, StandingQuery}
+use Rattle.mm_standing.specs.State.{AreFew, FitNow, Lists}
+
+-- The bound queries of the lists.
+abbrev pub queries_of : List StandingQuery → List BoundQuery
+queries_of standing = map (λ (s : StandingQuery). s.query) standing
+
+-- The rows of the table at each place, and none where there is no such table.
+abbrev pub rows_by_place : Instance → RowsByPlace
+rows_by_place rows place = slice_index_or rows place []
+
+-- All that a standing query reads is there, and its places are those of the tables that it names, at most 4.
+pub record IsPlaced (schema : Schema) (standing : StandingQuery) : Type 0 where
+  pub within : IsQueryWithin schema standing.query
+  pub places : standing.tables ≡ places_in schema standing.query.from
+  pub few : length standing.tables ≤ 4
+
+-- Beside each standing query of the catalog stands its list.
+pub record ArePlaced (schema : Schema) (standing : List StandingQuery) : Type 0 where
+  pub beside : AreBeside schema.standing (queries_of standing)
+  pub placed : All (IsPlaced schema) standing
+
+-- Each list has just the rows of its query over these rows of the tables, at most 1,048,576, and nothing is prepared.
+pub record AreListed (rows : Instance) (lists : Lists) : Type 0 where
+  pub fits : FitNow (rows_by_place rows) lists
+  pub few : AreFew (rows_by_place rows) lists.queries
+  pub ready : lists.prepared ≡ []

@@ -1,0 +1,93 @@
+//! What is told of the catalog.
+ghost use Rattle.std.specs.Prelude.{◌≡◌, false, IfErr, IfOk};
+ghost use Rattle.mm_query.specs.Standing.{listing as listing_of};
+ghost use Rattle.mm_schema.specs.Instance.{Instance};
+ghost use Rattle.mm_value.specs.declared.refusal.Refusal.TheVariants.{Memory};
+ghost use Rattle.mm_txn.specs.Kept.{AreKept, AreOf, instance_of, state_of};
+ghost use Rattle.mm_schema.specs.Schema.{lacks_table};
+ghost use Rattle.mm_txn.specs.Rest.{state_at_rest, told_state, told_table};
+ghost use Rattle.mm_txn.specs.Watched.{AreListed, ArePlaced};
+
+use mm_query::{ItemList, ListedQuery, ListedTable, Listing};
+use mm_schema::{Catalog, Table};
+use mm_standing::Standing;
+use mm_store::Store;
+use mm_value::Refusal;
+use std::alloc::Global;
+
+/// What there is: the tables with their indexes and how many rows each has, and the standing queries and how many rows each shows.
+/// `Memory` is the only refusal.
+pub(crate) fn list_tables(
+    alloc: Global,
+    catalog: &Catalog,
+    store: &Store,
+    standing: &Standing,
+) -> Result<Listing, Refusal>
+    requires relations { AreOf catalog.now.tables store.now.tables }
+    requires placed { ArePlaced catalog.now standing.now.queries }
+    requires listed { AreListed (instance_of store.now.tables) standing.now }
+    ensures listing { IfOk result (λ listing. listing ≡ listing_of (state_at_rest catalog.now store.now standing.now)) }
+    ensures memory { IfErr result (λ refusal. refusal ≡ Memory) }
+{
+    Ok(Listing {
+        tables: ItemList::new(listed_tables(alloc, catalog, store)?),
+        standing: ItemList::new(listed_queries(alloc, catalog, standing)?),
+    })
+}
+
+/// The tables, and how many rows each has. `Memory` is the only refusal.
+fn listed_tables(
+    alloc: Global,
+    catalog: &Catalog,
+    store: &Store,
+) -> Result<Vec<ListedTable>, Refusal>
+    requires { AreOf catalog.now.tables store.now.tables }
+    ensures tables { IfOk result (λ listed. listed.items ≡ (listing_of (state_of catalog.now store.now.tables)).tables) }
+    ensures memory { IfErr result (λ refusal. refusal ≡ Memory) }
+{
+    let mut listed = Vec::with_capacity(alloc, catalog.tables().len())?;
+    for table in catalog.tables() {
+        listed.push(listed_table(alloc, catalog, store, table)?)?;
+    }
+    Ok(listed)
+}
+
+/// A table of the catalog, and how many rows it has. `Memory` is the only refusal.
+fn listed_table(
+    alloc: Global,
+    catalog: &Catalog,
+    store: &Store,
+    table: &Table,
+) -> Result<ListedTable, Refusal>
+    requires relations { AreOf catalog.now.tables store.now.tables }
+    requires there { lacks_table table.now.definition.name catalog.now ≡ false }
+    ensures table { IfOk result (λ listed. listed ≡ told_table (state_of catalog.now store.now.tables) table.now) }
+    ensures memory { IfErr result (λ refusal. refusal ≡ Memory) }
+{
+    let place = catalog.place_of(&table.definition.name).unwrap_or(0);
+    Ok(ListedTable {
+        table: table.copy(alloc)?,
+        rows: store.len_of(place),
+    })
+}
+
+/// The standing queries, and how many rows each shows. `Memory` is the only refusal.
+fn listed_queries(
+    alloc: Global,
+    catalog: &Catalog,
+    standing: &Standing,
+) -> Result<Vec<ListedQuery>, Refusal>
+    requires { ArePlaced catalog.now standing.now.queries }
+    ensures queries { IfOk result (λ listed. (rows : Instance) → AreListed rows standing.now
+        → listed.items ≡ (listing_of (told_state catalog.now rows standing.now)).standing) }
+    ensures memory { IfErr result (λ refusal. refusal ≡ Memory) }
+{
+    let mut listed = Vec::with_capacity(alloc, catalog.standing().len())?;
+    for (place, query) in catalog.standing().iter().enumerate() {
+        listed.push(ListedQuery {
+            name: query.name.copy(),
+            rows: standing.count(place),
+        })?;
+    }
+    Ok(listed)
+}
