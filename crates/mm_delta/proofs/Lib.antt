@@ -19,3 +19,4 @@ pub mod Passing
 pub mod Purging
 pub mod Reordering
 pub mod Undoing
+pub mod Under

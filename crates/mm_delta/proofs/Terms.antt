@@ -1,20 +1,19 @@
 -- What the places of FROM add to a change.
-use Rattle.std.proofs.Common.{◌≡◌, ℕ, zero, suc, ◌+◌, ◌<◌, ◌≤◌, ◌==◌, ℤ, pos, ◌-ℤ◌, ◌+ℤ◌, Bool, true, false, cond, not, List, [], ◌∷◌, ◌++◌, get_or, length, map, Some, None, refl, sym, ap, ◌∙◌, arith}
-use Rattle.std.specs.List.{All, AllByRecursion, filter, filter_map, range_with_len, sum_by}
+use Rattle.std.proofs.Common.{◌≡◌, ℕ, zero, suc, ◌+◌, ◌<◌, ◌≤◌, ◌==◌, ℤ, pos, ◌-ℤ◌, Bool, true, false, cond, not, List, [], ◌∷◌, ◌++◌, get_or, length, map, None, refl, sym, ap, ◌∙◌, arith}
+use Rattle.std.specs.List.{All, filter, filter_map, range_with_len, sum_by}
 use Rattle.std.specs.Option.{option_map_or}
 use Rattle.std.proofs.lemmas.Int.{ints}
 use Rattle.std.proofs.lemmas.List.{length-map}
 use Rattle.std.proofs.lemmas.List.FromFn.{map-range_with_len_more}
 use Rattle.std.proofs.lemmas.List.Sums.{sum_by-append, sum_by-cons, sum_by_push}
 use Rattle.mm_partition.specs.Places.{slot_at}
-use Rattle.mm_relation.specs.Edits.{edit_name, named, new_row, new_rows}
+use Rattle.mm_relation.specs.Edits.{edit_name, named, new_rows}
 use Rattle.mm_relation.specs.Kept.{IsKept, StoredRows}
 use Rattle.mm_relation.specs.Refs.{row_at}
 use Rattle.mm_relation.specs.RowLists.{rows_of}
 use Rattle.mm_relation.specs.declared.edits.Edit.{Edit}
 use Rattle.mm_relation.specs.declared.edits.Edit.TheVariants.{Add, Swap, Gone}
 use Rattle.mm_relation.specs.declared.names.Side.TheVariants.{Old}
-use Rattle.mm_relation.proofs.Changed.{olds}
 use Rattle.mm_store.specs.Tables.{IsAt, Tables, rows_with}
 use Rattle.mm_value.specs.declared.values.Value.{Value}
 use Rattle.mm_query.specs.Queries.{bag_of}

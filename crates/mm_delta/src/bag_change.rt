@@ -13,6 +13,7 @@ ghost use Rattle.mm_delta.specs.Steps.{EachFit, term_reads};
 use crate::counted::Counted;
 use crate::differing::difference;
 use crate::edited::TableEdits;
+use crate::indexed_changes::IndexedChanges;
 use crate::signed::Signed;
 use crate::walk::Walk;
 use mm_query::BoundQuery;
@@ -44,6 +45,7 @@ pub fn delta<'c, 'a: 'c>(
     ensures same { view.new.store ≡ view.old.store }
     ensures memory { IfErr result (λ refusal. refusal ≡ Memory) }
 {
+    let indexed = IndexedChanges::new(alloc, view, query, tables, changes)?;
     let mut comes = Counted::new(alloc);
     let mut goes = Counted::new(alloc);
     for place in 0..tables.len() {
@@ -51,7 +53,7 @@ pub fn delta<'c, 'a: 'c>(
         let walk = Walk {
             query,
             tables,
-            changes,
+            changes: &indexed,
             place,
         };
         walk.add_term(alloc, view, &mut comes, &mut goes)?;

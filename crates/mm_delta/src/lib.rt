@@ -1,12 +1,17 @@
 //! How the rows that a standing query shows change with the rows of its tables.
 #![tactic(auto)]
 
+mod asked_columns;
 mod bag_change;
+mod beside;
 mod chosen;
+mod coming_index;
 mod counted;
 mod counting;
 mod differing;
+mod edit_index;
 mod edited;
+mod indexed_changes;
 mod known;
 mod law;
 mod look_up;

@@ -17,7 +17,7 @@ ghost use Rattle.mm_delta.specs.Terms.{lists_around};
 ghost use Rattle.mm_delta.specs.Walk.{one_row, other_places};
 
 use crate::counted::Counted;
-use crate::edited::{edits_of, row_gone};
+use crate::edited::row_gone;
 use crate::rows::{add_coming, read_all};
 use crate::walk::Walk;
 use mm_relation::Edit;
@@ -25,7 +25,7 @@ use mm_store::View;
 use mm_value::{Refusal, Row, RowRef};
 use std::alloc::Global;
 
-impl<'c> Walk<'c> {
+impl<'c> Walk<'_, 'c> {
     /// Counts the projected row of each fitting combination that has one of these rows at the place of the edited row, for each
     /// of them. `Memory` is the only refusal.
     pub(crate) fn from_rows<'a: 'c>(
@@ -80,7 +80,7 @@ impl<'c> Walk<'c> {
         ensures memory { IfErr result (λ refusal. refusal ≡ Memory) }
     {
         let table = self.tables[self.place];
-        let edits = edits_of(self.changes, table);
+        let edits = self.changes.edits_of(table);
         let gone = rows_gone(alloc, view, table, edits)?;
         let come = rows_come(alloc, edits)?;
         self.from_rows(alloc, view, &gone, goes)?;

@@ -3,6 +3,7 @@ ghost use Rattle.std.specs.Prelude.{◌≡◌, ◌+◌, ◌<◌, ◌≤◌, [], 
 ghost use Rattle.mm_value.specs.declared.refusal.Refusal.TheVariants.{Memory};
 ghost use Rattle.mm_value.specs.declared.values.Value.{Value as AnyValue};
 ghost use Rattle.mm_query.specs.Queries.{bag_of};
+ghost use Rattle.mm_delta.specs.Beside.{edits_beside};
 ghost use Rattle.mm_delta.specs.Candidates.{having, required};
 ghost use Rattle.mm_delta.specs.Counts.{count_in, count_of};
 ghost use Rattle.mm_delta.specs.Edited.{after_at, before_at, has_index, walked};
@@ -10,40 +11,40 @@ ghost use Rattle.mm_delta.specs.Steps.{AreAlike, EachFit, HasTables, IsServed, a
 ghost use Rattle.mm_delta.specs.Terms.{lists_around};
 ghost use Rattle.mm_delta.specs.Walk.{AreOpen, found, one_row, other_places as other_places_lem};
 
+use crate::beside::Beside;
 use crate::chosen::Chosen;
 use crate::counted::Counted;
 use crate::counting::count_row;
-use crate::edited::{TableEdits, edits_of};
+use crate::indexed_changes::IndexedChanges;
 use crate::look_up::{LookUp, Site};
-use crate::rows::{add_coming, read_all, references, standing};
+use crate::rows::{read_all, references};
 use mm_query::{BoundQuery, none_fails, values_of};
-use mm_relation::Edit;
 use mm_store::View;
 use mm_value::{Refusal, Row};
 use std::alloc::Global;
 
 /// What is walked: a query, a change, and the place of FROM that has an edited row.
 #[derive(Drop)]
-pub(crate) struct Walk<'c> {
+pub(crate) struct Walk<'w, 'c> {
     /// The query.
     pub(crate) query: &'c BoundQuery,
     /// The store's place of each table of FROM.
     pub(crate) tables: &'c [usize],
     /// The edits of the tables that are changed.
-    pub(crate) changes: &'c [TableEdits<'c>],
+    pub(crate) changes: &'w IndexedChanges<'c>,
     /// The place of FROM that has an edited row.
     pub(crate) place: usize,
 }
 
-impl<'c> Walk<'c> {
+impl<'w, 'c> Walk<'w, 'c> {
     /// The edits that count at a place of FROM: those of its table before the place of the edited row, and none behind it.
-    fn edits_at(&self, place: usize, table: usize) -> &'c [Edit]
-        ensures { result.now ≡ edits_walked self.now.changes.now self.now.place place table }
+    fn edits_at(&self, place: usize, table: usize) -> Beside<'w, 'c>
+        ensures { edits_beside result ≡ edits_walked self.now.changes.now self.now.place place table }
     {
         if place < self.place {
-            edits_of(self.changes, table)
+            self.changes.beside(table)
         } else {
-            &[]
+            Beside::Listed(&[])
         }
     }
 
@@ -95,9 +96,9 @@ impl<'c> Walk<'c> {
         let look_up = self.look_up_at(alloc, view, chosen, place)?;
         let refs = references(alloc, view, table, &look_up)?;
         let edits = self.edits_at(place, table);
-        let left = standing(alloc, edits, &refs)?;
+        let left = edits.standing(alloc, &refs)?;
         let mut rows = read_all(alloc, view, table, &left)?;
-        add_coming(&mut rows, edits, &look_up)?;
+        edits.add_coming(&mut rows, &look_up)?;
         Ok(rows)
     }
 

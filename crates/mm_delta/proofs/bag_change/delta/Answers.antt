@@ -1,8 +1,6 @@
 use Rattle.std.proofs.Common.{◌≡◌, ◌+◌, ◌-◌, ◌<◌, ◌∙◌, All, length, map, get_or, refl, ap, subst, sym, arith}
 use Rattle.std.specs.List.{range_with_len, sum_by}
 use Rattle.std.proofs.lemmas.Result.{IfOk-weaker}
-use Rattle.mm_partition.specs.Places.{slot_at}
-use Rattle.mm_relation.specs.Kept.{IsKept, StoredRows}
 use Rattle.mm_query.specs.Queries.{bag_of}
 use Rattle.mm_store.proofs.Joining.{some_at}
 use Rattle.mm_store.specs.Tables.{IsAt, Tables}
@@ -10,7 +8,7 @@ use Rattle.mm_delta.specs.Counts.{count_in, count_of, signed_count}
 use Rattle.mm_delta.specs.Edited.{after_at, before_at, come_at, gone_at}
 use Rattle.mm_delta.specs.Steps.{EachFit, term_reads}
 use Rattle.mm_delta.specs.Terms.{lists_around}
-use Rattle.mm_delta.proofs.Terms.{added, counts_all, counts_more, counts_none, range_le, range_more}
+use Rattle.mm_delta.proofs.Terms.{counts_all, counts_more, counts_none, range_le, range_more}
 use Rattle.mm_delta.proofs.bag_change.delta.Goals as goal
 
 pub is_kept-requires : goal.is_kept-requires
@@ -22,7 +20,9 @@ pub add_term-requires-clause-there : goal.add_term-requires-clause-there
 add_term-requires-clause-there c = subst (λ (s : Tables). All (λ table. table < length s.tables) c.args.tables.now) (sym c.loop-place.invariant.same) c.requires.there
 
 pub add_term-requires-clause-fit : goal.add_term-requires-clause-fit
-add_term-requires-clause-fit c = subst (λ s. EachFit s c.args.changes.now) (sym c.loop-place.invariant.same) c.requires.fit
+add_term-requires-clause-fit c =
+    subst (λ s. EachFit s c.in_ok-indexed.indexed) (sym c.loop-place.invariant.same)
+    (subst (EachFit c.args.view.now.store) (sym c.in_ok-indexed.ensures.ok) c.requires.fit)
 
 pub loop-place-init : goal.loop-place-init
 loop-place-init c = record {
@@ -37,22 +37,25 @@ loop-place-preserved c = record {
   counts = λ row.
       let k = c.loop-place.place in
       let same = c.loop-place.invariant.same in
+      let changes = c.in_ok-indexed.ensures.ok in
       let at = some_at c.args.view.now.store.tables (get_or c.args.tables.now k 0) (c.requires.there k 0 c.loop-place-test.true) in
       let was = c.is_kept.ensures.kept at.0 (subst (λ s. IsAt s (get_or c.args.tables.now k 0) at.0) (sym same) at.1) in
       counts_more c.args.query.now c.args.view.now.store c.args.changes.now c.args.tables.now row k at.0 (count_of row (bag_of c.args.query.now (map (before_at c.args.view.now.store) c.args.tables.now))) (count_in row c.loop-place.comes.entries) (count_in row c.add_term.new.comes.entries)
       (count_in row c.loop-place.goes.entries) (count_in row c.add_term.new.goes.entries) c.loop-place-test.true at.1 was c.requires.fit
       (c.loop-place.invariant.counts row)
       (c.in_ok-add_term.ensures.comes row
-      ∙ (λ i. count_in row c.loop-place.comes.entries + count_of row (bag_of c.args.query.now (lists_around 0 (after_at (same i) c.args.changes.now) (come_at c.args.changes.now) (before_at (same i)) c.args.tables.now k))))
+      ∙ (λ i. count_in row c.loop-place.comes.entries + count_of row (bag_of c.args.query.now (lists_around 0 (after_at (same i) (changes i)) (come_at (changes i)) (before_at (same i)) c.args.tables.now k))))
       (c.in_ok-add_term.ensures.goes row
-      ∙ (λ i. count_in row c.loop-place.goes.entries + count_of row (bag_of c.args.query.now (lists_around 0 (after_at (same i) c.args.changes.now) (gone_at (same i) c.args.changes.now) (before_at (same i)) c.args.tables.now k))));
+      ∙ (λ i. count_in row c.loop-place.goes.entries + count_of row (bag_of c.args.query.now (lists_around 0 (after_at (same i) (changes i)) (gone_at (same i) (changes i)) (before_at (same i)) c.args.tables.now k))));
   reads =
       let k = c.loop-place.place in
+      let moved : term_reads c.args.query.now c.loop-place.view.store c.in_ok-indexed.indexed c.args.tables.now k ≡ term_reads c.args.query.now c.args.view.now.store c.args.changes.now c.args.tables.now k =
+      λ i. term_reads c.args.query.now (c.loop-place.invariant.same i) (c.in_ok-indexed.ensures.ok i) c.args.tables.now k in
       omega (
         arith,
         c.loop-place.invariant.reads,
         c.in_ok-add_term.ensures.reads,
-        ap (λ s. term_reads c.args.query.now s c.args.changes.now c.args.tables.now k) c.loop-place.invariant.same,
+        moved,
         range_more (term_reads c.args.query.now c.args.view.now.store c.args.changes.now c.args.tables.now) k,
       );
 }
@@ -61,12 +64,14 @@ pub returns-in_err-add_term-clause-reads : goal.returns-in_err-add_term-clause-r
 returns-in_err-add_term-clause-reads c =
     let k = c.loop-place.place in
     let n = length c.args.tables.now in
+    let moved : term_reads c.args.query.now c.loop-place.view.store c.in_ok-indexed.indexed c.args.tables.now k ≡ term_reads c.args.query.now c.args.view.now.store c.args.changes.now c.args.tables.now k =
+    λ i. term_reads c.args.query.now (c.loop-place.invariant.same i) (c.in_ok-indexed.ensures.ok i) c.args.tables.now k in
     let all : (k + 1) + (n - (k + 1)) ≡ n = omega (arith, c.loop-place-test.true) in
     omega (
       arith,
       c.loop-place.invariant.reads,
       c.in_err-add_term.ensures.reads,
-      ap (λ s. term_reads c.args.query.now s c.args.changes.now c.args.tables.now k) c.loop-place.invariant.same,
+      moved,
       range_more (term_reads c.args.query.now c.args.view.now.store c.args.changes.now c.args.tables.now) k,
       range_le (term_reads c.args.query.now c.args.view.now.store c.args.changes.now c.args.tables.now) (k + 1) (n - (k + 1)),
       ap (λ m. sum_by (term_reads c.args.query.now c.args.view.now.store c.args.changes.now c.args.tables.now) (range_with_len 0 m)) all,

@@ -1,5 +1,5 @@
 -- A row without an entry gets one at the end.
-use Rattle.std.proofs.Common.{◌≡◌, pos, ◌+ℤ◌, true, false, true≢false, Bool, Option, Some, None, is_some, refl, ap, sym, subst, ◌∙◌}
+use Rattle.std.proofs.Common.{◌≡◌, pos, ◌+ℤ◌, false, true≢false, Option, Some, None, is_some, refl, ap, sym, subst, ◌∙◌}
 use Rattle.std.proofs.lemmas.Int.{to_z-of_z}
 use Rattle.std.specs.HashMap.{Updates}
 use Rattle.std.specs.Map.{lookup}

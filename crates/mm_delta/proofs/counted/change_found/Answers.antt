@@ -1,5 +1,5 @@
 -- The row's entry has the changed count.
-use Rattle.std.proofs.Common.{◌≡◌, pos, ◌+ℤ◌, Some, refl, ap, sym, subst, ◌∙◌}
+use Rattle.std.proofs.Common.{pos, ◌+ℤ◌, refl, ap, sym, subst, ◌∙◌}
 use Rattle.std.proofs.lemmas.Int.{to_z-of_z}
 use Rattle.std.specs.Option.{IsSome, option_copied_mut}
 use mir.Syntax.{w128}

@@ -1,4 +1,3 @@
-use Rattle.std.proofs.Common.{[], ◌∷◌}
 use Rattle.std.proofs.lemmas.Result.{on_ok_weaker}
 use Rattle.mm_delta.proofs.CountUps.{one_up}
 use Rattle.mm_delta.proofs.counting.count_row.Goals as goal

@@ -1,10 +1,7 @@
-use Rattle.std.proofs.Common.{rules, ◌≡◌, ◌∙◌, List, ap, length, map, subst, sym, arith, IfOk}
+use Rattle.std.proofs.Common.{◌∙◌, ap, length, map, subst, sym, arith}
 use Rattle.std.specs.List.{All}
 use Rattle.mm_partition.specs.Places.{IsLive, slot_at}
-use Rattle.mm_relation.specs.Edits.{edit_name, named}
-use Rattle.mm_relation.specs.Kept.{StoredRows}
 use Rattle.mm_relation.specs.Refs.{row_at}
-use Rattle.mm_relation.specs.declared.names.Side.TheVariants.{Old}
 use Rattle.std.proofs.lemmas.Result.{IfOk-weaker}
 use Rattle.mm_delta.proofs.term.rows_gone.Goals as goal
 

@@ -1,4 +1,4 @@
-use Rattle.std.proofs.Common.{◌≡◌, ◌<◌, ◌∙◌, All, length, map, get_or, ap, subst, sym, arith}
+use Rattle.std.proofs.Common.{◌∙◌, length, map, get_or, ap, subst, sym, arith}
 use Rattle.std.proofs.lemmas.Result.{on_ok_weaker}
 use Rattle.mm_partition.specs.Places.{slot_at}
 use Rattle.mm_relation.specs.Edits.{edit_name, named, new_rows}
@@ -7,7 +7,7 @@ use Rattle.mm_relation.specs.declared.names.Side.TheVariants.{Old}
 use Rattle.mm_store.proofs.Joining.{some_at}
 use Rattle.mm_store.specs.Tables.{AreFit}
 use Rattle.mm_delta.specs.Counts.{count_in}
-use Rattle.mm_delta.specs.Edited.{come_at, edits_at, gone_at}
+use Rattle.mm_delta.specs.Edited.{come_at, gone_at}
 use Rattle.mm_delta.specs.Steps.{EachFit, HasTables}
 use Rattle.mm_delta.specs.Walk.{other_places}
 use Rattle.mm_delta.proofs.Terms.{bound_is, gone_is, gone_length, others_there, reads_same, row_reads, term_count}

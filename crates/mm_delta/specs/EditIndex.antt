@@ -1,0 +1,28 @@
+-- What is found by hash among the edits of a table.
+use Rattle.std.specs.Prelude.{◌≡◌, ℕ, ◌&&◌, eqb, Bool, List, [], Some, filter_map, map}
+use Rattle.std.specs.Borrow.{Bor}
+use Rattle.std.specs.List.{list_any}
+use Rattle.std.specs.Map.{lookup}
+use Rattle.std.specs.Option.{option_map_or}
+use Rattle.std.specs.Prelude.{Vec}
+use Rattle.mm_value.specs.Equality.{same_value}
+use Rattle.mm_value.specs.declared.row_ref.RowRef.{RowRef}
+use Rattle.mm_value.specs.declared.values.Value.{Value}
+use Rattle.mm_delta.specs.Steps.{coming, takes}
+use Rattle.mm_relation.specs.declared.edits.Edit.{Edit}
+
+-- The part and the slot are those of a reference.
+abbrev pub is_key_of : RowRef → ℕ × ℕ → Bool
+is_key_of at key = eqb at.part key.0 && eqb at.slot key.1
+
+-- The keys are those of the references that the edits take away.
+abbrev pub AreGone : List Edit → List (ℕ × ℕ) → Type 0
+AreGone edits keys = (at : RowRef) → list_any (is_key_of at) keys ≡ list_any (takes at) edits
+
+-- The rows that stand under a value: none where it has no entry.
+abbrev pub rows_under : {Z : Type 0} → Value → List (Value × Vec (Bor (List Value)) Z) → List (List Value)
+rows_under value entries = map (λ row. row.now) (option_map_or (λ rows. rows.items) (lookup (same_value value) entries) [])
+
+-- Under each value stand the rows that the edits bring with it in a column, in the order of the edits.
+abbrev pub AreUnder : {Z : Type 0} → ℕ → List Edit → List (Value × Vec (Bor (List Value)) Z) → Type 0
+AreUnder column edits entries = (value : Value) → rows_under value entries ≡ filter_map (coming (Some (column, value))) edits

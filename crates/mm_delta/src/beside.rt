@@ -1,0 +1,49 @@
+//! The edits that count where rows are looked for.
+ghost use Rattle.std.specs.Prelude.{◌≡◌, ◌++◌, filter, filter_map, map, IfErr, IfOk, OnOk};
+ghost use Rattle.mm_value.specs.declared.refusal.Refusal.TheVariants.{Memory};
+ghost use Rattle.mm_delta.specs.Beside.{edits_beside};
+ghost use Rattle.mm_delta.specs.Steps.{asked, coming, stays};
+
+use crate::edit_index::EditIndex;
+use crate::look_up::LookUp;
+use crate::rows::{add_coming, standing};
+use mm_relation::Edit;
+use mm_value::{Refusal, Row, RowRef};
+use std::alloc::Global;
+
+/// The edits of a table that count beside its rows.
+#[derive(Drop)]
+pub(crate) enum Beside<'w, 'c> {
+    /// A list of them, which is gone over.
+    Listed(&'c [Edit]),
+    /// Hash indexes over them.
+    Indexed(&'w EditIndex<'c>),
+}
+
+impl<'c> Beside<'_, 'c> {
+    /// Those of some references of which no edit takes the row away. `Memory` is the only refusal.
+    pub(crate) fn standing(&self, alloc: Global, refs: &[RowRef]) -> Result<Vec<RowRef>, Refusal>
+        ensures ok { IfOk result (λ left. left.items ≡ filter (stays (edits_beside self.now)) refs.now) }
+        ensures memory { IfErr result (λ refusal. refusal ≡ Memory) }
+    {
+        match self {
+            Beside::Listed(edits) => standing(alloc, edits, refs),
+            Beside::Indexed(index) => index.standing(alloc, refs),
+        }
+    }
+
+    /// Adds those of the rows that the edits bring that have what a look-up requires. `Memory` is the only refusal.
+    pub(crate) fn add_coming(
+        &self,
+        rows: &mut Vec<&'c Row>,
+        look_up: &Option<LookUp>,
+    ) -> Result<(), Refusal>
+        ensures added { OnOk result (map (λ row. row.now) rows.new.items ≡ map (λ row. row.now) rows.old.items ++ filter_map (coming (asked look_up.now)) (edits_beside self.now)) }
+        ensures memory { IfErr result (λ refusal. refusal ≡ Memory) }
+    {
+        match self {
+            Beside::Listed(edits) => add_coming(rows, edits, look_up),
+            Beside::Indexed(index) => index.add_coming(rows, look_up),
+        }
+    }
+}

@@ -1,0 +1,113 @@
+//! The rows that edits bring, by their values in a column.
+ghost use Rattle.std.specs.Prelude.{◌≡◌, ◌++◌, [], ◌∷◌, false, if◌then◌else◌, map, true, List, IfErr, IfOk, OnOk, Some};
+ghost use Rattle.std.specs.List.{cons_option};
+ghost use Rattle.mm_value.specs.Equality.{same_value};
+ghost use Rattle.mm_value.specs.declared.refusal.Refusal.TheVariants.{Memory};
+ghost use Rattle.mm_value.specs.declared.values.Value.{Value as AnyValue};
+ghost use Rattle.mm_delta.specs.EditIndex.{AreUnder, rows_under};
+ghost use Rattle.mm_delta.specs.Steps.{coming};
+
+use crate::edited::row_come;
+use crate::known::value_in;
+use indexmap::IndexMap;
+use mm_relation::Edit;
+use mm_value::{Refusal, Row, Value};
+use std::alloc::Global;
+
+/// A hash index over the rows that edits bring.
+#[derive(Drop)]
+pub(crate) struct ComingIndex<'c> {
+    /// The column by whose values the rows are found, counted from 0.
+    pub(crate) column: usize,
+    /// The rows under each value, in the order of the edits.
+    pub(crate) rows: IndexMap<Value, Vec<&'c Row>>,
+}
+
+impl<'c> ComingIndex<'c> {
+    /// An index on a column over the rows that edits bring. `Memory` is the only refusal.
+    pub(crate) fn new(
+        alloc: Global,
+        edits: &'c [Edit],
+        column: usize,
+    ) -> Result<ComingIndex<'c>, Refusal>
+        ensures column { IfOk result (λ index. index.column ≡ column) }
+        ensures rows { IfOk result (λ index. AreUnder column edits.now index.rows.entries) }
+        ensures memory { IfErr result (λ refusal. refusal ≡ Memory) }
+    {
+        let mut rows = IndexMap::new(alloc);
+        for edit in edits {
+            add_edit(alloc, &mut rows, column, edit)?;
+        }
+        Ok(ComingIndex { column, rows })
+    }
+
+    /// Adds the rows that have a value in the column. `Memory` is the only refusal.
+    pub(crate) fn add_rows(&self, value: &Value, rows: &mut Vec<&'c Row>) -> Result<(), Refusal>
+        ensures added { OnOk result (map (λ row. row.now) rows.new.items ≡ map (λ row. row.now) rows.old.items ++ rows_under value.now self.now.rows.entries) }
+        ensures memory { IfErr result (λ refusal. refusal ≡ Memory) }
+    {
+        if let Some(found) = self.rows.get(value) {
+            rows.extend_from_slice(found)?;
+        }
+        Ok(())
+    }
+}
+
+/// Puts the row that an edit brings, if it does, behind those under its value in a column. `Memory` is the only refusal.
+fn add_edit<'c>(
+    alloc: Global,
+    rows: &mut IndexMap<Value, Vec<&'c Row>>,
+    column: usize,
+    edit: &'c Edit,
+) -> Result<(), Refusal>
+    ensures added { OnOk result ((value : AnyValue) → rows_under value rows.new.entries
+        ≡ rows_under value rows.old.entries ++ cons_option (coming (Some (column, value)) edit.now) []) }
+    ensures memory { IfErr result (λ refusal. refusal ≡ Memory) }
+{
+    let zero = Value::Int(0);
+    match row_come(edit) {
+        Some(row) => add_row(alloc, rows, value_in(row, column, &zero), row),
+        None => Ok(()),
+    }
+}
+
+/// Puts a row behind those under a value. `Memory` is the only refusal.
+fn add_row<'c>(
+    alloc: Global,
+    rows: &mut IndexMap<Value, Vec<&'c Row>>,
+    value: &Value,
+    row: &'c Row,
+) -> Result<(), Refusal>
+    ensures added { OnOk result ((other : AnyValue) → rows_under other rows.new.entries
+        ≡ rows_under other rows.old.entries ++ (if same_value value.now other then row.now ∷ [] else [])) }
+    ensures memory { IfErr result (λ refusal. refusal ≡ Memory) }
+{
+    if add_found(rows, value, row)? {
+        return Ok(());
+    }
+    let mut list = Vec::new(alloc);
+    list.push(row)?;
+    rows.insert(value.copy(alloc)?, list)?;
+    Ok(())
+}
+
+/// Puts a row behind those under a value where that has an entry, and tells whether it has. `Memory` is the only refusal.
+fn add_found<'c>(
+    rows: &mut IndexMap<Value, Vec<&'c Row>>,
+    value: &Value,
+    row: &'c Row,
+) -> Result<bool, Refusal>
+    ensures added { IfOk result (λ found. found ≡ true → (other : AnyValue) → rows_under other rows.new.entries
+        ≡ rows_under other rows.old.entries ++ (if same_value value.now other then row.now ∷ [] else [])) }
+    ensures absent { IfOk result (λ found. found ≡ false → rows_under value.now rows.old.entries ≡ []) }
+    ensures kept { IfOk result (λ found. found ≡ false → rows.new ≡ rows.old) }
+    ensures memory { IfErr result (λ refusal. refusal ≡ Memory) }
+{
+    match rows.get_mut(value) {
+        Some(list) => {
+            list.push(row)?;
+            Ok(true)
+        }
+        None => Ok(false),
+    }
+}

@@ -1,0 +1,145 @@
+//! What is found by hash among the edits of a table.
+ghost use Rattle.std.specs.Prelude.{◌≡◌, ◌++◌, ◌||◌, filter, filter_map, map, All, IfErr, IfOk, IfSome, OnOk};
+ghost use Rattle.std.specs.List.{list_any};
+ghost use Rattle.mm_value.specs.declared.refusal.Refusal.TheVariants.{Memory};
+ghost use Rattle.mm_value.specs.declared.row_ref.RowRef.{RowRef as Reference};
+ghost use Rattle.mm_delta.specs.EditIndex.{AreGone, AreUnder, is_key_of};
+ghost use Rattle.mm_delta.specs.Steps.{asked, coming, stays, takes};
+
+use crate::coming_index::ComingIndex;
+use crate::edited::row_gone;
+use crate::look_up::LookUp;
+use crate::rows::add_coming;
+use indexmap::IndexSet;
+use mm_relation::Edit;
+use mm_value::{Refusal, Row, RowRef};
+use std::alloc::Global;
+use std::marker::Model;
+
+/// The edits of a table with hash indexes: one over the references of the rows that go, and some over the rows that come.
+#[derive(Drop)]
+pub(crate) struct EditIndex<'c> {
+    edits: &'c [Edit],
+    gone: IndexSet<(usize, u8)>,
+    coming: Vec<ComingIndex<'c>>,
+}
+
+impl<'c> Model for EditIndex<'c> {
+    ghost use Rattle.std.specs.Prelude.{List, All};
+    ghost use Rattle.mm_relation.specs.declared.edits.Edit.{Edit as AnyEdit};
+    ghost use Rattle.mm_delta.specs.EditIndex.{AreGone, AreUnder};
+
+    ghost Value = { List AnyEdit };
+
+    ghost view = { λ e. e.edits.now };
+
+    ghost invariant = { λ e. AreGone e.edits.now e.gone.keys × All (λ index. AreUnder index.column e.edits.now index.rows.entries) e.coming.items };
+}
+
+impl<'c> EditIndex<'c> {
+    /// Edits with a hash index on each of these columns over the rows that come. `Memory` is the only refusal.
+    pub(crate) fn new(
+        alloc: Global,
+        edits: &'c [Edit],
+        columns: &[usize],
+    ) -> Result<EditIndex<'c>, Refusal>
+        ensures ok { IfOk result (λ index. index ≡ edits.now) }
+        ensures memory { IfErr result (λ refusal. refusal ≡ Memory) }
+    {
+        Ok(EditIndex {
+            edits,
+            gone: references_of_gone(alloc, edits)?,
+            coming: coming_by(alloc, edits, columns)?,
+        })
+    }
+
+    /// Whether no edit takes the row of this reference away.
+    fn stays(&self, at: RowRef) -> bool
+        ensures { result ≡ stays self.now at }
+    {
+        !self.gone.contains(&(at.part, at.slot))
+    }
+
+    /// Those of some references of which no edit takes the row away. `Memory` is the only refusal.
+    pub(crate) fn standing(&self, alloc: Global, refs: &[RowRef]) -> Result<Vec<RowRef>, Refusal>
+        ensures ok { IfOk result (λ left. left.items ≡ filter (stays self.now) refs.now) }
+        ensures memory { IfErr result (λ refusal. refusal ≡ Memory) }
+    {
+        Ok(
+            refs.iter()
+                .copied()
+                .filter(|at| self.stays(*at))
+                .collect(alloc)?,
+        )
+    }
+
+    /// The index on a column over the rows that come, if there is one.
+    fn coming_on(&self, column: usize) -> Option<&ComingIndex<'c>>
+        ensures column { IfSome result (λ index. index.now.column ≡ column) }
+        ensures rows { IfSome result (λ index. AreUnder column self.now index.now.rows.entries) }
+    {
+        for index in &self.coming {
+            if index.column == column {
+                return Some(index);
+            }
+        }
+        None
+    }
+
+    /// Adds those of the rows that come that have what a look-up requires, in the order of the edits. No edit is gone over where
+    /// there is an index on the column of the look-up. `Memory` is the only refusal.
+    pub(crate) fn add_coming(
+        &self,
+        rows: &mut Vec<&'c Row>,
+        look_up: &Option<LookUp>,
+    ) -> Result<(), Refusal>
+        ensures added { OnOk result (map (λ row. row.now) rows.new.items ≡ map (λ row. row.now) rows.old.items ++ filter_map (coming (asked look_up.now)) self.now) }
+        ensures memory { IfErr result (λ refusal. refusal ≡ Memory) }
+    {
+        if let Some(look_up) = look_up {
+            if let Some(index) = self.coming_on(look_up.column) {
+                return index.add_rows(&look_up.value, rows);
+            }
+        }
+        add_coming(rows, self.edits, look_up)
+    }
+}
+
+/// The references of the rows that edits take away, each once. `Memory` is the only refusal.
+fn references_of_gone(alloc: Global, edits: &[Edit]) -> Result<IndexSet<(usize, u8)>, Refusal>
+    ensures ok { IfOk result (λ gone. AreGone edits.now gone.keys) }
+    ensures memory { IfErr result (λ refusal. refusal ≡ Memory) }
+{
+    let mut gone = IndexSet::new(alloc);
+    for edit in edits {
+        add_gone(&mut gone, edit)?;
+    }
+    Ok(gone)
+}
+
+/// Adds the reference of the row that an edit takes away, if it does. `Memory` is the only refusal.
+fn add_gone(gone: &mut IndexSet<(usize, u8)>, edit: &Edit) -> Result<(), Refusal>
+    ensures added { OnOk result ((at : Reference) → list_any (is_key_of at) gone.new.keys ≡ list_any (is_key_of at) gone.old.keys || takes at edit.now) }
+    ensures memory { IfErr result (λ refusal. refusal ≡ Memory) }
+{
+    if let Some(at) = row_gone(edit) {
+        gone.insert((at.part, at.slot))?;
+    }
+    Ok(())
+}
+
+/// A hash index on each of these columns over the rows that edits bring. `Memory` is the only refusal.
+fn coming_by<'c>(
+    alloc: Global,
+    edits: &'c [Edit],
+    columns: &[usize],
+) -> Result<Vec<ComingIndex<'c>>, Refusal>
+    ensures ok { IfOk result (λ indexes. All (λ index. AreUnder index.column edits.now index.rows.entries) indexes.items) }
+    ensures memory { IfErr result (λ refusal. refusal ≡ Memory) }
+{
+    let mut indexes = Vec::new(alloc);
+    for column in columns {
+        indexes.push(ComingIndex::new(alloc, edits, *column)?)?;
+    }
+    Ok(indexes)
+}
