@@ -1,0 +1,11 @@
+pub mod Points
+pub mod Sums
+pub mod Closing
+pub mod Turned
+pub mod Names
+pub mod Checked
+pub mod Bounds
+pub mod Irrelevance
+pub mod OnTexts
+pub mod Found
+pub mod Exact

@@ -1,0 +1,11 @@
+use Rattle.mm_relevance.proofs.Names.{edges_more, near_more}
+use Rattle.mm_relevance.proofs.edge.edges.Goals as goal
+
+pub loop-conjunct-preserved : goal.loop-conjunct-preserved
+loop-conjunct-preserved c =
+    record {
+      value = edges_more c.args.query.now c.args.place c.args.row.now c.as_slice-atoms.result.now c.loop-conjunct.conjunct c.index-atoms-conjunct.result c.loop-conjunct.found.items c.add.new.edges.items c.add-in-loop-conjunct.new.edges.items _
+          c.edge_of-lower.result c.edge_of-upper.result c.loop-conjunct-test.true c.index-atoms-conjunct.is c.loop-conjunct.invariant.value c.edge_of-lower.ensures.value c.edge_of-upper.ensures.value c.in_ok-add.ensures c.in_ok-add-2.ensures;
+      near = near_more c.args.query.now c.args.place c.args.row.now c.add.new.edges.items c.add-in-loop-conjunct.new.edges.items c.edge_of-upper.result c.in_ok-add-2.ensures
+          (near_more c.args.query.now c.args.place c.args.row.now c.loop-conjunct.found.items c.add.new.edges.items c.edge_of-lower.result c.in_ok-add.ensures c.loop-conjunct.invariant.near c.edge_of-lower.ensures.near) c.edge_of-upper.ensures.near;
+    }

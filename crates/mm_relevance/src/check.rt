@@ -1,0 +1,102 @@
+//! The check of a cycle.
+ghost use Rattle.std.specs.Prelude.{◌≡◌, ◌-ℤ◌, ◌<ℤ◌, pos, ◌^◌, IsTrue, ◌↔◌, IfSome};
+ghost use Rattle.mm_relevance.specs.Relevance.{IsAccepted, IsFalseOnTexts, IsNegativeCycle, edge_at};
+ghost use Rattle.mm_relevance.specs.Walks.{IsSmall, IsWithin, follow_edge};
+
+use crate::cycle::{Cycle, CycleEdge};
+use crate::edge::edge_at;
+use crate::term::{Point, same_point};
+use crate::texts::fails_on_texts;
+use mm_query::BoundQuery;
+use mm_value::Row;
+
+/// The most edges of a cycle.
+const MAX_EDGES: usize = 32;
+
+/// Where a walk has come, and the sum so far.
+#[derive(Clone, Copy)]
+struct Reached {
+    at: Point,
+    sum: i128,
+}
+
+/// Where one more edge leads, if it is there and begins where the walk has come.
+fn advance(
+    query: &BoundQuery,
+    place: usize,
+    row: &Row,
+    name: CycleEdge,
+    from: Reached,
+) -> Option<Reached>
+    requires { IsSmall from.sum }
+    ensures value { result ≡ follow_edge from (edge_at query.now place row.now name) }
+    ensures near { IfSome result (λ r. IsWithin (2 ^ 66) (r.sum -ℤ from.sum)) }
+{
+    match edge_at(query, place, row, name) {
+        Some(edge) => {
+            if same_point(edge.left, from.at) {
+                Some(Reached {
+                    at: edge.right,
+                    sum: from.sum + edge.cost,
+                })
+            } else {
+                None
+            }
+        }
+        None => None,
+    }
+}
+
+/// Whether a walk has come back to where it began with a negative sum.
+fn closes(start: Point, end: Reached) -> bool
+    ensures { IsTrue result ↔ (end.at ≡ start) × (end.sum <ℤ pos 0) }
+{
+    same_point(end.at, start) && end.sum < 0
+}
+
+/// Whether the edges are there, lead on from one another and back, and have a negative sum.
+fn is_negative_cycle(query: &BoundQuery, place: usize, row: &Row, cycle: &[CycleEdge]) -> bool
+    ensures { IsTrue result ↔ IsNegativeCycle query.now place row.now cycle.now }
+{
+    let count = cycle.len();
+    if count == 0 || count > MAX_EDGES {
+        return false;
+    }
+    let Some(first) = edge_at(query, place, row, cycle[0]) else {
+        return false;
+    };
+    let mut now = Reached {
+        at: first.left,
+        sum: 0,
+    };
+    for name in cycle {
+        match advance(query, place, row, *name, now) {
+            Some(next) => now = next,
+            None => return false,
+        }
+    }
+    closes(first.left, now)
+}
+
+/// Whether it is the lower edge of an atom that is false of known texts.
+fn is_false_on_texts(query: &BoundQuery, place: usize, row: &Row, cycle: &[CycleEdge]) -> bool
+    ensures { IsTrue result ↔ IsFalseOnTexts query.now place row.now cycle.now }
+{
+    if cycle.len() != 1 || cycle[0].upper {
+        return false;
+    }
+    match query.atoms.as_slice().get(cycle[0].conjunct) {
+        Some(atom) => fails_on_texts(place, row, atom),
+        None => false,
+    }
+}
+
+/// Whether a cycle shows that no combination with this row at this place of FROM fits the query: its inequalities are there,
+/// each leads on from the one before it and the last one back to the first, they are at most 32, and the sum of what they add is
+/// negative; or it is the one lower edge of an atom that is false of known texts. It takes no memory.
+pub fn check_cycle(query: &BoundQuery, place: usize, row: &Row, cycle: &Cycle) -> bool
+    ensures { IsTrue result ↔ IsAccepted query.now place row.now cycle.now.edges.items }
+{
+    let edges = cycle.edges.as_slice();
+    is_negative_cycle(query, place, row, edges) || is_false_on_texts(query, place, row, edges)
+}

@@ -1,0 +1,24 @@
+//! What cycles and their inequalities show.
+ghost use Rattle.std.specs.Prelude.{◌≡◌, ◌↔◌, ℕ, Bool, true, List, Some, IfSome, map, slice_get};
+ghost use Rattle.mm_value.specs.declared.values.Value.{Value as Val};
+ghost use Rattle.mm_query.specs.Atoms.{holds};
+ghost use Rattle.mm_query.specs.Queries.{value_at};
+ghost use Rattle.mm_query.specs.declared.atom.Atom.{Atom as Asked};
+ghost use Rattle.mm_query.specs.declared.bound_query.BoundQuery.{BoundQuery as Query};
+ghost use Rattle.mm_query.specs.declared.bound_query.FieldPlace.{FieldPlace as Field};
+ghost use Rattle.mm_relevance.specs.Relevance.{ComparesNumbers, IsCombinationWith, IsCyclic, IsIrrelevant, IsTrueOf, edge_at};
+ghost use Rattle.mm_relevance.specs.Walks.{name_of};
+
+/// A row that has an accepted cycle is irrelevant: no combination with it fits the query.
+pub fn cyclic_is_irrelevant()
+    ensures { (query : Query) (place : ℕ) (row : List Val) → IsCyclic query place row → IsIrrelevant query place row }
+{}
+
+/// An atom that compares two whole numbers of a combination is true of it just where the inequalities that the atom gives are:
+/// none is missing, and none says more.
+pub fn edges_say_what_atoms_say()
+    ensures { (query : Query) (place : ℕ) (row : List Val) (combination : List (List Val)) (conjunct : ℕ) (atom : Asked Field)
+        → IsCombinationWith query place row combination → slice_get query.atoms conjunct ≡ Some atom → ComparesNumbers (map Some combination) atom
+        → (holds (value_at (map Some combination)) atom ≡ true)
+        ↔ ((upper : Bool) → IfSome (edge_at query place row (name_of conjunct upper)) (IsTrueOf combination)) }
+{}

@@ -1,0 +1,16 @@
+//! Rows that cannot change the answer of a query, and the cycles of inequalities that show it.
+#![tactic(auto)]
+
+mod check;
+mod cycle;
+mod edge;
+mod law;
+mod relevance;
+mod search;
+mod term;
+mod texts;
+
+pub use check::check_cycle;
+pub use cycle::{Cycle, CycleEdge};
+pub use law::{cyclic_is_irrelevant, edges_say_what_atoms_say};
+pub use relevance::irrelevant;

@@ -1,0 +1,106 @@
+//! Rows that cannot change the answer of a query.
+ghost use Rattle.std.specs.Prelude.{◌≡◌, ◌∷◌, [], ◌≤ℤ◌, pos, false, map, List, IfErr, IfOk, IfSome, MatchOption};
+ghost use Rattle.mm_value.specs.declared.refusal.Refusal.TheVariants.{Memory};
+ghost use Rattle.mm_relevance.specs.Relevance.{IsAccepted, IsCyclic, IsNegativeCycle, edge_at};
+ghost use Rattle.mm_relevance.specs.Walks.{name_of};
+ghost use Rattle.mm_relevance.specs.declared.cycle.CycleEdge.{CycleEdge as Named};
+
+use crate::cycle::{Cycle, CycleEdge};
+use crate::edge::{Edge, edge_of, edges};
+use crate::search::negative_walk;
+use crate::texts::false_text;
+use mm_query::BoundQuery;
+use mm_value::{Refusal, Row};
+use std::alloc::{AllocError, Global};
+
+/// A cycle that shows that no combination with this row at this place of FROM fits the query, if there is one of at most 32
+/// edges: then the row is irrelevant (Blakeley, Larson and Tompa). The cycle is a negative one of the inequalities that the
+/// atoms say when the row's values are put in (Rosenkrantz and Hunt), or the one edge of an atom that is false of known texts. It
+/// takes no memory where no inequality adds less than zero. `Memory` is the only refusal.
+pub fn irrelevant(
+    alloc: Global,
+    query: &BoundQuery,
+    place: usize,
+    row: &Row,
+) -> Result<Option<Cycle>, Refusal>
+    ensures cycle { IfOk result (λ found. MatchOption found (IsCyclic query.now place row.now → ⊥) (λ cycle. IsAccepted query.now place row.now cycle.edges.items)) }
+    ensures memory { IfErr result (λ refusal. refusal ≡ Memory) }
+{
+    if let Some(conjunct) = false_text(query, place, row) {
+        return Ok(Some(lower_alone(alloc, conjunct)?));
+    }
+    if has_negative_edge(query, place, row) {
+        Ok(negative_cycle(alloc, query, place, row)?)
+    } else {
+        Ok(None)
+    }
+}
+
+/// The cycle of the one lower edge of an atom.
+fn lower_alone(alloc: Global, conjunct: usize) -> Result<Cycle, AllocError>
+    ensures { IfOk result (λ cycle. cycle.edges.items ≡ name_of conjunct false ∷ []) }
+{
+    let mut edges = Vec::with_capacity(alloc, 1)?;
+    edges.push(CycleEdge {
+        conjunct,
+        upper: false,
+    })?;
+    Ok(Cycle { edges })
+}
+
+/// Whether an edge is there and adds less than zero.
+fn is_negative(edge: Option<Edge>) -> bool
+    ensures { result ≡ false → IfSome edge (λ e. pos 0 ≤ℤ e.cost) }
+{
+    match edge {
+        Some(edge) => edge.is_negative(),
+        None => false,
+    }
+}
+
+/// Whether some inequality adds less than zero. Without one no cycle is negative.
+fn has_negative_edge(query: &BoundQuery, place: usize, row: &Row) -> bool
+    ensures { result ≡ false → (name : Named) → IfSome (edge_at query.now place row.now name) (λ e. pos 0 ≤ℤ e.cost) }
+{
+    for (conjunct, atom) in query.atoms.as_slice().iter().enumerate() {
+        let lower = CycleEdge {
+            conjunct,
+            upper: false,
+        };
+        let upper = CycleEdge {
+            conjunct,
+            upper: true,
+        };
+        if is_negative(edge_of(query, place, row, lower, atom))
+            || is_negative(edge_of(query, place, row, upper, atom))
+        {
+            return true;
+        }
+    }
+    false
+}
+
+/// A negative cycle, if there is one.
+fn negative_cycle(
+    alloc: Global,
+    query: &BoundQuery,
+    place: usize,
+    row: &Row,
+) -> Result<Option<Cycle>, AllocError>
+    ensures { IfOk result (λ found. MatchOption found ((cycle : List Named) → IsNegativeCycle query.now place row.now cycle → ⊥) (λ cycle. IsNegativeCycle query.now place row.now cycle.edges.items)) }
+{
+    let edges = edges(alloc, query, place, row)?;
+    match negative_walk(alloc, &edges)? {
+        Some(walk) => Ok(Some(Cycle {
+            edges: names(alloc, &walk)?,
+        })),
+        None => Ok(None),
+    }
+}
+
+/// The names of edges.
+fn names(alloc: Global, walk: &[Edge]) -> Result<Vec<CycleEdge>, AllocError>
+    ensures { IfOk result (λ names. names.items ≡ map (λ e. e.name) walk.now) }
+{
+    walk.iter().map(|edge| edge.name).collect(alloc)
+}

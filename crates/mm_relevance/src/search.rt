@@ -1,0 +1,246 @@
+//! The search for a closed walk of negative sum: the least sums of walks to a point, round by round (Bellman and Ford).
+ghost use Rattle.std.specs.Prelude.{◌≡◌, ◌≤◌, ◌^◌, ◌+ℤ◌, ◌<◌, false, length, IsTrue, ◌↔◌, None, IfOk, List, MatchOption};
+ghost use Rattle.std.specs.List.{All, Contains};
+ghost use Rattle.mm_relevance.specs.Walks.{IsFit, IsNear, IsNegative, IsNegativeWalk, IsNoStart, IsSmall, IsWithin, Takes, better, lesser, least, stepped, reaches_of};
+ghost use Rattle.mm_relevance.specs.declared.edge.Edge.{Edge as Inequality};
+
+use crate::edge::Edge;
+use crate::term::{Point, same_point};
+use std::alloc::{AllocError, Global};
+
+/// An edge, and the least sum from its right point to the target.
+#[derive(Clone, Copy)]
+struct Reach {
+    edge: Edge,
+    sum: Option<i128>,
+}
+
+/// A cost plus a sum, which is in range.
+fn plus(cost: i128, sum: i128) -> i128
+    requires cost { IsWithin (2 ^ 66) cost }
+    requires sum { IsSmall sum }
+    ensures { result ≡ cost +ℤ sum }
+{
+    cost + sum
+}
+
+/// Whether two sums are one, or both are missing.
+fn same_sum(a: Option<i128>, b: Option<i128>) -> bool
+    ensures { IsTrue result ↔ a ≡ b }
+{
+    match (a, b) {
+        (Some(a), Some(b)) => a == b,
+        (None, None) => true,
+        _ => false,
+    }
+}
+
+/// The lesser of two sums.
+fn lesser(best: Option<i128>, sum: i128) -> Option<i128>
+    ensures { result ≡ lesser best sum }
+{
+    match best {
+        Some(best) if best <= sum => Some(best),
+        _ => Some(sum),
+    }
+}
+
+/// The lesser of a sum and that over an edge, where the edge leads on from the point.
+fn better(at: Point, best: Option<i128>, reach: &Reach) -> Option<i128>
+    requires { IsFit reach.now }
+    ensures { result ≡ better at best reach.now }
+{
+    if same_point(reach.edge.left, at) {
+        match reach.sum {
+            Some(sum) => lesser(best, plus(reach.edge.cost, sum)),
+            None => best,
+        }
+    } else {
+        best
+    }
+}
+
+/// The least of a sum and those over each of the edges that lead on from the point.
+fn least(at: Point, best: Option<i128>, reaches: &[Reach]) -> Option<i128>
+    requires { All IsFit reaches.now }
+    ensures { result ≡ least at best reaches.now }
+{
+    let mut best = best;
+    for reach in reaches {
+        best = better(at, best, reach);
+    }
+    best
+}
+
+/// The sums after one more edge, or none where nothing changes.
+fn stepped(alloc: Global, reaches: &[Reach]) -> Result<Option<Vec<Reach>>, AllocError>
+    requires { All IsFit reaches.now }
+    ensures { IfOk result (λ o. MatchOption o (stepped reaches.now ≡ reaches.now) (λ v. v.items ≡ stepped reaches.now)) }
+{
+    let mut next = Vec::with_capacity(alloc, reaches.len())?;
+    let mut same = true;
+    for reach in reaches {
+        let sum = least(reach.edge.right, reach.sum, reaches);
+        if !same_sum(sum, reach.sum) {
+            same = false;
+        }
+        next.push(Reach {
+            edge: reach.edge,
+            sum,
+        })?;
+    }
+    if same { Ok(None) } else { Ok(Some(next)) }
+}
+
+/// The sums of no edge.
+fn start(alloc: Global, edges: &[Edge], target: Point) -> Result<Vec<Reach>, AllocError>
+    ensures { IfOk result (λ v. v.items ≡ reaches_of edges.now target 0) }
+{
+    let mut reaches = Vec::with_capacity(alloc, edges.len())?;
+    for edge in edges {
+        let sum = if same_point(edge.right, target) {
+            Some(0)
+        } else {
+            None
+        };
+        reaches.push(Reach { edge: *edge, sum })?;
+    }
+    Ok(reaches)
+}
+
+/// The sums of at most n edges.
+fn reaches(alloc: Global, edges: &[Edge], target: Point, n: usize) -> Result<Vec<Reach>, AllocError>
+    requires few { n ≤ 31 }
+    requires near { All IsNear edges.now }
+    ensures { IfOk result (λ v. v.items ≡ reaches_of edges.now target n) }
+{
+    let mut reaches = start(alloc, edges, target)?;
+    for done in 0..n {
+        match stepped(alloc, &reaches)? {
+            Some(next) => reaches = next,
+            None => return Ok(reaches),
+        }
+    }
+    Ok(reaches)
+}
+
+/// Whether an edge leads on from a point with what is owed there.
+fn leads(at: Point, owed: Option<i128>, reach: &Reach) -> bool
+    requires { IsFit reach.now }
+    ensures { IsTrue result ↔ Takes at owed reach.now }
+{
+    match reach.sum {
+        Some(after) => {
+            same_point(reach.edge.left, at) && same_sum(owed, Some(plus(reach.edge.cost, after)))
+        }
+        None => false,
+    }
+}
+
+/// An edge that leads on from a point with what is owed there.
+fn taken(reaches: &[Reach], at: Point, owed: Option<i128>) -> Option<Reach>
+    requires { All IsFit reaches.now }
+    ensures { MatchOption result (All (λ r. Takes at owed r → ⊥) reaches.now) (λ r. Takes at owed r × Contains reaches.now r) }
+{
+    for reach in reaches {
+        if leads(at, owed, reach) {
+            return Some(*reach);
+        }
+    }
+    None
+}
+
+/// The closed walk of a negative sum that is owed at the target.
+fn walked(
+    alloc: Global,
+    edges: &[Edge],
+    target: Point,
+    n: usize,
+    first: Option<i128>,
+) -> Result<Vec<Edge>, AllocError>
+    requires few { n ≤ 31 }
+    requires near { All IsNear edges.now }
+    requires least { first ≡ least target None (reaches_of edges.now target n) }
+    requires negative { IsNegative first }
+    ensures { IfOk result (λ v. IsNegativeWalk edges.now v.items) }
+{
+    let mut cycle = Vec::new(alloc);
+    let mut owed = first;
+    let mut at = target;
+    let mut left = n + 1;
+    while left > 0 {
+        left -= 1;
+        let reaches = reaches(alloc, edges, target, left)?;
+        if let Some(reach) = taken(&reaches, at, owed) {
+            cycle.push(reach.edge)?;
+            at = reach.edge.right;
+            owed = reach.sum;
+        }
+    }
+    Ok(cycle)
+}
+
+/// Whether a sum is there and below zero.
+fn is_negative(sum: Option<i128>) -> bool
+    ensures { IsTrue result ↔ IsNegative sum }
+{
+    match sum {
+        Some(sum) => sum < 0,
+        None => false,
+    }
+}
+
+/// A closed walk of negative sum through a point, if there is one of at most 32 edges.
+fn walk_through(
+    alloc: Global,
+    edges: &[Edge],
+    target: Point,
+) -> Result<Option<Vec<Edge>>, AllocError>
+    requires { All IsNear edges.now }
+    ensures { IfOk result (λ o. MatchOption o (IsNegative (least target None (reaches_of edges.now target 31)) → ⊥) (λ v. IsNegativeWalk edges.now v.items)) }
+{
+    let mut reaches = start(alloc, edges, target)?;
+    for n in 0..31 {
+        let owed = least(target, None, &reaches);
+        if is_negative(owed) {
+            return Ok(Some(walked(alloc, edges, target, n, owed)?));
+        }
+        match stepped(alloc, &reaches)? {
+            Some(next) => reaches = next,
+            None => return Ok(None),
+        }
+    }
+    let owed = least(target, None, &reaches);
+    if is_negative(owed) {
+        return Ok(Some(walked(alloc, edges, target, 31, owed)?));
+    }
+    Ok(None)
+}
+
+/// Whether walks from the left point of an edge are worth a search: it adds less than zero, and no such edge before it has that
+/// left point.
+fn is_start(edges: &[Edge], i: usize) -> bool
+    requires { i < length edges.now }
+    ensures { result ≡ false → IsNoStart edges.now i }
+{
+    let start = edges[i];
+    start.is_negative()
+        && !edges[..i].iter().any(|earlier| earlier.is_negative()
+            && same_point(earlier.left, start.left))
+}
+
+/// A closed walk of negative sum, if there is one of at most 32 edges. One of its edges adds less than zero, so only walks from
+/// the left points of such edges are searched for, once for each point.
+pub(crate) fn negative_walk(alloc: Global, edges: &[Edge]) -> Result<Option<Vec<Edge>>, AllocError>
+    requires { All IsNear edges.now }
+    ensures { IfOk result (λ found. MatchOption found ((walk : List Inequality) → IsNegativeWalk edges.now walk → ⊥) (λ walk. IsNegativeWalk edges.now walk.items)) }
+{
+    for i in 0..edges.len() {
+        if is_start(edges, i) {
+            if let Some(walk) = walk_through(alloc, edges, edges[i].left)? {
+                return Ok(Some(walk));
+            }
+        }
+    }
+    Ok(None)
+}

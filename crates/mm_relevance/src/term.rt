@@ -1,0 +1,120 @@
+//! Points, and the sides of atoms as points plus numbers.
+ghost use Rattle.std.specs.Prelude.{◌≡◌, ◌^◌};
+ghost use Rattle.std.specs.Option.{option_map};
+ghost use Rattle.mm_query.specs.Atoms.{value_in};
+ghost use Rattle.mm_relevance.specs.Relevance.{field_term, moved, number_term, operand_term};
+ghost use Rattle.mm_relevance.specs.Walks.{IsNearTerm, point_eq};
+
+use mm_query::{BoundQuery, FieldPlace, Operand};
+use mm_value::{Row, Value};
+
+/// What an inequality speaks of.
+#[derive(Clone, Copy)]
+pub(crate) enum Point {
+    /// The number zero.
+    Zero,
+    /// A column of a row that is not known.
+    Column(FieldPlace),
+}
+
+/// A point plus a number.
+#[derive(Clone, Copy)]
+pub(crate) struct Term {
+    /// The point.
+    pub(crate) point: Point,
+    /// The number.
+    pub(crate) offset: i128,
+}
+
+/// Whether two points are one.
+pub(crate) fn same_point(a: Point, b: Point) -> bool
+    ensures { result ≡ point_eq a b }
+{
+    match (a, b) {
+        (Point::Zero, Point::Zero) => true,
+        (Point::Column(f), Point::Column(g)) => f.place == g.place && f.column == g.column,
+        _ => false,
+    }
+}
+
+/// The term of a number. A text has none.
+fn number_term(value: &Value) -> Option<Term>
+    ensures value { result ≡ number_term value.now }
+    ensures near { IsNearTerm (2 ^ 63) result }
+{
+    match value {
+        Value::Int(number) => Some(Term {
+            point: Point::Zero,
+            offset: i128::from(*number),
+        }),
+        Value::Text(_) => None,
+    }
+}
+
+/// The term of a column of this row, which is 0 past its end.
+fn column_term(row: &Row, column: usize) -> Option<Term>
+    ensures value { result ≡ number_term (value_in column row.now) }
+    ensures near { IsNearTerm (2 ^ 63) result }
+{
+    match row.values().get(column) {
+        Some(value) => number_term(value),
+        None => Some(Term {
+            point: Point::Zero,
+            offset: 0,
+        }),
+    }
+}
+
+/// The term of a field: a number of the row at the place, or a column of another row of FROM.
+pub(crate) fn field_term(
+    query: &BoundQuery,
+    place: usize,
+    row: &Row,
+    field: FieldPlace,
+) -> Option<Term>
+    ensures value { result ≡ field_term query.now place row.now field }
+    ensures near { IsNearTerm (2 ^ 63) result }
+{
+    if field.place == place {
+        column_term(row, field.column)
+    } else if field.place < query.from.as_slice().len() {
+        Some(Term {
+            point: Point::Column(field),
+            offset: 0,
+        })
+    } else {
+        None
+    }
+}
+
+/// A term plus a number.
+fn moved(term: Option<Term>, by: i64) -> Option<Term>
+    requires { IsNearTerm (2 ^ 63) term }
+    ensures value { result ≡ option_map (moved by) term }
+    ensures near { IsNearTerm (2 ^ 64) result }
+{
+    match term {
+        Some(term) => Some(Term {
+            point: term.point,
+            offset: term.offset + i128::from(by),
+        }),
+        None => None,
+    }
+}
+
+/// The term of the right side of an atom.
+pub(crate) fn operand_term(
+    query: &BoundQuery,
+    place: usize,
+    row: &Row,
+    operand: &Operand<FieldPlace>,
+) -> Option<Term>
+    ensures value { result ≡ operand_term query.now place row.now operand.now }
+    ensures near { IsNearTerm (2 ^ 64) result }
+{
+    match operand {
+        Operand::Literal(value) => number_term(value),
+        Operand::Column(field) => field_term(query, place, row, *field),
+        Operand::Shifted(field, by) => moved(field_term(query, place, row, *field), *by),
+    }
+}

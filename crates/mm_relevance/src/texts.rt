@@ -1,0 +1,62 @@
+//! Atoms on texts that are known.
+ghost use Rattle.std.specs.Prelude.{◌≡◌, position};
+ghost use Rattle.std.specs.Option.{option_copied};
+ghost use Rattle.mm_query.specs.Atoms.{operand_of};
+ghost use Rattle.mm_relevance.specs.Relevance.{fails_on_texts, known};
+ghost use Rattle.mm_relevance.specs.Walks.{text_of};
+
+use mm_query::{Atom, BoundQuery, FieldPlace, Operand};
+use mm_value::{Row, Text, Value};
+
+/// The text of a field, if it is one of the row at the place.
+fn known_text<'v>(place: usize, row: &'v Row, field: FieldPlace) -> Option<&'v Text>
+    ensures { option_copied result ≡ text_of (known place row.now field) }
+{
+    if field.place != place {
+        return None;
+    }
+    match row.values().get(field.column) {
+        Some(Value::Text(text)) => Some(text),
+        _ => None,
+    }
+}
+
+/// The text of an operand, if it is known. A text with a number added stays.
+fn operand_text<'v>(
+    place: usize,
+    row: &'v Row,
+    operand: &'v Operand<FieldPlace>,
+) -> Option<&'v Text>
+    ensures { option_copied result ≡ text_of (operand_of (known place row.now) operand.now) }
+{
+    match operand {
+        Operand::Literal(Value::Text(text)) => Some(text),
+        Operand::Literal(Value::Int(_)) => None,
+        Operand::Column(field) => known_text(place, row, *field),
+        Operand::Shifted(field, _) => known_text(place, row, *field),
+    }
+}
+
+/// Whether both sides of an atom are known texts, and it is false of them.
+pub(crate) fn fails_on_texts(place: usize, row: &Row, atom: &Atom<FieldPlace>) -> bool
+    ensures { result ≡ fails_on_texts place row.now atom.now }
+{
+    match (
+        known_text(place, row, atom.left),
+        operand_text(place, row, &atom.right),
+    ) {
+        (Some(a), Some(b)) => !atom.comparison.accepts(a.bytes().cmp(b.bytes())),
+        _ => false,
+    }
+}
+
+/// The first atom that is false of known texts.
+pub(crate) fn false_text(query: &BoundQuery, place: usize, row: &Row) -> Option<usize>
+    ensures { result ≡ position (fails_on_texts place row.now) query.now.atoms }
+{
+    query
+        .atoms
+        .as_slice()
+        .iter()
+        .position(|atom| fails_on_texts(place, row, atom))
+}

@@ -1,0 +1,111 @@
+//! Cycles of worked examples.
+use crate::samples::{atom, field, query, row};
+use mm_query::{Atom, BoundQuery, Comparison, FieldPlace, Operand};
+use mm_relevance::{CycleEdge, check_cycle, irrelevant};
+use mm_value::{Row, Text, Value};
+use std::alloc::Global;
+use std::test::Fail;
+
+/// The names of the edges of the cycle of a row at the first place, and none where it has no cycle.
+fn edges(alloc: Global, query: &BoundQuery, row: &Row) -> Result<Vec<CycleEdge>, Fail> {
+    match irrelevant(alloc, query, 0, row)? {
+        Some(cycle) => Ok(cycle.edges),
+        None => Ok(Vec::new(alloc)),
+    }
+}
+
+/// The lower edge of an atom.
+fn lower(conjunct: usize) -> CycleEdge {
+    CycleEdge {
+        conjunct,
+        upper: false,
+    }
+}
+
+/// `a.k < b.v AND b.v < 5`
+fn between(alloc: Global) -> Result<BoundQuery, Fail> {
+    let mut atoms = Vec::new(alloc);
+    atoms.push(atom(field(0, 1), Comparison::Less, Operand::Column(field(1, 1))))?;
+    atoms.push(atom(
+        field(1, 1),
+        Comparison::Less,
+        Operand::Literal(Value::Int(5)),
+    ))?;
+    query(alloc, 2, atoms)
+}
+
+#[test]
+fn no_value_lies_between_4_and_5(rt: HostRuntime) -> Result<(), Fail> {
+    let alloc = rt.alloc();
+    let query = between(alloc)?;
+    let far = row(alloc, 1, Value::Int(4))?;
+    let near = row(alloc, 2, Value::Int(3))?;
+    let cycle = irrelevant(alloc, &query, 0, &far)?.ok_or("no cycle")?;
+    assert_eq!(rt; cycle.edges.as_slice(), [lower(0), lower(1)].as_slice());
+    assert!(rt; check_cycle(&query, 0, &far, &cycle));
+    assert!(rt; !check_cycle(&query, 0, &near, &cycle));
+    assert!(rt; edges(alloc, &query, &near)?.is_empty());
+    Ok(())
+}
+
+/// `b.v <= c.k AND c.k <= b.v - 1`
+fn never(alloc: Global) -> Result<BoundQuery, Fail> {
+    let mut atoms = Vec::new(alloc);
+    atoms.push(atom(
+        field(1, 1),
+        Comparison::LessOrEqual,
+        Operand::Column(field(2, 1)),
+    ))?;
+    atoms.push(atom(
+        field(2, 1),
+        Comparison::LessOrEqual,
+        Operand::Shifted(field(1, 1), -1),
+    ))?;
+    query(alloc, 3, atoms)
+}
+
+#[test]
+fn no_row_fits_a_query_that_nothing_fits(rt: HostRuntime) -> Result<(), Fail> {
+    let alloc = rt.alloc();
+    let query = never(alloc)?;
+    let found = edges(alloc, &query, &row(alloc, 1, Value::Int(4))?)?;
+    assert_eq!(rt; found.as_slice(), [lower(1), lower(0)].as_slice());
+    Ok(())
+}
+
+#[test]
+fn a_constant_is_compared_with_the_row(rt: HostRuntime) -> Result<(), Fail> {
+    let alloc = rt.alloc();
+    let mut atoms = Vec::new(alloc);
+    atoms.push(atom(
+        field(0, 1),
+        Comparison::Less,
+        Operand::Literal(Value::Int(5)),
+    ))?;
+    let query = query(alloc, 2, atoms)?;
+    let found = edges(alloc, &query, &row(alloc, 1, Value::Int(7))?)?;
+    assert_eq!(rt; found.as_slice(), [lower(0)].as_slice());
+    assert!(rt; edges(alloc, &query, &row(alloc, 1, Value::Int(4))?)?.is_empty());
+    Ok(())
+}
+
+/// A text.
+fn text(alloc: Global, bytes: &[u8]) -> Result<Value, Fail> {
+    Ok(Value::Text(Text::new(alloc, bytes)?))
+}
+
+#[test]
+fn a_text_is_compared_with_the_row(rt: HostRuntime) -> Result<(), Fail> {
+    let alloc = rt.alloc();
+    let mut atoms = Vec::new(alloc);
+    atoms.push(atom(
+        field(0, 1),
+        Comparison::Equal,
+        Operand::Literal(text(alloc, b"ann")?),
+    ))?;
+    let query = query(alloc, 2, atoms)?;
+    let found = edges(alloc, &query, &row(alloc, 1, text(alloc, b"bob")?)?)?;
+    assert_eq!(rt; found.as_slice(), [lower(0)].as_slice());
+    assert!(rt; edges(alloc, &query, &row(alloc, 1, text(alloc, b"ann")?)?)?.is_empty());
+    Ok(())
+}
