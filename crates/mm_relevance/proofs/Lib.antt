@@ -9,3 +9,4 @@ pub mod Irrelevance
 pub mod OnTexts
 pub mod Found
 pub mod Exact
+pub mod Adding

@@ -1,7 +1,7 @@
 -- Rows that cannot change the answer of a query (irrelevant updates of Blakeley, Larson and Tompa), and the negative cycles of
 -- inequalities that show it (Rosenkrantz and Hunt).
 use Rattle.std.specs.Prelude.{◌≡◌, ◌⊎◌, ℕ, ◌≤◌, ◌==◌, nat_lt, ℤ, pos, ◌+ℤ◌, ◌-ℤ◌, ◌≤ℤ◌, ◌<ℤ◌, Bool, true, false, not, ◌&&◌, if◌then◌else◌, List, [], ◌∷◌, Option, Some, None, get_or, length, map, slice_get}
-use Rattle.std.specs.List.{list_any}
+use Rattle.std.specs.List.{All, list_any}
 use Rattle.std.specs.Option.{option_and_then, option_map, option_map_or}
 use Rattle.mm_value.specs.declared.values.Value.{Value}
 use Rattle.mm_value.specs.declared.values.Value.TheVariants.{Int, Text}
@@ -45,6 +45,16 @@ pub record IsCombinationWith (query : BoundQuery) (place : ℕ) (row : List Valu
 abbrev pub IsIrrelevant : BoundQuery → ℕ → List Value → Type 0
 IsIrrelevant query place row =
     (combination : List (List Value)) → IsCombinationWith query place row combination → fits query combination ≡ false
+
+-- An operand adds a number to no text of the rows at the places of FROM.
+abbrev pub AddsToNumber : (ℕ → List (List Value)) → Operand FieldPlace → Type 0
+AddsToNumber rows (Literal value) = Unit {0}
+AddsToNumber rows (Column field) = Unit {0}
+AddsToNumber rows (Shifted field by) = All (λ (row : List Value). is_text (Some (value_in field.column row)) ≡ false) (rows field.place)
+
+-- No atom of a query adds a number to a text of the rows at the places of FROM.
+abbrev pub AddsToNumbers : BoundQuery → (ℕ → List (List Value)) → Type 0
+AddsToNumbers query rows = All (λ (atom : Atom FieldPlace). AddsToNumber rows atom.right) query.atoms
 
 -- ---- the inequalities of an atom
 

@@ -1,17 +1,24 @@
 //! What cycles and their inequalities show.
-ghost use Rattle.std.specs.Prelude.{◌≡◌, ◌↔◌, ℕ, Bool, true, List, Some, IfSome, map, slice_get};
+ghost use Rattle.std.specs.Prelude.{◌≡◌, ◌∷◌, [], ◌↔◌, ℕ, Bool, true, List, Some, IfSome, get_or, length, map, slice_get};
 ghost use Rattle.mm_value.specs.declared.values.Value.{Value as Val};
 ghost use Rattle.mm_query.specs.Atoms.{holds};
-ghost use Rattle.mm_query.specs.Queries.{value_at};
+ghost use Rattle.mm_query.specs.Queries.{bag_of, value_at};
 ghost use Rattle.mm_query.specs.declared.atom.Atom.{Atom as Asked};
 ghost use Rattle.mm_query.specs.declared.bound_query.BoundQuery.{BoundQuery as Query};
 ghost use Rattle.mm_query.specs.declared.bound_query.FieldPlace.{FieldPlace as Field};
-ghost use Rattle.mm_relevance.specs.Relevance.{ComparesNumbers, IsCombinationWith, IsCyclic, IsIrrelevant, IsTrueOf, edge_at};
+ghost use Rattle.mm_relevance.specs.Relevance.{AddsToNumbers, ComparesNumbers, IsCombinationWith, IsCyclic, IsIrrelevant, IsTrueOf, edge_at};
 ghost use Rattle.mm_relevance.specs.Walks.{name_of};
 
 /// A row that has an accepted cycle is irrelevant: no combination with it fits the query.
 pub fn cyclic_is_irrelevant()
     ensures { (query : Query) (place : ℕ) (row : List Val) → IsCyclic query place row → IsIrrelevant query place row }
+{}
+
+/// The combinations that have a cyclic row at its place add nothing to the bag of a query, where no atom adds a number to a text.
+pub fn cyclic_rows_add_nothing()
+    ensures { (query : Query) (place : ℕ) (row : List Val) (lists : List (List (List Val))) → IsCyclic query place row
+        → length lists ≡ length query.from → slice_get lists place ≡ Some (row ∷ []) → AddsToNumbers query (λ j. get_or lists j [])
+        → bag_of query lists ≡ [] }
 {}
 
 /// An atom that compares two whole numbers of a combination is true of it just where the inequalities that the atom gives are:

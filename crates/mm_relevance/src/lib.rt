@@ -12,5 +12,5 @@ mod texts;
 
 pub use check::check_cycle;
 pub use cycle::{Cycle, CycleEdge};
-pub use law::{cyclic_is_irrelevant, edges_say_what_atoms_say};
+pub use law::{cyclic_is_irrelevant, cyclic_rows_add_nothing, edges_say_what_atoms_say};
 pub use relevance::irrelevant;
