@@ -1,0 +1,9 @@
+mod Assigned
+mod Changes
+mod Definitions
+mod Numbers
+mod Places
+mod Queries
+mod Rows
+mod Steps
+mod Tables
