@@ -11,6 +11,7 @@ mod Operands
 pub mod Pieces
 mod Readings
 pub mod ReplyLemmas
+mod RowLines
 mod SelectReadings
 mod SpelledAtoms
 mod SpelledCommands

@@ -10,6 +10,7 @@ mod phrase;
 mod reader;
 mod reading;
 mod reply_text;
+mod row_line;
 mod select;
 mod token;
 mod tuples;

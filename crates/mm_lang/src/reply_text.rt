@@ -18,6 +18,7 @@ ghost use Rattle.mm_lang.specs.ReplyText.{HasIndexNames, HasNames, HasTableNames
 ghost use Rattle.mm_lang.specs.Tokens.{tokens};
 
 use crate::listing_text::write_listing;
+use crate::row_line::short_line;
 use itoa::Buffer;
 use mm_query::{PlanLine, Reply};
 use mm_schema::IndexId;
@@ -94,6 +95,9 @@ pub fn write_tuple_line<W: Write>(
     requires { has_failed writer.old ≡ false }
     ensures { Writes W.contents writer.old writer.new result (row_text (map (λ v. v.now) values.now) ++ 10 ∷ []) }
 {
+    if let Some(line) = short_line(values) {
+        return put_all(writer, line.as_slice());
+    }
     write_tuple(values, writer)?;
     put_all(writer, b"\n")
 }

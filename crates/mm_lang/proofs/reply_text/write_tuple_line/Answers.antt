@@ -1,5 +1,6 @@
-use Rattle.std.proofs.Common.{[], ◌∷◌, refl}
+use Rattle.std.proofs.Common.{[], ◌∷◌, refl, subst, ◌∙◌}
 use Rattle.std.proofs.lemmas.Result.{err_from_is_err_and}
+use Rattle.mm_value.specs.Device.{Writes}
 use Rattle.mm_value.proofs.Writing.{Writes-then, Writes-stops}
 use Rattle.mm_lang.proofs.reply_text.write_tuple_line.Goals as goal
 
@@ -9,4 +10,9 @@ returns-in_err-write_tuple g c =
     Writes-stops (10 ∷ []) refl p.1 c.in_err-write_tuple.ensures
 
 pub returns : goal.returns
-returns g c = Writes-then refl c.in_ok-write_tuple.ensures c.put_all.ensures
+returns g c = Writes-then refl c.in_ok-write_tuple.ensures c.put_all-2.ensures
+
+-- the line that was put together
+pub returns-in-Some : goal.returns-in-Some
+returns-in-Some g c =
+    subst (Writes g.W.Write.contents c.args.writer.now c.put_all.new.writer c.put_all.result) (c.as_slice.ensures.value ∙ c.in-Some.ensures) c.put_all.ensures

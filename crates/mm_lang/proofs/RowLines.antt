@@ -1,0 +1,62 @@
+-- The line of a row in the parts in which it is put together.
+use Rattle.std.proofs.Common.{◌≡◌, ◌<◌, ◌≤◌, ℕ, ◌+◌, List, [], ◌∷◌, ◌++◌, Bor, Option, Some, None, false, true, length, map, get_or, take, sym, ap, append_assoc, append-nil, ◌∙◌}
+use Rattle.std.specs.List.{flat_map}
+use Rattle.std.specs.Option.{OnSome, is_some}
+use Rattle.std.proofs.lemmas.List.{take_more}
+use Rattle.std.proofs.lemmas.List.Concat.{flat_map-append}
+use Rattle.bstr.specs.Find.{IsFirstByte, is_byte}
+use Rattle.mm_value.specs.declared.values.Value.{Value}
+use Rattle.mm_value.specs.Literal.{doubled, quoted}
+use Rattle.mm_value.specs.Written.{value_text, row_text}
+use Rattle.mm_value.proofs.Quotes.{doubled_unfound}
+use Rattle.mm_value.proofs.RowTexts.{borrowed_next_text, borrowed_text_all}
+
+pub on_some_weaker : {T P Q : Type 0} (r : Option T) → (P → Q) → OnSome r P → OnSome r Q
+on_some_weaker None f h = h
+on_some_weaker (Some x) f h = f h
+
+-- a text in which no quote is found
+pub doubled_where_none : (text : List ℕ) (found : Option ℕ) → false ≡ is_some found → IsFirstByte (is_byte 39) text found → doubled text ≡ text
+doubled_where_none text None none at = doubled_unfound text at
+doubled_where_none text (Some i) none at = let both : false ≡ true = none in cc
+
+-- a text in which nothing is doubled, put between quotes behind a line
+pub quoted_behind : (line opened filled closed text : List ℕ) → doubled text ≡ text → opened ≡ line ++ 39 ∷ [] → filled ≡ opened ++ text
+    → closed ≡ filled ++ 39 ∷ [] → closed ≡ line ++ quoted text
+quoted_behind line opened filled closed text plain opens fills closes =
+    closes
+    ∙ ap (λ l. l ++ 39 ∷ []) (fills ∙ ap (λ l. l ++ text) opens ∙ append_assoc line (39 ∷ []) text)
+    ∙ append_assoc line (39 ∷ text) (39 ∷ [])
+    ∙ ap (λ l. line ++ (39 ∷ l ++ 39 ∷ [])) (sym plain)
+
+-- i values behind a front of a line, and the next one
+pub next_value_behind : (front line parted longer : List ℕ) (others : List (Bor Value)) (i : ℕ) (v : Bor Value) → i < length others → v ≡ get_or others i v
+    → line ≡ front ++ flat_map borrowed_next_text (take i others) → parted ≡ line ++ 44 ∷ 32 ∷ [] → longer ≡ parted ++ value_text v.now
+    → longer ≡ front ++ flat_map borrowed_next_text (take (i + 1) others)
+next_value_behind front line parted longer others i v lt at so_far parts grows =
+    let here = flat_map borrowed_next_text (take i others) in
+    let next : flat_map borrowed_next_text (take (i + 1) others) ≡ here ++ borrowed_next_text v =
+    ap (flat_map borrowed_next_text) (take_more others i v lt ∙ ap (λ w. take i others ++ w ∷ []) (sym at))
+    ∙ flat_map-append borrowed_next_text (take i others) (v ∷ [])
+    ∙ ap (λ l. here ++ l) (append-nil (borrowed_next_text v)) in
+    grows
+    ∙ ap (λ l. l ++ value_text v.now) parts
+    ∙ append_assoc line (44 ∷ 32 ∷ []) (value_text v.now)
+    ∙ ap (λ l. l ++ borrowed_next_text v) so_far
+    ∙ append_assoc front here (borrowed_next_text v)
+    ∙ ap (λ l. front ++ l) (sym next)
+
+-- the first value and all others, in parentheses and with the line feed
+pub line_of_all : (opened begun line ended : List ℕ) (values : List (Bor Value)) (first : Bor Value) (others : List (Bor Value)) (i : ℕ)
+    → values ≡ first ∷ others → length others ≤ i → opened ≡ 40 ∷ [] → begun ≡ opened ++ value_text first.now
+    → line ≡ begun ++ flat_map borrowed_next_text (take i others) → ended ≡ line ++ 41 ∷ 10 ∷ []
+    → ended ≡ row_text (map (λ v. v.now) values) ++ 10 ∷ []
+line_of_all opened begun line ended values first others i parts end opens begins goes ends =
+    let texts = value_text first.now ++ flat_map borrowed_next_text (take i others) in
+    let whole : line ≡ 40 ∷ texts =
+    goes
+    ∙ ap (λ l. l ++ flat_map borrowed_next_text (take i others)) (begins ∙ ap (λ l. l ++ value_text first.now) opens) in
+    ends
+    ∙ ap (λ l. l ++ 41 ∷ 10 ∷ []) whole
+    ∙ ap (λ l. 40 ∷ l) (sym (append_assoc texts (41 ∷ []) (10 ∷ [])))
+    ∙ ap (λ l. (40 ∷ l ++ 41 ∷ []) ++ 10 ∷ []) (sym (borrowed_text_all values first others i parts end))

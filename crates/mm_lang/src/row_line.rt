@@ -1,0 +1,65 @@
+//! Short lines of rows, put together before they are written.
+ghost use Rattle.std.specs.Prelude.{◌≡◌, [], ◌∷◌, ◌++◌, IfSome, OnSome, map};
+ghost use Rattle.mm_value.specs.Literal.{quoted};
+ghost use Rattle.mm_value.specs.Written.{row_text, value_text};
+
+use arrayvec::ArrayVec;
+use bstr::ByteSlice;
+use itoa::Buffer;
+use mm_value::Value;
+
+/// The most bytes of a line that is put together before it is written.
+const MAX_SHORT_LINE_BYTES: usize = 128;
+
+/// A line, or the front of one.
+pub(crate) type ShortLine = ArrayVec<u8, MAX_SHORT_LINE_BYTES>;
+
+/// The line of a row, with its line feed. `None` where it has more than 128 bytes, where a text has a quote in it, which is
+/// written twice, and of no values.
+pub(crate) fn short_line(values: &[&Value]) -> Option<ShortLine>
+    ensures { IfSome result (λ line. line.items ≡ row_text (map (λ v. v.now) values.now) ++ 10 ∷ []) }
+{
+    let (first, others) = values.split_first()?;
+    let mut line = ShortLine::new();
+    put(&mut line, b"(")?;
+    put_value(&mut line, first)?;
+    for value in others {
+        put(&mut line, b", ")?;
+        put_value(&mut line, value)?;
+    }
+    put(&mut line, b")\n")?;
+    Some(line)
+}
+
+/// Puts a value behind the line. `None` where there is no room for it, and where it is a text with a quote in it.
+fn put_value(line: &mut ShortLine, value: &Value) -> Option<()>
+    ensures { OnSome result (line.new.items ≡ line.old.items ++ value_text value.now) }
+{
+    match value {
+        Value::Int(number) => {
+            let mut buffer = Buffer::new();
+            put(line, buffer.format(*number).as_bytes())
+        }
+        Value::Text(text) => put_quoted(line, text.bytes()),
+    }
+}
+
+/// Puts a text between quotes behind the line. `None` where there is no room for it, and where a quote is in it.
+fn put_quoted(line: &mut ShortLine, text: &[u8]) -> Option<()>
+    ensures { OnSome result (line.new.items ≡ line.old.items ++ quoted text.now) }
+{
+    if text.find_byte(b'\'').is_some() {
+        return None;
+    }
+    put(line, b"'")?;
+    put(line, text)?;
+    put(line, b"'")
+}
+
+/// Puts bytes behind the line. `None` where there is no room for them.
+#[inline(always)]
+fn put(line: &mut ShortLine, bytes: &[u8]) -> Option<()>
+    ensures { OnSome result (line.new.items ≡ line.old.items ++ bytes.now) }
+{
+    line.try_extend_from_slice(bytes).ok()
+}
