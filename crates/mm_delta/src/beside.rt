@@ -1,15 +1,14 @@
 //! The edits that count where rows are looked for.
-ghost use Rattle.std.specs.Prelude.{◌≡◌, ◌++◌, filter, filter_map, map, IfErr, IfOk, OnOk};
+ghost use Rattle.std.specs.Prelude.{◌≡◌, ◌++◌, filter, filter_map, map, IfErr, OnOk};
 ghost use Rattle.mm_value.specs.declared.refusal.Refusal.TheVariants.{Memory};
 ghost use Rattle.mm_delta.specs.Beside.{edits_beside};
 ghost use Rattle.mm_delta.specs.Steps.{asked, coming, stays};
 
 use crate::edit_index::EditIndex;
 use crate::look_up::LookUp;
-use crate::rows::{add_coming, standing};
+use crate::rows::{add_coming, leave_standing};
 use mm_relation::Edit;
 use mm_value::{Refusal, Row, RowRef};
-use std::alloc::Global;
 
 /// The edits of a table that count beside its rows.
 #[derive(Drop)]
@@ -21,14 +20,13 @@ pub(crate) enum Beside<'w, 'c> {
 }
 
 impl<'c> Beside<'_, 'c> {
-    /// Those of some references of which no edit takes the row away. `Memory` is the only refusal.
-    pub(crate) fn standing(&self, alloc: Global, refs: &[RowRef]) -> Result<Vec<RowRef>, Refusal>
-        ensures ok { IfOk result (λ left. left.items ≡ filter (stays (edits_beside self.now)) refs.now) }
-        ensures memory { IfErr result (λ refusal. refusal ≡ Memory) }
+    /// Leaves out the references of which an edit takes the row away.
+    pub(crate) fn leave_standing(&self, refs: &mut Vec<RowRef>)
+        ensures { refs.new.items ≡ filter (stays (edits_beside self.now)) refs.old.items }
     {
         match self {
-            Beside::Listed(edits) => standing(alloc, edits, refs),
-            Beside::Indexed(index) => index.standing(alloc, refs),
+            Beside::Listed(edits) => leave_standing(edits, refs),
+            Beside::Indexed(index) => index.leave_standing(refs),
         }
     }
 

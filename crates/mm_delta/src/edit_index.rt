@@ -60,17 +60,11 @@ impl<'c> EditIndex<'c> {
         !self.gone.contains(&(at.part, at.slot))
     }
 
-    /// Those of some references of which no edit takes the row away. `Memory` is the only refusal.
-    pub(crate) fn standing(&self, alloc: Global, refs: &[RowRef]) -> Result<Vec<RowRef>, Refusal>
-        ensures ok { IfOk result (λ left. left.items ≡ filter (stays self.now) refs.now) }
-        ensures memory { IfErr result (λ refusal. refusal ≡ Memory) }
+    /// Leaves out the references of which an edit takes the row away.
+    pub(crate) fn leave_standing(&self, refs: &mut Vec<RowRef>)
+        ensures { refs.new.items ≡ filter (stays self.now) refs.old.items }
     {
-        Ok(
-            refs.iter()
-                .copied()
-                .filter(|at| self.stays(*at))
-                .collect(alloc)?,
-        )
+        refs.retain(|at| self.stays(*at));
     }
 
     /// The index on a column over the rows that come, if there is one.

@@ -70,21 +70,13 @@ pub(crate) fn references(
     }
 }
 
-/// Those of some references of which no edit takes the row away. `Memory` is the only refusal.
-pub(crate) fn standing(
-    alloc: Global,
-    edits: &[Edit],
-    refs: &[RowRef],
-) -> Result<Vec<RowRef>, Refusal>
-    ensures ok { IfOk result (λ left. left.items ≡ filter (stays edits.now) refs.now) }
-    ensures memory { IfErr result (λ refusal. refusal ≡ Memory) }
+/// Leaves out the references of which an edit takes the row away.
+pub(crate) fn leave_standing(edits: &[Edit], refs: &mut Vec<RowRef>)
+    ensures { refs.new.items ≡ filter (stays edits.now) refs.old.items }
 {
-    Ok(
-        refs.iter()
-            .copied()
-            .filter(|at| stays(edits, *at))
-            .collect(alloc)?,
-    )
+    if !edits.is_empty() {
+        refs.retain(|at| stays(edits, *at));
+    }
 }
 
 /// The rows of references. Each is read once. `Memory` is the only refusal.

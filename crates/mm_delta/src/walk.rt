@@ -18,7 +18,8 @@ use crate::counting::count_row;
 use crate::indexed_changes::IndexedChanges;
 use crate::look_up::{LookUp, Site};
 use crate::rows::{read_all, references};
-use mm_query::{BoundQuery, none_fails, values_of};
+use arrayvec::ArrayVec;
+use mm_query::{BoundQuery, MAX_FROM, none_fails, values_of};
 use mm_store::View;
 use mm_value::{Refusal, Row};
 use std::alloc::Global;
@@ -94,10 +95,10 @@ impl<'w, 'c> Walk<'w, 'c> {
         let table = self.tables[place];
         view.is_kept(table);
         let look_up = self.look_up_at(alloc, view, chosen, place)?;
-        let refs = references(alloc, view, table, &look_up)?;
+        let mut refs = references(alloc, view, table, &look_up)?;
         let edits = self.edits_at(place, table);
-        let left = edits.standing(alloc, &refs)?;
-        let mut rows = read_all(alloc, view, table, &left)?;
+        edits.leave_standing(&mut refs);
+        let mut rows = read_all(alloc, view, table, &refs)?;
         edits.add_coming(&mut rows, &look_up)?;
         Ok(rows)
     }
@@ -165,15 +166,21 @@ impl<'w, 'c> Walk<'w, 'c> {
     {
         let places = self.tables.len();
         let chosen = Chosen::new(places).with(self.place, row);
-        let others = other_places(alloc, places, self.place)?;
+        let others = other_places(places, self.place);
         self.extend(alloc, view, &chosen, &others, out)
     }
 }
 
-/// All places but one. `Memory` is the only refusal.
-fn other_places(alloc: Global, places: usize, place: usize) -> Result<Vec<usize>, Refusal>
-    ensures ok { IfOk result (λ others. others.items ≡ other_places_lem places place) }
-    ensures memory { IfErr result (λ refusal. refusal ≡ Memory) }
+/// All places but one.
+fn other_places(places: usize, place: usize) -> ArrayVec<usize, MAX_FROM>
+    requires { places ≤ MAX_FROM }
+    ensures { result.items ≡ other_places_lem places place }
 {
-    Ok((0..places).filter(|j| *j != place).collect(alloc)?)
+    let mut others = ArrayVec::new();
+    for j in 0..places {
+        if j != place {
+            others.push(j);
+        }
+    }
+    others
 }

@@ -11,14 +11,14 @@ pub extend-requires-clause-vacant : goal.extend-requires-clause-vacant
 extend-requires-clause-vacant c =
     let m_is : c.with-chosen.result ≡ one_row (length c.args.self.now.tables.now) c.args.self.now.place c.args.row.now =
     c.with-chosen.ensures ∙ ap (λ l. set l c.args.self.now.place (Some c.args.row.now)) c.new.ensures ∙ one_row_is (length c.args.self.now.tables.now) c.args.self.now.place c.args.row.now c.requires.place in
-    let js_is : c.deref.result.now ≡ other_places (length c.args.self.now.tables.now) c.args.self.now.place = c.deref.ensures.value ∙ c.in_ok-others.ensures.ok in
+    let js_is : c.deref.result.now ≡ other_places (length c.args.self.now.tables.now) c.args.self.now.place = c.deref.ensures.0 ∙ c.other_places-others.ensures in
     open_start (length c.args.self.now.tables.now) c.args.self.now.place c.args.row.now c.deref.result.now c.with-chosen.result js_is m_is
 
 pub returns-clause-counted : goal.returns-clause-counted
 returns-clause-counted c =
     let m_is : c.with-chosen.result ≡ one_row (length c.args.self.now.tables.now) c.args.self.now.place c.args.row.now =
     c.with-chosen.ensures ∙ ap (λ l. set l c.args.self.now.place (Some c.args.row.now)) c.new.ensures ∙ one_row_is (length c.args.self.now.tables.now) c.args.self.now.place c.args.row.now c.requires.place in
-    let js_is : c.deref.result.now ≡ other_places (length c.args.self.now.tables.now) c.args.self.now.place = c.deref.ensures.value ∙ c.in_ok-others.ensures.ok in
+    let js_is : c.deref.result.now ≡ other_places (length c.args.self.now.tables.now) c.args.self.now.place = c.deref.ensures.0 ∙ c.other_places-others.ensures in
     on_ok_weaker c.extend.result
     (λ counted other. counted other
     ∙ ap (λ n. count_in other c.args.out.now.entries + n)
@@ -30,7 +30,7 @@ pub returns-clause-reads : goal.returns-clause-reads
 returns-clause-reads c =
     let m_is : c.with-chosen.result ≡ one_row (length c.args.self.now.tables.now) c.args.self.now.place c.args.row.now =
     c.with-chosen.ensures ∙ ap (λ l. set l c.args.self.now.place (Some c.args.row.now)) c.new.ensures ∙ one_row_is (length c.args.self.now.tables.now) c.args.self.now.place c.args.row.now c.requires.place in
-    let js_is : c.deref.result.now ≡ other_places (length c.args.self.now.tables.now) c.args.self.now.place = c.deref.ensures.value ∙ c.in_ok-others.ensures.ok in
+    let js_is : c.deref.result.now ≡ other_places (length c.args.self.now.tables.now) c.args.self.now.place = c.deref.ensures.0 ∙ c.other_places-others.ensures in
     let same : reads_for c.args.self.now.query.now c.args.view.now.store c.args.self.now.changes.now c.args.self.now.tables.now c.args.self.now.place c.deref.result.now c.with-chosen.result ≡ reads_for c.args.self.now.query.now c.args.view.now.store c.args.self.now.changes.now c.args.self.now.tables.now c.args.self.now.place (other_places (length c.args.self.now.tables.now) c.args.self.now.place) (one_row (length c.args.self.now.tables.now) c.args.self.now.place c.args.row.now) =
     λ i. reads_for c.args.self.now.query.now c.args.view.now.store c.args.self.now.changes.now c.args.self.now.tables.now c.args.self.now.place (js_is i) (m_is i) in
     omega (arith, c.extend.ensures.reads, same)
