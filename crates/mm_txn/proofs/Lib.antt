@@ -16,3 +16,4 @@ mod Naming
 mod Placed
 mod WatchSteps
 mod Showing
+mod TypedSteps

@@ -1,14 +1,13 @@
 -- The lists of standing queries through changes of rows, and through what keeps or takes these back.
-use Rattle.std.proofs.Common.{◌≡◌, ℕ, pos, ◌+◌, ◌+ℤ◌, ◌≤◌, Bool, true, false, cond, List, [], ◌∷◌, ◌++◌, Some, None, Err, inl, inr, length, map, drop, slice_get, slice_index_or, refl, sym, ap, subst, ◌∙◌, ⊎_elim, add-zero, arith}
-use Rattle.std.specs.List.{All}
+use Rattle.std.proofs.Common.{◌≡◌, ℕ, pos, ◌+ℤ◌, List, [], ◌++◌, Some, None, Err, inl, inr, map, slice_get, slice_index_or, sym, ap, subst, ◌∙◌, ⊎_elim, add-zero, arith}
 use Rattle.mm_delta.specs.Counts.{Counts, Entries, count_in}
 use Rattle.mm_schema.specs.Instance.{Instance}
 use Rattle.mm_schema.specs.Refused.{AnswersDue, Condition, first_refusal}
 use Rattle.mm_schema.specs.Schema.{Schema}
 use Rattle.mm_schema.proofs.Dues.{due_behind, due_in_front}
-use Rattle.mm_standing.specs.Bags.{Made, count_with, done_of, entries_at, row_change, sum_over}
+use Rattle.mm_standing.specs.Bags.{Made, count_with, entries_at, row_change, sum_over}
 use Rattle.mm_standing.specs.Queries.{RowsByPlace, StandingQuery}
-use Rattle.mm_standing.specs.State.{AreFew, FitNow, FitPrepared, Lists, count_at, count_now}
+use Rattle.mm_standing.specs.State.{AreFew, FitPrepared, Lists, count_at, count_now}
 use Rattle.mm_value.specs.declared.refusal.Refusal.{Refusal}
 use Rattle.mm_value.specs.declared.values.Value.{Value}
 use Rattle.mm_txn.specs.Saved.{AreSaved}

@@ -1,39 +1,24 @@
 -- The rows that standing queries read: the machine finds tables by their names, the lists by their places.
-use Rattle.std.proofs.Common.{◌≡◌, ℕ, zero, suc, ◌+◌, ◌<◌, ◌≤◌, ◌==◌, ◌||◌, Bool, true, false, cond, not, List, [], ◌∷◌, Option, Some, None, length, map, get_or, ltb, slice_get, slice_index_or, slice_set, refl, sym, ap, subst, ◌∙◌, arith}
-use Rattle.std.specs.Prelude.{position}
-use Rattle.std.specs.List.{All, AllByRecursion, list_any, position_or_len}
-use Rattle.std.specs.Option.{option_map_or, unwrap_or}
-use Rattle.std.proofs.lemmas.Bool.{cases_Bool, eqb-false, eqb-true, ltb-false, or_parts}
+use Rattle.std.proofs.Common.{◌≡◌, ℕ, ◌<◌, ◌≤◌, ◌==◌, ◌||◌, Bool, true, false, cond, List, [], ◌∷◌, Option, Some, None, length, slice_get, slice_set, refl, sym, ap, subst, ◌∙◌, arith}
+use Rattle.std.specs.List.{All, AllByRecursion, list_any}
+use Rattle.std.specs.Option.{option_map_or}
+use Rattle.std.proofs.lemmas.Bool.{eqb-false, eqb-true, ltb-false, or_parts}
 use Rattle.std.proofs.lemmas.List.{get_or-set_other, get_or-set_same, length-map, map-set}
 use Rattle.std.proofs.lemmas.List.Elements.{All-cons, All-nil, All-weaker, recursion_from_All}
 use Rattle.std.proofs.lemmas.Option.{slice_get_within}
-use Rattle.mm_delta.specs.Edited.{after_at, before_at, edits_at}
+use Rattle.mm_delta.specs.Edited.{after_at, before_at}
 use Rattle.mm_delta.specs.Steps.{EachFit}
 use Rattle.mm_delta.specs.declared.edited.TableEdits.{TableEdits}
-use Rattle.mm_partition.specs.Places.{slot_at}
-use Rattle.mm_plan.specs.From.{places_in}
-use Rattle.mm_query.specs.Queries.{bag, bag_of}
 use Rattle.mm_query.specs.Standing.{growth_conditions, outgrows}
-use Rattle.mm_query.specs.State.{State, rows_in}
-use Rattle.mm_query.specs.declared.query.FromItem.{FromItem}
-use Rattle.mm_relation.specs.Changes.{Standing}
-use Rattle.mm_relation.specs.Edits.{edit_name, named}
+use Rattle.mm_query.specs.State.{State}
 use Rattle.mm_relation.specs.Kept.{StoredRows}
 use Rattle.mm_relation.specs.RowLists.{rows_of}
 use Rattle.mm_relation.specs.declared.edits.Edit.{Edit}
-use Rattle.mm_relation.specs.declared.names.Side.TheVariants.{Old}
-use Rattle.mm_schema.specs.Instance.{Instance, rows_named}
-use Rattle.mm_schema.specs.Name.{same_name}
 use Rattle.mm_schema.specs.Refused.{first_refusal}
-use Rattle.mm_schema.specs.Schema.{Schema, lacks_table, table_place}
-use Rattle.mm_schema.specs.declared.table.Table.{Table}
-use Rattle.mm_schema.proofs.Instances.{name_of}
-use Rattle.mm_schema.proofs.Places.{place_from_some, place_within}
-use Rattle.mm_schema.proofs.Twins.{Row}
+use Rattle.mm_schema.specs.Schema.{Schema}
 use Rattle.mm_standing.specs.Queries.{IsServed, RowsByPlace, StandingQuery, bag_over, change_conditions, is_too_large}
 use Rattle.mm_standing.specs.State.{AreFew, AreServed}
 use Rattle.mm_store.specs.Tables.{AreFit, HasRows, Tables, Turns, rows_at, rows_with}
-use Rattle.mm_value.specs.declared.refusal.Refusal.{Refusal}
 use Rattle.mm_value.specs.declared.refusal.Refusal.TheVariants.{StandingListTooLarge}
 use Rattle.mm_txn.specs.Kept.{AreOf, instance_of}
 use Rattle.mm_txn.specs.TableEdits.{rows_edited}

@@ -1,15 +1,13 @@
 -- Standing queries and their lists after a change of the tables of the catalog.
-use Rattle.std.proofs.Common.{◌≡◌, ℕ, suc, ◌+◌, ◌-◌, ◌<◌, ◌≤◌, Bool, true, false, cond, not, Result, Ok, Err, OnOk, OnErr, List, [], ◌∷◌, ◌++◌, zero, Option, Some, None, filter, find, is_none, length, map, pos, slice_get, slice_index_or, refl, sym, ap, subst, ◌∙◌, arith}
-use Rattle.std.specs.List.{All, AllByRecursion, IsDistinct, list_any, position_or_len}
-use Rattle.std.specs.Option.{option_map, unwrap_or}
+use Rattle.std.proofs.Common.{◌≡◌, ℕ, suc, ◌+◌, ◌≤◌, Bool, true, false, cond, not, Result, Ok, Err, OnOk, OnErr, List, [], ◌∷◌, ◌++◌, zero, Option, Some, None, filter, find, is_none, length, map, pos, slice_get, refl, sym, ap, subst, ◌∙◌, arith}
+use Rattle.std.specs.List.{All, AllByRecursion, IsDistinct, list_any}
+use Rattle.std.specs.Option.{unwrap_or}
 use Rattle.std.proofs.lemmas.Bool.Decides.{nat_tests}
 use Rattle.std.proofs.lemmas.Bool.{or_parts}
 use Rattle.std.proofs.lemmas.List.{length-map}
 use Rattle.std.proofs.lemmas.List.Elements.{All-from_recursion, All-map, All-weaker, recursion_from_All}
 use Rattle.std.proofs.lemmas.Map.Keys.{IsDistinct-tail}
-use Rattle.std.proofs.lemmas.Option.{get_or_from_slice_get, slice_get-map, slice_get_within}
-use Rattle.std.proofs.lemmas.Simd.{map-map}
-use Rattle.mm_schema.specs.Indexes.{table_with_index, table_without_index, with_index, without_index}
+use Rattle.mm_schema.specs.Indexes.{table_with_index, table_without_index}
 use Rattle.mm_schema.specs.Instance.{Instance, rows_named, without_rows}
 use Rattle.mm_schema.specs.Name.{same_name}
 use Rattle.mm_schema.specs.References.{above}
@@ -27,11 +25,11 @@ use Rattle.mm_delta.specs.Counts.{count_of}
 use Rattle.mm_store.specs.Tables.{Tables}
 use Rattle.mm_value.specs.declared.refusal.Refusal.{Refusal}
 use Rattle.mm_value.specs.declared.values.Value.{Value}
-use Rattle.mm_query.specs.Machine.{Outcome, after_definition, conditions, definition_conditions, step}
-use Rattle.mm_query.specs.Queries.{bag, bag_of}
+use Rattle.mm_query.specs.Machine.{Outcome, after_definition, definition_conditions}
+use Rattle.mm_query.specs.Queries.{bag_of}
 use Rattle.mm_query.specs.Resolving.{IsQueryWithin}
 use Rattle.mm_query.specs.Standing.{AreBeside, AreBound, HasQueries, tables_read}
-use Rattle.mm_query.specs.State.{State, rows_in}
+use Rattle.mm_query.specs.State.{State}
 use Rattle.mm_query.specs.declared.bound_query.BoundQuery.{BoundQuery}
 use Rattle.mm_query.specs.declared.command.Command.TheVariants.{Define}
 use Rattle.mm_query.specs.declared.command.Definition.{Definition}

@@ -1,6 +1,5 @@
 -- What changes rows does not look at the rows that are saved, and keeps them.
-use Rattle.std.proofs.Common.{◌≡◌, Bool, true, false, cond, Result, Err, List, ◌++◌, Option, Some, None, refl, ap, subst, ◌∙◌}
-use Rattle.mm_query.specs.Binding.{binding_conditions}
+use Rattle.std.proofs.Common.{◌≡◌, Bool, true, false, cond, Result, List, Option, Some, None, refl, ap, subst, ◌∙◌}
 use Rattle.mm_query.specs.Edits.{own_pairs, value_conditions}
 use Rattle.mm_query.specs.Machine.{after_change, change_conditions}
 use Rattle.mm_query.specs.State.{State}

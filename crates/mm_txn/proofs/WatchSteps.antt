@@ -1,12 +1,11 @@
 -- A standing query that comes, and one that goes.
-use Rattle.std.proofs.Common.{◌≡◌, ◌⊎◌, ℕ, zero, suc, ◌+◌, ◌<◌, ◌≤◌, Bool, true, false, cond, not, Result, Ok, Err, OnErr, OnOk, MatchResult, List, [], ◌∷◌, ◌++◌, Option, Some, None, inl, inr, filter, find, is_none, is_some, length, map, nat_le, nat_lt, pos, slice_get, slice_index_or, refl, sym, ap, subst, ◌∙◌, ⊎_elim, arith}
+use Rattle.std.proofs.Common.{◌≡◌, ◌⊎◌, ℕ, zero, suc, ◌+◌, ◌<◌, ◌≤◌, Bool, true, false, cond, not, Result, Ok, Err, OnErr, OnOk, MatchResult, List, [], ◌∷◌, ◌++◌, Option, Some, None, inl, inr, filter, find, is_none, is_some, length, map, nat_le, nat_lt, pos, slice_get, refl, sym, ap, subst, ◌∙◌, ⊎_elim, arith}
 use Rattle.std.specs.List.{All, AllByRecursion, IsDistinct, list_any, position_or_len, remove}
 use Rattle.std.proofs.lemmas.Bool.Decides.{nat_tests}
 use Rattle.std.proofs.lemmas.Bool.{or_from, or_parts}
 use Rattle.std.proofs.lemmas.List.{length-map, map-append}
 use Rattle.std.proofs.lemmas.List.Elements.{All-from_recursion, All-push, recursion_from_All}
 use Rattle.std.proofs.lemmas.Map.Keys.{IsDistinct-head, IsDistinct-tail}
-use Rattle.mm_relation.specs.Kept.{StoredRows}
 use Rattle.mm_schema.specs.Instance.{Instance}
 use Rattle.mm_schema.specs.Name.{same_name}
 use Rattle.mm_schema.specs.Refused.{Condition, first_refusal}
@@ -23,7 +22,7 @@ use Rattle.mm_store.specs.Tables.{Tables, rows_at}
 use Rattle.mm_value.specs.declared.refusal.Refusal.{Refusal}
 use Rattle.mm_value.specs.declared.refusal.Refusal.TheVariants.{NameTaken, NoSuchStandingQuery, StandingListTooLarge, TooMany}
 use Rattle.mm_value.specs.declared.values.Value.{Value}
-use Rattle.mm_query.specs.Machine.{after_definition, definition_conditions}
+use Rattle.mm_query.specs.Machine.{after_definition}
 use Rattle.mm_query.specs.Queries.{bag, bag_of}
 use Rattle.mm_query.specs.Resolving.{IsQueryWithin, passes_query_limits, placed_query}
 use Rattle.mm_query.specs.Standing.{AreBeside, after_watch, outgrows, tables_read, watch_conditions, without_query}
@@ -37,7 +36,7 @@ use Rattle.mm_query.proofs.PlacedQueries.{none_hold}
 use Rattle.mm_plan.specs.From.{places_in}
 use Rattle.mm_standing.specs.Bags.{entries_at}
 use Rattle.mm_standing.specs.Queries.{IsBagOf, RowsByPlace, StandingQuery, bag_over, list_conditions}
-use Rattle.mm_standing.specs.State.{FitNow, Lists}
+use Rattle.mm_standing.specs.State.{Lists}
 use Rattle.mm_txn.specs.Kept.{AreKept, instance_of}
 use Rattle.mm_txn.specs.Rest.{AreAtRest, naming_conditions, state_at_rest}
 use Rattle.mm_txn.specs.Watched.{AreListed, ArePlaced, IsPlaced, queries_of, rows_by_place}

@@ -1,5 +1,5 @@
 -- How the database keeps the machine's standing queries: for each its list, as counts of rows.
-use Rattle.std.specs.Prelude.{◌≡◌, ℕ, ◌≤◌, All, List, [], length, map, slice_index_or}
+use Rattle.std.specs.Prelude.{◌≡◌, ◌≤◌, All, List, [], length, map, slice_index_or}
 use Rattle.mm_schema.specs.Instance.{Instance}
 use Rattle.mm_schema.specs.Schema.{Schema}
 use Rattle.mm_query.specs.Resolving.{IsQueryWithin}

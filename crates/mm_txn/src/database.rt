@@ -51,18 +51,11 @@ pub struct Db {
 
 impl Model for Db {
     ghost use Rattle.mm_query.specs.State.{State};
-    ghost use Rattle.mm_txn.specs.Kept.{instance_of};
-    ghost use Rattle.mm_txn.specs.Saved.{IsConsistent, saved_rows};
-    ghost use Rattle.mm_txn.specs.Watched.{queries_of};
+    ghost use Rattle.mm_txn.specs.Saved.{IsConsistent, kept_state};
 
     ghost Value = { State };
 
-    ghost view = { λ d. record {
-      schema = d.catalog;
-      rows = instance_of d.store.tables;
-      queries = queries_of d.standing.queries;
-      saved = saved_rows d.is_open d.undo d.store;
-    } };
+    ghost view = { λ d. kept_state d.catalog d.store d.undo d.standing d.is_open };
 
     ghost invariant = { λ d. IsConsistent d.catalog d.store d.undo d.standing d.is_open };
 }

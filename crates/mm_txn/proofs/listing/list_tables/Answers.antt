@@ -1,4 +1,4 @@
-use Rattle.std.proofs.Common.{◌≡◌, ◌∙◌}
+use Rattle.std.proofs.Common.{◌∙◌}
 use Rattle.mm_txn.specs.Kept.{instance_of}
 use Rattle.mm_txn.proofs.listing.list_tables.Goals as goal
 

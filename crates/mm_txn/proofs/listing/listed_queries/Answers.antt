@@ -1,5 +1,5 @@
 -- The list at the place of a standing query is its own.
-use Rattle.std.proofs.Common.{◌≡◌, ◌+◌, ◌<◌, ◌≤◌, [], ◌∷◌, ◌++◌, Some, None, length, map, slice_get, slice_index_or, take, refl, ap, subst, ◌∙◌, arith}
+use Rattle.std.proofs.Common.{◌≡◌, ◌<◌, ◌≤◌, [], ◌∷◌, ◌++◌, Some, None, length, map, slice_get, slice_index_or, refl, ap, subst, ◌∙◌}
 use Rattle.std.proofs.lemmas.Option.{slice_get_read}
 use Rattle.mm_txn.specs.Rest.{told_query, told_state}
 use Rattle.mm_txn.proofs.Showing.{counted_by_place, list_there, next_told, take_whole}

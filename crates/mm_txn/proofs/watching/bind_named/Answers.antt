@@ -1,8 +1,8 @@
 -- Of the refusal of the query and that of the name the earlier is due.
-use Rattle.std.proofs.Common.{◌≡◌, Some, inl, inr, sym, ap, ◌∙◌, ⊎_elim}
+use Rattle.std.proofs.Common.{Some, inl, inr, sym, ap, ◌∙◌, ⊎_elim}
 use Rattle.mm_value.specs.declared.refusal.Refusal.{Refusal}
 use Rattle.mm_txn.specs.Rest.{earlier_refusal}
-use Rattle.mm_txn.proofs.Naming.{granted_due, refused_due}
+use Rattle.mm_txn.proofs.Naming.{refused_due}
 use Rattle.mm_txn.proofs.watching.bind_named.Goals as goal
 
 pub returns-in-Err-clause-due : goal.returns-in-Err-clause-due

@@ -1,6 +1,5 @@
 -- The query and the list at the place of the name go.
 use Rattle.std.proofs.Common.{◌≡◌, Some, inl, sym, ap, subst, ◌∙◌, arith}
-use Rattle.std.specs.List.{remove}
 use Rattle.std.proofs.lemmas.Result.{err_from_is_err_and}
 use Rattle.mm_schema.specs.Schema.{Schema}
 use Rattle.mm_schema.specs.Standing.{without_standing}

@@ -1,5 +1,5 @@
 -- A query begins to stand, in the catalog and in the lists, or in neither.
-use Rattle.std.proofs.Common.{◌≡◌, false, List, inl, inr, length, map, sym, ap, subst, ◌∙◌, ⊎_elim}
+use Rattle.std.proofs.Common.{◌≡◌, false, inl, inr, length, map, sym, ap, subst, ◌∙◌, ⊎_elim}
 use Rattle.std.proofs.lemmas.Result.{err_from_is_err_and}
 use Rattle.mm_plan.specs.From.{places_in}
 use Rattle.mm_query.specs.Standing.{tables_read}

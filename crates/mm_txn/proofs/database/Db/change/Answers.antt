@@ -1,11 +1,11 @@
 -- The new rows of the edits' table are the state's, and what is saved stays.
-use Rattle.std.proofs.Common.{◌≡◌, ℕ, cond, Err, Ok, Some, None, length, ap, ◌∙◌, arith}
+use Rattle.std.proofs.Common.{◌≡◌, ℕ, cond, Err, Ok, Some, None, length, sym, ap, subst, ◌∙◌, arith}
 use Rattle.std.proofs.lemmas.Result.{err_from_is_err_and}
 use Rattle.mm_schema.specs.Instance.{Instance}
-use Rattle.mm_query.specs.Edits.{own_pairs}
+use Rattle.mm_query.specs.Edits.{own_pairs, value_conditions}
 use Rattle.mm_query.specs.State.{State}
-use Rattle.mm_standing.specs.Queries.{StandingQuery}
-use Rattle.mm_txn.specs.Kept.{watched_state}
+use Rattle.mm_typing.specs.Typing.{AreTyped}
+use Rattle.mm_txn.specs.Kept.{instance_of, state_of, watched_state}
 use Rattle.mm_txn.specs.Saved.{saved_rows}
 use Rattle.mm_txn.specs.Watched.{queries_of}
 use Rattle.mm_txn.proofs.ChangeSteps.{change_done, change_due, change_refused, change_within, early_due, edits_counted}
@@ -13,6 +13,7 @@ use Rattle.mm_txn.proofs.KeptReferences.{all_to_others}
 use Rattle.mm_txn.proofs.ListedRows.{served}
 use Rattle.mm_txn.proofs.OpenSteps.{changed, refused}
 use Rattle.mm_txn.proofs.SavedRows.{done_beside, due_beside, pairs_beside}
+use Rattle.mm_txn.proofs.TypedSteps.{rows_typed_after}
 use Rattle.mm_txn.proofs.database.Db.change.Goals as goal
 
 pub returns-in_err-table-clause-due : goal.returns-in_err-table-clause-due
@@ -35,12 +36,13 @@ make_edits-requires-clause-served c =
 
 pub invariant_of-self : goal.invariant_of-self
 invariant_of-self c =
+    let back = change_refused c.self.inside.catalog c.self.inside.store.tables c.self.invariant.kept.relations c.args.mutation c.in_ok-table.field-0.table
+    c.in_ok-table.field-0.edits.items c.in_ok-table.ensures.ok c.make_edits.new.store.tables c.in_err-make_edits.ensures.err in
     refused c.self.inside.catalog c.self.inside.store c.self.inside.undo c.self.inside.standing c.self.inside.is_open c.self.invariant
     c.make_edits.new.store c.make_edits.new.undo c.make_edits.new.standing
-    (change_refused c.self.inside.catalog c.self.inside.store.tables c.self.invariant.kept.relations c.args.mutation c.in_ok-table.field-0.table
-    c.in_ok-table.field-0.edits.items c.in_ok-table.ensures.ok c.make_edits.new.store.tables c.in_err-make_edits.ensures.err).1
+    back.1
     c.make_edits.ensures.links c.make_edits.ensures.saved c.make_edits.ensures.fits c.make_edits.ensures.listed c.make_edits.ensures.queries
-    c.make_edits.ensures.undone c.in_err-make_edits.ensures.kept c.in_err-make_edits.ensures.log
+    c.make_edits.ensures.undone back.0 c.in_err-make_edits.ensures.kept c.in_err-make_edits.ensures.log
 
 pub returns-in_err-make_edits-clause-due : goal.returns-in_err-make_edits-clause-due
 returns-in_err-make_edits-clause-due c =
@@ -66,13 +68,18 @@ returns-in_err-make_edits-clause-err c =
 
 pub invariant_of-self-2 : goal.invariant_of-self-2
 invariant_of-self-2 c =
+    let queries = queries_of c.self.inside.standing.queries in
+    let done = change_done c.self.inside.catalog c.self.inside.store.tables c.self.invariant.kept.relations c.args.mutation c.in_ok-table.field-0.table
+    c.in_ok-table.field-0.edits.items c.in_ok-table.ensures.ok queries c.make_edits.new.store.tables c.in_ok-table.ensures.distinct c.in_ok-make_edits.ensures.ok in
+    let typed : AreTyped c.self.inside.catalog.tables (instance_of c.make_edits.new.store.tables) =
+    subst (λ (s : State). AreTyped c.self.inside.catalog.tables s.rows) (sym done.0)
+    (rows_typed_after c.args.mutation (watched_state c.self.inside.catalog c.self.inside.store.tables queries)
+    (value_conditions c.args.mutation (state_of c.self.inside.catalog c.self.inside.store.tables)) c.in_ok-table.ensures.distinct c.in_ok-table.ensures.due
+    c.self.invariant.typed.rows) in
     changed c.self.inside.catalog c.self.inside.store c.self.inside.undo c.self.inside.standing c.self.inside.is_open c.self.invariant
-    c.make_edits.new.store c.make_edits.new.undo c.make_edits.new.standing
-    (change_done c.self.inside.catalog c.self.inside.store.tables c.self.invariant.kept.relations c.args.mutation c.in_ok-table.field-0.table
-    c.in_ok-table.field-0.edits.items c.in_ok-table.ensures.ok (queries_of c.self.inside.standing.queries) c.make_edits.new.store.tables
-    c.in_ok-table.ensures.distinct c.in_ok-make_edits.ensures.ok).1
+    c.make_edits.new.store c.make_edits.new.undo c.make_edits.new.standing done.1
     c.make_edits.ensures.links c.make_edits.ensures.saved c.make_edits.ensures.fits c.make_edits.ensures.listed c.make_edits.ensures.queries
-    c.make_edits.ensures.undone
+    c.make_edits.ensures.undone typed
     c.settle_outside.new.store c.settle_outside.new.undo c.settle_outside.new.standing c.settle_outside.ensures.rows c.settle_outside.ensures.form
     c.settle_outside.ensures.links c.settle_outside.ensures.saved c.settle_outside.ensures.fits c.settle_outside.ensures.queries
     c.settle_outside.ensures.counts c.settle_outside.ensures.ready c.settle_outside.ensures.open c.settle_outside.ensures.settled

@@ -1,7 +1,7 @@
 -- The list at the place of the name is that of its query.
-use Rattle.std.proofs.Common.{◌≡◌, IfOk, Result, Ok, Err, Some, None, List, inl, sym, ap, subst, ◌∙◌, arith}
+use Rattle.std.proofs.Common.{◌≡◌, IfOk, Some, inl, sym, ap, subst, ◌∙◌, arith}
 use Rattle.std.proofs.lemmas.Result.{err_from_is_err_and}
-use Rattle.mm_schema.specs.Refused.{AnswersDue, first_refusal}
+use Rattle.mm_schema.specs.Refused.{first_refusal}
 use Rattle.mm_schema.specs.Standing.{drop_standing_conditions}
 use Rattle.mm_value.specs.declared.refusal.Refusal.{Refusal}
 use Rattle.mm_value.specs.declared.refusal.Refusal.TheVariants.{NoSuchStandingQuery}
