@@ -1,7 +1,7 @@
 mod Assigned
-mod Changes
-mod Definitions
-mod Numbers
+pub mod Changes
+pub mod Definitions
+pub mod Numbers
 mod Places
 mod Queries
 mod Rows
