@@ -11,6 +11,8 @@ pub mod Goes
 pub mod Refs
 pub mod CountUps
 pub mod Terms
+pub mod LeftOut
+pub mod EditedRows
 pub mod Placed
 pub mod Extending
 pub mod Entries

@@ -2,7 +2,7 @@
 use Rattle.std.proofs.Common.{◌≡◌, ◌≢◌, ℕ, zero, suc, ◌+◌, ◌-◌, ◌<◌, ◌≤◌, ◌==◌, ◌++◌, Bool, true, false, cond, nat_lt, not, ◌⊎◌, inl, inr, Option, Some, None, List, [], ◌∷◌, get_or, set, length, map, replicate, subst, take, drop, refl, sym, ap, ◌∙◌, arith}
 use Rattle.std.specs.List.{AllByRecursion, filter, flat_map, range_with_len}
 use Rattle.std.proofs.lemmas.Bool.{cases_eq, cases_order, cond-false, cond-true, eq-eqb, lt-ltb, le-ltb, ne_eqb}
-use Rattle.std.proofs.lemmas.List.{append-nil, append_assoc, get_or-drop, get_or-map, get_or-replicate, get_or-set_other, get_or-set_same, get_or-take, get_or_append_left, get_or_at, get_or-append_right, length-append, length-drop, length-map, length-replicate, length-set, length-take-le, set_at}
+use Rattle.std.proofs.lemmas.List.{append-nil, append_assoc, get_or-drop, get_or-map, get_or-replicate, get_or-set_other, get_or-set_same, get_or-take, get_or_append_left, get_or_at, get_or_past, get_or-append_right, length-append, length-drop, length-map, length-replicate, length-set, length-take-le, set_at}
 use Rattle.std.proofs.lemmas.List.FromFn.{fill_by_all, get_or-map-range_with_len, length-map-range_with_len}
 use Rattle.std.proofs.lemmas.Simd.{map-map}
 use Rattle.mm_query.specs.Queries.{Partial, bag_of, combinations, fits, none_fails, values_of}
@@ -130,7 +130,7 @@ module _ (after before : ℕ → Rows) (row : Row) (from : List ℕ) (k : ℕ) (
   front_long : length (map after (take k from)) ≡ k
   front_long = length-map (take k from) after ∙ length-take-le k from (omega arith)
 
-  lists_long : length lists ≡ length from
+  pub lists_long : length lists ≡ length from
   lists_long =
       omega (arith, length-append (map after (take k from)) ((row ∷ []) ∷ map before (drop (suc k) from)), front_long, length-map (drop (suc k) from) before, length-drop (suc k) from)
 
@@ -163,6 +163,14 @@ module _ (after before : ℕ → Rows) (row : Row) (from : List ℕ) (k : ℕ) (
   each_list j h (inl e) = in_middle j e
   each_list j h (inr (inl e)) = at_front j e
   each_list j h (inr (inr e)) = at_back (j - suc k) j (omega arith) h
+
+  -- The rows at a place.
+  pub get_around : (j : ℕ) → j < length from → get_or lists j [] ≡ cond (j == k) (row ∷ []) (rows_around from k after before j)
+  get_around j h = each_list j h (cases_order j k)
+
+  -- Past the last place there are none.
+  pub past_around : (j : ℕ) → length from ≤ j → get_or lists j [] ≡ []
+  past_around j h = get_or_past lists j [] (omega (arith, h, lists_long))
 
   pub lists_are : lists ≡ map here (range_with_len 0 (length from))
   lists_are = fill_by_all here lists (length from) [] lists_long (λ j h. each_list j h (cases_order j k))

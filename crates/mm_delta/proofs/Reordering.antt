@@ -18,7 +18,7 @@ abbrev tally : List Value → List Value → ℕ
 tally row other = cond (same_row row other) 1 0
 
 -- a row that is counted stands at some place
-place_of : (row : List Value) (rows : Rows) → 0 < count_of row rows → (i : ℕ) × (i < length rows) × (same_row row (get_or rows i row) ≡ true)
+pub place_of : (row : List Value) (rows : Rows) → 0 < count_of row rows → (i : ℕ) × (i < length rows) × (same_row row (get_or rows i row) ≡ true)
 place_of row [] h = absurd (omega arith)
 place_of row (r ∷ rows) h = by (same_row row r) refl (omega (arith, h, sum_by-cons (tally row) r rows)) (place_of row rows)
   where

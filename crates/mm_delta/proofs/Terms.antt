@@ -20,9 +20,9 @@ use Rattle.mm_query.specs.Queries.{bag_of}
 use Rattle.mm_query.specs.declared.bound_query.BoundQuery.{BoundQuery}
 use Rattle.mm_delta.specs.Counts.{Entries, count_in, count_of}
 use Rattle.mm_delta.specs.Edited.{after_at, before_at, come_at, edits_at, gone_at}
-use Rattle.mm_delta.specs.Steps.{EachFit, HasTables, coming, reads_for}
+use Rattle.mm_delta.specs.Steps.{EachFit, HasTables, coming, row_reads}
 use Rattle.mm_delta.specs.Terms.{lists_around}
-use Rattle.mm_delta.specs.Walk.{one_row, other_places}
+use Rattle.mm_delta.specs.Walk.{other_places}
 use Rattle.mm_delta.specs.declared.edited.TableEdits.{TableEdits}
 use Rattle.mm_delta.proofs.ByRows.{count_by_rows}
 use Rattle.mm_delta.proofs.SumOfTerms.{half, half_all, one_place}
@@ -80,9 +80,6 @@ others_there tables store k all = tables_from tables store k 0 (length tables) (
 
 -- ---- one place
 
-abbrev pub row_reads : BoundQuery → Tables → List TableEdits → List ℕ → ℕ → List Value → ℕ
-row_reads q store changes tables k x = reads_for q store changes tables k (other_places (length tables) k) (one_row (length tables) k x)
-
 -- What some edited rows add, where the store is another name of the one before.
 pub term_count : (q : BoundQuery) (store now : Tables) (changes : List TableEdits) (tables : List ℕ) (k : ℕ) (row : List Value)
     (edited : ℕ → List (List Value)) (rows : List (List Value)) (old new : ℕ) → now ≡ store → rows ≡ edited (get_or tables k 0)
@@ -94,9 +91,9 @@ term_count q store now changes tables k row edited rows old new same is h =
     ∙ ap (λ n. old + n) (sym (count_by_rows q (after_at store changes) edited (before_at store) tables k row))
 
 -- What they read, likewise.
-pub reads_same : (q : BoundQuery) (store now : Tables) (changes : List TableEdits) (tables : List ℕ) (k : ℕ) (rows edited : List (List Value))
-    → now ≡ store → rows ≡ edited → sum_by (λ x. row_reads q now changes tables k x) rows ≡ sum_by (λ x. row_reads q store changes tables k x) edited
-reads_same q store now changes tables k rows edited same is = λ i. sum_by (λ x. row_reads q (same i) changes tables k x) (is i)
+pub reads_same : (q : BoundQuery) (store now : Tables) (changes : List TableEdits) (tables : List ℕ) (skipped : ℕ → List Value → Bool) (k : ℕ) (rows edited : List (List Value))
+    → now ≡ store → rows ≡ edited → sum_by (row_reads q now changes tables skipped k) rows ≡ sum_by (row_reads q store changes tables skipped k) edited
+reads_same q store now changes tables skipped k rows edited same is = λ i. sum_by (row_reads q (same i) changes tables skipped k) (is i)
 
 ones : (f : List Value → ℕ) (xs : List (List Value)) → sum_by (λ x. 1 + f x) xs ≡ length xs + sum_by f xs
 ones f [] = refl

@@ -52,10 +52,17 @@ abbrev pub reads_for : BoundQuery → Tables → List TableEdits → List ℕ �
 reads_for query store changes tables k places rows =
     candidates (λ j. has_index store (get_or tables j 0)) query.atoms (λ j. before_at store (get_or tables j 0)) (walked store changes tables k) places rows
 
--- How many rows may be read for the edited rows at a place of FROM: for each of them it itself, and those with which it may be combined.
-abbrev pub term_reads : BoundQuery → Tables → List TableEdits → List ℕ → ℕ → ℕ
-term_reads query store changes tables k =
-    sum_by (λ row. 1 + reads_for query store changes tables k (other_places (length tables) k) (one_row (length tables) k row))
+-- How many rows may be read for an edited row at a place of FROM beside it itself: those with which it may be combined, and none
+-- where the row is skipped.
+abbrev pub row_reads : BoundQuery → Tables → List TableEdits → List ℕ → (ℕ → List Value → Bool) → ℕ → List Value → ℕ
+row_reads query store changes tables skipped k row =
+    if skipped k row then 0 else reads_for query store changes tables k (other_places (length tables) k) (one_row (length tables) k row)
+
+-- How many rows may be read for the edited rows at a place of FROM: for each of them it itself, and those with which it may be
+-- combined, where the row is not skipped.
+abbrev pub term_reads : BoundQuery → Tables → List TableEdits → List ℕ → (ℕ → List Value → Bool) → ℕ → ℕ
+term_reads query store changes tables skipped k =
+    sum_by (λ row. 1 + row_reads query store changes tables skipped k row)
     (gone_at store changes (get_or tables k 0) ++ come_at changes (get_or tables k 0))
 
 -- The edits of a table that count at a place while place k has an edited row: all of them before it, and none behind it.

@@ -1,5 +1,5 @@
 //! By how much a query's bag changes when tables are edited.
-ghost use Rattle.std.specs.Prelude.{◌≡◌, ◌≢◌, ◌+◌, ◌<◌, ◌≤◌, ◌^◌, ◌<ℤ◌, neg_ℤ, pos, List, length, map, All, IfErr, IfOk};
+ghost use Rattle.std.specs.Prelude.{◌≡◌, ◌≢◌, ℕ, ◌+◌, ◌<◌, ◌≤◌, ◌^◌, ◌<ℤ◌, neg_ℤ, pos, Bool, List, length, map, All, IfErr, IfOk};
 ghost use Rattle.std.specs.List.{IsDistinct, range_with_len, sum_by};
 ghost use Rattle.mm_value.specs.Equality.{same_row};
 ghost use Rattle.mm_value.specs.declared.refusal.Refusal.TheVariants.{Memory};
@@ -8,6 +8,7 @@ ghost use Rattle.mm_delta.specs.Change.{change_between};
 ghost use Rattle.mm_delta.specs.Counts.{signed_count};
 ghost use Rattle.mm_delta.specs.declared.signed.Signed.{Signed as Change};
 ghost use Rattle.mm_delta.specs.Edited.{after_at, before_at};
+ghost use Rattle.mm_delta.specs.Skipping.{IsOfCyclicRows, IsTypeTested};
 ghost use Rattle.mm_delta.specs.Steps.{EachFit, term_reads};
 
 use crate::counted::Counted;
@@ -23,8 +24,9 @@ use std::alloc::Global;
 
 /// By how much the count of each row in a query's bag changes when tables are edited: one entry for each row whose count
 /// changes, and none for any other. `tables` are the store's places of the tables of FROM, at most 4, in their order; the edits
-/// of each table fit it, and are not made yet. Of a table only rows that go are read, and those that an edited row may be
-/// combined with. `Memory` is the only refusal; nothing but the count of reads has changed then.
+/// of each table fit it, and are not made yet; no atom adds a number to a text. Of a table only rows that go are read, and those
+/// that an edited row may be combined with; none are for an edited row of which a cycle shows that no combination with it fits.
+/// `Memory` is the only refusal; nothing but the count of reads has changed then.
 pub fn delta<'c, 'a: 'c>(
     alloc: Global,
     view: &mut View<'a>,
@@ -35,13 +37,14 @@ pub fn delta<'c, 'a: 'c>(
     requires few { length tables.now ≤ 4 }
     requires there { All (λ table. table < length view.old.store.tables) tables.now }
     requires fit { EachFit view.old.store changes.now }
+    requires typed { IsTypeTested query.now view.old.store changes.now tables.now }
     ensures change { IfOk result (λ found. (row : List AnyValue) → signed_count row found.items
         ≡ change_between query.now (map (before_at view.old.store) tables.now) (map (after_at view.old.store changes.now) tables.now) row) }
     ensures once { IfOk result (λ found. IsDistinct same_row (map (λ (change : Change). change.row) found.items)) }
     ensures nonzero { IfOk result (λ found. All (λ (change : Change). change.count ≢ pos 0) found.items) }
     ensures small { IfOk result (λ found. All (λ (change : Change). (neg_ℤ (pos (2 ^ 64)) <ℤ change.count) × (change.count <ℤ pos (2 ^ 64))) found.items) }
-    ensures reads { view.new.reads ≤ view.old.reads
-        + sum_by (term_reads query.now view.old.store changes.now tables.now) (range_with_len 0 (length tables.now)) }
+    ensures reads { (skipped : ℕ → List AnyValue → Bool) → IsOfCyclicRows query.now skipped → view.new.reads ≤ view.old.reads
+        + sum_by (term_reads query.now view.old.store changes.now tables.now skipped) (range_with_len 0 (length tables.now)) }
     ensures same { view.new.store ≡ view.old.store }
     ensures memory { IfErr result (λ refusal. refusal ≡ Memory) }
 {

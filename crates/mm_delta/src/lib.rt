@@ -17,6 +17,7 @@ mod law;
 mod look_up;
 mod rows;
 mod signed;
+mod skipped;
 mod term;
 mod walk;
 

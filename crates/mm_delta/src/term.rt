@@ -1,5 +1,5 @@
 //! What the edited rows at one place of FROM add.
-ghost use Rattle.std.specs.Prelude.{◌≡◌, ◌+◌, ◌<◌, ◌≤◌, ◌++◌, [], ◌∷◌, List, length, map, All, IfErr, IfOk, OnOk};
+ghost use Rattle.std.specs.Prelude.{◌≡◌, ℕ, ◌+◌, ◌<◌, ◌≤◌, ◌++◌, Bool, [], ◌∷◌, List, get_or, length, map, All, IfErr, IfOk, OnOk};
 ghost use Rattle.std.specs.List.{cons_option, sum_by};
 ghost use Rattle.mm_partition.specs.Places.{slot_at};
 ghost use Rattle.mm_relation.specs.Edits.{edit_name, named, new_rows};
@@ -12,9 +12,10 @@ ghost use Rattle.mm_value.specs.declared.values.Value.{Value as AnyValue};
 ghost use Rattle.mm_query.specs.Queries.{bag_of};
 ghost use Rattle.mm_delta.specs.Counts.{count_in, count_of};
 ghost use Rattle.mm_delta.specs.Edited.{after_at, before_at, come_at, gone_at};
-ghost use Rattle.mm_delta.specs.Steps.{EachFit, HasTables, reads_for, term_reads};
+ghost use Rattle.mm_delta.specs.Skipping.{IsOfCyclicRows, IsRowOf, IsTypeTested};
+ghost use Rattle.mm_delta.specs.Steps.{EachFit, HasTables, row_reads, term_reads};
 ghost use Rattle.mm_delta.specs.Terms.{lists_around};
-ghost use Rattle.mm_delta.specs.Walk.{one_row, other_places};
+ghost use Rattle.mm_delta.specs.Walk.{other_places};
 
 use crate::counted::Counted;
 use crate::edited::row_gone;
@@ -39,13 +40,15 @@ impl<'c> Walk<'_, 'c> {
         requires few { length self.now.tables.now ≤ 4 }
         requires there { HasTables self.now.tables.now view.old.store (other_places (length self.now.tables.now) self.now.place) }
         requires fit { EachFit view.old.store self.now.changes.now }
+        requires typed { IsTypeTested self.now.query.now view.old.store self.now.changes.now self.now.tables.now }
+        requires edited { All (IsRowOf view.old.store self.now.changes.now (get_or self.now.tables.now self.now.place 0)) (map (λ row. row.now) rows.now) }
         ensures counted { OnOk result ((other : List AnyValue) → count_in other out.new.entries ≡ count_in other out.old.entries
             + sum_by (λ x. count_of other (bag_of self.now.query.now
             (lists_around 0 (after_at view.old.store self.now.changes.now) (λ _. x ∷ []) (before_at view.old.store) self.now.tables.now self.now.place)))
             (map (λ row. row.now) rows.now)) }
-        ensures reads { let n = length self.now.tables.now in view.new.reads ≤ view.old.reads
-            + sum_by (λ x. reads_for self.now.query.now view.old.store self.now.changes.now self.now.tables.now self.now.place
-            (other_places n self.now.place) (one_row n self.now.place x)) (map (λ row. row.now) rows.now) }
+        ensures reads { (skipped : ℕ → List AnyValue → Bool) → IsOfCyclicRows self.now.query.now skipped → view.new.reads ≤ view.old.reads
+            + sum_by (row_reads self.now.query.now view.old.store self.now.changes.now self.now.tables.now skipped self.now.place)
+            (map (λ row. row.now) rows.now) }
         ensures same { view.new.store ≡ view.old.store }
         ensures memory { IfErr result (λ refusal. refusal ≡ Memory) }
     {
@@ -68,18 +71,20 @@ impl<'c> Walk<'_, 'c> {
         requires few { length self.now.tables.now ≤ 4 }
         requires there { All (λ table. table < length view.old.store.tables) self.now.tables.now }
         requires fit { EachFit view.old.store self.now.changes.now }
+        requires typed { IsTypeTested self.now.query.now view.old.store self.now.changes.now self.now.tables.now }
         ensures comes { OnOk result ((row : List AnyValue) → count_in row comes.new.entries ≡ count_in row comes.old.entries
             + count_of row (bag_of self.now.query.now (lists_around 0 (after_at view.old.store self.now.changes.now) (come_at self.now.changes.now)
             (before_at view.old.store) self.now.tables.now self.now.place))) }
         ensures goes { OnOk result ((row : List AnyValue) → count_in row goes.new.entries ≡ count_in row goes.old.entries
             + count_of row (bag_of self.now.query.now (lists_around 0 (after_at view.old.store self.now.changes.now) (gone_at view.old.store self.now.changes.now)
             (before_at view.old.store) self.now.tables.now self.now.place))) }
-        ensures reads { view.new.reads ≤ view.old.reads
-            + term_reads self.now.query.now view.old.store self.now.changes.now self.now.tables.now self.now.place }
+        ensures reads { (skipped : ℕ → List AnyValue → Bool) → IsOfCyclicRows self.now.query.now skipped → view.new.reads ≤ view.old.reads
+            + term_reads self.now.query.now view.old.store self.now.changes.now self.now.tables.now skipped self.now.place }
         ensures same { view.new.store ≡ view.old.store }
         ensures memory { IfErr result (λ refusal. refusal ≡ Memory) }
     {
         let table = self.tables[self.place];
+        view.is_kept(table);
         let edits = self.changes.edits_of(table);
         let gone = rows_gone(alloc, view, table, edits)?;
         let come = rows_come(alloc, edits)?;

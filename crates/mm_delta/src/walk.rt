@@ -1,15 +1,17 @@
 //! The combinations that have an edited row at one place of FROM.
-ghost use Rattle.std.specs.Prelude.{◌≡◌, ◌+◌, ◌<◌, ◌≤◌, [], ◌∷◌, List, length, map, get_or, IfErr, IfOk, IfSome, OnOk};
+ghost use Rattle.std.specs.Prelude.{◌≡◌, ◌↔◌, ◌⊎◌, ℕ, ◌+◌, ◌<◌, ◌≤◌, Bool, false, [], ◌∷◌, List, length, map, get_or, IfErr, IfOk, IfSome, IsTrue, OnOk};
 ghost use Rattle.mm_value.specs.declared.refusal.Refusal.TheVariants.{Memory};
 ghost use Rattle.mm_value.specs.declared.values.Value.{Value as AnyValue};
-ghost use Rattle.mm_query.specs.Queries.{bag_of};
+ghost use Rattle.mm_query.specs.Queries.{bag_of, none_fails as none_fails_lem};
 ghost use Rattle.mm_delta.specs.Beside.{edits_beside};
 ghost use Rattle.mm_delta.specs.Candidates.{having, required};
 ghost use Rattle.mm_delta.specs.Counts.{count_in, count_of};
 ghost use Rattle.mm_delta.specs.Edited.{after_at, before_at, has_index, walked};
-ghost use Rattle.mm_delta.specs.Steps.{AreAlike, EachFit, HasTables, IsServed, asked, edits_walked, reads_for};
+ghost use Rattle.mm_delta.specs.Skipping.{IsOfCyclicRows, IsRowOf, IsTypeTested};
+ghost use Rattle.mm_delta.specs.Steps.{AreAlike, EachFit, HasTables, IsServed, asked, edits_walked, reads_for, row_reads};
 ghost use Rattle.mm_delta.specs.Terms.{lists_around};
-ghost use Rattle.mm_delta.specs.Walk.{AreOpen, found, one_row, other_places as other_places_lem};
+ghost use Rattle.mm_delta.specs.Walk.{AreOpen, found, other_places as other_places_lem};
+ghost use Rattle.mm_relevance.specs.Relevance.{IsCyclic};
 
 use crate::beside::Beside;
 use crate::chosen::Chosen;
@@ -18,6 +20,7 @@ use crate::counting::count_row;
 use crate::indexed_changes::IndexedChanges;
 use crate::look_up::{LookUp, Site};
 use crate::rows::{read_all, references};
+use crate::skipped::is_skipped;
 use arrayvec::ArrayVec;
 use mm_query::{BoundQuery, MAX_FROM, none_fails, values_of};
 use mm_store::View;
@@ -142,8 +145,21 @@ impl<'w, 'c> Walk<'w, 'c> {
         }
     }
 
-    /// Counts the projected row of each fitting combination that has this row at the place of the edited row. `Memory` is the
-    /// only refusal.
+    /// Whether the row at the place of the edited row, of which alone these rows consist, is left out, since no combination with
+    /// it fits: an atom is false of it already, or it has a cycle. No row is read. `Memory` is the only refusal.
+    fn is_left_out(&self, alloc: Global, chosen: &Chosen<'c>, row: &Row) -> Result<bool, Refusal>
+        ensures ok { IfOk result (λ left_out. IsTrue left_out
+            ↔ ((none_fails_lem self.now.query.now.atoms chosen.now ≡ false) ⊎ IsCyclic self.now.query.now self.now.place row.now)) }
+        ensures memory { IfErr result (λ refusal. refusal ≡ Memory) }
+    {
+        if !none_fails(self.query.atoms.as_slice(), chosen.as_slice()) {
+            return Ok(true);
+        }
+        is_skipped(alloc, self.query, self.place, row)
+    }
+
+    /// Counts the projected row of each fitting combination that has this row at the place of the edited row. Nothing is read
+    /// where the row has a cycle, or an atom is false of it already. `Memory` is the only refusal.
     pub(crate) fn from_row<'a: 'c>(
         &self,
         alloc: Global,
@@ -155,17 +171,22 @@ impl<'w, 'c> Walk<'w, 'c> {
         requires few { length self.now.tables.now ≤ 4 }
         requires there { HasTables self.now.tables.now view.old.store (other_places_lem (length self.now.tables.now) self.now.place) }
         requires fit { EachFit view.old.store self.now.changes.now }
+        requires typed { IsTypeTested self.now.query.now view.old.store self.now.changes.now self.now.tables.now }
+        requires edited { IsRowOf view.old.store self.now.changes.now (get_or self.now.tables.now self.now.place 0) row.now }
         ensures counted { OnOk result ((other : List AnyValue) → count_in other out.new.entries ≡ count_in other out.old.entries
             + count_of other (bag_of self.now.query.now
             (lists_around 0 (after_at view.old.store self.now.changes.now) (λ _. row.now ∷ []) (before_at view.old.store) self.now.tables.now self.now.place))) }
-        ensures reads { let n = length self.now.tables.now in view.new.reads ≤ view.old.reads
-            + reads_for self.now.query.now view.old.store self.now.changes.now self.now.tables.now self.now.place
-            (other_places_lem n self.now.place) (one_row n self.now.place row.now) }
+        ensures reads { (skipped : ℕ → List AnyValue → Bool) → IsOfCyclicRows self.now.query.now skipped → view.new.reads ≤ view.old.reads
+            + row_reads self.now.query.now view.old.store self.now.changes.now self.now.tables.now skipped self.now.place row.now }
         ensures same { view.new.store ≡ view.old.store }
         ensures memory { IfErr result (λ refusal. refusal ≡ Memory) }
     {
         let places = self.tables.len();
         let chosen = Chosen::new(places).with(self.place, row);
+        let left_out = self.is_left_out(alloc, &chosen, row)?;
+        if left_out {
+            return Ok(());
+        }
         let others = other_places(places, self.place);
         self.extend(alloc, view, &chosen, &others, out)
     }

@@ -1,4 +1,5 @@
 pub mod Bags
 pub mod Queries
+pub mod Reads
 pub mod Showing
 pub mod State

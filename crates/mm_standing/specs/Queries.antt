@@ -1,6 +1,6 @@
 -- Standing queries, and what their lists are to hold (materialized views kept by counts: Blakeley, Larson and Tompa).
 use Rattle.std.specs.Prelude.{◌≡◌, ℕ, ℤ, pos, ◌<◌, ◌≤◌, All, Bool, if◌then◌else◌, List, [], ◌∷◌, Some, length, map, nat_lt, slice_get}
-use Rattle.std.specs.List.{list_any, range_with_len, sum_by}
+use Rattle.std.specs.List.{list_any}
 use Rattle.mm_schema.specs.Refused.{Condition}
 use Rattle.mm_store.specs.Tables.{Tables}
 use Rattle.mm_value.specs.declared.refusal.Refusal.TheVariants.{StandingListTooLarge}
@@ -8,8 +8,6 @@ use Rattle.mm_value.specs.declared.values.Value.{Value}
 use Rattle.mm_query.specs.Queries.{bag_of, one_of_each, shown}
 use Rattle.mm_query.specs.declared.bound_query.BoundQuery.{BoundQuery}
 use Rattle.mm_delta.specs.Counts.{Entries, count_in, count_of}
-use Rattle.mm_delta.specs.Steps.{term_reads}
-use Rattle.mm_delta.specs.declared.edited.TableEdits.{TableEdits}
 
 -- A query, and the place in the store of each table of its FROM list.
 pub record StandingQuery : Type 0 where
@@ -57,11 +55,3 @@ list_conditions rows = record { holds = is_too_large rows; refusal = StandingLis
 abbrev pub change_conditions : RowsByPlace → List StandingQuery → List Condition
 change_conditions after queries =
     record { holds = list_any (λ standing. is_too_large (bag_over after standing)) queries; refusal = StandingListTooLarge } ∷ []
-
--- ---- how many rows are read
-
--- How many rows may be read for a standing query when tables are edited: for each edited row at each place of its FROM that row,
--- and those with which it may be combined. None where it reads no table that is edited.
-abbrev pub query_reads : Tables → List TableEdits → StandingQuery → ℕ
-query_reads store changes standing =
-    sum_by (term_reads standing.query store changes standing.tables) (range_with_len 0 (length standing.tables))

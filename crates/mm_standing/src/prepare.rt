@@ -3,11 +3,13 @@ ghost use Rattle.std.specs.Prelude.{◌≡◌, ◌++◌, ◌+◌, ◌≤◌, ◌
 ghost use Rattle.std.specs.List.{sum_by};
 ghost use Rattle.mm_delta.specs.Counts.{Counts as BagCounts, count_in};
 ghost use Rattle.mm_delta.specs.Edited.{after_at, before_at};
+ghost use Rattle.mm_delta.specs.Skipping.{IsTypeTested};
 ghost use Rattle.mm_delta.specs.Steps.{EachFit};
 ghost use Rattle.mm_delta.specs.declared.signed.Signed.{Signed as Change};
 ghost use Rattle.mm_schema.specs.Refused.{AnswersDue, first_refusal};
 ghost use Rattle.mm_standing.specs.Bags.{Brings, CanAdd, IsSmall, count_with, done_of, entries_at, number_for, opposite, room_at, sum_over};
-ghost use Rattle.mm_standing.specs.Queries.{AreCounts, IsBagOf, IsServed, bag_over, change_conditions, list_conditions, query_reads};
+ghost use Rattle.mm_standing.specs.Queries.{AreCounts, IsBagOf, IsServed, bag_over, change_conditions, list_conditions};
+ghost use Rattle.mm_standing.specs.Reads.{AreOfCyclicRows, AreTypeTested, RowTests, query_reads};
 ghost use Rattle.mm_standing.specs.State.{AreFew, AreServed};
 ghost use Rattle.mm_standing.specs.declared.change.ListChange.{ListChange as AnyChange};
 ghost use Rattle.mm_standing.specs.declared.change.Prepared.{Prepared as AnyPrepared};
@@ -81,8 +83,8 @@ fn opposite(alloc: Global, change: &ListChange) -> Result<ListChange, Refusal>
 }
 
 /// By how much the counts of the rows of each list change when tables are edited. The changes are made from the last to the first.
-/// The edits fit the view's rows and are not made yet; the lists fit them too. `StandingListTooLarge` where a list would have more
-/// than 1,048,576 rows; `Memory` may come in its place and in that of success.
+/// The edits fit the view's rows and are not made yet; the lists fit them too; and no query adds a number to a text.
+/// `StandingListTooLarge` where a list would have more than 1,048,576 rows; `Memory` may come in its place and in that of success.
 pub(crate) fn changes_of_lists<'a>(
     alloc: Global,
     view: &mut View<'a>,
@@ -93,6 +95,7 @@ pub(crate) fn changes_of_lists<'a>(
     requires size { length queries.now ≡ length bags.now }
     requires served { AreServed view.old.store queries.now }
     requires edits { EachFit view.old.store changes.now }
+    requires typed { AreTypeTested view.old.store changes.now queries.now }
     requires fits { AreCounts (λ list row. pos (count_in row (entries_at bags.now list))) (before_at view.old.store) queries.now }
     requires few { AreFew (before_at view.old.store) queries.now }
     requires within { CanAdd bags.now [] }
@@ -101,7 +104,8 @@ pub(crate) fn changes_of_lists<'a>(
     ensures small { IfOk result (λ found. All IsSmall found.items) }
     ensures within { IfOk result (λ found. CanAdd bags.now found.items) }
     ensures counts { IfOk result (λ found. AreCounts (count_with bags.now found.items) (after_at view.old.store changes.now) queries.now) }
-    ensures reads { view.new.reads ≤ view.old.reads + sum_by (query_reads view.old.store changes.now) queries.now }
+    ensures reads { (skipped : RowTests) → AreOfCyclicRows skipped
+        → view.new.reads ≤ view.old.reads + sum_by (query_reads view.old.store changes.now skipped) queries.now }
     ensures same { view.new.store ≡ view.old.store }
 {
     let mut found = Vec::new(alloc);
@@ -123,11 +127,13 @@ fn changes_of_list<'a>(
 ) -> Result<Vec<Signed>, Refusal>
     requires served { IsServed view.old.store watched.now }
     requires edits { EachFit view.old.store changes.now }
+    requires typed { IsTypeTested watched.now.query view.old.store changes.now watched.now.tables }
     requires fits { IsBagOf bag.now.entries (bag_over (before_at view.old.store) watched.now) }
     requires few { length (bag_over (before_at view.old.store) watched.now) ≤ 1048576 }
     ensures due { AnswersDue (first_refusal (list_conditions (bag_over (after_at view.old.store changes.now) watched.now))) result }
     ensures brings { IfOk result (λ changed. Brings changed.items bag.now.entries (bag_over (after_at view.old.store changes.now) watched.now)) }
-    ensures reads { view.new.reads ≤ view.old.reads + query_reads view.old.store changes.now watched.now }
+    ensures reads { (skipped : RowTests) → AreOfCyclicRows skipped
+        → view.new.reads ≤ view.old.reads + query_reads view.old.store changes.now skipped watched.now }
     ensures same { view.new.store ≡ view.old.store }
 {
     let changed = delta(

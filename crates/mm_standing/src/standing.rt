@@ -9,7 +9,8 @@ ghost use Rattle.mm_schema.specs.References.{above};
 ghost use Rattle.mm_schema.specs.Refused.{AnswersDue, first_refusal};
 ghost use Rattle.mm_store.specs.Tables.{rows_at};
 ghost use Rattle.mm_standing.specs.Bags.{CanAdd, IsSmall, Made, done_of, entries_at};
-ghost use Rattle.mm_standing.specs.Queries.{IsBagOf, StandingQuery, bag_over, change_conditions, list_conditions, query_reads, shown_of};
+ghost use Rattle.mm_standing.specs.Queries.{IsBagOf, StandingQuery, bag_over, change_conditions, list_conditions, shown_of};
+ghost use Rattle.mm_standing.specs.Reads.{AreOfCyclicRows, AreTypeTested, RowTests, query_reads};
 ghost use Rattle.mm_standing.specs.State.{AreFew, AreServed, FitNow, FitPrepared, count_at};
 ghost use Rattle.mm_value.specs.declared.values.Value.TheVariants.{Int};
 ghost use Rattle.mm_standing.specs.declared.change.ListChange.{ListChange as AnyChange};
@@ -226,8 +227,9 @@ impl Standing {
 
     /// Makes ready what edits of tables change of the lists, with all memory that the change and its undoing ask for. The edits
     /// fit the view's rows and are not made yet. It asks for nothing prepared, for lists that fit the view's rows and have at most
-    /// 1,048,576 rows each, and for a view that has read none. The change of each list is the sum of the terms of Blakeley, Larson
-    /// and Tompa's expansion: only rows that the edits concern are read.
+    /// 1,048,576 rows each, for queries that add no number to a text of a row before or after the edits, and for a view that has
+    /// read none. The change of each list is the sum of the terms of Blakeley, Larson and Tompa's expansion: only rows that the
+    /// edits concern are read, and none is combined with an edited row that a cycle shows to be irrelevant.
     ///
     /// `StandingListTooLarge` where over the rows after the edits more than 1,048,576 combinations fit some standing query;
     /// `Memory` may come in its place and in that of success. Then nothing is prepared.
@@ -240,6 +242,7 @@ impl Standing {
         requires prepared { self.old.prepared ≡ [] }
         requires served { AreServed view.old.store self.old.queries }
         requires edits { EachFit view.old.store changes.now }
+        requires typed { AreTypeTested view.old.store changes.now self.old.queries }
         requires fits { FitNow (before_at view.old.store) self.old }
         requires few { AreFew (before_at view.old.store) self.old.queries }
         requires start { view.old.reads ≡ 0 }
@@ -248,7 +251,8 @@ impl Standing {
         ensures err { OnErr result (self.new.prepared ≡ []) }
         ensures entries { map (λ (bag : BagCounts). bag.entries) self.new.bags ≡ map (λ (bag : BagCounts). bag.entries) self.old.bags }
         ensures rest { self.new ≡ record self.old { bags = self.new.bags; prepared = self.new.prepared; reads = view.new.reads } }
-        ensures reads { view.new.reads ≤ sum_by (query_reads view.old.store changes.now) self.old.queries }
+        ensures reads { (skipped : RowTests) → AreOfCyclicRows skipped
+            → view.new.reads ≤ sum_by (query_reads view.old.store changes.now skipped) self.old.queries }
         ensures same { view.new.store ≡ view.old.store }
     {
         let found = changes_of_lists(

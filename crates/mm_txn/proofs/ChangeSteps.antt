@@ -257,6 +257,17 @@ module _ (schema : Schema) (rs : List StoredRows) (are : AreOf schema.tables rs)
       (list_conditions (rows_edited (record { tables = rs; links = links }) place edits) lists) growth)
       (each stored there)
 
+  module _ (queries : List BoundQuery) where
+    -- The rows with the edits made are those after the change.
+    pub edited_after : HasDistinctNames schema → (links : List Reference)
+        → rows_edited (record { tables = rs; links = links }) place edits ≡ rows_by_place (after_change mutation (watched_state schema rs queries)).rows
+    edited_after distinct links =
+        let stored = stored_there.0 in
+        let there = stored_there.1 in
+        edited_is (record { tables = rs; links = links }) place edits stored there
+        ∙ ap rows_by_place (sym (all_rows_after schema rs are queries mutation place are_edits.placed stored there (edit_pairs (slot_at stored.places) edits)
+        (own queries stored there) distinct))
+
   module _ (queries : List BoundQuery) (tables : List StoredRows) where
     pub change_done : HasDistinctNames schema → ((stored : StoredRows) → slice_get rs place ≡ Some stored
         → (new : StoredRows) × (tables ≡ slice_set rs place new) × HasRows stored (rows_with stored edits) new)

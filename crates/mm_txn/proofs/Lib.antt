@@ -16,4 +16,5 @@ mod Naming
 mod Placed
 mod WatchSteps
 mod Showing
+mod TestedQueries
 mod TypedSteps

@@ -1,11 +1,12 @@
 -- How the database keeps the machine's standing queries: for each its list, as counts of rows.
-use Rattle.std.specs.Prelude.{◌≡◌, ◌≤◌, All, List, [], length, map, slice_index_or}
+use Rattle.std.specs.Prelude.{◌≡◌, ◌≤◌, All, List, [], get_or, length, map, slice_index_or}
 use Rattle.mm_schema.specs.Instance.{Instance}
 use Rattle.mm_schema.specs.Schema.{Schema}
 use Rattle.mm_query.specs.Resolving.{IsQueryWithin}
 use Rattle.mm_query.specs.Standing.{AreBeside}
 use Rattle.mm_query.specs.declared.bound_query.BoundQuery.{BoundQuery}
 use Rattle.mm_plan.specs.From.{places_in}
+use Rattle.mm_relevance.specs.Relevance.{AddsToNumbers}
 use Rattle.mm_standing.specs.Queries.{RowsByPlace, StandingQuery}
 use Rattle.mm_standing.specs.State.{AreFew, FitNow, Lists}
 
@@ -27,6 +28,13 @@ pub record IsPlaced (schema : Schema) (standing : StandingQuery) : Type 0 where
 pub record ArePlaced (schema : Schema) (standing : List StandingQuery) : Type 0 where
   pub beside : AreBeside schema.standing (queries_of standing)
   pub placed : All (IsPlaced schema) standing
+
+-- A standing query has a place for each table of its FROM, and adds no number to a text, neither of the rows before a change nor of
+-- those after it.
+pub record IsTested (old new : RowsByPlace) (standing : StandingQuery) : Type 0 where
+  pub whole : length standing.tables ≡ length standing.query.from
+  pub before : AddsToNumbers standing.query (λ j. old (get_or standing.tables j 0))
+  pub after : AddsToNumbers standing.query (λ j. new (get_or standing.tables j 0))
 
 -- Each list has just the rows of its query over these rows of the tables, at most 1,048,576, and nothing is prepared.
 pub record AreListed (rows : Instance) (lists : Lists) : Type 0 where

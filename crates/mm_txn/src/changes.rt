@@ -1,5 +1,5 @@
 //! Changes of rows, and of the lists of standing queries with them.
-ghost use Rattle.std.specs.Prelude.{◌≡◌, ℕ, ◌<◌, ◌++◌, true, false, List, [], length, map, OnOk, OnErr};
+ghost use Rattle.std.specs.Prelude.{◌≡◌, ℕ, ◌<◌, ◌++◌, All, true, false, List, [], length, map, OnOk, OnErr};
 ghost use Rattle.mm_relation.specs.Index.{EachTurns};
 ghost use Rattle.mm_relation.specs.Kept.{StoredRows};
 ghost use Rattle.mm_relation.specs.RowLists.{rows_of};
@@ -14,7 +14,7 @@ ghost use Rattle.mm_value.specs.declared.values.Value.{Value};
 ghost use Rattle.mm_txn.specs.Kept.{instance_of};
 ghost use Rattle.mm_txn.specs.Saved.{IsSettled, saved_rows};
 ghost use Rattle.mm_txn.specs.TableEdits.{rows_edited};
-ghost use Rattle.mm_txn.specs.Watched.{AreListed};
+ghost use Rattle.mm_txn.specs.Watched.{AreListed, IsTested, rows_by_place};
 
 use mm_delta::TableEdits;
 use mm_relation::Edit;
@@ -38,6 +38,7 @@ pub(crate) fn make_edits(
     requires fits { CanUndo store.old undo.old }
     requires served { AreServed store.old standing.old.queries }
     requires listed { AreListed (instance_of store.old.tables) standing.old }
+    requires typed { All (IsTested (rows_by_place (instance_of store.old.tables)) (rows_edited store.old table edits.items)) standing.old.queries }
     ensures due { (stored : StoredRows) → IsAt store.old table stored
         → AnswersDue (first_refusal (edit_conditions store.old table stored edits.items
         ++ list_conditions (rows_edited store.old table edits.items) standing.old.queries)) result }
@@ -104,6 +105,7 @@ fn prepare_lists(
     requires fit { (stored : StoredRows) → IsAt store.now table stored → AreFit stored edits.now }
     requires served { AreServed store.now standing.old.queries }
     requires listed { AreListed (instance_of store.now.tables) standing.old }
+    requires typed { All (IsTested (rows_by_place (instance_of store.now.tables)) (rows_edited store.now table edits.now)) standing.old.queries }
     ensures due { AnswersDue (first_refusal (list_conditions (rows_edited store.now table edits.now) standing.old.queries)) result }
     ensures ok { OnOk result (FitPrepared (rows_edited store.now table edits.now) standing.new) }
     ensures err { OnErr result (standing.new.prepared ≡ []) }

@@ -6,6 +6,7 @@ use Rattle.mm_store.proofs.Joining.{some_at}
 use Rattle.mm_store.specs.Tables.{IsAt, Tables}
 use Rattle.mm_delta.specs.Counts.{count_in, count_of, signed_count}
 use Rattle.mm_delta.specs.Edited.{after_at, before_at, come_at, gone_at}
+use Rattle.mm_delta.specs.Skipping.{IsTypeTested}
 use Rattle.mm_delta.specs.Steps.{EachFit, term_reads}
 use Rattle.mm_delta.specs.Terms.{lists_around}
 use Rattle.mm_delta.proofs.Terms.{counts_all, counts_more, counts_none, range_le, range_more}
@@ -24,11 +25,16 @@ add_term-requires-clause-fit c =
     subst (λ s. EachFit s c.in_ok-indexed.indexed) (sym c.loop-place.invariant.same)
     (subst (EachFit c.args.view.now.store) (sym c.in_ok-indexed.ensures.ok) c.requires.fit)
 
+pub add_term-requires-clause-typed : goal.add_term-requires-clause-typed
+add_term-requires-clause-typed c =
+    subst (λ s. IsTypeTested c.args.query.now s c.in_ok-indexed.indexed c.args.tables.now) (sym c.loop-place.invariant.same)
+    (subst (λ changes. IsTypeTested c.args.query.now c.args.view.now.store changes c.args.tables.now) (sym c.in_ok-indexed.ensures.ok) c.requires.typed)
+
 pub loop-place-init : goal.loop-place-init
 loop-place-init c = record {
   same = refl;
   counts = λ row. counts_none row c.new-comes.result.entries c.new-goes.result.entries (count_of row (bag_of c.args.query.now (map (before_at c.args.view.now.store) c.args.tables.now))) c.new-comes.ensures c.new-goes.ensures;
-  reads = omega arith;
+  reads = λ skipped only. omega arith;
 }
 
 pub loop-place-preserved : goal.loop-place-preserved
@@ -47,34 +53,34 @@ loop-place-preserved c = record {
       ∙ (λ i. count_in row c.loop-place.comes.entries + count_of row (bag_of c.args.query.now (lists_around 0 (after_at (same i) (changes i)) (come_at (changes i)) (before_at (same i)) c.args.tables.now k))))
       (c.in_ok-add_term.ensures.goes row
       ∙ (λ i. count_in row c.loop-place.goes.entries + count_of row (bag_of c.args.query.now (lists_around 0 (after_at (same i) (changes i)) (gone_at (same i) (changes i)) (before_at (same i)) c.args.tables.now k))));
-  reads =
+  reads = λ skipped only.
       let k = c.loop-place.place in
-      let moved : term_reads c.args.query.now c.loop-place.view.store c.in_ok-indexed.indexed c.args.tables.now k ≡ term_reads c.args.query.now c.args.view.now.store c.args.changes.now c.args.tables.now k =
-      λ i. term_reads c.args.query.now (c.loop-place.invariant.same i) (c.in_ok-indexed.ensures.ok i) c.args.tables.now k in
+      let moved : term_reads c.args.query.now c.loop-place.view.store c.in_ok-indexed.indexed c.args.tables.now skipped k ≡ term_reads c.args.query.now c.args.view.now.store c.args.changes.now c.args.tables.now skipped k =
+      λ i. term_reads c.args.query.now (c.loop-place.invariant.same i) (c.in_ok-indexed.ensures.ok i) c.args.tables.now skipped k in
       omega (
         arith,
-        c.loop-place.invariant.reads,
-        c.in_ok-add_term.ensures.reads,
+        c.loop-place.invariant.reads skipped only,
+        c.in_ok-add_term.ensures.reads skipped only,
         moved,
-        range_more (term_reads c.args.query.now c.args.view.now.store c.args.changes.now c.args.tables.now) k,
+        range_more (term_reads c.args.query.now c.args.view.now.store c.args.changes.now c.args.tables.now skipped) k,
       );
 }
 
 pub returns-in_err-add_term-clause-reads : goal.returns-in_err-add_term-clause-reads
-returns-in_err-add_term-clause-reads c =
+returns-in_err-add_term-clause-reads c = λ skipped only.
     let k = c.loop-place.place in
     let n = length c.args.tables.now in
-    let moved : term_reads c.args.query.now c.loop-place.view.store c.in_ok-indexed.indexed c.args.tables.now k ≡ term_reads c.args.query.now c.args.view.now.store c.args.changes.now c.args.tables.now k =
-    λ i. term_reads c.args.query.now (c.loop-place.invariant.same i) (c.in_ok-indexed.ensures.ok i) c.args.tables.now k in
+    let moved : term_reads c.args.query.now c.loop-place.view.store c.in_ok-indexed.indexed c.args.tables.now skipped k ≡ term_reads c.args.query.now c.args.view.now.store c.args.changes.now c.args.tables.now skipped k =
+    λ i. term_reads c.args.query.now (c.loop-place.invariant.same i) (c.in_ok-indexed.ensures.ok i) c.args.tables.now skipped k in
     let all : (k + 1) + (n - (k + 1)) ≡ n = omega (arith, c.loop-place-test.true) in
     omega (
       arith,
-      c.loop-place.invariant.reads,
-      c.in_err-add_term.ensures.reads,
+      c.loop-place.invariant.reads skipped only,
+      c.in_err-add_term.ensures.reads skipped only,
       moved,
-      range_more (term_reads c.args.query.now c.args.view.now.store c.args.changes.now c.args.tables.now) k,
-      range_le (term_reads c.args.query.now c.args.view.now.store c.args.changes.now c.args.tables.now) (k + 1) (n - (k + 1)),
-      ap (λ m. sum_by (term_reads c.args.query.now c.args.view.now.store c.args.changes.now c.args.tables.now) (range_with_len 0 m)) all,
+      range_more (term_reads c.args.query.now c.args.view.now.store c.args.changes.now c.args.tables.now skipped) k,
+      range_le (term_reads c.args.query.now c.args.view.now.store c.args.changes.now c.args.tables.now skipped) (k + 1) (n - (k + 1)),
+      ap (λ m. sum_by (term_reads c.args.query.now c.args.view.now.store c.args.changes.now c.args.tables.now skipped) (range_with_len 0 m)) all,
     )
 
 pub returns-clause-change : goal.returns-clause-change
@@ -86,10 +92,10 @@ returns-clause-change c =
     c.difference.ensures.change
 
 pub returns-clause-reads : goal.returns-clause-reads
-returns-clause-reads c =
+returns-clause-reads c = λ skipped only.
     let all : c.loop-place.place ≡ length c.args.tables.now = omega (arith, c.loop-place-test.false, c.loop-place.auto.place-end) in
     omega (
       arith,
-      c.loop-place.invariant.reads,
-      ap (λ m. sum_by (term_reads c.args.query.now c.args.view.now.store c.args.changes.now c.args.tables.now) (range_with_len 0 m)) all,
+      c.loop-place.invariant.reads skipped only,
+      ap (λ m. sum_by (term_reads c.args.query.now c.args.view.now.store c.args.changes.now c.args.tables.now skipped) (range_with_len 0 m)) all,
     )

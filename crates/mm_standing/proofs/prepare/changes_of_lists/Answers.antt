@@ -13,8 +13,10 @@ use Rattle.mm_value.specs.declared.values.Value.{Value}
 use Rattle.mm_store.specs.Tables.{IsAt, Tables}
 use Rattle.mm_delta.specs.Counts.{count_in, count_of}
 use Rattle.mm_delta.specs.Edited.{after_at, before_at}
+use Rattle.mm_delta.specs.Skipping.{IsTypeTested}
 use Rattle.mm_standing.specs.Bags.{Brings}
-use Rattle.mm_standing.specs.Queries.{StandingQuery, bag_over, is_too_large, query_reads}
+use Rattle.mm_standing.specs.Queries.{StandingQuery, bag_over, is_too_large}
+use Rattle.mm_standing.specs.Reads.{AreOfCyclicRows, RowTests, query_reads}
 use Rattle.mm_standing.proofs.Adding.{entries_here}
 use Rattle.mm_standing.proofs.Segments.{All_more, IsStage, stage_more}
 use Rattle.mm_standing.proofs.prepare.changes_of_lists.Goals as goal
@@ -50,19 +52,29 @@ reads_within f queries list query now was first one inside is more same so_far =
 
 pub returns-in_err-changed-clause-reads : goal.returns-in_err-changed-clause-reads
 returns-in_err-changed-clause-reads c =
-    (reads_within (query_reads c.args.view.now.store c.args.changes.now) c.args.queries.now c.loop-list.list c.index-queries-list.result _ c.loop-list.view.reads c.args.view.now.reads _
-    c.loop-list-test.true c.index-queries-list.is c.changes_of_list.ensures.reads
-    (ap (λ (s : Tables). query_reads s c.args.changes.now c.index-queries-list.result) c.loop-list.invariant.same) c.loop-list.invariant.reads).1
+    λ skipped cyclic.
+    (reads_within (query_reads c.args.view.now.store c.args.changes.now skipped) c.args.queries.now c.loop-list.list c.index-queries-list.result _ c.loop-list.view.reads c.args.view.now.reads _
+    c.loop-list-test.true c.index-queries-list.is (c.changes_of_list.ensures.reads skipped cyclic)
+    (ap (λ (s : Tables). query_reads s c.args.changes.now skipped c.index-queries-list.result) c.loop-list.invariant.same)
+    (c.loop-list.invariant.reads skipped cyclic)).1
 
 pub returns-in_err-push_changes-clause-reads : goal.returns-in_err-push_changes-clause-reads
 returns-in_err-push_changes-clause-reads c =
-    (reads_within (query_reads c.args.view.now.store c.args.changes.now) c.args.queries.now c.loop-list.list c.index-queries-list.result _ c.loop-list.view.reads c.args.view.now.reads _
-    c.loop-list-test.true c.index-queries-list.is c.changes_of_list.ensures.reads
-    (ap (λ (s : Tables). query_reads s c.args.changes.now c.index-queries-list.result) c.loop-list.invariant.same) c.loop-list.invariant.reads).1
+    λ skipped cyclic.
+    (reads_within (query_reads c.args.view.now.store c.args.changes.now skipped) c.args.queries.now c.loop-list.list c.index-queries-list.result _ c.loop-list.view.reads c.args.view.now.reads _
+    c.loop-list-test.true c.index-queries-list.is (c.changes_of_list.ensures.reads skipped cyclic)
+    (ap (λ (s : Tables). query_reads s c.args.changes.now skipped c.index-queries-list.result) c.loop-list.invariant.same)
+    (c.loop-list.invariant.reads skipped cyclic)).1
 
 pub changes_of_list-requires-clause-edits : goal.changes_of_list-requires-clause-edits
 changes_of_list-requires-clause-edits c =
     λ table stored at. c.requires.edits table stored (subst (λ (s : Tables). IsAt s table stored) c.loop-list.invariant.same at)
+
+pub changes_of_list-requires-clause-typed : goal.changes_of_list-requires-clause-typed
+changes_of_list-requires-clause-typed c =
+    subst (λ (s : Tables). IsTypeTested c.index-queries-list.result.query s c.args.changes.now c.index-queries-list.result.tables) (sym c.loop-list.invariant.same)
+    (subst (λ (q : StandingQuery). IsTypeTested q.query c.args.view.now.store c.args.changes.now q.tables) (sym c.index-queries-list.is)
+    (c.requires.typed c.loop-list.list c.index-queries-list.result c.loop-list-test.true))
 
 -- A list that is too large is one of all.
 due_of_all : (one all : Bool) (refusal : Refusal) → (one ≡ true → all ≡ true)
@@ -116,9 +128,10 @@ loop-list-preserved c =
           (stage_more bags queries over list c.loop-list.found.items bag query changed so_far.stage there c.index-bags-list.is at brings);
       few = subst (λ n. All (λ (s : StandingQuery). is_too_large (over s) ≡ false) (take n queries)) (sym (add-one list))
           (All_more (λ (s : StandingQuery). is_too_large (over s) ≡ false) queries list query c.index-queries-list.is so_far.few few);
-      reads = (reads_within (query_reads c.args.view.now.store c.args.changes.now) queries list query _ c.loop-list.view.reads c.args.view.now.reads _
-          inside c.index-queries-list.is c.changes_of_list.ensures.reads
-          (ap (λ (s : Tables). query_reads s c.args.changes.now query) so_far.same) so_far.reads).0;
+      reads = λ skipped cyclic.
+          (reads_within (query_reads c.args.view.now.store c.args.changes.now skipped) queries list query _ c.loop-list.view.reads c.args.view.now.reads _
+          inside c.index-queries-list.is (c.changes_of_list.ensures.reads skipped cyclic)
+          (ap (λ (s : Tables). query_reads s c.args.changes.now skipped query) so_far.same) (so_far.reads skipped cyclic)).0;
       same = c.changes_of_list.ensures.same ∙ so_far.same;
     }
 
@@ -129,6 +142,13 @@ returns-clause-due c =
     let all : All (λ (s : StandingQuery). is_too_large (over s) ≡ false) c.args.queries.now =
     subst (All (λ (s : StandingQuery). is_too_large (over s) ≡ false)) (take_all c.loop-list.list c.args.queries.now end) c.loop-list.invariant.few in
     ap (λ b. cond b (Some StandingListTooLarge) None) (list_any_none (λ (s : StandingQuery). is_too_large (over s)) c.args.queries.now all)
+
+pub returns-clause-reads : goal.returns-clause-reads
+returns-clause-reads c =
+    let all = take_all c.loop-list.list c.args.queries.now c.loop-list-test.false in
+    λ skipped cyclic.
+    subst (λ (qs : List StandingQuery). c.loop-list.view.reads ≤ c.args.view.now.reads + sum_by (query_reads c.args.view.now.store c.args.changes.now skipped) qs) all
+    (c.loop-list.invariant.reads skipped cyclic)
 
 pub returns-clause-counts : goal.returns-clause-counts
 returns-clause-counts c =

@@ -1,5 +1,6 @@
 -- The lists follow the rows.
 use Rattle.std.proofs.Common.{◌≡◌, Err, List, None, sym, ap, subst, ◌∙◌}
+use Rattle.std.specs.List.{All}
 use Rattle.std.proofs.lemmas.Result.{err_from_is_err_and}
 use Rattle.mm_relation.specs.declared.edits.Edit.{Edit}
 use Rattle.mm_schema.specs.Instance.{Instance}
@@ -9,7 +10,7 @@ use Rattle.mm_standing.specs.State.{AreFew, FitPrepared, Lists, count_now}
 use Rattle.mm_store.specs.Tables.{edit_conditions}
 use Rattle.mm_txn.specs.Kept.{instance_of}
 use Rattle.mm_txn.specs.TableEdits.{rows_edited}
-use Rattle.mm_txn.specs.Watched.{AreListed}
+use Rattle.mm_txn.specs.Watched.{AreListed, IsTested, rows_by_place}
 use Rattle.mm_txn.proofs.ListSteps.{behind_due, listed_made, listed_still, same_counts, undone_made}
 use Rattle.mm_txn.proofs.ListedRows.{few_after, rows_kept, rows_made}
 use Rattle.mm_txn.proofs.RowsBeside.{HasRows-itself, set_itself}
@@ -19,6 +20,11 @@ pub returns-in_err-check-clause-err : goal.returns-in_err-check-clause-err
 returns-in_err-check-clause-err c =
     let p = err_from_is_err_and c.from_residual.result c.from_residual.ensures.1 in
     rw (p.1) (λ stored at. (stored, set_itself c.args.store.now.tables c.args.table stored at, HasRows-itself stored))
+
+pub prepare_lists-requires-clause-typed : goal.prepare_lists-requires-clause-typed
+prepare_lists-requires-clause-typed c =
+    subst (λ (es : List Edit). All (IsTested (rows_by_place (instance_of c.args.store.now.tables)) (rows_edited c.args.store.now c.args.table es)) c.args.standing.now.queries)
+    (sym c.as_slice-2.ensures.value) c.requires.typed
 
 pub returns-in_err-prepare_lists-clause-err : goal.returns-in_err-prepare_lists-clause-err
 returns-in_err-prepare_lists-clause-err c =

@@ -4,9 +4,11 @@ use Rattle.mm_delta.specs.Edited.{after_at, before_at}
 use Rattle.mm_delta.specs.Steps.{EachFit}
 use Rattle.mm_schema.specs.Refused.{AnswersDue, first_refusal}
 use Rattle.mm_standing.specs.Queries.{RowsByPlace, change_conditions}
+use Rattle.mm_standing.specs.Reads.{AreTypeTested}
 use Rattle.mm_standing.specs.State.{AreFew, FitNow, FitPrepared}
 use Rattle.mm_store.specs.Tables.{Tables}
 use Rattle.mm_txn.proofs.ListedRows.{after_is, before_is, fit_each}
+use Rattle.mm_txn.proofs.TestedQueries.{type_tested}
 use Rattle.mm_txn.proofs.changes.prepare_lists.Goals as goal
 
 pub prepare-requires-clause-edits : goal.prepare-requires-clause-edits
@@ -22,6 +24,11 @@ pub prepare-requires-clause-few : goal.prepare-requires-clause-few
 prepare-requires-clause-few c =
     subst (λ (r : RowsByPlace). AreFew r c.args.standing.now.queries) (sym (ap before_at c.view-view.ensures.store ∙ before_is c.args.store.now))
     c.requires.listed.few
+
+pub prepare-requires-clause-typed : goal.prepare-requires-clause-typed
+prepare-requires-clause-typed c =
+    subst (λ (s : Tables). AreTypeTested s (record { table = c.args.table; edits = c.args.edits } ∷ []) c.args.standing.now.queries) (sym c.view-view.ensures.store)
+    (type_tested c.args.store.now (record { table = c.args.table; edits = c.args.edits }) c.args.standing.now.queries c.requires.typed)
 
 pub returns-clause-due : goal.returns-clause-due
 returns-clause-due c =

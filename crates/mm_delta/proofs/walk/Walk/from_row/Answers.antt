@@ -1,9 +1,10 @@
-use Rattle.std.proofs.Common.{◌≡◌, ◌+◌, ◌∙◌, Some, ap, length, set, arith}
+use Rattle.std.proofs.Common.{◌≡◌, ◌+◌, ◌∙◌, Some, true≢false, inr, ap, sym, length, set, arith}
 use Rattle.std.proofs.lemmas.Result.{on_ok_weaker}
 use Rattle.mm_delta.specs.Counts.{count_in, count_of}
 use Rattle.mm_delta.specs.Edited.{after_at, before_at, walked}
 use Rattle.mm_delta.specs.Steps.{reads_for}
 use Rattle.mm_delta.specs.Walk.{found, one_row, other_places}
+use Rattle.mm_delta.proofs.LeftOut.{left_out_adds, reads_unskipped}
 use Rattle.mm_delta.proofs.Product.{found_from_row, one_row_is, open_start}
 use Rattle.mm_delta.proofs.walk.Walk.from_row.Goals as goal
 
@@ -26,6 +27,13 @@ returns-clause-counted c =
     ∙ found_from_row c.args.self.now.query.now c.args.self.now.tables.now (after_at c.args.view.now.store c.args.self.now.changes.now) (before_at c.args.view.now.store) c.args.row.now c.args.self.now.place c.requires.place)))
     c.extend.ensures.counted
 
+pub returns-then-left_out-clause-counted : goal.returns-then-left_out-clause-counted
+returns-then-left_out-clause-counted c =
+    let m_is : c.with-chosen.result ≡ one_row (length c.args.self.now.tables.now) c.args.self.now.place c.args.row.now =
+    c.with-chosen.ensures ∙ ap (λ l. set l c.args.self.now.place (Some c.args.row.now)) c.new.ensures ∙ one_row_is (length c.args.self.now.tables.now) c.args.self.now.place c.args.row.now c.requires.place in
+    λ other. left_out_adds c.args.self.now.query.now c.args.view.now.store c.args.self.now.changes.now c.args.self.now.tables.now c.args.self.now.place c.args.row.now c.requires.place c.requires.typed c.requires.edited
+    c.with-chosen.result m_is (c.in_ok-left_out.ensures.ok.0 c.if-left_out.true) (count_in other c.args.out.now.entries) other
+
 pub returns-clause-reads : goal.returns-clause-reads
 returns-clause-reads c =
     let m_is : c.with-chosen.result ≡ one_row (length c.args.self.now.tables.now) c.args.self.now.place c.args.row.now =
@@ -33,4 +41,11 @@ returns-clause-reads c =
     let js_is : c.deref.result.now ≡ other_places (length c.args.self.now.tables.now) c.args.self.now.place = c.deref.ensures.0 ∙ c.other_places-others.ensures in
     let same : reads_for c.args.self.now.query.now c.args.view.now.store c.args.self.now.changes.now c.args.self.now.tables.now c.args.self.now.place c.deref.result.now c.with-chosen.result ≡ reads_for c.args.self.now.query.now c.args.view.now.store c.args.self.now.changes.now c.args.self.now.tables.now c.args.self.now.place (other_places (length c.args.self.now.tables.now) c.args.self.now.place) (one_row (length c.args.self.now.tables.now) c.args.self.now.place c.args.row.now) =
     λ i. reads_for c.args.self.now.query.now c.args.view.now.store c.args.self.now.changes.now c.args.self.now.tables.now c.args.self.now.place (js_is i) (m_is i) in
-    omega (arith, c.extend.ensures.reads, same)
+    λ skipped only.
+    omega (
+      arith,
+      c.extend.ensures.reads,
+      same,
+      reads_unskipped c.args.self.now.query.now skipped c.args.self.now.place c.args.row.now (reads_for c.args.self.now.query.now c.args.view.now.store c.args.self.now.changes.now c.args.self.now.tables.now c.args.self.now.place (other_places (length c.args.self.now.tables.now) c.args.self.now.place) (one_row (length c.args.self.now.tables.now) c.args.self.now.place c.args.row.now)) only
+          (λ cyclic. true≢false (sym (c.in_ok-left_out.ensures.ok.1 (inr cyclic)) ∙ c.if-left_out.false)),
+    )

@@ -1,18 +1,22 @@
 -- The new rows of the edits' table are the state's, and what is saved stays.
 use Rattle.std.proofs.Common.{◌≡◌, ℕ, cond, Err, Ok, Some, None, length, sym, ap, subst, ◌∙◌, arith}
+use Rattle.std.specs.List.{All}
 use Rattle.std.proofs.lemmas.Result.{err_from_is_err_and}
 use Rattle.mm_schema.specs.Instance.{Instance}
+use Rattle.mm_standing.specs.Queries.{RowsByPlace}
 use Rattle.mm_query.specs.Edits.{own_pairs, value_conditions}
+use Rattle.mm_query.specs.Machine.{after_change}
 use Rattle.mm_query.specs.State.{State}
 use Rattle.mm_typing.specs.Typing.{AreTyped}
 use Rattle.mm_txn.specs.Kept.{instance_of, state_of, watched_state}
 use Rattle.mm_txn.specs.Saved.{saved_rows}
-use Rattle.mm_txn.specs.Watched.{queries_of}
-use Rattle.mm_txn.proofs.ChangeSteps.{change_done, change_due, change_refused, change_within, early_due, edits_counted}
+use Rattle.mm_txn.specs.Watched.{IsTested, queries_of, rows_by_place}
+use Rattle.mm_txn.proofs.ChangeSteps.{change_done, change_due, change_refused, change_within, early_due, edited_after, edits_counted}
 use Rattle.mm_txn.proofs.KeptReferences.{all_to_others}
 use Rattle.mm_txn.proofs.ListedRows.{served}
 use Rattle.mm_txn.proofs.OpenSteps.{changed, refused}
 use Rattle.mm_txn.proofs.SavedRows.{done_beside, due_beside, pairs_beside}
+use Rattle.mm_txn.proofs.TestedQueries.{queries_tested}
 use Rattle.mm_txn.proofs.TypedSteps.{rows_typed_after}
 use Rattle.mm_txn.proofs.database.Db.change.Goals as goal
 
@@ -33,6 +37,19 @@ make_edits-requires-clause-there c =
 pub make_edits-requires-clause-served : goal.make_edits-requires-clause-served
 make_edits-requires-clause-served c =
     served c.self.inside.catalog c.self.inside.store c.self.invariant.kept.relations c.self.inside.standing.queries c.self.invariant.placed.placed
+
+pub make_edits-requires-clause-typed : goal.make_edits-requires-clause-typed
+make_edits-requires-clause-typed c =
+    let lists = c.self.inside.standing.queries in
+    let state = watched_state c.self.inside.catalog c.self.inside.store.tables (queries_of lists) in
+    subst (λ (r : RowsByPlace). All (IsTested (rows_by_place (instance_of c.self.inside.store.tables)) r) lists)
+    (sym (edited_after c.self.inside.catalog c.self.inside.store.tables c.self.invariant.kept.relations c.args.mutation c.in_ok-table.field-0.table
+    c.in_ok-table.field-0.edits.items c.in_ok-table.ensures.ok (queries_of lists) c.in_ok-table.ensures.distinct c.self.inside.store.links))
+    (queries_tested c.self.inside.catalog (instance_of c.self.inside.store.tables) (after_change c.args.mutation state).rows lists c.self.invariant.placed.placed
+    c.self.invariant.typed.rows
+    (rows_typed_after c.args.mutation state (value_conditions c.args.mutation (state_of c.self.inside.catalog c.self.inside.store.tables))
+    c.in_ok-table.ensures.distinct c.in_ok-table.ensures.due c.self.invariant.typed.rows)
+    c.self.invariant.typed.queries)
 
 pub invariant_of-self : goal.invariant_of-self
 invariant_of-self c =
