@@ -1,5 +1,5 @@
 -- Standing queries add numbers only to numbers of the rows before a change and of those after it.
-use Rattle.std.proofs.Common.{◌≡◌, ℕ, zero, suc, Bool, false, List, [], ◌∷◌, Option, Some, None, get_or, length, map, slice_get, refl, sym, ap, subst, ◌<◌, ◌∙◌, arith}
+use Rattle.std.proofs.Common.{◌≡◌, ℕ, zero, suc, false, List, [], ◌∷◌, Option, Some, None, get_or, length, slice_get, refl, sym, ap, subst, ◌<◌, ◌∙◌, arith}
 use Rattle.std.specs.List.{All, list_any}
 use Rattle.std.specs.Option.{option_and_then, option_map, option_map_or, unwrap_or}
 use Rattle.std.proofs.lemmas.Bool.{or_parts}
@@ -18,7 +18,6 @@ use Rattle.mm_plan.specs.From.{places_in}
 use Rattle.mm_relevance.specs.Relevance.{AddsToNumber, AddsToNumbers, is_text}
 use Rattle.mm_typing.specs.Typing.{AreTyped, ShiftsNumber, ShiftsNumbers, type_at}
 use Rattle.mm_typing.proofs.Numbers.{adds_to_numbers}
-use Rattle.mm_delta.specs.Edited.{after_at, before_at}
 use Rattle.mm_delta.specs.declared.edited.TableEdits.{TableEdits}
 use Rattle.mm_standing.specs.Queries.{RowsByPlace, StandingQuery}
 use Rattle.mm_standing.specs.Reads.{AreTypeTested}

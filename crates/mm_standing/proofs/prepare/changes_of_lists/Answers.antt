@@ -16,7 +16,7 @@ use Rattle.mm_delta.specs.Edited.{after_at, before_at}
 use Rattle.mm_delta.specs.Skipping.{IsTypeTested}
 use Rattle.mm_standing.specs.Bags.{Brings}
 use Rattle.mm_standing.specs.Queries.{StandingQuery, bag_over, is_too_large}
-use Rattle.mm_standing.specs.Reads.{AreOfCyclicRows, RowTests, query_reads}
+use Rattle.mm_standing.specs.Reads.{query_reads}
 use Rattle.mm_standing.proofs.Adding.{entries_here}
 use Rattle.mm_standing.proofs.Segments.{All_more, IsStage, stage_more}
 use Rattle.mm_standing.proofs.prepare.changes_of_lists.Goals as goal
