@@ -15,6 +15,10 @@ pub on_some_weaker : {T P Q : Type 0} (r : Option T) → (P → Q) → OnSome r 
 on_some_weaker None f h = h
 on_some_weaker (Some x) f h = f h
 
+pub on_some_given : {T P : Type 0} (r : Option T) → true ≡ is_some r → OnSome r P → P
+on_some_given None some h = let both : true ≡ false = some in cc
+on_some_given (Some x) some h = h
+
 -- a text in which no quote is found
 pub doubled_where_none : (text : List ℕ) (found : Option ℕ) → false ≡ is_some found → IsFirstByte (is_byte 39) text found → doubled text ≡ text
 doubled_where_none text None none at = doubled_unfound text at
@@ -46,17 +50,20 @@ next_value_behind front line parted longer others i v lt at so_far parts grows =
     ∙ append_assoc front here (borrowed_next_text v)
     ∙ ap (λ l. front ++ l) (sym next)
 
--- the first value and all others, in parentheses and with the line feed
-pub line_of_all : (opened begun line ended : List ℕ) (values : List (Bor Value)) (first : Bor Value) (others : List (Bor Value)) (i : ℕ)
-    → values ≡ first ∷ others → length others ≤ i → opened ≡ 40 ∷ [] → begun ≡ opened ++ value_text first.now
+-- the first value and all others, in parentheses and with the line feed, behind a front of a line
+pub line_of_all : (front opened begun line ended : List ℕ) (values : List (Bor Value)) (first : Bor Value) (others : List (Bor Value)) (i : ℕ)
+    → values ≡ first ∷ others → length others ≤ i → opened ≡ front ++ 40 ∷ [] → begun ≡ opened ++ value_text first.now
     → line ≡ begun ++ flat_map borrowed_next_text (take i others) → ended ≡ line ++ 41 ∷ 10 ∷ []
-    → ended ≡ row_text (map (λ v. v.now) values) ++ 10 ∷ []
-line_of_all opened begun line ended values first others i parts end opens begins goes ends =
+    → ended ≡ front ++ (row_text (map (λ v. v.now) values) ++ 10 ∷ [])
+line_of_all front opened begun line ended values first others i parts end opens begins goes ends =
     let texts = value_text first.now ++ flat_map borrowed_next_text (take i others) in
-    let whole : line ≡ 40 ∷ texts =
+    let whole : line ≡ front ++ 40 ∷ texts =
     goes
-    ∙ ap (λ l. l ++ flat_map borrowed_next_text (take i others)) (begins ∙ ap (λ l. l ++ value_text first.now) opens) in
+    ∙ ap (λ l. l ++ flat_map borrowed_next_text (take i others)) (begins ∙ ap (λ l. l ++ value_text first.now) opens)
+    ∙ append_assoc (front ++ 40 ∷ []) (value_text first.now) (flat_map borrowed_next_text (take i others))
+    ∙ append_assoc front (40 ∷ []) texts in
     ends
     ∙ ap (λ l. l ++ 41 ∷ 10 ∷ []) whole
-    ∙ ap (λ l. 40 ∷ l) (sym (append_assoc texts (41 ∷ []) (10 ∷ [])))
-    ∙ ap (λ l. (40 ∷ l ++ 41 ∷ []) ++ 10 ∷ []) (sym (borrowed_text_all values first others i parts end))
+    ∙ append_assoc front (40 ∷ texts) (41 ∷ 10 ∷ [])
+    ∙ ap (λ l. front ++ 40 ∷ l) (sym (append_assoc texts (41 ∷ []) (10 ∷ [])))
+    ∙ ap (λ l. front ++ ((40 ∷ l ++ 41 ∷ []) ++ 10 ∷ [])) (sym (borrowed_text_all values first others i parts end))

@@ -18,7 +18,7 @@ ghost use Rattle.mm_lang.specs.ReplyText.{HasIndexNames, HasNames, HasTableNames
 ghost use Rattle.mm_lang.specs.Tokens.{tokens};
 
 use crate::listing_text::write_listing;
-use crate::row_line::short_line;
+use crate::row_line::{ShortLine, short_line};
 use itoa::Buffer;
 use mm_query::{PlanLine, Reply};
 use mm_schema::IndexId;
@@ -95,7 +95,8 @@ pub fn write_tuple_line<W: Write>(
     requires { has_failed writer.old ≡ false }
     ensures { Writes W.contents writer.old writer.new result (row_text (map (λ v. v.now) values.now) ++ 10 ∷ []) }
 {
-    if let Some(line) = short_line(values) {
+    let mut line = ShortLine::new();
+    if short_line(&mut line, values).is_some() {
         return put_all(writer, line.as_slice());
     }
     write_tuple(values, writer)?;

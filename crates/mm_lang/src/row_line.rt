@@ -1,5 +1,5 @@
 //! Short lines of rows, put together before they are written.
-ghost use Rattle.std.specs.Prelude.{◌≡◌, [], ◌∷◌, ◌++◌, IfSome, OnSome, map};
+ghost use Rattle.std.specs.Prelude.{◌≡◌, [], ◌∷◌, ◌++◌, OnSome, map};
 ghost use Rattle.mm_value.specs.Literal.{quoted};
 ghost use Rattle.mm_value.specs.Written.{row_text, value_text};
 
@@ -14,21 +14,19 @@ const MAX_SHORT_LINE_BYTES: usize = 128;
 /// A line, or the front of one.
 pub(crate) type ShortLine = ArrayVec<u8, MAX_SHORT_LINE_BYTES>;
 
-/// The line of a row, with its line feed. `None` where it has more than 128 bytes, where a text has a quote in it, which is
-/// written twice, and of no values.
-pub(crate) fn short_line(values: &[&Value]) -> Option<ShortLine>
-    ensures { IfSome result (λ line. line.items ≡ row_text (map (λ v. v.now) values.now) ++ 10 ∷ []) }
+/// Puts the line of a row behind the line, with its line feed. `None` where there is no room for it, where a text has a
+/// quote in it, which is written twice, and of no values.
+pub(crate) fn short_line(line: &mut ShortLine, values: &[&Value]) -> Option<()>
+    ensures { OnSome result (line.new.items ≡ line.old.items ++ (row_text (map (λ v. v.now) values.now) ++ 10 ∷ [])) }
 {
     let (first, others) = values.split_first()?;
-    let mut line = ShortLine::new();
-    put(&mut line, b"(")?;
-    put_value(&mut line, first)?;
+    put(line, b"(")?;
+    put_value(line, first)?;
     for value in others {
-        put(&mut line, b", ")?;
-        put_value(&mut line, value)?;
+        put(line, b", ")?;
+        put_value(line, value)?;
     }
-    put(&mut line, b")\n")?;
-    Some(line)
+    put(line, b")\n")
 }
 
 /// Puts a value behind the line. `None` where there is no room for it, and where it is a text with a quote in it.

@@ -1,5 +1,4 @@
-use Rattle.std.proofs.Common.{[], ◌∷◌, ◌++◌, ap, ◌∙◌}
-use Rattle.mm_lang.proofs.RowLines.{next_value_behind, line_of_all}
+use Rattle.mm_lang.proofs.RowLines.{on_some_weaker, next_value_behind, line_of_all}
 use Rattle.mm_lang.proofs.row_line.short_line.Goals as goal
 
 pub loop-value-preserved : goal.loop-value-preserved
@@ -10,6 +9,8 @@ loop-value-preserved c =
 
 pub returns : goal.returns
 returns c =
-    line_of_all c.put.new.line.items c.put_value.new.line.items c.loop-value.line.items c.put-2.new.line.items c.args.values.now
+    on_some_weaker c.put-2.result
+    (line_of_all c.args.line.now.items c.put.new.line.items c.put_value.new.line.items c.loop-value.line.items c.put-2.new.line.items c.args.values.now
     c.in_ok-first.first.now c.in_ok-first.others.now c.loop-value.value-index c.in_ok-first.ensures.cases.0 c.loop-value-test.false
-    (c.in_ok-put.ensures ∙ ap (λ l. l ++ 40 ∷ []) c.new-line.ensures) c.in_ok-put_value.ensures c.loop-value.invariant c.in_ok-put-3.ensures
+    c.in_ok-put.ensures c.in_ok-put_value.ensures c.loop-value.invariant)
+    c.put-2.ensures
