@@ -30,6 +30,8 @@ impl<'a> RefOrder for ByColumn<'a> {
 
     ghost total = { λ o. IsTotalOrderOn-from_total _ _ (refs_by_total o.column o.key (slot_at o.rows.now)) };
 
+    // A search asks this once a level; on its own LLVM leaves it a call.
+    #[inline(always)]
     fn compare(&self, a: RowRef, b: RowRef) -> Ordering {
         let rows = self.rows;
         let first = compare_in(rows, self.column, self.prefixes, a, b);
