@@ -1,5 +1,5 @@
 -- The steps of the search for a negative cycle, and of the check of one.
-use Rattle.std.specs.Prelude.{◌≡◌, ◌⊎◌, ◌<◌, get_or, ℕ, suc, zero, ◌+◌, ◌^◌, ◌≤◌, ◌==◌, ◌&&◌, Bool, true, false, not, ℤ, pos, int_lt, ◌+ℤ◌, ◌≤ℤ◌, ◌<ℤ◌, if◌then◌else◌, List, [], ◌∷◌, ◌++◌, Option, Some, None, length, map}
+use Rattle.std.specs.Prelude.{◌≡◌, ◌⊎◌, ◌<◌, get_or, ℕ, suc, zero, ◌+◌, ◌*◌, ◌%◌, ◌^◌, ◌≤◌, ◌==◌, ◌&&◌, Bool, true, false, not, ℤ, pos, int_lt, ◌+ℤ◌, ◌≤ℤ◌, ◌<ℤ◌, if◌then◌else◌, List, [], ◌∷◌, ◌++◌, Option, Some, None, length, map}
 use Rattle.std.specs.List.{All, Contains, fold}
 use Rattle.std.specs.Ordering.{nat_cmp}
 use Rattle.std.specs.Cmp.Lexicographic.{slice_cmp}
@@ -149,6 +149,21 @@ abbrev pub IsNoStart : List Edge → ℕ → Type 0
 IsNoStart edges i =
     (d : Edge) → (pos 0 ≤ℤ (get_or edges i d).cost)
     ⊎ ((k : ℕ) × (k < i) × ((get_or edges k d).cost <ℤ pos 0) × ((get_or edges k d).left ≡ (get_or edges i d).left))
+
+-- ---- numbers for the points
+
+-- The place of a point's number: the first for zero, and one for each of 16 columns of each of 4 rows.
+abbrev pub slot : Point → ℕ
+slot Zero = 0
+slot (At field) = 1 + field.place % 4 * 16 + field.column % 16
+
+-- The number of a point, among those that lie at the places.
+abbrev pub number_in : List ℤ → Point → ℤ
+number_in numbers point = get_or numbers (slot point) (pos 0)
+
+-- An edge is true of numbers of the points.
+abbrev pub IsMet : (Point → ℤ) → Edge → Type 0
+IsMet numbers e = numbers e.left ≤ℤ (numbers e.right +ℤ e.cost)
 
 -- ---- following a list of names
 

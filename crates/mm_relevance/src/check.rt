@@ -11,7 +11,7 @@ use mm_query::BoundQuery;
 use mm_value::Row;
 
 /// The most edges of a cycle.
-const MAX_EDGES: usize = 32;
+pub(crate) const MAX_EDGES: usize = 32;
 
 /// Where a walk has come, and the sum so far.
 #[derive(Clone, Copy)]
@@ -55,7 +55,12 @@ fn closes(start: Point, end: Reached) -> bool
 }
 
 /// Whether the edges are there, lead on from one another and back, and have a negative sum.
-fn is_negative_cycle(query: &BoundQuery, place: usize, row: &Row, cycle: &[CycleEdge]) -> bool
+pub(crate) fn is_negative_cycle(
+    query: &BoundQuery,
+    place: usize,
+    row: &Row,
+    cycle: &[CycleEdge],
+) -> bool
     ensures { IsTrue result ↔ IsNegativeCycle query.now place row.now cycle.now }
 {
     let count = cycle.len();

@@ -1,8 +1,8 @@
 //! The inequalities of the atoms of a query with one row put in.
-ghost use Rattle.std.specs.Prelude.{◌≡◌, ◌^◌, ◌++◌, int_lt, pos, IfOk, IfSome, OnOk};
+ghost use Rattle.std.specs.Prelude.{◌≡◌, ◌^◌, ◌++◌, int_lt, pos, false, true, IfOk, IfSome, OnOk};
 ghost use Rattle.std.specs.List.{All};
 ghost use Rattle.mm_relevance.specs.Relevance.{at_most, below, edge_at, edge_of, lower_edge, upper_edge};
-ghost use Rattle.mm_relevance.specs.Walks.{IsNear, IsNearTerm, IsWithin, edges, option_list};
+ghost use Rattle.mm_relevance.specs.Walks.{IsNear, IsNearTerm, IsWithin, edges, name_of, option_list};
 
 use crate::cycle::CycleEdge;
 use crate::term::{Point, Term, field_term, operand_term};
@@ -30,6 +30,15 @@ impl Edge {
     {
         self.cost < 0
     }
+}
+
+/// The edges of an atom.
+#[derive(Clone, Copy)]
+struct Bounds {
+    /// How great its left side may be.
+    lower: Option<Edge>,
+    /// How small its left side may be.
+    upper: Option<Edge>,
 }
 
 /// `a <= b`
@@ -90,8 +99,55 @@ fn upper_edge(comparison: Comparison, name: CycleEdge, a: Term, b: Term) -> Opti
     }
 }
 
+/// How great and how small the left side may be.
+fn bounds_between(comparison: Comparison, conjunct: usize, a: Term, b: Term) -> Bounds
+    requires a { IsWithin (2 ^ 64) a.offset }
+    requires b { IsWithin (2 ^ 64) b.offset }
+    ensures lower { result.lower ≡ lower_edge comparison (name_of conjunct false) a b }
+    ensures upper { result.upper ≡ upper_edge comparison (name_of conjunct true) a b }
+    ensures lower_near { IfSome result.lower IsNear }
+    ensures upper_near { IfSome result.upper IsNear }
+{
+    let lower = CycleEdge {
+        conjunct,
+        upper: false,
+    };
+    let upper = CycleEdge {
+        conjunct,
+        upper: true,
+    };
+    Bounds {
+        lower: lower_edge(comparison, lower, a, b),
+        upper: upper_edge(comparison, upper, a, b),
+    }
+}
+
+/// The edges that an atom gives.
+fn bounds_of(
+    query: &BoundQuery,
+    place: usize,
+    row: &Row,
+    conjunct: usize,
+    atom: &Atom<FieldPlace>,
+) -> Bounds
+    ensures lower { result.lower ≡ edge_of query.now place row.now (name_of conjunct false) atom.now }
+    ensures upper { result.upper ≡ edge_of query.now place row.now (name_of conjunct true) atom.now }
+    ensures lower_near { IfSome result.lower IsNear }
+    ensures upper_near { IfSome result.upper IsNear }
+{
+    let left = field_term(query, place, row, atom.left);
+    let right = operand_term(query, place, row, &atom.right);
+    match (left, right) {
+        (Some(a), Some(b)) => bounds_between(atom.comparison, conjunct, a, b),
+        _ => Bounds {
+            lower: None,
+            upper: None,
+        },
+    }
+}
+
 /// The edge of an atom that has this name, if it gives one.
-pub(crate) fn edge_of(
+fn edge_of(
     query: &BoundQuery,
     place: usize,
     row: &Row,
@@ -101,12 +157,11 @@ pub(crate) fn edge_of(
     ensures value { result ≡ edge_of query.now place row.now name atom.now }
     ensures near { IfSome result IsNear }
 {
-    let left = field_term(query, place, row, atom.left)?;
-    let right = operand_term(query, place, row, &atom.right)?;
+    let bounds = bounds_of(query, place, row, name.conjunct, atom);
     if name.upper {
-        upper_edge(atom.comparison, name, left, right)
+        bounds.upper
     } else {
-        lower_edge(atom.comparison, name, left, right)
+        bounds.lower
     }
 }
 
@@ -144,18 +199,9 @@ pub(crate) fn edges(
     let atoms = query.atoms.as_slice();
     let mut found = Vec::with_capacity(alloc, atoms.len().saturating_mul(2))?;
     for (conjunct, atom) in atoms.iter().enumerate() {
-        let name = CycleEdge {
-            conjunct,
-            upper: false,
-        };
-        let lower = edge_of(query, place, row, name, atom);
-        add(&mut found, lower)?;
-        let name = CycleEdge {
-            conjunct,
-            upper: true,
-        };
-        let upper = edge_of(query, place, row, name, atom);
-        add(&mut found, upper)?;
+        let bounds = bounds_of(query, place, row, conjunct, atom);
+        add(&mut found, bounds.lower)?;
+        add(&mut found, bounds.upper)?;
     }
     Ok(found)
 }

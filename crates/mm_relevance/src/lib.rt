@@ -5,6 +5,7 @@ mod check;
 mod cycle;
 mod edge;
 mod law;
+mod relaxation;
 mod relevance;
 mod search;
 mod term;

@@ -1,12 +1,15 @@
 //! Rows that cannot change the answer of a query.
 ghost use Rattle.std.specs.Prelude.{◌≡◌, ◌∷◌, [], ◌≤ℤ◌, pos, false, map, List, IfErr, IfOk, IfSome, MatchOption};
 ghost use Rattle.mm_value.specs.declared.refusal.Refusal.TheVariants.{Memory};
+ghost use Rattle.std.specs.List.{All};
 ghost use Rattle.mm_relevance.specs.Relevance.{IsAccepted, IsCyclic, IsNegativeCycle, edge_at};
 ghost use Rattle.mm_relevance.specs.Walks.{name_of};
 ghost use Rattle.mm_relevance.specs.declared.cycle.CycleEdge.{CycleEdge as Named};
 
+use crate::check::is_negative_cycle;
 use crate::cycle::{Cycle, CycleEdge};
-use crate::edge::{Edge, edge_of, edges};
+use crate::edge::{Edge, edges};
+use crate::relaxation::Relaxation;
 use crate::search::negative_walk;
 use crate::texts::false_text;
 use mm_query::BoundQuery;
@@ -16,7 +19,8 @@ use std::alloc::{AllocError, Global};
 /// A cycle that shows that no combination with this row at this place of FROM fits the query, if there is one of at most 32
 /// edges: then the row is irrelevant (Blakeley, Larson and Tompa). The cycle is a negative one of the inequalities that the
 /// atoms say when the row's values are put in (Rosenkrantz and Hunt), or the one edge of an atom that is false of known texts. It
-/// takes no memory where no inequality adds less than zero. `Memory` is the only refusal.
+/// takes memory for the inequalities, unless an atom is false of known texts, and for the cycle that is found; more only where a
+/// search is needed (`negative_walk`). `Memory` is the only refusal.
 pub fn irrelevant(
     alloc: Global,
     query: &BoundQuery,
@@ -29,11 +33,7 @@ pub fn irrelevant(
     if let Some(conjunct) = false_text(query, place, row) {
         return Ok(Some(lower_alone(alloc, conjunct)?));
     }
-    if has_negative_edge(query, place, row) {
-        Ok(negative_cycle(alloc, query, place, row)?)
-    } else {
-        Ok(None)
-    }
+    Ok(negative_cycle(alloc, query, place, row)?)
 }
 
 /// The cycle of the one lower edge of an atom.
@@ -48,36 +48,11 @@ fn lower_alone(alloc: Global, conjunct: usize) -> Result<Cycle, AllocError>
     Ok(Cycle { edges })
 }
 
-/// Whether an edge is there and adds less than zero.
-fn is_negative(edge: Option<Edge>) -> bool
-    ensures { result ≡ false → IfSome edge (λ e. pos 0 ≤ℤ e.cost) }
-{
-    match edge {
-        Some(edge) => edge.is_negative(),
-        None => false,
-    }
-}
-
 /// Whether some inequality adds less than zero. Without one no cycle is negative.
-fn has_negative_edge(query: &BoundQuery, place: usize, row: &Row) -> bool
-    ensures { result ≡ false → (name : Named) → IfSome (edge_at query.now place row.now name) (λ e. pos 0 ≤ℤ e.cost) }
+fn has_negative_edge(edges: &[Edge]) -> bool
+    ensures { result ≡ false → All (λ e. pos 0 ≤ℤ e.cost) edges.now }
 {
-    for (conjunct, atom) in query.atoms.as_slice().iter().enumerate() {
-        let lower = CycleEdge {
-            conjunct,
-            upper: false,
-        };
-        let upper = CycleEdge {
-            conjunct,
-            upper: true,
-        };
-        if is_negative(edge_of(query, place, row, lower, atom))
-            || is_negative(edge_of(query, place, row, upper, atom))
-        {
-            return true;
-        }
-    }
-    false
+    edges.iter().any(|edge| edge.is_negative())
 }
 
 /// A negative cycle, if there is one.
@@ -90,11 +65,40 @@ fn negative_cycle(
     ensures { IfOk result (λ found. MatchOption found ((cycle : List Named) → IsNegativeCycle query.now place row.now cycle → ⊥) (λ cycle. IsNegativeCycle query.now place row.now cycle.edges.items)) }
 {
     let edges = edges(alloc, query, place, row)?;
+    if !has_negative_edge(&edges) {
+        return Ok(None);
+    }
+    let relaxation = Relaxation::of(&edges);
+    if relaxation.meets_all(&edges) {
+        return Ok(None);
+    }
+    if let Some(cycle) = proposed(alloc, query, place, row, &relaxation, &edges)? {
+        return Ok(Some(cycle));
+    }
     match negative_walk(alloc, &edges)? {
         Some(walk) => Ok(Some(Cycle {
             edges: names(alloc, &walk)?,
         })),
         None => Ok(None),
+    }
+}
+
+/// The circle of edges that lowered numbers, where it is a negative cycle.
+fn proposed(
+    alloc: Global,
+    query: &BoundQuery,
+    place: usize,
+    row: &Row,
+    relaxation: &Relaxation,
+    edges: &[Edge],
+) -> Result<Option<Cycle>, AllocError>
+    ensures { IfOk result (λ found. IfSome found (λ cycle. IsNegativeCycle query.now place row.now cycle.edges.items)) }
+{
+    match relaxation.cycle(alloc, edges)? {
+        Some(names) if is_negative_cycle(query, place, row, &names) => {
+            Ok(Some(Cycle { edges: names }))
+        }
+        _ => Ok(None),
     }
 }
 

@@ -230,7 +230,8 @@ fn is_start(edges: &[Edge], i: usize) -> bool
 }
 
 /// A closed walk of negative sum, if there is one of at most 32 edges. One of its edges adds less than zero, so only walks from
-/// the left points of such edges are searched for, once for each point.
+/// the left points of such edges are searched for, once for each point. It is asked only where no numbers were found of which all
+/// edges are true, and no circle of at most 32 edges that is negative either: beyond 4 rows of FROM, 16 columns of a row or 16 atoms.
 pub(crate) fn negative_walk(alloc: Global, edges: &[Edge]) -> Result<Option<Vec<Edge>>, AllocError>
     requires { All IsNear edges.now }
     ensures { IfOk result (λ found. MatchOption found ((walk : List Inequality) → IsNegativeWalk edges.now walk → ⊥) (λ walk. IsNegativeWalk edges.now walk.items)) }

@@ -41,7 +41,7 @@ fn no_value_lies_between_4_and_5(rt: HostRuntime) -> Result<(), Fail> {
     let far = row(alloc, 1, Value::Int(4))?;
     let near = row(alloc, 2, Value::Int(3))?;
     let cycle = irrelevant(alloc, &query, 0, &far)?.ok_or("no cycle")?;
-    assert_eq!(rt; cycle.edges.as_slice(), [lower(0), lower(1)].as_slice());
+    assert_eq!(rt; cycle.edges.as_slice(), [lower(1), lower(0)].as_slice());
     assert!(rt; check_cycle(&query, 0, &far, &cycle));
     assert!(rt; !check_cycle(&query, 0, &near, &cycle));
     assert!(rt; edges(alloc, &query, &near)?.is_empty());
@@ -107,5 +107,33 @@ fn a_text_is_compared_with_the_row(rt: HostRuntime) -> Result<(), Fail> {
     let found = edges(alloc, &query, &row(alloc, 1, text(alloc, b"bob")?)?)?;
     assert_eq!(rt; found.as_slice(), [lower(0)].as_slice());
     assert!(rt; edges(alloc, &query, &row(alloc, 1, text(alloc, b"ann")?)?)?.is_empty());
+    Ok(())
+}
+
+/// `b.c0 = b.c1 + 1 AND b.c1 = b.c2 + 1 AND .. AND b.c14 = b.c15 + 1 AND b.c15 = b.c0 + back`
+fn ring(alloc: Global, back: i64) -> Result<BoundQuery, Fail> {
+    let mut atoms = Vec::new(alloc);
+    for column in 0..15 {
+        let next = Operand::Shifted(field(1, column + 1), 1);
+        atoms.push(atom(field(1, column), Comparison::Equal, next))?;
+    }
+    let first = Operand::Shifted(field(1, 0), back);
+    atoms.push(atom(field(1, 15), Comparison::Equal, first))?;
+    query(alloc, 2, atoms)
+}
+
+#[test]
+fn a_ring_of_sixteen_equalities_holds_where_its_numbers_come_back(
+    rt: HostRuntime,
+) -> Result<(), Fail> {
+    let alloc = rt.alloc();
+    let row = row(alloc, 1, Value::Int(4))?;
+    assert!(rt; edges(alloc, &ring(alloc, -15)?, &row)?.is_empty());
+    for back in [-16, -14] {
+        let query = ring(alloc, back)?;
+        let cycle = irrelevant(alloc, &query, 0, &row)?.ok_or("no cycle")?;
+        assert_eq!(rt; cycle.edges.len(), 16);
+        assert!(rt; check_cycle(&query, 0, &row, &cycle));
+    }
     Ok(())
 }
