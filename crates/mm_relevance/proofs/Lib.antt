@@ -3,6 +3,7 @@ pub mod Sums
 pub mod Closing
 pub mod Turned
 pub mod Names
+pub mod Fulfilled
 pub mod Checked
 pub mod Bounds
 pub mod Irrelevance

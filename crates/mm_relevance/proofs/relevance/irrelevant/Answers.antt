@@ -1,6 +1,5 @@
 use Rattle.std.proofs.Common.{inr, sym, ◌∙◌}
-use Rattle.mm_relevance.proofs.Found.{answered, neither}
-use Rattle.mm_relevance.proofs.Names.{no_cycle_below}
+use Rattle.mm_relevance.proofs.Found.{answered}
 use Rattle.mm_relevance.proofs.OnTexts.{found, none_found}
 use Rattle.mm_relevance.proofs.relevance.irrelevant.Goals as goal
 
@@ -12,9 +11,3 @@ pub returns-in_ok-negative_cycle-clause-cycle : goal.returns-in_ok-negative_cycl
 returns-in_ok-negative_cycle-clause-cycle c =
     answered c.args.query.now c.args.place c.args.row.now c.in_ok-negative_cycle.field-0
     (none_found c.args.query.now c.args.place c.args.row.now (sym c.false_text.ensures ∙ c.in_default.is)) c.in_ok-negative_cycle.ensures
-
-pub returns-else-has_negative_edge-clause-cycle : goal.returns-else-has_negative_edge-clause-cycle
-returns-else-has_negative_edge-clause-cycle c =
-    neither c.args.query.now c.args.place c.args.row.now
-    (none_found c.args.query.now c.args.place c.args.row.now (sym c.false_text.ensures ∙ c.in_default.is))
-    (no_cycle_below c.args.query.now c.args.place c.args.row.now (c.has_negative_edge.ensures c.if-has_negative_edge.false))
