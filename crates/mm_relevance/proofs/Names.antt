@@ -1,11 +1,8 @@
 -- The edges of a query and their names, and closed walks over them.
-use Rattle.std.proofs.Common.{◌≡◌, ℕ, suc, zero, ◌+◌, ◌<◌, ◌≤◌, Bool, true, false, cond, ◌⊎◌, inl, inr, List, [], ◌∷◌, ◌++◌, pos, Option, Some, None, IfSome, append_assoc, drop, drop-cons, length, map, get_or, refl, sym, ap, subst, ◌∙◌, arith}
-use Rattle.std.specs.Prelude.{◌≤ℤ◌, slice_get}
+use Rattle.std.proofs.Common.{◌≡◌, ℕ, suc, zero, ◌+◌, ◌<◌, Bool, true, false, cond, ◌⊎◌, inl, inr, List, [], ◌∷◌, ◌++◌, Option, Some, None, IfSome, append_assoc, drop, drop-cons, length, map, get_or, refl, sym, ap, subst, ◌∙◌, arith}
+use Rattle.std.specs.Prelude.{slice_get}
 use Rattle.std.specs.List.{All, AllByRecursion, Contains}
 use Rattle.std.specs.Option.{option_and_then}
-use Rattle.std.proofs.lemmas.Int.{ints}
-use Rattle.std.proofs.lemmas.Bool.{cases_lt}
-use Rattle.std.proofs.lemmas.Option.{slice_get_past, slice_get_read}
 use Rattle.std.proofs.lemmas.List.Elements.{All-append, All-nil, All-cons, All-from_recursion, recursion_from_All}
 use Rattle.mm_value.specs.declared.values.Value.{Value}
 use Rattle.mm_query.specs.declared.atom.Atom.{Atom}
@@ -16,7 +13,7 @@ use Rattle.mm_query.specs.declared.bound_query.FieldPlace.{FieldPlace}
 use Rattle.mm_relevance.specs.declared.term.Term.{Term}
 use Rattle.mm_relevance.specs.declared.cycle.CycleEdge.{CycleEdge}
 use Rattle.mm_relevance.specs.declared.edge.Edge.{Edge}
-use Rattle.mm_relevance.specs.Relevance.{total, IsNegativeCycle, edge_at, edge_between, edge_of, field_term, lower_edge, operand_term, upper_edge}
+use Rattle.mm_relevance.specs.Relevance.{IsNegativeCycle, edge_at, edge_between, edge_of, field_term, lower_edge, operand_term, upper_edge}
 use Rattle.mm_relevance.specs.Walks.{IsNear, IsNegativeWalk, edges, edges_from, name_of, option_list}
 
 -- ---- all edges

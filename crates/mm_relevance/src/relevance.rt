@@ -64,18 +64,19 @@ fn negative_cycle(
 ) -> Result<Option<Cycle>, AllocError>
     ensures { IfOk result (λ found. MatchOption found ((cycle : List Named) → IsNegativeCycle query.now place row.now cycle → ⊥) (λ cycle. IsNegativeCycle query.now place row.now cycle.edges.items)) }
 {
-    let edges = edges(alloc, query, place, row)?;
-    if !has_negative_edge(&edges) {
+    let found = edges(alloc, query, place, row)?;
+    let edges = found.as_slice();
+    if !has_negative_edge(edges) {
         return Ok(None);
     }
-    let relaxation = Relaxation::of(&edges);
-    if relaxation.meets_all(&edges) {
+    let relaxation = Relaxation::of(edges);
+    if relaxation.meets_all(edges) {
         return Ok(None);
     }
-    if let Some(cycle) = proposed(alloc, query, place, row, &relaxation, &edges)? {
+    if let Some(cycle) = proposed(alloc, query, place, row, &relaxation, edges)? {
         return Ok(Some(cycle));
     }
-    match negative_walk(alloc, &edges)? {
+    match negative_walk(alloc, edges)? {
         Some(walk) => Ok(Some(Cycle {
             edges: names(alloc, &walk)?,
         })),
