@@ -1,8 +1,8 @@
 //! Rows that cannot change the answer of a query.
 ghost use Rattle.std.specs.Prelude.{◌≡◌, ◌∷◌, [], ◌≤ℤ◌, pos, false, map, List, IfErr, IfOk, IfSome, MatchOption};
-ghost use Rattle.mm_value.specs.declared.refusal.Refusal.TheVariants.{Memory};
 ghost use Rattle.std.specs.List.{All};
-ghost use Rattle.mm_relevance.specs.Relevance.{IsAccepted, IsCyclic, IsNegativeCycle, edge_at};
+ghost use Rattle.mm_value.specs.declared.refusal.Refusal.TheVariants.{Memory};
+ghost use Rattle.mm_relevance.specs.Relevance.{IsAccepted, IsCyclic, IsNegativeCycle};
 ghost use Rattle.mm_relevance.specs.Walks.{name_of};
 ghost use Rattle.mm_relevance.specs.declared.cycle.CycleEdge.{CycleEdge as Named};
 
