@@ -43,8 +43,8 @@ pub(crate) struct Relaxation {
 }
 
 impl Relaxation {
-    /// The numbers after as many rounds as lower any, but at most one more than there are edges: a walk that comes by no point
-    /// twice has no more edges than these, so a number that is lowered even then is lowered in a circle.
+    /// The numbers after as many rounds as lower any, until the edges that lowered them lead in a circle. A walk that comes by no
+    /// point twice has no more edges than there are, so no later than in one more round there is one or the other.
     pub(crate) fn of(edges: &[Edge]) -> Relaxation {
         let mut relaxation = Relaxation {
             numbers: [0; SLOTS],
@@ -53,7 +53,7 @@ impl Relaxation {
         };
         relaxation.go_over(edges);
         for _ in edges {
-            if relaxation.lowered.is_none() {
+            if relaxation.lowered.is_none() || relaxation.on_circle(edges).is_some() {
                 return relaxation;
             }
             relaxation.go_over(edges);
@@ -69,10 +69,11 @@ impl Relaxation {
         }
     }
 
-    /// Lowers the number of an edge's left point to what the edge allows, where it is greater.
+    /// Lowers the number of an edge's left point to what the edge allows, where it is greater. Costs are far too
+    /// small for a sum that wraps, and the checks are right of whatever numbers there are.
     fn lower(&mut self, index: usize, edge: &Edge) {
         let left = slot(edge.left);
-        let most = self.numbers[slot(edge.right)].saturating_add(edge.cost);
+        let most = self.numbers[slot(edge.right)].wrapping_add(edge.cost);
         if most < self.numbers[left] {
             self.numbers[left] = most;
             self.via[left] = u8::try_from(index).ok();
@@ -111,9 +112,9 @@ impl Relaxation {
         edges.get(usize::from(index))
     }
 
-    /// A point to which the edges that lowered numbers lead back: as many steps as there are edges end on a circle, if anywhere.
+    /// A point on a circle of the edges that lowered numbers. So many steps as there are edges and one more come by an edge twice.
     fn on_circle(&self, edges: &[Edge]) -> Option<Point> {
-        let mut point = self.lowered?;
+        let mut point = self.edge_from(edges, self.lowered?)?.right;
         for _ in edges {
             point = self.edge_from(edges, point)?.right;
         }

@@ -19,8 +19,8 @@ use std::alloc::{AllocError, Global};
 /// A cycle that shows that no combination with this row at this place of FROM fits the query, if there is one of at most 32
 /// edges: then the row is irrelevant (Blakeley, Larson and Tompa). The cycle is a negative one of the inequalities that the
 /// atoms say when the row's values are put in (Rosenkrantz and Hunt), or the one edge of an atom that is false of known texts. It
-/// takes memory for the inequalities, unless an atom is false of known texts, and for the cycle that is found; more only where a
-/// search is needed (`negative_walk`). `Memory` is the only refusal.
+/// takes memory for the inequalities, unless an atom is false of known texts, and for the cycle that it finds; for more only where
+/// it has to search long, as can be with more than 4 rows of FROM, 16 columns of a row or 16 atoms. `Memory` is the only refusal.
 pub fn irrelevant(
     alloc: Global,
     query: &BoundQuery,
