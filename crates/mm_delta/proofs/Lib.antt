@@ -24,3 +24,4 @@ pub mod Undoing
 pub mod Under
 pub mod Adding
 pub mod Merging
+pub mod Tallies
