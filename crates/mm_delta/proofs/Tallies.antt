@@ -96,3 +96,12 @@ pub counted_many : (row other : List Value) (few : List Signed) (old mid new : E
 counted_many row other few old mid new are one added adds =
     one_up row other (listed few ++ old) new
     (adds.counts other ∙ ap (λ (z : ℤ). z +ℤ signed_count other (one_of row ∷ [])) (added ∙ sym (count_tallied other few old are one)))
+
+-- The same where the bag is known by another name, and the count may have been refused.
+pub counted_row : {T E : Type 0} (r : Result T E) (row : List Value) (old new : List Signed) (many entries : Entries) → many ≡ [] → AreListed old
+    → OnOk r (new ≡ with_change (one_of row) old) → OnOk r (All (λ (x : Signed). IsSmall x.count) new) → listed old ++ many ≡ entries
+    → OnOk r ((other : List Value) → count_in other (listed new ++ many) ≡ count_in other entries + count_of other (row ∷ []))
+counted_row (Ok x) row old new many entries none before is small same = λ other.
+    counted_few row other old new many none before (listed_with row old new before is small) is
+    ∙ ap (λ (es : Entries). count_in other es + count_of other (row ∷ [])) same
+counted_row (Err e) row old new many entries none before is small same = tt
