@@ -1,5 +1,5 @@
 -- Bags of which a few rows are listed, and more are kept by hash.
-use Rattle.std.specs.Prelude.{ℕ, ℤ, pos, neg_ℤ, negsuc, ◌+ℤ◌, ◌<ℤ◌, ◌^◌, ◌==◌, Bool, true, false, if◌then◌else◌, List, [], ◌∷◌, ◌++◌, All, map}
+use Rattle.std.specs.Prelude.{ℕ, ℤ, pos, neg_ℤ, negsuc, ◌+ℤ◌, ◌<ℤ◌, ◌^◌, ◌==◌, Bool, true, false, if◌then◌else◌, List, [], ◌∷◌, All, map}
 use Rattle.std.specs.List.{IsDistinct}
 use Rattle.mm_value.specs.Equality.{same_row}
 use Rattle.mm_value.specs.declared.values.Value.{Value}

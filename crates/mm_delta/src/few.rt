@@ -12,10 +12,7 @@ use mm_value::{Refusal, Row};
 
 /// For each row whose counts differ, the row once, with its count in `comes` less its count in `goes`. Both lists are given up,
 /// and no row is copied. `Memory` is the only refusal.
-pub(crate) fn few_changes(
-    comes: Vec<Signed>,
-    mut goes: Vec<Signed>,
-) -> Result<Vec<Signed>, Refusal>
+pub(crate) fn few_changes(comes: Vec<Signed>, mut goes: Vec<Signed>) -> Result<Vec<Signed>, Refusal>
     requires comes { AreOnce comes.items }
     requires goes { AreOnce goes.items }
     ensures change { IfOk result (λ found. (row : List Val) → signed_count row found.items ≡ signed_count row comes.items -ℤ signed_count row goes.items) }

@@ -67,11 +67,7 @@ impl Tally {
 /// For each row whose counts in the two bags differ, the row once, with its count in `comes` less its count in `goes`, which
 /// lies between -2^64 and 2^64. A row without an entry counts as 0. Where both bags have a few rows, none is copied or hashed.
 /// `Memory` is the only refusal.
-pub(crate) fn net_changes(
-    alloc: Global,
-    comes: Tally,
-    goes: Tally,
-) -> Result<Vec<Signed>, Refusal>
+pub(crate) fn net_changes(alloc: Global, comes: Tally, goes: Tally) -> Result<Vec<Signed>, Refusal>
     ensures change { IfOk result (λ found. (row : List Val) → signed_count row found.items ≡ pos (count_in row comes.entries) -ℤ pos (count_in row goes.entries)) }
     ensures once { IfOk result (λ found. IsDistinct same_row (map (λ change. change.row) found.items)) }
     ensures nonzero { IfOk result (λ found. All (λ change. change.count ≢ pos 0) found.items) }

@@ -1,9 +1,8 @@
-use Rattle.std.proofs.Common.{◌≡◌, ℤ, pos, ◌+ℤ◌, List, [], ◌∷◌, cond, All, length, refl, sym, ap, ◌∙◌, subst, arith}
+use Rattle.std.proofs.Common.{◌≡◌, ℤ, pos, ◌+ℤ◌, List, [], ◌∷◌, cond, All, length, sym, ap, ◌∙◌, subst, arith}
 use Rattle.std.proofs.lemmas.Int.{ints}
 use Rattle.std.proofs.lemmas.List.Elements.{All-head, All-tail}
 use Rattle.std.specs.List.{IsDistinct}
 use Rattle.mm_value.specs.Equality.{same_row}
-use Rattle.mm_value.specs.declared.values.Value.{Value}
 use Rattle.mm_delta.specs.Counts.{IsNet, signed_count}
 use Rattle.mm_delta.specs.Tally.{IsSmall, rows_changed}
 use Rattle.mm_delta.specs.declared.signed.Signed.{Signed}

@@ -1,6 +1,6 @@
 use Rattle.std.proofs.Common.{pos, ◌-ℤ◌, sym, ap, ◌∙◌}
 use Rattle.std.proofs.lemmas.Result.{IfOk-weaker}
-use Rattle.mm_delta.specs.Counts.{Entries, count_in, signed_count}
+use Rattle.mm_delta.specs.Counts.{Entries, count_in}
 use Rattle.mm_delta.proofs.Merging.{nothing}
 use Rattle.mm_delta.proofs.Tallies.{count_few}
 use Rattle.mm_delta.proofs.tally.net_changes.Goals as goal

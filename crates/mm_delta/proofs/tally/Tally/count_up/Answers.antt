@@ -1,8 +1,7 @@
-use Rattle.std.proofs.Common.{◌≡◌, ◌+◌, pos, ◌+ℤ◌, List, [], ◌∷◌, ◌++◌, inl, inr, sym, ap, ◌∙◌, subst}
+use Rattle.std.proofs.Common.{◌≡◌, ◌+◌, pos, ◌+ℤ◌, List, [], ◌∷◌, ◌++◌, inr, sym, ap, ◌∙◌, subst}
 use Rattle.std.proofs.lemmas.Result.{on_ok_weaker}
-use Rattle.mm_value.specs.declared.values.Value.{Value}
 use Rattle.mm_delta.specs.Counts.{Entries, count_in, count_of, signed_count}
-use Rattle.mm_delta.specs.Tally.{AreListed, listed}
+use Rattle.mm_delta.specs.Tally.{listed}
 use Rattle.mm_delta.specs.declared.signed.Signed.{Signed}
 use Rattle.mm_delta.proofs.Merging.{nothing}
 use Rattle.mm_delta.proofs.Tallies.{counted_many, counted_row, listed_after}
@@ -23,7 +22,6 @@ returns-then-len-lt-FEW-clause-counted c =
 
 pub returns-clause-counted : goal.returns-clause-counted
 returns-clause-counted c =
-
     let were = ap (λ v. v.items) c.replace-few.ensures.value in
     let none = ap (λ v. v.items) c.replace-few.ensures.after ∙ c.new-nothing.ensures.items in
     on_ok_weaker c.count_up.result
