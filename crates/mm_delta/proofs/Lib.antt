@@ -22,3 +22,6 @@ pub mod Purging
 pub mod Reordering
 pub mod Undoing
 pub mod Under
+pub mod Adding
+pub mod Merging
+pub mod Tallies

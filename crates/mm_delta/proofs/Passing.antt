@@ -21,7 +21,7 @@ abbrev rows_in : List Signed → List (List Value)
 rows_in changes = map (λ change. change.row) changes
 
 -- A row that is not among the changed ones has no change.
-unchanged : (row : List Value) (changes : List Signed) → AllByRecursion (λ other. same_row row other ≡ false) (rows_in changes) → signed_count row changes ≡ pos 0
+pub unchanged : (row : List Value) (changes : List Signed) → AllByRecursion (λ other. same_row row other ≡ false) (rows_in changes) → signed_count row changes ≡ pos 0
 unchanged row [] h = refl
 unchanged row (c ∷ cs) h = none (cond (same_row row c.row) c.count (pos 0)) (signed_count row cs) (ap (λ b. cond b c.count (pos 0)) h.0) (unchanged row cs h.1)
   where

@@ -11,11 +11,10 @@ ghost use Rattle.mm_delta.specs.Edited.{after_at, before_at};
 ghost use Rattle.mm_delta.specs.Skipping.{IsOfCyclicRows, IsTypeTested};
 ghost use Rattle.mm_delta.specs.Steps.{EachFit, term_reads};
 
-use crate::counted::Counted;
-use crate::differing::difference;
 use crate::edited::TableEdits;
 use crate::indexed_changes::IndexedChanges;
 use crate::signed::Signed;
+use crate::tally::{Tally, net_changes};
 use crate::walk::Walk;
 use mm_query::BoundQuery;
 use mm_store::View;
@@ -49,8 +48,8 @@ pub fn delta<'c, 'a: 'c>(
     ensures memory { IfErr result (λ refusal. refusal ≡ Memory) }
 {
     let indexed = IndexedChanges::new(alloc, view, query, tables, changes)?;
-    let mut comes = Counted::new(alloc);
-    let mut goes = Counted::new(alloc);
+    let mut comes = Tally::new(alloc);
+    let mut goes = Tally::new(alloc);
     for place in 0..tables.len() {
         view.is_kept(tables[place]);
         let walk = Walk {
@@ -61,5 +60,5 @@ pub fn delta<'c, 'a: 'c>(
         };
         walk.add_term(alloc, view, &mut comes, &mut goes)?;
     }
-    difference(alloc, &comes, goes)
+    net_changes(alloc, comes, goes)
 }

@@ -13,7 +13,11 @@ use std::alloc::Global;
 
 /// For each row whose counts in the two bags differ, the row once, with its count in `comes` less its count in `goes`, which
 /// lies between -2^64 and 2^64. A row without an entry counts as 0. `Memory` is the only refusal.
-pub fn difference(alloc: Global, comes: &Counted, goes: Counted) -> Result<Vec<Signed>, Refusal>
+pub(crate) fn difference(
+    alloc: Global,
+    comes: &Counted,
+    goes: Counted,
+) -> Result<Vec<Signed>, Refusal>
     ensures change { IfOk result (λ found. (row : List Val) → signed_count row found.items ≡ pos (count_in row comes.now.entries) -ℤ pos (count_in row goes.entries)) }
     ensures once { IfOk result (λ found. IsDistinct same_row (map (λ change. change.row) found.items)) }
     ensures nonzero { IfOk result (λ found. All (λ change. change.count ≢ pos 0) found.items) }

@@ -17,9 +17,9 @@ ghost use Rattle.mm_delta.specs.Steps.{EachFit, HasTables, row_reads, term_reads
 ghost use Rattle.mm_delta.specs.Terms.{lists_around};
 ghost use Rattle.mm_delta.specs.Walk.{other_places};
 
-use crate::counted::Counted;
 use crate::edited::row_gone;
 use crate::rows::{add_coming, read_all};
+use crate::tally::Tally;
 use crate::walk::Walk;
 use mm_relation::Edit;
 use mm_store::View;
@@ -34,7 +34,7 @@ impl<'c> Walk<'_, 'c> {
         alloc: Global,
         view: &mut View<'a>,
         rows: &[&'c Row],
-        out: &mut Counted,
+        out: &mut Tally,
     ) -> Result<(), Refusal>
         requires place { self.now.place < length self.now.tables.now }
         requires few { length self.now.tables.now ≤ 4 }
@@ -64,8 +64,8 @@ impl<'c> Walk<'_, 'c> {
         &self,
         alloc: Global,
         view: &mut View<'a>,
-        comes: &mut Counted,
-        goes: &mut Counted,
+        comes: &mut Tally,
+        goes: &mut Tally,
     ) -> Result<(), Refusal>
         requires place { self.now.place < length self.now.tables.now }
         requires few { length self.now.tables.now ≤ 4 }

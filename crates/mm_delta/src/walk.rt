@@ -15,12 +15,12 @@ ghost use Rattle.mm_relevance.specs.Relevance.{IsCyclic};
 
 use crate::beside::Beside;
 use crate::chosen::Chosen;
-use crate::counted::Counted;
 use crate::counting::count_row;
 use crate::indexed_changes::IndexedChanges;
 use crate::look_up::{LookUp, Site};
 use crate::rows::{read_all, references};
 use crate::skipped::is_skipped;
+use crate::tally::Tally;
 use arrayvec::ArrayVec;
 use mm_query::{BoundQuery, MAX_FROM, none_fails, values_of};
 use mm_store::View;
@@ -114,7 +114,7 @@ impl<'w, 'c> Walk<'w, 'c> {
         view: &mut View<'a>,
         chosen: &Chosen<'c>,
         others: &[usize],
-        out: &mut Counted,
+        out: &mut Tally,
     ) -> Result<(), Refusal>
         requires vacant { AreOpen others.now chosen.now }
         requires there { HasTables self.now.tables.now view.old.store others.now }
@@ -165,7 +165,7 @@ impl<'w, 'c> Walk<'w, 'c> {
         alloc: Global,
         view: &mut View<'a>,
         row: &'c Row,
-        out: &mut Counted,
+        out: &mut Tally,
     ) -> Result<(), Refusal>
         requires place { self.now.place < length self.now.tables.now }
         requires few { length self.now.tables.now ≤ 4 }

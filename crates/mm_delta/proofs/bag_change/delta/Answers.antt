@@ -85,11 +85,11 @@ returns-in_err-add_term-clause-reads c = λ skipped only.
 
 pub returns-clause-change : goal.returns-clause-change
 returns-clause-change c =
-    IfOk-weaker c.difference.result _ _
+    IfOk-weaker c.net_changes.result _ _
     (λ found change row.
     counts_all c.args.query.now c.args.view.now.store c.args.changes.now c.args.tables.now row c.loop-place.place (count_in row c.loop-place.comes.entries) (count_in row c.loop-place.goes.entries) (signed_count row found.items)
     (omega (arith, c.loop-place-test.false, c.loop-place.auto.place-end)) (c.loop-place.invariant.counts row) (change row))
-    c.difference.ensures.change
+    c.net_changes.ensures.change
 
 pub returns-clause-reads : goal.returns-clause-reads
 returns-clause-reads c = λ skipped only.
