@@ -1,7 +1,8 @@
-//! Times inserts, look-ups and removes of the structures that hold references.
+//! Times inserts, look-ups and removes of the structures that hold references, or the search that shows rows to be
+//! irrelevant.
 //!
-//! It does so where it is given a word, and prints a line for each structure and number of entries. With none it does
-//! nothing, since no two runs print the same times.
+//! It does the one where it is given a word, and the other where this is `irrelevance`, and prints a line for each structure and
+//! number of entries, or for each search. With no word it does nothing, since no two runs print the same times.
 #![tactic(auto)]
 
 mod by_hash;
@@ -9,6 +10,7 @@ mod by_key;
 mod entries;
 mod in_order;
 mod in_rows;
+mod irrelevance;
 mod report;
 
 use std::env;
@@ -19,8 +21,11 @@ const MOST_IN_A_VECTOR: usize = 100_000;
 
 fn main(rt: HostRuntime) -> anyhow::Result<()> {
     let mut words = env::args(&rt)?;
-    if words.nth(1).is_none() {
+    let Some(word) = words.nth(1) else {
         return Ok(());
+    };
+    if word.as_str() == "irrelevance" {
+        return irrelevance::measure(&rt);
     }
     for n in [10_000, 100_000, 1_048_576] {
         by_hash::measure(&rt, n)?;
