@@ -1,6 +1,4 @@
 //! Bags of references by hash.
-ghost use Rattle.std.specs.Prelude.{◌<◌, OnOk};
-
 use crate::growths::asked_again;
 use crate::references::first_of;
 use mlhash::HashRefs;
@@ -81,7 +79,10 @@ fn hash_copy_growths(rt: HostRuntime) -> Result<(), Fail> {
     if put_three(alloc, &mut refs).is_err() {
         return Ok(());
     }
-    let mut found = Vec::new(alloc);
+    // Full, so that it has to grow.
+    let Ok(mut found) = Vec::with_capacity(alloc, 1) else {
+        return Ok(());
+    };
     if found.push(first_of(0)).is_err() {
         return Ok(());
     }

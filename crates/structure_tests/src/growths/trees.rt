@@ -1,6 +1,4 @@
 //! T-trees of several nodes, and their pool of nodes.
-ghost use Rattle.std.specs.Prelude.{◌≡◌};
-
 use crate::growths::asked_again;
 use crate::references::{ascending, first_of};
 use crate::samples::{Anywhere, ByPlace};
