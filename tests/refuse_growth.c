@@ -15,10 +15,11 @@
 
    Only growths of the program itself are counted. The dynamic linker may take memory by these functions too, but no more
    once it has run the constructor of this library, and the program's own code comes after that. The C library takes none
-   of its own where a program only reads and writes descriptors, as mmdb does: the first growth of mmdb is what its main
-   asks for as the output's buffer, and the second comes after the first read.
+   of its own where a program only reads and writes descriptors, as mmdb and the test programs do: the first growth of
+   mmdb is what its main asks for as the output's buffer, and the second comes after the first read; the first growth of a
+   test program is one of the test that it runs.
 
-   mmdb takes memory by malloc and realloc alone. Nothing is known here of posix_memalign and the like; a block of theirs
+   They take memory by malloc and realloc alone. Nothing is known here of posix_memalign and the like; a block of theirs
    must not be given to realloc. */
 #include <errno.h>
 #include <malloc.h>

@@ -1,8 +1,8 @@
 //! Cycles of worked examples.
-use crate::samples::{atom, field, query, row};
-use mm_query::{Atom, BoundQuery, Comparison, FieldPlace, Operand};
+use crate::samples::{atom, between, field, is_ann, lower, never, query, row, text};
+use mm_query::{BoundQuery, Comparison, Operand};
 use mm_relevance::{CycleEdge, check_cycle, irrelevant};
-use mm_value::{Row, Text, Value};
+use mm_value::{Row, Value};
 use std::alloc::Global;
 use std::test::Fail;
 
@@ -12,26 +12,6 @@ fn edges(alloc: Global, query: &BoundQuery, row: &Row) -> Result<Vec<CycleEdge>,
         Some(cycle) => Ok(cycle.edges),
         None => Ok(Vec::new(alloc)),
     }
-}
-
-/// The lower edge of an atom.
-fn lower(conjunct: usize) -> CycleEdge {
-    CycleEdge {
-        conjunct,
-        upper: false,
-    }
-}
-
-/// `a.k < b.v AND b.v < 5`
-fn between(alloc: Global) -> Result<BoundQuery, Fail> {
-    let mut atoms = Vec::new(alloc);
-    atoms.push(atom(field(0, 1), Comparison::Less, Operand::Column(field(1, 1))))?;
-    atoms.push(atom(
-        field(1, 1),
-        Comparison::Less,
-        Operand::Literal(Value::Int(5)),
-    ))?;
-    query(alloc, 2, atoms)
 }
 
 #[test]
@@ -46,22 +26,6 @@ fn no_value_lies_between_4_and_5(rt: HostRuntime) -> Result<(), Fail> {
     assert!(rt; !check_cycle(&query, 0, &near, &cycle));
     assert!(rt; edges(alloc, &query, &near)?.is_empty());
     Ok(())
-}
-
-/// `b.v <= c.k AND c.k <= b.v - 1`
-fn never(alloc: Global) -> Result<BoundQuery, Fail> {
-    let mut atoms = Vec::new(alloc);
-    atoms.push(atom(
-        field(1, 1),
-        Comparison::LessOrEqual,
-        Operand::Column(field(2, 1)),
-    ))?;
-    atoms.push(atom(
-        field(2, 1),
-        Comparison::LessOrEqual,
-        Operand::Shifted(field(1, 1), -1),
-    ))?;
-    query(alloc, 3, atoms)
 }
 
 #[test]
@@ -89,21 +53,10 @@ fn a_constant_is_compared_with_the_row(rt: HostRuntime) -> Result<(), Fail> {
     Ok(())
 }
 
-/// A text.
-fn text(alloc: Global, bytes: &[u8]) -> Result<Value, Fail> {
-    Ok(Value::Text(Text::new(alloc, bytes)?))
-}
-
 #[test]
 fn a_text_is_compared_with_the_row(rt: HostRuntime) -> Result<(), Fail> {
     let alloc = rt.alloc();
-    let mut atoms = Vec::new(alloc);
-    atoms.push(atom(
-        field(0, 1),
-        Comparison::Equal,
-        Operand::Literal(text(alloc, b"ann")?),
-    ))?;
-    let query = query(alloc, 2, atoms)?;
+    let query = is_ann(alloc)?;
     let found = edges(alloc, &query, &row(alloc, 1, text(alloc, b"bob")?)?)?;
     assert_eq!(rt; found.as_slice(), [lower(0)].as_slice());
     assert!(rt; edges(alloc, &query, &row(alloc, 1, text(alloc, b"ann")?)?)?.is_empty());

@@ -6,4 +6,6 @@
 #[cfg(test)]
 mod cycles;
 #[cfg(test)]
+mod growths;
+#[cfg(test)]
 mod samples;

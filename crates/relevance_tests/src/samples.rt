@@ -1,13 +1,21 @@
 //! Queries and rows for tests.
 use mm_query::{Atom, BoundQuery, Comparison, FieldPlace, FromItem, ItemList, Operand};
+use mm_relevance::CycleEdge;
 use mm_schema::Name;
-use mm_value::{Row, Value};
+use mm_value::{Refusal, Row, Text, Value};
 use std::alloc::Global;
-use std::test::Fail;
 
 /// A column of the row at a place.
 pub fn field(place: usize, column: usize) -> FieldPlace {
     FieldPlace { place, column }
+}
+
+/// The lower edge of an atom.
+pub fn lower(conjunct: usize) -> CycleEdge {
+    CycleEdge {
+        conjunct,
+        upper: false,
+    }
 }
 
 /// An atom.
@@ -23,13 +31,13 @@ pub fn atom(
     }
 }
 
-/// A query over so many tables with these atoms.
+/// A query over so many tables with these atoms. `Memory` where memory is refused.
 pub fn query(
     alloc: Global,
     tables: usize,
     atoms: Vec<Atom<FieldPlace>>,
-) -> Result<BoundQuery, Fail> {
-    let name = Name::new(b"t").ok_or("no name")?;
+) -> Result<BoundQuery, Refusal> {
+    let name = Name::new(b"t").ok_or(Refusal::Syntax)?;
     let mut from = Vec::new(alloc);
     for _ in 0..tables {
         from.push(FromItem {
@@ -46,10 +54,54 @@ pub fn query(
     })
 }
 
-/// A row of two values.
-pub fn row(alloc: Global, key: i64, value: Value) -> Result<Row, Fail> {
+/// A row of two values. `Memory` where memory is refused.
+pub fn row(alloc: Global, key: i64, value: Value) -> Result<Row, Refusal> {
     let mut values = Vec::with_capacity(alloc, 2)?;
     values.push(Value::Int(key))?;
     values.push(value)?;
     Ok(Row::new(values))
+}
+
+/// `a.k < b.v AND b.v < 5`
+pub fn between(alloc: Global) -> Result<BoundQuery, Refusal> {
+    let mut atoms = Vec::new(alloc);
+    atoms.push(atom(field(0, 1), Comparison::Less, Operand::Column(field(1, 1))))?;
+    atoms.push(atom(
+        field(1, 1),
+        Comparison::Less,
+        Operand::Literal(Value::Int(5)),
+    ))?;
+    query(alloc, 2, atoms)
+}
+
+/// `b.v <= c.k AND c.k <= b.v - 1`
+pub fn never(alloc: Global) -> Result<BoundQuery, Refusal> {
+    let mut atoms = Vec::new(alloc);
+    atoms.push(atom(
+        field(1, 1),
+        Comparison::LessOrEqual,
+        Operand::Column(field(2, 1)),
+    ))?;
+    atoms.push(atom(
+        field(2, 1),
+        Comparison::LessOrEqual,
+        Operand::Shifted(field(1, 1), -1),
+    ))?;
+    query(alloc, 3, atoms)
+}
+
+/// A text.
+pub fn text(alloc: Global, bytes: &[u8]) -> Result<Value, Refusal> {
+    Ok(Value::Text(Text::new(alloc, bytes)?))
+}
+
+/// `a.v = 'ann'`
+pub fn is_ann(alloc: Global) -> Result<BoundQuery, Refusal> {
+    let mut atoms = Vec::new(alloc);
+    atoms.push(atom(
+        field(0, 1),
+        Comparison::Equal,
+        Operand::Literal(text(alloc, b"ann")?),
+    ))?;
+    query(alloc, 2, atoms)
 }

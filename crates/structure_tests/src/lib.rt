@@ -8,6 +8,8 @@ mod devices;
 #[cfg(test)]
 mod foreign_keys;
 #[cfg(test)]
+mod growths;
+#[cfg(test)]
 mod hash_tables;
 #[cfg(test)]
 mod literals;

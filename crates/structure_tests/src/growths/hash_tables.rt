@@ -1,0 +1,102 @@
+//! Bags of references by hash.
+use crate::growths::asked_again;
+use crate::references::first_of;
+use mlhash::HashRefs;
+use mm_value::RowRef;
+use std::alloc::{AllocError, Global};
+use std::process::Abort;
+use std::test::Fail;
+
+/// Puts references of the hash 4 into a bag, and one of the hash 9.
+fn put_three(alloc: Global, refs: &mut HashRefs) -> Result<(), AllocError> {
+    refs.reserve(alloc, 3)?;
+    refs.insert(4, first_of(1));
+    refs.insert(9, first_of(2));
+    refs.insert(4, first_of(3));
+    Ok(())
+}
+
+/// Whether these are the references of a list, in whatever order.
+fn are(found: &[RowRef], wanted: &[RowRef]) -> bool {
+    found.len() == wanted.len() && wanted.iter().all(|wanted| found.contains(wanted))
+}
+
+/// Asserts that the three references of `put_three` are in a bag, and no more.
+fn assert_three(rt: &impl Abort, alloc: Global, refs: &HashRefs) -> Result<(), AllocError> {
+    let mut found = Vec::new(alloc);
+    refs.copy_all(alloc, &mut found)?;
+    assert!(rt; are(&found, &[first_of(1), first_of(2), first_of(3)]));
+    found.clear();
+    refs.matches(alloc, 4, &mut found)?;
+    assert!(rt; are(&found, &[first_of(1), first_of(3)]));
+    Ok(())
+}
+
+// The bag does without bucket heads and places of its directory where memory is refused for them.
+#[test]
+fn hash_reserve_growths(rt: HostRuntime) -> Result<(), Fail> {
+    let alloc = rt.alloc();
+    let mut refs = HashRefs::new(alloc);
+    if put_three(alloc, &mut refs).is_err() {
+        return Ok(());
+    }
+    let spare = refs.spare();
+    if refs.reserve(alloc, 40).is_err() {
+        asked_again(&rt)?;
+        assert_eq!(rt; (refs.len(), refs.spare()), (3, spare));
+        assert_three(&rt, alloc, &refs)?;
+        refs.reserve(alloc, 40)?;
+    }
+    refs.insert(9, first_of(4));
+    assert!(rt; refs.remove(9, first_of(4)));
+    assert!(rt; refs.spare() >= 40);
+    let _ = assert_three(&rt, alloc, &refs);
+    Ok(())
+}
+
+#[test]
+fn hash_matches_growths(rt: HostRuntime) -> Result<(), Fail> {
+    let alloc = rt.alloc();
+    let mut refs = HashRefs::new(alloc);
+    if put_three(alloc, &mut refs).is_err() {
+        return Ok(());
+    }
+    let mut found = Vec::new(alloc);
+    if refs.matches(alloc, 4, &mut found).is_err() {
+        asked_again(&rt)?;
+        assert!(rt; found.is_empty());
+        assert_three(&rt, alloc, &refs)?;
+        refs.matches(alloc, 4, &mut found)?;
+    }
+    assert!(rt; are(&found, &[first_of(1), first_of(3)]));
+    Ok(())
+}
+
+#[test]
+fn hash_copy_growths(rt: HostRuntime) -> Result<(), Fail> {
+    let alloc = rt.alloc();
+    let mut refs = HashRefs::new(alloc);
+    if put_three(alloc, &mut refs).is_err() {
+        return Ok(());
+    }
+    // Full, so that it has to grow.
+    let Ok(mut found) = Vec::with_capacity(alloc, 1) else {
+        return Ok(());
+    };
+    if found.push(first_of(0)).is_err() {
+        return Ok(());
+    }
+    if refs.copy_all(alloc, &mut found).is_err() {
+        asked_again(&rt)?;
+        assert_eq!(rt; found.as_slice(), [first_of(0)].as_slice());
+        assert_three(&rt, alloc, &refs)?;
+        refs.copy_all(alloc, &mut found)?;
+    }
+    assert!(rt;
+        are(
+            &found,
+            &[first_of(0), first_of(1), first_of(2), first_of(3)]
+        )
+    );
+    Ok(())
+}
