@@ -1,5 +1,6 @@
 //! Temporary lists and the rows of results.
-ghost use Rattle.std.specs.Prelude.{◌≡◌, ◌∷◌, [], length, All, IfOk};
+ghost use Rattle.std.specs.Prelude.{◌≡◌, length, pos, All, IfOk};
+ghost use Rattle.mm_value.specs.declared.values.Value.TheVariants.{Int};
 ghost use Rattle.mm_templist.specs.Combos.{AreLive};
 
 use super::{are_pairs, asked_again, is_number};
@@ -26,11 +27,12 @@ fn adds(rt: &(impl Abort + Print), list: &mut TempList, slot: u8) -> Result<(), 
     ensures { length list.new.tables ≡ 2 }
 {
     let len = list.len();
-    if list.push(&[at(slot)], at(9)).is_err() {
-        asked_again(rt)?;
-        assert_eq!(rt; list.len(), len);
-        list.push(&[at(slot)], at(9))?;
+    if list.push(&[at(slot)], at(9)).is_ok() {
+        return Ok(());
     }
+    asked_again(rt)?;
+    assert_eq!(rt; list.len(), len);
+    list.push(&[at(slot)], at(9))?;
     Ok(())
 }
 
@@ -95,14 +97,34 @@ fn are_shown(rows: &ShownRows, pairs: &[(i64, i64)]) -> bool {
         return false;
     }
     for (i, (first, second)) in pairs.iter().enumerate() {
-        let [left, right] = rows.row(i) else {
-            return false;
-        };
-        if !is_number(left, *first) || !is_number(right, *second) {
+        let row = rows.row(i);
+        if row.len() != 2 || !is_number(row[0], *first) || !is_number(row[1], *second) {
             return false;
         }
     }
     true
+}
+
+/// The rows of a list in the order of the second field, shown again where memory is refused.
+fn show_again<'s>(
+    rt: &(impl Abort + Print),
+    alloc: Global,
+    list: &TempList,
+    store: &'s Store,
+    zero: &'s Value,
+) -> Result<ShownRows<'s>, Fail>
+    requires live { All (AreLive store.now list.now.tables) list.now.combos }
+    requires zero { zero.now ≡ Int (pos 0) }
+{
+    let mut meter = Meter::new();
+    match list.shown(alloc, store, &mut meter, false, &[1], zero) {
+        Ok(rows) => Ok(rows),
+        Err(_) => {
+            asked_again(rt)?;
+            let rows = list.shown(alloc, store, &mut meter, false, &[1], zero)?;
+            Ok(rows)
+        }
+    }
 }
 
 #[test]
@@ -114,15 +136,8 @@ fn shown_growths(rt: HostRuntime) -> Result<(), Fail> {
     let Ok(list) = all_rows(alloc, &store) else {
         return Ok(());
     };
-    let mut meter = Meter::new();
     let zero = Value::Int(0);
-    let rows = match list.shown(alloc, &store, &mut meter, false, &[1], &zero) {
-        Ok(rows) => rows,
-        Err(_) => {
-            asked_again(&rt)?;
-            list.shown(alloc, &store, &mut meter, false, &[1], &zero)?
-        }
-    };
+    let rows = show_again(&rt, alloc, &list, &store, &zero)?;
     assert!(rt; are_shown(&rows, &[(3, 1), (2, 2), (1, 3)]));
     Ok(())
 }

@@ -7,62 +7,60 @@ use mm_value::{ColType, Refusal};
 use std::alloc::Global;
 use std::test::Fail;
 
-fn name(bytes: &[u8]) -> Result<Name, Fail> {
-    Ok(Name::new(bytes).ok_or("no name")?)
-}
-
-/// A table of whole numbers, of which the column id is the key and v is not.
-fn table(alloc: Global, bytes: &[u8]) -> Result<TableDef, Fail> {
+/// A table of whole numbers, of which the column id is the key and v is not. None where memory is refused.
+fn table(alloc: Global, name: &[u8]) -> Option<TableDef> {
     let key = Column {
-        name: name(b"id")?,
+        name: Name::new(b"id")?,
         col_type: ColType::Int,
         role: Role::Key,
     };
     let value = Column {
-        name: name(b"v")?,
+        name: Name::new(b"v")?,
         col_type: ColType::Int,
         role: Role::Plain,
     };
-    let columns = vec![in alloc; key, value]?;
-    Ok(TableDef {
-        name: name(bytes)?,
-        columns: Columns::new(columns).ok_or("no key")?,
+    let columns = vec![in alloc; key, value].ok()?;
+    Some(TableDef {
+        name: Name::new(name)?,
+        columns: Columns::new(columns)?,
     })
 }
 
-/// The tables a and b.
-fn tables(alloc: Global) -> Result<Catalog, Fail> {
+/// The tables a and b. None where memory is refused.
+fn tables(alloc: Global) -> Option<Catalog> {
     let mut catalog = Catalog::new(alloc);
-    catalog.add_table(table(alloc, b"a")?)?;
-    catalog.add_table(table(alloc, b"b")?)?;
-    Ok(catalog)
+    catalog.add_table(table(alloc, b"a")?).ok()?;
+    catalog.add_table(table(alloc, b"b")?).ok()?;
+    Some(catalog)
 }
 
-fn field(alias: &[u8], column: &[u8]) -> Result<FieldName, Fail> {
-    Ok(FieldName {
-        alias: name(alias)?,
-        column: name(column)?,
+fn field(alias: &[u8], column: &[u8]) -> Option<FieldName> {
+    Some(FieldName {
+        alias: Name::new(alias)?,
+        column: Name::new(column)?,
     })
 }
 
-fn item(table: &[u8], alias: &[u8]) -> Result<FromItem, Fail> {
-    Ok(FromItem {
-        table: name(table)?,
-        alias: name(alias)?,
+fn item(table: &[u8], alias: &[u8]) -> Option<FromItem> {
+    Some(FromItem {
+        table: Name::new(table)?,
+        alias: Name::new(alias)?,
     })
 }
 
-/// `SELECT x.id FROM b y, a x WHERE x.v = y.id`
-fn query(alloc: Global) -> Result<Query, Fail> {
-    let fields = vec![in alloc; field(b"x", b"id")?]?;
-    let from = vec![in alloc; item(b"b", b"y")?, item(b"a", b"x")?]?;
+/// `SELECT x.id FROM b y, a x WHERE x.v = y.id`. None where memory is refused.
+fn query(alloc: Global) -> Option<Query> {
+    let field_of_result = field(b"x", b"id")?;
+    let fields = vec![in alloc; field_of_result].ok()?;
+    let (first, second) = (item(b"b", b"y")?, item(b"a", b"x")?);
+    let from = vec![in alloc; first, second].ok()?;
     let atom = Atom {
         left: field(b"x", b"v")?,
         comparison: Comparison::Equal,
         right: Operand::Column(field(b"y", b"id")?),
     };
-    let atoms = vec![in alloc; atom]?;
-    Ok(Query {
+    let atoms = vec![in alloc; atom].ok()?;
+    Some(Query {
         distinct: false,
         fields: ItemList::new(fields),
         from: ItemList::new(from),
@@ -74,7 +72,7 @@ fn query(alloc: Global) -> Result<Query, Fail> {
 #[test]
 fn places_of_growths(rt: HostRuntime) -> Result<(), Fail> {
     let alloc = rt.alloc();
-    let (Ok(catalog), Ok(query)) = (tables(alloc), query(alloc)) else {
+    let (Some(catalog), Some(query)) = (tables(alloc), query(alloc)) else {
         return Ok(());
     };
     let places = match places_of(alloc, &catalog, query.from.as_slice()) {
@@ -92,7 +90,7 @@ fn places_of_growths(rt: HostRuntime) -> Result<(), Fail> {
 #[test]
 fn plan_growths(rt: HostRuntime) -> Result<(), Fail> {
     let alloc = rt.alloc();
-    let (Ok(catalog), Ok(query)) = (tables(alloc), query(alloc)) else {
+    let (Some(catalog), Some(query)) = (tables(alloc), query(alloc)) else {
         return Ok(());
     };
     let lines = match plan(alloc, &catalog, &[100, 100], &query) {

@@ -1,6 +1,7 @@
 //! Queries run by the lines of their plans: by each selection, and by each join.
 ghost use Rattle.std.specs.Prelude.{◌<◌, ◌≤◌, length, All, IfOk};
 ghost use Rattle.mm_templist.specs.Combos.{AreLive};
+ghost use Rattle.query_tests.specs.Sample.{IsSample};
 
 use super::{are_pairs, asked_again};
 use crate::plans::{INNER_KEY, INNER_VALUE, Method, OUTER_KEY, OUTER_VALUE, compared, equal, line};
@@ -88,7 +89,7 @@ fn selects(
     atom: Atom<FieldPlace>,
     pairs: &[(i64, i64)],
 ) -> Result<(), Fail>
-    requires { 0 < length store.now.tables }
+    requires { IsSample store.now }
 {
     let Ok(query) = query_of(alloc, [OUTER_KEY, OUTER_VALUE], atom) else {
         return Ok(());
