@@ -1,7 +1,7 @@
 //! What no clause says: that ample memory is never refused. And two tables with real rows, of which one may refer to the other.
 ghost use Rattle.std.specs.Prelude.{◌≡◌, ◌<◌, ◌≤◌, [], ◌∷◌, length, All, Contains, IfOk, IfSome};
 ghost use Rattle.mm_relation.specs.Kept.{StoredRows};
-ghost use Rattle.mm_store.specs.Tables.{AreFit, IsAt, IsFrom};
+ghost use Rattle.mm_store.specs.Tables.{AreFit, AreLawful, IsAt, IsFrom};
 ghost use Rattle.mm_relation.specs.declared.names.Side.TheVariants as side;
 ghost use Rattle.mm_relation.specs.Edits.{edit_name, named, new_rows};
 ghost use Rattle.mm_partition.specs.Places.{IsLive};
@@ -18,7 +18,7 @@ use std::marker::Model;
 use std::test::Fail;
 
 /// Adds an index on the second column of a table.
-fn add_index(
+pub fn add_index(
     store: &mut Store,
     alloc: Global,
     table: usize,
@@ -85,6 +85,28 @@ fn additions(alloc: Global, keys: &[i64]) -> Result<Vec<Edit>, AllocError>
     Ok(edits)
 }
 
+/// Makes the edits of a table, and notes them.
+pub fn make_edits(
+    store: &mut Store,
+    alloc: Global,
+    table: usize,
+    edits: Vec<Edit>,
+    undo: &mut Undo,
+) -> Result<(), AllocError>
+    requires there { table < length store.old.tables }
+    requires plain { ArePlain store.old }
+    requires lawful { (stored : StoredRows) → IsAt store.old table stored → AreLawful store.old table stored edits.items }
+    requires fits { CanUndo store.old undo.old }
+    ensures count { length store.new.tables ≡ length store.old.tables }
+    ensures plain { ArePlain store.new }
+    ensures links { store.new.links ≡ store.old.links }
+    ensures longer { length undo.old ≤ length undo.new }
+    ensures fits { CanUndo store.new undo.new }
+{
+    store.apply(alloc, table, edits, undo)?;
+    Ok(())
+}
+
 /// Makes the edits of a table, notes them, and says that it did, unless they are refused.
 fn note(
     store: &mut Store,
@@ -108,7 +130,7 @@ fn note(
         Err(Refusal::Memory) => return Err(AllocError),
         Err(_) => return Ok(false),
     }
-    store.apply(alloc, table, edits, undo)?;
+    make_edits(store, alloc, table, edits, undo)?;
     Ok(true)
 }
 
@@ -132,7 +154,7 @@ fn at_key(store: &Store, table: usize, key: i64) -> Option<RowRef>
 
 /// A change of one row, or the addition of rows.
 #[derive(Clone, Copy)]
-enum Step<'a> {
+pub enum Step<'a> {
     /// A row for each key.
     Put(&'a [i64]),
     /// The row of a key gets another second value.
@@ -143,6 +165,42 @@ enum Step<'a> {
 
 /// A step in a table, and whether it is made.
 type Trial<'a> = (usize, Step<'a>, bool);
+
+/// The edits of a step in a table, none where there is no row of the key.
+pub fn edits_of(
+    store: &Store,
+    alloc: Global,
+    table: usize,
+    step: Step,
+) -> Result<Option<Vec<Edit>>, AllocError>
+    requires there { table < length store.now.tables }
+    requires plain { ArePlain store.now }
+    ensures { IfOk result (λ found. IfSome found (λ edits. (stored : StoredRows) → IsAt store.now table stored → AreFit stored edits.items)) }
+{
+    match step {
+        Step::Put(keys) => {
+            let edits = additions(alloc, keys)?;
+            Ok(Some(edits))
+        }
+        Step::Turn(key, value) => {
+            let Some(at) = at_key(store, table, key) else {
+                return Ok(None);
+            };
+            let values = vec![in alloc; Value::Int(key), Value::Int(value)]?;
+            let mut edits = Vec::new(alloc);
+            edits.push(Edit::Swap(at, Row::new(values)))?;
+            Ok(Some(edits))
+        }
+        Step::Remove(key) => {
+            let Some(at) = at_key(store, table, key) else {
+                return Ok(None);
+            };
+            let mut edits = Vec::new(alloc);
+            edits.push(Edit::Gone(at))?;
+            Ok(Some(edits))
+        }
+    }
+}
 
 /// Notes a step in a table, and says that it did, unless there is no row of the key or the step is refused.
 fn try_step(
@@ -161,29 +219,10 @@ fn try_step(
     ensures longer { length undo.old ≤ length undo.new }
     ensures fits { CanUndo store.new undo.new }
 {
-    match step {
-        Step::Put(keys) => {
-            let edits = additions(alloc, keys)?;
-            note(store, alloc, table, edits, undo)
-        }
-        Step::Turn(key, value) => {
-            let Some(at) = at_key(store, table, key) else {
-                return Ok(false);
-            };
-            let values = vec![in alloc; Value::Int(key), Value::Int(value)]?;
-            let mut edits = Vec::new(alloc);
-            edits.push(Edit::Swap(at, Row::new(values)))?;
-            note(store, alloc, table, edits, undo)
-        }
-        Step::Remove(key) => {
-            let Some(at) = at_key(store, table, key) else {
-                return Ok(false);
-            };
-            let mut edits = Vec::new(alloc);
-            edits.push(Edit::Gone(at))?;
-            note(store, alloc, table, edits, undo)
-        }
-    }
+    let Some(edits) = edits_of(store, alloc, table, step)? else {
+        return Ok(false);
+    };
+    note(store, alloc, table, edits, undo)
 }
 
 /// The same where memory is refused once at most.
@@ -210,7 +249,7 @@ fn make_step(
 }
 
 /// Adds a row for each key to a table for good, and says that it did, unless that is refused.
-fn put(store: &mut Store, alloc: Global, table: usize, keys: &[i64]) -> Result<bool, AllocError>
+pub fn put(store: &mut Store, alloc: Global, table: usize, keys: &[i64]) -> Result<bool, AllocError>
     requires there { table < length store.old.tables }
     requires plain { ArePlain store.old }
     ensures count { length store.new.tables ≡ length store.old.tables }
@@ -408,9 +447,9 @@ fn try_look(store: &Store, alloc: Global) -> Result<Shown, AllocError>
 
 /// Two tables of which the second refers to the first, and the log of what is made of them.
 #[derive(Drop)]
-struct Case {
-    store: Store,
-    undo: Undo,
+pub struct Case {
+    pub store: Store,
+    pub undo: Undo,
 }
 
 impl Model for Case {
@@ -426,7 +465,7 @@ impl Model for Case {
 
 impl Case {
     /// Rows of these keys in the two tables.
-    fn new(alloc: Global, first: &[i64], second: &[i64]) -> Result<Case, AllocError> {
+    pub fn new(alloc: Global, first: &[i64], second: &[i64]) -> Result<Case, AllocError> {
         let mut store = sample_again(alloc, &[LAST_DIGIT])?;
         put(&mut store, alloc, 0, first)?;
         put(&mut store, alloc, 1, second)?;
@@ -435,7 +474,7 @@ impl Case {
     }
 
     /// Makes a step in a table, and says that it did, unless there is no such table or the step is refused.
-    fn step(&mut self, alloc: Global, table: usize, step: Step) -> Result<bool, AllocError> {
+    pub fn step(&mut self, alloc: Global, table: usize, step: Step) -> Result<bool, AllocError> {
         if table >= self.store.len() {
             return Ok(false);
         }
@@ -473,7 +512,7 @@ impl Case {
     }
 
     /// Goes back to a mark, and says that it did, unless the log has fewer commands.
-    fn go_back(&mut self, mark: usize) -> bool {
+    pub fn go_back(&mut self, mark: usize) -> bool {
         if mark > self.undo.mark() {
             return false;
         }
@@ -487,17 +526,17 @@ impl Case {
     }
 
     /// The row of a key of the first table.
-    fn first(&self, key: i64) -> Option<RowRef> {
+    pub fn first(&self, key: i64) -> Option<RowRef> {
         at_key(&self.store, 0, key)
     }
 
     /// The row of a key of the second table.
-    fn second(&self, key: i64) -> Option<RowRef> {
+    pub fn second(&self, key: i64) -> Option<RowRef> {
         at_key(&self.store, 1, key)
     }
 
     /// The row to which that of a key of the second table refers.
-    fn target(&self, key: i64) -> Option<RowRef> {
+    pub fn target(&self, key: i64) -> Option<RowRef> {
         target_of(&self.store, key)
     }
 

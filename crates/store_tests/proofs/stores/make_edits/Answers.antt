@@ -2,7 +2,7 @@ use Rattle.mm_relation.specs.Kept.{StoredRows}
 use Rattle.mm_relation.specs.RowLists.{rows_of}
 use Rattle.mm_store.specs.Tables.{rows_with}
 use Rattle.store_tests.proofs.PlainStores.{kept}
-use Rattle.store_tests.proofs.stores.note.Goals as goal
+use Rattle.store_tests.proofs.stores.make_edits.Goals as goal
 
 pub returns-in_err-apply-clause-count : goal.returns-in_err-apply-clause-count
 returns-in_err-apply-clause-count c =

@@ -1,0 +1,34 @@
+//! Each growth of memory that a call asks for is refused in turn: then what the call could have changed is as before, and the
+//! call given again answers as it should.
+//!
+//! A run refuses one growth, or that one and those behind it until a line is written, since some calls ask once more. Where it is in
+//! front of the call or behind it a test ends there: other runs refuse those of the call.
+//! A selection or a join is a part of the run of a plan that asks for it, and is tested with that.
+mod lists;
+mod plans;
+mod runs;
+
+use mm_value::{Row, Value, compare};
+use std::io;
+
+/// Tells that a call was refused memory and is given again. A run that refuses growths looks for the line.
+fn asked_again(rt: &impl Print) -> io::Result<()> {
+    rt.println("refused")
+}
+
+/// Whether rows are these pairs of whole numbers, in this order.
+fn are_pairs(rows: &[Row], pairs: &[(i64, i64)]) -> bool {
+    for (row, (first, second)) in rows.iter().zip(pairs) {
+        let [left, right] = row.values() else {
+            return false;
+        };
+        if !is_number(left, *first) || !is_number(right, *second) {
+            return false;
+        }
+    }
+    rows.len() == pairs.len()
+}
+
+fn is_number(value: &Value, number: i64) -> bool {
+    compare(value, &Value::Int(number)).is_eq()
+}

@@ -1,0 +1,143 @@
+//! Temporary lists and the rows of results.
+ghost use Rattle.std.specs.Prelude.{◌≡◌, length, pos, All, IfOk};
+ghost use Rattle.mm_value.specs.declared.values.Value.TheVariants.{Int};
+ghost use Rattle.mm_templist.specs.Combos.{AreLive};
+
+use super::{are_pairs, asked_again, is_number};
+use crate::plans::{OUTER_KEY, OUTER_VALUE};
+use crate::samples::{Values, sample};
+use mm_query::FieldPlace;
+use mm_schema::IndexKind;
+use mm_select::by_scan;
+use mm_store::{Meter, Store};
+use mm_templist::{Descriptor, ShownRows, TempList};
+use mm_value::{Refusal, RowRef, Value};
+use std::alloc::{AllocError, Global};
+use std::process::Abort;
+use std::test::Fail;
+
+/// The reference to a slot of the first partition.
+fn at(slot: u8) -> RowRef {
+    RowRef { part: 0, slot }
+}
+
+/// Adds the combination of a slot and slot 9 to a list. Where memory is refused the list is to be as long as it was.
+fn adds(rt: &(impl Abort + Print), list: &mut TempList, slot: u8) -> Result<(), Fail>
+    requires { length list.old.tables ≡ 2 }
+    ensures { length list.new.tables ≡ 2 }
+{
+    let len = list.len();
+    if list.push(&[at(slot)], at(9)).is_ok() {
+        return Ok(());
+    }
+    asked_again(rt)?;
+    assert_eq!(rt; list.len(), len);
+    list.push(&[at(slot)], at(9))?;
+    Ok(())
+}
+
+#[test]
+fn push_growths(rt: HostRuntime) -> Result<(), Fail> {
+    let descriptor = Descriptor {
+        tables: &[0, 1],
+        fields: &[],
+    };
+    let mut list = TempList::new(rt.alloc(), descriptor);
+    adds(&rt, &mut list, 1)?;
+    adds(&rt, &mut list, 2)?;
+    adds(&rt, &mut list, 3)?;
+    assert_eq!(rt; list.len(), 3);
+    assert_eq!(rt; list.combo(0), [at(1), at(9)].as_slice());
+    assert_eq!(rt; list.combo(1), [at(2), at(9)].as_slice());
+    assert_eq!(rt; list.combo(2), [at(3), at(9)].as_slice());
+    Ok(())
+}
+
+/// The key and the value.
+const FIELDS: [FieldPlace; 2] = [OUTER_KEY, OUTER_VALUE];
+
+/// The rows of the first table.
+fn all_rows(alloc: Global, store: &Store) -> Result<TempList<'_>, AllocError>
+    requires { length store.now.tables ≡ 2 }
+    ensures { IfOk result (λ list. All (AreLive store.now list.tables) list.combos) }
+{
+    let descriptor = Descriptor {
+        tables: &[0],
+        fields: &FIELDS,
+    };
+    let mut meter = Meter::new();
+    by_scan(alloc, store, &mut meter, descriptor, &[])
+}
+
+#[test]
+fn project_sorted_growths(rt: HostRuntime) -> Result<(), Fail> {
+    let alloc = rt.alloc();
+    let Ok(store) = sample(alloc, IndexKind::Hash, [3, 0], Values::Falling) else {
+        return Ok(());
+    };
+    let Ok(list) = all_rows(alloc, &store) else {
+        return Ok(());
+    };
+    let mut meter = Meter::new();
+    let rows = match list.project_sorted(alloc, &store, &mut meter, true, &[1]) {
+        Ok(rows) => rows,
+        Err(refusal) => {
+            asked_again(&rt)?;
+            assert_eq!(rt; refusal, Refusal::Memory);
+            list.project_sorted(alloc, &store, &mut meter, true, &[1])?
+        }
+    };
+    assert!(rt; are_pairs(rows.as_slice(), &[(3, 1), (2, 2), (1, 3)]));
+    Ok(())
+}
+
+/// Whether the rows that are shown are these pairs of whole numbers, in this order.
+fn are_shown(rows: &ShownRows, pairs: &[(i64, i64)]) -> bool {
+    if rows.len() != pairs.len() {
+        return false;
+    }
+    for (i, (first, second)) in pairs.iter().enumerate() {
+        let row = rows.row(i);
+        if row.len() != 2 || !is_number(row[0], *first) || !is_number(row[1], *second) {
+            return false;
+        }
+    }
+    true
+}
+
+/// The rows of a list in the order of the second field, shown again where memory is refused.
+fn show_again<'s>(
+    rt: &(impl Abort + Print),
+    alloc: Global,
+    list: &TempList,
+    store: &'s Store,
+    zero: &'s Value,
+) -> Result<ShownRows<'s>, Fail>
+    requires live { All (AreLive store.now list.now.tables) list.now.combos }
+    requires zero { zero.now ≡ Int (pos 0) }
+{
+    let mut meter = Meter::new();
+    match list.shown(alloc, store, &mut meter, false, &[1], zero) {
+        Ok(rows) => Ok(rows),
+        Err(_) => {
+            asked_again(rt)?;
+            let rows = list.shown(alloc, store, &mut meter, false, &[1], zero)?;
+            Ok(rows)
+        }
+    }
+}
+
+#[test]
+fn shown_growths(rt: HostRuntime) -> Result<(), Fail> {
+    let alloc = rt.alloc();
+    let Ok(store) = sample(alloc, IndexKind::Hash, [3, 0], Values::Falling) else {
+        return Ok(());
+    };
+    let Ok(list) = all_rows(alloc, &store) else {
+        return Ok(());
+    };
+    let zero = Value::Int(0);
+    let rows = show_again(&rt, alloc, &list, &store, &zero)?;
+    assert!(rt; are_shown(&rows, &[(3, 1), (2, 2), (1, 3)]));
+    Ok(())
+}

@@ -1,0 +1,130 @@
+//! Tables and indexes, added.
+ghost use Rattle.std.specs.Prelude.{◌≡◌, length, IfOk};
+ghost use Rattle.store_tests.specs.SampleStore.{ArePlain};
+
+use super::asked_again;
+use super::shows::{Shows, table_shows};
+use crate::stores::{add_index, put};
+use mm_schema::{IndexKind, Reference};
+use mm_store::Store;
+use std::alloc::{AllocError, Global};
+use std::process::Abort;
+use std::test::Fail;
+
+/// Four tables of two columns each and no index but those on the keys. The first has rows.
+fn four_tables(alloc: Global) -> Result<Store, AllocError>
+    ensures four { IfOk result (λ store. length store.tables ≡ 4) }
+    ensures plain { IfOk result ArePlain }
+{
+    let mut store = Store::new(alloc);
+    store.add_table(alloc, 2, 0, &[])?;
+    store.add_table(alloc, 2, 0, &[])?;
+    store.add_table(alloc, 2, 0, &[])?;
+    store.add_table(alloc, 2, 0, &[])?;
+    put(&mut store, alloc, 0, &KEYS)?;
+    Ok(store)
+}
+
+/// The keys of the rows, each of which has its last digit beside it. A tree of so many has two nodes.
+const KEYS: [i64; 18] = [
+    18, 1, 17, 2, 16, 3, 15, 4, 14, 5, 13, 6, 12, 7, 11, 8, 10, 9,
+];
+
+/// The rows, with no index but that on the key.
+const BARE: Shows = Shows {
+    rows: &[
+        (1, 1),
+        (2, 2),
+        (3, 3),
+        (4, 4),
+        (5, 5),
+        (6, 6),
+        (7, 7),
+        (8, 8),
+        (9, 9),
+        (10, 0),
+        (11, 1),
+        (12, 2),
+        (13, 3),
+        (14, 4),
+        (15, 5),
+        (16, 6),
+        (17, 7),
+        (18, 8),
+    ],
+    along_tree: &[],
+    by_hash: &[],
+};
+
+/// The second column of a fifth table refers to the first one.
+const TO_FIRST: Reference = Reference {
+    from: 4,
+    column: 1,
+    to: 0,
+};
+
+#[test]
+fn add_table_growths(rt: HostRuntime) -> Result<(), Fail> {
+    let alloc = rt.alloc();
+    let Ok(mut store) = four_tables(alloc) else {
+        return Ok(());
+    };
+    if store.add_table(alloc, 2, 0, &[TO_FIRST]).is_err() {
+        asked_again(&rt)?;
+        assert_eq!(rt; store.len(), 4);
+        assert!(rt; !store.refers_only_to(4, 1, 0));
+        store.add_table(alloc, 2, 0, &[TO_FIRST])?;
+    }
+    assert_eq!(rt; store.len(), 5);
+    assert!(rt; store.refers_only_to(4, 1, 0));
+    assert_eq!(rt; store.table(4).len(), 0);
+    let Ok(is_kept) = table_shows(store.table(0), alloc, BARE) else {
+        return Ok(());
+    };
+    assert!(rt; is_kept);
+    Ok(())
+}
+
+/// Adds an index of a kind to the first table, which then is to show this.
+fn indexes(
+    rt: &(impl Abort + Print),
+    alloc: Global,
+    kind: IndexKind,
+    after: Shows,
+) -> Result<(), Fail> {
+    let Ok(mut store) = four_tables(alloc) else {
+        return Ok(());
+    };
+    if add_index(&mut store, alloc, 0, kind).is_err() {
+        asked_again(rt)?;
+        assert!(rt; store.table(0).index_of(1, kind).is_none());
+        assert!(rt; table_shows(store.table(0), alloc, BARE)?);
+        add_index(&mut store, alloc, 0, kind)?;
+    }
+    assert_eq!(rt; store.len(), 4);
+    let Ok(is_made) = table_shows(store.table(0), alloc, after) else {
+        return Ok(());
+    };
+    assert!(rt; is_made);
+    Ok(())
+}
+
+#[test]
+fn add_tree_index_growths(rt: HostRuntime) -> Result<(), Fail> {
+    let after = Shows {
+        along_tree: &[
+            10, 1, 11, 2, 12, 3, 13, 4, 14, 5, 15, 6, 16, 7, 17, 8, 18, 9,
+        ],
+        ..BARE
+    };
+    indexes(&rt, rt.alloc(), IndexKind::Tree, after)
+}
+
+#[test]
+fn add_hash_index_growths(rt: HostRuntime) -> Result<(), Fail> {
+    let after = Shows {
+        by_hash: &[(0, 1), (1, 2), (5, 2), (8, 2), (9, 1), (10, 0)],
+        ..BARE
+    };
+    indexes(&rt, rt.alloc(), IndexKind::Hash, after)
+}
