@@ -2,7 +2,7 @@
 use crate::samples::{atom, between, field, is_ann, lower, never, query, row, text};
 use mm_query::{BoundQuery, Comparison, Operand};
 use mm_relevance::{CycleEdge, check_cycle, irrelevant};
-use mm_value::{Row, Value};
+use mm_value::{Refusal, Row, Value};
 use std::alloc::Global;
 use std::test::Fail;
 
@@ -64,7 +64,7 @@ fn a_text_is_compared_with_the_row(rt: HostRuntime) -> Result<(), Fail> {
 }
 
 /// `b.c0 = b.c1 + 1 AND b.c1 = b.c2 + 1 AND .. AND b.c14 = b.c15 + 1 AND b.c15 = b.c0 + back`
-fn ring(alloc: Global, back: i64) -> Result<BoundQuery, Fail> {
+fn ring(alloc: Global, back: i64) -> Result<BoundQuery, Refusal> {
     let mut atoms = Vec::new(alloc);
     for column in 0..15 {
         let next = Operand::Shifted(field(1, column + 1), 1);
