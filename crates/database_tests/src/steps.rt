@@ -1,0 +1,153 @@
+//! Calls to which memory is refused, and the same calls given again.
+use crate::samples::{ask, command, database, give, give_all, sizes, told, write};
+use mm_txn::Db;
+use mm_value::{Refusal, Value};
+use std::io;
+use std::process::Abort;
+use std::test::Fail;
+
+/// What was granted; none where memory was refused. No other refusal is due.
+pub fn granted<T>(rt: &impl Abort, outcome: Result<T, Refusal>) -> Option<T> {
+    match outcome {
+        Ok(granted) => Some(granted),
+        Err(refusal) => {
+            assert_eq!(rt; refusal, Refusal::Memory);
+            None
+        }
+    }
+}
+
+/// Tells that memory was refused to a call that is tested. No other refusal is due.
+pub fn tell_refused(rt: &(impl Abort + Print), refusal: Refusal) -> io::Result<()> {
+    assert_eq!(rt; refusal, Refusal::Memory);
+    println!(rt; "refused")
+}
+
+/// Reads lines, each once more where memory is refused, and looks at the sizes of the lists in their commands.
+pub fn read_each(
+    rt: &(impl Abort + AllocGlobal + Print),
+    lines: &[(&str, [usize; 4])],
+) -> Result<(), Fail> {
+    let alloc = rt.alloc();
+    for (line, expected) in lines {
+        let command = match command(alloc, line) {
+            Ok(command) => command,
+            Err(refusal) => {
+                tell_refused(rt, refusal)?;
+                command(alloc, line)?
+            }
+        };
+        assert_eq!(rt; sizes(&command), *expected, "at {line}");
+    }
+    Ok(())
+}
+
+/// Gives a line to a database, and once more where memory is refused to it; then the database has told the same as before. Whether
+/// it was given: not where memory was refused in front of the call.
+pub fn give_again(
+    rt: &(impl Abort + AllocGlobal + Print),
+    database: &mut Db,
+    line: &str,
+    questions: &[&str],
+) -> Result<bool, Fail> {
+    let alloc = rt.alloc();
+    let Some(before) = granted(rt, told(alloc, database, questions)) else {
+        return Ok(false);
+    };
+    let Some(given) = granted(rt, command(alloc, line)) else {
+        return Ok(false);
+    };
+    if let Err(refusal) = give(alloc, database, given) {
+        tell_refused(rt, refusal)?;
+        let still = told(alloc, database, questions)?;
+        assert!(rt; still == before, "at {line}");
+        give(alloc, database, command(alloc, line)?)?;
+    }
+    Ok(true)
+}
+
+/// Gives lines to the database that others have made, each once more where memory is refused to it, and looks at what the database
+/// tells behind each of them.
+pub fn give_each(
+    rt: &(impl Abort + AllocGlobal + Print),
+    made_by: &[&str],
+    questions: &[&str],
+    lines: &[(&str, &str)],
+) -> Result<(), Fail> {
+    let alloc = rt.alloc();
+    let Some(mut database) = granted(rt, database(alloc, made_by)) else {
+        return Ok(());
+    };
+    for (line, expected) in lines {
+        if !give_again(rt, &mut database, line, questions)? {
+            return Ok(());
+        }
+        let Some(told) = granted(rt, told(alloc, &database, questions)) else {
+            return Ok(());
+        };
+        assert_eq!(rt; told.as_slice(), expected.as_bytes(), "at {line}");
+    }
+    Ok(())
+}
+
+/// Opens a transaction by lines that are given to the database that others have made, gives it one more line, which is refused where
+/// memory is, and rolls back in either case; then it looks at what the database tells.
+pub fn roll_back(
+    rt: &(impl Abort + AllocGlobal + Print),
+    made_by: &[&str],
+    inside: &[&str],
+    line: &str,
+    questions: &[&str],
+    expected: &str,
+) -> Result<(), Fail> {
+    let alloc = rt.alloc();
+    let Some(mut database) = granted(rt, database(alloc, made_by)) else {
+        return Ok(());
+    };
+    let Some(()) = granted(rt, give_all(alloc, &mut database, inside)) else {
+        return Ok(());
+    };
+    let Some(given) = granted(rt, command(alloc, line)) else {
+        return Ok(());
+    };
+    if let Err(refusal) = give(alloc, &mut database, given) {
+        tell_refused(rt, refusal)?;
+    }
+    database.rollback()?;
+    let Some(told) = granted(rt, told(alloc, &database, questions)) else {
+        return Ok(());
+    };
+    assert_eq!(rt; told.as_slice(), expected.as_bytes());
+    Ok(())
+}
+
+/// Asks the database that some lines have made, each question once more where memory is refused to it, and looks at the answers.
+pub fn ask_each(
+    rt: &(impl Abort + AllocGlobal + Print),
+    made_by: &[&str],
+    questions: &[(&str, &str)],
+) -> Result<(), Fail> {
+    let alloc = rt.alloc();
+    let Some(database) = granted(rt, database(alloc, made_by)) else {
+        return Ok(());
+    };
+    let zero = Value::Int(0);
+    for (line, expected) in questions {
+        let Some(question) = granted(rt, command(alloc, line)) else {
+            return Ok(());
+        };
+        let answer = match ask(alloc, &database, &question, &zero) {
+            Ok(answer) => answer,
+            Err(refusal) => {
+                tell_refused(rt, refusal)?;
+                ask(alloc, &database, &question, &zero)?
+            }
+        };
+        let mut told = Vec::new(alloc);
+        let Some(()) = granted(rt, write(&answer, &mut told)) else {
+            return Ok(());
+        };
+        assert_eq!(rt; told.as_slice(), expected.as_bytes(), "at {line}");
+    }
+    Ok(())
+}
