@@ -1,12 +1,11 @@
 //! Each growth of memory that a call asks for is refused in turn: a test is run once for each, and in every run one growth alone is
 //! refused. A test goes no further where that one was not asked for by the call that it tests, but in front of it or behind it.
 use crate::samples::{
-    all_tables, bound_query, catalog, change, index, name, query, rows, sizes_of_bound, table,
-    text_of,
+    bound_query, catalog, change, index, query, reading, rows, sizes_of_bound, table, text_of_rows,
 };
 use crate::steps::{ask_each, give_each, granted, read_each, roll_back, tell_refused};
 use mm_query::{FieldPlace, PlainRows, bind_change, bind_query, plain_eval};
-use mm_schema::Catalog;
+use mm_schema::{Catalog, Name};
 use std::test::Fail;
 
 /// Tables of which the first is referred to.
@@ -18,17 +17,10 @@ const TABLES: [&str; 5] = [
     "TABLE e (id INT KEY)",
 ];
 
-/// Indexes of the first of them.
-const INDEXES: [&str; 5] = [
-    "INDEX a ON a (id) TREE",
-    "INDEX b ON a (id) HASH",
-    "INDEX c ON a (id) TREE",
-    "INDEX d ON a (id) HASH",
-    "INDEX e ON a (id) TREE",
-];
+/// Names of indexes and of standing queries.
+const NAMES: [&[u8]; 5] = [b"a", b"b", b"c", b"d", b"e"];
 
-/// Names of standing queries.
-const SHOWN: [&str; 5] = ["SHOW a", "SHOW b", "SHOW c", "SHOW d", "SHOW e"];
+const NO_NAME: &str = "no name";
 
 /// Departments with employees, and a log of these, which is empty.
 const FILLED: [&str; 9] = [
@@ -89,15 +81,12 @@ fn catalog_index_growths(rt: HostRuntime) -> Result<(), Fail> {
     let Some(mut catalog) = granted(&rt, catalog(alloc, &TABLES)) else {
         return Ok(());
     };
-    for line in INDEXES {
-        let Some(added) = granted(&rt, index(alloc, line)) else {
-            return Ok(());
-        };
-        let name = added.name.copy();
-        if let Err(refusal) = catalog.add_index(added) {
+    for bytes in NAMES {
+        let name = Name::new(bytes).ok_or(NO_NAME)?;
+        if let Err(refusal) = catalog.add_index(index(&name).ok_or(NO_NAME)?) {
             tell_refused(&rt, refusal)?;
             assert!(rt; catalog.find_index(&name).is_none());
-            catalog.add_index(index(alloc, line)?)?;
+            catalog.add_index(index(&name).ok_or(NO_NAME)?)?;
         }
         assert_eq!(rt; catalog.place_with_index(&name), Some(0));
     }
@@ -110,18 +99,16 @@ fn catalog_standing_growths(rt: HostRuntime) -> Result<(), Fail> {
     let Some(mut catalog) = granted(&rt, catalog(alloc, &TABLES)) else {
         return Ok(());
     };
-    for (count, line) in SHOWN.iter().enumerate() {
-        let Some(name) = granted(&rt, name(alloc, line)) else {
+    for (count, bytes) in NAMES.iter().enumerate() {
+        let name = Name::new(bytes).ok_or(NO_NAME)?;
+        let Some(tables) = granted(&rt, reading(alloc, &catalog, &name)) else {
             return Ok(());
         };
-        let Some(names) = granted(&rt, all_tables(alloc, &catalog)) else {
-            return Ok(());
-        };
-        if let Err(refusal) = catalog.add_standing(name.copy(), names) {
+        if let Err(refusal) = catalog.add_standing(name.copy(), tables) {
             tell_refused(&rt, refusal)?;
             assert_eq!(rt; catalog.standing().len(), count);
-            let names = all_tables(alloc, &catalog)?;
-            catalog.add_standing(name.copy(), names)?;
+            let tables = reading(alloc, &catalog, &name)?;
+            catalog.add_standing(name.copy(), tables)?;
         }
         assert_eq!(rt; catalog.standing_place_of(&name), Some(count));
     }
@@ -218,7 +205,7 @@ fn plain_eval_growths(rt: HostRuntime) -> Result<(), Fail> {
             plain_eval(alloc, &bound, &lists)?
         }
     };
-    let Some(told) = granted(&rt, text_of(alloc, &found)) else {
+    let Some(told) = granted(&rt, text_of_rows(alloc, &found)) else {
         return Ok(());
     };
     let expected = b"(1, 3)\n(2, 4)\n(3, 5)\nrows 3\n";

@@ -7,7 +7,7 @@ use mm_lang::{Reply, parse, write_reply, write_row_count, write_rows, write_tupl
 use mm_query::{
     BoundChange, BoundQuery, Command, Definition, Mutation, Query, RowList, bind_query,
 };
-use mm_schema::{Catalog, Columns, IndexDef, Name, TableDef, TableNames};
+use mm_schema::{Catalog, Columns, IndexDef, IndexKind, Name, TableDef, TableNames};
 use mm_templist::ShownRows;
 use mm_txn::Db;
 use mm_value::{Refusal, Row, Value, Watched, WriteFault};
@@ -25,35 +25,29 @@ pub fn command(alloc: Global, line: &str) -> Result<Command, Refusal> {
     parse(alloc, line.as_bytes())
 }
 
-/// The name in a `SHOW`.
-pub fn name(alloc: Global, line: &str) -> Result<Name, Refusal> {
-    match command(alloc, line)? {
-        Command::Show(name) => Ok(name),
-        _ => Err(Refusal::Syntax),
-    }
-}
-
 /// The table of a `TABLE`.
 pub fn table(alloc: Global, line: &str) -> Result<TableDef, Refusal> {
     match command(alloc, line)? {
         Command::Define(Definition::Table(table)) => Ok(table),
-        _ => Err(Refusal::Syntax),
+        _other => Err(Refusal::Syntax),
     }
 }
 
-/// The index of an `INDEX`.
-pub fn index(alloc: Global, line: &str) -> Result<IndexDef, Refusal> {
-    match command(alloc, line)? {
-        Command::Define(Definition::Index(index)) => Ok(index),
-        _ => Err(Refusal::Syntax),
-    }
+/// An index of a name on the keys of the table a.
+pub fn index(name: &Name) -> Option<IndexDef> {
+    Some(IndexDef {
+        name: name.copy(),
+        table: Name::new(b"a")?,
+        column: Name::new(b"id")?,
+        kind: IndexKind::Tree,
+    })
 }
 
 /// The query of a `SELECT`.
 pub fn query(alloc: Global, line: &str) -> Result<Query, Refusal> {
     match command(alloc, line)? {
         Command::Select(query) => Ok(query),
-        _ => Err(Refusal::Syntax),
+        _other => Err(Refusal::Syntax),
     }
 }
 
@@ -61,7 +55,7 @@ pub fn query(alloc: Global, line: &str) -> Result<Query, Refusal> {
 pub fn change(alloc: Global, line: &str) -> Result<Mutation, Refusal> {
     match command(alloc, line)? {
         Command::Change(mutation) => Ok(mutation),
-        _ => Err(Refusal::Syntax),
+        _other => Err(Refusal::Syntax),
     }
 }
 
@@ -69,7 +63,7 @@ pub fn change(alloc: Global, line: &str) -> Result<Mutation, Refusal> {
 pub fn rows(alloc: Global, line: &str) -> Result<RowList, Refusal> {
     match change(alloc, line)? {
         Mutation::Insert { tuples, .. } => Ok(tuples),
-        _ => Err(Refusal::Syntax),
+        _other => Err(Refusal::Syntax),
     }
 }
 
@@ -82,15 +76,15 @@ pub fn catalog(alloc: Global, lines: &[&str]) -> Result<Catalog, Refusal> {
     Ok(catalog)
 }
 
-/// The names of the tables of a catalog.
-pub fn all_tables(alloc: Global, catalog: &Catalog) -> Result<TableNames, Refusal>
+/// The tables of a standing query that reads one table. `NoSuchTable` where that is not there.
+pub fn reading(alloc: Global, catalog: &Catalog, table: &Name) -> Result<TableNames, Refusal>
     ensures { IfOk result (λ names. lacks_some_table names catalog.now ≡ false) }
 {
-    let mut names = Vec::new(alloc);
-    let Some(table) = catalog.tables().first() else {
+    if catalog.find_table(table).is_none() {
         return Err(Refusal::NoSuchTable);
-    };
-    names.push(table.definition.name.copy())?;
+    }
+    let mut names = Vec::new(alloc);
+    names.push(table.copy())?;
     Ok(TableNames::new(names))
 }
 
@@ -118,7 +112,7 @@ pub fn sizes_of_bound(bound: &BoundChange) -> [usize; 3] {
 }
 
 /// The lines of rows, and how many they are. `Memory` is the only refusal.
-pub fn text_of(alloc: Global, rows: &[Row]) -> Result<Vec<u8>, Refusal> {
+pub fn text_of_rows(alloc: Global, rows: &[Row]) -> Result<Vec<u8>, Refusal> {
     let mut text = Vec::new(alloc);
     match write_rows(rows, &mut Watched::new(&mut text)) {
         Ok(()) => Ok(text),
@@ -175,9 +169,9 @@ pub fn ask<'s>(
 
 /// What a database answers to these questions, one behind the other.
 pub fn told(alloc: Global, database: &Db, questions: &[&str]) -> Result<Vec<u8>, Refusal> {
-    let zero = Value::Int(0);
     let mut told = Vec::new(alloc);
     for question in questions {
+        let zero = Value::Int(0);
         let question = command(alloc, question)?;
         let answer = ask(alloc, database, &question, &zero)?;
         write(&answer, &mut told)?;
@@ -185,12 +179,18 @@ pub fn told(alloc: Global, database: &Db, questions: &[&str]) -> Result<Vec<u8>,
     Ok(told)
 }
 
+/// The text of an answer. `Memory` is the only refusal.
+pub fn text_of(alloc: Global, answer: &Answer<'_>) -> Result<Vec<u8>, Refusal> {
+    let mut text = Vec::new(alloc);
+    write(answer, &mut text)?;
+    Ok(text)
+}
+
 /// Writes an answer behind what was told. `Memory` is the only refusal.
-pub fn write(answer: &Answer<'_>, told: &mut Vec<u8>) -> Result<(), Refusal> {
-    let mut writer = Watched::new(told);
+fn write(answer: &Answer<'_>, told: &mut Vec<u8>) -> Result<(), Refusal> {
     let written = match answer {
-        Answer::Shown(rows) => write_shown(rows, &mut writer),
-        Answer::Told(reply) => write_reply(reply, &mut writer),
+        Answer::Shown(rows) => write_shown(rows, told),
+        Answer::Told(reply) => write_reply(reply, &mut Watched::new(told)),
     };
     match written {
         Ok(()) => Ok(()),
@@ -199,11 +199,11 @@ pub fn write(answer: &Answer<'_>, told: &mut Vec<u8>) -> Result<(), Refusal> {
 }
 
 /// Writes the rows of a query, and how many they are.
-fn write_shown(rows: &ShownRows<'_>, writer: &mut Watched<&mut Vec<u8>>) -> Result<(), WriteFault> {
+fn write_shown(rows: &ShownRows<'_>, told: &mut Vec<u8>) -> Result<(), WriteFault> {
     for i in 0..rows.len() {
-        write_tuple_line(rows.row(i), writer)?;
+        write_tuple_line(rows.row(i), &mut Watched::new(&mut *told))?;
     }
-    write_row_count(rows.len(), writer)
+    write_row_count(rows.len(), &mut Watched::new(told))
 }
 
 /// How many items the lists of a command have, from left to right.

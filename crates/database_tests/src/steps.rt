@@ -1,5 +1,9 @@
 //! Calls to which memory is refused, and the same calls given again.
-use crate::samples::{ask, command, database, give, give_all, sizes, told, write};
+ghost use Rattle.std.specs.Prelude.{◌≡◌, pos};
+ghost use Rattle.mm_value.specs.declared.values.Value.TheVariants.{Int};
+
+use crate::samples::{Answer, ask, command, database, give, give_all, sizes, text_of, told};
+use mm_query::Command;
 use mm_txn::Db;
 use mm_value::{Refusal, Value};
 use std::io;
@@ -121,30 +125,51 @@ pub fn roll_back(
     Ok(())
 }
 
+/// Asks a question, and once more where memory is refused.
+fn ask_again<'s>(
+    rt: &(impl Abort + AllocGlobal + Print),
+    database: &'s Db,
+    question: &Command,
+    zero: &'s Value,
+) -> Result<Answer<'s>, Fail>
+    requires { zero.now ≡ Int (pos 0) }
+{
+    match ask(rt.alloc(), database, question, zero) {
+        Ok(answer) => Ok(answer),
+        Err(refusal) => {
+            tell_refused(rt, refusal)?;
+            Ok(ask(rt.alloc(), database, question, zero)?)
+        }
+    }
+}
+
+/// What a database answers to a question, which is asked once more where memory is refused; none where it is refused in front of the
+/// call or behind it.
+fn answer(
+    rt: &(impl Abort + AllocGlobal + Print),
+    database: &Db,
+    line: &str,
+) -> Result<Option<Vec<u8>>, Fail> {
+    let alloc = rt.alloc();
+    let Some(question) = granted(rt, command(alloc, line)) else {
+        return Ok(None);
+    };
+    let zero = Value::Int(0);
+    let answer = ask_again(rt, database, &question, &zero)?;
+    Ok(granted(rt, text_of(alloc, &answer)))
+}
+
 /// Asks the database that some lines have made, each question once more where memory is refused to it, and looks at the answers.
 pub fn ask_each(
     rt: &(impl Abort + AllocGlobal + Print),
     made_by: &[&str],
     questions: &[(&str, &str)],
 ) -> Result<(), Fail> {
-    let alloc = rt.alloc();
-    let Some(database) = granted(rt, database(alloc, made_by)) else {
+    let Some(database) = granted(rt, database(rt.alloc(), made_by)) else {
         return Ok(());
     };
-    let zero = Value::Int(0);
     for (line, expected) in questions {
-        let Some(question) = granted(rt, command(alloc, line)) else {
-            return Ok(());
-        };
-        let answer = match ask(alloc, &database, &question, &zero) {
-            Ok(answer) => answer,
-            Err(refusal) => {
-                tell_refused(rt, refusal)?;
-                ask(alloc, &database, &question, &zero)?
-            }
-        };
-        let mut told = Vec::new(alloc);
-        let Some(()) = granted(rt, write(&answer, &mut told)) else {
+        let Some(told) = answer(rt, &database, line)? else {
             return Ok(());
         };
         assert_eq!(rt; told.as_slice(), expected.as_bytes(), "at {line}");
