@@ -127,8 +127,15 @@ pub fn database(alloc: Global, lines: &[&str]) -> Result<Db, Refusal> {
     Ok(database)
 }
 
+/// The database to which lines were given, and then others.
+pub fn opened(alloc: Global, lines: &[&str], inside: &[&str]) -> Result<Db, Refusal> {
+    let mut database = database(alloc, lines)?;
+    give_all(alloc, &mut database, inside)?;
+    Ok(database)
+}
+
 /// Gives lines to a database.
-pub fn give_all(alloc: Global, database: &mut Db, lines: &[&str]) -> Result<(), Refusal> {
+fn give_all(alloc: Global, database: &mut Db, lines: &[&str]) -> Result<(), Refusal> {
     for line in lines {
         let command = command(alloc, line)?;
         give(alloc, database, command)?;

@@ -2,7 +2,7 @@
 ghost use Rattle.std.specs.Prelude.{◌≡◌, pos};
 ghost use Rattle.mm_value.specs.declared.values.Value.TheVariants.{Int};
 
-use crate::samples::{Answer, ask, command, database, give, give_all, sizes, text_of, told};
+use crate::samples::{Answer, ask, command, database, give, opened, sizes, text_of, told};
 use mm_query::Command;
 use mm_txn::Db;
 use mm_value::{Refusal, Value};
@@ -70,6 +70,13 @@ pub fn give_again(
     Ok(true)
 }
 
+/// Looks at what a database tells, unless memory is refused to that.
+fn look(rt: &(impl Abort + AllocGlobal), database: &Db, questions: &[&str], expected: &str) {
+    if let Some(told) = granted(rt, told(rt.alloc(), database, questions)) {
+        assert_eq!(rt; told.as_slice(), expected.as_bytes());
+    }
+}
+
 /// Gives lines to the database that others have made, each once more where memory is refused to it, and looks at what the database
 /// tells behind each of them.
 pub fn give_each(
@@ -78,24 +85,36 @@ pub fn give_each(
     questions: &[&str],
     lines: &[(&str, &str)],
 ) -> Result<(), Fail> {
-    let alloc = rt.alloc();
-    let Some(mut database) = granted(rt, database(alloc, made_by)) else {
+    let Some(mut database) = granted(rt, database(rt.alloc(), made_by)) else {
         return Ok(());
     };
     for (line, expected) in lines {
         if !give_again(rt, &mut database, line, questions)? {
             return Ok(());
         }
-        let Some(told) = granted(rt, told(alloc, &database, questions)) else {
-            return Ok(());
-        };
-        assert_eq!(rt; told.as_slice(), expected.as_bytes(), "at {line}");
+        look(rt, &database, questions, expected);
     }
     Ok(())
 }
 
-/// Opens a transaction by lines that are given to the database that others have made, gives it one more line, which is refused where
-/// memory is, and rolls back in either case; then it looks at what the database tells.
+/// Gives a line to a database, which is refused where memory is. Whether that came so far: not where memory was refused in front of
+/// the call.
+fn give_once(
+    rt: &(impl Abort + AllocGlobal + Print),
+    database: &mut Db,
+    line: &str,
+) -> Result<bool, Fail> {
+    let Some(given) = granted(rt, command(rt.alloc(), line)) else {
+        return Ok(false);
+    };
+    if let Err(refusal) = give(rt.alloc(), database, given) {
+        tell_refused(rt, refusal)?;
+    }
+    Ok(true)
+}
+
+/// Opens a transaction by lines behind those that make a database, gives it one more line, which is refused where memory is, and
+/// rolls back in either case; then it looks at what the database tells.
 pub fn roll_back(
     rt: &(impl Abort + AllocGlobal + Print),
     made_by: &[&str],
@@ -104,24 +123,13 @@ pub fn roll_back(
     questions: &[&str],
     expected: &str,
 ) -> Result<(), Fail> {
-    let alloc = rt.alloc();
-    let Some(mut database) = granted(rt, database(alloc, made_by)) else {
+    let Some(mut database) = granted(rt, opened(rt.alloc(), made_by, inside)) else {
         return Ok(());
     };
-    let Some(()) = granted(rt, give_all(alloc, &mut database, inside)) else {
-        return Ok(());
-    };
-    let Some(given) = granted(rt, command(alloc, line)) else {
-        return Ok(());
-    };
-    if let Err(refusal) = give(alloc, &mut database, given) {
-        tell_refused(rt, refusal)?;
+    if give_once(rt, &mut database, line)? {
+        database.rollback()?;
+        look(rt, &database, questions, expected);
     }
-    database.rollback()?;
-    let Some(told) = granted(rt, told(alloc, &database, questions)) else {
-        return Ok(());
-    };
-    assert_eq!(rt; told.as_slice(), expected.as_bytes());
     Ok(())
 }
 
