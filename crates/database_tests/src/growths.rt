@@ -101,7 +101,7 @@ fn catalog_standing_growths(rt: HostRuntime) -> Result<(), Fail> {
     };
     for (count, bytes) in NAMES.iter().enumerate() {
         let name = Name::new(bytes).ok_or(NO_NAME)?;
-        let Some(tables) = granted(&rt, reading(alloc, &catalog, &name)) else {
+        let Ok(tables) = reading(alloc, &catalog, &name) else {
             return Ok(());
         };
         if let Err(refusal) = catalog.add_standing(name.copy(), tables) {
