@@ -1,5 +1,8 @@
-//! Each growth of memory that a call asks for is refused in turn: a test is run once for each, and in every run one growth alone is
-//! refused. A test goes no further where that one was not asked for by the call that it tests, but in front of it or behind it.
+//! Calls whose growths of memory are refused, as `tests/refused_growths` of the repository does: in each run of a test one growth, or
+//! all from one to the line that tells of a refused call. Then the call has changed nothing, and is given again.
+//!
+//! So whatever else may be refused before that line ends the test, as passed. `SCAN`, `DROP` and `UNWATCH` ask for no memory, nor
+//! do `BEGIN`, `COMMIT` and `ROLLBACK`.
 use crate::samples::{
     bound_query, catalog, change, index, query, reading, rows, sizes_of_bound, table, text_of_rows,
 };
