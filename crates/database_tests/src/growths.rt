@@ -1,0 +1,499 @@
+//! Calls whose growths of memory are refused, as `tests/refused_growths` of the repository does: in each run of a test one growth, or
+//! all from one to the line that tells of a refused call. Then the call has changed nothing, and is given again.
+//!
+//! So whatever else may be refused before that line ends the test, as passed. `SCAN`, `DROP` and `UNWATCH` ask for no memory, nor
+//! do `BEGIN`, `COMMIT` and `ROLLBACK`.
+use crate::samples::{
+    bound_query, catalog, change, index, query, reading, rows, sizes_of_bound, table, text_of_rows,
+};
+use crate::steps::{ask_each, give_each, granted, read_each, roll_back, tell_refused};
+use mm_query::{FieldPlace, PlainRows, bind_change, bind_query, plain_eval};
+use mm_schema::{Catalog, Name};
+use std::test::Fail;
+
+/// Tables of which the first is referred to.
+const TABLES: [&str; 5] = [
+    "TABLE a (id INT KEY)",
+    "TABLE b (id INT KEY, r INT REF a, s TEXT)",
+    "TABLE c (id INT KEY)",
+    "TABLE d (id INT KEY)",
+    "TABLE e (id INT KEY)",
+];
+
+/// Names of indexes and of standing queries.
+const NAMES: [&[u8]; 5] = [b"a", b"b", b"c", b"d", b"e"];
+
+const NO_NAME: &str = "no name";
+
+/// Departments with employees, and a log of these, which is empty.
+const FILLED: [&str; 9] = [
+    "TABLE dept (id INT KEY, name TEXT)",
+    "TABLE emp (id INT KEY, name TEXT, d INT REF dept)",
+    "TABLE log (at INT KEY, e INT REF emp)",
+    "INDEX by_d ON emp (d) TREE",
+    "INDEX by_e ON log (e) HASH",
+    "INSERT dept (1, 'sales'), (2, 'stock')",
+    "INSERT emp (10, 'ann', 1), (11, 'bob', 2)",
+    "WATCH names SELECT d.name, e.name FROM emp e, dept d WHERE e.d = d.id",
+    "WATCH seen SELECT DISTINCT e.d FROM log l, emp e WHERE l.e = e.id",
+];
+
+/// What there is in the log, what an index finds there, and what a standing query shows of it.
+const OF_LOG: [&str; 3] = [
+    "SELECT l.at, l.e FROM log l",
+    "SELECT l.at FROM log l WHERE l.e = 10",
+    "SHOW seen",
+];
+
+/// What an index finds of the employees, and what a standing query shows of them.
+const OF_EMP: [&str; 2] = ["SELECT e.id, e.name FROM emp e WHERE e.d = 2", "SHOW names"];
+
+const EMPTY_LOG: &str = "rows 0\nrows 0\nrows 0\n";
+
+const THREE_LOGGED: &str =
+    "(1, 10)\n(2, 11)\n(3, 10)\nrows 3\n(1)\n(3)\nrows 2\n(1)\n(2)\nrows 2\n";
+
+const FIRST_EMP: &str = "(11, 'bob')\nrows 1\n('sales', 'ann')\n('stock', 'bob')\nrows 2\n";
+
+const MOVED_EMP: &str =
+    "(10, 'ann of the second floor')\n(11, 'bob')\nrows 2\n('stock', 'ann of the second floor')\n('stock', 'bob')\nrows 2\n";
+
+#[test]
+fn catalog_table_growths(rt: HostRuntime) -> Result<(), Fail> {
+    let alloc = rt.alloc();
+    let mut catalog = Catalog::new(alloc);
+    for (count, line) in TABLES.iter().enumerate() {
+        let Some(added) = granted(&rt, table(alloc, line)) else {
+            return Ok(());
+        };
+        let name = added.name.copy();
+        if let Err(refusal) = catalog.add_table(added) {
+            tell_refused(&rt, refusal)?;
+            assert_eq!(rt; catalog.tables().len(), count);
+            assert!(rt; catalog.find_table(&name).is_none());
+            catalog.add_table(table(alloc, line)?)?;
+        }
+        assert_eq!(rt; catalog.place_of(&name), Some(count));
+    }
+    Ok(())
+}
+
+#[test]
+fn catalog_index_growths(rt: HostRuntime) -> Result<(), Fail> {
+    let alloc = rt.alloc();
+    let Some(mut catalog) = granted(&rt, catalog(alloc, &TABLES)) else {
+        return Ok(());
+    };
+    for bytes in NAMES {
+        let name = Name::new(bytes).ok_or(NO_NAME)?;
+        if let Err(refusal) = catalog.add_index(index(&name).ok_or(NO_NAME)?) {
+            tell_refused(&rt, refusal)?;
+            assert!(rt; catalog.find_index(&name).is_none());
+            catalog.add_index(index(&name).ok_or(NO_NAME)?)?;
+        }
+        assert_eq!(rt; catalog.place_with_index(&name), Some(0));
+    }
+    Ok(())
+}
+
+#[test]
+fn catalog_standing_growths(rt: HostRuntime) -> Result<(), Fail> {
+    let alloc = rt.alloc();
+    let Some(mut catalog) = granted(&rt, catalog(alloc, &TABLES)) else {
+        return Ok(());
+    };
+    for (count, bytes) in NAMES.iter().enumerate() {
+        let name = Name::new(bytes).ok_or(NO_NAME)?;
+        let Ok(tables) = reading(alloc, &catalog, &name) else {
+            return Ok(());
+        };
+        if let Err(refusal) = catalog.add_standing(name.copy(), tables) {
+            tell_refused(&rt, refusal)?;
+            assert_eq!(rt; catalog.standing().len(), count);
+            let tables = reading(alloc, &catalog, &name)?;
+            catalog.add_standing(name.copy(), tables)?;
+        }
+        assert_eq!(rt; catalog.standing_place_of(&name), Some(count));
+    }
+    Ok(())
+}
+
+#[test]
+fn bind_query_growths(rt: HostRuntime) -> Result<(), Fail> {
+    let alloc = rt.alloc();
+    let Some(catalog) = granted(&rt, catalog(alloc, &TABLES)) else {
+        return Ok(());
+    };
+    let line =
+        "SELECT b.s, a.id FROM a a, b b WHERE a.id = b.r AND b.s = 'of eighteen bytes.' ORDER 2, 1";
+    let Some(query) = granted(&rt, query(alloc, line)) else {
+        return Ok(());
+    };
+    let bound = match bind_query(alloc, &catalog, &query) {
+        Ok(bound) => bound,
+        Err(refusal) => {
+            tell_refused(&rt, refusal)?;
+            bind_query(alloc, &catalog, &query)?
+        }
+    };
+    let text = FieldPlace {
+        place: 1,
+        column: 2,
+    };
+    let id = FieldPlace {
+        place: 0,
+        column: 0,
+    };
+    assert_eq!(rt; bound.fields.as_slice(), [text, id].as_slice());
+    assert_eq!(rt; bound.order.as_slice(), [1, 0].as_slice());
+    assert_eq!(rt;
+        [bound.from.as_slice().len(), bound.atoms.as_slice().len()],
+        [2, 2]
+    );
+    Ok(())
+}
+
+#[test]
+fn bind_change_growths(rt: HostRuntime) -> Result<(), Fail> {
+    let alloc = rt.alloc();
+    let Some(catalog) = granted(&rt, catalog(alloc, &TABLES)) else {
+        return Ok(());
+    };
+    for (line, expected) in [
+        (
+            "UPDATE b SET s = 'of eighteen bytes.', r = r + 1 WHERE id > 5",
+            [1, 2, 1],
+        ),
+        (
+            "DELETE b WHERE s = 'of eighteen bytes.' AND r = id",
+            [1, 0, 2],
+        ),
+        ("INSERT a (7)", [0, 1, 0]),
+    ] {
+        let Some(mutation) = granted(&rt, change(alloc, line)) else {
+            return Ok(());
+        };
+        let bound = match bind_change(alloc, &catalog, mutation) {
+            Ok(bound) => bound,
+            Err(refusal) => {
+                tell_refused(&rt, refusal)?;
+                bind_change(alloc, &catalog, change(alloc, line)?)?
+            }
+        };
+        assert_eq!(rt; sizes_of_bound(&bound), expected);
+    }
+    Ok(())
+}
+
+#[test]
+fn plain_eval_growths(rt: HostRuntime) -> Result<(), Fail> {
+    let alloc = rt.alloc();
+    let Some(bound) = granted(&rt, bound_query(alloc)) else {
+        return Ok(());
+    };
+    let Some(tuples) = granted(&rt, rows(alloc, "INSERT a (1), (2), (3), (4), (5)")) else {
+        return Ok(());
+    };
+    let mut lists = PlainRows::new(alloc);
+    for _ in 0..2 {
+        if let Err(refusal) = lists.add(tuples.as_slice()) {
+            tell_refused(&rt, refusal)?;
+            lists.add(tuples.as_slice())?;
+        }
+    }
+    let found = match plain_eval(alloc, &bound, &lists) {
+        Ok(found) => found,
+        Err(refusal) => {
+            tell_refused(&rt, refusal)?;
+            plain_eval(alloc, &bound, &lists)?
+        }
+    };
+    let Some(told) = granted(&rt, text_of_rows(alloc, &found)) else {
+        return Ok(());
+    };
+    let expected = b"(1, 3)\n(2, 4)\n(3, 5)\nrows 3\n";
+    assert_eq!(rt; told.as_slice(), expected.as_slice());
+    Ok(())
+}
+
+#[test]
+fn parse_definition_growths(rt: HostRuntime) -> Result<(), Fail> {
+    read_each(
+        &rt,
+        &[
+            (
+                "TABLE emp (id INT KEY, name TEXT, d INT REF dept)",
+                [3, 0, 0, 0],
+            ),
+            ("DROP TABLE emp", [0; 4]),
+            ("INDEX by_d ON emp (d) TREE", [0; 4]),
+            ("DROP INDEX by_d", [0; 4]),
+            (
+                "WATCH w SELECT DISTINCT a.k FROM t a WHERE a.k > 5 ORDER 1",
+                [1, 1, 1, 1],
+            ),
+            ("UNWATCH w", [0; 4]),
+        ],
+    )
+}
+
+#[test]
+fn parse_change_growths(rt: HostRuntime) -> Result<(), Fail> {
+    read_each(
+        &rt,
+        &[
+            (
+                "INSERT dept (1, 'sales and services'), (2, '')",
+                [2, 2, 0, 0],
+            ),
+            (
+                "UPDATE t SET k = k + 1, s = 'of eighteen bytes.' WHERE k < 5",
+                [2, 1, 0, 0],
+            ),
+            (
+                "DELETE t WHERE s = 'of eighteen bytes.' AND k = j",
+                [2, 0, 0, 0],
+            ),
+            ("BEGIN", [0; 4]),
+            ("COMMIT", [0; 4]),
+            ("ROLLBACK", [0; 4]),
+        ],
+    )
+}
+
+#[test]
+fn parse_question_growths(rt: HostRuntime) -> Result<(), Fail> {
+    read_each(
+        &rt,
+        &[
+            ("SCAN t", [0; 4]),
+            ("SCAN INDEX i", [0; 4]),
+            (
+                "SELECT a.k, b.s FROM t a, u b WHERE a.r = b.id ORDER 2, 1",
+                [2, 2, 1, 2],
+            ),
+            (
+                "EXPLAIN SELECT a.k FROM t a, t b, t c WHERE a.s = 'of eighteen bytes.'",
+                [1, 3, 1, 0],
+            ),
+            ("SHOW w", [0; 4]),
+            ("TABLES", [0; 4]),
+        ],
+    )
+}
+
+#[test]
+fn define_table_growths(rt: HostRuntime) -> Result<(), Fail> {
+    give_each(
+        &rt,
+        &[],
+        &["TABLES"],
+        &[
+            (
+                "TABLE a (id INT KEY)",
+                "TABLE a (id INT KEY) rows 0\ntables 1\n",
+            ),
+            (
+                "TABLE b (id INT KEY, r INT REF a)",
+                "TABLE a (id INT KEY) rows 0\nTABLE b (id INT KEY, r INT REF a) rows 0\ntables 2\n",
+            ),
+            ("DROP TABLE b", "TABLE a (id INT KEY) rows 0\ntables 1\n"),
+        ],
+    )
+}
+
+#[test]
+fn define_index_growths(rt: HostRuntime) -> Result<(), Fail> {
+    let plan = "EXPLAIN SELECT e.id FROM emp e WHERE e.name = 'bob'";
+    let found = "SELECT e.id FROM emp e WHERE e.name = 'bob'";
+    give_each(
+        &rt,
+        &FILLED,
+        &[plan, found],
+        &[
+            (
+                "INDEX i ON emp (name) HASH",
+                "e hash i\nsteps 1\n(11)\nrows 1\n",
+            ),
+            ("DROP INDEX i", "e scan\nsteps 1\n(11)\nrows 1\n"),
+            (
+                "INDEX j ON emp (name) TREE",
+                "e tree j =\nsteps 1\n(11)\nrows 1\n",
+            ),
+        ],
+    )
+}
+
+#[test]
+fn define_standing_growths(rt: HostRuntime) -> Result<(), Fail> {
+    give_each(
+        &rt,
+        &[
+            "TABLE t (id INT KEY, k INT)",
+            "INSERT t (1, 5), (2, 5), (3, 6)",
+        ],
+        &["TABLES"],
+        &[
+            (
+                "WATCH w SELECT DISTINCT a.k FROM t a, t b WHERE a.k = b.k",
+                "TABLE t (id INT KEY, k INT) rows 3\nWATCH w rows 2\ntables 1\n",
+            ),
+            (
+                "UNWATCH w",
+                "TABLE t (id INT KEY, k INT) rows 3\ntables 1\n",
+            ),
+        ],
+    )
+}
+
+#[test]
+fn insert_growths(rt: HostRuntime) -> Result<(), Fail> {
+    let insert = "INSERT log (1, 10), (2, 11), (3, 10)";
+    give_each(
+        &rt,
+        &FILLED,
+        &OF_LOG,
+        &[
+            (insert, THREE_LOGGED),
+            ("DELETE log WHERE at > 0", EMPTY_LOG),
+        ],
+    )
+}
+
+#[test]
+fn update_growths(rt: HostRuntime) -> Result<(), Fail> {
+    give_each(
+        &rt,
+        &FILLED,
+        &OF_EMP,
+        &[
+            (
+                "UPDATE emp SET name = 'ann of the second floor', d = 2 WHERE id = 10",
+                MOVED_EMP,
+            ),
+            (
+                "UPDATE emp SET name = 'ann', d = 1 WHERE id = 10",
+                FIRST_EMP,
+            ),
+        ],
+    )
+}
+
+#[test]
+fn delete_growths(rt: HostRuntime) -> Result<(), Fail> {
+    give_each(
+        &rt,
+        &FILLED,
+        &OF_EMP,
+        &[
+            (
+                "DELETE emp WHERE d = 2",
+                "rows 0\n('sales', 'ann')\nrows 1\n",
+            ),
+            ("INSERT emp (11, 'bob', 2)", FIRST_EMP),
+        ],
+    )
+}
+
+#[test]
+fn rolled_back_insert_growths(rt: HostRuntime) -> Result<(), Fail> {
+    let insert = "INSERT log (1, 10), (2, 11), (3, 10)";
+    give_each(
+        &rt,
+        &FILLED,
+        &OF_LOG,
+        &[
+            ("BEGIN", EMPTY_LOG),
+            (insert, THREE_LOGGED),
+            ("ROLLBACK", EMPTY_LOG),
+        ],
+    )
+}
+
+#[test]
+fn rolled_back_change_growths(rt: HostRuntime) -> Result<(), Fail> {
+    give_each(
+        &rt,
+        &FILLED,
+        &OF_EMP,
+        &[
+            ("BEGIN", FIRST_EMP),
+            (
+                "UPDATE emp SET name = 'ann of the second floor', d = 2 WHERE id = 10",
+                MOVED_EMP,
+            ),
+            ("DELETE emp", "rows 0\nrows 0\n"),
+            ("ROLLBACK", FIRST_EMP),
+        ],
+    )
+}
+
+#[test]
+fn rollback_growths(rt: HostRuntime) -> Result<(), Fail> {
+    roll_back(
+        &rt,
+        &FILLED,
+        &["BEGIN", "UPDATE emp SET name = 'cat'"],
+        "UPDATE emp SET name = 'ann of the second floor', d = 2 WHERE id = 10",
+        &OF_EMP,
+        FIRST_EMP,
+    )
+}
+
+#[test]
+fn select_growths(rt: HostRuntime) -> Result<(), Fail> {
+    ask_each(
+        &rt,
+        &FILLED,
+        &[
+            (
+                "SELECT DISTINCT d.name, e.name FROM emp e, dept d WHERE e.d = d.id ORDER 2, 1",
+                "('sales', 'ann')\n('stock', 'bob')\nrows 2\n",
+            ),
+            (
+                "SELECT a.id, b.id FROM emp a, emp b WHERE a.name = b.name",
+                "(10, 10)\n(11, 11)\nrows 2\n",
+            ),
+            (
+                "SELECT a.id, b.id FROM emp a, dept b WHERE a.d < b.id",
+                "(10, 2)\nrows 1\n",
+            ),
+        ],
+    )
+}
+
+#[test]
+fn explain_growths(rt: HostRuntime) -> Result<(), Fail> {
+    ask_each(
+        &rt,
+        &FILLED,
+        &[(
+            "EXPLAIN SELECT e.id FROM emp e, dept d WHERE e.d = 1 AND e.d = d.id",
+            "e tree by_d =\nd precomputed e.d\nsteps 2\n",
+        )],
+    )
+}
+
+#[test]
+fn show_growths(rt: HostRuntime) -> Result<(), Fail> {
+    ask_each(
+        &rt,
+        &FILLED,
+        &[
+            ("SHOW names", "('sales', 'ann')\n('stock', 'bob')\nrows 2\n"),
+            ("SHOW seen", "rows 0\n"),
+        ],
+    )
+}
+
+#[test]
+fn tables_growths(rt: HostRuntime) -> Result<(), Fail> {
+    ask_each(
+        &rt,
+        &FILLED[..4],
+        &[(
+            "TABLES",
+            "TABLE dept (id INT KEY, name TEXT) rows 0\nTABLE emp (id INT KEY, name TEXT, d INT REF dept) rows 0\nINDEX by_d ON emp (d) TREE\nTABLE log (at INT KEY, e INT REF emp) rows 0\ntables 3\n",
+        )],
+    )
+}
