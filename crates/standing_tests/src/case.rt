@@ -1,16 +1,18 @@
 //! Two tables with the lists of standing queries over them.
-ghost use Rattle.std.specs.Prelude.{◌≡◌, ◌<◌, length};
-ghost use Rattle.mm_relation.specs.Kept.{StoredRows};
-ghost use Rattle.mm_store.specs.Tables.{AreFit, IsAt};
+ghost use Rattle.std.specs.Prelude.{◌≡◌, ◌<◌, ◌≤◌, All, length, true, OnOk};
+ghost use Rattle.standing_tests.specs.Cases.{is_unshifted};
 
-use crate::samples::{are_shown, row};
-use mm_delta::TableEdits;
+use crate::samples::are_shown;
+use crate::steps::{
+    addition, are_there, changes_of, go_back, is_unshifted, make_edits, prepare_and_drop, removal,
+    settle, tables, watch,
+};
+use mm_delta::Signed;
+use mm_plan::run_plan;
 use mm_query::BoundQuery;
-use mm_relation::Edit;
-use mm_schema::IndexKind;
 use mm_standing::Standing;
 use mm_store::{Meter, Store, Undo};
-use mm_value::{Refusal, Value};
+use mm_value::Refusal;
 use std::alloc::Global;
 use std::marker::Model;
 
@@ -38,132 +40,165 @@ const START: Mark = Mark {
 };
 
 impl Model for Case {
-    ghost use Rattle.standing_tests.specs.Cases.{IsCase};
+    ghost use Rattle.standing_tests.specs.Cases.{IsMarked};
     ghost use Rattle.mm_store.specs.Tables.{Tables};
 
     ghost Value = { Tables };
 
     ghost view = { λ c. c.store };
 
-    ghost invariant = { λ c. IsCase c.store c.undo c.standing c.mark };
+    ghost invariant = { λ c. IsMarked c.store c.undo c.standing c.mark.commands c.mark.changes };
 }
 
 impl Case {
     /// Two tables with no rows and no standing queries. With `indexed` the numbers of the first have a HASH index.
     pub fn new(alloc: Global, indexed: bool) -> Result<Case, Refusal> {
-        let store = tables(alloc, indexed)?;
-        store.rows_stand();
         Ok(Case {
-            store,
+            store: tables(alloc, indexed)?,
             undo: Undo::new(alloc),
             standing: Standing::new(alloc),
             mark: START,
         })
     }
 
-    /// The same with a row more in a table. `NoSuchTable` where no table stands at the place; what else refuses a change.
-    pub fn with(
-        self,
+    /// Adds a row to a table. `NoSuchTable` where no table stands at the place; what else refuses a change.
+    pub fn add(
+        &mut self,
         alloc: Global,
         table: usize,
         key: i64,
         number: i64,
-    ) -> Result<Case, Refusal> {
-        let mut edits = Vec::new(alloc);
-        edits.push(Edit::Add(row(alloc, key, number)?))?;
-        if table >= self.store.len() {
+    ) -> Result<(), Refusal> {
+        if table >= 2 {
             return Err(Refusal::NoSuchTable);
         }
-        self.changed(alloc, table, edits)
-    }
-
-    /// The same without the row of a key of a table. `NoSuchTable` where no table stands at the place; `NoTargetRow` where no row has the key.
-    pub fn without(self, alloc: Global, table: usize, key: i64) -> Result<Case, Refusal> {
-        if table >= self.store.len() {
-            return Err(Refusal::NoSuchTable);
-        }
-        let relation = self.store.table(table);
-        relation.is_kept();
-        let Some(at) = relation.find(&Value::Int(key)) else {
-            return Err(Refusal::NoTargetRow);
-        };
-        let mut edits = Vec::new(alloc);
-        edits.push(Edit::Gone(at))?;
-        self.changed(alloc, table, edits)
-    }
-
-    /// The same once edits of a table are made.
-    fn changed(mut self, alloc: Global, table: usize, edits: Vec<Edit>) -> Result<Case, Refusal>
-        requires there { table < length self.tables }
-        requires fit { (stored : StoredRows) → IsAt self table stored → AreFit stored edits.items }
-    {
-        self.store.check(alloc, table, edits.as_slice())?;
-        prepare(
+        let edits = addition(alloc, key, number)?;
+        make_edits(
             alloc,
-            &self.store,
+            &mut self.store,
+            &mut self.undo,
             &mut self.standing,
             table,
-            edits.as_slice(),
-        )?;
-        self.store.apply(alloc, table, edits, &mut self.undo)?;
-        self.standing.apply_prepared();
-        Ok(self)
+            edits,
+        )
     }
 
-    /// The same once the addition of a row was made ready and dropped.
-    pub fn with_discarded(
+    /// Removes the row of a key from a table. `NoSuchTable` where no table stands at the place; `NoTargetRow` where no row has the
+    /// key; what else refuses a change.
+    pub fn remove(&mut self, alloc: Global, table: usize, key: i64) -> Result<(), Refusal> {
+        if table >= 2 {
+            return Err(Refusal::NoSuchTable);
+        }
+        let edits = removal(alloc, &self.store, table, key)?;
+        make_edits(
+            alloc,
+            &mut self.store,
+            &mut self.undo,
+            &mut self.standing,
+            table,
+            edits,
+        )
+    }
+
+    /// The same with a row more in a table.
+    pub fn with(
         mut self,
         alloc: Global,
         table: usize,
         key: i64,
         number: i64,
     ) -> Result<Case, Refusal> {
-        let mut edits = Vec::new(alloc);
-        edits.push(Edit::Add(row(alloc, key, number)?))?;
-        prepare(
+        self.add(alloc, table, key, number)?;
+        Ok(self)
+    }
+
+    /// The same without the row of a key of a table.
+    pub fn without(mut self, alloc: Global, table: usize, key: i64) -> Result<Case, Refusal> {
+        self.remove(alloc, table, key)?;
+        Ok(self)
+    }
+
+    /// Makes the addition of a row ready, and drops it. `NoSuchTable` where no table stands at the place; what else refuses the
+    /// lists of a change. Where it is refused, what is ready is made, which is nothing.
+    pub fn prepare_and_drop(
+        &mut self,
+        alloc: Global,
+        table: usize,
+        key: i64,
+        number: i64,
+    ) -> Result<(), Refusal> {
+        if table >= 2 {
+            return Err(Refusal::NoSuchTable);
+        }
+        let edits = addition(alloc, key, number)?;
+        prepare_and_drop(
             alloc,
             &self.store,
             &mut self.standing,
             table,
             edits.as_slice(),
-        )?;
-        self.standing.discard();
-        Ok(self)
+        )
     }
 
-    /// The same with a standing query more over tables that stand at these places. What was changed is settled first. `NoSuchTable`
-    /// where no table stands at one of the places, and `TooMany` for more than 4 of them.
+    /// Keeps a standing query over tables that stand at these places. What was changed is settled first. `NoSuchTable` where no
+    /// table stands at one of the places; `TooMany` for more than 4 of them; `WrongNumberOfValues` unless there are as many as in
+    /// FROM; `ArithmeticOutOfRange` where an atom adds a number; what else refuses a standing query.
+    pub fn watch(
+        &mut self,
+        alloc: Global,
+        query: BoundQuery,
+        tables: Vec<usize>,
+    ) -> Result<(), Refusal> {
+        refuse(&query, tables.as_slice())?;
+        self.mark = START;
+        settle(&mut self.store, &mut self.undo, &mut self.standing);
+        watch(
+            alloc,
+            &self.store,
+            &self.undo,
+            &mut self.standing,
+            &self.store,
+            query,
+            tables,
+        )
+    }
+
+    /// The same with a standing query more.
     pub fn watching(
         mut self,
         alloc: Global,
         query: BoundQuery,
         tables: Vec<usize>,
     ) -> Result<Case, Refusal> {
-        if tables.len() > 4 {
-            return Err(Refusal::TooMany);
-        }
-        if !tables.iter().all(|table| *table < 2) {
-            return Err(Refusal::NoSuchTable);
-        }
-        self.settle();
-        self.standing.watch(alloc, &self.store, query, tables, &[])?;
+        self.watch(alloc, query, tables)?;
         Ok(self)
     }
 
     /// The same with a standing query more over both tables, whose list was found over those of another case. What was changed is
-    /// settled first. `NotInTransaction` unless the first table is empty in both, since the list would not fit.
+    /// settled first. `NotInTransaction` unless the first table is empty in both, since the list would not fit; else the refusals of
+    /// `watch`.
     pub fn watching_elsewhere(
         mut self,
         alloc: Global,
         other: &Case,
         query: BoundQuery,
     ) -> Result<Case, Refusal> {
-        if self.store.table(0).len() != 0 || other.store.table(0).len() != 0 {
+        let tables = vec![in alloc; 0, 1]?;
+        refuse(&query, tables.as_slice())?;
+        self.mark = START;
+        settle(&mut self.store, &mut self.undo, &mut self.standing);
+        if self.store.len_of(0) != 0 || other.store.len_of(0) != 0 {
             return Err(Refusal::NotInTransaction);
         }
-        self.settle();
-        let tables = vec![in alloc; 0, 1]?;
-        self.standing.watch(alloc, &other.store, query, tables, &[])?;
+        watch(
+            alloc,
+            &self.store,
+            &self.undo,
+            &mut self.standing,
+            &other.store,
+            query,
+            tables,
+        )?;
         Ok(self)
     }
 
@@ -183,8 +218,14 @@ impl Case {
 
     /// Takes back what was changed since the mark.
     pub fn go_back(&mut self) {
-        self.store.revert(&mut self.undo, self.mark.commands);
-        self.standing.revert(self.mark.changes);
+        let Mark { commands, changes } = self.mark;
+        go_back(
+            &mut self.store,
+            &mut self.undo,
+            &mut self.standing,
+            commands,
+            changes,
+        );
     }
 
     /// Takes back what was changed since the last settlement. The mark goes.
@@ -195,15 +236,14 @@ impl Case {
 
     /// Makes what was changed final. The mark goes.
     pub fn settle(&mut self) {
-        self.store.settle(&mut self.undo);
-        self.standing.settle();
         self.mark = START;
-        self.store.rows_stand();
+        settle(&mut self.store, &mut self.undo, &mut self.standing);
     }
 
     /// Drops the standing query at a place, if there is one. What was changed is settled first.
     pub fn unwatch(&mut self, place: usize) {
-        self.settle();
+        self.mark = START;
+        settle(&mut self.store, &mut self.undo, &mut self.standing);
         if place < self.standing.len() {
             self.standing.unwatch(place);
         }
@@ -226,29 +266,59 @@ impl Case {
         let shown = self.standing.list(alloc, place)?;
         Ok(are_shown(&shown, rows))
     }
-}
 
-/// Two tables of two columns with no rows.
-fn tables(alloc: Global, indexed: bool) -> Result<Store, Refusal> {
-    let mut store = Store::new(alloc);
-    store.add_table(alloc, 2, 0, &[])?;
-    store.add_table(alloc, 2, 0, &[])?;
-    if indexed {
-        store.add_index(alloc, 0, 1, IndexKind::Hash)?;
+    /// By how much the count of each row of a query over tables that stand at these places changes with a row more in a table.
+    /// `NoSuchTable` where no table stands at the place; else the refusals of `watch`.
+    pub fn changes_of(
+        &self,
+        alloc: Global,
+        query: &BoundQuery,
+        tables: &[usize],
+        table: usize,
+        key: i64,
+        number: i64,
+    ) -> Result<Vec<Signed>, Refusal> {
+        refuse(query, tables)?;
+        if table >= 2 {
+            return Err(Refusal::NoSuchTable);
+        }
+        let edits = addition(alloc, key, number)?;
+        changes_of(alloc, &self.store, query, tables, table, edits.as_slice())
     }
-    Ok(store)
+
+    /// How many combinations of rows fit a query over tables that stand at these places. The refusals are those of `watch`, but
+    /// for `ResultTooLarge` in place of `StandingListTooLarge`.
+    pub fn combinations(
+        &self,
+        alloc: Global,
+        query: &BoundQuery,
+        tables: &[usize],
+    ) -> Result<usize, Refusal> {
+        refuse(query, tables)?;
+        let mut meter = Meter::new();
+        let list = run_plan(alloc, &self.store, &mut meter, query, tables, &[])?;
+        Ok(list.len())
+    }
 }
 
-/// Makes ready what edits of a table change of the lists.
-fn prepare(
-    alloc: Global,
-    store: &Store,
-    standing: &mut Standing,
-    table: usize,
-    edits: &[Edit],
-) -> Result<(), Refusal> {
-    let mut meter = Meter::new();
-    let mut view = store.view(&mut meter);
-    let changes = [TableEdits { table, edits }];
-    standing.prepare(alloc, &mut view, &changes)
+/// Refuses a query that is not for the tables of a case at these places.
+fn refuse(query: &BoundQuery, tables: &[usize]) -> Result<(), Refusal>
+    ensures there { OnOk result (All (λ table. table < 2) tables.now) }
+    ensures few { OnOk result (length tables.now ≤ 4) }
+    ensures whole { OnOk result (length tables.now ≡ length query.now.from) }
+    ensures unshifted { OnOk result (is_unshifted query.now ≡ true) }
+{
+    if tables.len() > 4 {
+        return Err(Refusal::TooMany);
+    }
+    if !are_there(tables) {
+        return Err(Refusal::NoSuchTable);
+    }
+    if tables.len() != query.from.as_slice().len() {
+        return Err(Refusal::WrongNumberOfValues);
+    }
+    if !is_unshifted(query) {
+        return Err(Refusal::ArithmeticOutOfRange);
+    }
+    Ok(())
 }

@@ -1,38 +1,7 @@
 //! What lists show, also once changes are taken back.
-use crate::case::Case;
-use crate::samples::{key, number, numbers_compare, pairs, query};
-use mm_query::Comparison;
+use crate::three_lists::{is_as_sampled, sample};
 use mm_value::Refusal;
-use std::alloc::Global;
 use std::test::Fail;
-
-/// Two rows of the number 5 in the first table and one in the second. The first list has the keys of the first table beside those of the second with their
-/// number, the second the numbers of the first table, each as often as it stands there, and the third each once.
-fn sample(alloc: Global) -> Result<Case, Fail> {
-    let joined = pairs(
-        alloc,
-        [key(0), key(1)],
-        [numbers_compare(Comparison::Equal)],
-    )?;
-    let all = query(alloc, 1, [number(0)])?;
-    let mut distinct = query(alloc, 1, [number(0)])?;
-    distinct.distinct = true;
-    let case = Case::new(alloc, true)?
-        .with(alloc, 0, 1, 5)?
-        .with(alloc, 0, 2, 5)?
-        .with(alloc, 1, 1, 5)?
-        .watching(alloc, joined, vec![in alloc; 0, 1]?)?
-        .watching(alloc, all, vec![in alloc; 0]?)?
-        .watching(alloc, distinct, vec![in alloc; 0]?)?;
-    Ok(case)
-}
-
-/// Whether the lists are those of the sample.
-fn is_as_sampled(case: &Case, alloc: Global) -> Result<bool, Refusal> {
-    Ok(case.shows(alloc, 0, &[&[1, 1], &[2, 1]])?
-        && case.shows(alloc, 1, &[&[5], &[5]])?
-        && case.shows(alloc, 2, &[&[5]])?)
-}
 
 #[test]
 fn counts_with_and_without_distinct(rt: HostRuntime) -> Result<(), Fail> {
@@ -88,7 +57,8 @@ fn settled_changes_stay(rt: HostRuntime) -> Result<(), Fail> {
 #[test]
 fn discarded_changes_are_not_made(rt: HostRuntime) -> Result<(), Fail> {
     let alloc = rt.alloc();
-    let case = sample(alloc)?.with_discarded(alloc, 0, 3, 7)?;
+    let mut case = sample(alloc)?;
+    case.prepare_and_drop(alloc, 0, 3, 7)?;
     assert!(rt; is_as_sampled(&case, alloc)?);
     let case = case.with(alloc, 0, 4, 9)?;
     assert!(rt; case.shows(alloc, 1, &[&[5], &[5], &[9]])?);

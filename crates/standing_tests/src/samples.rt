@@ -4,9 +4,8 @@ ghost use Rattle.std.specs.Prelude.{◌≡◌, length, IfOk};
 use mm_query::{Atom, BoundQuery, Comparison, FieldPlace, FromItem, ItemList, Operand};
 use mm_schema::Name;
 use mm_templist::ShownRows;
-use mm_value::{Row, Value, compare};
+use mm_value::{Refusal, Row, Value, compare};
 use std::alloc::{AllocError, Global};
-use std::test::Fail;
 
 /// The key of the row at a place.
 pub fn key(place: usize) -> FieldPlace {
@@ -32,8 +31,8 @@ pub fn query<const N: usize>(
     alloc: Global,
     tables: usize,
     fields: [FieldPlace; N],
-) -> Result<BoundQuery, Fail> {
-    let name = Name::new(b"t").ok_or("no name")?;
+) -> Result<BoundQuery, Refusal> {
+    let name = Name::new(b"t").ok_or(Refusal::Syntax)?;
     let mut from = Vec::new(alloc);
     for _ in 0..tables {
         from.push(FromItem {
@@ -55,7 +54,7 @@ pub fn pairs<const N: usize, const M: usize>(
     alloc: Global,
     fields: [FieldPlace; N],
     atoms: [Atom<FieldPlace>; M],
-) -> Result<BoundQuery, Fail> {
+) -> Result<BoundQuery, Refusal> {
     let mut query = query(alloc, 2, fields)?;
     query.atoms = ItemList::new(Vec::from_array(alloc, atoms)?);
     Ok(query)
@@ -69,13 +68,13 @@ pub fn row(alloc: Global, key: i64, number: i64) -> Result<Row, AllocError>
     Ok(Row::new(values))
 }
 
-/// Whether the values of a row are these numbers.
+/// Whether the values of a shown row are these numbers.
 fn has_numbers(row: &[&Value], numbers: &[i64]) -> bool {
     row.len() == numbers.len()
-        && row
-            .iter()
-            .zip(numbers.iter())
-            .all(|(value, number)| compare(value, &Value::Int(*number)).is_eq())
+        && row.iter().zip(numbers.iter()).all(|(value, number)| compare(
+            value,
+            &Value::Int(*number),
+        ).is_eq())
 }
 
 /// Whether just these rows are shown, in this order.
@@ -89,4 +88,13 @@ pub fn are_shown(shown: &ShownRows<'_>, rows: &[&[i64]]) -> bool {
         }
     }
     true
+}
+
+/// Whether a row has just these numbers.
+pub fn is_row_of(row: &Row, numbers: &[i64]) -> bool {
+    row.values().len() == numbers.len()
+        && row.values().iter().zip(numbers.iter()).all(|(value, number)| compare(
+            value,
+            &Value::Int(*number),
+        ).is_eq())
 }
