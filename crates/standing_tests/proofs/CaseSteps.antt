@@ -1,5 +1,5 @@
 -- What is a case stays one through its steps, and so do its marks.
-use Rattle.std.proofs.Common.{◌≡◌, ℕ, pos, ◌+ℤ◌, ◌≤◌, ◌<◌, List, [], ◌∷◌, ◌++◌, Some, drop, length, map, slice_get, slice_index_or, refl, sym, ap, subst, ◌∙◌, arith}
+use Rattle.std.proofs.Common.{◌≡◌, ℕ, pos, ◌+ℤ◌, ◌≤◌, ◌<◌, List, [], ◌∷◌, ◌++◌, Some, drop, length, map, slice_get, slice_index_or, take, refl, sym, ap, subst, ◌∙◌, arith}
 use Rattle.std.specs.List.{All, remove}
 use Rattle.std.proofs.lemmas.List.Elements.{All-nil, All-push}
 use Rattle.mm_delta.specs.Counts.{Counts, count_in, count_of}
@@ -11,6 +11,7 @@ use Rattle.mm_query.specs.Queries.{bag_of}
 use Rattle.mm_standing.specs.Bags.{entries_at}
 use Rattle.mm_standing.specs.Queries.{IsBagOf, IsServed, RowsByPlace, StandingQuery, bag_over}
 use Rattle.mm_standing.specs.State.{AreFew, AreServed, FitAt, FitNow, Lists, count_at, count_now}
+use Rattle.mm_standing.specs.declared.change.ListChange.{ListChange}
 use Rattle.mm_store.specs.Marks.{rows_at_mark, rows_now}
 use Rattle.mm_store.specs.Tables.{SameForm, Tables, rows_at}
 use Rattle.mm_store.specs.Undoing.{CanUndo}
@@ -19,7 +20,7 @@ use Rattle.mm_value.specs.declared.values.Value.{Value}
 use Rattle.store_tests.specs.SampleStore.{ArePlain}
 use Rattle.store_tests.proofs.PlainStores.{plain_formed}
 use Rattle.standing_tests.specs.Cases.{IsCase, IsMark, IsWhole, rows_then}
-use Rattle.standing_tests.proofs.ListCounts.{all_removed, count_last, counts_still, drop_all, fit_behind, fit_left, served_still}
+use Rattle.standing_tests.proofs.ListCounts.{all_removed, count_last, counts_still, drop_all, fit_behind, fit_left, length_taken, served_still}
 use Rattle.standing_tests.proofs.TableRows.{before_listed}
 
 -- ---- steps of tables and lists
@@ -61,6 +62,36 @@ pub case_listed : (store : Tables) (undo : List Noted) (lists left : Lists) → 
 case_listed store undo lists left queries counts ready was =
     case_still store store undo undo lists left queries was refl was.plain was.undoable (before_at store) refl
     (counts_still (count_now lists) (count_now left) (before_at store) lists.queries left.queries queries counts was.fits) was.few ready
+
+-- ---- steps back
+
+module _ (store new : Tables) (undo later : List Noted) (lists left : Lists) (queries : left.queries ≡ lists.queries) (commands changes : ℕ)
+    (log : left.log ≡ take changes lists.log)
+    (counts : (mark : ℕ) → mark ≤ changes → (list : ℕ) (row : List Value) → count_at mark list row left ≡ count_at mark list row lists) where
+  -- A case that went back to a mark is one.
+  pub case_back : IsCase store undo lists → IsMark store undo lists commands changes → EachTurns SameForm store.tables new.tables → CanUndo new later
+      → map (λ (s : StoredRows). rows_of s) new.tables ≡ rows_at_mark commands undo store → left.prepared ≡ [] → IsCase new later left
+  case_back was mark form undoable rows ready =
+      let size = form.size in
+      let taken = length_taken lists.log changes mark.changes_there in
+      let long = ap (λ (cs : List ListChange). length cs) log in
+      let done : drop changes left.log ≡ [] = drop_all left.log changes (omega arith) in
+      case_still store new undo later lists left queries was (omega arith) (plain_formed store new form was.plain) undoable (rows_then commands undo store)
+      (before_listed new (rows_at_mark commands undo store) rows)
+      (counts_still (λ list row. count_at changes list row lists) (count_now left) (rows_then commands undo store) lists.queries left.queries queries
+      (λ list row. sym (count_last left changes done list row) ∙ counts changes (omega arith) list row) mark.fits)
+      mark.few ready
+
+  -- The older marks are still there.
+  pub mark_back : IsMark store undo lists commands changes → later ≡ take commands undo
+      → ((mark : ℕ) → mark ≤ commands → rows_at_mark mark later new ≡ rows_at_mark mark undo store)
+      → (c h : ℕ) → c ≤ commands → h ≤ changes → IsMark store undo lists c h → IsMark new later left c h
+  mark_back mark undo_is rows c h older earlier was =
+      let taken = length_taken lists.log changes mark.changes_there in
+      let long = ap (λ (cs : List ListChange). length cs) log in
+      let kept = length_taken undo commands mark.commands_there in
+      let left_is = ap (λ (ns : List Noted). length ns) undo_is in
+      mark_still store new undo later lists left queries c h (omega arith) (omega arith) (rows c older) (counts h earlier) was
 
 -- ---- marks
 

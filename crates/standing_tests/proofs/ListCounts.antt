@@ -1,16 +1,17 @@
 -- The counts of the rows of lists through the steps of a case.
-use Rattle.std.proofs.Common.{◌≡◌, ◌⊎◌, ℕ, ℤ, zero, suc, pos, ◌<◌, ◌≤◌, ◌+ℤ◌, List, [], ◌∷◌, ◌++◌, Option, Some, None, cond, Bool, true, false, inl, inr, drop, length, map, nat_lt, slice_get, slice_index_or, take, refl, sym, ap, subst, ◌∙◌, ⊎_elim, add-zero, arith}
+use Rattle.std.proofs.Common.{◌≡◌, ◌⊎◌, ℕ, ℤ, zero, suc, pos, ◌<◌, ◌≤◌, ◌+ℤ◌, Result, Ok, Err, OnOk, List, [], ◌∷◌, ◌++◌, Option, Some, None, cond, Bool, true, false, inl, inr, drop, length, map, nat_lt, slice_get, slice_index_or, take, refl, sym, ap, subst, ◌∙◌, ⊎_elim, add-zero, arith}
 use Rattle.std.specs.List.{All, AllByRecursion, list_any, remove}
 use Rattle.std.proofs.lemmas.Bool.{ltb-false, or_parts}
 use Rattle.std.proofs.lemmas.Bool.Decides.{nat_tests}
 use Rattle.std.proofs.lemmas.List.Elements.{All-cons, All-from_recursion, All-nil, All-push, All-weaker, recursion_from_All}
 use Rattle.mm_delta.specs.Counts.{Counts, Entries, count_in, count_of}
-use Rattle.mm_schema.specs.Refused.{first_refusal}
+use Rattle.mm_schema.specs.Refused.{AnswersDue, first_refusal}
 use Rattle.mm_standing.specs.Bags.{Made, count_with, entries_at, row_change, sum_over}
 use Rattle.mm_standing.specs.Queries.{AreCounts, IsBagOf, IsServed, RowsByPlace, StandingQuery, bag_over, change_conditions, is_too_large, list_conditions}
 use Rattle.mm_standing.specs.State.{AreFew, AreServed, FitAt, FitNow, FitPrepared, Lists, count_at, count_now}
 use Rattle.mm_standing.specs.declared.change.ListChange.{ListChange}
 use Rattle.mm_store.specs.Tables.{Tables}
+use Rattle.mm_value.specs.declared.refusal.Refusal.{Refusal}
 use Rattle.mm_value.specs.declared.refusal.Refusal.TheVariants.{StandingListTooLarge}
 use Rattle.mm_value.specs.declared.values.Value.{Value}
 
@@ -101,6 +102,12 @@ few_after rows queries none = each queries (none_holds _ none)
         let parts = or_parts (is_too_large (bag_over rows q)) (list_any (λ standing. is_too_large (bag_over rows standing)) qs) small in
         All-cons (λ (standing : StandingQuery). length (bag_over rows standing) ≤ 1048576) q qs
         (ltb-false 1048576 (length (bag_over rows q)) parts.0) (each qs parts.1)
+
+-- So where a change of tables is answered Ok.
+pub few_on_ok : {T : Type 0} (rows : RowsByPlace) (queries : List StandingQuery) (result : Result T Refusal)
+    → AnswersDue (first_refusal (change_conditions rows queries)) result → OnOk result (AreFew rows queries)
+few_on_ok rows queries (Ok value) due = few_after rows queries due
+few_on_ok rows queries (Err refusal) due = tt
 
 -- Where nothing refuses a list, it has not too many.
 pub few_listed : (rows : List (List Value)) → first_refusal (list_conditions rows) ≡ None → length rows ≤ 1048576

@@ -237,7 +237,8 @@ pub fn watch(
 {
     let _lists = standing.len();
     store.rows_stand();
-    standing.watch(alloc, source, query, tables, &[])
+    standing.watch(alloc, source, query, tables, &[])?;
+    Ok(())
 }
 
 /// Whether each of the places is 0 or 1.
