@@ -158,5 +158,27 @@ type_tested store changes queries whole = λ k d within.
 -- ---- queries over no rows
 
 -- Where the first table has no rows no combination fits.
-pub none_from : (query : BoundQuery) (first : List (List Value)) (others : List (List (List Value))) → first ≡ [] → bag_of query (first ∷ others) ≡ []
+none_from : (query : BoundQuery) (first : List (List Value)) (others : List (List (List Value))) → first ≡ [] → bag_of query (first ∷ others) ≡ []
 none_from query first others none = ap (λ f. bag_of query (f ∷ others)) none
+
+nothing : {X : Type 0} (xs : List X) → length xs ≡ 0 → xs ≡ []
+nothing [] none = refl
+nothing (x ∷ xs) none = absurd (omega arith)
+
+-- A table that has so many rows as 0 has none.
+pub no_rows : (store : Tables) (place n : ℕ) → n ≡ 0 → ((stored : StoredRows) → IsAt store place stored → n ≡ length (rows_of stored))
+    → rows_at store.tables place ≡ []
+no_rows store place n none told = by (slice_get store.tables place) told
+  where
+    by : (found : Option StoredRows) → ((stored : StoredRows) → found ≡ Some stored → n ≡ length (rows_of stored)) → option_map_or rows_of found [] ≡ []
+    by None counted = refl
+    by (Some stored) counted = nothing (rows_of stored) (sym (counted stored refl) ∙ none)
+
+-- Two stores of which the first table has no rows give the same rows for a query over both tables: none.
+pub none_from_both : (query : BoundQuery) (tables : List ℕ) (a b : List StoredRows) → tables ≡ 0 ∷ 1 ∷ [] → rows_at a 0 ≡ [] → rows_at b 0 ≡ []
+    → bag_of query (map (rows_at a) tables) ≡ bag_of query (map (rows_at b) tables)
+none_from_both query tables a b are first second =
+    ap (λ (ts : List ℕ). bag_of query (map (rows_at a) ts)) are
+    ∙ none_from query (rows_at a 0) (rows_at a 1 ∷ []) first
+    ∙ sym (none_from query (rows_at b 0) (rows_at b 1 ∷ []) second)
+    ∙ sym (ap (λ (ts : List ℕ). bag_of query (map (rows_at b) ts)) are)

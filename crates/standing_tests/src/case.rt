@@ -4,8 +4,8 @@ ghost use Rattle.standing_tests.specs.Cases.{is_unshifted};
 
 use crate::samples::are_shown;
 use crate::steps::{
-    addition, are_there, changes_of, go_back, is_unshifted, make_edits, prepare_and_drop, removal,
-    settle, tables, watch,
+    addition, are_there, changes_of, go_back, is_first_empty, is_unshifted, make_edits,
+    prepare_and_drop, removal, settle, tables, watch,
 };
 use mm_delta::Signed;
 use mm_plan::run_plan;
@@ -187,7 +187,7 @@ impl Case {
         refuse(&query, tables.as_slice())?;
         self.mark = START;
         settle(&mut self.store, &mut self.undo, &mut self.standing);
-        if self.store.len_of(0) != 0 || other.store.len_of(0) != 0 {
+        if !is_first_empty(&self.store) || !is_first_empty(&other.store) {
             return Err(Refusal::NotInTransaction);
         }
         watch(
@@ -244,6 +244,7 @@ impl Case {
     pub fn unwatch(&mut self, place: usize) {
         self.mark = START;
         settle(&mut self.store, &mut self.undo, &mut self.standing);
+        self.store.rows_stand();
         if place < self.standing.len() {
             self.standing.unwatch(place);
         }

@@ -241,6 +241,14 @@ pub fn watch(
     Ok(())
 }
 
+/// Whether the first of two tables has no rows.
+pub fn is_first_empty(store: &Store) -> bool
+    requires { length store.now.tables ≡ 2 }
+    ensures { result ≡ true → rows_at store.now.tables 0 ≡ [] }
+{
+    store.len_of(0) == 0
+}
+
 /// Whether each of the places is 0 or 1.
 pub fn are_there(tables: &[usize]) -> bool
     ensures { result ≡ true → All (λ table. table < 2) tables.now }
