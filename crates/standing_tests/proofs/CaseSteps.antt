@@ -1,0 +1,178 @@
+-- What is a case stays one through its steps, and so do its marks.
+use Rattle.std.proofs.Common.{◌≡◌, ℕ, pos, ◌+ℤ◌, ◌≤◌, ◌<◌, List, [], ◌∷◌, ◌++◌, Some, drop, length, map, slice_get, slice_index_or, take, refl, sym, ap, subst, ◌∙◌, arith}
+use Rattle.std.specs.List.{All, remove}
+use Rattle.std.proofs.lemmas.List.Elements.{All-nil, All-push}
+use Rattle.mm_delta.specs.Counts.{Counts, count_in, count_of}
+use Rattle.mm_delta.specs.Edited.{before_at}
+use Rattle.mm_relation.specs.Index.{EachTurns}
+use Rattle.mm_relation.specs.Kept.{StoredRows}
+use Rattle.mm_relation.specs.RowLists.{rows_of}
+use Rattle.mm_query.specs.Queries.{bag_of}
+use Rattle.mm_standing.specs.Bags.{entries_at}
+use Rattle.mm_standing.specs.Queries.{IsBagOf, IsServed, RowsByPlace, StandingQuery, bag_over}
+use Rattle.mm_standing.specs.State.{AreFew, AreServed, FitAt, FitNow, Lists, count_at, count_now}
+use Rattle.mm_standing.specs.declared.change.ListChange.{ListChange}
+use Rattle.mm_store.specs.Marks.{rows_at_mark, rows_now}
+use Rattle.mm_store.specs.Tables.{SameForm, Tables, rows_at}
+use Rattle.mm_store.specs.Undoing.{CanUndo}
+use Rattle.mm_store.specs.Worlds.{Noted}
+use Rattle.mm_value.specs.declared.values.Value.{Value}
+use Rattle.store_tests.specs.SampleStore.{ArePlain}
+use Rattle.store_tests.proofs.PlainStores.{plain_formed}
+use Rattle.standing_tests.specs.Cases.{IsCase, IsMark, IsWhole, rows_then}
+use Rattle.standing_tests.proofs.ListCounts.{all_removed, count_last, counts_still, drop_all, fit_behind, fit_left, length_taken, served_still}
+use Rattle.standing_tests.proofs.TableRows.{before_listed}
+
+-- ---- steps of tables and lists
+
+module _ (store new : Tables) (undo later : List Noted) (lists left : Lists) (queries : left.queries ≡ lists.queries) where
+  -- Tables of the same form with lists that have the rows of the same queries are a case.
+  pub case_still : IsCase store undo lists → length new.tables ≡ length store.tables → ArePlain new → CanUndo new later
+      → (rows : RowsByPlace) → before_at new ≡ rows → FitNow rows left → AreFew rows lists.queries → left.prepared ≡ []
+      → IsCase new later left
+  case_still was many plain undoable rows are fits few ready = record {
+    two = many ∙ was.two;
+    plain = plain;
+    undoable = undoable;
+    served = served_still store new lists.queries left.queries many queries was.served;
+    whole = subst (All IsWhole) (sym queries) was.whole;
+    fits = subst (λ (r : RowsByPlace). FitNow r left) (sym are) fits;
+    few = subst (λ (r : RowsByPlace). AreFew r left.queries) (sym are) (subst (AreFew rows) (sym queries) few);
+    ready = ready;
+  }
+
+  -- A mark at which rows and counts are what they were is one still.
+  pub mark_still : (commands changes : ℕ) → commands ≤ length later → changes ≤ length left.log
+      → rows_at_mark commands later new ≡ rows_at_mark commands undo store
+      → ((list : ℕ) (row : List Value) → count_at changes list row left ≡ count_at changes list row lists)
+      → IsMark store undo lists commands changes → IsMark new later left commands changes
+  mark_still commands changes commands_there changes_there rows counts was = record {
+    commands_there = commands_there;
+    changes_there = changes_there;
+    fits = counts_still (λ list row. count_at changes list row lists) (λ list row. count_at changes list row left) (rows_then commands later new)
+        lists.queries left.queries queries counts
+        (subst (λ (r : List (List (List Value))). FitAt changes (λ place. slice_index_or r place []) lists) (sym rows) was.fits);
+    few = subst (AreFew (rows_then commands later new)) (sym queries)
+        (subst (λ (r : List (List (List Value))). AreFew (λ place. slice_index_or r place []) lists.queries) (sym rows) was.few);
+  }
+
+-- Lists that keep their counts and their queries leave a case.
+pub case_listed : (store : Tables) (undo : List Noted) (lists left : Lists) → left.queries ≡ lists.queries
+    → ((list : ℕ) (row : List Value) → count_now left list row ≡ count_now lists list row) → left.prepared ≡ [] → IsCase store undo lists → IsCase store undo left
+case_listed store undo lists left queries counts ready was =
+    case_still store store undo undo lists left queries was refl was.plain was.undoable (before_at store) refl
+    (counts_still (count_now lists) (count_now left) (before_at store) lists.queries left.queries queries counts was.fits) was.few ready
+
+-- ---- steps back
+
+module _ (store new : Tables) (undo later : List Noted) (lists left : Lists) (queries : left.queries ≡ lists.queries) (commands changes : ℕ)
+    (log : left.log ≡ take changes lists.log)
+    (counts : (mark : ℕ) → mark ≤ changes → (list : ℕ) (row : List Value) → count_at mark list row left ≡ count_at mark list row lists) where
+  -- A case that went back to a mark is one.
+  pub case_back : IsCase store undo lists → IsMark store undo lists commands changes → EachTurns SameForm store.tables new.tables → CanUndo new later
+      → map (λ (s : StoredRows). rows_of s) new.tables ≡ rows_at_mark commands undo store → left.prepared ≡ [] → IsCase new later left
+  case_back was mark form undoable rows ready =
+      let size = form.size in
+      let taken = length_taken lists.log changes mark.changes_there in
+      let long = ap (λ (cs : List ListChange). length cs) log in
+      let done : drop changes left.log ≡ [] = drop_all left.log changes (omega arith) in
+      case_still store new undo later lists left queries was (omega arith) (plain_formed store new form was.plain) undoable (rows_then commands undo store)
+      (before_listed new (rows_at_mark commands undo store) rows)
+      (counts_still (λ list row. count_at changes list row lists) (count_now left) (rows_then commands undo store) lists.queries left.queries queries
+      (λ list row. sym (count_last left changes done list row) ∙ counts changes (omega arith) list row) mark.fits)
+      mark.few ready
+
+  -- The older marks are still there.
+  pub mark_back : IsMark store undo lists commands changes → later ≡ take commands undo
+      → ((mark : ℕ) → mark ≤ commands → rows_at_mark mark later new ≡ rows_at_mark mark undo store)
+      → (c h : ℕ) → c ≤ commands → h ≤ changes → IsMark store undo lists c h → IsMark new later left c h
+  mark_back mark undo_is rows c h older earlier was =
+      let taken = length_taken lists.log changes mark.changes_there in
+      let long = ap (λ (cs : List ListChange). length cs) log in
+      let kept = length_taken undo commands mark.commands_there in
+      let left_is = ap (λ (ns : List Noted). length ns) undo_is in
+      mark_still store new undo later lists left queries c h (omega arith) (omega arith) (rows c older) (counts h earlier) was
+
+-- ---- marks
+
+-- Where all commands and all changes are counted in, the rows and the lists are those now.
+pub mark_now : (store : Tables) (undo : List Noted) (lists : Lists) → IsCase store undo lists
+    → rows_now store ≡ map (λ (s : StoredRows). rows_of s) store.tables
+    → (commands changes : ℕ) → commands ≡ length undo → changes ≡ length lists.log → IsMark store undo lists commands changes
+mark_now store undo lists was rows commands changes commands_are changes_are =
+    let none : drop commands undo ≡ [] = drop_all undo commands (omega arith) in
+    let done : drop changes lists.log ≡ [] = drop_all lists.log changes (omega arith) in
+    let then : before_at store ≡ rows_then commands undo store =
+    before_listed store (rows_at_mark commands undo store) (sym (ap (λ (ns : List Noted). rows_at_mark 0 ns store) none ∙ rows)) in
+    record {
+      commands_there = omega arith;
+      changes_there = omega arith;
+      fits = counts_still (count_now lists) (λ list row. count_at changes list row lists) (rows_then commands undo store) lists.queries lists.queries refl
+          (count_last lists changes done) (subst (λ (r : RowsByPlace). FitNow r lists) then was.fits);
+      few = subst (λ (r : RowsByPlace). AreFew r lists.queries) then was.few;
+    }
+
+-- With no standing query each mark that is there is one.
+pub mark_none : (store : Tables) (undo : List Noted) (lists : Lists) → lists.queries ≡ [] → IsMark store undo lists 0 0
+mark_none store undo lists none = record {
+  commands_there = omega arith;
+  changes_there = omega arith;
+  fits = λ list standing there.
+      let at : slice_get {X = StandingQuery} [] list ≡ Some standing = subst (λ (qs : List StandingQuery). slice_get qs list ≡ Some standing) none there in cc;
+  few = subst (AreFew (rows_then 0 undo store)) (sym none) (All-nil (λ (s : StandingQuery). length (bag_over (rows_then 0 undo store) s) ≤ 1048576));
+}
+
+pub case_none : (store : Tables) (undo : List Noted) (lists : Lists) → length store.tables ≡ 2 → ArePlain store → CanUndo store undo
+    → lists.queries ≡ [] → lists.prepared ≡ [] → IsCase store undo lists
+case_none store undo lists two plain undoable none ready = record {
+  two = two;
+  plain = plain;
+  undoable = undoable;
+  served = subst (AreServed store) (sym none) (All-nil (IsServed store));
+  whole = subst (All IsWhole) (sym none) (All-nil IsWhole);
+  fits = λ list standing there.
+      let at : slice_get {X = StandingQuery} [] list ≡ Some standing = subst (λ (qs : List StandingQuery). slice_get qs list ≡ Some standing) none there in cc;
+  few = subst (AreFew (before_at store)) (sym none) (All-nil (λ (s : StandingQuery). length (bag_over (before_at store) s) ≤ 1048576));
+  ready = ready;
+}
+
+-- ---- standing queries that come and go
+
+-- One more standing query, with the rows that it gives, leaves a case.
+pub case_watched : (store : Tables) (undo : List Noted) (lists : Lists) (new : StandingQuery) (bag : Counts) → length lists.queries ≡ length lists.bags
+    → IsServed store new → IsWhole new → IsBagOf bag.entries (bag_over (before_at store) new) → length (bag_over (before_at store) new) ≤ 1048576
+    → IsCase store undo lists → IsCase store undo (record lists { queries = lists.queries ++ new ∷ []; bags = lists.bags ++ bag ∷ [] })
+case_watched store undo lists new bag many served whole is few was = record {
+  two = was.two;
+  plain = was.plain;
+  undoable = was.undoable;
+  served = All-push (IsServed store) lists.queries new was.served served;
+  whole = All-push IsWhole lists.queries new was.whole whole;
+  fits = fit_behind (before_at store) lists.queries lists.bags new bag many was.fits is;
+  few = All-push (λ s. length (bag_over (before_at store) s) ≤ 1048576) lists.queries new was.few few;
+  ready = was.ready;
+}
+
+-- So does one less.
+pub case_left : (store : Tables) (undo : List Noted) (lists : Lists) (place : ℕ)
+    → IsCase store undo lists → IsCase store undo (record lists { queries = remove lists.queries place; bags = remove lists.bags place })
+case_left store undo lists place was = record {
+  two = was.two;
+  plain = was.plain;
+  undoable = was.undoable;
+  served = all_removed (IsServed store) lists.queries place was.served;
+  whole = all_removed IsWhole lists.queries place was.whole;
+  fits = fit_left (before_at store) lists.queries lists.bags place was.fits;
+  few = all_removed (λ s. length (bag_over (before_at store) s) ≤ 1048576) lists.queries place was.few;
+  ready = was.ready;
+}
+
+-- ---- what a list holds
+
+same_count : (n m : ℕ) → pos n ≡ pos m → n ≡ m
+same_count n m e = cc
+
+-- A list is the bag of its query.
+pub list_is_bag : (store : Tables) (undo : List Noted) (lists : Lists) → IsCase store undo lists → (place : ℕ) (s : StandingQuery)
+    → slice_get lists.queries place ≡ Some s → IsBagOf (entries_at lists.bags place) (bag_over (before_at store) s)
+list_is_bag store undo lists was place s at = λ row. same_count _ _ (was.fits place s at row)

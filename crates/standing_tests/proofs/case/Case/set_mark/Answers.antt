@@ -1,0 +1,10 @@
+use Rattle.standing_tests.proofs.CaseSteps.{mark_now}
+use Rattle.standing_tests.proofs.case.Case.set_mark.Goals as goal
+
+pub invariant_of-self : goal.invariant_of-self
+invariant_of-self c = record {
+  case = c.self.invariant.case;
+  start = c.self.invariant.start;
+  mark = mark_now c.self.inside.store c.self.inside.undo c.self.inside.standing c.self.invariant.case c.rows_stand.ensures c.mark.result c.mark-2.result
+      c.mark.ensures c.mark-2.ensures;
+}

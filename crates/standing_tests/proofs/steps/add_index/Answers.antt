@@ -1,0 +1,13 @@
+use Rattle.std.proofs.Common.{◌∙◌, arith}
+use Rattle.mm_schema.specs.declared.index.IndexKind.TheVariants.{Hash}
+use Rattle.store_tests.proofs.PlainStores.{plain_indexed}
+use Rattle.standing_tests.proofs.steps.add_index.Goals as goal
+
+pub returns-clause-two : goal.returns-clause-two
+returns-clause-two c =
+    (plain_indexed c.args.store.now c.add_index.new.self 0 1 Hash (omega (arith, c.requires.two)) c.requires.plain c.in_ok-add_index.ensures.ok).0
+    ∙ c.requires.two
+
+pub returns-clause-plain : goal.returns-clause-plain
+returns-clause-plain c =
+    (plain_indexed c.args.store.now c.add_index.new.self 0 1 Hash (omega (arith, c.requires.two)) c.requires.plain c.in_ok-add_index.ensures.ok).1

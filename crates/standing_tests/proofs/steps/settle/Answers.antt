@@ -1,0 +1,28 @@
+-- Rows and counts stay.
+use Rattle.std.proofs.Common.{pos, sym, ap, ◌∙◌, List, length, refl, arith}
+use Rattle.mm_delta.specs.Edited.{before_at}
+use Rattle.mm_standing.specs.State.{Lists, count_now}
+use Rattle.mm_standing.specs.declared.change.ListChange.{ListChange}
+use Rattle.mm_store.specs.Worlds.{Noted}
+use Rattle.store_tests.proofs.PlainStores.{plain_formed}
+use Rattle.standing_tests.proofs.CaseSteps.{case_still, mark_now}
+use Rattle.standing_tests.proofs.ListCounts.{counts_still}
+use Rattle.standing_tests.proofs.TableRows.{before_same}
+use Rattle.standing_tests.proofs.steps.settle.Goals as goal
+
+pub returns-clause-case : goal.returns-clause-case
+returns-clause-case c =
+    let lists = c.args.standing.now in
+    let left = c.settle-2.new.self in
+    let size = c.settle.ensures.form.size in
+    case_still c.args.store.now c.settle.new.self c.args.undo.now c.settle.new.undo lists left (ap (λ (l : Lists). l.queries) c.settle-2.ensures.rest)
+    c.requires.case (omega arith) (plain_formed c.args.store.now c.settle.new.self c.settle.ensures.form c.requires.case.plain) c.settle.ensures.fits
+    (before_at c.args.store.now) (before_same c.args.store.now c.settle.new.self c.settle.ensures.rows)
+    (counts_still (count_now lists) (count_now left) (before_at c.args.store.now) lists.queries left.queries
+    (ap (λ (l : Lists). l.queries) c.settle-2.ensures.rest) (λ list row. ap (λ n. pos n) (c.settle-2.ensures.counts list row)) c.requires.case.fits)
+    c.requires.case.few (ap (λ (l : Lists). l.prepared) c.settle-2.ensures.rest ∙ c.requires.case.ready)
+
+pub returns-clause-start : goal.returns-clause-start
+returns-clause-start c =
+    mark_now c.settle.new.self c.settle.new.undo c.settle-2.new.self (returns-clause-case c) c.rows_stand.ensures 0 0
+    (sym (ap (λ (ns : List Noted). length ns) c.settle.ensures.undo)) (sym (ap (λ (l : Lists). length l.log) c.settle-2.ensures.rest))

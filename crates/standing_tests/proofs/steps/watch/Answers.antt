@@ -1,0 +1,45 @@
+-- The last list has the rows that its query gives over the tables of the case.
+use Rattle.std.proofs.Common.{◌≡◌, ℕ, ◌<◌, ◌≤◌, List, length, map, sym, ap, subst, ◌∙◌}
+use Rattle.std.specs.List.{All}
+use Rattle.mm_delta.specs.Counts.{Counts}
+use Rattle.mm_query.specs.Queries.{bag_of}
+use Rattle.mm_standing.specs.Queries.{IsBagOf}
+use Rattle.mm_standing.specs.State.{Lists}
+use Rattle.mm_store.specs.Tables.{rows_at}
+use Rattle.mm_store.specs.Worlds.{Noted}
+use Rattle.mm_value.specs.declared.values.Value.{Value}
+use Rattle.standing_tests.specs.Cases.{IsCase}
+use Rattle.standing_tests.proofs.CaseSteps.{case_watched, mark_now}
+use Rattle.standing_tests.proofs.ListCounts.{few_listed}
+use Rattle.standing_tests.proofs.steps.watch.Goals as goal
+
+pub returns-in_err-watch-clause-case : goal.returns-in_err-watch-clause-case
+returns-in_err-watch-clause-case c = subst (λ (l : Lists). IsCase c.args.store.now c.args.undo.now l) (sym c.in_err-watch.ensures.err) c.requires.case
+
+pub returns-in_err-watch-clause-start : goal.returns-in_err-watch-clause-start
+returns-in_err-watch-clause-start c =
+    mark_now c.args.store.now c.args.undo.now c.watch.new.self (returns-in_err-watch-clause-case c) c.rows_stand.ensures 0 0
+    (sym (ap (λ (ns : List Noted). length ns) c.requires.undo))
+    (sym (ap (λ (l : Lists). length l.log) c.in_err-watch.ensures.err ∙ ap length c.requires.log))
+
+pub returns-clause-case : goal.returns-clause-case
+returns-clause-case c =
+    let store = c.args.store.now in
+    let lists = c.args.standing.now in
+    let query = c.args.query in
+    let tables = c.args.tables.items in
+    let new = c.in_ok-watch.ensures.ok in
+    subst (λ (l : Lists). IsCase store c.args.undo.now l) (sym new.2)
+    (case_watched store c.args.undo.now lists (record { query = query; tables = tables }) new.0 (sym c.len-lists.ensures.queries ∙ c.len-lists.ensures.bags)
+    (record { there = subst (λ (n : ℕ). All (λ table. table < n) tables) (sym c.requires.case.two) c.requires.there; few = c.requires.few })
+    (record { whole = c.requires.whole; unshifted = c.requires.unshifted })
+    (subst (IsBagOf new.0.entries) c.requires.rows new.1)
+    (subst (λ (rows : List (List Value)). length rows ≤ 1048576) c.requires.rows
+    (few_listed (bag_of query (map (rows_at c.args.source.now.tables) tables)) c.in_ok-watch.ensures.due))
+    c.requires.case)
+
+pub returns-clause-start : goal.returns-clause-start
+returns-clause-start c =
+    mark_now c.args.store.now c.args.undo.now c.watch.new.self (returns-clause-case c) c.rows_stand.ensures 0 0
+    (sym (ap (λ (ns : List Noted). length ns) c.requires.undo))
+    (sym (ap (λ (l : Lists). length l.log) c.in_ok-watch.ensures.ok.2 ∙ ap length c.requires.log))

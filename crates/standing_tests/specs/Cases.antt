@@ -1,0 +1,73 @@
+-- Tables with lists of standing queries over them, and marks to which both can go back.
+use Rattle.std.specs.Prelude.{◌≡◌, ◌==◌, ℕ, ◌≤◌, Bool, true, false, if◌then◌else◌, List, [], length, slice_get, slice_index_or}
+use Rattle.std.specs.List.{All, list_all}
+use Rattle.std.specs.Option.{option_map_or}
+use Rattle.mm_delta.specs.Edited.{before_at}
+use Rattle.mm_query.specs.declared.atom.Atom.{Atom}
+use Rattle.mm_query.specs.declared.atom.Operand.{Operand}
+use Rattle.mm_query.specs.declared.atom.Operand.TheVariants.{Literal, Column, Shifted}
+use Rattle.mm_query.specs.declared.bound_query.BoundQuery.{BoundQuery}
+use Rattle.mm_query.specs.declared.bound_query.FieldPlace.{FieldPlace}
+use Rattle.mm_relation.specs.Kept.{StoredRows}
+use Rattle.mm_relation.specs.declared.edits.Edit.{Edit}
+use Rattle.mm_standing.specs.Queries.{RowsByPlace, StandingQuery}
+use Rattle.mm_standing.specs.State.{AreFew, AreServed, FitAt, FitNow, Lists}
+use Rattle.mm_store.specs.Marks.{rows_at_mark}
+use Rattle.mm_store.specs.Tables.{Tables, rows_at, rows_with}
+use Rattle.mm_store.specs.Undoing.{CanUndo}
+use Rattle.mm_store.specs.Worlds.{Noted}
+use Rattle.store_tests.specs.SampleStore.{ArePlain}
+
+-- ---- queries
+
+-- The operand adds no number to a value.
+abbrev pub adds_none : Operand FieldPlace → Bool
+adds_none (Literal value) = true
+adds_none (Column field) = true
+adds_none (Shifted field by) = false
+
+-- No atom of the query adds a number to a value.
+abbrev pub is_unshifted : BoundQuery → Bool
+is_unshifted query = list_all (λ (atom : Atom FieldPlace). adds_none atom.right) query.atoms
+
+-- The standing query has a place for each table of its FROM, and no atom of it adds a number.
+pub record IsWhole (standing : StandingQuery) : Type 0 where
+  pub whole : length standing.tables ≡ length standing.query.from
+  pub unshifted : is_unshifted standing.query ≡ true
+
+-- ---- rows
+
+-- The rows of the table at each place once the edits of the one at a place are made.
+abbrev pub rows_edited : Tables → ℕ → List Edit → RowsByPlace
+rows_edited store table edits place =
+    if table == place then option_map_or (λ (stored : StoredRows). rows_with stored edits) (slice_get store.tables place) [] else rows_at store.tables place
+
+-- The rows of the table at each place when the log had so many commands.
+abbrev pub rows_then : ℕ → List Noted → Tables → RowsByPlace
+rows_then commands undo store place = slice_index_or (rows_at_mark commands undo store) place []
+
+-- ---- cases
+
+-- There are two tables of two columns; the log of their commands can be taken back; and the lists have the rows of their queries.
+pub record IsCase (store : Tables) (undo : List Noted) (lists : Lists) : Type 0 where
+  pub two : length store.tables ≡ 2
+  pub plain : ArePlain store
+  pub undoable : CanUndo store undo
+  pub served : AreServed store lists.queries
+  pub whole : All IsWhole lists.queries
+  pub fits : FitNow (before_at store) lists
+  pub few : AreFew (before_at store) lists.queries
+  pub ready : lists.prepared ≡ []
+
+-- When the tables had so many commands, and the lists so many changes, the lists had the rows of their queries.
+pub record IsMark (store : Tables) (undo : List Noted) (lists : Lists) (commands changes : ℕ) : Type 0 where
+  pub commands_there : commands ≤ length undo
+  pub changes_there : changes ≤ length lists.log
+  pub fits : FitAt changes (rows_then commands undo store) lists
+  pub few : AreFew (rows_then commands undo store) lists.queries
+
+-- A case that can go back to its start and to a mark.
+pub record IsMarked (store : Tables) (undo : List Noted) (lists : Lists) (commands changes : ℕ) : Type 0 where
+  pub case : IsCase store undo lists
+  pub start : IsMark store undo lists 0 0
+  pub mark : IsMark store undo lists commands changes

@@ -1,0 +1,325 @@
+//! Two tables with the lists of standing queries over them.
+ghost use Rattle.std.specs.Prelude.{◌≡◌, ◌<◌, ◌≤◌, All, length, true, OnOk};
+ghost use Rattle.standing_tests.specs.Cases.{is_unshifted};
+
+use crate::samples::are_shown;
+use crate::steps::{
+    addition, are_there, changes_of, go_back, is_first_empty, is_unshifted, make_edits,
+    prepare_and_drop, removal, settle, tables, watch,
+};
+use mm_delta::Signed;
+use mm_plan::run_plan;
+use mm_query::BoundQuery;
+use mm_standing::Standing;
+use mm_store::{Meter, Store, Undo};
+use mm_value::Refusal;
+use std::alloc::Global;
+use std::marker::Model;
+
+/// Two tables with the lists of standing queries over them, which fit the rows; what was changed since the last settlement can be
+/// taken back.
+#[derive(Drop)]
+pub struct Case {
+    store: Store,
+    undo: Undo,
+    standing: Standing,
+    mark: Mark,
+}
+
+/// How many commands the log of the tables and how many changes that of the lists had.
+#[derive(Clone, Copy)]
+struct Mark {
+    commands: usize,
+    changes: usize,
+}
+
+/// Where nothing can be taken back.
+const START: Mark = Mark {
+    commands: 0,
+    changes: 0,
+};
+
+impl Model for Case {
+    ghost use Rattle.standing_tests.specs.Cases.{IsMarked};
+    ghost use Rattle.mm_store.specs.Tables.{Tables};
+
+    ghost Value = { Tables };
+
+    ghost view = { λ c. c.store };
+
+    ghost invariant = { λ c. IsMarked c.store c.undo c.standing c.mark.commands c.mark.changes };
+}
+
+impl Case {
+    /// Two tables with no rows and no standing queries. With `indexed` the numbers of the first have a HASH index.
+    pub fn new(alloc: Global, indexed: bool) -> Result<Case, Refusal> {
+        Ok(Case {
+            store: tables(alloc, indexed)?,
+            undo: Undo::new(alloc),
+            standing: Standing::new(alloc),
+            mark: START,
+        })
+    }
+
+    /// Adds a row to a table. `NoSuchTable` where no table stands at the place; what else refuses a change.
+    pub fn add(
+        &mut self,
+        alloc: Global,
+        table: usize,
+        key: i64,
+        number: i64,
+    ) -> Result<(), Refusal> {
+        if table >= 2 {
+            return Err(Refusal::NoSuchTable);
+        }
+        let edits = addition(alloc, key, number)?;
+        make_edits(
+            alloc,
+            &mut self.store,
+            &mut self.undo,
+            &mut self.standing,
+            table,
+            edits,
+        )
+    }
+
+    /// Removes the row of a key from a table. `NoSuchTable` where no table stands at the place; `NoTargetRow` where no row has the
+    /// key; what else refuses a change.
+    pub fn remove(&mut self, alloc: Global, table: usize, key: i64) -> Result<(), Refusal> {
+        if table >= 2 {
+            return Err(Refusal::NoSuchTable);
+        }
+        let edits = removal(alloc, &self.store, table, key)?;
+        make_edits(
+            alloc,
+            &mut self.store,
+            &mut self.undo,
+            &mut self.standing,
+            table,
+            edits,
+        )
+    }
+
+    /// The same with a row more in a table.
+    pub fn with(
+        mut self,
+        alloc: Global,
+        table: usize,
+        key: i64,
+        number: i64,
+    ) -> Result<Case, Refusal> {
+        self.add(alloc, table, key, number)?;
+        Ok(self)
+    }
+
+    /// The same without the row of a key of a table.
+    pub fn without(mut self, alloc: Global, table: usize, key: i64) -> Result<Case, Refusal> {
+        self.remove(alloc, table, key)?;
+        Ok(self)
+    }
+
+    /// Makes the addition of a row ready, and drops it. `NoSuchTable` where no table stands at the place; what else refuses the
+    /// lists of a change. Where it is refused, what is ready is made, which is nothing.
+    pub fn prepare_and_drop(
+        &mut self,
+        alloc: Global,
+        table: usize,
+        key: i64,
+        number: i64,
+    ) -> Result<(), Refusal> {
+        if table >= 2 {
+            return Err(Refusal::NoSuchTable);
+        }
+        let edits = addition(alloc, key, number)?;
+        prepare_and_drop(
+            alloc,
+            &self.store,
+            &mut self.standing,
+            table,
+            edits.as_slice(),
+        )
+    }
+
+    /// Keeps a standing query over tables that stand at these places. What was changed is settled first. `NoSuchTable` where no
+    /// table stands at one of the places; `TooMany` for more than 4 of them; `WrongNumberOfValues` unless there are as many as in
+    /// FROM; `ArithmeticOutOfRange` where an atom adds a number; what else refuses a standing query.
+    pub fn watch(
+        &mut self,
+        alloc: Global,
+        query: BoundQuery,
+        tables: Vec<usize>,
+    ) -> Result<(), Refusal> {
+        refuse(&query, tables.as_slice())?;
+        self.mark = START;
+        settle(&mut self.store, &mut self.undo, &mut self.standing);
+        watch(
+            alloc,
+            &self.store,
+            &self.undo,
+            &mut self.standing,
+            &self.store,
+            query,
+            tables,
+        )
+    }
+
+    /// The same with a standing query more.
+    pub fn watching(
+        mut self,
+        alloc: Global,
+        query: BoundQuery,
+        tables: Vec<usize>,
+    ) -> Result<Case, Refusal> {
+        self.watch(alloc, query, tables)?;
+        Ok(self)
+    }
+
+    /// The same with a standing query more over both tables, whose list was found over those of another case. What was changed is
+    /// settled first. `NotInTransaction` unless the first table is empty in both, since the list would not fit; else the refusals of
+    /// `watch`.
+    pub fn watching_elsewhere(
+        mut self,
+        alloc: Global,
+        other: &Case,
+        query: BoundQuery,
+    ) -> Result<Case, Refusal> {
+        let tables = vec![in alloc; 0, 1]?;
+        refuse(&query, tables.as_slice())?;
+        self.mark = START;
+        settle(&mut self.store, &mut self.undo, &mut self.standing);
+        if !is_first_empty(&self.store) || !is_first_empty(&other.store) {
+            return Err(Refusal::NotInTransaction);
+        }
+        watch(
+            alloc,
+            &self.store,
+            &self.undo,
+            &mut self.standing,
+            &other.store,
+            query,
+            tables,
+        )?;
+        Ok(self)
+    }
+
+    /// How many rows were read when the last change was prepared.
+    pub fn reads(&self) -> u64 {
+        self.standing.reads()
+    }
+
+    /// Makes a mark of the rows and the lists as they are.
+    pub fn set_mark(&mut self) {
+        self.store.rows_stand();
+        self.mark = Mark {
+            commands: self.undo.mark(),
+            changes: self.standing.mark(),
+        };
+    }
+
+    /// Takes back what was changed since the mark.
+    pub fn go_back(&mut self) {
+        let Mark { commands, changes } = self.mark;
+        go_back(
+            &mut self.store,
+            &mut self.undo,
+            &mut self.standing,
+            commands,
+            changes,
+        );
+    }
+
+    /// Takes back what was changed since the last settlement. The mark goes.
+    pub fn go_back_to_start(&mut self) {
+        self.mark = START;
+        self.go_back();
+    }
+
+    /// Makes what was changed final. The mark goes.
+    pub fn settle(&mut self) {
+        self.mark = START;
+        settle(&mut self.store, &mut self.undo, &mut self.standing);
+    }
+
+    /// Drops the standing query at a place, if there is one. What was changed is settled first.
+    pub fn unwatch(&mut self, place: usize) {
+        self.mark = START;
+        settle(&mut self.store, &mut self.undo, &mut self.standing);
+        self.store.rows_stand();
+        if place < self.standing.len() {
+            self.standing.unwatch(place);
+        }
+    }
+
+    /// How many rows the list at a place shows. `NoSuchStandingQuery` where there is none.
+    pub fn count(&self, place: usize) -> Result<usize, Refusal> {
+        if place >= self.standing.len() {
+            return Err(Refusal::NoSuchStandingQuery);
+        }
+        Ok(self.standing.count(place))
+    }
+
+    /// Whether the list at a place shows just these rows, in this order. `NoSuchStandingQuery` where there is none; `Memory` where
+    /// it is refused.
+    pub fn shows(&self, alloc: Global, place: usize, rows: &[&[i64]]) -> Result<bool, Refusal> {
+        if place >= self.standing.len() {
+            return Err(Refusal::NoSuchStandingQuery);
+        }
+        let shown = self.standing.list(alloc, place)?;
+        Ok(are_shown(&shown, rows))
+    }
+
+    /// By how much the count of each row of a query over tables that stand at these places changes with a row more in a table.
+    /// `NoSuchTable` where no table stands at the place; else the refusals of `watch`.
+    pub fn changes_of(
+        &self,
+        alloc: Global,
+        query: &BoundQuery,
+        tables: &[usize],
+        table: usize,
+        key: i64,
+        number: i64,
+    ) -> Result<Vec<Signed>, Refusal> {
+        refuse(query, tables)?;
+        if table >= 2 {
+            return Err(Refusal::NoSuchTable);
+        }
+        let edits = addition(alloc, key, number)?;
+        changes_of(alloc, &self.store, query, tables, table, edits.as_slice())
+    }
+
+    /// How many combinations of rows fit a query over tables that stand at these places. The refusals are those of `watch`, but
+    /// for `ResultTooLarge` in place of `StandingListTooLarge`.
+    pub fn combinations(
+        &self,
+        alloc: Global,
+        query: &BoundQuery,
+        tables: &[usize],
+    ) -> Result<usize, Refusal> {
+        refuse(query, tables)?;
+        let mut meter = Meter::new();
+        let list = run_plan(alloc, &self.store, &mut meter, query, tables, &[])?;
+        Ok(list.len())
+    }
+}
+
+/// Refuses a query that is not for the tables of a case at these places.
+fn refuse(query: &BoundQuery, tables: &[usize]) -> Result<(), Refusal>
+    ensures there { OnOk result (All (λ table. table < 2) tables.now) }
+    ensures few { OnOk result (length tables.now ≤ 4) }
+    ensures whole { OnOk result (length tables.now ≡ length query.now.from) }
+    ensures unshifted { OnOk result (is_unshifted query.now ≡ true) }
+{
+    if tables.len() > 4 {
+        return Err(Refusal::TooMany);
+    }
+    if !are_there(tables) {
+        return Err(Refusal::NoSuchTable);
+    }
+    if tables.len() != query.from.as_slice().len() {
+        return Err(Refusal::WrongNumberOfValues);
+    }
+    if !is_unshifted(query) {
+        return Err(Refusal::ArithmeticOutOfRange);
+    }
+    Ok(())
+}

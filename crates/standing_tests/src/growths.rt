@@ -1,0 +1,192 @@
+//! Each growth of memory that a call asks for is refused in turn: then what the call could have changed is as before, and the
+//! call given again answers as it should.
+//!
+//! A run refuses one growth. Where that is one in front of the call or behind it a test ends, since other runs refuse those of the
+//! call.
+use crate::case::Case;
+use crate::samples::{is_row_of, key, numbers_compare, pairs, row};
+use crate::three_lists::{is_as_sampled, sample};
+use mm_delta::{Counted, Signed};
+use mm_query::{BoundQuery, Comparison};
+use mm_value::{Refusal, Row};
+use std::alloc::Global;
+use std::io;
+use std::test::Fail;
+
+/// Tells that a call was refused memory and is given again. A run that refuses growths looks for the line.
+fn asked_again(rt: &impl Print) -> io::Result<()> {
+    rt.println("refused")
+}
+
+/// The pairs of keys of rows with the same number, of the first table and of the second.
+fn joined(alloc: Global) -> Result<BoundQuery, Refusal> {
+    pairs(
+        alloc,
+        [key(0), key(1)],
+        [numbers_compare(Comparison::Equal)],
+    )
+}
+
+/// Keeps those pairs as a standing query.
+fn watch_joined(case: &mut Case, alloc: Global) -> Result<(), Refusal> {
+    let tables = vec![in alloc; 0, 1]?;
+    case.watch(alloc, joined(alloc)?, tables)
+}
+
+#[test]
+fn watch_growths(rt: HostRuntime) -> Result<(), Fail> {
+    let alloc = rt.alloc();
+    let Ok(mut case) = sample(alloc) else {
+        return Ok(());
+    };
+    if let Err(refusal) = watch_joined(&mut case, alloc) {
+        asked_again(&rt)?;
+        assert_eq!(rt; refusal, Refusal::Memory);
+        assert!(rt; case.count(3).is_err());
+        assert!(rt; is_as_sampled(&case, alloc)?);
+        assert!(rt; watch_joined(&mut case, alloc).is_ok());
+    }
+    let Ok(is_shown) = case.shows(alloc, 3, &[&[1, 1], &[2, 1]]) else {
+        return Ok(());
+    };
+    assert!(rt; is_shown);
+    Ok(())
+}
+
+#[test]
+fn prepare_growths(rt: HostRuntime) -> Result<(), Fail> {
+    let alloc = rt.alloc();
+    let Ok(mut case) = sample(alloc) else {
+        return Ok(());
+    };
+    if let Err(refusal) = case.prepare_and_drop(alloc, 0, 3, 5) {
+        asked_again(&rt)?;
+        assert_eq!(rt; refusal, Refusal::Memory);
+        assert!(rt; is_as_sampled(&case, alloc)?);
+        assert!(rt; case.prepare_and_drop(alloc, 0, 3, 5).is_ok());
+    }
+    let Ok(is_shown) = is_as_sampled(&case, alloc) else {
+        return Ok(());
+    };
+    assert!(rt; is_shown);
+    Ok(())
+}
+
+#[test]
+fn change_growths(rt: HostRuntime) -> Result<(), Fail> {
+    let alloc = rt.alloc();
+    let Ok(mut case) = sample(alloc) else {
+        return Ok(());
+    };
+    if let Err(refusal) = case.add(alloc, 0, 3, 5) {
+        asked_again(&rt)?;
+        assert_eq!(rt; refusal, Refusal::Memory);
+        assert!(rt; is_as_sampled(&case, alloc)?);
+        assert!(rt; case.add(alloc, 0, 3, 5).is_ok());
+    }
+    let Ok(is_shown) = case.shows(alloc, 0, &[&[1, 1], &[2, 1], &[3, 1]]) else {
+        return Ok(());
+    };
+    assert!(rt; is_shown);
+    Ok(())
+}
+
+#[test]
+fn list_growths(rt: HostRuntime) -> Result<(), Fail> {
+    let alloc = rt.alloc();
+    let Ok(case) = sample(alloc) else {
+        return Ok(());
+    };
+    let rows: &[&[i64]] = &[&[1, 1], &[2, 1]];
+    match case.shows(alloc, 0, rows) {
+        Ok(is_shown) => assert!(rt; is_shown),
+        Err(refusal) => {
+            asked_again(&rt)?;
+            assert_eq!(rt; refusal, Refusal::Memory);
+            assert!(rt; case.shows(alloc, 0, rows)?);
+        }
+    }
+    Ok(())
+}
+
+/// Whether the only change is that of the count of a row of these two numbers, by 1.
+fn is_one_more(changes: &[Signed], numbers: &[i64]) -> bool {
+    match changes {
+        [change] => change.count == 1 && is_row_of(&change.row, numbers),
+        _ => false,
+    }
+}
+
+#[test]
+fn delta_growths(rt: HostRuntime) -> Result<(), Fail> {
+    let alloc = rt.alloc();
+    let Ok(case) = sample(alloc) else {
+        return Ok(());
+    };
+    let Ok(query) = joined(alloc) else {
+        return Ok(());
+    };
+    match case.changes_of(alloc, &query, &[0, 1], 0, 3, 5) {
+        Ok(changes) => assert!(rt; is_one_more(changes.as_slice(), &[3, 1])),
+        Err(refusal) => {
+            asked_again(&rt)?;
+            assert_eq!(rt; refusal, Refusal::Memory);
+            let changes = case.changes_of(alloc, &query, &[0, 1], 0, 3, 5)?;
+            assert!(rt; is_one_more(changes.as_slice(), &[3, 1]));
+        }
+    }
+    Ok(())
+}
+
+/// A bag with a row of a key once and one of another key twice.
+fn bag(alloc: Global) -> Result<Counted, Refusal> {
+    let mut bag = Counted::new(alloc);
+    bag.count_up(row(alloc, 1, 5)?)?;
+    bag.count_up(row(alloc, 2, 5)?)?;
+    bag.count_up(row(alloc, 2, 5)?)?;
+    Ok(bag)
+}
+
+#[test]
+fn counted_growths(rt: HostRuntime) -> Result<(), Fail> {
+    let alloc = rt.alloc();
+    let Ok(mut bag) = bag(alloc) else {
+        return Ok(());
+    };
+    if let Err(refusal) = bag.reserve(100) {
+        asked_again(&rt)?;
+        assert_eq!(rt; refusal, Refusal::Memory);
+        assert_eq!(rt; (bag.len(), bag.total()), (2, 3));
+        assert!(rt; bag.reserve(100).is_ok());
+    }
+    assert_eq!(rt; (bag.len(), bag.total()), (2, 3));
+    Ok(())
+}
+
+/// Whether these are three rows of these numbers.
+fn are_rows(rows: &[Row], numbers: [[i64; 2]; 3]) -> bool {
+    match rows {
+        [a, b, c] => {
+            is_row_of(a, &numbers[0]) && is_row_of(b, &numbers[1]) && is_row_of(c, &numbers[2])
+        }
+        _ => false,
+    }
+}
+
+#[test]
+fn counted_list_growths(rt: HostRuntime) -> Result<(), Fail> {
+    let alloc = rt.alloc();
+    let Ok(bag) = bag(alloc) else {
+        return Ok(());
+    };
+    match bag.list(alloc) {
+        Ok(rows) => assert!(rt; are_rows(rows.as_slice(), [[1, 5], [2, 5], [2, 5]])),
+        Err(refusal) => {
+            asked_again(&rt)?;
+            assert_eq!(rt; refusal, Refusal::Memory);
+            let rows = bag.list(alloc)?;
+            assert!(rt; are_rows(rows.as_slice(), [[1, 5], [2, 5], [2, 5]]));
+        }
+    }
+    Ok(())
+}

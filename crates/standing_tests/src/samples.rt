@@ -1,0 +1,100 @@
+//! Queries and rows for tests. Each table has a key and a number.
+ghost use Rattle.std.specs.Prelude.{◌≡◌, length, IfOk};
+
+use mm_query::{Atom, BoundQuery, Comparison, FieldPlace, FromItem, ItemList, Operand};
+use mm_schema::Name;
+use mm_templist::ShownRows;
+use mm_value::{Refusal, Row, Value, compare};
+use std::alloc::{AllocError, Global};
+
+/// The key of the row at a place.
+pub fn key(place: usize) -> FieldPlace {
+    FieldPlace { place, column: 0 }
+}
+
+/// The number of the row at a place.
+pub fn number(place: usize) -> FieldPlace {
+    FieldPlace { place, column: 1 }
+}
+
+/// The atom that compares the numbers of the rows at the first two places.
+pub fn numbers_compare(comparison: Comparison) -> Atom<FieldPlace> {
+    Atom {
+        left: number(0),
+        comparison,
+        right: Operand::Column(number(1)),
+    }
+}
+
+/// A query with these fields over so many tables, for all combinations of rows.
+pub fn query<const N: usize>(
+    alloc: Global,
+    tables: usize,
+    fields: [FieldPlace; N],
+) -> Result<BoundQuery, Refusal> {
+    let name = Name::new(b"t").ok_or(Refusal::Syntax)?;
+    let mut from = Vec::new(alloc);
+    for _ in 0..tables {
+        from.push(FromItem {
+            table: name.copy(),
+            alias: name.copy(),
+        })?;
+    }
+    Ok(BoundQuery {
+        distinct: false,
+        fields: ItemList::new(Vec::from_array(alloc, fields)?),
+        from: ItemList::new(from),
+        atoms: ItemList::new(Vec::new(alloc)),
+        order: ItemList::new(Vec::new(alloc)),
+    })
+}
+
+/// A query over two tables for the combinations for which some atoms hold.
+pub fn pairs<const N: usize, const M: usize>(
+    alloc: Global,
+    fields: [FieldPlace; N],
+    atoms: [Atom<FieldPlace>; M],
+) -> Result<BoundQuery, Refusal> {
+    let mut query = query(alloc, 2, fields)?;
+    query.atoms = ItemList::new(Vec::from_array(alloc, atoms)?);
+    Ok(query)
+}
+
+/// The row of a key and a number. `AllocError` where memory is refused.
+pub fn row(alloc: Global, key: i64, number: i64) -> Result<Row, AllocError>
+    ensures { IfOk result (λ row. length row ≡ 2) }
+{
+    let values = vec![in alloc; Value::Int(key), Value::Int(number)]?;
+    Ok(Row::new(values))
+}
+
+/// Whether the values of a shown row are these numbers.
+fn has_numbers(row: &[&Value], numbers: &[i64]) -> bool {
+    row.len() == numbers.len()
+        && row.iter().zip(numbers.iter()).all(|(value, number)| compare(
+            value,
+            &Value::Int(*number),
+        ).is_eq())
+}
+
+/// Whether just these rows are shown, in this order.
+pub fn are_shown(shown: &ShownRows<'_>, rows: &[&[i64]]) -> bool {
+    if shown.len() != rows.len() {
+        return false;
+    }
+    for (i, numbers) in rows.iter().enumerate() {
+        if !has_numbers(shown.row(i), numbers) {
+            return false;
+        }
+    }
+    true
+}
+
+/// Whether a row has just these numbers.
+pub fn is_row_of(row: &Row, numbers: &[i64]) -> bool {
+    row.values().len() == numbers.len()
+        && row.values().iter().zip(numbers.iter()).all(|(value, number)| compare(
+            value,
+            &Value::Int(*number),
+        ).is_eq())
+}
