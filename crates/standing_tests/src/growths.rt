@@ -148,7 +148,26 @@ fn bag(alloc: Global) -> Result<Counted, Refusal> {
 }
 
 #[test]
-fn counted_growths(rt: HostRuntime) -> Result<(), Fail> {
+fn count_up_growths(rt: HostRuntime) -> Result<(), Fail> {
+    let alloc = rt.alloc();
+    let Ok(mut bag) = bag(alloc) else {
+        return Ok(());
+    };
+    let Ok(new) = row(alloc, 3, 7) else {
+        return Ok(());
+    };
+    if let Err(refusal) = bag.count_up(new) {
+        asked_again(&rt)?;
+        assert_eq!(rt; refusal, Refusal::Memory);
+        assert_eq!(rt; (bag.len(), bag.total()), (2, 3));
+        assert!(rt; bag.count_up(row(alloc, 3, 7)?).is_ok());
+    }
+    assert_eq!(rt; (bag.len(), bag.total()), (3, 4));
+    Ok(())
+}
+
+#[test]
+fn reserve_growths(rt: HostRuntime) -> Result<(), Fail> {
     let alloc = rt.alloc();
     let Ok(mut bag) = bag(alloc) else {
         return Ok(());
@@ -174,7 +193,7 @@ fn are_rows(rows: &[Row], numbers: [[i64; 2]; 3]) -> bool {
 }
 
 #[test]
-fn counted_list_growths(rt: HostRuntime) -> Result<(), Fail> {
+fn counted_rows_growths(rt: HostRuntime) -> Result<(), Fail> {
     let alloc = rt.alloc();
     let Ok(bag) = bag(alloc) else {
         return Ok(());
