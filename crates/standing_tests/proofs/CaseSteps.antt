@@ -1,19 +1,18 @@
 -- What is a case stays one through its steps, and so do its marks.
-use Rattle.std.proofs.Common.{◌≡◌, ℕ, pos, ◌+ℤ◌, ◌≤◌, ◌<◌, List, [], ◌∷◌, ◌++◌, Some, drop, length, map, slice_get, slice_index_or, take, refl, sym, ap, subst, ◌∙◌, arith}
+use Rattle.std.proofs.Common.{◌≡◌, ℕ, pos, ◌≤◌, List, [], ◌∷◌, ◌++◌, Some, drop, length, map, slice_get, slice_index_or, take, refl, sym, ap, subst, ◌∙◌, arith}
 use Rattle.std.specs.List.{All, remove}
 use Rattle.std.proofs.lemmas.List.Elements.{All-nil, All-push}
-use Rattle.mm_delta.specs.Counts.{Counts, count_in, count_of}
+use Rattle.mm_delta.specs.Counts.{Counts}
 use Rattle.mm_delta.specs.Edited.{before_at}
 use Rattle.mm_relation.specs.Index.{EachTurns}
 use Rattle.mm_relation.specs.Kept.{StoredRows}
 use Rattle.mm_relation.specs.RowLists.{rows_of}
-use Rattle.mm_query.specs.Queries.{bag_of}
 use Rattle.mm_standing.specs.Bags.{entries_at}
 use Rattle.mm_standing.specs.Queries.{IsBagOf, IsServed, RowsByPlace, StandingQuery, bag_over}
 use Rattle.mm_standing.specs.State.{AreFew, AreServed, FitAt, FitNow, Lists, count_at, count_now}
 use Rattle.mm_standing.specs.declared.change.ListChange.{ListChange}
 use Rattle.mm_store.specs.Marks.{rows_at_mark, rows_now}
-use Rattle.mm_store.specs.Tables.{SameForm, Tables, rows_at}
+use Rattle.mm_store.specs.Tables.{SameForm, Tables}
 use Rattle.mm_store.specs.Undoing.{CanUndo}
 use Rattle.mm_store.specs.Worlds.{Noted}
 use Rattle.mm_value.specs.declared.values.Value.{Value}

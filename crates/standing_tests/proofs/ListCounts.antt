@@ -1,14 +1,14 @@
 -- The counts of the rows of lists through the steps of a case.
-use Rattle.std.proofs.Common.{◌≡◌, ◌⊎◌, ℕ, ℤ, zero, suc, pos, ◌<◌, ◌≤◌, ◌+ℤ◌, Result, Ok, Err, OnOk, List, [], ◌∷◌, ◌++◌, Option, Some, None, cond, Bool, true, false, inl, inr, drop, length, map, nat_lt, slice_get, slice_index_or, take, refl, sym, ap, subst, ◌∙◌, ⊎_elim, add-zero, arith}
+use Rattle.std.proofs.Common.{◌≡◌, ◌⊎◌, ℕ, ℤ, zero, suc, pos, ◌<◌, ◌≤◌, ◌+ℤ◌, Result, Ok, Err, OnOk, List, [], ◌∷◌, ◌++◌, Some, None, cond, Bool, true, false, inl, inr, drop, length, map, nat_lt, slice_get, slice_index_or, take, refl, sym, ap, subst, ◌∙◌, ⊎_elim, add-zero, arith}
 use Rattle.std.specs.List.{All, AllByRecursion, list_any, remove}
 use Rattle.std.proofs.lemmas.Bool.{ltb-false, or_parts}
 use Rattle.std.proofs.lemmas.Bool.Decides.{nat_tests}
-use Rattle.std.proofs.lemmas.List.Elements.{All-cons, All-from_recursion, All-nil, All-push, All-weaker, recursion_from_All}
+use Rattle.std.proofs.lemmas.List.Elements.{All-cons, All-from_recursion, All-nil, All-weaker, recursion_from_All}
 use Rattle.mm_delta.specs.Counts.{Counts, Entries, count_in, count_of}
 use Rattle.mm_schema.specs.Refused.{AnswersDue, first_refusal}
 use Rattle.mm_standing.specs.Bags.{Made, count_with, entries_at, row_change, sum_over}
 use Rattle.mm_standing.specs.Queries.{AreCounts, IsBagOf, IsServed, RowsByPlace, StandingQuery, bag_over, change_conditions, is_too_large, list_conditions}
-use Rattle.mm_standing.specs.State.{AreFew, AreServed, FitAt, FitNow, FitPrepared, Lists, count_at, count_now}
+use Rattle.mm_standing.specs.State.{AreFew, AreServed, FitNow, FitPrepared, Lists, count_at, count_now}
 use Rattle.mm_standing.specs.declared.change.ListChange.{ListChange}
 use Rattle.mm_store.specs.Tables.{Tables}
 use Rattle.mm_value.specs.declared.refusal.Refusal.{Refusal}

@@ -4,7 +4,7 @@ use Rattle.std.specs.List.{All, list_all}
 use Rattle.std.specs.Option.{option_map_or}
 use Rattle.std.proofs.lemmas.Bool.{and_parts, eqb-false, eqb-true, false≢true}
 use Rattle.std.proofs.lemmas.List.{get_or-set_other, get_or-set_same, length-map, map-set}
-use Rattle.std.proofs.lemmas.List.Elements.{All-cons, All-nil, All-weaker}
+use Rattle.std.proofs.lemmas.List.Elements.{All-cons, All-nil}
 use Rattle.mm_delta.specs.Edited.{after_at, before_at}
 use Rattle.mm_delta.specs.Skipping.{IsTypeTested}
 use Rattle.mm_delta.specs.Steps.{EachFit}
@@ -18,7 +18,7 @@ use Rattle.mm_query.specs.declared.bound_query.FieldPlace.{FieldPlace}
 use Rattle.mm_relation.specs.Kept.{StoredRows}
 use Rattle.mm_relation.specs.RowLists.{rows_of}
 use Rattle.mm_relation.specs.declared.edits.Edit.{Edit}
-use Rattle.mm_relevance.specs.Relevance.{AddsToNumber, AddsToNumbers}
+use Rattle.mm_relevance.specs.Relevance.{AddsToNumber}
 use Rattle.mm_standing.specs.Queries.{RowsByPlace, StandingQuery}
 use Rattle.mm_standing.specs.Reads.{AreTypeTested}
 use Rattle.mm_store.specs.Tables.{AreFit, HasRows, IsAt, Tables, Turns, rows_at, rows_with}
@@ -55,9 +55,6 @@ module _ (store new : Tables) (table : ℕ) (within : table < length store.table
 
       turned : (x : StoredRows) × Turns store table x new × HasRows found.0 (rows found.0) x
       turned = each found.0 found.1
-
-      all : List (List (List Value))
-      all = map (λ (s : StoredRows). rows_of s) store.tables
 
       are : map (λ (s : StoredRows). rows_of s) new.tables ≡ slice_set (map (λ (s : StoredRows). rows_of s) store.tables) table (rows found.0)
       are =

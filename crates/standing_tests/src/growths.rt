@@ -150,19 +150,17 @@ fn bag(alloc: Global) -> Result<Counted, Refusal> {
 #[test]
 fn count_up_growths(rt: HostRuntime) -> Result<(), Fail> {
     let alloc = rt.alloc();
-    let Ok(mut bag) = bag(alloc) else {
-        return Ok(());
-    };
+    let mut bag = Counted::new(alloc);
     let Ok(new) = row(alloc, 3, 7) else {
         return Ok(());
     };
     if let Err(refusal) = bag.count_up(new) {
         asked_again(&rt)?;
         assert_eq!(rt; refusal, Refusal::Memory);
-        assert_eq!(rt; (bag.len(), bag.total()), (2, 3));
+        assert_eq!(rt; (bag.len(), bag.total()), (0, 0));
         assert!(rt; bag.count_up(row(alloc, 3, 7)?).is_ok());
     }
-    assert_eq!(rt; (bag.len(), bag.total()), (3, 4));
+    assert_eq!(rt; (bag.len(), bag.total()), (1, 1));
     Ok(())
 }
 

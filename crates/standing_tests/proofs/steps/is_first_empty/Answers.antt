@@ -1,4 +1,3 @@
-use Rattle.std.proofs.Common.{◌==◌, sym, ◌∙◌}
 use Rattle.std.proofs.lemmas.Bool.{eqb-true}
 use Rattle.standing_tests.proofs.TableRows.{no_rows}
 use Rattle.standing_tests.proofs.steps.is_first_empty.Goals as goal

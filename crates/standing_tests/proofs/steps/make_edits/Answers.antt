@@ -1,5 +1,5 @@
 -- The lists follow the rows, and each mark stays.
-use Rattle.std.proofs.Common.{◌≡◌, ℕ, ◌≤◌, List, length, refl, sym, ap, subst, ◌∙◌, arith}
+use Rattle.std.proofs.Common.{◌≤◌, List, length, refl, sym, ap, subst, ◌∙◌, arith}
 use Rattle.std.proofs.lemmas.List.{length_push}
 use Rattle.mm_delta.specs.Edited.{before_at}
 use Rattle.mm_relation.specs.Kept.{StoredRows}

@@ -1,5 +1,5 @@
 -- The view is of the store, and the edits of one table are those of a list with it alone.
-use Rattle.std.proofs.Common.{◌≡◌, ◌∷◌, [], OnOk, sym, ap, subst, ◌∙◌}
+use Rattle.std.proofs.Common.{◌∷◌, [], OnOk, sym, ap, subst, ◌∙◌}
 use Rattle.mm_delta.specs.Edited.{after_at}
 use Rattle.mm_delta.specs.Steps.{EachFit}
 use Rattle.mm_schema.specs.Refused.{AnswersDue, first_refusal}

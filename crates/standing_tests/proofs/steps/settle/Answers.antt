@@ -1,8 +1,7 @@
 -- Rows and counts stay.
-use Rattle.std.proofs.Common.{pos, sym, ap, ◌∙◌, List, length, refl, arith}
+use Rattle.std.proofs.Common.{pos, sym, ap, ◌∙◌, List, length, arith}
 use Rattle.mm_delta.specs.Edited.{before_at}
 use Rattle.mm_standing.specs.State.{Lists, count_now}
-use Rattle.mm_standing.specs.declared.change.ListChange.{ListChange}
 use Rattle.mm_store.specs.Worlds.{Noted}
 use Rattle.store_tests.proofs.PlainStores.{plain_formed}
 use Rattle.standing_tests.proofs.CaseSteps.{case_still, mark_now}

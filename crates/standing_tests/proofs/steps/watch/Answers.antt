@@ -1,7 +1,6 @@
 -- The last list has the rows that its query gives over the tables of the case.
-use Rattle.std.proofs.Common.{◌≡◌, ℕ, ◌<◌, ◌≤◌, List, length, map, sym, ap, subst, ◌∙◌}
+use Rattle.std.proofs.Common.{ℕ, ◌<◌, ◌≤◌, List, length, map, sym, ap, subst, ◌∙◌}
 use Rattle.std.specs.List.{All}
-use Rattle.mm_delta.specs.Counts.{Counts}
 use Rattle.mm_query.specs.Queries.{bag_of}
 use Rattle.mm_standing.specs.Queries.{IsBagOf}
 use Rattle.mm_standing.specs.State.{Lists}
