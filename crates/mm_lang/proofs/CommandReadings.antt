@@ -18,12 +18,12 @@ use Rattle.mm_query.specs.declared.command.Mutation.TheVariants as change
 use Rattle.mm_lang.specs.declared.keyword.Keyword.{Keyword}
 use Rattle.mm_lang.specs.declared.keyword.Keyword.TheVariants as keyword
 use Rattle.mm_lang.specs.declared.reader.Reader.{Reader}
-use Rattle.mm_lang.specs.Grammar.{name, column, index_kind, tuple, comma_list, table, drop, dropped, index, insert, scan, scan_of, show, assignment, tests_on, unwatch, update, delete}
+use Rattle.mm_lang.specs.Grammar.{name, column, index_kind, tuple, comma_list, table, drop, dropped, index, insert, rollback, rolled_back, savepoint, scan, scan_of, show, assignment, tests_on, unwatch, update, delete}
 use Rattle.mm_lang.specs.Phrases.{Phrase, ◌>>=◌, ◌>>◌, say, one_word, only_if, the_keyword, has_keyword, in_parentheses}
 use Rattle.mm_lang.specs.Reading.{assignment_literals, first_fault, literals_of, test_literals}
 use Rattle.mm_lang.specs.Tokens.{tokens}
 use Rattle.mm_lang.specs.Words.{keyword_named}
-use Rattle.mm_lang.specs.steps.Parsing.{Fails, Gives, GivesItems, ReadsPhrase, Skips, no_literals}
+use Rattle.mm_lang.specs.steps.Parsing.{Fails, Gives, GivesItems, IsMissing, ReadsPhrase, Skips, no_literals}
 use Rattle.mm_lang.specs.steps.Parts.{Front}
 use Rattle.mm_lang.proofs.Readings.{Took, took, or_none, took_then, took_say, fails_first, fails_next, reads_behind, keyword_stands, none_fault, given_made, given_both}
 
@@ -67,6 +67,34 @@ module _ (old mid : Reader) (by_index : Bool) (skips : Skips (the_keyword keywor
       (took_then after_scan (keyword_stands keyword.Index old mid by_index skips)
       (took_then (say_scan by_index) (took g) (took_say (scan_of by_index n) new)))
 
+-- ROLLBACK
+
+say_back : List ℕ → Phrase Command
+say_back n = say (command.RollbackTo n)
+
+pub rollback_alone : (old new : Reader) → Skips (the_keyword keyword.To) old new false → Gives rollback literals_of old new command.Rollback
+unfolding rollback
+rollback_alone old new skips =
+    command_took rollback old new command.Rollback refl
+    (took_then rolled_back (keyword_stands keyword.To old new false skips) (took_say command.Rollback new))
+
+module _ (old mid : Reader) (skips : Skips (the_keyword keyword.To) old mid true) where
+  pub rollback_no_name : (e : Refusal) → IsMissing name mid e → IsMissing rollback old e
+  unfolding rollback
+  rollback_no_name e h =
+      let k = keyword_stands keyword.To old mid true skips in (
+        h.0,
+        ap (option_and_then (λ (r : Front Bool). rolled_back r.0 r.1)) k.is
+            ∙ ap (option_and_then (λ (r : Front (List ℕ)). say (command.RollbackTo r.0) r.1)) h.1,
+      )
+
+  pub rollback_to_given : (new : Reader) (n : List ℕ) → Gives name no_literals mid new n → Gives rollback literals_of old new (command.RollbackTo n)
+  unfolding rollback say_back
+  rollback_to_given new n g =
+      command_took rollback old new (command.RollbackTo n) refl
+      (took_then rolled_back (keyword_stands keyword.To old mid true skips)
+      (took_then say_back (took g) (took_say (command.RollbackTo n) new)))
+
 -- DROP
 
 pub drop_no_keyword : (old : Reader) (e : Refusal) → Fails (one_word keyword_named) old e → Fails drop old e
@@ -86,7 +114,7 @@ module _ (make : List ℕ → Command) (none : (n : List ℕ) → literals_of (m
   unfolding say_made
   made_given old new n g = command_took (name >>= say_made) old new (make n) (none n) (took_then say_made (took g) (took_say (make n) new))
 
--- SHOW and UNWATCH
+-- SHOW, SAVEPOINT and UNWATCH
 
 pub show_no_name : (old : Reader) (e : Refusal) → Fails name old e → Fails show old e
 unfolding show
@@ -95,6 +123,14 @@ show_no_name old e h = fails_first name (λ n. say (command.Show n)) old e h
 pub show_given : (old new : Reader) (n : List ℕ) → Gives name no_literals old new n → Gives show literals_of old new (command.Show n)
 unfolding show
 show_given old new n g = made_given (λ m. command.Show m) (λ m. refl) old new n g
+
+pub savepoint_no_name : (old : Reader) (e : Refusal) → Fails name old e → Fails savepoint old e
+unfolding savepoint
+savepoint_no_name old e h = fails_first name (λ n. say (command.Savepoint n)) old e h
+
+pub savepoint_given : (old new : Reader) (n : List ℕ) → Gives name no_literals old new n → Gives savepoint literals_of old new (command.Savepoint n)
+unfolding savepoint
+savepoint_given old new n g = made_given (λ m. command.Savepoint m) (λ m. refl) old new n g
 
 pub unwatch_no_name : (old : Reader) (e : Refusal) → Fails name old e → Fails unwatch old e
 unfolding unwatch

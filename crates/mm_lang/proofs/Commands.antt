@@ -7,9 +7,9 @@ use Rattle.mm_value.specs.declared.refusal.Refusal.TheVariants.{LineTooLong, Syn
 use Rattle.mm_value.specs.declared.values.Value.{Value}
 use Rattle.mm_value.specs.declared.values.Value.TheVariants.{Int, Text}
 use Rattle.mm_value.specs.Literal.{is_within_limit}
-use Rattle.mm_query.specs.Transactions.{is_transaction_control}
+use Rattle.mm_query.specs.Transactions.{is_done_without_memory}
 use Rattle.mm_query.specs.declared.command.Command.{Command}
-use Rattle.mm_query.specs.declared.command.Command.TheVariants.{Nothing, Define, Change, Scan, ScanIndex, Select, Explain, Show, Tables, Begin, Commit, Rollback}
+use Rattle.mm_query.specs.declared.command.Command.TheVariants.{Nothing, Define, Change, Scan, ScanIndex, Select, Explain, Show, Tables, Begin, Commit, Rollback, Savepoint, RollbackTo}
 use Rattle.mm_lang.specs.declared.keyword.Keyword.{Keyword}
 use Rattle.mm_lang.specs.declared.keyword.Keyword.TheVariants as keyword
 use Rattle.mm_lang.specs.declared.reader.Reader.{Reader}
@@ -17,7 +17,7 @@ use Rattle.mm_lang.specs.Grammar.{command_behind, command_of}
 use Rattle.mm_lang.specs.Phrases.{Phrase, ◌>>=◌, one_word, alone}
 use Rattle.mm_lang.specs.Reading.{Reads, command_takes_memory, first_fault, is_nothing, literal_fault, literals_of, past_limit, read_as, reading, reading_takes_memory, takes_memory, unless}
 use Rattle.mm_lang.specs.Spelling.{word}
-use Rattle.mm_lang.specs.Tokens.{Token, tokens}
+use Rattle.mm_lang.specs.Tokens.{Token, Word, tokens}
 use Rattle.mm_lang.specs.Words.{keyword_named}
 use Rattle.mm_lang.specs.steps.Parsing.{AnswersReading, Fails, Finishes, Gives, IsMissing, is_control_keyword, no_literals}
 use Rattle.mm_lang.specs.steps.Parts.{Front, said_same}
@@ -58,7 +58,7 @@ limits_take command (v ∷ vs) takes = literal_takes command v (first_fault vs) 
 
 -- what tokens read as takes memory, unless it begins or ends a transaction
 tokens_take : (ts : List Token) (read : Option Command) → command_of ts ≡ read
-    → ((c : Command) → read ≡ Some c → is_transaction_control c ≡ false) → reading_takes_memory (read_as read) ≡ true
+    → ((c : Command) → read ≡ Some c → is_done_without_memory c ≡ false) → reading_takes_memory (read_as read) ≡ true
 tokens_take ts None is free = refl
 tokens_take ts (Some Nothing) is free = absurd (command_read ts Nothing is)
 tokens_take ts (Some (Define definition)) is free = limits_take (Define definition) (literals_of (Define definition)) refl
@@ -72,27 +72,31 @@ tokens_take ts (Some Tables) is free = limits_take Tables (literals_of Tables) r
 tokens_take ts (Some Begin) is free = absurd (false≢true (sym (free Begin refl)))
 tokens_take ts (Some Commit) is free = absurd (false≢true (sym (free Commit refl)))
 tokens_take ts (Some Rollback) is free = absurd (false≢true (sym (free Rollback refl)))
+tokens_take ts (Some (Savepoint name)) is free = limits_take (Savepoint name) (literals_of (Savepoint name)) refl
+tokens_take ts (Some (RollbackTo name)) is free = absurd (false≢true (sym (free (RollbackTo name) refl)))
 
 -- Any other line takes memory, unless it begins or ends a transaction, ..
 pub takes : (line : List ℕ) → length line ≤ 4096 → is_nothing line ≡ false
-    → ((c : Command) → reading line ≡ Ok c → is_transaction_control c ≡ false) → takes_memory line ≡ true
+    → ((c : Command) → reading line ≡ Ok c → is_done_without_memory c ≡ false) → takes_memory line ≡ true
 takes line short some free =
     ap reading_takes_memory (reads_command line short some) ∙ tokens_take (tokens line) (command_of (tokens line)) refl by
   where
-    by : (c : Command) → command_of (tokens line) ≡ Some c → is_transaction_control c ≡ false
+    by : (c : Command) → command_of (tokens line) ≡ Some c → is_done_without_memory c ≡ false
     by Begin is = free Begin (reads_command line short some ∙ ap read_as is)
     by Commit is = free Commit (reads_command line short some ∙ ap read_as is)
     by Rollback is = free Rollback (reads_command line short some ∙ ap read_as is)
+    by (RollbackTo name) is = free (RollbackTo name) (reads_command line short some ∙ ap read_as is)
     by _ is = refl
 
 -- .. and such a line takes none.
-pub control_takes_none : (line : List ℕ) (c : Command) → reading line ≡ Ok c → is_transaction_control c ≡ true → takes_memory line ≡ false
+pub control_takes_none : (line : List ℕ) (c : Command) → reading line ≡ Ok c → is_done_without_memory c ≡ true → takes_memory line ≡ false
 control_takes_none line c is control = ap reading_takes_memory is ∙ by c control
   where
-    by : (c : Command) → is_transaction_control c ≡ true → command_takes_memory c ≡ false
+    by : (c : Command) → is_done_without_memory c ≡ true → command_takes_memory c ≡ false
     by Begin control = refl
     by Commit control = refl
     by Rollback control = refl
+    by (RollbackTo name) control = refl
     by _ control = absurd (false≢true control)
 
 -- Where the first word neither begins nor ends a transaction, what the tokens read as takes memory.
@@ -100,15 +104,17 @@ behind_takes : (ts us : List Token) (k : Keyword) → one_word keyword_named ts 
     → reading_takes_memory (read_as (command_of ts)) ≡ true
 behind_takes ts us k first more = tokens_take ts (command_of ts) refl by
   where
-    begins : (wanted : Keyword) → one_word keyword_named (word wanted ∷ []) ≡ Some (wanted, []) → ts ≡ word wanted ∷ [] → is_control_keyword wanted ≡ false
-    begins wanted named spelled =
-        let same : ◌≡◌ {A = Option (Front Keyword)} (Some (k, us)) (Some (wanted, [])) = sym first ∙ ap (one_word keyword_named) spelled ∙ named in
-        subst (λ w. is_control_keyword w ≡ false) (said_same k wanted us [] same).0 more
+    begins : (wanted : Keyword) (rest : List Token) → one_word keyword_named (word wanted ∷ rest) ≡ Some (wanted, rest) → ts ≡ word wanted ∷ rest
+        → is_control_keyword wanted ≡ false
+    begins wanted rest named spelled =
+        let same : ◌≡◌ {A = Option (Front Keyword)} (Some (k, us)) (Some (wanted, rest)) = sym first ∙ ap (one_word keyword_named) spelled ∙ named in
+        subst (λ w. is_control_keyword w ≡ false) (said_same k wanted us rest same).0 more
 
-    by : (c : Command) → command_of ts ≡ Some c → is_transaction_control c ≡ false
-    by Begin is = begins keyword.Begin refl (command_read ts Begin is)
-    by Commit is = begins keyword.Commit refl (command_read ts Commit is)
-    by Rollback is = begins keyword.Rollback refl (command_read ts Rollback is)
+    by : (c : Command) → command_of ts ≡ Some c → is_done_without_memory c ≡ false
+    by Begin is = begins keyword.Begin [] refl (command_read ts Begin is)
+    by Commit is = begins keyword.Commit [] refl (command_read ts Commit is)
+    by Rollback is = begins keyword.Rollback [] refl (command_read ts Rollback is)
+    by (RollbackTo name) is = begins keyword.Rollback (word keyword.To ∷ Word name ∷ []) refl (command_read ts (RollbackTo name) is).1
     by _ is = refl
 
 -- a command, and nothing behind it

@@ -233,6 +233,8 @@ spelled_literals ts command.Tables h = sym (ap among h)
 spelled_literals ts command.Begin h = sym (ap among h)
 spelled_literals ts command.Commit h = sym (ap among h)
 spelled_literals ts command.Rollback h = sym (ap among h)
+spelled_literals ts (command.Savepoint n) h = sym (ap among h.1 ∙ behind_name n [] h.0)
+spelled_literals ts (command.RollbackTo n) h = sym (ap among h.1 ∙ behind_name n [] h.0)
 
 pub read_literals : (ts : List Token) (c : Command) → command_of ts ≡ Some c → literals_of c ≡ among ts
 read_literals ts c e = spelled_literals ts c (command_read ts c e)

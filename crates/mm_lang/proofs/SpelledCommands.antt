@@ -20,7 +20,7 @@ use Rattle.mm_query.specs.declared.command.Mutation.TheVariants as change
 use Rattle.mm_lang.specs.declared.keyword.Keyword.{Keyword}
 use Rattle.mm_lang.specs.declared.keyword.Keyword.TheVariants as keyword
 use Rattle.mm_lang.specs.declared.token.Symbol.TheVariants.{Open, Close, Comma}
-use Rattle.mm_lang.specs.Grammar.{literal_of, name, type_named, col_type, reference, role_behind, role, column, kind_named, index_kind, tuple, comma_list, table, drop, dropped, index, insert, scan, scan_of, show, unwatch, command_behind, command_of}
+use Rattle.mm_lang.specs.Grammar.{literal_of, name, type_named, col_type, reference, role_behind, role, column, kind_named, index_kind, tuple, comma_list, table, drop, dropped, index, insert, rollback, rolled_back, savepoint, scan, scan_of, show, unwatch, command_behind, command_of}
 use Rattle.mm_lang.specs.Phrases.{Phrase, ◌>>=◌, ◌>>◌, say, one, one_word, the_symbol, the_keyword, has_keyword, only_if, in_parentheses, alone}
 use Rattle.mm_lang.specs.Spelling.{word, type_word, kind_word, SpellsLiteral, SpellsOne, SpellsList, SpellsInParentheses, SpellsTuple, SpellsRole, SpellsColumn, SpellsCommand}
 use Rattle.mm_lang.specs.Tokens.{Token, Word, Mark}
@@ -237,6 +237,44 @@ show_spelled : (n : List ℕ) → IsName n → show (Word n ∷ []) ≡ Some (co
 unfolding show
 show_spelled n named = made_spelled (λ n. command.Show n) n named
 
+savepoint_read : (ts : List Token) (c : Command) → savepoint ts ≡ Some (c, []) → SpellsCommand (word keyword.Savepoint ∷ ts) c
+unfolding savepoint
+savepoint_read ts c e =
+    let p = made_read (λ n. command.Savepoint n) ts c e in
+    subst (SpellsCommand (word keyword.Savepoint ∷ ts)) p.3 (p.1, ap (λ l. word keyword.Savepoint ∷ l) p.2)
+
+savepoint_spelled : (n : List ℕ) → IsName n → savepoint (Word n ∷ []) ≡ Some (command.Savepoint n, [])
+unfolding savepoint
+savepoint_spelled n named = made_spelled (λ n. command.Savepoint n) n named
+
+-- ROLLBACK, and ROLLBACK TO
+
+rolled_back_read : (to : Bool) (ts us : List Token) (c : Command)
+    → ((to ≡ true) × (ts ≡ word keyword.To ∷ us)) ⊎ ((to ≡ false) × (ts ≡ us)) → rolled_back to us ≡ Some (c, []) → SpellsCommand (word keyword.Rollback ∷ ts) c
+rolled_back_read true ts us c (inl there) e =
+    let p = made_read (λ n. command.RollbackTo n) us c e in
+    subst (λ l. SpellsCommand (word keyword.Rollback ∷ l) c) (sym there.1)
+    (subst (SpellsCommand (word keyword.Rollback ∷ word keyword.To ∷ us)) p.3 (p.1, ap (λ l. word keyword.Rollback ∷ word keyword.To ∷ l) p.2))
+rolled_back_read true ts us c (inr not_there) e = absurd (false≢true (sym not_there.0))
+rolled_back_read false ts us c (inl there) e = absurd (false≢true there.0)
+rolled_back_read false ts us c (inr not_there) e =
+    let p = said_same command.Rollback c us [] e in
+    subst (SpellsCommand (word keyword.Rollback ∷ ts)) p.0 (ap (λ l. word keyword.Rollback ∷ l) (not_there.1 ∙ p.1))
+
+rollback_read : (ts : List Token) (c : Command) → rollback ts ≡ Some (c, []) → SpellsCommand (word keyword.Rollback ∷ ts) c
+unfolding rollback
+rollback_read ts c e =
+    let p = then_parts (has_keyword keyword.To) rolled_back ts c [] e in
+    rolled_back_read p.0 ts p.1 c (has_keyword_read keyword.To ts p.0 p.1 p.2) p.3
+
+rollback_spelled : rollback [] ≡ Some (command.Rollback, [])
+unfolding rollback
+rollback_spelled = refl
+
+rollback_to_spelled : (n : List ℕ) → IsName n → rollback (word keyword.To ∷ Word n ∷ []) ≡ Some (command.RollbackTo n, [])
+unfolding rollback
+rollback_to_spelled n named = made_spelled (λ n. command.RollbackTo n) n named
+
 unwatch_read : (ts : List Token) (c : Command) → unwatch ts ≡ Some (c, []) → SpellsCommand (word keyword.Unwatch ∷ ts) c
 unfolding unwatch
 unwatch_read ts c e =
@@ -377,7 +415,7 @@ table_spelled n columns inner named one h =
     (ap (in_parentheses (comma_list column)) (sym (append-nil inner)) ∙ table_columns_exact.complete inner columns [] h tt)
     ∙ cond-true (eqb (key_count columns) 1) _ _ (eq-eqb (key_count columns) 1 one)
 
--- BEGIN, COMMIT, ROLLBACK and TABLES
+-- BEGIN, COMMIT and TABLES
 
 whole_read : (k : Keyword) (whole : Command) → SpellsCommand (word k ∷ []) whole → (ts : List Token) (c : Command)
     → ◌≡◌ {A = Option (Front Command)} (Some (whole, ts)) (Some (c, [])) → SpellsCommand (word k ∷ ts) c
@@ -395,7 +433,8 @@ behind_read keyword.Drop ts c e = drop_read ts c e
 behind_read keyword.Explain ts c e = explain_read ts c e
 behind_read keyword.Index ts c e = index_read ts c e
 behind_read keyword.Insert ts c e = insert_read ts c e
-behind_read keyword.Rollback ts c e = whole_read keyword.Rollback command.Rollback refl ts c e
+behind_read keyword.Rollback ts c e = rollback_read ts c e
+behind_read keyword.Savepoint ts c e = savepoint_read ts c e
 behind_read keyword.Scan ts c e = scan_read ts c e
 behind_read keyword.Select ts c e = select_read ts c e
 behind_read keyword.Show ts c e = show_read ts c e
@@ -451,7 +490,9 @@ command_spelled ts (command.Show n) h = ap command_of h.1 ∙ ap (option_and_the
 command_spelled ts command.Tables h = ap command_of h
 command_spelled ts command.Begin h = ap command_of h
 command_spelled ts command.Commit h = ap command_of h
-command_spelled ts command.Rollback h = ap command_of h
+command_spelled ts command.Rollback h = ap command_of h ∙ ap (option_and_then (λ (r : Front Command). alone r.0 r.1)) rollback_spelled
+command_spelled ts (command.Savepoint n) h = ap command_of h.1 ∙ ap (option_and_then (λ (r : Front Command). alone r.0 r.1)) (savepoint_spelled n h.0)
+command_spelled ts (command.RollbackTo n) h = ap command_of h.1 ∙ ap (option_and_then (λ (r : Front Command). alone r.0 r.1)) (rollback_to_spelled n h.0)
 
 pub command_one : (ts : List Token) (c d : Command) → SpellsCommand ts c → SpellsCommand ts d → c ≡ d
 command_one ts c d h k = same_Some c d (sym (command_spelled ts c h) ∙ command_spelled ts d k)

@@ -298,6 +298,23 @@ explain = do
   asked ← query
   say (command.Explain asked)
 
+-- SAVEPOINT, and behind it: name
+unfoldable pub savepoint : Phrase Command
+savepoint = do
+  name ← name
+  say (command.Savepoint name)
+
+-- ROLLBACK, and behind it, where TO stands there: name
+abbrev pub rolled_back : Bool → Phrase Command
+rolled_back true = name >>= (λ name. say (command.RollbackTo name))
+rolled_back false = say command.Rollback
+
+-- ROLLBACK, and behind it: nothing, or TO name
+unfoldable pub rollback : Phrase Command
+rollback = do
+  to ← has_keyword keyword.To
+  rolled_back to
+
 -- what stands behind the keyword that a command begins with
 abbrev pub command_behind : Keyword → Phrase Command
 command_behind keyword.Begin = say command.Begin
@@ -307,7 +324,8 @@ command_behind keyword.Drop = drop
 command_behind keyword.Explain = explain
 command_behind keyword.Index = index
 command_behind keyword.Insert = insert
-command_behind keyword.Rollback = say command.Rollback
+command_behind keyword.Rollback = rollback
+command_behind keyword.Savepoint = savepoint
 command_behind keyword.Scan = scan
 command_behind keyword.Select = select
 command_behind keyword.Show = show

@@ -12,7 +12,7 @@ use Rattle.mm_query.specs.declared.atom.Atom.{Atom}
 use Rattle.mm_query.specs.declared.atom.Operand.{Operand}
 use Rattle.mm_query.specs.declared.atom.Operand.TheVariants.{Literal, Column, Shifted}
 use Rattle.mm_query.specs.declared.command.Command.{Command}
-use Rattle.mm_query.specs.declared.command.Command.TheVariants.{Nothing, Define, Change, Scan, ScanIndex, Select, Explain, Show, Tables, Begin, Commit, Rollback}
+use Rattle.mm_query.specs.declared.command.Command.TheVariants.{Nothing, Define, Change, Scan, ScanIndex, Select, Explain, Show, Tables, Begin, Commit, Rollback, Savepoint, RollbackTo}
 use Rattle.mm_query.specs.declared.command.Definition.{Definition}
 use Rattle.mm_query.specs.declared.command.Definition.TheVariants as define
 use Rattle.mm_query.specs.declared.command.Mutation.TheVariants.{Insert, Update, Delete}
@@ -87,6 +87,8 @@ literals_of Tables = []
 literals_of Begin = []
 literals_of Commit = []
 literals_of Rollback = []
+literals_of (Savepoint name) = []
+literals_of (RollbackTo name) = []
 
 -- a thing, unless it has a fault
 abbrev pub unless : {A : Type 0} → A → Option Refusal → Result A Refusal
@@ -118,7 +120,7 @@ reading line =
     if nat_lt 4096 (length line) then Err LineTooLong
     else (if is_nothing line then Ok Nothing else read_as (command_of (tokens line)))
 
--- A command takes memory unless it is Nothing, or begins or ends a transaction.
+-- A command takes memory unless it is Nothing, begins or ends a transaction, or goes back to a savepoint.
 abbrev pub command_takes_memory : Command → Bool
 command_takes_memory Nothing = false
 command_takes_memory (Define definition) = true
@@ -132,6 +134,8 @@ command_takes_memory Tables = true
 command_takes_memory Begin = false
 command_takes_memory Commit = false
 command_takes_memory Rollback = false
+command_takes_memory (Savepoint name) = true
+command_takes_memory (RollbackTo name) = false
 
 -- What a line reads as takes memory, unless it is such a command or the line is too long.
 abbrev pub reading_takes_memory : Result Command Refusal → Bool

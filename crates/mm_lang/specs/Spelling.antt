@@ -177,6 +177,8 @@ SpellsQuery ts query =
 --         | BEGIN
 --         | COMMIT
 --         | ROLLBACK
+--         | SAVEPOINT name
+--         | ROLLBACK TO name
 abbrev pub SpellsCommand : List Token → Command → Type 0
 SpellsCommand ts command.Nothing = ⊥
 SpellsCommand ts (command.Define (define.Table definition)) =
@@ -210,3 +212,5 @@ SpellsCommand ts command.Tables = ts ≡ word keyword.Tables ∷ []
 SpellsCommand ts command.Begin = ts ≡ word keyword.Begin ∷ []
 SpellsCommand ts command.Commit = ts ≡ word keyword.Commit ∷ []
 SpellsCommand ts command.Rollback = ts ≡ word keyword.Rollback ∷ []
+SpellsCommand ts (command.Savepoint name) = IsName name × (ts ≡ word keyword.Savepoint ∷ Word name ∷ [])
+SpellsCommand ts (command.RollbackTo name) = IsName name × (ts ≡ word keyword.Rollback ∷ word keyword.To ∷ Word name ∷ [])

@@ -3,7 +3,7 @@ use Rattle.std.specs.Prelude.{ℕ, Bool, List, Option, codes, nat_eq}
 use Rattle.std.specs.List.{find}
 use lib.Pointwise.{pointwise}
 use Rattle.mm_lang.specs.declared.keyword.Keyword.{Keyword}
-use Rattle.mm_lang.specs.declared.keyword.Keyword.TheVariants.{And, Begin, Commit, Delete, Distinct, Drop, Explain, From, Hash, Index, Insert, Int, Key, On, Order, Ref, Rollback, Scan, Select, Set, Show, Table, Tables, Text, Tree, Unwatch, Update, Watch, Where}
+use Rattle.mm_lang.specs.declared.keyword.Keyword.TheVariants.{And, Begin, Commit, Delete, Distinct, Drop, Explain, From, Hash, Index, Insert, Int, Key, On, Order, Ref, Rollback, Savepoint, Scan, Select, Set, Show, Table, Tables, Text, To, Tree, Unwatch, Update, Watch, Where}
 use Rattle.mm_lang.specs.declared.token.Symbol.{Symbol}
 use Rattle.mm_lang.specs.declared.token.Symbol.TheVariants.{Open, Close, Comma, Dot, Equal, Less, AtMost, Greater, AtLeast, Plus, Minus}
 use Rattle.mm_lang.specs.declared.keyword.TheConstants.{KEYWORDS}
@@ -26,6 +26,7 @@ keyword_text On = codes "ON"
 keyword_text Order = codes "ORDER"
 keyword_text Ref = codes "REF"
 keyword_text Rollback = codes "ROLLBACK"
+keyword_text Savepoint = codes "SAVEPOINT"
 keyword_text Scan = codes "SCAN"
 keyword_text Select = codes "SELECT"
 keyword_text Set = codes "SET"
@@ -33,6 +34,7 @@ keyword_text Show = codes "SHOW"
 keyword_text Table = codes "TABLE"
 keyword_text Tables = codes "TABLES"
 keyword_text Text = codes "TEXT"
+keyword_text To = codes "TO"
 keyword_text Tree = codes "TREE"
 keyword_text Unwatch = codes "UNWATCH"
 keyword_text Update = codes "UPDATE"

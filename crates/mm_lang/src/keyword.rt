@@ -22,6 +22,7 @@ pub enum Keyword {
     Order,
     Ref,
     Rollback,
+    Savepoint,
     Scan,
     Select,
     Set,
@@ -29,6 +30,7 @@ pub enum Keyword {
     Table,
     Tables,
     Text,
+    To,
     Tree,
     Unwatch,
     Update,
@@ -37,7 +39,7 @@ pub enum Keyword {
 }
 
 /// All keywords, in the order of the alphabet.
-pub(crate) const KEYWORDS: [Keyword; 29] = [
+pub(crate) const KEYWORDS: [Keyword; 31] = [
     Keyword::And,
     Keyword::Begin,
     Keyword::Commit,
@@ -55,6 +57,7 @@ pub(crate) const KEYWORDS: [Keyword; 29] = [
     Keyword::Order,
     Keyword::Ref,
     Keyword::Rollback,
+    Keyword::Savepoint,
     Keyword::Scan,
     Keyword::Select,
     Keyword::Set,
@@ -62,6 +65,7 @@ pub(crate) const KEYWORDS: [Keyword; 29] = [
     Keyword::Table,
     Keyword::Tables,
     Keyword::Text,
+    Keyword::To,
     Keyword::Tree,
     Keyword::Unwatch,
     Keyword::Update,
@@ -92,6 +96,7 @@ impl Keyword {
             Keyword::Order => b"ORDER",
             Keyword::Ref => b"REF",
             Keyword::Rollback => b"ROLLBACK",
+            Keyword::Savepoint => b"SAVEPOINT",
             Keyword::Scan => b"SCAN",
             Keyword::Select => b"SELECT",
             Keyword::Set => b"SET",
@@ -99,6 +104,7 @@ impl Keyword {
             Keyword::Table => b"TABLE",
             Keyword::Tables => b"TABLES",
             Keyword::Text => b"TEXT",
+            Keyword::To => b"TO",
             Keyword::Tree => b"TREE",
             Keyword::Unwatch => b"UNWATCH",
             Keyword::Update => b"UPDATE",

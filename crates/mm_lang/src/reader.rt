@@ -135,7 +135,7 @@ impl<'a> Reader<'a> {
 
     /// Reads a name, and gives it. `Syntax` where no word stands there, or one that is no name.
     pub(crate) fn name(&mut self) -> Result<Name, Refusal>
-        ensures { ReadsPhrase name no_literals self.old self.new result }
+        ensures { ReadsWithoutMemory name no_literals self.old self.new result }
     {
         let word = self.word()?;
         Name::new(word).ok_or(Refusal::Syntax)

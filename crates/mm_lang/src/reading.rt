@@ -1,10 +1,10 @@
 //! What a line reads as.
 ghost use Rattle.std.specs.Prelude.{◌≡◌, false, Err};
 ghost use Rattle.std.specs.List.{list_all};
-ghost use Rattle.mm_lang.specs.Grammar.{command_behind, command_of, delete, drop, dropped, index, insert, scan, show, table, unwatch, update};
+ghost use Rattle.mm_lang.specs.Grammar.{command_behind, command_of, delete, drop, dropped, index, insert, rollback, savepoint, scan, show, table, unwatch, update};
 ghost use Rattle.mm_lang.specs.Reading.{Reads, is_comment, is_nothing, literals_of, read_as};
 ghost use Rattle.mm_lang.specs.Tokens.{tokens, is_blank};
-ghost use Rattle.mm_lang.specs.steps.Parsing.{AnswersReading, ReadsPhrase, is_control_keyword};
+ghost use Rattle.mm_lang.specs.steps.Parsing.{AnswersReading, ReadsPhrase, ReadsWithoutMemory, is_control_keyword};
 ghost use Rattle.mm_value.specs.declared.refusal.Refusal.TheVariants.{Memory};
 
 use crate::atoms::{AssignmentPhrase, read_tests};
@@ -32,11 +32,11 @@ pub const MAX_LINE_BYTES: usize = 4096;
 /// or `name - digits`; `SCAN name` and `SCAN INDEX name`;
 /// `SELECT [DISTINCT] field, .. FROM name name, .. [WHERE test AND ..] [ORDER digits, ..]`, where a field is `name . name`,
 /// and stands for a column in the tests too; `EXPLAIN` and such a `SELECT`; `WATCH name` and such a `SELECT`; `UNWATCH name`;
-/// `SHOW name`; `TABLES`; or `BEGIN`, `COMMIT` or `ROLLBACK`.
+/// `SHOW name`; `TABLES`; `BEGIN`, `COMMIT` or `ROLLBACK`; or `SAVEPOINT name` or `ROLLBACK TO name`.
 /// `LineTooLong` where the line has more than 4,096 bytes, `Syntax` where it has no reading, else `NumberOutOfRange` or
 /// `TextTooLong` where its first literal from the left past its limit is a number or a text; digits behind a minus count
 /// as the negative number, and digits of ORDER are numbers too. `Memory` may come in place of any answer but `LineTooLong`,
-/// `Nothing`, `Begin`, `Commit` and `Rollback`. Nothing is taken but what the command keeps.
+/// `Nothing`, `Begin`, `Commit`, `Rollback` and `RollbackTo`. Nothing is taken but what the command keeps.
 pub fn parse(alloc: Global, line: &[u8]) -> Result<Command, Refusal>
     ensures { Reads line.now result }
 {
@@ -77,7 +77,7 @@ fn read_command(alloc: Global, line: &[u8]) -> Result<Command, Refusal>
     Ok(command)
 }
 
-// What stands behind the keyword that a command begins with. One that begins or ends a transaction takes no memory.
+// What stands behind the keyword that a command begins with. One that begins or ends a transaction, or goes back in it, takes no memory.
 #[tactic(auto, using(crate::proofs::CommandReadings::whole_given))]
 fn read_behind(keyword: Keyword, reader: &mut Reader<'_>) -> Result<Command, Refusal>
     ensures reads { ReadsPhrase (command_behind keyword) literals_of reader.old reader.new result }
@@ -91,7 +91,8 @@ fn read_behind(keyword: Keyword, reader: &mut Reader<'_>) -> Result<Command, Ref
         Keyword::Explain => read_explain(reader),
         Keyword::Index => read_index(reader),
         Keyword::Insert => read_insert(reader),
-        Keyword::Rollback => Ok(Command::Rollback),
+        Keyword::Rollback => read_rollback(reader),
+        Keyword::Savepoint => read_savepoint(reader),
         Keyword::Scan => read_scan(reader),
         Keyword::Select => read_select(reader),
         Keyword::Show => read_show(reader),
@@ -186,6 +187,23 @@ fn read_scan(reader: &mut Reader<'_>) -> Result<Command, Refusal>
     } else {
         Ok(Command::Scan(name))
     }
+}
+
+fn read_savepoint(reader: &mut Reader<'_>) -> Result<Command, Refusal>
+    ensures { ReadsPhrase savepoint literals_of reader.old reader.new result }
+{
+    let name = reader.name()?;
+    Ok(Command::Savepoint(name))
+}
+
+fn read_rollback(reader: &mut Reader<'_>) -> Result<Command, Refusal>
+    ensures { ReadsWithoutMemory rollback literals_of reader.old reader.new result }
+{
+    if !reader.skip_keyword(Keyword::To) {
+        return Ok(Command::Rollback);
+    }
+    let name = reader.name()?;
+    Ok(Command::RollbackTo(name))
 }
 
 fn read_show(reader: &mut Reader<'_>) -> Result<Command, Refusal>

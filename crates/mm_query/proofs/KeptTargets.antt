@@ -25,7 +25,7 @@ use Rattle.mm_value.specs.declared.refusal.Refusal.{Refusal}
 use Rattle.mm_query.specs.Edits.{changed_table, own_pairs}
 use Rattle.mm_query.specs.Machine.{after_all, after_change, after_definition, change_conditions, definition_conditions, some_is_referred, some_lacks_target}
 use Rattle.mm_query.specs.Standing.{growth_conditions}
-use Rattle.mm_query.specs.State.{State, first_state, rows_in}
+use Rattle.mm_query.specs.State.{AreSavedRows, State, first_state, rows_in}
 use Rattle.mm_query.specs.declared.command.Command.{Command}
 use Rattle.mm_query.specs.declared.command.Definition.{Definition}
 use Rattle.mm_query.specs.declared.command.Definition.TheVariants as define
@@ -33,7 +33,7 @@ use Rattle.mm_query.specs.declared.command.Mutation.{Mutation}
 use Rattle.mm_query.proofs.FoundTargets.{found_among, none_among, none_by_each, refers_still}
 use Rattle.mm_query.proofs.KeyOrder.{IsKept, kept_at_first, kept_by_change, kept_by_definition, none_due_by_rows}
 use Rattle.mm_query.proofs.NamedRows.{has, no_rows_behind, rows_behind, rows_changed, rows_gone, rows_kept, rows_left, rows_of_others, table_behind, table_left, told_kept}
-use Rattle.mm_query.proofs.Throughout.{HoldsThroughout, held_by_all}
+use Rattle.mm_query.proofs.Throughout.{each_held, HoldsThroughout, held_by_all}
 
 -- ---- rows that have their targets
 
@@ -320,10 +320,9 @@ reached_with_targets commands = (reached commands).rows.found
 
 -- .. and none of those that are saved.
 pub saved_with_targets : (commands : List Command) (table : List ℕ)
-    → IfSome (after_all commands first_state).saved (λ saved. some_lacks_target table (record (after_all commands first_state) { rows = saved }) ≡ false)
-saved_with_targets commands table = by (after_all commands first_state).saved (reached commands).saved
-  where
-    by : (saved : Option Instance) → IfSome saved (IsReferential (after_all commands first_state).schema)
-        → IfSome saved (λ rows. some_lacks_target table (record (after_all commands first_state) { rows = rows }) ≡ false)
-    by None held = tt
-    by (Some rows) held = held.found table
+    → IfSome (after_all commands first_state).saved
+    (AreSavedRows (λ rows. some_lacks_target table (record (after_all commands first_state) { rows = rows }) ≡ false))
+saved_with_targets commands table =
+    each_held (IsReferential (after_all commands first_state).schema)
+    (λ rows. some_lacks_target table (record (after_all commands first_state) { rows = rows }) ≡ false)
+    (λ rows held. held.found table) (after_all commands first_state).saved (reached commands).saved

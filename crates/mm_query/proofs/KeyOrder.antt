@@ -22,14 +22,14 @@ use Rattle.mm_query.specs.Binding.{binding_conditions}
 use Rattle.mm_query.specs.Edits.{changed_table, own_pairs, value_conditions}
 use Rattle.mm_query.specs.Machine.{after_all, after_change, after_definition, change_conditions, conditions, definition_conditions, row_conditions, some_is_referred, some_lacks_target}
 use Rattle.mm_query.specs.Standing.{growth_conditions}
-use Rattle.mm_query.specs.State.{State, first_state, rows_in}
+use Rattle.mm_query.specs.State.{AreSavedRows, State, first_state, rows_in}
 use Rattle.mm_query.specs.declared.command.Command.{Command}
-use Rattle.mm_query.specs.declared.command.Command.TheVariants.{Nothing, Define, Change, Scan, ScanIndex, Select, Explain, Show, Tables, Begin, Commit, Rollback}
+use Rattle.mm_query.specs.declared.command.Command.TheVariants.{Nothing, Define, Change, Scan, ScanIndex, Select, Explain, Show, Tables, Begin, Commit, Rollback, Savepoint as SetSavepoint, RollbackTo}
 use Rattle.mm_query.specs.declared.command.Definition.{Definition}
 use Rattle.mm_query.specs.declared.command.Definition.TheVariants as define
 use Rattle.mm_query.specs.declared.command.Mutation.{Mutation}
 use Rattle.mm_query.specs.declared.command.Mutation.TheVariants.{Insert, Update, Delete}
-use Rattle.mm_query.proofs.Throughout.{HoldsThroughout, held_by_all}
+use Rattle.mm_query.proofs.Throughout.{each_held, HoldsThroughout, held_by_all}
 
 -- Each command's conditions stand in the one order.
 pub ascending : (command : Command) (state : State) → ascend (conditions command state) ≡ true
@@ -52,6 +52,8 @@ ascending Tables state = refl
 ascending Begin state = refl
 ascending Commit state = refl
 ascending Rollback state = refl
+ascending (SetSavepoint name) state = refl
+ascending (RollbackTo name) state = refl
 
 -- what each step keeps of a catalog and rows: no two tables have one name, and the rows of each are in key order
 pub record IsKept (schema : Schema) (rows : Instance) : Type 0 where
@@ -134,10 +136,7 @@ reached_in_order commands = (reached commands).rows.order
 
 -- .. and so are those that are saved.
 pub saved_in_order : (commands : List Command)
-    → IfSome (after_all commands first_state).saved (AreInKeyOrder (after_all commands first_state).schema.tables)
-saved_in_order commands = by (after_all commands first_state).saved (reached commands).saved
-  where
-    by : (saved : Option Instance) → IfSome saved (IsKept (after_all commands first_state).schema)
-        → IfSome saved (AreInKeyOrder (after_all commands first_state).schema.tables)
-    by None held = tt
-    by (Some rows) held = held.order
+    → IfSome (after_all commands first_state).saved (AreSavedRows (AreInKeyOrder (after_all commands first_state).schema.tables))
+saved_in_order commands =
+    each_held (IsKept (after_all commands first_state).schema) (AreInKeyOrder (after_all commands first_state).schema.tables)
+    (λ rows held. held.order) (after_all commands first_state).saved (reached commands).saved

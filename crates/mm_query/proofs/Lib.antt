@@ -11,7 +11,7 @@ mod PlanLines
 pub mod QueryLaws
 pub mod SortedRows
 pub mod StandingQueries
-mod Throughout
+pub mod Throughout
 mod Transactions
 mod Tuples
 pub mod Updates

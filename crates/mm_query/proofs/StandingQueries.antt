@@ -1,5 +1,5 @@
 -- Standing queries beside the catalog: they are bound, they are shown, and they keep within their limit.
-use Rattle.std.proofs.Common.{◌≡◌, ℕ, zero, suc, ◌<◌, Bool, true, false, cond, not, List, [], ◌∷◌, ◌++◌, Option, Some, None, filter, find, is_some, length, map, nat_le, refl, sym, ap, ◌∙◌, subst}
+use Rattle.std.proofs.Common.{◌≡◌, ◌&&◌, ℕ, zero, suc, ◌<◌, Bool, true, false, cond, not, List, [], ◌∷◌, ◌++◌, Option, Some, None, filter, find, is_some, length, map, nat_le, refl, sym, ap, ◌∙◌, subst}
 use Rattle.std.specs.List.{All, AllByRecursion, list_any}
 use Rattle.std.specs.List.Sorted.{IsPermutation, IsSorted}
 use Rattle.std.specs.Option.{option_map_or}
@@ -19,7 +19,7 @@ use Rattle.mm_schema.proofs.NameLemmas.{same_bytes, same_name_refl}
 use Rattle.mm_schema.proofs.References.{as_there, first_none, same_with, same_without, second_none, there_behind, there_still}
 use Rattle.mm_value.specs.declared.refusal.Refusal.TheVariants.{AliasTaken, NoSuchAlias, NoSuchColumn, NoSuchTable, NotInTransaction, StandingListTooLarge, TooMany, TypeMismatch}
 use Rattle.mm_query.specs.Edits.{changed_table, own_pairs}
-use Rattle.mm_query.specs.Machine.{after_change, after_definition, change_conditions, conditions, definition_conditions, row_conditions, state_after, step}
+use Rattle.mm_query.specs.Machine.{after_change, after_definition, change_conditions, conditions, definition_conditions, is_of_index, row_conditions, state_after, step}
 use Rattle.mm_query.specs.Queries.{bag, bag_of, eval, rows_by_columns, shown}
 use Rattle.mm_query.specs.Resolving.{IsAtomWithin, IsFieldWithin, IsQueryWithin, answer_in, passes_query_limits, placed_query, query_conditions, selected, width_at}
 use Rattle.mm_query.specs.Standing.{AreBeside, AreBound, HasQueries, after_unwatch, after_watch, growth_conditions, outgrows, query_named, shown_rows, tables_read, watch_conditions, without_query}
@@ -28,7 +28,7 @@ use Rattle.mm_query.specs.declared.atom.Atom.{Atom}
 use Rattle.mm_query.specs.declared.bound_query.BoundQuery.{BoundQuery}
 use Rattle.mm_query.specs.declared.bound_query.FieldPlace.{FieldPlace}
 use Rattle.mm_query.specs.declared.command.Command.{Command}
-use Rattle.mm_query.specs.declared.command.Command.TheVariants.{Nothing, Define, Change, Scan, ScanIndex, Select, Explain, Show, Tables, Begin, Commit, Rollback}
+use Rattle.mm_query.specs.declared.command.Command.TheVariants.{Nothing, Define, Change, Scan, ScanIndex, Select, Explain, Show, Tables, Begin, Commit, Rollback, Savepoint as SetSavepoint, RollbackTo}
 use Rattle.mm_query.specs.declared.command.Definition.{Definition}
 use Rattle.mm_query.specs.declared.command.Definition.TheVariants as define
 use Rattle.mm_query.specs.declared.command.Mutation.{Mutation}
@@ -262,7 +262,7 @@ watched_by_command : (command : Command) (state : State) → first_refusal (cond
 watched_by_command Nothing state due is = is
 watched_by_command (Define definition) state due is =
     watched_by_definition definition state
-    (none_later (has_transaction state) NotInTransaction (first_refusal (definition_conditions definition state)) due) is
+    (none_later (has_transaction state && not (is_of_index definition)) NotInTransaction (first_refusal (definition_conditions definition state)) due) is
 watched_by_command (Change mutation) state due is = is
 watched_by_command (Scan table) state due is = is
 watched_by_command (ScanIndex index) state due is = is
@@ -273,6 +273,8 @@ watched_by_command Tables state due is = is
 watched_by_command Begin state due is = is
 watched_by_command Commit state due is = is
 watched_by_command Rollback state due is = is
+watched_by_command (SetSavepoint name) state due is = is
+watched_by_command (RollbackTo name) state due is = is
 
 pub watched_at_first : HasQueries first_state × AreBound first_state
 watched_at_first = (tt, All-nil _)

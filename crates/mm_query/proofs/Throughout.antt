@@ -1,17 +1,19 @@
 -- What each command keeps of the rows, commands keep one after another: also of the rows that are saved.
-use Rattle.std.proofs.Common.{◌≡◌, Bool, true, false, cond, List, [], ◌∷◌, Option, Some, None, is_some, refl, sym, subst, ◌∙◌}
-use Rattle.std.specs.Option.{unwrap_or}
-use Rattle.std.specs.Prelude.{IfSome}
+use Rattle.std.proofs.Common.{◌≡◌, ◌⊎◌, ◌&&◌, ℕ, Bool, true, false, not, cond, if◌then◌else◌, inl, inr, List, [], ◌∷◌, Option, Some, None, get_or, is_some, refl, sym, subst, ◌∙◌}
+use Rattle.std.specs.Option.{option_map, option_map_or}
+use Rattle.std.specs.Prelude.{All, IfSome}
+use Rattle.std.proofs.lemmas.List.Elements.{All-cons, All-head, All-nil, All-tail}
 use Rattle.mm_schema.specs.Instance.{Instance}
+use Rattle.mm_schema.specs.Name.{same_name}
 use Rattle.mm_schema.specs.Refused.{first_refusal}
 use Rattle.mm_schema.specs.Schema.{Schema}
-use Rattle.mm_schema.proofs.References.{first_none}
+use Rattle.std.proofs.lemmas.Bool.{false≢true}
 use Rattle.mm_value.specs.declared.refusal.Refusal.{Refusal}
 use Rattle.mm_value.specs.declared.refusal.Refusal.TheVariants.{NotInTransaction}
-use Rattle.mm_query.specs.Machine.{Outcome, after_all, after_change, after_definition, change_conditions, conditions, definition_conditions, reply_to, state_after, step, unless_refused}
-use Rattle.mm_query.specs.State.{State, has_transaction}
+use Rattle.mm_query.specs.Machine.{Outcome, after_all, after_change, after_definition, after_rollback_to, after_savepoint, back_to, change_conditions, conditions, definition_conditions, is_of_index, reply_to, rows_at_latest, state_after, step, unless_refused}
+use Rattle.mm_query.specs.State.{AreSavedRows, Saved, Savepoint, State, has_transaction, savepoints_of}
 use Rattle.mm_query.specs.declared.command.Command.{Command}
-use Rattle.mm_query.specs.declared.command.Command.TheVariants.{Nothing, Define, Change, Scan, ScanIndex, Select, Explain, Show, Tables, Begin, Commit, Rollback}
+use Rattle.mm_query.specs.declared.command.Command.TheVariants.{Nothing, Define, Change, Scan, ScanIndex, Select, Explain, Show, Tables, Begin, Commit, Rollback, Savepoint as SetSavepoint, RollbackTo}
 use Rattle.mm_query.specs.declared.command.Definition.{Definition}
 use Rattle.mm_query.specs.declared.command.Definition.TheVariants as define
 use Rattle.mm_query.specs.declared.command.Mutation.{Mutation}
@@ -37,15 +39,15 @@ module _ (P : State → Type 0) where
 
 -- ---- the rows, and those that are saved
 
--- A fact of a catalog and rows holds of a state's rows, and of those that are saved.
+-- A fact of a catalog and rows holds of a state's rows, and of all that are saved.
 pub record HoldsThroughout (P : Schema → Instance → Type 0) (state : State) : Type 0 where
   pub rows : P state.schema state.rows
-  pub saved : IfSome state.saved (P state.schema)
+  pub saved : IfSome state.saved (AreSavedRows (P state.schema))
 
 -- Nothing is saved where no transaction is open.
-pub none_saved : (saved : Option Instance) → is_some saved ≡ false → saved ≡ None
+pub none_saved : (saved : Option Saved) → is_some saved ≡ false → saved ≡ None
 none_saved None closed = refl
-none_saved (Some rows) closed = absurd (cc)
+none_saved (Some saved) closed = absurd (cc)
 
 -- A change of the catalog keeps what is saved.
 pub saved_by_definition : (definition : Definition) (state : State) → (after_definition definition state).saved ≡ state.saved
@@ -61,25 +63,104 @@ pub none_later : (b : Bool) (refusal : Refusal) (rest : Option Refusal) → cond
 none_later true refusal rest due = absurd (cc)
 none_later false refusal rest due = due
 
-restored : (P : Instance → Type 0) (rows : Instance) (saved : Option Instance) → P rows → IfSome saved P → P (unwrap_or saved rows)
-restored P rows None now before = now
-restored P rows (Some kept) now before = before
+-- A change of the catalog that nothing refuses is made outside a transaction, or concerns an index alone.
+pub closed_or_of_index : (is_open of_index : Bool) (refusal : Refusal) (rest : Option Refusal) → cond (is_open && not of_index) (Some refusal) rest ≡ None
+    → (is_open ≡ false) ⊎ (of_index ≡ true)
+closed_or_of_index false of_index refusal rest due = inl refl
+closed_or_of_index true true refusal rest due = inr refl
+closed_or_of_index true false refusal rest due = absurd (cc)
+
+module _ (P : Instance → Type 0) where
+  -- ROLLBACK gives rows that are saved.
+  pub restored : (rows : Instance) (saved : Option Saved) → P rows → IfSome saved (AreSavedRows P)
+      → P (option_map_or (λ (saved : Saved). saved.at_begin) saved rows)
+  restored rows None now before = now
+  restored rows (Some saved) now before = before.at_begin
+
+  -- SAVEPOINT saves the rows too.
+  pub held_further : (name : List ℕ) (rows : Instance) (saved : Option Saved) → P rows → IfSome saved (AreSavedRows P)
+      → IfSome (option_map (λ (saved : Saved). record saved { savepoints = record { name = name; rows = rows } ∷ saved.savepoints }) saved) (AreSavedRows P)
+  held_further name rows None now before = tt
+  held_further name rows (Some saved) now before = record {
+    at_begin = before.at_begin;
+    savepoints = All-cons (λ (s : Savepoint). P s.rows) (record { name = name; rows = rows }) saved.savepoints now before.savepoints;
+  }
+
+  held_back : (name : List ℕ) (savepoints : List Savepoint) → All (λ (s : Savepoint). P s.rows) savepoints
+      → All (λ (s : Savepoint). P s.rows) (back_to name savepoints)
+  held_back name [] held = held
+  held_back name (savepoint ∷ earlier) held =
+      by (same_name name savepoint.name) (held_back name earlier (All-tail (λ (s : Savepoint). P s.rows) savepoint earlier held))
+    where
+      by : (b : Bool) → All (λ (s : Savepoint). P s.rows) (back_to name earlier)
+          → All (λ (s : Savepoint). P s.rows) (if b then savepoint ∷ earlier else back_to name earlier)
+      by true behind = held
+      by false behind = behind
+
+  at_latest : (rows : Instance) (savepoints : List Savepoint) → P rows → All (λ (s : Savepoint). P s.rows) savepoints → P (rows_at_latest savepoints rows)
+  at_latest rows [] now held = now
+  at_latest rows (savepoint ∷ earlier) now held = All-head (λ (s : Savepoint). P s.rows) savepoint earlier held
+
+  -- ROLLBACK TO gives rows that are saved, ..
+  pub gone_back : (name : List ℕ) (rows : Instance) (saved : Option Saved) → P rows → IfSome saved (AreSavedRows P)
+      → P (rows_at_latest (back_to name (option_map_or (λ (saved : Saved). saved.savepoints) saved [])) rows)
+  gone_back name rows None now before = now
+  gone_back name rows (Some saved) now before =
+      at_latest rows (back_to name saved.savepoints) now (held_back name saved.savepoints before.savepoints)
+
+  -- .. and keeps no others saved.
+  pub held_before : (name : List ℕ) (saved : Option Saved) → IfSome saved (AreSavedRows P)
+      → IfSome (option_map (λ (saved : Saved). record saved { savepoints = back_to name saved.savepoints }) saved) (AreSavedRows P)
+  held_before name None before = tt
+  held_before name (Some saved) before = record {
+    at_begin = before.at_begin;
+    savepoints = held_back name saved.savepoints before.savepoints;
+  }
+
+  -- Rows that are saved keep what each of them keeps.
+  pub each_held : (Q : Instance → Type 0) → ((rows : Instance) → P rows → Q rows) → (saved : Option Saved) → IfSome saved (AreSavedRows P)
+      → IfSome saved (AreSavedRows Q)
+  each_held Q keeps None held = tt
+  each_held Q keeps (Some saved) held = record {
+    at_begin = keeps saved.at_begin held.at_begin;
+    savepoints = λ i d below. keeps (get_or saved.savepoints i d).rows (held.savepoints i d below);
+  }
 
 module _ (P : Schema → Instance → Type 0)
     (by_definition : (definition : Definition) (state : State) → first_refusal (definition_conditions definition state) ≡ None → P state.schema state.rows
     → P (after_definition definition state).schema (after_definition definition state).rows)
     (by_change : (mutation : Mutation) (state : State) → first_refusal (change_conditions mutation state) ≡ None → P state.schema state.rows
     → P state.schema (after_change mutation state).rows) where
+  -- an index keeps of any rows what a change of the catalog keeps
+  by_index : (definition : Definition) (state : State) (rows : Instance) → is_of_index definition ≡ true
+      → first_refusal (definition_conditions definition state) ≡ None → P state.schema rows → P (after_definition definition state).schema rows
+  by_index (define.Table definition) state rows of_index due held = absurd (false≢true of_index)
+  by_index (define.DropTable name) state rows of_index due held = absurd (false≢true of_index)
+  by_index (define.Index index) state rows of_index due held = by_definition (define.Index index) (record state { rows = rows }) due held
+  by_index (define.DropIndex name) state rows of_index due held = by_definition (define.DropIndex name) (record state { rows = rows }) due held
+  by_index (define.Watch watched) state rows of_index due held = absurd (false≢true of_index)
+  by_index (define.Unwatch name) state rows of_index due held = absurd (false≢true of_index)
+
   held_by_definition : (definition : Definition) (state : State) → first_refusal (conditions (Define definition) state) ≡ None → HoldsThroughout P state
       → HoldsThroughout P (after_definition definition state)
-  held_by_definition definition state due held =
-      let closed = first_none (has_transaction state) NotInTransaction (first_refusal (definition_conditions definition state)) due in
-      record {
-        rows = by_definition definition state (none_later (has_transaction state) NotInTransaction (first_refusal (definition_conditions definition state)) due) held.rows;
-        saved =
-            subst (λ saved. IfSome saved (P (after_definition definition state).schema))
-            (sym (saved_by_definition definition state ∙ none_saved state.saved closed)) tt;
-      }
+  held_by_definition definition state due held = record { rows = by_definition definition state later held.rows; saved = by where_done }
+    where
+      later : first_refusal (definition_conditions definition state) ≡ None
+      later = none_later (has_transaction state && not (is_of_index definition)) NotInTransaction (first_refusal (definition_conditions definition state)) due
+
+      where_done : (has_transaction state ≡ false) ⊎ (is_of_index definition ≡ true)
+      where_done = closed_or_of_index (has_transaction state) (is_of_index definition) NotInTransaction (first_refusal (definition_conditions definition state)) due
+
+      by : (has_transaction state ≡ false) ⊎ (is_of_index definition ≡ true)
+          → IfSome (after_definition definition state).saved (AreSavedRows (P (after_definition definition state).schema))
+      by (inl closed) =
+          subst (λ saved. IfSome saved (AreSavedRows (P (after_definition definition state).schema)))
+          (sym (saved_by_definition definition state ∙ none_saved state.saved closed)) tt
+      by (inr of_index) =
+          subst (λ saved. IfSome saved (AreSavedRows (P (after_definition definition state).schema)))
+          (sym (saved_by_definition definition state))
+          (each_held (P state.schema) (P (after_definition definition state).schema)
+          (λ rows. by_index definition state rows of_index later) state.saved held.saved)
 
   held_by_command : (command : Command) (state : State) → first_refusal (conditions command state) ≡ None → HoldsThroughout P state
       → HoldsThroughout P (state_after command state)
@@ -92,9 +173,20 @@ module _ (P : Schema → Instance → Type 0)
   held_by_command (Explain query) state due held = held
   held_by_command (Show name) state due held = held
   held_by_command Tables state due held = held
-  held_by_command Begin state due held = record { rows = held.rows; saved = held.rows }
+  held_by_command Begin state due held = record {
+    rows = held.rows;
+    saved = record { at_begin = held.rows; savepoints = All-nil (λ (s : Savepoint). P state.schema s.rows) };
+  }
   held_by_command Commit state due held = record { rows = held.rows; saved = tt }
   held_by_command Rollback state due held = record { rows = restored (P state.schema) state.rows state.saved held.rows held.saved; saved = tt }
+  held_by_command (SetSavepoint name) state due held = record {
+    rows = held.rows;
+    saved = held_further (P state.schema) name state.rows state.saved held.rows held.saved;
+  }
+  held_by_command (RollbackTo name) state due held = record {
+    rows = gone_back (P state.schema) name state.rows state.saved held.rows held.saved;
+    saved = held_before (P state.schema) name state.saved held.saved;
+  }
 
   -- What changes of the catalog and of rows keep of the rows, all commands keep throughout.
   pub held_by_all : (commands : List Command) (state : State) → HoldsThroughout P state → HoldsThroughout P (after_all commands state)

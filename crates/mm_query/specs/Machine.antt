@@ -1,9 +1,9 @@
 -- The machine that keeps only lists of rows: what refuses each command, what it answers, and the state that it leaves.
-use Rattle.std.specs.Prelude.{ℕ, Bool, not, ◌&&◌, List, [], ◌∷◌, ◌++◌, Option, Some, None, length, map}
+use Rattle.std.specs.Prelude.{ℕ, Bool, true, false, not, ◌&&◌, if◌then◌else◌, List, [], ◌∷◌, ◌++◌, Option, Some, None, length, map, nat_lt}
 use Rattle.std.specs.List.{list_any}
-use Rattle.std.specs.Option.{option_map_or, unwrap_or}
+use Rattle.std.specs.Option.{option_map, option_map_or}
 use Rattle.mm_schema.specs.Indexes.{drop_index_conditions, index_conditions, index_named, lacks_index, with_index, without_index}
-use Rattle.mm_schema.specs.Instance.{changed_instance, without_rows}
+use Rattle.mm_schema.specs.Instance.{Instance, changed_instance, without_rows}
 use Rattle.mm_schema.specs.Name.{same_name}
 use Rattle.mm_schema.specs.References.{lacks_target_row, lose_targets, references_of}
 use Rattle.mm_schema.specs.Refused.{Condition, first_refusal}
@@ -13,16 +13,16 @@ use Rattle.mm_schema.specs.Sorting.{in_order}
 use Rattle.mm_schema.specs.declared.index.IndexDef.{IndexDef}
 use Rattle.mm_schema.specs.declared.table.Table.{Table}
 use Rattle.mm_value.specs.declared.refusal.Refusal.{Refusal}
-use Rattle.mm_value.specs.declared.refusal.Refusal.TheVariants.{NoSuchIndex, NoSuchTable, NoTransaction, NotInTransaction, TransactionOpen}
+use Rattle.mm_value.specs.declared.refusal.Refusal.TheVariants.{NoSuchIndex, NoSuchSavepoint, NoSuchTable, NoTransaction, NotInTransaction, TooMany, TransactionOpen}
 use Rattle.mm_value.specs.declared.values.Value.{Value}
 use Rattle.mm_query.specs.Binding.{binding_conditions}
 use Rattle.mm_query.specs.Edits.{changed_table, edits, own_pairs, value_conditions}
 use Rattle.mm_query.specs.Plans.{plan_of}
 use Rattle.mm_query.specs.Resolving.{query_conditions, select_conditions, selected}
 use Rattle.mm_query.specs.Standing.{after_unwatch, after_watch, growth_conditions, listing, shown_rows, unwatch_conditions, watch_conditions}
-use Rattle.mm_query.specs.State.{State, has_transaction, rows_in}
+use Rattle.mm_query.specs.State.{Saved, Savepoint, State, has_transaction, rows_in, savepoints_of}
 use Rattle.mm_query.specs.declared.command.Command.{Command}
-use Rattle.mm_query.specs.declared.command.Command.TheVariants.{Nothing, Define, Change, Scan, ScanIndex, Select, Explain, Show, Tables, Begin, Commit, Rollback}
+use Rattle.mm_query.specs.declared.command.Command.TheVariants.{Nothing, Define, Change, Scan, ScanIndex, Select, Explain, Show, Tables, Begin, Commit, Rollback, Savepoint as SetSavepoint, RollbackTo}
 use Rattle.mm_query.specs.declared.command.Definition.{Definition}
 use Rattle.mm_query.specs.declared.command.Definition.TheVariants as define
 use Rattle.mm_query.specs.declared.command.Mutation.{Mutation}
@@ -41,6 +41,12 @@ definition_conditions (define.Index index) state = index_conditions index state.
 definition_conditions (define.DropIndex name) state = drop_index_conditions name state.schema
 definition_conditions (define.Watch watched) state = watch_conditions watched.name watched.query state
 definition_conditions (define.Unwatch name) state = unwatch_conditions name state
+
+-- The change of the catalog concerns an index alone, and so no row.
+abbrev pub is_of_index : Definition → Bool
+is_of_index (define.Index index) = true
+is_of_index (define.DropIndex name) = true
+is_of_index _ = false
 
 -- The state after a change of the catalog: a new table comes last and has no rows, a table that is dropped takes its rows with
 -- it, and an index or a standing query leaves all rows as they are.
@@ -106,23 +112,55 @@ plan_in state query = plan_of state.schema (map length state.rows) query
 
 -- BEGIN keeps a copy of the rows.
 abbrev pub after_begin : State → State
-after_begin state = record state { saved = Some state.rows }
+after_begin state = record state { saved = Some (record { at_begin = state.rows; savepoints = [] }) }
 
--- COMMIT drops the copy.
+-- COMMIT drops the copy, and those of the savepoints.
 abbrev pub after_commit : State → State
 after_commit state = record state { saved = None }
 
--- ROLLBACK makes the copy the rows, and drops it.
+-- ROLLBACK makes the copy the rows, and drops it, and those of the savepoints.
 abbrev pub after_rollback : State → State
-after_rollback state = record state { rows = unwrap_or state.saved state.rows; saved = None }
+after_rollback state = record state { rows = option_map_or (λ (saved : Saved). saved.at_begin) state.saved state.rows; saved = None }
+
+-- A transaction has at most so many savepoints.
+abbrev pub max_savepoints : ℕ
+max_savepoints = 64
+
+-- SAVEPOINT keeps a further copy of the rows, under a name. Of two with one name the latest counts.
+abbrev pub after_savepoint : List ℕ → State → State
+after_savepoint name state = record state {
+  saved = option_map (λ (saved : Saved). record saved { savepoints = record { name = name; rows = state.rows } ∷ saved.savepoints }) state.saved;
+}
+
+-- The latest savepoint of a name, and those before it.
+abbrev pub back_to : List ℕ → List Savepoint → List Savepoint
+back_to name [] = []
+back_to name (savepoint ∷ earlier) = if same_name name savepoint.name then savepoint ∷ earlier else back_to name earlier
+
+-- The open transaction has no savepoint of a name.
+abbrev pub lacks_savepoint : List ℕ → State → Bool
+lacks_savepoint name state = not (list_any (λ (savepoint : Savepoint). same_name name savepoint.name) (savepoints_of state))
+
+-- The rows at the latest of some savepoints; where there is none, these.
+abbrev pub rows_at_latest : List Savepoint → Instance → Instance
+rows_at_latest [] rows = rows
+rows_at_latest (savepoint ∷ earlier) rows = savepoint.rows
+
+-- ROLLBACK TO makes the copy of the latest savepoint of a name the rows, keeps it, and drops those of the later ones.
+abbrev pub after_rollback_to : List ℕ → State → State
+after_rollback_to name state = record state {
+  rows = rows_at_latest (back_to name (savepoints_of state)) state.rows;
+  saved = option_map (λ (saved : Saved). record saved { savepoints = back_to name saved.savepoints }) state.saved;
+}
 
 -- ---- the step
 
--- What refuses a command, in the one order. A change of the catalog is refused in a transaction, whatever else refuses it.
+-- What refuses a command, in the one order. A change of the catalog is refused in a transaction, whatever else refuses it, but
+-- for one of an index.
 abbrev pub conditions : Command → State → List Condition
 conditions Nothing state = []
 conditions (Define definition) state =
-    record { holds = has_transaction state; refusal = NotInTransaction } ∷ definition_conditions definition state
+    record { holds = has_transaction state && not (is_of_index definition); refusal = NotInTransaction } ∷ definition_conditions definition state
 conditions (Change mutation) state = change_conditions mutation state
 conditions (Scan table) state = record { holds = lacks_table table state.schema; refusal = NoSuchTable } ∷ []
 conditions (ScanIndex index) state = record { holds = lacks_index index state.schema; refusal = NoSuchIndex } ∷ []
@@ -133,6 +171,12 @@ conditions Tables state = []
 conditions Begin state = record { holds = has_transaction state; refusal = TransactionOpen } ∷ []
 conditions Commit state = record { holds = not (has_transaction state); refusal = NoTransaction } ∷ []
 conditions Rollback state = record { holds = not (has_transaction state); refusal = NoTransaction } ∷ []
+conditions (SetSavepoint name) state =
+    record { holds = not (has_transaction state); refusal = NoTransaction }
+    ∷ record { holds = not (nat_lt (length (savepoints_of state)) max_savepoints); refusal = TooMany } ∷ []
+conditions (RollbackTo name) state =
+    record { holds = not (has_transaction state); refusal = NoTransaction }
+    ∷ record { holds = lacks_savepoint name state; refusal = NoSuchSavepoint } ∷ []
 
 -- What a command answers that nothing refuses; an empty line has no reply. A change tells how many pairs its own table has,
 -- SCAN gives the rows of its table in key order, SCAN INDEX those of its index's table in the order of the index, SELECT those of
@@ -150,6 +194,8 @@ reply_to Tables state = Some (Listing (listing state))
 reply_to Begin state = Some Done
 reply_to Commit state = Some Done
 reply_to Rollback state = Some Done
+reply_to (SetSavepoint name) state = Some Done
+reply_to (RollbackTo name) state = Some Done
 
 -- The state that a command leaves that nothing refuses.
 abbrev pub state_after : Command → State → State
@@ -165,6 +211,8 @@ state_after Tables state = state
 state_after Begin state = after_begin state
 state_after Commit state = after_commit state
 state_after Rollback state = after_rollback state
+state_after (SetSavepoint name) state = after_savepoint name state
+state_after (RollbackTo name) state = after_rollback_to name state
 
 -- What a command answers, if it has a reply, and the state after it.
 pub record Outcome : Type 0 where

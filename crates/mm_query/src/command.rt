@@ -87,4 +87,8 @@ pub enum Command {
     Commit,
     /// Ends the transaction that is open, and takes back what was changed in it.
     Rollback,
+    /// Makes a savepoint of this name in the transaction that is open.
+    Savepoint(Name),
+    /// Takes back what was changed since the latest savepoint of this name, which stays.
+    RollbackTo(Name),
 }

@@ -1,13 +1,13 @@
 //! Laws of the machine of row lists.
-ghost use Rattle.std.specs.Prelude.{◌≡◌, ℕ, true, false, List, [], ◌∷◌, ◌++◌, Option, Some, None, IsTrue, IfSome};
+ghost use Rattle.std.specs.Prelude.{◌≡◌, ℕ, true, false, All, List, [], ◌∷◌, ◌++◌, Option, Some, None, IsTrue, IfSome};
 ghost use Rattle.std.specs.List.{list_all, list_any};
-ghost use Rattle.mm_schema.specs.Instance.{AreInKeyOrder, Instance};
-ghost use Rattle.mm_schema.specs.Refused.{ascend};
-ghost use Rattle.mm_query.specs.Machine.{after_all, conditions, some_lacks_target, step};
-ghost use Rattle.mm_query.specs.State.{State, first_state, has_transaction};
-ghost use Rattle.mm_query.specs.Transactions.{is_data_manipulation, is_transaction_control};
+ghost use Rattle.mm_schema.specs.Instance.{AreInKeyOrder};
+ghost use Rattle.mm_schema.specs.Refused.{ascend, first_refusal};
+ghost use Rattle.mm_query.specs.Machine.{after_all, conditions, is_of_index, some_lacks_target, step};
+ghost use Rattle.mm_query.specs.State.{AreSavedRows, Saved, State, first_state, has_transaction};
+ghost use Rattle.mm_query.specs.Transactions.{AreAlike, is_done_alike, is_transaction_control, leaves_savepoint};
 ghost use Rattle.mm_query.specs.declared.command.Command.{Command};
-ghost use Rattle.mm_query.specs.declared.command.Command.TheVariants.{Define, Begin, Commit, Rollback};
+ghost use Rattle.mm_query.specs.declared.command.Command.TheVariants.{Begin, Commit, Define, Rollback, RollbackTo, Savepoint};
 ghost use Rattle.mm_query.specs.declared.command.Definition.{Definition};
 ghost use Rattle.mm_query.specs.declared.reply.Reply.TheVariants.{Refused};
 ghost use Rattle.mm_value.specs.declared.refusal.Refusal.TheVariants.{NoTransaction, NotInTransaction, TransactionOpen};
@@ -19,25 +19,25 @@ pub fn conditions_ascend()
 {}
 
 /// In every state that commands can lead to from the first, whatever they are, each table's rows are strictly in the order
-/// of their keys. So no two rows of a table have one key. The same holds of the rows that are saved while a transaction is
+/// of their keys. So no two rows of a table have one key. The same holds of all rows that are saved while a transaction is
 /// open.
 pub fn rows_stay_in_key_order()
     ensures rows { (commands : List Command) → let reached = after_all commands first_state in AreInKeyOrder reached.schema.tables reached.rows }
     ensures saved { (commands : List Command) → let reached = after_all commands first_state in
-        IfSome reached.saved (AreInKeyOrder reached.schema.tables) }
+        IfSome reached.saved (AreSavedRows (AreInKeyOrder reached.schema.tables)) }
 {}
 
 /// In every state that commands can lead to from the first, whatever they are, each value of a foreign key is the key of a
-/// row of the table that it refers to. The same holds of the rows that are saved while a transaction is open.
+/// row of the table that it refers to. The same holds of all rows that are saved while a transaction is open.
 pub fn rows_keep_their_targets()
     ensures rows { (commands : List Command) (table : List ℕ) → some_lacks_target table (after_all commands first_state) ≡ false }
     ensures saved { (commands : List Command) (table : List ℕ) → let reached = after_all commands first_state in
-        IfSome reached.saved (λ saved. some_lacks_target table (record reached { rows = saved }) ≡ false) }
+        IfSome reached.saved (AreSavedRows (λ rows. some_lacks_target table (record reached { rows = rows }) ≡ false)) }
 {}
 
-/// A transaction is begun only outside one and ended only in one, and the catalog is changed only outside one. Any other
-/// BEGIN is refused with `TransactionOpen`, COMMIT or ROLLBACK with `NoTransaction`, and change of the catalog with
-/// `NotInTransaction`, whatever else would refuse it.
+/// A transaction is begun only outside one, and ended and divided only in one, and the catalog is changed only outside one, but
+/// for its indexes. Any other BEGIN is refused with `TransactionOpen`, COMMIT, ROLLBACK, SAVEPOINT or ROLLBACK TO with
+/// `NoTransaction`, and change of the catalog with `NotInTransaction`, whatever else would refuse it.
 pub fn transactions_stand_alone()
     ensures begin { (state : State) → has_transaction state ≡ true
         → step Begin state ≡ record { reply = Some (Refused TransactionOpen); state = state } }
@@ -45,15 +45,21 @@ pub fn transactions_stand_alone()
         → step Commit state ≡ record { reply = Some (Refused NoTransaction); state = state } }
     ensures rollback { (state : State) → has_transaction state ≡ false
         → step Rollback state ≡ record { reply = Some (Refused NoTransaction); state = state } }
-    ensures define { (definition : Definition) (state : State) → has_transaction state ≡ true
+    ensures savepoint { (name : List ℕ) (state : State) → has_transaction state ≡ false
+        → step (Savepoint name) state ≡ record { reply = Some (Refused NoTransaction); state = state } }
+    ensures rollback_to { (name : List ℕ) (state : State) → has_transaction state ≡ false
+        → step (RollbackTo name) state ≡ record { reply = Some (Refused NoTransaction); state = state } }
+    ensures define { (definition : Definition) (state : State) → has_transaction state ≡ true → is_of_index definition ≡ false
         → step (Define definition) state ≡ record { reply = Some (Refused NotInTransaction); state = state } }
 {}
 
-/// BEGIN, then any commands of which none begins or ends a transaction, and then ROLLBACK leave the state from which they
-/// started, its catalog too.
+/// BEGIN, then any commands of which none begins or ends a transaction, and then ROLLBACK leave the rows and the standing
+/// queries from which they started, and a catalog in which at most the indexes are others.
 pub fn rollback_restores_the_rows_at_begin()
-    ensures { (commands : List Command) (state : State) → has_transaction state ≡ false → list_any is_transaction_control commands ≡ false
-        → after_all (Begin ∷ commands ++ Rollback ∷ []) state ≡ state }
+    ensures state { (commands : List Command) (state : State) → has_transaction state ≡ false → list_any is_transaction_control commands ≡ false
+        → let reached = after_all (Begin ∷ commands ++ Rollback ∷ []) state in reached ≡ record state { schema = reached.schema } }
+    ensures catalog { (commands : List Command) (state : State) → has_transaction state ≡ false → list_any is_transaction_control commands ≡ false
+        → AreAlike (after_all (Begin ∷ commands ++ Rollback ∷ []) state).schema state.schema }
 {}
 
 /// BEGIN, then any commands of which none begins or ends a transaction, and then COMMIT leave the catalog and the rows that
@@ -64,11 +70,21 @@ pub fn commit_keeps_the_rows()
         after_all (Begin ∷ commands ++ Commit ∷ []) state ≡ record before { saved = None } }
 {}
 
-/// What is done in a transaction is what is done outside: whatever rows are saved, commands that neither change the catalog
-/// nor begin or end a transaction have the same replies, lead to the same catalog and rows, and keep the saved ones.
+/// A SAVEPOINT that nothing refuses, then any commands that leave it, and then ROLLBACK TO of its name bring back the rows from
+/// which they started; the savepoint is kept, and those that were made behind it are not. Nothing else changes by the ROLLBACK TO.
+pub fn rollback_to_restores_the_rows_at_its_savepoint()
+    ensures { (name : List ℕ) (commands : List Command) (state : State) → first_refusal (conditions (Savepoint name) state) ≡ None
+        → list_all (leaves_savepoint name) commands ≡ true
+        → after_all (Savepoint name ∷ commands ++ RollbackTo name ∷ []) state
+        ≡ record (after_all (Savepoint name ∷ commands) state) { rows = state.rows; saved = (step (Savepoint name) state).state.saved } }
+{}
+
+/// What is done in a transaction is what is done outside: whatever rows are saved, commands that begin, divide and end no
+/// transaction and change nothing of the catalog but indexes have the same replies, lead to the same catalog and rows, and keep
+/// the saved ones.
 pub fn transactions_do_what_commands_do()
-    ensures replies { (command : Command) (state : State) (saved : Option Instance) → is_data_manipulation command ≡ true
+    ensures replies { (command : Command) (state : State) (saved : Option Saved) → is_done_alike command ≡ true
         → (step command (record state { saved = saved })).reply ≡ (step command state).reply }
-    ensures states { (commands : List Command) (state : State) (saved : Option Instance) → list_all is_data_manipulation commands ≡ true
+    ensures states { (commands : List Command) (state : State) (saved : Option Saved) → list_all is_done_alike commands ≡ true
         → after_all commands (record state { saved = saved }) ≡ record (after_all commands state) { saved = saved } }
 {}

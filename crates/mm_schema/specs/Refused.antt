@@ -1,7 +1,7 @@
 -- Which refusal is answered.
 use Rattle.std.specs.Prelude.{◌≡◌, ◌⊎◌, ℕ, Bool, true, ◌&&◌, if◌then◌else◌, List, [], ◌∷◌, Option, Some, None, Result, Ok, Err, nat_lt}
 use Rattle.mm_value.specs.declared.refusal.Refusal.{Refusal}
-use Rattle.mm_value.specs.declared.refusal.Refusal.TheVariants.{LineTooLong, Syntax, NumberOutOfRange, TextTooLong, NoSuchTable, NoSuchColumn, NoSuchIndex, NoSuchStandingQuery, NameTaken, AliasTaken, NoSuchAlias, TypeMismatch, WrongNumberOfValues, ArithmeticOutOfRange, DuplicateKey, NoTargetRow, RowIsReferenced, InUse, TableFull, ResultTooLarge, StandingListTooLarge, TooMany, TransactionOpen, NoTransaction, NotInTransaction, Memory}
+use Rattle.mm_value.specs.declared.refusal.Refusal.TheVariants.{LineTooLong, Syntax, NumberOutOfRange, TextTooLong, NoSuchTable, NoSuchColumn, NoSuchIndex, NoSuchStandingQuery, NameTaken, AliasTaken, NoSuchAlias, TypeMismatch, WrongNumberOfValues, ArithmeticOutOfRange, DuplicateKey, NoTargetRow, RowIsReferenced, InUse, TableFull, ResultTooLarge, StandingListTooLarge, TooMany, TransactionOpen, NoTransaction, NotInTransaction, NoSuchSavepoint, Memory}
 
 -- A refusal, and whether its condition holds.
 pub record Condition : Type 0 where
@@ -28,25 +28,26 @@ rank TextTooLong = 3
 rank TransactionOpen = 4
 rank NoTransaction = 5
 rank NotInTransaction = 6
-rank NoSuchTable = 7
-rank NoSuchColumn = 8
-rank NoSuchIndex = 9
-rank NoSuchStandingQuery = 10
-rank NameTaken = 11
-rank AliasTaken = 12
-rank NoSuchAlias = 13
-rank TypeMismatch = 14
-rank WrongNumberOfValues = 15
-rank TooMany = 16
-rank ArithmeticOutOfRange = 17
-rank DuplicateKey = 18
-rank NoTargetRow = 19
-rank RowIsReferenced = 20
-rank InUse = 21
-rank TableFull = 22
-rank ResultTooLarge = 23
-rank StandingListTooLarge = 24
-rank Memory = 25
+rank NoSuchSavepoint = 7
+rank NoSuchTable = 8
+rank NoSuchColumn = 9
+rank NoSuchIndex = 10
+rank NoSuchStandingQuery = 11
+rank NameTaken = 12
+rank AliasTaken = 13
+rank NoSuchAlias = 14
+rank TypeMismatch = 15
+rank WrongNumberOfValues = 16
+rank TooMany = 17
+rank ArithmeticOutOfRange = 18
+rank DuplicateKey = 19
+rank NoTargetRow = 20
+rank RowIsReferenced = 21
+rank InUse = 22
+rank TableFull = 23
+rank ResultTooLarge = 24
+rank StandingListTooLarge = 25
+rank Memory = 26
 
 -- Each condition's refusal has a lower rank than those behind it.
 abbrev pub ascend : List Condition → Bool

@@ -1,26 +1,26 @@
 -- A change of the catalog that nothing refuses keeps all rows and standing queries typed.
-use Rattle.std.proofs.Common.{◌≡◌, ℕ, Bool, true, false, cond, List, [], ◌∷◌, Option, Some, None, IfSome, is_some, map, refl, ap, ◌∙◌}
+use Rattle.std.proofs.Common.{◌≡◌, ◌⊎◌, inl, inr, ℕ, Bool, true, false, cond, List, [], ◌∷◌, Option, Some, None, IfSome, is_some, map, refl, ap, ◌∙◌}
 use Rattle.std.specs.List.{All, AllByRecursion, list_any}
-use Rattle.std.proofs.lemmas.Bool.{or_parts}
+use Rattle.std.proofs.lemmas.Bool.{false≢true, or_parts}
 use Rattle.std.proofs.lemmas.List.Elements.{All-from_recursion, All-push, recursion_from_All}
 use Rattle.mm_schema.specs.Indexes.{table_with_index, table_without_index}
-use Rattle.mm_schema.specs.Instance.{Instance}
 use Rattle.mm_schema.specs.Name.{same_name}
 use Rattle.mm_schema.specs.Refused.{first_refusal}
 use Rattle.mm_schema.specs.Schema.{Schema, columns_named, is_other_referring_to, lacks_table, reads_table}
 use Rattle.mm_schema.specs.declared.standing.StandingDef.{StandingDef}
 use Rattle.mm_schema.specs.declared.table.Table.{Table}
 use Rattle.mm_schema.proofs.References.{same_with, same_without, second_none}
-use Rattle.mm_query.specs.Machine.{after_definition, definition_conditions}
+use Rattle.mm_query.specs.Machine.{after_definition, definition_conditions, is_of_index}
 use Rattle.mm_query.specs.Resolving.{IsQueryWithin, field_lacks_column, lacks_alias, lacks_position, placed_query, some_field, some_side}
 use Rattle.mm_query.specs.Standing.{AreBeside, AreBound, HasQueries, tables_read, watch_conditions, without_query}
-use Rattle.mm_query.specs.State.{State, has_transaction}
+use Rattle.mm_query.specs.State.{AreSavedRows, Saved, State, has_transaction}
 use Rattle.mm_query.specs.declared.bound_query.BoundQuery.{BoundQuery}
 use Rattle.mm_query.specs.declared.command.Definition.{Definition}
 use Rattle.mm_query.specs.declared.command.Definition.TheVariants as define
 use Rattle.mm_query.specs.declared.query.FromItem.{FromItem}
 use Rattle.mm_query.specs.declared.query.Query.{Query}
 use Rattle.mm_query.proofs.PlacedQueries.{none_hold}
+use Rattle.mm_query.proofs.Throughout.{each_held}
 use Rattle.mm_typing.specs.Typing.{AreTyped, IsTyped, ShiftsNumbers}
 use Rattle.mm_typing.proofs.Places.{columns_behind, columns_kept, columns_left}
 use Rattle.mm_typing.proofs.Queries.{KeepsColumns, atoms_shift, query_stays}
@@ -103,55 +103,56 @@ each_left P gone (s ∷ ss) (q ∷ qs) each = by (same_name gone s.name) (each_l
 
 -- ---- each change of the catalog
 
-nothing_saved : (P : Instance → Type 0) (saved : Option Instance) → is_some saved ≡ false → IfSome saved P
-nothing_saved P None closed = tt
-nothing_saved P (Some rows) closed = cc
+nothing_saved : (P : Saved → Type 0) (saved : Option Saved) → (is_some saved ≡ false) ⊎ (false ≡ true) → IfSome saved P
+nothing_saved P None where_made = tt
+nothing_saved P (Some rows) (inl closed) = absurd (cc)
+nothing_saved P (Some rows) (inr of_index) = absurd (false≢true of_index)
 
-typed_with_definitions : (change : Table → Table) → ((t : Table) → (change t).definition ≡ t.definition) → (state : State) → has_transaction state ≡ false
+typed_with_definitions : (change : Table → Table) → ((t : Table) → (change t).definition ≡ t.definition) → (state : State)
     → AreBound state → IsTyped state → IsTyped (record state { schema = record state.schema { tables = map change state.schema.tables } })
-typed_with_definitions change same state closed bound typed =
+typed_with_definitions change same state bound typed =
     let new : Schema = record state.schema { tables = map change state.schema.tables } in
     record {
       rows = typed_kept change same state.schema.tables state.rows typed.rows;
-      saved = nothing_saved (AreTyped new.tables) state.saved closed;
+      saved = each_held (AreTyped state.schema.tables) (AreTyped new.tables) (λ rows. typed_kept change same state.schema.tables rows) state.saved typed.saved;
       queries = all_stay state.schema new none_out (λ name there kept. columns_kept change same name state.schema.tables)
           state.queries bound (all_read_on state.queries) typed.queries;
     }
 
 -- Each keeps all rows and all standing queries typed.
-pub typed_by_definition : (definition : Definition) (state : State) → has_transaction state ≡ false
+pub typed_by_definition : (definition : Definition) (state : State) → (has_transaction state ≡ false) ⊎ (is_of_index definition ≡ true)
     → first_refusal (definition_conditions definition state) ≡ None → HasQueries state → AreBound state → IsTyped state
     → IsTyped (after_definition definition state)
-typed_by_definition (define.Table definition) state closed due beside bound typed =
+typed_by_definition (define.Table definition) state where_made due beside bound typed =
     let table : Table = record { definition = definition; indexes = [] } in
     let new = after_definition (define.Table definition) state in
     record {
       rows = typed_behind state.schema.tables state.rows table typed.rows;
-      saved = nothing_saved (AreTyped new.schema.tables) state.saved closed;
+      saved = nothing_saved (AreSavedRows (AreTyped new.schema.tables)) state.saved where_made;
       queries = all_stay state.schema new.schema none_out (λ name there kept. columns_behind name table state.schema.tables there)
           state.queries bound (all_read_on state.queries) typed.queries;
     }
-typed_by_definition (define.DropTable name) state closed due beside bound typed =
+typed_by_definition (define.DropTable name) state where_made due beside bound typed =
     let new = after_definition (define.DropTable name) state in
     let unused = or_parts (list_any (is_other_referring_to name) state.schema.tables) (list_any (reads_table name) state.schema.standing)
     (second_none _ _ _ _ _ due) in
     record {
       rows = typed_without name state.schema.tables state.rows typed.rows;
-      saved = nothing_saved (AreTyped new.schema.tables) state.saved closed;
+      saved = nothing_saved (AreSavedRows (AreTyped new.schema.tables)) state.saved where_made;
       queries = all_stay state.schema new.schema (same_name name) (λ other there differs. columns_left name other differs state.schema.tables)
           state.queries bound (unread_beside name state.schema.standing state.queries beside unused.1) typed.queries;
     }
-typed_by_definition (define.Index index) state closed due beside bound typed =
-    typed_with_definitions (table_with_index index) (same_with index) state closed bound typed
-typed_by_definition (define.DropIndex name) state closed due beside bound typed =
-    typed_with_definitions (table_without_index name) (same_without name) state closed bound typed
-typed_by_definition (define.Watch watched) state closed due beside bound typed = record {
+typed_by_definition (define.Index index) state where_made due beside bound typed =
+    typed_with_definitions (table_with_index index) (same_with index) state bound typed
+typed_by_definition (define.DropIndex name) state where_made due beside bound typed =
+    typed_with_definitions (table_without_index name) (same_without name) state bound typed
+typed_by_definition (define.Watch watched) state where_made due beside bound typed = record {
   rows = typed.rows;
   saved = typed.saved;
   queries = All-push (ShiftsNumbers state.schema) state.queries (placed_query state.schema watched.query) typed.queries
       (watched_shifts watched.name watched.query state due);
 }
-typed_by_definition (define.Unwatch name) state closed due beside bound typed = record {
+typed_by_definition (define.Unwatch name) state where_made due beside bound typed = record {
   rows = typed.rows;
   saved = typed.saved;
   queries = All-from_recursion (ShiftsNumbers state.schema) (without_query name state.schema.standing state.queries)

@@ -1,21 +1,19 @@
 -- Each command keeps all rows and standing queries typed.
-use Rattle.std.proofs.Common.{◌≡◌, List, [], ◌∷◌, ◌++◌, Option, Some, None, IfSome, refl, sym, ◌∙◌}
-use Rattle.std.specs.Option.{unwrap_or}
+use Rattle.std.proofs.Common.{◌≡◌, ◌&&◌, not, List, [], ◌∷◌, ◌++◌, Option, Some, None, IfSome, refl, sym, ◌∙◌}
 use Rattle.std.proofs.lemmas.List.Elements.{All-nil}
-use Rattle.mm_schema.specs.Instance.{Instance}
 use Rattle.mm_schema.specs.Refused.{Condition, first_refusal}
 use Rattle.mm_schema.specs.Schema.{HasDistinctNames}
 use Rattle.mm_schema.proofs.Dues.{due_in_front, none_due_behind}
-use Rattle.mm_schema.proofs.References.{first_none}
 use Rattle.mm_value.specs.declared.refusal.Refusal.{Refusal}
 use Rattle.mm_value.specs.declared.refusal.Refusal.TheVariants.{NotInTransaction}
 use Rattle.mm_query.specs.Binding.{binding_conditions}
 use Rattle.mm_query.specs.Edits.{changed_table, own_pairs, value_conditions}
-use Rattle.mm_query.specs.Machine.{Outcome, after_change, conditions, definition_conditions, reply_to, row_conditions, state_after, step, unless_refused}
+use Rattle.mm_query.specs.Machine.{Outcome, after_change, conditions, definition_conditions, is_of_index, reply_to, row_conditions, state_after, step, unless_refused}
 use Rattle.mm_query.specs.Standing.{AreBound, HasQueries, growth_conditions}
-use Rattle.mm_query.specs.State.{State, first_state, has_transaction}
+use Rattle.mm_query.specs.State.{Savepoint, State, first_state, has_transaction}
+use Rattle.mm_query.proofs.Throughout.{closed_or_of_index, gone_back, held_before, held_further, restored}
 use Rattle.mm_query.specs.declared.command.Command.{Command}
-use Rattle.mm_query.specs.declared.command.Command.TheVariants.{Nothing, Define, Change, Scan, ScanIndex, Select, Explain, Show, Tables, Begin, Commit, Rollback}
+use Rattle.mm_query.specs.declared.command.Command.TheVariants.{Nothing, Define, Change, Scan, ScanIndex, Select, Explain, Show, Tables, Begin, Commit, Rollback, Savepoint as SetSavepoint, RollbackTo}
 use Rattle.mm_typing.specs.Typing.{AreTyped, IsTyped}
 use Rattle.mm_typing.proofs.Changes.{typed_by_change}
 use Rattle.mm_typing.proofs.Definitions.{typed_by_definition}
@@ -28,17 +26,14 @@ none_in_front cs ds none = by (first_refusal cs) refl
     by None is = refl
     by (Some refusal) is = let both : None ≡ Some refusal = sym none ∙ due_in_front cs ds refusal is in cc
 
-restored : (P : Instance → Type 0) (rows : Instance) (saved : Option Instance) → P rows → IfSome saved P → P (unwrap_or saved rows)
-restored P rows None now before = now
-restored P rows (Some kept) now before = before
-
 typed_by_command : (command : Command) (state : State) → first_refusal (conditions command state) ≡ None → HasDistinctNames state.schema
     → HasQueries state → AreBound state → IsTyped state → IsTyped (state_after command state)
 typed_by_command Nothing state due distinct beside bound typed = typed
 typed_by_command (Define definition) state due distinct beside bound typed =
-    let closed = first_none (has_transaction state) NotInTransaction (first_refusal (definition_conditions definition state)) due in
-    typed_by_definition definition state closed
-    (none_due_behind (record { holds = has_transaction state; refusal = NotInTransaction } ∷ []) (definition_conditions definition state) due) beside bound typed
+    typed_by_definition definition state
+    (closed_or_of_index (has_transaction state) (is_of_index definition) NotInTransaction (first_refusal (definition_conditions definition state)) due)
+    (none_due_behind (record { holds = has_transaction state && not (is_of_index definition); refusal = NotInTransaction } ∷ [])
+    (definition_conditions definition state) due) beside bound typed
 typed_by_command (Change mutation) state due distinct beside bound typed =
     let later = value_conditions mutation state
     ++ (row_conditions (changed_table mutation) (own_pairs mutation state) state (after_change mutation state)
@@ -54,10 +49,24 @@ typed_by_command (Select query) state due distinct beside bound typed = typed
 typed_by_command (Explain query) state due distinct beside bound typed = typed
 typed_by_command (Show name) state due distinct beside bound typed = typed
 typed_by_command Tables state due distinct beside bound typed = typed
-typed_by_command Begin state due distinct beside bound typed = record { rows = typed.rows; saved = typed.rows; queries = typed.queries }
+typed_by_command Begin state due distinct beside bound typed = record {
+  rows = typed.rows;
+  saved = record { at_begin = typed.rows; savepoints = All-nil (λ (s : Savepoint). AreTyped state.schema.tables s.rows) };
+  queries = typed.queries;
+}
 typed_by_command Commit state due distinct beside bound typed = record { rows = typed.rows; saved = tt; queries = typed.queries }
 typed_by_command Rollback state due distinct beside bound typed =
     record { rows = restored (AreTyped state.schema.tables) state.rows state.saved typed.rows typed.saved; saved = tt; queries = typed.queries }
+typed_by_command (SetSavepoint name) state due distinct beside bound typed = record {
+  rows = typed.rows;
+  saved = held_further (AreTyped state.schema.tables) name state.rows state.saved typed.rows typed.saved;
+  queries = typed.queries;
+}
+typed_by_command (RollbackTo name) state due distinct beside bound typed = record {
+  rows = gone_back (AreTyped state.schema.tables) name state.rows state.saved typed.rows typed.saved;
+  saved = held_before (AreTyped state.schema.tables) name state.saved typed.saved;
+  queries = typed.queries;
+}
 
 -- Nothing is there at first.
 pub typed_at_first : IsTyped first_state

@@ -10,7 +10,7 @@ use Rattle.mm_schema.specs.Instance.{Instance}
 use Rattle.mm_schema.specs.Schema.{Schema, columns_named}
 use Rattle.mm_schema.specs.declared.column.Column.{Column}
 use Rattle.mm_schema.specs.declared.table.Table.{Table}
-use Rattle.mm_query.specs.State.{State}
+use Rattle.mm_query.specs.State.{AreSavedRows, State}
 use Rattle.mm_query.specs.declared.atom.Atom.{Atom}
 use Rattle.mm_query.specs.declared.atom.Operand.{Operand}
 use Rattle.mm_query.specs.declared.atom.Operand.TheVariants as operand
@@ -61,5 +61,5 @@ ShiftsNumbers schema query = All (λ (atom : Atom FieldPlace). ShiftsNumber sche
 -- numbers.
 pub record IsTyped (state : State) : Type 0 where
   pub rows : AreTyped state.schema.tables state.rows
-  pub saved : IfSome state.saved (AreTyped state.schema.tables)
+  pub saved : IfSome state.saved (AreSavedRows (AreTyped state.schema.tables))
   pub queries : All (ShiftsNumbers state.schema) state.queries

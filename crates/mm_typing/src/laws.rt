@@ -1,11 +1,11 @@
 //! Laws of the types of rows and of standing queries.
-ghost use Rattle.std.specs.Prelude.{◌≡◌, ℕ, false, List, [], None, slice_get};
+ghost use Rattle.std.specs.Prelude.{◌≡◌, ◌⊎◌, ℕ, false, true, List, [], None, slice_get};
 ghost use Rattle.std.specs.Option.{option_map_or};
 ghost use Rattle.mm_schema.specs.Instance.{Instance, rows_named};
 ghost use Rattle.mm_schema.specs.Refused.{first_refusal};
 ghost use Rattle.mm_schema.specs.Schema.{HasDistinctNames, Schema};
 ghost use Rattle.mm_query.specs.Binding.{binding_conditions};
-ghost use Rattle.mm_query.specs.Machine.{after_change, after_definition, definition_conditions, step};
+ghost use Rattle.mm_query.specs.Machine.{after_change, after_definition, definition_conditions, is_of_index, step};
 ghost use Rattle.mm_query.specs.Standing.{AreBound, HasQueries};
 ghost use Rattle.mm_query.specs.State.{State, first_state, has_transaction};
 ghost use Rattle.mm_query.specs.declared.bound_query.BoundQuery.{BoundQuery};
@@ -22,7 +22,7 @@ ghost use Rattle.mm_typing.specs.Typing.{AreTyped, IsTyped, ShiftsNumbers};
 /// standing query refuse it later.
 pub fn types_are_kept()
     ensures first { IsTyped first_state }
-    ensures definition { (definition : Definition) (state : State) → has_transaction state ≡ false
+    ensures definition { (definition : Definition) (state : State) → (has_transaction state ≡ false) ⊎ (is_of_index definition ≡ true)
         → first_refusal (definition_conditions definition state) ≡ None → HasQueries state → AreBound state → IsTyped state
         → IsTyped (after_definition definition state) }
     ensures change { (mutation : Mutation) (state : State) → HasDistinctNames state.schema

@@ -1,7 +1,7 @@
 -- The number and the text of each refusal.
 use Rattle.std.specs.Prelude.{ℕ, List, codes}
 use Rattle.mm_value.specs.declared.refusal.Refusal.{Refusal}
-use Rattle.mm_value.specs.declared.refusal.Refusal.TheVariants.{LineTooLong, Syntax, NumberOutOfRange, TextTooLong, NoSuchTable, NoSuchColumn, NoSuchIndex, NoSuchStandingQuery, NameTaken, AliasTaken, NoSuchAlias, TypeMismatch, WrongNumberOfValues, ArithmeticOutOfRange, DuplicateKey, NoTargetRow, RowIsReferenced, InUse, TableFull, ResultTooLarge, StandingListTooLarge, TooMany, TransactionOpen, NoTransaction, NotInTransaction, Memory}
+use Rattle.mm_value.specs.declared.refusal.Refusal.TheVariants.{LineTooLong, Syntax, NumberOutOfRange, TextTooLong, NoSuchTable, NoSuchColumn, NoSuchIndex, NoSuchStandingQuery, NameTaken, AliasTaken, NoSuchAlias, TypeMismatch, WrongNumberOfValues, ArithmeticOutOfRange, DuplicateKey, NoTargetRow, RowIsReferenced, InUse, TableFull, ResultTooLarge, StandingListTooLarge, TooMany, TransactionOpen, NoTransaction, NotInTransaction, NoSuchSavepoint, Memory}
 
 -- The number by which a refusal is known.
 abbrev pub refusal_number : Refusal → ℕ
@@ -30,6 +30,7 @@ refusal_number TooMany = 48
 refusal_number TransactionOpen = 50
 refusal_number NoTransaction = 51
 refusal_number NotInTransaction = 52
+refusal_number NoSuchSavepoint = 53
 refusal_number Memory = 90
 
 -- What a refusal says.
@@ -59,4 +60,5 @@ refusal_text TooMany = codes "too many"
 refusal_text TransactionOpen = codes "transaction open"
 refusal_text NoTransaction = codes "no transaction"
 refusal_text NotInTransaction = codes "not in a transaction"
+refusal_text NoSuchSavepoint = codes "no such savepoint"
 refusal_text Memory = codes "memory"

@@ -24,7 +24,7 @@ abbrev pub AnswersReading : Result Command Refusal → Result Command Refusal �
 AnswersReading due (Ok command) = due ≡ Ok command
 AnswersReading due (Err refusal) = (due ≡ Err refusal) ⊎ ((refusal ≡ Memory) × IsTrue (reading_takes_memory due))
 
--- The keyword is BEGIN, COMMIT or ROLLBACK.
+-- The keyword is BEGIN, COMMIT or ROLLBACK, behind which nothing is read that takes memory.
 abbrev pub is_control_keyword : Keyword → Bool
 is_control_keyword keyword.Begin = true
 is_control_keyword keyword.Commit = true

@@ -1,3 +1,4 @@
+use Rattle.std.proofs.Common.{inl}
 use Rattle.std.proofs.lemmas.Result.{err_from_is_err_and}
 use Rattle.mm_lang.proofs.CommandReadings.{index_no_name, index_no_on, index_no_table, index_no_column, index_no_kind, index_given}
 use Rattle.mm_lang.proofs.reading.read_index.Goals as goal
@@ -5,7 +6,7 @@ use Rattle.mm_lang.proofs.reading.read_index.Goals as goal
 pub returns-in_err-name : goal.returns-in_err-name
 returns-in_err-name c =
     let p = err_from_is_err_and c.from_residual.result c.from_residual.ensures.1 in
-    rw (p.1, p.2) (index_no_name c.args.reader.now _ c.in_err-name.ensures)
+    rw (p.1, p.2) (index_no_name c.args.reader.now _ (inl c.in_err-name.ensures))
 
 pub returns-in_err-expect_keyword : goal.returns-in_err-expect_keyword
 returns-in_err-expect_keyword c =
@@ -17,7 +18,7 @@ returns-in_err-table c =
     let p = err_from_is_err_and c.from_residual-in_err-table.result c.from_residual-in_err-table.ensures.1 in
     rw (p.1, p.2)
     (index_no_table c.args.reader.now c.name.new.self c.in_ok-name.name c.in_ok-name.ensures c.expect_keyword.new.self c.in_ok-expect_keyword.ensures _
-    c.in_err-table.ensures)
+    (inl c.in_err-table.ensures))
 
 pub returns-in_err-column : goal.returns-in_err-column
 returns-in_err-column c =

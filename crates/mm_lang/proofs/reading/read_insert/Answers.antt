@@ -1,3 +1,4 @@
+use Rattle.std.proofs.Common.{inl}
 use Rattle.std.proofs.lemmas.Result.{err_from_is_err_and}
 use Rattle.mm_lang.proofs.CommandReadings.{insert_no_name, insert_no_tuples, insert_given}
 use Rattle.mm_lang.proofs.reading.read_insert.Goals as goal
@@ -5,7 +6,7 @@ use Rattle.mm_lang.proofs.reading.read_insert.Goals as goal
 pub returns-in_err-table : goal.returns-in_err-table
 returns-in_err-table c =
     let p = err_from_is_err_and c.from_residual.result c.from_residual.ensures.1 in
-    rw (p.1, p.2) (insert_no_name c.args.reader.now _ c.in_err-table.ensures)
+    rw (p.1, p.2) (insert_no_name c.args.reader.now _ (inl c.in_err-table.ensures))
 
 pub returns-in_err-read_list : goal.returns-in_err-read_list
 returns-in_err-read_list c =

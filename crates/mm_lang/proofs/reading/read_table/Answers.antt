@@ -1,4 +1,4 @@
-use Rattle.std.proofs.Common.{refl}
+use Rattle.std.proofs.Common.{inl, refl}
 use Rattle.std.proofs.lemmas.Bool.{false≢true}
 use Rattle.std.proofs.lemmas.Result.{err_from_is_err_and}
 use Rattle.mm_lang.proofs.CommandReadings.{table_no_name, table_no_columns, table_keys, table_given}
@@ -7,7 +7,7 @@ use Rattle.mm_lang.proofs.reading.read_table.Goals as goal
 pub returns-in_err-name : goal.returns-in_err-name
 returns-in_err-name c =
     let p = err_from_is_err_and c.from_residual.result c.from_residual.ensures.1 in
-    rw (p.1, p.2) (table_no_name c.args.reader.now _ c.in_err-name.ensures)
+    rw (p.1, p.2) (table_no_name c.args.reader.now _ (inl c.in_err-name.ensures))
 
 pub returns-in_err-read_in_parentheses : goal.returns-in_err-read_in_parentheses
 returns-in_err-read_in_parentheses c =

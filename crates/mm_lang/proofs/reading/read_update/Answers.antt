@@ -1,3 +1,4 @@
+use Rattle.std.proofs.Common.{inl}
 use Rattle.std.proofs.lemmas.Result.{err_from_is_err_and}
 use Rattle.mm_lang.proofs.CommandReadings.{update_no_name, update_no_set, update_no_assignments, update_no_tests, update_given}
 use Rattle.mm_lang.proofs.reading.read_update.Goals as goal
@@ -5,7 +6,7 @@ use Rattle.mm_lang.proofs.reading.read_update.Goals as goal
 pub returns-in_err-table : goal.returns-in_err-table
 returns-in_err-table c =
     let p = err_from_is_err_and c.from_residual.result c.from_residual.ensures.1 in
-    rw (p.1, p.2) (update_no_name c.args.reader.now _ c.in_err-table.ensures)
+    rw (p.1, p.2) (update_no_name c.args.reader.now _ (inl c.in_err-table.ensures))
 
 pub returns-in_err-expect_keyword : goal.returns-in_err-expect_keyword
 returns-in_err-expect_keyword c =

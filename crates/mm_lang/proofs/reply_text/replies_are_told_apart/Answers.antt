@@ -4,7 +4,7 @@ use Rattle.std.specs.Char.{is_ascii_digit}
 use Rattle.std.specs.List.{flat_map}
 use Rattle.mm_value.specs.Refusals.{refusal_number, refusal_text}
 use Rattle.mm_value.specs.declared.refusal.Refusal.{Refusal}
-use Rattle.mm_value.specs.declared.refusal.Refusal.TheVariants.{LineTooLong, Syntax, NumberOutOfRange, TextTooLong, NoSuchTable, NoSuchColumn, NoSuchIndex, NoSuchStandingQuery, NameTaken, AliasTaken, NoSuchAlias, TypeMismatch, WrongNumberOfValues, ArithmeticOutOfRange, DuplicateKey, NoTargetRow, RowIsReferenced, InUse, TableFull, ResultTooLarge, StandingListTooLarge, TooMany, TransactionOpen, NoTransaction, NotInTransaction, Memory}
+use Rattle.mm_value.specs.declared.refusal.Refusal.TheVariants.{LineTooLong, Syntax, NumberOutOfRange, TextTooLong, NoSuchTable, NoSuchColumn, NoSuchIndex, NoSuchStandingQuery, NameTaken, AliasTaken, NoSuchAlias, TypeMismatch, WrongNumberOfValues, ArithmeticOutOfRange, DuplicateKey, NoTargetRow, RowIsReferenced, InUse, TableFull, ResultTooLarge, StandingListTooLarge, TooMany, TransactionOpen, NoTransaction, NotInTransaction, NoSuchSavepoint, Memory}
 use Rattle.mm_query.specs.declared.plan_line.PlanLine.{PlanLine}
 use Rattle.mm_query.specs.declared.reply.Reply.{Reply}
 use Rattle.mm_query.specs.declared.reply.Reply.TheVariants.{Done, Count, Rows, Steps, Listing, Refused}
@@ -78,6 +78,7 @@ numbered TooMany = told TooMany 48 refl (omega arith) (omega arith) (omega arith
 numbered TransactionOpen = told TransactionOpen 50 refl (omega arith) (omega arith) (omega arith) refl
 numbered NoTransaction = told NoTransaction 51 refl (omega arith) (omega arith) (omega arith) refl
 numbered NotInTransaction = told NotInTransaction 52 refl (omega arith) (omega arith) (omega arith) refl
+numbered NoSuchSavepoint = told NoSuchSavepoint 53 refl (omega arith) (omega arith) (omega arith) refl
 numbered Memory = told Memory 90 refl (omega arith) (omega arith) (omega arith) refl
 
 pub returns-clause-line_feed : goal.returns-clause-line_feed

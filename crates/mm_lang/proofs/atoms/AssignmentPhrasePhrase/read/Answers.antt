@@ -1,3 +1,4 @@
+use Rattle.std.proofs.Common.{inl}
 use Rattle.std.proofs.lemmas.Result.{err_from_is_err_and}
 use Rattle.mm_lang.proofs.Operands.{assignment_no_name, assignment_no_equal, assignment_no_operand, assignment_given}
 use Rattle.mm_lang.proofs.atoms.AssignmentPhrasePhrase.read.Goals as goal
@@ -5,7 +6,7 @@ use Rattle.mm_lang.proofs.atoms.AssignmentPhrasePhrase.read.Goals as goal
 pub returns-in_err-column : goal.returns-in_err-column
 returns-in_err-column c =
     let p = err_from_is_err_and c.from_residual.result c.from_residual.ensures.1 in
-    rw (p.1, p.2) (assignment_no_name c.args.reader.now _ c.in_err-column.ensures)
+    rw (p.1, p.2) (assignment_no_name c.args.reader.now _ (inl c.in_err-column.ensures))
 
 pub returns-in_err-symbol : goal.returns-in_err-symbol
 returns-in_err-symbol c =

@@ -1,3 +1,4 @@
+use Rattle.std.proofs.Common.{inl}
 use Rattle.std.proofs.lemmas.Result.{err_from_is_err_and}
 use Rattle.mm_lang.proofs.Readings.{column_no_name, column_no_type, column_no_role, column_given}
 use Rattle.mm_lang.proofs.columns.ColumnPhrasePhrase.read.Goals as goal
@@ -5,7 +6,7 @@ use Rattle.mm_lang.proofs.columns.ColumnPhrasePhrase.read.Goals as goal
 pub returns-in_err-name : goal.returns-in_err-name
 returns-in_err-name c =
     let p = err_from_is_err_and c.from_residual.result c.from_residual.ensures.1 in
-    rw (p.1, p.2) (column_no_name c.args.reader.now _ c.in_err-name.ensures)
+    rw (p.1, p.2) (column_no_name c.args.reader.now _ (inl c.in_err-name.ensures))
 
 pub returns-in_err-col_type : goal.returns-in_err-col_type
 returns-in_err-col_type c =
