@@ -31,7 +31,7 @@ pub enum Index {
 impl Index {
     /// An index on a column over these rows. A tree is made of the references in order, with no search; into a hash table
     /// they go one by one. `AllocError` where memory is refused.
-    pub(crate) fn over(
+    fn over(
         alloc: Global,
         rows: &Partitions,
         column: usize,
@@ -58,6 +58,27 @@ impl Index {
                 Ok(index)
             }
         }
+    }
+
+    /// An index on a column over these rows, with room for so many entries more. `AllocError` where memory is refused.
+    pub(crate) fn with_room(
+        alloc: Global,
+        rows: &Partitions,
+        column: usize,
+        key: usize,
+        kind: IndexKind,
+        refs: &[RowRef],
+        more: usize,
+    ) -> Result<Index, AllocError>
+        requires wide { All (IsWide column key (slot_at rows.now)) refs.now }
+        requires apart { KeysApart key (slot_at rows.now) refs.now }
+        ensures keeps { IfOk result (Keeps key (slot_at rows.now) refs.now) }
+        ensures on { IfOk result (IsOn column kind) }
+        ensures room { IfOk result (λ index. more ≤ spare_of index) }
+    {
+        let mut index = Index::over(alloc, rows, column, key, kind, refs)?;
+        index.reserve(alloc, more)?;
+        Ok(index)
     }
 
     /// The column that it is on, counted from 0.

@@ -1,6 +1,7 @@
 -- A log that can be taken back: when it is new, with one command more, and with one less.
 use Rattle.std.proofs.Common.{◌≡◌, ◌≢◌, ℕ, ◌+◌, ◌≤◌, List, [], ◌∷◌, ◌++◌, length, refl, sym, ap, ◌∙◌, subst, ⊎_elim, arith}
-use Rattle.std.specs.Prelude.{slice_get}
+use Rattle.std.specs.Prelude.{drop, slice_get}
+use Rattle.std.specs.List.{All}
 use Rattle.std.proofs.lemmas.List.Elements.{All-weaker}
 use Rattle.mm_partition.specs.Places.{slot_at}
 use Rattle.mm_relation.specs.Before.{before}
@@ -13,10 +14,12 @@ use Rattle.mm_relation.proofs.Rooms.{slots_same}
 use Rattle.mm_relation.proofs.Turning.{All-turned}
 use Rattle.mm_schema.specs.declared.reference.Reference.{Reference}
 use Rattle.mm_store.specs.Commands.{IsTakenBack}
+use Rattle.mm_store.specs.Marks.{rows_at_mark}
 use Rattle.mm_store.specs.Tables.{IsAt, Tables, Turns}
 use Rattle.mm_store.specs.Undoing.{CanUndo, GoesBack, HasSpare, Heading, IsReversible, headings_of, owed}
-use Rattle.mm_store.specs.Worlds.{Noted, World, back, world_of}
+use Rattle.mm_store.specs.Worlds.{Noted, World, back, back_all, world_of}
 use Rattle.mm_store.proofs.Joining.{one_relation}
+use Rattle.mm_store.proofs.MarkLaws.{rows_at_mark-same}
 use Rattle.mm_store.proofs.Owing.{owed-push, owed_by-other, owed_by-own}
 use Rattle.mm_store.proofs.Worlds.{GoesBack-append, GoesBack-newer, GoesBack-older, at_other, at_turned, back_is_old, headings_turned, new_is_back, world_same}
 
@@ -95,6 +98,26 @@ module _ (old new : Tables) (place : ℕ) (was is : StoredRows) (there : IsAt ol
               (subst (λ (ls : List Reference). IsReversible (headings_of old) ls command (world_of new)) (sym links) reversible),
         );
   }
+
+  world_reindexed : is ≡ record was { indexes = is.indexes } → world_of new ≡ world_of old
+  world_reindexed same = world_same old new place was is there turned (ap (λ (s : StoredRows). slot_at s.places) same)
+
+  -- With the same rows, and other indexes that have the room, the log can be taken back still ..
+  pub CanUndo-reindexed : (undo : List Noted) → is ≡ record was { indexes = is.indexes } → All (λ x. owed place undo ≤ spare_of x) is.indexes
+      → CanUndo old undo → CanUndo new undo
+  CanUndo-reindexed undo same room can = record {
+    spare = each_spare (λ p s. HasSpare (owed p undo) s)
+        (record { key = omega (arith, (can.spare place was there).key, ap (λ (s : StoredRows). s.spare) same); each = room })
+        (λ other stored apart at. can.spare other stored at);
+    back = goes_back undo (world_of new) (sym (world_reindexed same)) can.back;
+  }
+
+  -- .. and leads to the same rows.
+  pub rows-reindexed : (undo : List Noted) (mark : ℕ) → is ≡ record was { indexes = is.indexes } → CanUndo old undo → CanUndo new undo
+      → rows_at_mark mark undo new ≡ rows_at_mark mark undo old
+  rows-reindexed undo mark same can can_now =
+      rows_at_mark-same old new undo undo mark can can_now (headings_turned old new place was is there turned width key)
+      (ap (back_all (drop mark undo)) (world_reindexed same))
 
 -- ---- the newest command
 

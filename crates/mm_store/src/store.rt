@@ -1,5 +1,5 @@
 //! The relations of all tables.
-ghost use Rattle.std.specs.Prelude.{◌≡◌, ◌≢◌, ℕ, ◌+◌, ◌<◌, ◌≤◌, ◌++◌, [], ◌∷◌, ◌↔◌, length, All, Contains, IfOk, IsTrue, OnOk, OnErr};
+ghost use Rattle.std.specs.Prelude.{◌≡◌, ◌≢◌, List, ℕ, ◌+◌, ◌<◌, ◌≤◌, ◌++◌, [], ◌∷◌, ◌↔◌, length, All, Contains, IfOk, IsTrue, OnOk, OnErr};
 ghost use Rattle.std.specs.List.{remove};
 ghost use Rattle.mm_schema.specs.Refused.{AnswersDue, first_refusal};
 ghost use Rattle.mm_relation.specs.Kept.{StoredRows};
@@ -9,7 +9,10 @@ ghost use Rattle.mm_relation.specs.Edits.{added_count};
 ghost use Rattle.mm_relation.specs.Refs.{row_at};
 ghost use Rattle.mm_partition.specs.Places.{IsLive, slot_at};
 ghost use Rattle.mm_store.specs.Links.{IsReference, RefersTo};
+ghost use Rattle.mm_store.specs.Marks.{rows_at_mark};
 ghost use Rattle.mm_store.specs.Tables.{IsAt, Turns, AreFit, AreLawful, HasRows, rows_with, IsFrom, links_without, edit_conditions, has_orphans, makes_orphans};
+ghost use Rattle.mm_store.specs.Undoing.{CanUndo};
+ghost use Rattle.mm_store.specs.Worlds.{Noted};
 
 mod apply;
 mod revert;
@@ -19,6 +22,7 @@ use crate::link::Link;
 use crate::links::{
     drop_links, follow, has_other_target, has_reference, left_orphans, new_links, new_orphans,
 };
+use crate::undo::Undo;
 use mm_relation::{Edit, Relation};
 use mm_schema::{IndexKind, Reference};
 use mm_value::{Refusal, RowRef};
@@ -188,35 +192,43 @@ impl Store {
         left_orphans(self.links.as_slice(), self.tables.as_slice(), table, edits)
     }
 
-    /// Adds an index on a column of a table, over the rows that are there, behind the table's others. `AllocError` where
-    /// memory is refused, and then all is as before.
+    /// Adds an index on a column of a table, over the rows that are there, behind the table's others. It has room for the entries
+    /// that come into it when the commands of a log are taken back. `AllocError` where memory is refused, and then all is as before.
     pub fn add_index(
         &mut self,
         alloc: Global,
         table: usize,
         column: usize,
         kind: IndexKind,
+        undo: &Undo,
     ) -> Result<(), AllocError>
         requires there { table < length self.old.tables }
         requires column { (stored : StoredRows) → IsAt self.old table stored → column < stored.width }
+        requires fits { CanUndo self.old undo.now }
         ensures ok { OnOk result ((stored : StoredRows) → IsAt self.old table stored
             → (new : StoredRows) × Turns self.old table new self.new × (new ≡ record stored { indexes = new.indexes })
             × AddsIndex column kind stored.indexes new.indexes) }
         ensures links { self.new.links ≡ self.old.links }
         ensures err { OnErr result (self.new.tables ≡ self.old.tables) }
+        ensures fits { CanUndo self.new undo.now }
+        ensures rows_before { (mark : ℕ) → rows_at_mark mark undo.now self.new ≡ rows_at_mark mark undo.now self.old }
     {
-        self.tables[table].add_index(alloc, column, kind)?;
+        let owed = undo.owed_to(table);
+        self.tables[table].add_index(alloc, column, kind, owed)?;
         self.tables[table].is_kept();
         Ok(())
     }
 
-    /// Drops the index at a place of a table's, counted from 0. Those behind it move up.
+    /// Drops the index at a place of a table's, counted from 0. Those behind it move up. Each log that can be taken back still can.
     pub fn drop_index(&mut self, table: usize, index: usize)
         requires there { table < length self.old.tables }
         requires index { (stored : StoredRows) → IsAt self.old table stored → index < length stored.indexes }
         ensures tables { (stored : StoredRows) → IsAt self.old table stored
             → Turns self.old table (record stored { indexes = remove stored.indexes index }) self.new }
         ensures links { self.new.links ≡ self.old.links }
+        ensures fits { (undo : List Noted) → CanUndo self.old undo → CanUndo self.new undo }
+        ensures rows_before { (undo : List Noted) (mark : ℕ) → CanUndo self.old undo
+            → rows_at_mark mark undo self.new ≡ rows_at_mark mark undo self.old }
     {
         self.tables[table].drop_index(index);
         self.tables[table].is_kept();

@@ -2,6 +2,7 @@
 ghost use Rattle.std.specs.Prelude.{◌≡◌, ◌+◌, ◌<◌, ◌≤◌, ◌^◌, ◌++◌, ℕ, [], ◌∷◌, length, slice_index, vec_len, vec_capacity, MatchOption, IfOk, OnOk};
 ghost use Rattle.mm_relation.specs.Edits.{edit_name, named};
 ghost use Rattle.mm_relation.specs.declared.names.Side.TheVariants as side;
+ghost use Rattle.mm_store.specs.Undoing.{owed};
 
 use mm_relation::{Edit, Log};
 use mm_value::RowRef;
@@ -62,6 +63,13 @@ impl Undo {
         ensures { result ≡ length self.now }
     {
         self.commands.len()
+    }
+
+    /// How many entries all commands put into each index of a table when they are taken back.
+    pub(crate) fn owed_to(&self, table: usize) -> usize
+        ensures { result ≡ owed table self.now }
+    {
+        self.owed.get(table).copied().unwrap_or(0)
     }
 
     /// Takes the newest command out.

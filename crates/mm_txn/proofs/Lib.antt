@@ -1,6 +1,7 @@
 mod ChangeSteps
 mod DatabaseSteps
 mod Explaining
+mod GoingBack
 mod IndexSteps
 mod IndexesBeside
 mod KeptReferences
@@ -10,6 +11,7 @@ mod OpenSteps
 mod ReferenceRows
 mod RowsBeside
 mod SavedRows
+mod Savepoints
 mod Selecting
 mod Resting
 mod Naming

@@ -1,5 +1,5 @@
 -- The lists of standing queries through changes of rows, and through what keeps or takes these back.
-use Rattle.std.proofs.Common.{◌≡◌, ℕ, pos, ◌+ℤ◌, List, [], ◌++◌, Some, None, Err, inl, inr, map, slice_get, slice_index_or, sym, ap, subst, ◌∙◌, ⊎_elim, add-zero, arith}
+use Rattle.std.proofs.Common.{◌≡◌, ℕ, ◌≤◌, pos, ◌+ℤ◌, List, [], ◌++◌, Some, None, Err, inl, inr, drop, length, map, slice_get, slice_index_or, sym, ap, subst, ◌∙◌, ⊎_elim, add-zero, arith}
 use Rattle.mm_delta.specs.Counts.{Counts, Entries, count_in}
 use Rattle.mm_schema.specs.Instance.{Instance}
 use Rattle.mm_schema.specs.Refused.{AnswersDue, Condition, first_refusal}
@@ -26,11 +26,11 @@ pub same_counts : (old new : Lists) → entries_of new.bags ≡ entries_of old.b
     → count_now new list row ≡ count_now old list row
 same_counts old new same list row = ap (λ es. pos (count_in row (slice_index_or es list []))) same
 
--- At the first mark too, where they have the same log.
-pub same_first : (old new : Lists) → entries_of new.bags ≡ entries_of old.bags → new.log ≡ old.log → (list : ℕ) (row : List Value)
-    → count_at 0 list row new ≡ count_at 0 list row old
-same_first old new same log list row =
-    λ i. pos (count_in row (slice_index_or (same i) list [])) +ℤ sum_over (row_change list row) (log i)
+-- At each mark too, where they have the same log.
+pub same_at : (mark : ℕ) (old new : Lists) → entries_of new.bags ≡ entries_of old.bags → new.log ≡ old.log → (list : ℕ) (row : List Value)
+    → count_at mark list row new ≡ count_at mark list row old
+same_at mark old new same log list row =
+    λ i. pos (count_in row (slice_index_or (same i) list [])) +ℤ sum_over (row_change list row) (drop mark (log i))
 
 -- ---- lists that keep their counts
 
@@ -48,18 +48,19 @@ module _ (rows : Instance) (old new : Lists) (queries : new.queries ≡ old.quer
     ready = ready;
   }
 
-  -- Lists whose counts at the first mark are what they were have the same saved rows.
-  pub saved_still : AreSaved rows old → ((list : ℕ) (row : List Value) → count_at 0 list row new ≡ count_at 0 list row old) → AreSaved rows new
-  saved_still saved counts = record {
+  -- Lists whose counts at a mark are what they were have the same saved rows.
+  saved_still : (mark : ℕ) → AreSaved mark rows old → ((list : ℕ) (row : List Value) → count_at mark list row new ≡ count_at mark list row old)
+      → AreSaved mark rows new
+  saved_still mark saved counts = record {
     fits = λ list standing there row. counts list row
         ∙ saved.fits list standing (subst (λ qs. slice_get qs list ≡ Some standing) queries there) row;
     few = few_still saved.few;
   }
 
-  -- Lists that are as they were at the first mark have the saved rows.
-  pub listed_back : AreSaved rows old → ((list : ℕ) (row : List Value) → count_at 0 list row new ≡ count_at 0 list row old)
-      → new.log ≡ [] → new.prepared ≡ [] → AreListed rows new
-  listed_back saved counts log ready = record {
+  -- Lists that are as they were at a mark, with nothing to take back behind it, have the saved rows.
+  pub listed_back : (mark : ℕ) → AreSaved mark rows old → ((list : ℕ) (row : List Value) → count_at mark list row new ≡ count_at mark list row old)
+      → drop mark new.log ≡ [] → new.prepared ≡ [] → AreListed rows new
+  listed_back mark saved counts log ready = record {
     fits = λ list standing there row.
         sym (count_plain new.bags list row)
         ∙ ap (λ cs. count_with new.bags cs list row) (sym log)
@@ -70,14 +71,14 @@ module _ (rows : Instance) (old new : Lists) (queries : new.queries ≡ old.quer
   }
 
 -- The same where the saved rows are written in another way.
-pub saved_through : (rows later : Instance) (old new : Lists) → new.queries ≡ old.queries → later ≡ rows → AreSaved rows old
-    → ((list : ℕ) (row : List Value) → count_at 0 list row new ≡ count_at 0 list row old) → AreSaved later new
-saved_through rows later old new queries same saved counts =
-    subst (λ (r : Instance). AreSaved r new) (sym same) (saved_still rows old new queries saved counts)
+pub saved_through : (mark : ℕ) (rows later : Instance) (old new : Lists) → new.queries ≡ old.queries → later ≡ rows → AreSaved mark rows old
+    → ((list : ℕ) (row : List Value) → count_at mark list row new ≡ count_at mark list row old) → AreSaved mark later new
+saved_through mark rows later old new queries same saved counts =
+    subst (λ (r : Instance). AreSaved mark r new) (sym same) (saved_still rows old new queries mark saved counts)
 
--- With an empty log the rows now are those to go back to.
-pub saved_now : (rows : Instance) (lists : Lists) → lists.log ≡ [] → AreListed rows lists → AreSaved rows lists
-saved_now rows lists log listed = record {
+-- With nothing to take back the rows now are those to go back to.
+pub saved_now : (mark : ℕ) (rows : Instance) (lists : Lists) → drop mark lists.log ≡ [] → AreListed rows lists → AreSaved mark rows lists
+saved_now mark rows lists log listed = record {
   fits = λ list standing there row.
       ap (λ cs. count_with lists.bags cs list row) log ∙ count_plain lists.bags list row ∙ listed.fits list standing there row;
   few = listed.few;
@@ -102,9 +103,15 @@ module _ (old mid new : Lists) (entries : entries_of mid.bags ≡ entries_of old
     ready = ready;
   }
 
-  -- At the first mark each list is what it was.
-  pub undone_made : mid.log ≡ old.log → (list : ℕ) (row : List Value) → count_at 0 list row new ≡ count_at 0 list row old
-  undone_made log list row = made.undone 0 (omega arith) list row ∙ same_first old mid entries log list row
+  -- At each mark each list is what it was, ..
+  pub undone_made : mid.log ≡ old.log → (mark : ℕ) → mark ≤ length old.log → (list : ℕ) (row : List Value)
+      → count_at mark list row new ≡ count_at mark list row old
+  undone_made log mark within list row =
+      made.undone mark (omega (arith, within, ap length log)) list row ∙ same_at mark old mid entries log list row
+
+  -- .. and the log has grown.
+  pub longer_made : mid.log ≡ old.log → length old.log ≤ length new.log
+  longer_made log = omega (arith, made.older, ap length log)
 
 -- ---- what is refused
 

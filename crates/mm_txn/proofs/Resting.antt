@@ -160,7 +160,6 @@ module _ (schema : Schema) (store : Tables) (lists : Lists) (rest : AreAtRest sc
           placed = subst (λ (s : State). ArePlaced s.schema lists.queries) (sym becomes)
               (placed_kept schema (with_table definition schema) (keeps_behind definition schema) lists.queries after.0 after.1 rest.placed.placed);
           listed = subst (λ (s : State). AreListed s.rows lists) (sym becomes) (listed_behind (instance_of store.tables) lists rest.listed);
-          log = rest.log;
         }
 
     -- An index moves no table and changes no rows, ..
@@ -172,7 +171,6 @@ module _ (schema : Schema) (store : Tables) (lists : Lists) (rest : AreAtRest sc
       placed = subst (λ s. ArePlaced s lists.queries) (sym tables)
           (placed_kept schema (record schema { tables = map change schema.tables }) (keeps_changed change same schema) lists.queries after.0 after.1 rest.placed.placed);
       listed = subst (λ r. AreListed r lists) (sym rows) rest.listed;
-      log = rest.log;
     }
 
     pub rest_by_index : (index : IndexDef) → first_refusal (definition_conditions (define.Index index) state) ≡ None
@@ -195,7 +193,6 @@ module _ (schema : Schema) (store : Tables) (lists : Lists) (rest : AreAtRest sc
       kept = kept;
       placed = subst (λ (s : State). ArePlaced s.schema lists.queries) (sym becomes) rest.placed;
       listed = subst (λ (s : State). AreListed s.rows lists) (sym becomes) rest.listed;
-      log = rest.log;
     }
 
     -- So they stand still whatever is answered.
@@ -394,7 +391,6 @@ module _ (schema : Schema) (store store' : Tables) (lists : Lists) (rest : AreAt
         listed = subst (λ r. AreListed r (record lists { queries = map (moved place) lists.queries })) (sym rows)
             (listed_turned (instance_of store.tables) (without_rows name schema.tables (instance_of store.tables)) (moved place) lists
             (each_same name schema place found distinct (instance_of store.tables) lists.queries unread within old) rest.listed);
-        log = rest.log;
       }
 
   pub state_by_no_table : instance_of store'.tables ≡ without_rows name schema.tables (instance_of store.tables)

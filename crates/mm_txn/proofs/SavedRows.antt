@@ -1,26 +1,20 @@
 -- What changes rows does not look at the rows that are saved, and keeps them.
-use Rattle.std.proofs.Common.{◌≡◌, Bool, true, false, cond, Result, List, Option, Some, None, refl, ap, subst, ◌∙◌}
+use Rattle.std.proofs.Common.{◌≡◌, Result, List, Option, None, refl, ap, subst, ◌∙◌}
 use Rattle.mm_query.specs.Edits.{own_pairs, value_conditions}
 use Rattle.mm_query.specs.Machine.{after_change, change_conditions}
-use Rattle.mm_query.specs.State.{State}
+use Rattle.mm_query.specs.State.{Saved, State}
 use Rattle.mm_query.specs.declared.bound_query.BoundQuery.{BoundQuery}
 use Rattle.mm_query.specs.declared.command.Mutation.{Mutation}
 use Rattle.mm_query.specs.declared.command.Mutation.TheVariants.{Insert, Update, Delete}
 use Rattle.mm_relation.specs.Kept.{StoredRows}
-use Rattle.mm_schema.specs.Instance.{Instance}
 use Rattle.mm_schema.specs.Refused.{AnswersDue, Condition, first_refusal}
 use Rattle.mm_schema.specs.Schema.{Schema}
 use Rattle.mm_value.specs.declared.refusal.Refusal.{Refusal}
 use Rattle.mm_txn.specs.Kept.{state_of, watched_state}
 
 -- The state with these rows saved.
-abbrev pub state_with : Schema → List StoredRows → List BoundQuery → Option Instance → State
+abbrev pub state_with : Schema → List StoredRows → List BoundQuery → Option Saved → State
 state_with schema rs queries saved = record (watched_state schema rs queries) { saved = saved }
-
--- Rows that are saved are the same where what is kept of them is.
-pub same_saved : (is_open : Bool) (a b : Instance) → cond is_open (Some a) None ≡ cond is_open (Some b) None → is_open ≡ true → a ≡ b
-same_saved true a b same e = cc
-same_saved false a b same e = cc
 
 module _ (schema : Schema) (rs : List StoredRows) (queries : List BoundQuery) where
   -- What a change asks for does not depend on the standing queries.
@@ -34,7 +28,7 @@ module _ (schema : Schema) (rs : List StoredRows) (queries : List BoundQuery) wh
   values_watched (Update table assignments tests) = refl
   values_watched (Delete table tests) = refl
 
-module _ (schema : Schema) (rs : List StoredRows) (queries : List BoundQuery) (saved : Option Instance) where
+module _ (schema : Schema) (rs : List StoredRows) (queries : List BoundQuery) (saved : Option Saved) where
   pub pairs_beside : (mutation : Mutation) → own_pairs mutation (state_of schema rs) ≡ own_pairs mutation (state_with schema rs queries saved)
   pairs_beside (Insert table tuples) = refl
   pairs_beside (Update table assignments tests) = refl
@@ -61,7 +55,7 @@ module _ (schema : Schema) (rs : List StoredRows) (queries : List BoundQuery) (s
         (subst (λ (cs : List Condition). AnswersDue {T = T} (first_refusal cs) result) (conditions_beside mutation) due)
 
     -- .. and so is what it makes of the rows.
-    pub done_beside : (new : List StoredRows) (left : List BoundQuery) (later : Option Instance) → left ≡ queries
+    pub done_beside : (new : List StoredRows) (left : List BoundQuery) (later : Option Saved) → left ≡ queries
         → watched_state schema new queries ≡ after_change mutation (watched_state schema rs queries)
         → later ≡ saved → state_with schema new left later ≡ after_change mutation state
     done_beside new left later kept done same =

@@ -22,7 +22,7 @@ use Rattle.mm_value.specs.declared.values.Value.{Value}
 use Rattle.mm_query.specs.Queries.{bag_of}
 use Rattle.mm_query.specs.Resolving.{answer_in}
 use Rattle.mm_query.specs.Standing.{AreBeside, query_named, shown_rows}
-use Rattle.mm_query.specs.State.{State}
+use Rattle.mm_query.specs.State.{Saved, State}
 use Rattle.mm_query.specs.declared.bound_query.BoundQuery.{BoundQuery}
 use Rattle.mm_standing.specs.Bags.{entries_at}
 use Rattle.mm_standing.specs.Queries.{IsBagOf, StandingQuery, bag_over, shown_of}
@@ -124,7 +124,7 @@ module _ (schema : Schema) (lists : Lists) (placed : ArePlaced schema lists.quer
         → (bags : List (List (List Value))) × IsBagOf (entries_at lists.bags place) (bag_of s.query bags)
     list_is_some_bag place s at = (map (rows_by_place rows) s.tables, list_is_bag place s at)
 
-    module _ (saved : Option Instance) where
+    module _ (saved : Option Saved) where
       abbrev told : State
       told = record { schema = schema; rows = rows; queries = queries_of lists.queries; saved = saved }
 
@@ -166,7 +166,7 @@ module _ (schema : Schema) (lists : Lists) (placed : ArePlaced schema lists.quer
       counted_by_place distinct place d at within count is =
           shown_at d.name place (own_first schema.standing place d at distinct) within length count is
 
-module _ (schema : Schema) (lists : Lists) (placed : ArePlaced schema lists.queries) (rows : Instance) (listed : AreListed rows lists) (saved : Option Instance) where
+module _ (schema : Schema) (lists : Lists) (placed : ArePlaced schema lists.queries) (rows : Instance) (listed : AreListed rows lists) (saved : Option Saved) where
   pub shown_if_ok : (name : List ℕ) (place : ℕ) → standing_place name schema ≡ Some place → {E : Type 0} (result : Result (List (List Value)) E)
       → IfOk result (λ shown. (s : StandingQuery) → slice_get lists.queries place ≡ Some s → (bag : List (List Value))
       → IsBagOf (entries_at lists.bags place) bag → shown ≡ shown_of s.query bag)

@@ -1,24 +1,30 @@
 -- Types of rows and of standing queries through changes of the catalog and of rows.
-use Rattle.std.proofs.Common.{◌≡◌, Bool, false, Result, Ok, Err, OnOk, OnErr, List, ◌++◌, Option, Some, None, refl, sym, subst, ◌∙◌}
-use Rattle.std.proofs.lemmas.Bool.{true≢false}
+use Rattle.std.proofs.Common.{◌≡◌, ◌⊎◌, ℕ, Bool, true, false, cond, not, ◌&&◌, Result, Ok, Err, OnOk, OnErr, List, ◌∷◌, ◌++◌, Option, Some, None, is_some, length, inl, inr, refl, sym, ap, subst, ◌∙◌, ⊎_elim, arith}
+use Rattle.std.proofs.lemmas.Bool.{cases_Bool}
 use Rattle.mm_schema.specs.Refused.{AnswersDue, Condition, first_refusal}
 use Rattle.mm_schema.specs.Schema.{HasDistinctNames, Schema}
 use Rattle.mm_schema.proofs.Dues.{due_in_front}
-use Rattle.mm_standing.specs.State.{Lists}
+use Rattle.mm_standing.specs.State.{Lists, count_at}
+use Rattle.mm_store.specs.Marks.{rows_at_mark}
 use Rattle.mm_store.specs.Tables.{Tables}
+use Rattle.mm_store.specs.Undoing.{CanUndo}
 use Rattle.mm_store.specs.Worlds.{Noted}
-use Rattle.mm_store.proofs.UndoLaws.{CanUndo-nil}
 use Rattle.mm_typing.specs.Typing.{AreTyped, IsTyped}
 use Rattle.mm_typing.proofs.Changes.{typed_by_change}
 use Rattle.mm_typing.proofs.Definitions.{typed_by_definition}
 use Rattle.mm_value.specs.declared.refusal.Refusal.{Refusal}
+use Rattle.mm_value.specs.declared.refusal.Refusal.TheVariants.{NotInTransaction}
 use Rattle.mm_query.specs.Binding.{binding_conditions}
-use Rattle.mm_query.specs.Machine.{after_change, after_definition, definition_conditions}
-use Rattle.mm_query.specs.State.{State}
+use Rattle.mm_query.specs.Machine.{after_change, after_definition, conditions, definition_conditions, is_of_index}
+use Rattle.mm_query.specs.State.{Saved, State, has_transaction}
+use Rattle.mm_query.specs.declared.command.Command.TheVariants.{Define}
 use Rattle.mm_query.specs.declared.command.Definition.{Definition}
+use Rattle.mm_query.specs.declared.command.Definition.TheVariants as define
 use Rattle.mm_query.specs.declared.command.Mutation.{Mutation}
 use Rattle.mm_txn.specs.Rest.{AreAtRest, state_at_rest}
-use Rattle.mm_txn.specs.Saved.{IsConsistent, kept_state}
+use Rattle.mm_txn.specs.Saved.{IsConsistent, IsSettled, kept_state, saved_of, saved_rows}
+use Rattle.mm_txn.specs.declared.savepoints.Mark.{Mark}
+use Rattle.mm_txn.proofs.GoingBack.{back_through, saved_same}
 use Rattle.mm_txn.proofs.Resting.{bound_all}
 
 -- What is not refused is not refused by the conditions in front.
@@ -36,35 +42,147 @@ pub rows_typed_after : (mutation : Mutation) (state : State) (values : List Cond
 rows_typed_after mutation state values distinct none typed =
     typed_by_change state typed mutation distinct (none_in_front (binding_conditions mutation state.schema) values none)
 
-module _ (schema : Schema) (store : Tables) (undo : List Noted) (lists : Lists) (is_open : Bool) (was : IsConsistent schema store undo lists is_open)
-    (closed : is_open ≡ false) where
-  abbrev pub IsTypedOf : Bool → Type 0
-  IsTypedOf b = IsTyped (kept_state schema store undo lists b)
+-- ---- changes of the catalog
 
-  -- After a change of the catalog rows and standing queries have their types.
-  typed_after : (definition : Definition) (schema' : Schema) (store' : Tables) (lists' : Lists) {T : Type 0} (result : Result T Refusal)
-      → AnswersDue (first_refusal (definition_conditions definition (state_at_rest schema store lists))) result
-      → OnOk result (state_at_rest schema' store' lists' ≡ after_definition definition (state_at_rest schema store lists))
-      → OnErr result (state_at_rest schema' store' lists' ≡ state_at_rest schema store lists) → IsTyped (state_at_rest schema' store' lists')
-  typed_after definition schema' store' lists' (Ok value) due ok err =
-      subst IsTyped (sym ok)
-      (typed_by_definition definition (state_at_rest schema store lists) refl due was.placed.beside (bound_all schema lists.queries was.placed.placed)
-      (subst IsTypedOf closed was.typed))
-  typed_after definition schema' store' lists' (Err refusal) due ok err = subst IsTyped (sym err) (subst IsTypedOf closed was.typed)
+-- What refuses one and what it makes does not depend on the rows that are saved.
+conditions_beside : (definition : Definition) (state : State) (saved : Option Saved)
+    → definition_conditions definition (record state { saved = saved }) ≡ definition_conditions definition state
+conditions_beside (define.Table definition) state saved = refl
+conditions_beside (define.DropTable name) state saved = refl
+conditions_beside (define.Index index) state saved = refl
+conditions_beside (define.DropIndex name) state saved = refl
+conditions_beside (define.Watch watched) state saved = refl
+conditions_beside (define.Unwatch name) state saved = refl
 
-  -- After a change of the catalog all is consistent, and outside a transaction still.
-  pub defined : (definition : Definition) (schema' : Schema) (store' : Tables) (lists' : Lists) {T : Type 0} (result : Result T Refusal)
-      → AnswersDue (first_refusal (definition_conditions definition (state_at_rest schema store lists))) result
-      → OnOk result (state_at_rest schema' store' lists' ≡ after_definition definition (state_at_rest schema store lists))
-      → OnErr result (state_at_rest schema' store' lists' ≡ state_at_rest schema store lists) → AreAtRest schema' store' lists'
-      → IsConsistent schema' store' undo lists' is_open
-  defined definition schema' store' lists' result due ok err rest = record {
-    kept = rest.kept;
-    placed = rest.placed;
-    typed = subst (λ (b : Bool). IsTyped (kept_state schema' store' undo lists' b)) (sym closed)
-        (typed_after definition schema' store' lists' result due ok err);
-    listed = rest.listed;
-    fits = CanUndo-nil store' undo (was.settled closed).undo_is;
-    saved = λ is. absurd (true≢false (sym is ∙ closed));
-    settled = λ _. record { undo_is = (was.settled closed).undo_is; log = rest.log };
-  }
+after_beside : (definition : Definition) (state : State) (saved : Option Saved)
+    → after_definition definition (record state { saved = saved }) ≡ record (after_definition definition state) { saved = saved }
+after_beside (define.Table definition) state saved = refl
+after_beside (define.DropTable name) state saved = refl
+after_beside (define.Index index) state saved = refl
+after_beside (define.DropIndex name) state saved = refl
+after_beside (define.Watch watched) state saved = refl
+after_beside (define.Unwatch name) state saved = refl
+
+-- A change that is not of an index is made where no transaction is open.
+index_or_closed : (is_open of_index : Bool) → (is_open && not of_index) ≡ false → (is_open ≡ false) ⊎ (of_index ≡ true)
+index_or_closed true true may = inr refl
+index_or_closed true false may = cc
+index_or_closed false of_index may = inl refl
+
+pub index_where_open : (is_open of_index : Bool) → (is_open && not of_index) ≡ false → is_open ≡ true → of_index ≡ true
+index_where_open true true may is = refl
+index_where_open true false may is = cc
+index_where_open false of_index may is = cc
+
+pub closed_where_none : (is_open of_index : Bool) → (is_open && not of_index) ≡ false → of_index ≡ false → is_open ≡ false
+closed_where_none true true may none = cc
+closed_where_none true false may none = cc
+closed_where_none false of_index may none = refl
+
+-- A transaction is open where rows are saved.
+pub saved_where_open : (is_open : Bool) (saved : Saved) → is_some (cond is_open (Some saved) None) ≡ is_open
+saved_where_open true saved = refl
+saved_where_open false saved = refl
+
+on_ok : {T E A B : Type 0} (r : Result T E) → (A → B) → OnOk r A → OnOk r B
+on_ok (Ok value) f held = f held
+on_ok (Err refusal) f held = tt
+
+on_err : {T E A B : Type 0} (r : Result T E) → (A → B) → OnErr r A → OnErr r B
+on_err (Ok value) f held = tt
+on_err (Err refusal) f held = f held
+
+module _ (schema : Schema) (store : Tables) (undo : List Noted) (lists : Lists) (is_open : Bool) (marks : List Mark)
+    (was : IsConsistent schema store undo lists is_open marks) (definition : Definition) (may : (is_open && not (is_of_index definition)) ≡ false) where
+  abbrev state : State
+  state = kept_state schema store undo lists is_open marks
+
+  abbrev rest_state : State
+  rest_state = state_at_rest schema store lists
+
+  abbrev saved : Option Saved
+  saved = saved_rows is_open undo store marks
+
+  -- Nothing can be taken back where a change concerns more than an index.
+  pub settled_before : is_of_index definition ≡ false → IsSettled undo lists
+  settled_before none = (was.settled (closed_where_none is_open (is_of_index definition) may none)).0
+
+  -- What is due of the change by the catalog and the rows is due of it.
+  pub definition_due : {T : Type 0} (result : Result T Refusal) → AnswersDue (first_refusal (definition_conditions definition rest_state)) result
+      → AnswersDue (first_refusal (conditions (Define definition) state)) result
+  definition_due {T} result due =
+      let front : (has_transaction state && not (is_of_index definition)) ≡ false =
+      ap (λ (b : Bool). b && not (is_of_index definition)) (saved_where_open is_open (saved_of undo store marks)) ∙ may in
+      let same : first_refusal (conditions (Define definition) state) ≡ first_refusal (definition_conditions definition rest_state) =
+      ap (λ (b : Bool). first_refusal (record { holds = b; refusal = NotInTransaction } ∷ definition_conditions definition state)) front
+      ∙ ap first_refusal (conditions_beside definition rest_state saved) in
+      subst (λ (d : Option Refusal). AnswersDue {T = T} d result) (sym same) due
+
+  module _ (schema' : Schema) (store' : Tables) (lists' : Lists)
+      (rows : is_of_index definition ≡ true → (mark : ℕ) → rows_at_mark mark undo store' ≡ rows_at_mark mark undo store) where
+    -- What is saved stays.
+    pub saved_defined : saved_rows is_open undo store' marks ≡ saved
+    saved_defined =
+        ⊎_elim
+        (λ (is : is_open ≡ true).
+        ap (λ (s : Saved). cond is_open (Some s) None)
+        (saved_same store store' undo undo (length undo) (λ mark within. rows (index_where_open is_open (is_of_index definition) may is) mark)
+        (length lists.log) marks (was.back is).ascend))
+        (λ (closed : is_open ≡ false).
+        ap (λ (b : Bool). cond b (Some (saved_of undo store' marks)) None) closed
+        ∙ sym (ap (λ (b : Bool). cond b (Some (saved_of undo store marks)) None) closed))
+        (cases_Bool is_open)
+
+    made : state_at_rest schema' store' lists' ≡ after_definition definition rest_state
+        → kept_state schema' store' undo lists' is_open marks ≡ after_definition definition state
+    made done = (λ i. record (done i) { saved = saved_defined i }) ∙ sym (after_beside definition rest_state saved)
+
+    left : state_at_rest schema' store' lists' ≡ rest_state → kept_state schema' store' undo lists' is_open marks ≡ state
+    left same = λ i. record (same i) { saved = saved_defined i }
+
+    module _ {T : Type 0} (result : Result T Refusal) where
+      -- The state is that after the change, or as it was.
+      pub definition_done : OnOk result (state_at_rest schema' store' lists' ≡ after_definition definition rest_state)
+          → OnOk result (kept_state schema' store' undo lists' is_open marks ≡ after_definition definition state)
+      definition_done ok = on_ok result made ok
+
+      pub definition_refused : OnErr result (state_at_rest schema' store' lists' ≡ rest_state)
+          → OnErr result (kept_state schema' store' undo lists' is_open marks ≡ state)
+      definition_refused err = on_err result left err
+
+    -- Rows and standing queries have their types.
+    typed_after : {T : Type 0} (result : Result T Refusal) → AnswersDue (first_refusal (definition_conditions definition rest_state)) result
+        → OnOk result (state_at_rest schema' store' lists' ≡ after_definition definition rest_state)
+        → OnErr result (state_at_rest schema' store' lists' ≡ rest_state) → IsTyped (kept_state schema' store' undo lists' is_open marks)
+    typed_after (Ok value) due ok err =
+        subst IsTyped (sym (made ok))
+        (typed_by_definition definition state
+        (⊎_elim (λ closed. inl (saved_where_open is_open (saved_of undo store marks) ∙ closed)) (λ index. inr index)
+        (index_or_closed is_open (is_of_index definition) may))
+        (ap first_refusal (conditions_beside definition rest_state saved) ∙ due) was.placed.beside (bound_all schema lists.queries was.placed.placed) was.typed)
+    typed_after (Err refusal) due ok err = subst IsTyped (sym (left err)) was.typed
+
+    -- After a change of the catalog all is consistent.
+    pub defined : {T : Type 0} (result : Result T Refusal) → AnswersDue (first_refusal (definition_conditions definition rest_state)) result
+        → OnOk result (state_at_rest schema' store' lists' ≡ after_definition definition rest_state)
+        → OnErr result (state_at_rest schema' store' lists' ≡ rest_state) → AreAtRest schema' store' lists' → CanUndo store' undo
+        → (is_of_index definition ≡ false → IsSettled undo lists') → (is_of_index definition ≡ true → lists' ≡ lists)
+        → IsConsistent schema' store' undo lists' is_open marks
+    defined result due ok err rest fits settled same = record {
+      kept = rest.kept;
+      placed = rest.placed;
+      typed = typed_after result due ok err;
+      listed = rest.listed;
+      fits = fits;
+      back = λ is.
+          let index = index_where_open is_open (is_of_index definition) may is in
+          let back = was.back is in
+          back_through store store' undo undo (length undo) (λ mark within. rows index mark) lists lists' (ap (λ (l : Lists). l.queries) (same index))
+          (length lists.log) (λ mark within list row. ap (λ (l : Lists). count_at mark list row l) (same index)) marks back.saved back.each back.ascend
+          (omega arith) (omega (arith, ap (λ (l : Lists). length l.log) (same index)));
+      settled = λ closed.
+          let before = was.settled closed in (
+            ⊎_elim (λ index. subst (IsSettled undo) (sym (same index)) before.0) (λ other. settled other) (cases_Bool (is_of_index definition)),
+            before.1,
+          );
+    }

@@ -228,7 +228,6 @@ module _ (schema : Schema) (store : Tables) (lists : Lists) (rest : AreAtRest sc
               few = All-push (λ s. length (bag_over (rows_by_place state.rows) s) ≤ 1048576) lists.queries new rest.listed.few (few_rows due);
               ready = rest.listed.ready;
             };
-            log = rest.log;
           }
 
       module _ (schema' : Schema) (schema_is : schema' ≡ later_schema) (lists' : Lists) (lists_is : lists' ≡ later_lists) where
@@ -423,12 +422,11 @@ state_by_unwatch name schema schema' store lists lists' schema_is queries_are =
 -- All is at rest without it, or as it was.
 pub unwatched_rest : {T : Type 0} (schema schema' : Schema) (store : Tables) (lists lists' : Lists) (result : Result T Refusal) (name : List ℕ)
     → AreAtRest schema store lists → OnOk result (schema' ≡ without_standing name schema) → OnErr result (schema' ≡ schema)
-    → ArePlaced schema' lists'.queries → AreListed (instance_of store.tables) lists' → lists'.log ≡ [] → AreAtRest schema' store lists'
-unwatched_rest schema schema' store lists lists' result name rest ok err placed listed log = record {
+    → ArePlaced schema' lists'.queries → AreListed (instance_of store.tables) lists' → AreAtRest schema' store lists'
+unwatched_rest schema schema' store lists lists' result name rest ok err placed listed = record {
   kept = by result ok err;
   placed = placed;
   listed = listed;
-  log = log;
 }
   where
     by : {T : Type 0} (r : Result T Refusal) → OnOk r (schema' ≡ without_standing name schema) → OnErr r (schema' ≡ schema) → AreKept schema' store

@@ -1,5 +1,6 @@
 pub mod Along
 pub mod Kept
+pub mod Marks
 pub mod Rest
 pub mod Saved
 pub mod TableEdits

@@ -1,5 +1,5 @@
--- The database outside a transaction, and what is told of standing queries there.
-use Rattle.std.specs.Prelude.{◌≡◌, ℕ, ◌||◌, Bool, true, false, if◌then◌else◌, List, [], ◌∷◌, ◌++◌, Option, Some, None, is_some, length, nat_le}
+-- The database between two commands, and what is told of standing queries there.
+use Rattle.std.specs.Prelude.{ℕ, ◌||◌, Bool, true, false, if◌then◌else◌, List, [], ◌∷◌, ◌++◌, Option, Some, None, is_some, length, nat_le}
 use Rattle.mm_schema.specs.Instance.{Instance}
 use Rattle.mm_schema.specs.Refused.{Condition}
 use Rattle.mm_schema.specs.Schema.{Schema}
@@ -20,12 +20,11 @@ use Rattle.mm_txn.specs.Kept.{AreKept, instance_of}
 use Rattle.mm_txn.specs.Watched.{AreListed, ArePlaced, queries_of}
 
 -- There is a relation for each table of the catalog and a list for each standing query, the lists fit the rows, and no change of
--- them is ready or can be taken back.
+-- them is ready.
 pub record AreAtRest (schema : Schema) (store : Tables) (lists : Lists) : Type 0 where
   pub kept : AreKept schema store
   pub placed : ArePlaced schema lists.queries
   pub listed : AreListed (instance_of store.tables) lists
-  pub log : lists.log ≡ []
 
 -- The state of a catalog and its lists over rows, where no transaction is open.
 abbrev pub told_state : Schema → Instance → Lists → State

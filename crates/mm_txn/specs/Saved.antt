@@ -1,5 +1,5 @@
 -- What is saved of an open transaction, and that it can be taken back.
-use Rattle.std.specs.Prelude.{◌≡◌, Bool, true, false, cond, List, [], Option, Some, None}
+use Rattle.std.specs.Prelude.{◌≡◌, ℕ, Bool, true, false, cond, All, List, [], Option, Some, None, length, map, reverse}
 use Rattle.mm_schema.specs.Instance.{Instance}
 use Rattle.mm_schema.specs.Schema.{Schema}
 use Rattle.mm_standing.specs.State.{AreFew, FitAt, Lists}
@@ -7,22 +7,32 @@ use Rattle.mm_store.specs.Marks.{rows_at_mark}
 use Rattle.mm_store.specs.Tables.{Tables}
 use Rattle.mm_store.specs.Undoing.{CanUndo}
 use Rattle.mm_store.specs.Worlds.{Noted}
-use Rattle.mm_query.specs.State.{State}
+use Rattle.mm_query.specs.State.{Saved, Savepoint, State}
 use Rattle.mm_typing.specs.Typing.{IsTyped}
 use Rattle.mm_txn.specs.Kept.{AreKept, instance_of}
+use Rattle.mm_txn.specs.Marks.{Ascend}
 use Rattle.mm_txn.specs.Watched.{AreListed, ArePlaced, queries_of, rows_by_place}
+use Rattle.mm_txn.specs.declared.savepoints.Mark.{Mark}
 
--- The rows that are saved while a transaction is open are those that stood before all commands of the log.
-abbrev pub saved_rows : Bool → List Noted → Tables → Option Instance
-saved_rows is_open undo store = cond is_open (Some (rows_at_mark 0 undo store)) None
+-- The rows at a mark are those that stood when the log had so many commands.
+abbrev pub savepoint_at : List Noted → Tables → Mark → Savepoint
+savepoint_at undo store mark = record { name = mark.name; rows = rows_at_mark mark.commands undo store }
+
+-- What a transaction can go back to: the rows that stood before all commands of the log, and those at each mark, the latest first.
+abbrev pub saved_of : List Noted → Tables → List Mark → Saved
+saved_of undo store marks = record { at_begin = rows_at_mark 0 undo store; savepoints = reverse (map (savepoint_at undo store) marks) }
+
+-- Rows are saved while a transaction is open.
+abbrev pub saved_rows : Bool → List Noted → Tables → List Mark → Option Saved
+saved_rows is_open undo store marks = cond is_open (Some (saved_of undo store marks)) None
 
 -- The state that is kept: the catalog, the rows beside its tables, the queries of the lists, and the rows that are saved.
-abbrev pub kept_state : Schema → Tables → List Noted → Lists → Bool → State
-kept_state schema store undo lists is_open = record {
+abbrev pub kept_state : Schema → Tables → List Noted → Lists → Bool → List Mark → State
+kept_state schema store undo lists is_open marks = record {
   schema = schema;
   rows = instance_of store.tables;
   queries = queries_of lists.queries;
-  saved = saved_rows is_open undo store;
+  saved = saved_rows is_open undo store marks;
 }
 
 -- Nothing can be taken back.
@@ -30,19 +40,29 @@ pub record IsSettled (undo : List Noted) (lists : Lists) : Type 0 where
   pub undo_is : undo ≡ []
   pub log : lists.log ≡ []
 
--- Once the logs of the lists are taken back, each list has just the rows of its query over the saved rows.
-pub record AreSaved (saved : Instance) (lists : Lists) : Type 0 where
-  pub fits : FitAt 0 (rows_by_place saved) lists
+-- Once the log of the lists is taken back to a length, each list has just the rows of its query over the saved rows.
+pub record AreSaved (length : ℕ) (saved : Instance) (lists : Lists) : Type 0 where
+  pub fits : FitAt length (rows_by_place saved) lists
   pub few : AreFew (rows_by_place saved) lists.queries
+
+-- The lists can go back to the rows at a mark.
+abbrev pub IsSaved : List Noted → Tables → Lists → Mark → Type 0
+IsSaved undo store lists mark = AreSaved mark.changes (rows_at_mark mark.commands undo store) lists
+
+-- The lists can go back to the beginning of the transaction, and to each mark; and the marks lie within the logs.
+pub record CanGoBack (store : Tables) (undo : List Noted) (lists : Lists) (marks : List Mark) : Type 0 where
+  pub saved : AreSaved 0 (rows_at_mark 0 undo store) lists
+  pub each : All (IsSaved undo store lists) marks
+  pub ascend : Ascend 0 0 marks (length undo) (length lists.log)
 
 -- There is a relation for each table of the catalog and a list for each standing query; rows have the types of their columns, and
 -- standing queries add numbers only to whole numbers; the lists fit the rows; all commands of the log can be taken back, and the
 -- lists with them; and outside a transaction there are none.
-pub record IsConsistent (schema : Schema) (store : Tables) (undo : List Noted) (lists : Lists) (is_open : Bool) : Type 0 where
+pub record IsConsistent (schema : Schema) (store : Tables) (undo : List Noted) (lists : Lists) (is_open : Bool) (marks : List Mark) : Type 0 where
   pub kept : AreKept schema store
   pub placed : ArePlaced schema lists.queries
-  pub typed : IsTyped (kept_state schema store undo lists is_open)
+  pub typed : IsTyped (kept_state schema store undo lists is_open marks)
   pub listed : AreListed (instance_of store.tables) lists
   pub fits : CanUndo store undo
-  pub saved : is_open ≡ true → AreSaved (rows_at_mark 0 undo store) lists
-  pub settled : is_open ≡ false → IsSettled undo lists
+  pub back : is_open ≡ true → CanGoBack store undo lists marks
+  pub settled : is_open ≡ false → IsSettled undo lists × (marks ≡ [])

@@ -1,5 +1,5 @@
 //! Changes of rows, and of the lists of standing queries with them.
-ghost use Rattle.std.specs.Prelude.{◌≡◌, ℕ, ◌<◌, ◌++◌, All, true, false, List, [], length, map, OnOk, OnErr};
+ghost use Rattle.std.specs.Prelude.{◌≡◌, ℕ, ◌<◌, ◌≤◌, ◌++◌, All, true, false, List, [], length, map, OnOk, OnErr};
 ghost use Rattle.mm_relation.specs.Index.{EachTurns};
 ghost use Rattle.mm_relation.specs.Kept.{StoredRows};
 ghost use Rattle.mm_relation.specs.RowLists.{rows_of};
@@ -12,7 +12,7 @@ ghost use Rattle.mm_store.specs.Tables.{AreFit, HasRows, IsAt, SameForm, Turns, 
 ghost use Rattle.mm_store.specs.Undoing.{CanUndo};
 ghost use Rattle.mm_value.specs.declared.values.Value.{Value};
 ghost use Rattle.mm_txn.specs.Kept.{instance_of};
-ghost use Rattle.mm_txn.specs.Saved.{IsSettled, saved_rows};
+ghost use Rattle.mm_txn.specs.Saved.{IsSettled};
 ghost use Rattle.mm_txn.specs.TableEdits.{rows_edited};
 ghost use Rattle.mm_txn.specs.Watched.{AreListed, IsTested, rows_by_place};
 
@@ -48,14 +48,17 @@ pub(crate) fn make_edits(
         → (new : StoredRows) × Turns store.old table new store.new × HasRows stored (rows_of stored) new) }
     ensures links { store.new.links ≡ store.old.links }
     ensures kept { OnErr result (undo.new ≡ undo.old) }
-    ensures saved { rows_at_mark 0 undo.new store.new ≡ rows_at_mark 0 undo.old store.old }
+    ensures longer { length undo.old ≤ length undo.new }
     ensures fits { CanUndo store.new undo.new }
     ensures listed { AreListed (instance_of store.new.tables) standing.new }
     ensures queries { standing.new.queries ≡ standing.old.queries }
     ensures log { OnErr result (standing.new.log ≡ standing.old.log) }
+    ensures log_longer { length standing.old.log ≤ length standing.new.log }
 
-    // Going back to the first mark gives each list as it gave it.
-    ensures undone { (list : ℕ) (row : List Value) → count_at 0 list row standing.new ≡ count_at 0 list row standing.old }
+    // Going back to an older mark gives the rows and each list as it gave them.
+    ensures saved { (mark : ℕ) → mark ≤ length undo.old → rows_at_mark mark undo.new store.new ≡ rows_at_mark mark undo.old store.old }
+    ensures undone { (mark : ℕ) → mark ≤ length standing.old.log
+        → (list : ℕ) (row : List Value) → count_at mark list row standing.new ≡ count_at mark list row standing.old }
 {
     store.check(alloc, table, edits.as_slice())?;
     prepare_lists(alloc, store, standing, table, edits.as_slice())?;
@@ -79,12 +82,11 @@ pub(crate) fn settle_outside(
     ensures rows { instance_of store.new.tables ≡ instance_of store.old.tables }
     ensures form { EachTurns SameForm store.old.tables store.new.tables }
     ensures links { store.new.links ≡ store.old.links }
-    ensures saved { saved_rows is_open undo.new store.new ≡ saved_rows is_open undo.old store.old }
     ensures fits { CanUndo store.new undo.new }
     ensures queries { standing.new.queries ≡ standing.old.queries }
     ensures counts { (list : ℕ) (row : List Value) → count_now standing.new list row ≡ count_now standing.old list row }
     ensures ready { standing.new.prepared ≡ [] }
-    ensures open { is_open ≡ true → standing.new ≡ standing.old }
+    ensures open { is_open ≡ true → (store.new ≡ store.old) × (undo.new ≡ undo.old) × (standing.new ≡ standing.old) }
     ensures settled { is_open ≡ false → IsSettled undo.new standing.new }
 {
     if !is_open {

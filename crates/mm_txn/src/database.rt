@@ -13,17 +13,17 @@ ghost use Rattle.mm_query.specs.Resolving.{selected};
 ghost use Rattle.mm_query.specs.Standing.{listing as listing_of, shown_rows};
 ghost use Rattle.mm_value.specs.declared.refusal.Refusal.TheVariants.{Memory};
 ghost use Rattle.mm_query.specs.State.{first_state, rows_in};
-ghost use Rattle.mm_query.specs.declared.command.Command.TheVariants.{Define, Change, Scan, ScanIndex, Select, Explain, Show, Begin, Commit, Rollback};
+ghost use Rattle.mm_query.specs.declared.command.Command.TheVariants.{Define, Change, Scan, ScanIndex, Select, Explain, Show, Begin, Commit, Rollback, Savepoint, RollbackTo};
 ghost use Rattle.mm_value.specs.declared.values.Value.TheVariants.{Int};
 ghost use Rattle.mm_txn.specs.Along.{IsAlong};
 ghost use Rattle.mm_txn.specs.Kept.{instance_of};
-ghost use Rattle.mm_txn.specs.Saved.{saved_rows};
 
 use crate::changes::{make_edits, settle_outside};
-use crate::definitions::define;
+use crate::definitions::{define, is_of_index};
 use crate::edits::{TableEdits, edits_of};
 use crate::explain::explain_query;
 use crate::listing::list_tables;
+use crate::savepoints::{MAX_SAVEPOINTS, Mark, latest};
 use crate::select::select_rows;
 use mm_query::{Definition, ItemList, Listing, Mutation, PlanLine, Query};
 use mm_relation::Relation;
@@ -36,7 +36,7 @@ use std::alloc::Global;
 use std::marker::Model;
 
 /// A database: the catalog, and beside it the rows of its tables. A refused call changes nothing. In a transaction, from
-/// [`Db::begin`] to [`Db::commit`] or [`Db::rollback`], a log tells how to take back what was changed.
+/// [`Db::begin`] to [`Db::commit`] or [`Db::rollback`], a log tells how to take back what was changed, and its savepoints are marks of it.
 #[derive(Drop)]
 pub struct Db {
     catalog: Catalog,
@@ -47,6 +47,8 @@ pub struct Db {
     standing: Standing,
     /// Whether a transaction is open.
     is_open: bool,
+    /// The savepoints of the open transaction, the oldest first.
+    marks: Vec<Mark>,
 }
 
 impl Model for Db {
@@ -55,9 +57,9 @@ impl Model for Db {
 
     ghost Value = { State };
 
-    ghost view = { λ d. kept_state d.catalog d.store d.undo d.standing d.is_open };
+    ghost view = { λ d. kept_state d.catalog d.store d.undo d.standing d.is_open d.marks.items };
 
-    ghost invariant = { λ d. IsConsistent d.catalog d.store d.undo d.standing d.is_open };
+    ghost invariant = { λ d. IsConsistent d.catalog d.store d.undo d.standing d.is_open d.marks.items };
 }
 
 impl Db {
@@ -71,6 +73,7 @@ impl Db {
             undo: Undo::new(alloc),
             standing: Standing::new(alloc),
             is_open: false,
+            marks: Vec::new(alloc),
         }
     }
 
@@ -101,6 +104,7 @@ impl Db {
             return Err(Refusal::NoTransaction);
         }
         settle_outside(false, &mut self.store, &mut self.undo, &mut self.standing);
+        self.marks.clear();
         self.is_open = false;
         Ok(())
     }
@@ -119,15 +123,62 @@ impl Db {
         }
         self.store.revert(&mut self.undo, 0);
         self.standing.revert(0);
+        self.marks.clear();
         self.is_open = false;
+        Ok(())
+    }
+
+    /// Makes a savepoint of this name in the open transaction, which comes behind those that are there, also where one of these has
+    /// the name. `NoTransaction` where no transaction is open; `TooMany` where it has 64 savepoints already; `Memory` may come in
+    /// their place and in that of success. It takes no time that grows with the rows.
+    pub fn savepoint(&mut self, name: Name) -> Result<(), Refusal>
+        ensures due { AnswersDue (first_refusal (conditions (Savepoint name) self.old)) result }
+        ensures ok { OnOk result (self.new ≡ state_after (Savepoint name) self.old) }
+        ensures err { OnErr result (self.new ≡ self.old) }
+    {
+        if !self.is_open {
+            return Err(Refusal::NoTransaction);
+        }
+        if self.marks.len() >= MAX_SAVEPOINTS {
+            return Err(Refusal::TooMany);
+        }
+        self.store.rows_stand();
+        let commands = self.undo.mark();
+        let changes = self.standing.mark();
+        self.marks.push(Mark {
+            name,
+            commands,
+            changes,
+        })?;
+        Ok(())
+    }
+
+    /// Takes back what was changed since the latest savepoint of a name was made: the rows are those that stood then. The savepoint
+    /// stays, and those that were made later go. `NoTransaction` where no transaction is open; `NoSuchSavepoint` where it has none of
+    /// the name. It takes no memory, so it can always be done, and looks at each change that it takes back once.
+    pub fn rollback_to(&mut self, name: &Name) -> Result<(), Refusal>
+        ensures due { MatchResult result (λ _. first_refusal (conditions (RollbackTo name.now) self.old) ≡ None)
+            (λ refusal. first_refusal (conditions (RollbackTo name.now) self.old) ≡ Some refusal) }
+        ensures ok { OnOk result (self.new ≡ state_after (RollbackTo name.now) self.old) }
+        ensures err { OnErr result (self.new ≡ self.old) }
+    {
+        if !self.is_open {
+            return Err(Refusal::NoTransaction);
+        }
+        let place = latest(self.marks.as_slice(), name).ok_or(Refusal::NoSuchSavepoint)?;
+        let (commands, changes) = self.marks[place].lengths();
+        self.store.revert(&mut self.undo, commands);
+        self.standing.revert(changes);
+        self.marks.truncate(place + 1);
         Ok(())
     }
 
     /// Changes the catalog. A new table comes last and has no rows; a table that is dropped takes its rows and its indexes with it,
     /// and those behind it move up; a new index is one over the rows that are there; a new standing query comes last, and its list
-    /// has the rows that it gives now.
+    /// has the rows that it gives now. No rollback undoes it.
     ///
-    /// The first refusal that is due is answered: `NotInTransaction` where a transaction is open. To a new table: `NoSuchTable`
+    /// The first refusal that is due is answered: `NotInTransaction` where a transaction is open, unless an index is made or dropped.
+    /// To a new table: `NoSuchTable`
     /// where a column refers to a table that isn't there; `NameTaken` where its name is taken or a column stands twice;
     /// `TypeMismatch` where a column differs in type from the key of the table that it refers to; `TooMany` where there are 64
     /// tables already or it has more than 16 columns. To a table that is dropped: `NoSuchTable` where none has the name; `InUse`
@@ -143,7 +194,7 @@ impl Db {
         ensures ok { OnOk result (self.new ≡ state_after (Define definition) self.old) }
         ensures err { OnErr result (self.new ≡ self.old) }
     {
-        if self.is_open {
+        if self.is_open && !is_of_index(&definition) {
             return Err(Refusal::NotInTransaction);
         }
         define(
@@ -151,6 +202,7 @@ impl Db {
             &mut self.catalog,
             &mut self.store,
             &mut self.standing,
+            &self.undo,
             definition,
         )
     }

@@ -1,40 +1,61 @@
-//! Changes of the catalog, and of the relations beside its tables. They are for a database in which no transaction is open.
-ghost use Rattle.std.specs.Prelude.{◌≡◌, OnOk, OnErr};
+//! Changes of the catalog, and of the relations beside its tables. But for those of indexes they are for a database in which no
+//! transaction is open.
+ghost use Rattle.std.specs.Prelude.{◌≡◌, ℕ, true, false, List, OnOk, OnErr};
 ghost use Rattle.mm_schema.specs.Indexes.{drop_index_conditions, index_conditions};
 ghost use Rattle.mm_schema.specs.Refused.{AnswersDue, first_refusal};
 ghost use Rattle.mm_schema.specs.Schema.{drop_table_conditions, table_conditions};
-ghost use Rattle.mm_query.specs.Machine.{after_definition, definition_conditions};
+ghost use Rattle.mm_store.specs.Marks.{rows_at_mark};
+ghost use Rattle.mm_store.specs.Undoing.{CanUndo};
+ghost use Rattle.mm_store.specs.Worlds.{Noted};
+ghost use Rattle.mm_query.specs.Machine.{after_definition, definition_conditions, is_of_index};
 ghost use Rattle.mm_query.specs.declared.command.Definition.TheVariants as define;
 ghost use Rattle.mm_txn.specs.Kept.{AreKept, state_of};
 ghost use Rattle.mm_txn.specs.Rest.{AreAtRest, state_at_rest};
+ghost use Rattle.mm_txn.specs.Saved.{IsSettled};
 
 use crate::watching::{unwatch, watch};
 use mm_query::Definition;
 use mm_schema::{Catalog, IndexDef, Name, TableDef};
 use mm_standing::Standing;
-use mm_store::Store;
+use mm_store::{Store, Undo};
 use mm_value::Refusal;
 use std::alloc::{AllocError, Global};
 
-/// Changes the catalog. The first refusal that is due is answered, or `Memory` in its place or in that of success.
+/// Whether a change of the catalog concerns an index alone, and so no row.
+pub(crate) fn is_of_index(definition: &Definition) -> bool
+    ensures { result ≡ is_of_index definition.now }
+{
+    matches!(definition, Definition::Index(_) | Definition::DropIndex(_))
+}
+
+/// Changes the catalog. The first refusal that is due is answered, or `Memory` in its place or in that of success. The log can be
+/// taken back afterwards as before.
 pub(crate) fn define(
     alloc: Global,
     catalog: &mut Catalog,
     store: &mut Store,
     standing: &mut Standing,
+    undo: &Undo,
     definition: Definition,
 ) -> Result<(), Refusal>
-    requires { AreAtRest catalog.old store.old standing.old }
+    requires rest { AreAtRest catalog.old store.old standing.old }
+    requires fits { CanUndo store.old undo.now }
+    requires settled { is_of_index definition ≡ false → IsSettled undo.now standing.old }
     ensures due { AnswersDue (first_refusal (definition_conditions definition (state_at_rest catalog.old store.old standing.old))) result }
     ensures ok { OnOk result
         (state_at_rest catalog.new store.new standing.new ≡ after_definition definition (state_at_rest catalog.old store.old standing.old)) }
     ensures err { OnErr result (state_at_rest catalog.new store.new standing.new ≡ state_at_rest catalog.old store.old standing.old) }
     ensures rest { AreAtRest catalog.new store.new standing.new }
+    ensures fits { CanUndo store.new undo.now }
+    ensures settled { is_of_index definition ≡ false → IsSettled undo.now standing.new }
+    ensures lists { is_of_index definition ≡ true → standing.new ≡ standing.old }
+    ensures rows_before { is_of_index definition ≡ true
+        → (mark : ℕ) → rows_at_mark mark undo.now store.new ≡ rows_at_mark mark undo.now store.old }
 {
     match definition {
         Definition::Table(definition) => add_table(alloc, catalog, store, definition),
         Definition::DropTable(name) => drop_table(catalog, store, standing, &name),
-        Definition::Index(index) => add_index(alloc, catalog, store, index),
+        Definition::Index(index) => add_index(alloc, catalog, store, undo, index),
         Definition::DropIndex(name) => drop_index(catalog, store, &name),
         Definition::Watch(named) => watch(alloc, catalog, store, standing, named),
         Definition::Unwatch(name) => unwatch(catalog, standing, &name),
@@ -82,6 +103,7 @@ fn drop_table(
         ≡ after_definition (define.DropTable name.now) (state_at_rest catalog.old store.old standing.old)) }
     ensures err { OnErr result (state_at_rest catalog.new store.new standing.new ≡ state_at_rest catalog.old store.old standing.old) }
     ensures rest { AreAtRest catalog.new store.new standing.new }
+    ensures log { standing.new.log ≡ standing.old.log }
 {
     let place = catalog.place_of(name).ok_or(Refusal::NoSuchTable)?;
     catalog.drop_table(name)?;
@@ -90,19 +112,24 @@ fn drop_table(
     Ok(())
 }
 
-/// Makes an index over the rows that are there. The refusals are those of [`Catalog::add_index`].
+/// Makes an index over the rows that are there, with room for what comes into it when the log is taken back. The refusals are those
+/// of [`Catalog::add_index`].
 fn add_index(
     alloc: Global,
     catalog: &mut Catalog,
     store: &mut Store,
+    undo: &Undo,
     index: IndexDef,
 ) -> Result<(), Refusal>
-    requires { AreKept catalog.old store.old }
+    requires kept { AreKept catalog.old store.old }
+    requires fits { CanUndo store.old undo.now }
     ensures due { AnswersDue (first_refusal (index_conditions index catalog.old)) result }
     ensures ok { OnOk result
         (state_of catalog.new store.new.tables ≡ after_definition (define.Index index) (state_of catalog.old store.old.tables)) }
     ensures err { OnErr result (state_of catalog.new store.new.tables ≡ state_of catalog.old store.old.tables) }
     ensures kept { AreKept catalog.new store.new }
+    ensures fits { CanUndo store.new undo.now }
+    ensures rows_before { (mark : ℕ) → rows_at_mark mark undo.now store.new ≡ rows_at_mark mark undo.now store.old }
 {
     let place = catalog.place_of(&index.table).ok_or(Refusal::NoSuchTable)?;
     let columns = &catalog.table_at(place).definition.columns;
@@ -111,7 +138,7 @@ fn add_index(
         .ok_or(Refusal::NoSuchColumn)?;
     let (name, kind) = (index.name.copy(), index.kind);
     catalog.add_index(index)?;
-    if let Err(AllocError) = store.add_index(alloc, place, column, kind) {
+    if let Err(AllocError) = store.add_index(alloc, place, column, kind, undo) {
         let _ = catalog.drop_index(&name);
         return Err(Refusal::Memory);
     }
@@ -126,6 +153,9 @@ fn drop_index(catalog: &mut Catalog, store: &mut Store, name: &Name) -> Result<(
         (state_of catalog.new store.new.tables ≡ after_definition (define.DropIndex name.now) (state_of catalog.old store.old.tables)) }
     ensures err { OnErr result (state_of catalog.new store.new.tables ≡ state_of catalog.old store.old.tables) }
     ensures kept { AreKept catalog.new store.new }
+    ensures fits { (undo : List Noted) → CanUndo store.old undo → CanUndo store.new undo }
+    ensures rows_before { (undo : List Noted) (mark : ℕ) → CanUndo store.old undo
+        → rows_at_mark mark undo store.new ≡ rows_at_mark mark undo store.old }
 {
     let table = catalog.place_with_index(name).ok_or(Refusal::NoSuchIndex)?;
     let indexes = &catalog.table_at(table).indexes;

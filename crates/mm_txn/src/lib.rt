@@ -10,6 +10,7 @@ mod definitions;
 mod edits;
 mod explain;
 mod listing;
+mod savepoints;
 mod select;
 mod watching;
 

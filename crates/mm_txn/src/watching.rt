@@ -28,12 +28,14 @@ pub(crate) fn watch(
     standing: &mut Standing,
     named: NamedQuery,
 ) -> Result<(), Refusal>
-    requires { AreAtRest catalog.old store.now standing.old }
+    requires rest { AreAtRest catalog.old store.now standing.old }
+    requires log { standing.old.log ≡ [] }
     ensures due { AnswersDue (first_refusal (watch_conditions named.name named.query (state_at_rest catalog.old store.now standing.old))) result }
     ensures ok { OnOk result (state_at_rest catalog.new store.now standing.new
         ≡ after_watch named.name named.query (state_at_rest catalog.old store.now standing.old)) }
     ensures err { OnErr result (state_at_rest catalog.new store.now standing.new ≡ state_at_rest catalog.old store.now standing.old) }
     ensures rest { AreAtRest catalog.new store.now standing.new }
+    ensures log { standing.new.log ≡ [] }
 {
     prove!(catalog.standing().len() == standing.len());
     let NamedQuery { name, query } = named;

@@ -1,16 +1,17 @@
 -- What the definitions of a run come to.
-use Rattle.std.proofs.Common.{◌≡◌, ℕ, ◌+◌, ◌<◌, ◌≤◌, Bool, true, false, cond, ltb, not, List, length, Option, Some, None, is_some, Ok, Err, refl, sym, ap, ◌∙◌, arith, length-append}
-use Rattle.std.specs.Option.{unwrap_or}
+use Rattle.std.proofs.Common.{◌≡◌, ℕ, ◌+◌, ◌<◌, ◌≤◌, Bool, true, false, cond, ltb, not, List, [], length, Option, Some, None, is_some, Ok, Err, refl, sym, ap, ◌∙◌, arith, length-append}
+use Rattle.std.specs.List.{list_any}
+use Rattle.std.specs.Option.{option_map, option_map_or}
 use Rattle.std.specs.Io.KnownBytes.{Consumes}
 use Rattle.mm_lang.proofs.Commands.{control_takes_none, reads_long}
 use Rattle.mm_lang.specs.Grammar.{command_of}
 use Rattle.mm_lang.specs.Reading.{is_nothing, read_as, reading, reading_takes_memory, takes_memory}
 use Rattle.mm_lang.specs.Tokens.{tokens}
-use Rattle.mm_value.specs.declared.refusal.Refusal.TheVariants.{LineTooLong, Memory, NoTransaction}
-use Rattle.mm_schema.specs.Instance.{Instance}
-use Rattle.mm_query.specs.Machine.{step}
-use Rattle.mm_query.specs.State.{State}
-use Rattle.mm_query.specs.declared.command.Command.TheVariants.{Nothing, Rollback}
+use Rattle.mm_value.specs.declared.refusal.Refusal.TheVariants.{LineTooLong, Memory, NoSuchSavepoint, NoTransaction}
+use Rattle.mm_schema.specs.Name.{same_name}
+use Rattle.mm_query.specs.Machine.{back_to, rows_at_latest, step}
+use Rattle.mm_query.specs.State.{Saved, Savepoint, State}
+use Rattle.mm_query.specs.declared.command.Command.TheVariants.{Nothing, Rollback, RollbackTo}
 use Rattle.mm_query.specs.declared.reply.Reply.TheVariants.{Done, Refused}
 use Rattle.mm_query.proofs.Due.{step-done, step-refused}
 use Rattle.mmdb_core.specs.Run.{answer, outcome_of, refused_outcome}
@@ -45,18 +46,55 @@ rollback_answer : (line : List ℕ) (state : State) (choice : Bool) → reading 
 rollback_answer line state choice reads =
     not_refused line state choice (control_takes_none line Rollback reads refl) ∙ ap (λ r. outcome_of r state) reads
 
-pub rolled_back : (line : List ℕ) (state : State) (saved : Instance) (choice : Bool) → reading line ≡ Ok Rollback → state.saved ≡ Some saved
-    → answer choice line state ≡ record { reply = Some Done; state = record { schema = state.schema; rows = saved; queries = state.queries; saved = None } }
+pub rolled_back : (line : List ℕ) (state : State) (saved : Saved) (choice : Bool) → reading line ≡ Ok Rollback → state.saved ≡ Some saved
+    → answer choice line state
+    ≡ record { reply = Some Done; state = record { schema = state.schema; rows = saved.at_begin; queries = state.queries; saved = None } }
 rolled_back line state saved choice reads is =
     rollback_answer line state choice reads
     ∙ step-done Rollback state (ap (λ s. cond (not (is_some s)) (Some NoTransaction) None) is)
-    ∙ ap (λ s. record { reply = Some Done; state = record { schema = state.schema; rows = unwrap_or s state.rows; queries = state.queries; saved = None } }) is
+    ∙ ap (λ s. record {
+      reply = Some Done;
+      state = record {
+        schema = state.schema;
+        rows = option_map_or (λ (k : Saved). k.at_begin) s state.rows;
+        queries = state.queries;
+        saved = None;
+      };
+    }) is
 
 pub no_rollback_outside : (line : List ℕ) (state : State) (choice : Bool) → reading line ≡ Ok Rollback → state.saved ≡ None
     → answer choice line state ≡ record { reply = Some (Refused NoTransaction); state = state }
 no_rollback_outside line state choice reads is =
     rollback_answer line state choice reads
     ∙ step-refused Rollback state NoTransaction (ap (λ s. cond (not (is_some s)) (Some NoTransaction) None) is)
+
+-- A line that reads as ROLLBACK TO goes back to the savepoint, whatever the choice.
+pub rolled_back_to : (line name : List ℕ) (state : State) (saved : Saved) (choice : Bool) → reading line ≡ Ok (RollbackTo name) → state.saved ≡ Some saved
+    → list_any (λ (savepoint : Savepoint). same_name name savepoint.name) saved.savepoints ≡ true
+    → answer choice line state ≡ record {
+      reply = Some Done;
+      state = record {
+        schema = state.schema;
+        rows = rows_at_latest (back_to name saved.savepoints) state.rows;
+        queries = state.queries;
+        saved = Some (record saved { savepoints = back_to name saved.savepoints });
+      };
+    }
+rolled_back_to line name state saved choice reads is there =
+    not_refused line state choice (control_takes_none line (RollbackTo name) reads refl) ∙ ap (λ r. outcome_of r state) reads
+    ∙ step-done (RollbackTo name) state
+    (ap (λ (s : Option Saved). cond (not (is_some s)) (Some NoTransaction)
+    (cond (not (list_any (λ (k : Savepoint). same_name name k.name) (option_map_or (λ (k : Saved). k.savepoints) s []))) (Some NoSuchSavepoint) None)) is
+    ∙ ap (λ (b : Bool). cond (not b) (Some NoSuchSavepoint) None) there)
+    ∙ ap (λ (s : Option Saved). record {
+      reply = Some Done;
+      state = record {
+        schema = state.schema;
+        rows = rows_at_latest (back_to name (option_map_or (λ (k : Saved). k.savepoints) s [])) state.rows;
+        queries = state.queries;
+        saved = option_map (λ (k : Saved). record k { savepoints = back_to name k.savepoints }) s;
+      };
+    }) is
 
 pub taken_within : (before after : Option (List ℕ)) (input left taken : List ℕ) (limit : ℕ) → before ≡ Some input → after ≡ Some left
     → Consumes before after taken → length taken ≤ limit + 1 → length input ≤ length left + (limit + 1)

@@ -7,7 +7,7 @@ ghost use Rattle.mm_relation.specs.Refs.{row_at};
 ghost use Rattle.mm_lang.specs.Lines.{without_return};
 ghost use Rattle.mm_value.specs.Device.{Writes};
 ghost use Rattle.mm_value.specs.Watched.{inner_of, has_failed};
-ghost use Rattle.mm_query.specs.declared.command.Command.TheVariants.{Define, Change, Scan, ScanIndex, Select, Explain, Show, Tables, Begin, Commit, Rollback};
+ghost use Rattle.mm_query.specs.declared.command.Command.TheVariants.{Define, Change, Scan, ScanIndex, Select, Explain, Show, Tables, Begin, Commit, Rollback, Savepoint, RollbackTo};
 ghost use Rattle.mm_query.specs.Machine.{step};
 ghost use Rattle.mm_query.specs.declared.reply.Reply.TheVariants.{Done, Refused, Rows};
 ghost use Rattle.mmdb_core.specs.steps.Respond.{RepliesToLine, IsStep, RepliesToReading};
@@ -74,6 +74,8 @@ fn respond<W: Write>(
         Ok(Command::Begin) => begin(database),
         Ok(Command::Commit) => commit(database),
         Ok(Command::Rollback) => rollback(database),
+        Ok(Command::Savepoint(name)) => savepoint(database, name),
+        Ok(Command::RollbackTo(name)) => rollback_to(database, &name),
         Err(refusal) => Reply::Refused(refusal),
     };
     send(&reply, writer)
@@ -105,6 +107,20 @@ fn rollback(database: &mut Db) -> Reply
     ensures { record { reply = Some result; state = database.new } ≡ step Rollback database.old }
 {
     done_or_refused(database.rollback())
+}
+
+/// Makes a savepoint.
+fn savepoint(database: &mut Db, name: Name) -> Reply
+    ensures { IsStep (Savepoint name) database.old (record { reply = Some result; state = database.new }) }
+{
+    done_or_refused(database.savepoint(name))
+}
+
+/// Takes back what was changed since a savepoint. It takes no memory.
+fn rollback_to(database: &mut Db, name: &Name) -> Reply
+    ensures { record { reply = Some result; state = database.new } ≡ step (RollbackTo name.now) database.old }
+{
+    done_or_refused(database.rollback_to(name))
 }
 
 /// The reply to a command that only does something.

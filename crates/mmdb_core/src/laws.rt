@@ -1,12 +1,14 @@
 //! Laws of the definitions that the contract of a run speaks of.
 ghost use Rattle.std.specs.Prelude.{◌≡◌, ◌+◌, ◌<◌, ◌≤◌, ℕ, Bool, true, false, List, length, Some, None, Ok, Result, IsErrOf};
 ghost use Rattle.mm_lang.specs.Reading.{is_nothing, reading, takes_memory};
-ghost use Rattle.mm_query.specs.State.{State};
-ghost use Rattle.mm_query.specs.Transactions.{is_transaction_control};
+ghost use Rattle.mm_query.specs.Machine.{back_to, rows_at_latest};
+ghost use Rattle.mm_query.specs.State.{Saved, Savepoint, State};
+ghost use Rattle.mm_query.specs.Transactions.{is_done_without_memory};
 ghost use Rattle.mm_query.specs.declared.command.Command.{Command};
-ghost use Rattle.mm_query.specs.declared.command.Command.TheVariants.{Rollback};
+ghost use Rattle.mm_query.specs.declared.command.Command.TheVariants.{Rollback, RollbackTo};
 ghost use Rattle.mm_query.specs.declared.reply.Reply.TheVariants.{Done, Refused};
-ghost use Rattle.mm_schema.specs.Instance.{Instance};
+ghost use Rattle.std.specs.List.{list_any};
+ghost use Rattle.mm_schema.specs.Name.{same_name};
 ghost use Rattle.mm_value.specs.Watched.{inner_of, has_failed};
 ghost use Rattle.mm_value.specs.declared.refusal.Refusal.TheVariants.{Memory, NoTransaction};
 ghost use Rattle.mmdb_core.specs.Run.{answer, outcome_of, TakesWithin};
@@ -26,24 +28,41 @@ pub fn answers_follow_the_choice()
         → answer a line state ≡ answer b line state }
 {}
 
-/// Just these lines take no memory: those that are too long, empty lines and comments, and those that begin or end a
-/// transaction.
+/// Just these lines take no memory: those that are too long, empty lines and comments, those that begin or end a transaction, and
+/// those that go back to a savepoint.
 pub fn commands_take_memory()
     ensures long { (line : List ℕ) → 4096 < length line → takes_memory line ≡ false }
     ensures nothing { (line : List ℕ) → is_nothing line ≡ true → takes_memory line ≡ false }
-    ensures transactions { (line : List ℕ) (command : Command) → reading line ≡ Ok command → is_transaction_control command ≡ true
+    ensures transactions { (line : List ℕ) (command : Command) → reading line ≡ Ok command → is_done_without_memory command ≡ true
         → takes_memory line ≡ false }
     ensures others { (line : List ℕ) → length line ≤ 4096 → is_nothing line ≡ false
-        → ((command : Command) → reading line ≡ Ok command → is_transaction_control command ≡ false) → takes_memory line ≡ true }
+        → ((command : Command) → reading line ≡ Ok command → is_done_without_memory command ≡ false) → takes_memory line ≡ true }
 {}
 
 /// In a transaction ROLLBACK is never refused, for want of memory neither: the rows are those that were saved at BEGIN, and
 /// the catalog stays. Outside one it is refused with `NoTransaction`.
 pub fn rollback_is_never_refused()
-    ensures done { (line : List ℕ) (state : State) (saved : Instance) (choice : Bool) → reading line ≡ Ok Rollback → state.saved ≡ Some saved
-        → answer choice line state ≡ record { reply = Some Done; state = record { schema = state.schema; rows = saved; queries = state.queries; saved = None } } }
+    ensures done { (line : List ℕ) (state : State) (saved : Saved) (choice : Bool) → reading line ≡ Ok Rollback → state.saved ≡ Some saved
+        → answer choice line state
+        ≡ record { reply = Some Done; state = record { schema = state.schema; rows = saved.at_begin; queries = state.queries; saved = None } } }
     ensures refused { (line : List ℕ) (state : State) (choice : Bool) → reading line ≡ Ok Rollback → state.saved ≡ None
         → answer choice line state ≡ record { reply = Some (Refused NoTransaction); state = state } }
+{}
+
+/// ROLLBACK TO is not refused where the open transaction has a savepoint of the name, for want of memory neither: the rows are those
+/// that were saved there, the savepoint and those before it stay, and so does the catalog.
+pub fn rollback_to_is_never_refused()
+    ensures { (line name : List ℕ) (state : State) (saved : Saved) (choice : Bool) → reading line ≡ Ok (RollbackTo name) → state.saved ≡ Some saved
+        → list_any (λ (savepoint : Savepoint). same_name name savepoint.name) saved.savepoints ≡ true
+        → let kept = back_to name saved.savepoints in answer choice line state ≡ record {
+          reply = Some Done;
+          state = record {
+            schema = state.schema;
+            rows = rows_at_latest kept state.rows;
+            queries = state.queries;
+            saved = Some (record saved { savepoints = kept });
+          };
+        } }
 {}
 
 /// Of a reader whose bytes are known, a run takes at most one byte more than its limit, and that one only where the input

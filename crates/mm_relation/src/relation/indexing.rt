@@ -1,6 +1,7 @@
 //! Further indexes, made and dropped.
-ghost use Rattle.std.specs.Prelude.{◌≡◌, ◌<◌, ◌≤◌, length, OnOk, OnErr};
+ghost use Rattle.std.specs.Prelude.{◌≡◌, ◌<◌, ◌≤◌, All, length, OnOk, OnErr};
 ghost use Rattle.std.specs.List.{remove};
+ghost use Rattle.mm_relation.specs.Index.{spare_of};
 ghost use Rattle.mm_relation.specs.Reads.{AddsIndex};
 
 use super::Relation;
@@ -12,23 +13,27 @@ use std::alloc::{AllocError, Global};
 
 impl Relation {
     /// Makes an index on a column over the at most 1,048,576 rows that are there, and puts it behind the
-    /// others. `AllocError` where memory is refused; then all is as before.
+    /// others. `owed` tells how many entries come into it when the commands of a transaction are taken back; the index has
+    /// room for so many more. `AllocError` where memory is refused; then all is as before.
     pub fn add_index(
         &mut self,
         alloc: Global,
         column: usize,
         kind: IndexKind,
+        owed: usize,
     ) -> Result<(), AllocError>
         requires column { column < self.old.width }
         requires few { length self.old.refs ≤ 1048576 }
         ensures added { OnOk result (AddsIndex column kind self.old.indexes self.new.indexes) }
         ensures rest { OnOk result (self.new ≡ record self.old { indexes = self.new.indexes }) }
+        ensures owed { OnOk result (All (λ x. owed ≤ spare_of x) self.old.indexes → All (λ x. owed ≤ spare_of x) self.new.indexes) }
         ensures err { OnErr result (self.new ≡ self.old) }
     {
         self.indexes.reserve(1)?;
         let refs = copy_refs(alloc, &self.by_key)?;
         track_for(alloc, &mut self.rows, column, kind)?;
-        match Index::over(alloc, &self.rows, column, self.key, kind, refs.as_slice()) {
+        let refs = refs.as_slice();
+        match Index::with_room(alloc, &self.rows, column, self.key, kind, refs, owed) {
             Ok(index) => {
                 self.indexes.push_reserved(index);
                 Ok(())

@@ -11,7 +11,7 @@ use Rattle.mm_store.specs.Tables.{edit_conditions}
 use Rattle.mm_txn.specs.Kept.{instance_of}
 use Rattle.mm_txn.specs.TableEdits.{rows_edited}
 use Rattle.mm_txn.specs.Watched.{AreListed, IsTested, rows_by_place}
-use Rattle.mm_txn.proofs.ListSteps.{behind_due, listed_made, listed_still, same_counts, undone_made}
+use Rattle.mm_txn.proofs.ListSteps.{behind_due, listed_made, listed_still, longer_made, same_counts, undone_made}
 use Rattle.mm_txn.proofs.ListedRows.{few_after, rows_kept, rows_made}
 use Rattle.mm_txn.proofs.RowsBeside.{HasRows-itself, set_itself}
 use Rattle.mm_txn.proofs.changes.make_edits.Goals as goal
@@ -69,4 +69,9 @@ returns-clause-listed c =
 pub returns-clause-undone : goal.returns-clause-undone
 returns-clause-undone c =
     undone_made c.args.standing.now c.prepare_lists.new.standing c.apply_prepared.new.self c.prepare_lists.ensures.entries c.apply_prepared.ensures.made
+    c.prepare_lists.ensures.log
+
+pub returns-clause-log_longer : goal.returns-clause-log_longer
+returns-clause-log_longer c =
+    longer_made c.args.standing.now c.prepare_lists.new.standing c.apply_prepared.new.self c.prepare_lists.ensures.entries c.apply_prepared.ensures.made
     c.prepare_lists.ensures.log

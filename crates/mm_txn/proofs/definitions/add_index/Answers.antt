@@ -36,30 +36,30 @@ returns-in_err-add_index-clause-due c =
 
 pub add_index-requires-2-clause-there : goal.add_index-requires-2-clause-there
 add_index-requires-2-clause-there c =
-    rows_there c.args.catalog.now c.args.store.now.tables c.requires.relations c.args.index.table c.in_ok-place.place
+    rows_there c.args.catalog.now c.args.store.now.tables c.requires.kept.relations c.args.index.table c.in_ok-place.place
     (sym c.place_of.ensures.place ∙ c.in_ok-place.ensures.ok_part)
 
 pub add_index-requires-2-clause-column : goal.add_index-requires-2-clause-column
 add_index-requires-2-clause-column c =
-    column_within c.args.catalog.now c.args.store.now.tables c.requires.relations c.args.index c.in_ok-place.place
+    column_within c.args.catalog.now c.args.store.now.tables c.requires.kept.relations c.args.index c.in_ok-place.place
     (sym c.place_of.ensures.place ∙ c.in_ok-place.ensures.ok_part) c.table_at.result.now c.table_at.ensures c.in_ok-column.column
     (sym c.place_of-2.ensures ∙ c.in_ok-column.ensures.ok_part)
 
 pub returns-in-Err-clause-kept : goal.returns-in-Err-clause-kept
 returns-in-Err-clause-kept c =
-    let back = taken_back c.args.catalog.now c.args.store.now.tables c.requires.relations c.args.index c.in_ok-place.place
+    let back = taken_back c.args.catalog.now c.args.store.now.tables c.requires.kept.relations c.args.index c.in_ok-place.place
     (sym c.place_of.ensures.place ∙ c.in_ok-place.ensures.ok_part) c.table_at.result.now c.table_at.ensures c.in_ok-column.column
     (sym c.place_of-2.ensures ∙ c.in_ok-column.ensures.ok_part)
     c.copy-name.result c.add_index.new.self c.drop_index.new.self c.drop_index.result c.copy-name.ensures c.in_ok-add_index.ensures.ok
     c.in_ok-add_index.ensures.due c.drop_index.ensures.due c.drop_index.ensures.ok in
     subst (λ (schema : Schema). AreKept schema c.add_index-2.new.self) (sym back)
-    (kept_by_rows c.args.catalog.now c.args.store.now c.add_index-2.new.self c.requires
-    (subst (λ (rs : List StoredRows). AreOf c.args.catalog.now.tables rs) (sym c.in-Err.ensures.err) c.requires.relations)
+    (kept_by_rows c.args.catalog.now c.args.store.now c.add_index-2.new.self c.requires.kept
+    (subst (λ (rs : List StoredRows). AreOf c.args.catalog.now.tables rs) (sym c.in-Err.ensures.err) c.requires.kept.relations)
     c.add_index-2.ensures.links)
 
 pub returns-in-Err-clause-err : goal.returns-in-Err-clause-err
 returns-in-Err-clause-err c =
-    let back = taken_back c.args.catalog.now c.args.store.now.tables c.requires.relations c.args.index c.in_ok-place.place
+    let back = taken_back c.args.catalog.now c.args.store.now.tables c.requires.kept.relations c.args.index c.in_ok-place.place
     (sym c.place_of.ensures.place ∙ c.in_ok-place.ensures.ok_part) c.table_at.result.now c.table_at.ensures c.in_ok-column.column
     (sym c.place_of-2.ensures ∙ c.in_ok-column.ensures.ok_part)
     c.copy-name.result c.add_index.new.self c.drop_index.new.self c.drop_index.result c.copy-name.ensures c.in_ok-add_index.ensures.ok
@@ -68,16 +68,16 @@ returns-in-Err-clause-err c =
 
 pub returns-clause-kept : goal.returns-clause-kept
 returns-clause-kept c =
-    let added = index_added c.args.catalog.now c.args.store.now.tables c.requires.relations c.args.index c.in_ok-place.place
+    let added = index_added c.args.catalog.now c.args.store.now.tables c.requires.kept.relations c.args.index c.in_ok-place.place
     (sym c.place_of.ensures.place ∙ c.in_ok-place.ensures.ok_part) c.table_at.result.now c.table_at.ensures c.in_ok-column.column
     (sym c.place_of-2.ensures ∙ c.in_ok-column.ensures.ok_part)
     c.place_of.ensures.distinct c.add_index-2.new.self.tables c.in_default.ensures.ok in
     subst (λ (schema : Schema). AreKept schema c.add_index-2.new.self) (sym c.in_ok-add_index.ensures.ok)
-    (kept_by_index c.args.catalog.now c.args.store.now c.add_index-2.new.self c.requires c.args.index added.1 c.add_index-2.ensures.links)
+    (kept_by_index c.args.catalog.now c.args.store.now c.add_index-2.new.self c.requires.kept c.args.index added.1 c.add_index-2.ensures.links)
 
 pub returns-clause-ok : goal.returns-clause-ok
 returns-clause-ok c =
-    let added = index_added c.args.catalog.now c.args.store.now.tables c.requires.relations c.args.index c.in_ok-place.place
+    let added = index_added c.args.catalog.now c.args.store.now.tables c.requires.kept.relations c.args.index c.in_ok-place.place
     (sym c.place_of.ensures.place ∙ c.in_ok-place.ensures.ok_part) c.table_at.result.now c.table_at.ensures c.in_ok-column.column
     (sym c.place_of-2.ensures ∙ c.in_ok-column.ensures.ok_part)
     c.place_of.ensures.distinct c.add_index-2.new.self.tables c.in_default.ensures.ok in

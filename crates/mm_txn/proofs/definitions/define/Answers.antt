@@ -1,8 +1,9 @@
 -- The lists stand still where tables and indexes change, and fit still where a standing query goes.
-use Rattle.std.proofs.Common.{◌≡◌}
+use Rattle.std.proofs.Common.{◌≡◌, refl}
 use Rattle.mm_schema.specs.Indexes.{drop_index_conditions, index_conditions}
 use Rattle.mm_schema.specs.Refused.{first_refusal}
 use Rattle.mm_schema.specs.Schema.{table_conditions}
+use Rattle.mm_store.proofs.UndoLaws.{CanUndo-nil}
 use Rattle.mm_query.specs.Machine.{after_definition}
 use Rattle.mm_query.specs.declared.command.Definition.TheVariants as define
 use Rattle.mm_txn.specs.Kept.{instance_of, state_of}
@@ -14,37 +15,55 @@ pub returns-in-Table-clause-rest : goal.returns-in-Table-clause-rest
 returns-in-Table-clause-rest c =
     let schema = c.args.catalog.now in
     let store = c.args.store.now in
-    rest_still schema store c.args.standing.now c.requires c.add_table.new.catalog c.add_table.new.store c.add_table.ensures.kept c.add_table.result
+    rest_still schema store c.args.standing.now c.requires.rest c.add_table.new.catalog c.add_table.new.store c.add_table.ensures.kept c.add_table.result
     (first_refusal (table_conditions c.in-Table.definition schema))
     (state_of c.add_table.new.catalog c.add_table.new.store.tables ≡ after_definition (define.Table c.in-Table.definition) (state_of schema store.tables))
     c.add_table.ensures.due
-    (rest_by_table schema store c.args.standing.now c.requires c.add_table.new.catalog c.add_table.new.store c.add_table.ensures.kept c.in-Table.definition)
+    (rest_by_table schema store c.args.standing.now c.requires.rest c.add_table.new.catalog c.add_table.new.store c.add_table.ensures.kept c.in-Table.definition)
     c.add_table.ensures.ok c.add_table.ensures.err
 
 pub returns-in-Index-clause-rest : goal.returns-in-Index-clause-rest
 returns-in-Index-clause-rest c =
     let schema = c.args.catalog.now in
     let store = c.args.store.now in
-    rest_still schema store c.args.standing.now c.requires c.add_index.new.catalog c.add_index.new.store c.add_index.ensures.kept c.add_index.result
+    rest_still schema store c.args.standing.now c.requires.rest c.add_index.new.catalog c.add_index.new.store c.add_index.ensures.kept c.add_index.result
     (first_refusal (index_conditions c.in-Index.index schema))
     (state_of c.add_index.new.catalog c.add_index.new.store.tables ≡ after_definition (define.Index c.in-Index.index) (state_of schema store.tables))
     c.add_index.ensures.due
-    (rest_by_index schema store c.args.standing.now c.requires c.add_index.new.catalog c.add_index.new.store c.add_index.ensures.kept c.in-Index.index)
+    (rest_by_index schema store c.args.standing.now c.requires.rest c.add_index.new.catalog c.add_index.new.store c.add_index.ensures.kept c.in-Index.index)
     c.add_index.ensures.ok c.add_index.ensures.err
 
 pub returns-in-DropIndex-clause-rest : goal.returns-in-DropIndex-clause-rest
 returns-in-DropIndex-clause-rest c =
     let schema = c.args.catalog.now in
     let store = c.args.store.now in
-    rest_still schema store c.args.standing.now c.requires c.drop_index.new.catalog c.drop_index.new.store c.drop_index.ensures.kept c.drop_index.result
+    rest_still schema store c.args.standing.now c.requires.rest c.drop_index.new.catalog c.drop_index.new.store c.drop_index.ensures.kept c.drop_index.result
     (first_refusal (drop_index_conditions c.in-DropIndex.name schema))
     (state_of c.drop_index.new.catalog c.drop_index.new.store.tables ≡ after_definition (define.DropIndex c.in-DropIndex.name) (state_of schema store.tables))
     c.drop_index.ensures.due
-    (rest_by_no_index schema store c.args.standing.now c.requires c.drop_index.new.catalog c.drop_index.new.store c.drop_index.ensures.kept c.in-DropIndex.name)
+    (rest_by_no_index schema store c.args.standing.now c.requires.rest c.drop_index.new.catalog c.drop_index.new.store c.drop_index.ensures.kept c.in-DropIndex.name)
     c.drop_index.ensures.ok c.drop_index.ensures.err
 
 pub returns-in-Unwatch-clause-rest : goal.returns-in-Unwatch-clause-rest
 returns-in-Unwatch-clause-rest c =
     unwatched_rest c.args.catalog.now c.unwatch.new.catalog c.args.store.now c.args.standing.now c.unwatch.new.standing c.unwatch.result c.in-Unwatch.name
-    c.requires c.unwatch.ensures.catalog c.unwatch.ensures.catalog_stays c.unwatch.ensures.placed
-    (c.unwatch.ensures.listed (instance_of c.args.store.now.tables) c.requires.listed) c.unwatch.ensures.log
+    c.requires.rest c.unwatch.ensures.catalog c.unwatch.ensures.catalog_stays c.unwatch.ensures.placed
+    (c.unwatch.ensures.listed (instance_of c.args.store.now.tables) c.requires.rest.listed)
+
+-- ---- nothing is to be taken back where a change concerns more than an index
+
+pub returns-in-Table-clause-fits : goal.returns-in-Table-clause-fits
+returns-in-Table-clause-fits c = CanUndo-nil c.add_table.new.store c.args.undo.now (c.requires.settled refl).undo_is
+
+pub returns-in-DropTable-clause-fits : goal.returns-in-DropTable-clause-fits
+returns-in-DropTable-clause-fits c = CanUndo-nil c.drop_table.new.store c.args.undo.now (c.requires.settled refl).undo_is
+
+pub returns-in-DropTable-clause-settled : goal.returns-in-DropTable-clause-settled
+returns-in-DropTable-clause-settled c = λ none.
+    record { undo_is = (c.requires.settled none).undo_is; log = c.drop_table.ensures.log ∙ (c.requires.settled none).log }
+
+pub returns-in-Watch-clause-settled : goal.returns-in-Watch-clause-settled
+returns-in-Watch-clause-settled c = λ none. record { undo_is = (c.requires.settled none).undo_is; log = c.watch.ensures.log }
+
+pub returns-in-Unwatch-clause-settled : goal.returns-in-Unwatch-clause-settled
+returns-in-Unwatch-clause-settled c = λ none. record { undo_is = (c.requires.settled none).undo_is; log = c.unwatch.ensures.log }

@@ -1,7 +1,7 @@
 use Rattle.std.proofs.Common.{Some, None, false, Ok, inl, refl, sym, ap, subst, ◌∙◌}
 use Rattle.mm_value.proofs.Writing.{Writes-nil}
 use Rattle.mm_query.specs.declared.command.Command.{Command}
-use Rattle.mm_query.specs.declared.command.Command.TheVariants.{Define, Change, Explain, Tables}
+use Rattle.mm_query.specs.declared.command.Command.TheVariants.{Define, Change, Explain, Savepoint, Tables}
 use Rattle.mm_query.specs.Machine.{Outcome}
 use Rattle.mm_query.specs.State.{State}
 use Rattle.mm_query.specs.declared.reply.Reply.{Reply}
@@ -9,7 +9,7 @@ use Rattle.mm_query.specs.declared.reply.Reply.TheVariants.{Refused}
 use Rattle.mmdb_core.specs.steps.Respond.{MayLeadTo}
 use Rattle.mmdb_core.proofs.Answering.{leads_step, sent}
 use Rattle.mmdb_core.proofs.answer.respond.Goals as goal
-use Rattle.mmdb_core.proofs.answer.respond.Goals.{in-Ok-Define, in-Ok-Change, in-Ok-Explain, in-Ok-Tables, in-Ok-Begin, in-Ok-Commit, in-Ok-Rollback, in-Err}
+use Rattle.mmdb_core.proofs.answer.respond.Goals.{in-Ok-Define, in-Ok-Change, in-Ok-Explain, in-Ok-Tables, in-Ok-Begin, in-Ok-Commit, in-Ok-Rollback, in-Ok-Savepoint, in-Ok-RollbackTo, in-Err}
 
 pub returns-in-Ok-Nothing : goal.returns-in-Ok-Nothing
 returns-in-Ok-Nothing g c = record {
@@ -56,6 +56,15 @@ returns g c =
           subst (λ read. MayLeadTo read c.args.database.now (reply_and c.match-command.reply c.match-command.database))
           (sym (w.in-Ok-Rollback.is ∙ ap (λ (command : Command). Ok command) w.in-Ok-Rollback.field-0-is))
           (inl (ap (λ r. reply_and r c.match-command.database) w.reply-is ∙ ap (reply_and w.rollback-reply.result) w.database-is ∙ w.rollback-reply.ensures))
+      | in-Ok-Savepoint w ↦
+          leads_step (Savepoint w.in-Ok-Savepoint.name) refl c.args.command
+          (w.in-Ok-Savepoint.is ∙ ap (λ (command : Command). Ok command) w.in-Ok-Savepoint.field-0-is) c.args.database.now
+          (reply_and c.match-command.reply c.match-command.database) (reply_and w.savepoint-reply.result w.savepoint-reply.new.database)
+          (ap (λ r. reply_and r c.match-command.database) w.reply-is ∙ ap (reply_and w.savepoint-reply.result) w.database-is) w.savepoint-reply.ensures
+      | in-Ok-RollbackTo w ↦
+          subst (λ read. MayLeadTo read c.args.database.now (reply_and c.match-command.reply c.match-command.database))
+          (sym (w.in-Ok-RollbackTo.is ∙ ap (λ (command : Command). Ok command) w.in-Ok-RollbackTo.field-0-is))
+          (inl (ap (λ r. reply_and r c.match-command.database) w.reply-is ∙ ap (reply_and w.rollback_to-reply.result) w.database-is ∙ w.rollback_to-reply.ensures))
       | in-Err w ↦
           subst (λ read. MayLeadTo read c.args.database.now (reply_and c.match-command.reply c.match-command.database)) (sym w.in-Err.is)
           (ap (λ r. reply_and r c.match-command.database) w.reply-is ∙ ap (reply_and (Refused w.in-Err.refusal)) w.database-is)

@@ -1,8 +1,7 @@
 -- The new rows of the edits' table are the state's, and what is saved stays.
-use Rattle.std.proofs.Common.{◌≡◌, ℕ, cond, Err, Ok, Some, None, length, sym, ap, subst, ◌∙◌, arith}
+use Rattle.std.proofs.Common.{◌≡◌, ℕ, Err, Ok, Some, None, length, sym, ap, subst, ◌∙◌, arith}
 use Rattle.std.specs.List.{All}
 use Rattle.std.proofs.lemmas.Result.{err_from_is_err_and}
-use Rattle.mm_schema.specs.Instance.{Instance}
 use Rattle.mm_standing.specs.Queries.{RowsByPlace}
 use Rattle.mm_query.specs.Edits.{own_pairs, value_conditions}
 use Rattle.mm_query.specs.Machine.{after_change}
@@ -14,7 +13,7 @@ use Rattle.mm_txn.specs.Watched.{IsTested, queries_of, rows_by_place}
 use Rattle.mm_txn.proofs.ChangeSteps.{change_done, change_due, change_refused, change_within, early_due, edited_after, edits_counted}
 use Rattle.mm_txn.proofs.KeptReferences.{all_to_others}
 use Rattle.mm_txn.proofs.ListedRows.{served}
-use Rattle.mm_txn.proofs.OpenSteps.{changed, refused}
+use Rattle.mm_txn.proofs.OpenSteps.{changed, refused, saved_through_change, saved_to_the_end}
 use Rattle.mm_txn.proofs.SavedRows.{done_beside, due_beside, pairs_beside}
 use Rattle.mm_txn.proofs.TestedQueries.{queries_tested}
 use Rattle.mm_txn.proofs.TypedSteps.{rows_typed_after}
@@ -23,7 +22,7 @@ use Rattle.mm_txn.proofs.database.Db.change.Goals as goal
 pub returns-in_err-table-clause-due : goal.returns-in_err-table-clause-due
 returns-in_err-table-clause-due c =
     let p = err_from_is_err_and c.from_residual.result c.from_residual.ensures.1 in
-    let saved = saved_rows c.self.inside.is_open c.self.inside.undo c.self.inside.store in
+    let saved = saved_rows c.self.inside.is_open c.self.inside.undo c.self.inside.store c.self.inside.marks.items in
     let queries = queries_of c.self.inside.standing.queries in
     rw (p.1, p.2) (due_beside c.self.inside.catalog c.self.inside.store.tables queries saved c.args.mutation c.args.self.now c.self.view_is {T = ℕ}
     (Err c.in_err-table.field-0.0)
@@ -55,16 +54,17 @@ pub invariant_of-self : goal.invariant_of-self
 invariant_of-self c =
     let back = change_refused c.self.inside.catalog c.self.inside.store.tables c.self.invariant.kept.relations c.args.mutation c.in_ok-table.field-0.table
     c.in_ok-table.field-0.edits.items c.in_ok-table.ensures.ok c.make_edits.new.store.tables c.in_err-make_edits.ensures.err in
-    refused c.self.inside.catalog c.self.inside.store c.self.inside.undo c.self.inside.standing c.self.inside.is_open c.self.invariant
+    refused c.self.inside.catalog c.self.inside.store c.self.inside.undo c.self.inside.standing c.self.inside.marks.items c.self.inside.is_open c.self.invariant
     c.make_edits.new.store c.make_edits.new.undo c.make_edits.new.standing
     back.1
     c.make_edits.ensures.links c.make_edits.ensures.saved c.make_edits.ensures.fits c.make_edits.ensures.listed c.make_edits.ensures.queries
-    c.make_edits.ensures.undone back.0 c.in_err-make_edits.ensures.kept c.in_err-make_edits.ensures.log
+    c.make_edits.ensures.undone c.make_edits.ensures.longer c.make_edits.ensures.log_longer back.0 c.in_err-make_edits.ensures.kept
+    c.in_err-make_edits.ensures.log
 
 pub returns-in_err-make_edits-clause-due : goal.returns-in_err-make_edits-clause-due
 returns-in_err-make_edits-clause-due c =
     let p = err_from_is_err_and c.from_residual-in_err-make_edits.result c.from_residual-in_err-make_edits.ensures.1 in
-    let saved = saved_rows c.self.inside.is_open c.self.inside.undo c.self.inside.store in
+    let saved = saved_rows c.self.inside.is_open c.self.inside.undo c.self.inside.store c.self.inside.marks.items in
     let lists = c.self.inside.standing.queries in
     let due = change_due c.self.inside.catalog c.self.inside.store.tables c.self.invariant.kept.relations c.args.mutation c.in_ok-table.field-0.table
     c.in_ok-table.field-0.edits.items c.in_ok-table.ensures.ok lists c.self.invariant.placed.placed c.in_ok-table.ensures.distinct
@@ -77,9 +77,13 @@ returns-in_err-make_edits-clause-due c =
 pub returns-in_err-make_edits-clause-err : goal.returns-in_err-make_edits-clause-err
 returns-in_err-make_edits-clause-err c =
     let p = err_from_is_err_and c.from_residual-in_err-make_edits.result c.from_residual-in_err-make_edits.ensures.1 in
-    let same = (change_refused c.self.inside.catalog c.self.inside.store.tables c.self.invariant.kept.relations c.args.mutation c.in_ok-table.field-0.table
-    c.in_ok-table.field-0.edits.items c.in_ok-table.ensures.ok c.make_edits.new.store.tables c.in_err-make_edits.ensures.err).0 in
-    let saved = ap (λ (rows : Instance). cond c.self.inside.is_open (Some rows) None) c.make_edits.ensures.saved in
+    let back = change_refused c.self.inside.catalog c.self.inside.store.tables c.self.invariant.kept.relations c.args.mutation c.in_ok-table.field-0.table
+    c.in_ok-table.field-0.edits.items c.in_ok-table.ensures.ok c.make_edits.new.store.tables c.in_err-make_edits.ensures.err in
+    let same = back.0 in
+    let saved = saved_through_change c.self.inside.catalog c.self.inside.store c.self.inside.undo c.self.inside.standing c.self.inside.marks.items
+    c.self.inside.is_open c.self.invariant c.make_edits.new.store c.make_edits.new.undo c.make_edits.new.standing back.1
+    c.make_edits.ensures.links c.make_edits.ensures.saved c.make_edits.ensures.fits c.make_edits.ensures.listed c.make_edits.ensures.queries
+    c.make_edits.ensures.undone c.make_edits.ensures.longer c.make_edits.ensures.log_longer in
     let queries = ap queries_of c.make_edits.ensures.queries in
     rw (p.1) ((λ i. record { schema = c.self.inside.catalog; rows = same i; queries = queries i; saved = saved i }) ∙ c.self.view_is)
 
@@ -93,17 +97,17 @@ invariant_of-self-2 c =
     (rows_typed_after c.args.mutation (watched_state c.self.inside.catalog c.self.inside.store.tables queries)
     (value_conditions c.args.mutation (state_of c.self.inside.catalog c.self.inside.store.tables)) c.in_ok-table.ensures.distinct c.in_ok-table.ensures.due
     c.self.invariant.typed.rows) in
-    changed c.self.inside.catalog c.self.inside.store c.self.inside.undo c.self.inside.standing c.self.inside.is_open c.self.invariant
+    changed c.self.inside.catalog c.self.inside.store c.self.inside.undo c.self.inside.standing c.self.inside.marks.items c.self.inside.is_open c.self.invariant
     c.make_edits.new.store c.make_edits.new.undo c.make_edits.new.standing done.1
     c.make_edits.ensures.links c.make_edits.ensures.saved c.make_edits.ensures.fits c.make_edits.ensures.listed c.make_edits.ensures.queries
-    c.make_edits.ensures.undone typed
-    c.settle_outside.new.store c.settle_outside.new.undo c.settle_outside.new.standing c.settle_outside.ensures.rows c.settle_outside.ensures.form
-    c.settle_outside.ensures.links c.settle_outside.ensures.saved c.settle_outside.ensures.fits c.settle_outside.ensures.queries
-    c.settle_outside.ensures.counts c.settle_outside.ensures.ready c.settle_outside.ensures.open c.settle_outside.ensures.settled
+    c.make_edits.ensures.undone c.make_edits.ensures.longer c.make_edits.ensures.log_longer
+    c.settle_outside.new.store c.settle_outside.new.undo c.settle_outside.new.standing c.settle_outside.ensures.open typed
+    c.settle_outside.ensures.rows c.settle_outside.ensures.form c.settle_outside.ensures.links c.settle_outside.ensures.fits
+    c.settle_outside.ensures.queries c.settle_outside.ensures.counts c.settle_outside.ensures.ready c.settle_outside.ensures.settled
 
 pub returns-clause-due : goal.returns-clause-due
 returns-clause-due c =
-    let saved = saved_rows c.self.inside.is_open c.self.inside.undo c.self.inside.store in
+    let saved = saved_rows c.self.inside.is_open c.self.inside.undo c.self.inside.store c.self.inside.marks.items in
     let lists = c.self.inside.standing.queries in
     let due = change_due c.self.inside.catalog c.self.inside.store.tables c.self.invariant.kept.relations c.args.mutation c.in_ok-table.field-0.table
     c.in_ok-table.field-0.edits.items c.in_ok-table.ensures.ok lists c.self.invariant.placed.placed c.in_ok-table.ensures.distinct
@@ -113,19 +117,23 @@ returns-clause-due c =
 
 pub returns-clause-ok : goal.returns-clause-ok
 returns-clause-ok c =
-    let saved = saved_rows c.self.inside.is_open c.self.inside.undo c.self.inside.store in
+    let saved = saved_rows c.self.inside.is_open c.self.inside.undo c.self.inside.store c.self.inside.marks.items in
     let queries = queries_of c.self.inside.standing.queries in
-    let done = (change_done c.self.inside.catalog c.self.inside.store.tables c.self.invariant.kept.relations c.args.mutation c.in_ok-table.field-0.table
-    c.in_ok-table.field-0.edits.items c.in_ok-table.ensures.ok queries c.make_edits.new.store.tables c.in_ok-table.ensures.distinct c.in_ok-make_edits.ensures.ok).0 in
+    let done = change_done c.self.inside.catalog c.self.inside.store.tables c.self.invariant.kept.relations c.args.mutation c.in_ok-table.field-0.table
+    c.in_ok-table.field-0.edits.items c.in_ok-table.ensures.ok queries c.make_edits.new.store.tables c.in_ok-table.ensures.distinct c.in_ok-make_edits.ensures.ok in
     done_beside c.self.inside.catalog c.self.inside.store.tables queries saved c.args.mutation c.args.self.now c.self.view_is c.settle_outside.new.store.tables
-    (queries_of c.settle_outside.new.standing.queries) (saved_rows c.self.inside.is_open c.settle_outside.new.undo c.settle_outside.new.store)
+    (queries_of c.settle_outside.new.standing.queries) (saved_rows c.self.inside.is_open c.settle_outside.new.undo c.settle_outside.new.store c.self.inside.marks.items)
     (ap queries_of (c.settle_outside.ensures.queries ∙ c.make_edits.ensures.queries))
-    ((λ i. record { schema = c.self.inside.catalog; rows = c.settle_outside.ensures.rows i; queries = queries; saved = None }) ∙ done)
-    (c.settle_outside.ensures.saved ∙ ap (λ (rows : Instance). cond c.self.inside.is_open (Some rows) None) c.make_edits.ensures.saved)
+    ((λ i. record { schema = c.self.inside.catalog; rows = c.settle_outside.ensures.rows i; queries = queries; saved = None }) ∙ done.0)
+    (saved_to_the_end c.self.inside.catalog c.self.inside.store c.self.inside.undo c.self.inside.standing c.self.inside.marks.items c.self.inside.is_open
+    c.self.invariant c.make_edits.new.store c.make_edits.new.undo c.make_edits.new.standing done.1
+    c.make_edits.ensures.links c.make_edits.ensures.saved c.make_edits.ensures.fits c.make_edits.ensures.listed c.make_edits.ensures.queries
+    c.make_edits.ensures.undone c.make_edits.ensures.longer c.make_edits.ensures.log_longer
+    c.settle_outside.new.store c.settle_outside.new.undo c.settle_outside.new.standing c.settle_outside.ensures.open)
 
 pub returns-clause-count : goal.returns-clause-count
 returns-clause-count c =
-    let saved = saved_rows c.self.inside.is_open c.self.inside.undo c.self.inside.store in
+    let saved = saved_rows c.self.inside.is_open c.self.inside.undo c.self.inside.store c.self.inside.marks.items in
     let counted : c.len-count.result ≡ length c.in_ok-table.field-0.edits.items = omega (arith, c.len-count.ensures, c.in_ok-table.field-0.edits.ok) in
     counted ∙ edits_counted c.self.inside.catalog c.self.inside.store.tables c.self.invariant.kept.relations c.args.mutation c.in_ok-table.field-0.table
     c.in_ok-table.field-0.edits.items c.in_ok-table.ensures.ok

@@ -42,5 +42,5 @@ pub returns-clause-rows : goal.returns-clause-rows
 returns-clause-rows c =
     subst (λ (s : State). IfOk c.list.result (λ rows. rows ≡ shown_rows c.args.name.now s)) c.self.view_is
     (shown_if_ok c.self.inside.catalog c.self.inside.standing c.self.invariant.placed (instance_of c.self.inside.store.tables) c.self.invariant.listed
-    (saved_rows c.self.inside.is_open c.self.inside.undo c.self.inside.store) c.args.name.now c.in_ok-place.place
+    (saved_rows c.self.inside.is_open c.self.inside.undo c.self.inside.store c.self.inside.marks.items) c.args.name.now c.in_ok-place.place
     (sym c.standing_place_of.ensures.place ∙ c.in_ok-place.ensures.ok_part) c.list.result c.list.ensures.shown)

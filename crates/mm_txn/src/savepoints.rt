@@ -1,0 +1,36 @@
+//! Savepoints of the transaction that is open.
+ghost use Rattle.std.specs.Prelude.{◌≡◌, false, All, None, IfSome};
+ghost use Rattle.mm_schema.specs.Name.{same_name};
+ghost use Rattle.mm_txn.specs.Marks.{IsLatest};
+
+use mm_schema::Name;
+
+/// The most savepoints that a transaction has at a time.
+pub(crate) const MAX_SAVEPOINTS: usize = 64;
+
+/// A savepoint: its name, and how long the logs were when it was made.
+#[derive(Drop)]
+pub(crate) struct Mark {
+    pub(crate) name: Name,
+    /// How many commands the log of the store had.
+    pub(crate) commands: usize,
+    /// How many changes the log of the lists had.
+    pub(crate) changes: usize,
+}
+
+impl Mark {
+    /// How long the logs of the store and of the lists were.
+    pub(crate) fn lengths(&self) -> (usize, usize)
+        ensures { result ≡ (self.now.commands, self.now.changes) }
+    {
+        (self.commands, self.changes)
+    }
+}
+
+/// The place of the latest savepoint of a name among these, of which the oldest comes first. Places are counted from 0.
+pub(crate) fn latest(marks: &[Mark], name: &Name) -> Option<usize>
+    ensures found { IfSome result (IsLatest name.now marks.now) }
+    ensures none { result ≡ None → All (λ mark. same_name name.now mark.name ≡ false) marks.now }
+{
+    marks.iter().rposition(|mark| *name == mark.name)
+}
