@@ -9,25 +9,25 @@ use Rattle.mm_relation.specs.declared.index.Index.{Index}
 use Rattle.mm_relation.proofs.Made.{wide_refs, apart_refs, IsKept-added}
 use Rattle.mm_relation.proofs.relation.Relation.add_index.Goals as goal
 
-pub over-requires-clause-wide : goal.over-requires-clause-wide
-over-requires-clause-wide c =
+pub with_room-requires-clause-wide : goal.with_room-requires-clause-wide
+with_room-requires-clause-wide c =
     let now = slot_at c.track_for.new.rows in
     let refs = c.self.inside.by_key.refs in
     let indexes = c.self.inside.indexes.items in
     let within : c.args.column < c.self.inside.width = subst (λ (v : StoredRows). c.args.column < v.width) (sym c.self.view_is) c.requires.column in
     let kept : IsKept c.self.inside.width c.self.inside.key now refs indexes =
     subst (λ (places : Places). IsKept c.self.inside.width c.self.inside.key (slot_at places) refs indexes) (sym c.track_for.ensures) c.self.invariant in
-    subst (All (IsWide c.args.column c.self.inside.key now)) (sym (c.as_slice.ensures.value ∙ c.in_ok-refs.ensures))
+    subst (All (IsWide c.args.column c.self.inside.key now)) (sym (c.as_slice-refs.ensures.value ∙ c.in_ok-refs.ensures))
     (wide_refs c.self.inside.width c.self.inside.key now refs indexes kept c.args.column within)
 
-pub over-requires-clause-apart : goal.over-requires-clause-apart
-over-requires-clause-apart c =
+pub with_room-requires-clause-apart : goal.with_room-requires-clause-apart
+with_room-requires-clause-apart c =
     let now = slot_at c.track_for.new.rows in
     let refs = c.self.inside.by_key.refs in
     let indexes = c.self.inside.indexes.items in
     let kept : IsKept c.self.inside.width c.self.inside.key now refs indexes =
     subst (λ (places : Places). IsKept c.self.inside.width c.self.inside.key (slot_at places) refs indexes) (sym c.track_for.ensures) c.self.invariant in
-    subst (KeysApart c.self.inside.key now) (sym (c.as_slice.ensures.value ∙ c.in_ok-refs.ensures))
+    subst (KeysApart c.self.inside.key now) (sym (c.as_slice-refs.ensures.value ∙ c.in_ok-refs.ensures))
     (apart_refs c.self.inside.width c.self.inside.key now refs indexes kept)
 
 pub invariant_of-self-in-Ok : goal.invariant_of-self-in-Ok
@@ -40,7 +40,7 @@ invariant_of-self-in-Ok c =
     subst (λ (places : Places). IsKept c.self.inside.width c.self.inside.key (slot_at places) refs indexes) (sym c.track_for.ensures) c.self.invariant in
     let columns : column_of c.in-Ok.index < c.self.inside.width = rw c.in-Ok.ensures.on.0 within in
     let keeps : Keeps c.self.inside.key now refs c.in-Ok.index =
-    subst (λ (xs : List RowRef). Keeps c.self.inside.key now xs c.in-Ok.index) (c.as_slice.ensures.value ∙ c.in_ok-refs.ensures) c.in-Ok.ensures.keeps
+    subst (λ (xs : List RowRef). Keeps c.self.inside.key now xs c.in-Ok.index) (c.as_slice-refs.ensures.value ∙ c.in_ok-refs.ensures) c.in-Ok.ensures.keeps
     in
     let items : c.push_reserved.new.self.items ≡ indexes ++ c.in-Ok.index ∷ [] =
     c.push_reserved.ensures.items ∙ ap (λ (xs : List Index). xs ++ c.in-Ok.index ∷ []) c.reserve.ensures.items
