@@ -17,7 +17,7 @@ use Rattle.mm_txn.specs.Saved.{AreSaved, CanGoBack, IsSaved, saved_of, saved_row
 use Rattle.mm_txn.specs.Watched.{AreListed}
 use Rattle.mm_txn.specs.declared.savepoints.Mark.{Mark}
 use Rattle.mm_txn.proofs.ListSteps.{saved_now, saved_through}
-use Rattle.mm_txn.proofs.Savepoints.{Ascend-longer, Ascend-push, Ascend-take, each_within}
+use Rattle.mm_txn.proofs.LatestMarks.{Ascend-longer, Ascend-push, Ascend-take, each_within}
 
 -- ---- where older rows stay
 

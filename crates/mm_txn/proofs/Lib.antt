@@ -11,7 +11,7 @@ mod OpenSteps
 mod ReferenceRows
 mod RowsBeside
 mod SavedRows
-mod Savepoints
+mod LatestMarks
 mod Selecting
 mod Resting
 mod Naming

@@ -19,7 +19,6 @@ use Rattle.mm_query.proofs.Throughout.{gone_back, held_before, held_further}
 use Rattle.mm_typing.specs.Typing.{AreTyped, IsTyped, ShiftsNumbers}
 use Rattle.mm_value.specs.declared.values.Value.{Value}
 use Rattle.mm_txn.specs.Kept.{AreKept, AreOf, instance_of}
-use Rattle.mm_txn.specs.Marks.{Ascend, IsLatest}
 use Rattle.mm_txn.specs.Saved.{AreSaved, CanGoBack, IsConsistent, IsSaved, IsSettled, kept_state, saved_of, saved_rows}
 use Rattle.mm_txn.specs.Watched.{AreListed, queries_of}
 use Rattle.mm_txn.specs.declared.savepoints.Mark.{Mark}
@@ -27,7 +26,7 @@ use Rattle.mm_txn.proofs.GoingBack.{back_begun, back_marked, back_through, back_
 use Rattle.mm_txn.proofs.KeptReferences.{kept_by_rows}
 use Rattle.mm_txn.proofs.ListSteps.{listed_back, listed_still, placed_still}
 use Rattle.mm_txn.proofs.RowsBeside.{AreOf-formed}
-use Rattle.mm_txn.proofs.Savepoints.{Ascend-take, back_is, latest_rows, latest_within, mark_within, saved_push}
+use Rattle.mm_txn.proofs.LatestMarks.{Ascend-take, IsLatest, back_is, latest_rows, mark_within, saved_push}
 
 -- Nothing of the front of a list lies behind it.
 drop_taken : {X : Type 0} (n : ℕ) (xs : List X) → drop n (take n xs) ≡ []

@@ -1,7 +1,7 @@
 //! Savepoints of the transaction that is open.
-ghost use Rattle.std.specs.Prelude.{◌≡◌, false, All, None, IfSome};
+ghost use Rattle.std.specs.Prelude.{◌≡◌, ◌<◌, ℕ, false, true, All, None, IfSome, get_or, length};
 ghost use Rattle.mm_schema.specs.Name.{same_name};
-ghost use Rattle.mm_txn.specs.Marks.{IsLatest};
+ghost use Rattle.mm_txn.specs.declared.savepoints.Mark.{Mark as AnyMark};
 
 use mm_schema::Name;
 
@@ -29,7 +29,9 @@ impl Mark {
 
 /// The place of the latest savepoint of a name among these, of which the oldest comes first. Places are counted from 0.
 pub(crate) fn latest(marks: &[Mark], name: &Name) -> Option<usize>
-    ensures found { IfSome result (IsLatest name.now marks.now) }
+    ensures within { IfSome result (λ place. place < length marks.now) }
+    ensures named { IfSome result (λ place. (d : AnyMark) → same_name name.now (get_or marks.now place d).name ≡ true) }
+    ensures latest { IfSome result (λ place. (k : ℕ) (d : AnyMark) → place < k → k < length marks.now → same_name name.now (get_or marks.now k d).name ≡ false) }
     ensures none { result ≡ None → All (λ mark. same_name name.now mark.name ≡ false) marks.now }
 {
     marks.iter().rposition(|mark| *name == mark.name)

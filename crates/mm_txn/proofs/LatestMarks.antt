@@ -1,7 +1,8 @@
 -- The latest savepoint of a name, among the marks and among what is saved.
-use Rattle.std.proofs.Common.{◌≡◌, ℕ, suc, zero, ◌+◌, ◌<◌, ◌≤◌, Bool, true, false, ◌||◌, if◌then◌else◌, List, [], ◌∷◌, ◌++◌, Some, length, map, reverse, take, slice_get, refl, sym, ap, subst, ◌∙◌, arith}
+use Rattle.std.proofs.Common.{◌≡◌, ℕ, suc, zero, ◌+◌, ◌<◌, ◌≤◌, Bool, true, false, ◌||◌, if◌then◌else◌, List, [], ◌∷◌, ◌++◌, Some, get_or, length, map, reverse, take, slice_get, refl, sym, ap, subst, ◌∙◌, arith}
 use mathlib.Core.List.{reverse-cons}
 use Rattle.std.specs.List.{All, AllByRecursion, list_any}
+use Rattle.std.proofs.lemmas.List.Elements.{recursion_from_All}
 use Rattle.std.proofs.lemmas.List.Folds.{list_any-append}
 use Rattle.mm_schema.specs.Instance.{Instance}
 use Rattle.mm_schema.specs.Name.{same_name}
@@ -10,11 +11,28 @@ use Rattle.mm_query.specs.State.{Savepoint}
 use Rattle.mm_store.specs.Marks.{rows_at_mark}
 use Rattle.mm_store.specs.Tables.{Tables}
 use Rattle.mm_store.specs.Worlds.{Noted}
-use Rattle.mm_txn.specs.Marks.{Ascend, IsLatest}
+use Rattle.mm_txn.specs.Marks.{Ascend}
 use Rattle.mm_txn.specs.Saved.{savepoint_at}
 use Rattle.mm_txn.specs.declared.savepoints.Mark.{Mark}
 
 -- ---- marks
+
+-- The mark at a place has the name, and none behind it has.
+abbrev pub IsLatest : List ℕ → List Mark → ℕ → Type 0
+IsLatest name [] place = ⊥
+IsLatest name (mark ∷ marks) zero = (same_name name mark.name ≡ true) × AllByRecursion (λ (later : Mark). same_name name later.name ≡ false) marks
+IsLatest name (mark ∷ marks) (suc place) = IsLatest name marks place
+
+-- That is what the search of it finds.
+pub latest_is : (name : List ℕ) (marks : List Mark) (place : ℕ) → place < length marks → ((d : Mark) → same_name name (get_or marks place d).name ≡ true)
+    → ((k : ℕ) (d : Mark) → place < k → k < length marks → same_name name (get_or marks k d).name ≡ false) → IsLatest name marks place
+latest_is name [] place within named behind = absurd (omega (arith, within))
+latest_is name (mark ∷ marks) zero within named behind = (
+  named mark,
+  recursion_from_All (λ (later : Mark). same_name name later.name ≡ false) marks (λ k d lt. behind (suc k) d (omega arith) (omega (arith, lt))),
+)
+latest_is name (mark ∷ marks) (suc place) within named behind =
+    latest_is name marks place (omega (arith, within)) named (λ k d past lt. behind (suc k) d (omega (arith, past)) (omega (arith, lt)))
 
 -- The latest mark of a name is there.
 pub latest_within : (name : List ℕ) (marks : List Mark) (place : ℕ) → IsLatest name marks place → place < length marks
@@ -44,7 +62,7 @@ Ascend-longer c d (mark ∷ marks) C D E F more longer ascend =
 pub Ascend-push : (c d : ℕ) (marks : List Mark) (C D : ℕ) (mark : Mark) → mark.commands ≡ C → mark.changes ≡ D → Ascend c d marks C D
     → Ascend c d (marks ++ mark ∷ []) C D
 Ascend-push c d [] C D mark commands changes ascend =
-    (omega (arith, ascend.0, commands), omega (arith, ascend.1, changes), omega (arith, commands), omega (arith, changes))
+    (omega (arith, ascend.0, commands), omega (arith, ascend.1, changes), (omega (arith, commands), omega (arith, changes)))
 Ascend-push c d (m ∷ ms) C D mark commands changes ascend =
     (ascend.0, ascend.1, Ascend-push m.commands m.changes ms C D mark commands changes ascend.2)
 
@@ -54,7 +72,7 @@ pub Ascend-take : (c d : ℕ) (marks : List Mark) (C D : ℕ) (place : ℕ) (mar
 Ascend-take c d [] C D place mark there ascend = cc
 Ascend-take c d (m ∷ ms) C D zero mark there ascend =
     let same : m ≡ mark = cc in
-    (ascend.0, ascend.1, omega (arith, ap (λ (n : Mark). n.commands) same), omega (arith, ap (λ (n : Mark). n.changes) same))
+    (ascend.0, ascend.1, (omega (arith, ap (λ (n : Mark). n.commands) same), omega (arith, ap (λ (n : Mark). n.changes) same)))
 Ascend-take c d (m ∷ ms) C D (suc place) mark there ascend =
     (ascend.0, ascend.1, Ascend-take m.commands m.changes ms C D place mark there ascend.2)
 
@@ -91,15 +109,16 @@ module _ (name : List ℕ) where
 
   back_within : (xs ys : List Savepoint) → list_any is_named xs ≡ true → back_to name (xs ++ ys) ≡ back_to name xs ++ ys
   back_within [] ys some = cc
-  back_within (x ∷ xs) ys some = by (same_name name x.name) refl
+  back_within (x ∷ xs) ys some = by (same_name name x.name) refl (back_within xs ys)
     where
-      by : (b : Bool) → same_name name x.name ≡ b → back_to name (x ∷ (xs ++ ys)) ≡ back_to name (x ∷ xs) ++ ys
-      by true own =
+      by : (b : Bool) → same_name name x.name ≡ b → (list_any is_named xs ≡ true → back_to name (xs ++ ys) ≡ back_to name xs ++ ys)
+          → back_to name (x ∷ (xs ++ ys)) ≡ back_to name (x ∷ xs) ++ ys
+      by true own later =
           ap (λ (c : Bool). if c then x ∷ (xs ++ ys) else back_to name (xs ++ ys)) own
           ∙ sym (ap (λ (c : Bool). (if c then x ∷ xs else back_to name xs) ++ ys) own)
-      by false other =
+      by false other later =
           ap (λ (c : Bool). if c then x ∷ (xs ++ ys) else back_to name (xs ++ ys)) other
-          ∙ (back_within xs ys (sym (ap (λ (c : Bool). c || list_any is_named xs) other) ∙ some)
+          ∙ (later (sym (ap (λ (c : Bool). c || list_any is_named xs) other) ∙ some)
           ∙ sym (ap (λ (c : Bool). (if c then x ∷ xs else back_to name xs) ++ ys) other))
 
   none_last : (xs : List Savepoint) (s : Savepoint) → AllByRecursion (λ (x : Savepoint). same_name name x.name ≡ false) xs → same_name name s.name ≡ false
