@@ -1,15 +1,22 @@
-use Rattle.std.proofs.Common.{◌≡◌, ◌<◌, length, Some, sym, ap, ◌∙◌, subst, arith}
-use Rattle.std.specs.Prelude.{slice_get, slice_set}
-use Rattle.std.specs.List.{remove}
+use Rattle.std.proofs.Common.{◌≡◌, ◌<◌, ◌≤◌, ℕ, suc, List, drop, length, take, Some, sym, ap, ◌∙◌, subst, arith}
+use Rattle.std.specs.Prelude.{map, slice_get, slice_set}
+use Rattle.std.specs.List.{All, remove}
+use Rattle.std.proofs.lemmas.List.Elements.{All-append, All-drop, All-take}
 use Rattle.std.proofs.lemmas.List.{length-set}
 use Rattle.mm_partition.specs.Places.{extent_of, slot_at}
+use Rattle.mm_relation.specs.Index.{spare_of}
 use Rattle.mm_relation.specs.Kept.{IsKept, StoredRows}
 use Rattle.mm_store.specs.Joined.{IsTable}
-use Rattle.mm_store.specs.Tables.{Tables}
+use Rattle.mm_store.specs.Marks.{rows_at_mark}
+use Rattle.mm_store.specs.Tables.{IsAt, Tables}
+use Rattle.mm_store.specs.Undoing.{CanUndo, owed}
+use Rattle.mm_store.specs.Worlds.{Noted}
 use Rattle.mm_store.proofs.Applied.{IsSound-same, table_at}
 use Rattle.mm_store.proofs.Edited.{SameRows}
 use Rattle.mm_store.proofs.Joining.{at_index, get_set_same, one_relation}
+use Rattle.mm_store.proofs.UndoLaws.{CanUndo-reindexed, rows-reindexed}
 use Rattle.mm_store.proofs.store.Store.drop_index.Goals as goal
+use Rattle.mm_store.proofs.store.Store.drop_index.Goals.{After-index}
 
 pub invariant_of-self : goal.invariant_of-self
 invariant_of-self c =
@@ -53,3 +60,50 @@ returns-clause-tables c =
     ap (λ (v : Tables). slice_set v.tables place new) c.self.view_is
     ∙ ap (slice_set c.args.self.now.tables place)
     (c.drop_index.ensures ∙ ap (λ (s : StoredRows). record s { indexes = remove s.indexes c.args.index }) one)
+
+-- ---- each log can be taken back still
+
+module _ (c : After-index) where
+  abbrev relation : StoredRows
+  relation = c.index_mut.result.now
+
+  was_there : IsAt c.args.self.now c.args.table relation
+  was_there =
+      let within : c.args.table < length c.self.inside.tables.items =
+      subst (λ (v : Tables). c.args.table < length v.tables) (sym c.self.view_is) c.requires.there in
+      sym (ap (λ (v : Tables). slice_get v.tables c.args.table) c.self.view_is)
+      ∙ at_index c.self.inside.tables.items c.args.table relation within c.index_mut.ensures.value
+
+  room_owed : (n : ℕ) → All (λ x. n ≤ spare_of x) relation.indexes → All (λ x. n ≤ spare_of x) c.drop_index.new.self.indexes
+  room_owed n all =
+      subst (λ (s : StoredRows). All (λ x. n ≤ spare_of x) s.indexes) (sym c.drop_index.ensures)
+      (All-append (λ x. n ≤ spare_of x) (take c.args.index relation.indexes) (drop (suc c.args.index) relation.indexes)
+      (All-take (λ x. n ≤ spare_of x) c.args.index relation.indexes all) (All-drop (λ x. n ≤ spare_of x) (suc c.args.index) relation.indexes all))
+
+  rest : c.drop_index.new.self ≡ record relation { indexes = c.drop_index.new.self.indexes }
+  rest =
+      c.drop_index.ensures
+      ∙ ap (λ xs. record relation { indexes = xs }) (sym (ap (λ (s : StoredRows). s.indexes) c.drop_index.ensures))
+
+  abbrev new_store : Tables
+  new_store = record { tables = slice_set c.self.inside.tables.items c.args.table c.drop_index.new.self; links = map (λ link. link.reference) c.self.inside.links.items }
+
+  module _ (undo : List Noted) (fits : CanUndo c.args.self.now undo) where
+    still_fits : CanUndo new_store undo
+    still_fits =
+        CanUndo-reindexed c.args.self.now new_store c.args.table relation c.drop_index.new.self was_there
+        (ap (λ (v : Tables). slice_set v.tables c.args.table c.drop_index.new.self) c.self.view_is) (ap (λ (v : Tables). v.links) c.self.view_is)
+        (ap (λ (s : StoredRows). s.width) rest) (ap (λ (s : StoredRows). s.key) rest) undo rest
+        (room_owed (owed c.args.table undo) (fits.spare c.args.table relation was_there).each) fits
+
+    same_before : (mark : ℕ) → rows_at_mark mark undo new_store ≡ rows_at_mark mark undo c.args.self.now
+    same_before mark =
+        rows-reindexed c.args.self.now new_store c.args.table relation c.drop_index.new.self was_there
+        (ap (λ (v : Tables). slice_set v.tables c.args.table c.drop_index.new.self) c.self.view_is) (ap (λ (v : Tables). v.links) c.self.view_is)
+        (ap (λ (s : StoredRows). s.width) rest) (ap (λ (s : StoredRows). s.key) rest) undo mark rest fits still_fits
+
+pub returns-clause-fits : goal.returns-clause-fits
+returns-clause-fits c = λ undo fits. still_fits (goal.at.returns-clause-fits c).After-index undo fits
+
+pub returns-clause-rows_before : goal.returns-clause-rows_before
+returns-clause-rows_before c = λ undo mark fits. same_before (goal.at.returns-clause-rows_before c).After-index undo fits mark
