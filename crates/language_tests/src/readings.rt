@@ -31,7 +31,7 @@ fn savepoints_have_names(rt: HostRuntime) -> Result<(), Fail> {
 }
 
 #[test]
-fn savepoints_without_a_name_are_no_syntax(rt: HostRuntime) -> Result<(), Fail> {
+fn savepoints_without_a_name_are_no_commands(rt: HostRuntime) -> Result<(), Fail> {
     for line in [
         b"SAVEPOINT".as_slice(),
         b"SAVEPOINT S",
