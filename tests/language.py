@@ -12,7 +12,7 @@ from typing import NamedTuple, Optional
 LONGEST_LINE = 4096
 LONGEST_TEXT = 64
 LEAST, GREATEST = -(2**63), 2**63 - 1
-MOST_TABLES, MOST_COLUMNS, MOST_INDEXES, MOST_STANDING = 64, 16, 16, 32
+MOST_TABLES, MOST_COLUMNS, MOST_INDEXES, MOST_STANDING, MOST_SAVEPOINTS = 64, 16, 16, 32, 64
 MOST_ITEMS, MOST_FIELDS, MOST_TESTS, MOST_PLACES = 4, 16, 16, 16
 MOST_ROWS = MOST_COMBINATIONS = 1048576
 
@@ -21,11 +21,11 @@ TEXTS = {
     22: "no such index", 23: "no such standing query", 24: "name taken", 25: "alias taken", 26: "no such alias", 30: "type mismatch",
     31: "wrong number of values", 32: "arithmetic out of range", 40: "duplicate key", 41: "no target row", 42: "row is referenced",
     43: "in use", 45: "table full", 46: "result too large", 47: "standing list too large", 48: "too many", 50: "transaction open",
-    51: "no transaction", 52: "not in a transaction",
+    51: "no transaction", 52: "not in a transaction", 53: "no such savepoint",
 }  # fmt: skip
 KEYWORDS = frozenset(
-    b"AND BEGIN COMMIT DELETE DISTINCT DROP EXPLAIN FROM HASH INDEX INSERT INT KEY ON ORDER REF ROLLBACK SCAN SELECT SET SHOW TABLE"
-    b" TABLES TEXT TREE UNWATCH UPDATE WATCH WHERE".split()
+    b"AND BEGIN COMMIT DELETE DISTINCT DROP EXPLAIN FROM HASH INDEX INSERT INT KEY ON ORDER REF ROLLBACK SAVEPOINT SCAN SELECT SET"
+    b" SHOW TABLE TABLES TEXT TO TREE UNWATCH UPDATE WATCH WHERE".split()
 )
 TOKEN = re.compile(rb"[ \t]*(?:([A-Za-z0-9_]+)|('(?:[^'\n]|'')*'(?!'))|(<=|>=|[(),.=<>+-]))")
 NAME = re.compile(rb"[a-z][a-z0-9_]{0,31}")
@@ -257,7 +257,9 @@ class Reader:
             return word + b" INDEX", self.name()
         if word == b"DROP":
             return word + b" " + self.take(b"TABLE"), self.name()
-        if word in (b"SCAN", b"SHOW", b"UNWATCH"):
+        if word == b"ROLLBACK" and self.takes(b"TO"):
+            return word + b" TO", self.name()
+        if word in (b"SAVEPOINT", b"SCAN", b"SHOW", b"UNWATCH"):
             return word, self.name()
         if word in (b"BEGIN", b"COMMIT", b"ROLLBACK", b"TABLES"):
             return (word,)
@@ -348,18 +350,21 @@ def joins_of(query, place):
 
 
 class Database:
-    """The tables, the standing queries, and in a transaction the tables as they were at its begin."""
+    """The tables, the standing queries, and in a transaction the rows as they were at its begin and at each of its savepoints."""
 
     def __init__(self):
-        self.tables, self.standing, self.saved = {}, {}, None
+        self.tables, self.standing = {}, {}
+        self.saved, self.savepoints = None, ()
 
     def copy(self):
         other = Database()
-        other.tables, other.standing, other.saved = dict(self.tables), dict(self.standing), self.saved
+        other.tables, other.standing = dict(self.tables), dict(self.standing)
+        other.saved, other.savepoints = self.saved, self.savepoints
         return other
 
     def is_as(self, other):
-        return (self.tables, self.standing, self.saved) == (other.tables, other.standing, other.saved)
+        kept, others = ((one.tables, one.standing, one.saved, one.savepoints) for one in (self, other))
+        return kept == others
 
     def answer(self, line):
         """The reply to a line, with which its command is done."""
@@ -374,18 +379,41 @@ class Database:
 
     def do_begin(self):
         refuse(50, self.saved is not None)
-        self.saved = dict(self.tables)
+        self.saved = self.rows()
         return b"ok\n"
 
     def do_commit(self):
         refuse(51, self.saved is None)
-        self.saved = None
+        self.saved, self.savepoints = None, ()
         return b"ok\n"
 
     def do_rollback(self):
         refuse(51, self.saved is None)
-        self.tables, self.saved = self.saved, None
+        self.go_back(self.saved)
+        self.saved, self.savepoints = None, ()
         return b"ok\n"
+
+    def do_savepoint(self, name):
+        refuse(51, self.saved is None)
+        refuse(48, len(self.savepoints) == MOST_SAVEPOINTS)
+        self.savepoints = (*self.savepoints, (name, self.rows()))
+        return b"ok\n"
+
+    def do_rollback_to(self, name):
+        refuse(51, self.saved is None)
+        places = [place for place, (other, _) in enumerate(self.savepoints) if other == name]
+        refuse(53, not places)
+        self.savepoints = self.savepoints[: places[-1] + 1]
+        self.go_back(self.savepoints[-1][1])
+        return b"ok\n"
+
+    def rows(self):
+        """The rows of each table, which no later change alters."""
+        return {name: table.rows for name, table in self.tables.items()}
+
+    def go_back(self, rows):
+        """Gives each table the rows that it had. Indexes that came or went since then are no part of that."""
+        self.tables = {name: table._replace(rows=rows[name]) for name, table in self.tables.items()}
 
     def is_mismatch(self, tables, test):
         """Whether the sides of a test or an assignment differ in type, or a text is shifted."""
@@ -418,7 +446,6 @@ class Database:
         return next((name for name, table in self.tables.items() if index in [named for named, _, _ in table.indexes]), None)
 
     def do_index(self, index, name, column, kind):
-        refuse(52, self.saved is not None)
         refuse(20, name not in self.tables)
         table = self.tables[name]
         refuse(21, table.place(column) is None)
@@ -428,7 +455,6 @@ class Database:
         return b"ok\n"
 
     def do_drop_index(self, index):
-        refuse(52, self.saved is not None)
         name = self.owner(index)
         refuse(22, name is None)
         table = self.tables[name]

@@ -2,7 +2,7 @@
 //! all from one to the line that tells of a refused call. Then the call has changed nothing, and is given again.
 //!
 //! So whatever else may be refused before that line ends the test, as passed. `SCAN`, `DROP` and `UNWATCH` ask for no memory, nor
-//! do `BEGIN`, `COMMIT` and `ROLLBACK`.
+//! do `BEGIN`, `COMMIT`, `ROLLBACK` and `ROLLBACK TO`. Tests of savepoints stand in `savepoints.rt`.
 use crate::samples::{
     bound_query, catalog, change, index, query, reading, rows, sizes_of_bound, table, text_of_rows,
 };
@@ -20,13 +20,13 @@ const TABLES: [&str; 5] = [
     "TABLE e (id INT KEY)",
 ];
 
-/// Names of indexes and of standing queries.
-const NAMES: [&[u8]; 5] = [b"a", b"b", b"c", b"d", b"e"];
+/// Names of indexes, of standing queries and of savepoints.
+pub const NAMES: [&[u8]; 5] = [b"a", b"b", b"c", b"d", b"e"];
 
-const NO_NAME: &str = "no name";
+pub const NO_NAME: &str = "no name";
 
 /// Departments with employees, and a log of these, which is empty.
-const FILLED: [&str; 9] = [
+pub const FILLED: [&str; 9] = [
     "TABLE dept (id INT KEY, name TEXT)",
     "TABLE emp (id INT KEY, name TEXT, d INT REF dept)",
     "TABLE log (at INT KEY, e INT REF emp)",
@@ -46,16 +46,16 @@ const OF_LOG: [&str; 3] = [
 ];
 
 /// What an index finds of the employees, and what a standing query shows of them.
-const OF_EMP: [&str; 2] = ["SELECT e.id, e.name FROM emp e WHERE e.d = 2", "SHOW names"];
+pub const OF_EMP: [&str; 2] = ["SELECT e.id, e.name FROM emp e WHERE e.d = 2", "SHOW names"];
 
 const EMPTY_LOG: &str = "rows 0\nrows 0\nrows 0\n";
 
 const THREE_LOGGED: &str =
     "(1, 10)\n(2, 11)\n(3, 10)\nrows 3\n(1)\n(3)\nrows 2\n(1)\n(2)\nrows 2\n";
 
-const FIRST_EMP: &str = "(11, 'bob')\nrows 1\n('sales', 'ann')\n('stock', 'bob')\nrows 2\n";
+pub const FIRST_EMP: &str = "(11, 'bob')\nrows 1\n('sales', 'ann')\n('stock', 'bob')\nrows 2\n";
 
-const MOVED_EMP: &str =
+pub const MOVED_EMP: &str =
     "(10, 'ann of the second floor')\n(11, 'bob')\nrows 2\n('stock', 'ann of the second floor')\n('stock', 'bob')\nrows 2\n";
 
 #[test]
@@ -257,6 +257,8 @@ fn parse_change_growths(rt: HostRuntime) -> Result<(), Fail> {
             ("BEGIN", [0; 4]),
             ("COMMIT", [0; 4]),
             ("ROLLBACK", [0; 4]),
+            ("SAVEPOINT s", [0; 4]),
+            ("ROLLBACK TO s", [0; 4]),
         ],
     )
 }
@@ -435,6 +437,7 @@ fn rollback_growths(rt: HostRuntime) -> Result<(), Fail> {
         &FILLED,
         &["BEGIN", "UPDATE emp SET name = 'cat'"],
         "UPDATE emp SET name = 'ann of the second floor', d = 2 WHERE id = 10",
+        "ROLLBACK",
         &OF_EMP,
         FIRST_EMP,
     )

@@ -9,4 +9,6 @@ mod growths;
 #[cfg(test)]
 mod samples;
 #[cfg(test)]
+mod savepoints;
+#[cfg(test)]
 mod steps;

@@ -151,6 +151,8 @@ pub fn give(alloc: Global, database: &mut Db, command: Command) -> Result<usize,
         Command::Begin => database.begin()?,
         Command::Commit => database.commit()?,
         Command::Rollback => database.rollback()?,
+        Command::Savepoint(name) => database.savepoint(name)?,
+        Command::RollbackTo(name) => database.rollback_to(&name)?,
         _ => return Err(Refusal::Syntax),
     }
     Ok(0)

@@ -114,12 +114,13 @@ fn give_once(
 }
 
 /// Opens a transaction by lines behind those that make a database, gives it one more line, which is refused where memory is, and
-/// rolls back in either case; then it looks at what the database tells.
+/// rolls back by `back` in either case; then it looks at what the database tells.
 pub fn roll_back(
     rt: &(impl Abort + AllocGlobal + Print),
     made_by: &[&str],
     inside: &[&str],
     line: &str,
+    back: &str,
     questions: &[&str],
     expected: &str,
 ) -> Result<(), Fail> {
@@ -127,7 +128,8 @@ pub fn roll_back(
         return Ok(());
     };
     if give_once(rt, &mut database, line)? {
-        database.rollback()?;
+        let back = command(rt.alloc(), back)?;
+        give(rt.alloc(), &mut database, back)?;
         look(rt, &database, questions, expected);
     }
     Ok(())

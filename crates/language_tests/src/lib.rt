@@ -7,6 +7,8 @@
 mod plain_results;
 pub mod put_again;
 #[cfg(test)]
+mod readings;
+#[cfg(test)]
 mod replies;
 #[cfg(test)]
 mod runs;

@@ -23,6 +23,10 @@ fn writes_each_reply(rt: HostRuntime) -> Result<(), Fail> {
             Reply::Refused(Refusal::DuplicateKey),
             "error 40 duplicate key\n",
         ),
+        (
+            Reply::Refused(Refusal::NoSuchSavepoint),
+            "error 53 no such savepoint\n",
+        ),
     ];
     for (reply, text) in &cases {
         let mut written: Vec<u8> = Vec::new(alloc);

@@ -179,6 +179,12 @@ fn each_line_is_answered(rt: HostRuntime) -> Result<(), Fail> {
             0,
         ),
         (
+            b"TABLE t (id INT KEY)\nBEGIN\nSAVEPOINT s\nINSERT t (1)\nROLLBACK TO s\nROLLBACK TO z\nSCAN t\n",
+            b"ok\nok\nok\nok 1\nok\nerror 53 no such savepoint\nrows 0\n",
+            7,
+            1,
+        ),
+        (
             b"TABLE t (id INT KEY)\r\nSCAN t\x00\n\n-- x\nSCAN t",
             b"ok\nerror 11 syntax\nrows 0\n",
             5,

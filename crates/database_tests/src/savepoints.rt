@@ -1,0 +1,125 @@
+//! Growths of memory that are refused in a transaction with savepoints, and to indexes that are made in one.
+use crate::growths::{FILLED, FIRST_EMP, MOVED_EMP, NAMES, NO_NAME, OF_EMP};
+use crate::samples::opened;
+use crate::steps::{give_each, granted, roll_back, tell_refused};
+use mm_schema::Name;
+use mm_value::Refusal;
+use std::test::Fail;
+
+/// The plan of a question, and its answer.
+const PLAN_AND_ANSWER: [&str; 2] = [
+    "EXPLAIN SELECT e.id FROM emp e WHERE e.name = 'bob'",
+    "SELECT e.id FROM emp e WHERE e.name = 'bob'",
+];
+
+#[test]
+fn savepoint_growths(rt: HostRuntime) -> Result<(), Fail> {
+    let alloc = rt.alloc();
+    let Some(mut database) = granted(&rt, opened(alloc, &FILLED, &["BEGIN", "DELETE emp"])) else {
+        return Ok(());
+    };
+    for bytes in NAMES {
+        let name = Name::new(bytes).ok_or(NO_NAME)?;
+        if let Err(refusal) = database.savepoint(name.copy()) {
+            tell_refused(&rt, refusal)?;
+            assert!(rt; matches!(database.rollback_to(&name), Err(Refusal::NoSuchSavepoint)));
+            database.savepoint(name.copy())?;
+        }
+        database.rollback_to(&name)?;
+    }
+    Ok(())
+}
+
+#[test]
+fn savepoint_line_growths(rt: HostRuntime) -> Result<(), Fail> {
+    give_each(
+        &rt,
+        &FILLED,
+        &OF_EMP,
+        &[
+            ("BEGIN", FIRST_EMP),
+            ("SAVEPOINT s", FIRST_EMP),
+            (
+                "UPDATE emp SET name = 'ann of the second floor', d = 2 WHERE id = 10",
+                MOVED_EMP,
+            ),
+            ("SAVEPOINT x", MOVED_EMP),
+            ("SAVEPOINT s", MOVED_EMP),
+            ("DELETE emp", "rows 0\nrows 0\n"),
+            ("ROLLBACK TO s", MOVED_EMP),
+            ("ROLLBACK TO x", MOVED_EMP),
+            ("ROLLBACK TO s", FIRST_EMP),
+            ("COMMIT", FIRST_EMP),
+        ],
+    )
+}
+
+#[test]
+fn rollback_to_growths(rt: HostRuntime) -> Result<(), Fail> {
+    roll_back(
+        &rt,
+        &FILLED,
+        &[
+            "BEGIN",
+            "UPDATE emp SET name = 'ann of the second floor', d = 2 WHERE id = 10",
+            "SAVEPOINT s",
+            "UPDATE emp SET name = 'cat'",
+        ],
+        "UPDATE emp SET name = 'dan of the first floor', d = 1",
+        "ROLLBACK TO s",
+        &OF_EMP,
+        MOVED_EMP,
+    )
+}
+
+#[test]
+fn index_in_a_transaction_growths(rt: HostRuntime) -> Result<(), Fail> {
+    give_each(
+        &rt,
+        &FILLED,
+        &PLAN_AND_ANSWER,
+        &[
+            ("BEGIN", "e scan\nsteps 1\n(11)\nrows 1\n"),
+            (
+                "DELETE emp WHERE id = 11",
+                "e scan\nsteps 1\nrows 0\n",
+            ),
+            (
+                "INDEX i ON emp (name) HASH",
+                "e hash i\nsteps 1\nrows 0\n",
+            ),
+            (
+                "INDEX j ON emp (name) TREE",
+                "e hash i\nsteps 1\nrows 0\n",
+            ),
+            ("DROP INDEX i", "e tree j =\nsteps 1\nrows 0\n"),
+            ("ROLLBACK", "e tree j =\nsteps 1\n(11)\nrows 1\n"),
+        ],
+    )
+}
+
+#[test]
+fn rollback_past_an_index_growths(rt: HostRuntime) -> Result<(), Fail> {
+    roll_back(
+        &rt,
+        &FILLED,
+        &["BEGIN", "DELETE emp WHERE id = 11"],
+        "INDEX i ON emp (name) TREE",
+        "ROLLBACK",
+        &PLAN_AND_ANSWER[1..],
+        "(11)\nrows 1\n",
+    )
+}
+
+#[test]
+fn rollback_to_past_an_index_growths(rt: HostRuntime) -> Result<(), Fail> {
+    roll_back(
+        &rt,
+        &FILLED,
+        &["BEGIN", "SAVEPOINT s", "DELETE emp WHERE id = 11"],
+        "INDEX i ON emp (name) HASH",
+        "ROLLBACK TO s",
+        &PLAN_AND_ANSWER[1..],
+        "(11)\nrows 1\n",
+    )
+}
