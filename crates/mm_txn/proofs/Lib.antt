@@ -9,6 +9,7 @@ mod ListSteps
 mod ListedRows
 mod OpenSteps
 mod ReferenceRows
+mod RollbackDue
 mod RowsBeside
 mod SavedRows
 mod LatestMarks

@@ -69,6 +69,16 @@ index_or_closed true true may = inr refl
 index_or_closed true false may = cc
 index_or_closed false of_index may = inl refl
 
+and_false : (b : Bool) → (b && false) ≡ false
+and_false true = refl
+and_false false = refl
+
+pub may_by_index : (is_open of_index : Bool) → of_index ≡ true → (is_open && not of_index) ≡ false
+may_by_index is_open of_index index = ap (λ (b : Bool). is_open && not b) index ∙ and_false is_open
+
+pub may_by_closed : (is_open of_index : Bool) → is_open ≡ false → (is_open && not of_index) ≡ false
+may_by_closed is_open of_index closed = ap (λ (b : Bool). b && not of_index) closed
+
 pub index_where_open : (is_open of_index : Bool) → (is_open && not of_index) ≡ false → is_open ≡ true → of_index ≡ true
 index_where_open true true may is = refl
 index_where_open true false may is = cc

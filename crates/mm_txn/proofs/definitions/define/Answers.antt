@@ -1,10 +1,10 @@
 -- The lists stand still where tables and indexes change, and fit still where a standing query goes.
-use Rattle.std.proofs.Common.{◌≡◌, refl}
+use Rattle.std.proofs.Common.{◌≡◌, ap, ◌∙◌}
 use Rattle.mm_schema.specs.Indexes.{drop_index_conditions, index_conditions}
 use Rattle.mm_schema.specs.Refused.{first_refusal}
 use Rattle.mm_schema.specs.Schema.{table_conditions}
 use Rattle.mm_store.proofs.UndoLaws.{CanUndo-nil}
-use Rattle.mm_query.specs.Machine.{after_definition}
+use Rattle.mm_query.specs.Machine.{after_definition, is_of_index}
 use Rattle.mm_query.specs.declared.command.Definition.TheVariants as define
 use Rattle.mm_txn.specs.Kept.{instance_of, state_of}
 use Rattle.mm_txn.proofs.Resting.{rest_by_index, rest_by_no_index, rest_by_table, rest_still}
@@ -53,10 +53,10 @@ returns-in-Unwatch-clause-rest c =
 -- ---- nothing is to be taken back where a change concerns more than an index
 
 pub returns-in-Table-clause-fits : goal.returns-in-Table-clause-fits
-returns-in-Table-clause-fits c = CanUndo-nil c.add_table.new.store c.args.undo.now (c.requires.settled refl).undo_is
+returns-in-Table-clause-fits c = CanUndo-nil c.add_table.new.store c.args.undo.now (c.requires.settled (ap is_of_index c.in-Table.is)).undo_is
 
 pub returns-in-DropTable-clause-fits : goal.returns-in-DropTable-clause-fits
-returns-in-DropTable-clause-fits c = CanUndo-nil c.drop_table.new.store c.args.undo.now (c.requires.settled refl).undo_is
+returns-in-DropTable-clause-fits c = CanUndo-nil c.drop_table.new.store c.args.undo.now (c.requires.settled (ap is_of_index c.in-DropTable.is)).undo_is
 
 pub returns-in-DropTable-clause-settled : goal.returns-in-DropTable-clause-settled
 returns-in-DropTable-clause-settled c = λ none.

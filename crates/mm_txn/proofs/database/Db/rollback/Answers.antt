@@ -11,4 +11,4 @@ invariant_of-self c =
     (ap (λ (l : Lists). l.queries) c.revert-2.ensures.rest)
     (ap (λ (l : Lists). l.prepared) c.revert-2.ensures.rest ∙ c.self.invariant.listed.ready) c.if-not-self.false c.revert.ensures.rows
     (λ list row. c.revert-2.ensures.counts 0 (omega arith) list row)
-    (record { undo_is = c.revert.ensures.undo; log = c.revert-2.ensures.log }) c.clear.new.self.items c.clear.ensures
+    (record { undo_is = c.revert.ensures.undo; log = c.revert-2.ensures.log }) c.clear.new.self.items c.clear.ensures.items
