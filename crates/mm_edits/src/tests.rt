@@ -88,7 +88,7 @@ fn three_indexed(alloc: Global, kind: IndexKind) -> Result<Relation, AllocError>
 {
     let mut relation = three(alloc)?;
     if relation.len() <= 3 {
-        relation.add_index(alloc, 1, kind)?;
+        relation.add_index(alloc, 1, kind, 0)?;
     }
     Ok(relation)
 }

@@ -85,7 +85,7 @@ fn fill(
     store.check(alloc, table, edits.as_slice())?;
     let mut undo = Undo::new(alloc);
     store.apply(alloc, table, edits, &mut undo)?;
-    store.add_index(alloc, table, 1, kind)?;
+    store.add_index(alloc, table, 1, kind, &undo)?;
     Ok(())
 }
 

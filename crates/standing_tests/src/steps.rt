@@ -44,7 +44,8 @@ fn add_index(alloc: Global, store: &mut Store) -> Result<(), AllocError>
     ensures two { length store.new.tables ≡ 2 }
     ensures plain { ArePlain store.new }
 {
-    store.add_index(alloc, 0, 1, IndexKind::Hash)?;
+    let undo = Undo::new(alloc);
+    store.add_index(alloc, 0, 1, IndexKind::Hash, &undo)?;
     Ok(())
 }
 

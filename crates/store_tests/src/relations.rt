@@ -21,8 +21,8 @@ fn sample(alloc: Global) -> Result<Relation, AllocError>
     ensures { IfOk result IsSample }
 {
     let mut relation = Relation::new(alloc, 3, 0);
-    relation.add_index(alloc, 1, IndexKind::Tree)?;
-    relation.add_index(alloc, 1, IndexKind::Hash)?;
+    relation.add_index(alloc, 1, IndexKind::Tree, 0)?;
+    relation.add_index(alloc, 1, IndexKind::Hash, 0)?;
     Ok(relation)
 }
 
@@ -425,11 +425,11 @@ fn builds_full_trees_over_rows(rt: HostRuntime) -> Result<(), Fail> {
     // 63 nodes, as many as six levels have.
     assert_eq!(rt; ordered.len(), 1000);
     assert_eq!(rt; ordered.height(), 6);
-    if relation.add_index(alloc, 1, IndexKind::Tree).is_err() {
-        relation.add_index(alloc, 1, IndexKind::Tree)?;
+    if relation.add_index(alloc, 1, IndexKind::Tree, 0).is_err() {
+        relation.add_index(alloc, 1, IndexKind::Tree, 0)?;
     }
-    if relation.add_index(alloc, 0, IndexKind::Tree).is_err() {
-        relation.add_index(alloc, 0, IndexKind::Tree)?;
+    if relation.add_index(alloc, 0, IndexKind::Tree, 0).is_err() {
+        relation.add_index(alloc, 0, IndexKind::Tree, 0)?;
     }
     assert_eq!(rt; relation.len(), 1000);
     Ok(())

@@ -30,7 +30,8 @@ pub fn add_index(
     ensures plain { ArePlain store.new }
     ensures links { store.new.links ≡ store.old.links }
 {
-    store.add_index(alloc, table, 1, kind)?;
+    let undo = empty_log(store, alloc);
+    store.add_index(alloc, table, 1, kind, &undo)?;
     Ok(())
 }
 
