@@ -80,18 +80,9 @@ fn index_in_a_transaction_growths(rt: HostRuntime) -> Result<(), Fail> {
         &PLAN_AND_ANSWER,
         &[
             ("BEGIN", "e scan\nsteps 1\n(11)\nrows 1\n"),
-            (
-                "DELETE emp WHERE id = 11",
-                "e scan\nsteps 1\nrows 0\n",
-            ),
-            (
-                "INDEX i ON emp (name) HASH",
-                "e hash i\nsteps 1\nrows 0\n",
-            ),
-            (
-                "INDEX j ON emp (name) TREE",
-                "e hash i\nsteps 1\nrows 0\n",
-            ),
+            ("DELETE emp WHERE id = 11", "e scan\nsteps 1\nrows 0\n"),
+            ("INDEX i ON emp (name) HASH", "e hash i\nsteps 1\nrows 0\n"),
+            ("INDEX j ON emp (name) TREE", "e hash i\nsteps 1\nrows 0\n"),
             ("DROP INDEX i", "e tree j =\nsteps 1\nrows 0\n"),
             ("ROLLBACK", "e tree j =\nsteps 1\n(11)\nrows 1\n"),
         ],
