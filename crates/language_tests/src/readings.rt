@@ -3,14 +3,13 @@ use mm_lang::parse;
 use mm_query::Command;
 use mm_schema::Name;
 use mm_value::Refusal;
-use std::alloc::Global;
 use std::test::Fail;
 
-// The name of the savepoint that a line makes or goes back to, and whether it goes back.
-fn savepoint_of(alloc: Global, line: &[u8]) -> Option<(Name, bool)> {
-    match parse(alloc, line) {
-        Ok(Command::Savepoint(name)) => Some((name, false)),
-        Ok(Command::RollbackTo(name)) => Some((name, true)),
+/// The name of the savepoint that a command makes or goes back to, and whether it goes back.
+fn savepoint_of(command: Command) -> Option<(Name, bool)> {
+    match command {
+        Command::Savepoint(name) => Some((name, false)),
+        Command::RollbackTo(name) => Some((name, true)),
         _other => None,
     }
 }
@@ -23,7 +22,8 @@ fn savepoints_have_names(rt: HostRuntime) -> Result<(), Fail> {
         (b"ROLLBACK TO s", b"s", true),
         (b" ROLLBACK\tTO  savepoint", b"savepoint", true),
     ] {
-        let (found, back) = savepoint_of(rt.alloc(), line).ok_or("no savepoint")?;
+        let command = parse(rt.alloc(), line)?;
+        let (found, back) = savepoint_of(command).ok_or("no savepoint")?;
         assert_eq!(rt; found.bytes(), name);
         assert_eq!(rt; back, goes_back, "at {line:?}");
     }
