@@ -24,8 +24,8 @@ TEXTS = {
     51: "no transaction", 52: "not in a transaction", 53: "no such savepoint",
 }  # fmt: skip
 KEYWORDS = frozenset(
-    b"AND BEGIN COMMIT DELETE DISTINCT DROP EXPLAIN FROM HASH INDEX INSERT INT KEY ON ORDER REF ROLLBACK SAVEPOINT SCAN SELECT SET"
-    b" SHOW TABLE TABLES TEXT TO TREE UNWATCH UPDATE WATCH WHERE".split()
+    b"AND BEGIN CASCADE COMMIT DELETE DISTINCT DROP EXPLAIN FROM HASH INDEX INSERT INT KEY ON ORDER REF ROLLBACK SAVEPOINT SCAN SELECT"
+    b" SET SHOW TABLE TABLES TEXT TO TREE UNWATCH UPDATE WATCH WHERE".split()
 )
 TOKEN = re.compile(rb"[ \t]*(?:([A-Za-z0-9_]+)|('(?:[^'\n]|'')*'(?!'))|(<=|>=|[(),.=<>+-]))")
 NAME = re.compile(rb"[a-z][a-z0-9_]{0,31}")
@@ -63,6 +63,13 @@ class Column(NamedTuple):
     type: bytes
     is_key: bool
     target: Optional[bytes]
+    cascades: bool
+
+    def role(self):
+        """What it is for, as it stands in a TABLE behind its type."""
+        if self.is_key:
+            return b" KEY"
+        return b" REF " + self.target + b" CASCADE" * self.cascades if self.target else b""
 
 
 class Field(NamedTuple):
@@ -212,7 +219,8 @@ class Reader:
     def column(self):
         name, kind = self.name(), self.take(b"INT", b"TEXT")
         is_key = self.takes(b"KEY")
-        return Column(name, kind, is_key, self.name() if not is_key and self.takes(b"REF") else None)
+        target = self.name() if not is_key and self.takes(b"REF") else None
+        return Column(name, kind, is_key, target, target is not None and self.takes(b"CASCADE"))
 
     def row(self):
         self.take(b"(")
@@ -481,8 +489,12 @@ class Database:
         return self.change(name, pairs)
 
     def do_delete(self, name, tests):
-        self.checked_table(name, [], tests)
-        return self.change(name, [(row, None) for row in self.rows_that_meet(name, tests)])
+        table = self.checked_table(name, [], tests)
+        met = {row[table.key()] for row in self.rows_that_meet(name, tests)}
+        gone = self.with_referring(name, met)
+        refuse(42, any(gone[target] & self.referred_keys(target, gone) for target in self.tables))
+        self.put({other: self.rows_without(other, keys) for other, keys in gone.items() if keys})
+        return b"ok %d\n" % len(met)
 
     def checked_table(self, name, assigns, tests):
         """The table of an UPDATE or a DELETE, where its names and types are right."""
@@ -500,31 +512,55 @@ class Database:
         return [combination[b""] for combination in self.combinations(query)]
 
     def change(self, name, pairs):
-        """Puts new rows in the places of old ones, where either may be None."""
+        """Puts new rows in the places of old ones, where an old one may be None."""
         table = self.tables[name]
         key, old_keys = table.key(), {old[table.key()] for old, _ in pairs if old}
-        new = [row for _, row in pairs if row]
-        rows = {its_key: row for its_key, row in table.rows.items() if its_key not in old_keys}
+        new = [row for _, row in pairs]
+        rows = self.rows_without(name, old_keys)
         refuse(40, len({*rows, *(row[key] for row in new)}) < len(rows) + len(new))
         rows |= {row[key]: row for row in new}
         for place, column in enumerate(table.columns):
             refuse(41, column.target and any(row[place] not in self.tables[column.target].rows for row in new))
-        moved = {old[key] for old, row in pairs if old and not (row and row[key] == old[key])}
-        refuse(42, moved & self.referred_keys(name))
+        moved = {old[key] for old, row in pairs if old and row[key] != old[key]}
+        refuse(42, moved & self.referred_keys(name, {}))
         refuse(45, len(rows) > MOST_ROWS)
-        before, self.tables[name] = table, table._replace(rows=rows)
-        if any(self.is_too_large(query) for query in self.standing.values() if name in dict(query.items)):
-            self.tables[name] = before
-            raise Refused(47)
+        self.put({name: rows})
         return b"ok %d\n" % len(pairs)
 
-    def referred_keys(self, name):
-        """The keys of a table to which rows of other tables refer."""
+    def put(self, rows):
+        """Gives some tables these rows, unless a standing query would get too large by that."""
+        before = self.tables
+        self.tables = {name: table._replace(rows=rows.get(name, table.rows)) for name, table in before.items()}
+        if any(self.is_too_large(query) for query in self.standing.values() if rows.keys() & dict(query.items).keys()):
+            self.tables = before
+            raise Refused(47)
+
+    def rows_without(self, name, keys):
+        """The rows of a table, by their keys, but those of some keys."""
+        return {key: row for key, row in self.tables[name].rows.items() if key not in keys}
+
+    def referred_keys(self, name, gone):
+        """The keys of a table to which rows of other tables refer, where some rows of each table, by their keys, count as gone."""
         keys = set()
-        for table in self.tables.values():
-            for place, column in enumerate(table.columns):
-                keys |= {row[place] for row in table.rows.values() if column.target == name}
+        for other, table in self.tables.items():
+            places = [place for place, column in enumerate(table.columns) if column.target == name]
+            keys |= {row[place] for place in places for key, row in table.rows.items() if key not in gone.get(other, ())}
         return keys
+
+    def with_referring(self, name, keys):
+        """The keys of the rows that go with those of a table, for each table. A row goes if a column with CASCADE refers to one
+        that goes."""
+        gone = {other: set(keys if other == name else ()) for other in self.tables}
+        while more := [(other, key) for other in self.tables for key in self.referring_keys(other, gone) - gone[other]]:
+            for other, key in more:
+                gone[other].add(key)
+        return gone
+
+    def referring_keys(self, name, gone):
+        """The keys of the rows of a table that refer to a row that goes by a column with CASCADE."""
+        table = self.tables[name]
+        targets = [(place, gone[column.target]) for place, column in enumerate(table.columns) if column.cascades]
+        return {key for key, row in table.rows.items() if any(row[place] in keys for place, keys in targets)}
 
     def do_scan(self, name):
         refuse(20, name not in self.tables)
@@ -615,8 +651,7 @@ class Database:
     def do_tables(self):
         told = b""
         for name, table in self.tables.items():
-            roles = [b" KEY" if c.is_key else b" REF " + c.target if c.target else b"" for c in table.columns]
-            columns = b", ".join(c.name + b" " + c.type + role for c, role in zip(table.columns, roles))
+            columns = b", ".join(c.name + b" " + c.type + c.role() for c in table.columns)
             told += b"TABLE %s (%s) rows %d\n" % (name, columns, len(table.rows))
             told += b"".join(b"INDEX %s ON %s (%s) %s\n" % (index, name, column, kind) for index, column, kind in table.indexes)
         told += b"".join(b"WATCH %s rows %d\n" % (name, len(self.rows_of(query))) for name, query in self.standing.items())

@@ -5,6 +5,8 @@ use Rattle.std.specs.Prelude.{ℤ}
 use Rattle.std.specs.Option.{option_or}
 use Rattle.std.proofs.lemmas.Bool.{and_parts}
 use Rattle.mm_schema.specs.Name.{IsName}
+use Rattle.mm_schema.specs.declared.column.OnDelete.{OnDelete}
+use Rattle.mm_schema.specs.declared.column.OnDelete.TheVariants.{Cascade, Restrict}
 use Rattle.mm_schema.specs.declared.column.Role.{Role}
 use Rattle.mm_schema.specs.declared.column.Role.TheVariants.{Plain, Key, Reference}
 use Rattle.mm_schema.specs.declared.index.IndexKind.{IndexKind}
@@ -28,7 +30,7 @@ use Rattle.mm_lang.specs.declared.keyword.Keyword.TheVariants as keyword
 use Rattle.mm_lang.specs.declared.token.Symbol.TheVariants.{Open, Close, Comma, Dot, Equal}
 use Rattle.mm_lang.specs.Grammar.{command_of}
 use Rattle.mm_lang.specs.Reading.{assignment_literals, first_fault, literals_among, literals_of, operand_literals, past_limit, position_literals, query_literals, test_literals}
-use Rattle.mm_lang.specs.Spelling.{word, type_word, kind_word, comparison_symbol, SpellsLiteral, SpellsOne, SpellsList, SpellsClause, SpellsInParentheses, SpellsTuple, SpellsRole, SpellsColumn, SpellsShift, SpellsName, SpellsField, SpellsOperandOn, SpellsTestOn, SpellsAssignment, SpellsTestsOn, SpellsFromItem, SpellsDistinct, SpellsPosition, SpellsOrder, SpellsQuery, SpellsCommand}
+use Rattle.mm_lang.specs.Spelling.{word, type_word, kind_word, comparison_symbol, SpellsLiteral, SpellsOne, SpellsList, SpellsClause, SpellsInParentheses, SpellsTuple, SpellsOnDelete, SpellsRole, SpellsColumn, SpellsShift, SpellsName, SpellsField, SpellsOperandOn, SpellsTestOn, SpellsAssignment, SpellsTestsOn, SpellsFromItem, SpellsDistinct, SpellsPosition, SpellsOrder, SpellsQuery, SpellsCommand}
 use Rattle.mm_lang.specs.Tokens.{Token, Word, Signed, Quoted, Mark}
 use Rattle.mm_lang.specs.steps.Parsing.{no_literals, only_literal}
 use Rattle.mm_lang.proofs.SpelledWords.{literal_spelled, name_no_literal}
@@ -86,10 +88,15 @@ kind_no_literal kind.Hash = refl
 behind_name : (name : List ℕ) (ts : List Token) → IsName name → among (Word name ∷ ts) ≡ among ts
 behind_name name ts named = ap (λ o. cons_option o (among ts)) (name_no_literal name named)
 
+on_delete_no_literal : (ts : List Token) (d : OnDelete) (us : List Token) → SpellsOnDelete ts d → among (ts ++ us) ≡ among us
+on_delete_no_literal ts Restrict us spelled = ap (λ l. among (l ++ us)) spelled
+on_delete_no_literal ts Cascade us spelled = ap (λ l. among (l ++ us)) spelled
+
 role_no_literal : (ts : List Token) (r : Role) (us : List Token) → SpellsRole ts r → among (ts ++ us) ≡ among us
 role_no_literal ts Key us spelled = ap (λ l. among (l ++ us)) spelled
 role_no_literal ts Plain us spelled = ap (λ l. among (l ++ us)) spelled
-role_no_literal ts (Reference target) us spelled = ap (λ l. among (l ++ us)) spelled.1 ∙ behind_name target us spelled.0
+role_no_literal ts (Reference target on_delete) us spelled =
+    ap (λ l. among (l ++ us)) spelled.3 ∙ behind_name target (spelled.0 ++ us) spelled.1 ∙ on_delete_no_literal spelled.0 on_delete us spelled.2
 
 column_literals : HasLiterals SpellsColumn no_literals
 column_literals ts c us h =

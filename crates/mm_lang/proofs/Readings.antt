@@ -12,7 +12,7 @@ use Rattle.mm_value.specs.declared.values.Value.{Value}
 use Rattle.mm_lang.specs.declared.keyword.Keyword.{Keyword}
 use Rattle.mm_lang.specs.declared.keyword.Keyword.TheVariants as keyword
 use Rattle.mm_lang.specs.declared.reader.Reader.{Reader}
-use Rattle.mm_lang.specs.Grammar.{name, col_type, reference, role_behind, role, column}
+use Rattle.mm_lang.specs.Grammar.{name, col_type, on_delete_of, reference_to, reference, role_behind, role, column}
 use Rattle.mm_lang.specs.Phrases.{Phrase, ◌>>=◌, say, one, one_word, word_of, the_keyword, has_keyword, list_of, clause_behind, clause}
 use Rattle.mm_lang.specs.Reading.{first_fault, literal_fault}
 use Rattle.mm_lang.specs.Tokens.{Token, Word, tokens}
@@ -221,13 +221,24 @@ module _ (old mid new : Reader) (key : Skips (the_keyword keyword.Key) old mid f
   role_plain h =
       took_then role_behind (keyword_stands keyword.Key old mid false key) (took_then reference (keyword_stands keyword.Ref mid new false h) (took_say Plain new))
 
-  -- .. or REF and the name of a table.
-  pub role_reference : (behind : Reader) (table : List ℕ) → Skips (the_keyword keyword.Ref) mid behind true → Gives name no_literals behind new table
-      → Took role old new (Reference table)
-  role_reference behind table h g =
-      took_then role_behind (keyword_stands keyword.Key old mid false key)
-      (took_then reference (keyword_stands keyword.Ref mid behind true h)
-      (took_then (λ (t : List ℕ). say (Reference t)) (took g) (took_say (Reference table) new)))
+  -- .. or REF and what stands behind it.
+  pub role_reference : (behind : Reader) (r : Result Role Refusal) → Skips (the_keyword keyword.Ref) mid behind true
+      → ReadsPhrase (reference true) no_literals behind new r → ReadsPhrase role no_literals old new r
+  role_reference behind r h reads =
+      reads_behind (has_keyword keyword.Key) role_behind no_literals old mid new false r (keyword_stands keyword.Key old mid false key)
+      (reads_behind (has_keyword keyword.Ref) reference no_literals mid behind new true r (keyword_stands keyword.Ref mid behind true h) reads)
+
+-- Behind REF stands the name of a table, and behind it CASCADE or nothing.
+
+pub reference_no_name : (old : Reader) (e : Refusal) → Fails name old e → Fails (reference true) old e
+reference_no_name old e h = fails_first name reference_to old e h
+
+pub reference_given : (old mid new : Reader) (table : List ℕ) (there : Bool) → Gives name no_literals old mid table
+    → Skips (the_keyword keyword.Cascade) mid new there → Gives (reference true) no_literals old new (Reference table (on_delete_of there))
+reference_given old mid new table there g h =
+    gives (took_then reference_to (took g)
+    (took_then (λ (b : Bool). say (Reference table (on_delete_of b))) (keyword_stands keyword.Cascade mid new there h)
+    (took_say (Reference table (on_delete_of there)) new)))
 
 -- A column.
 

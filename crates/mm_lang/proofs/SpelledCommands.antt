@@ -6,6 +6,8 @@ use Rattle.std.proofs.lemmas.Option.{none-some, same_Some}
 use Rattle.mm_schema.specs.Columns.{key_count}
 use Rattle.mm_schema.specs.Name.{IsName}
 use Rattle.mm_schema.specs.declared.column.Column.{Column}
+use Rattle.mm_schema.specs.declared.column.OnDelete.{OnDelete}
+use Rattle.mm_schema.specs.declared.column.OnDelete.TheVariants.{Cascade, Restrict}
 use Rattle.mm_schema.specs.declared.column.Role.{Role}
 use Rattle.mm_schema.specs.declared.column.Role.TheVariants.{Plain, Key, Reference}
 use Rattle.mm_schema.specs.declared.index.IndexKind.{IndexKind}
@@ -20,9 +22,9 @@ use Rattle.mm_query.specs.declared.command.Mutation.TheVariants as change
 use Rattle.mm_lang.specs.declared.keyword.Keyword.{Keyword}
 use Rattle.mm_lang.specs.declared.keyword.Keyword.TheVariants as keyword
 use Rattle.mm_lang.specs.declared.token.Symbol.TheVariants.{Open, Close, Comma}
-use Rattle.mm_lang.specs.Grammar.{literal_of, name, type_named, col_type, reference, role_behind, role, column, kind_named, index_kind, tuple, comma_list, table, drop, dropped, index, insert, rollback, rolled_back, savepoint, scan, scan_of, show, unwatch, command_behind, command_of}
+use Rattle.mm_lang.specs.Grammar.{literal_of, name, type_named, col_type, on_delete_of, reference_to, reference, role_behind, role, column, kind_named, index_kind, tuple, comma_list, table, drop, dropped, index, insert, rollback, rolled_back, savepoint, scan, scan_of, show, unwatch, command_behind, command_of}
 use Rattle.mm_lang.specs.Phrases.{Phrase, ◌>>=◌, ◌>>◌, say, one, one_word, the_symbol, the_keyword, has_keyword, only_if, in_parentheses, alone}
-use Rattle.mm_lang.specs.Spelling.{word, type_word, kind_word, SpellsLiteral, SpellsOne, SpellsList, SpellsInParentheses, SpellsTuple, SpellsRole, SpellsColumn, SpellsCommand}
+use Rattle.mm_lang.specs.Spelling.{word, type_word, kind_word, SpellsLiteral, SpellsOne, SpellsList, SpellsInParentheses, SpellsTuple, SpellsOnDelete, SpellsRole, SpellsColumn, SpellsCommand}
 use Rattle.mm_lang.specs.Tokens.{Token, Word, Mark}
 use Rattle.mm_lang.specs.Words.{keyword_named}
 use Rattle.mm_lang.specs.steps.Parts.{Front, said_same, tested, chained, then_parts, word_parts, in_parentheses_parts}
@@ -68,14 +70,26 @@ type_spelled type.Text us = refl
 abbrev IsRole : List Token → Role → List Token → Type 0
 IsRole ts r us = (front : List Token) × SpellsRole front r × (ts ≡ front ++ us)
 
+on_delete_read : (there : Bool) (ts us : List Token) → ((there ≡ true) × (ts ≡ word keyword.Cascade ∷ us)) ⊎ ((there ≡ false) × (ts ≡ us))
+    → (behind : List Token) × SpellsOnDelete behind (on_delete_of there) × (ts ≡ behind ++ us)
+on_delete_read true ts us (inl h) = (word keyword.Cascade ∷ [], refl, h.1)
+on_delete_read false ts us (inr h) = ([], refl, h.1)
+on_delete_read true ts us (inr h) = absurd (false≢true (sym h.0))
+on_delete_read false ts us (inl h) = absurd (false≢true h.0)
+
 reference_read : (there : Bool) (ts : List Token) (r : Role) (us : List Token) → reference there ts ≡ Some (r, us)
     → (ms : List Token) → ((there ≡ true) × (ms ≡ word keyword.Ref ∷ ts)) ⊎ ((there ≡ false) × (ms ≡ ts)) → IsRole ms r us
 reference_read true ts r us e ms (inl h) =
-    let p = then_parts name (λ t. say (Reference t)) ts r us e in
-    let q = said_same (Reference p.0) r p.1 us p.3 in
+    let p = then_parts name reference_to ts r us e in
+    let q = then_parts (has_keyword keyword.Cascade) (λ there. say (Reference p.0 (on_delete_of there))) p.1 r us p.3 in
+    let s = said_same (Reference p.0 (on_delete_of q.0)) r q.1 us q.3 in
     let n = name_read ts p.0 p.1 p.2 in
-    let front = word keyword.Ref ∷ Word p.0 ∷ [] in
-    (front, subst (SpellsRole front) q.0 (n.1, refl), h.1 ∙ ap (λ l. word keyword.Ref ∷ l) (n.0 ∙ ap (λ l. Word p.0 ∷ l) q.1))
+    let behind = on_delete_read q.0 p.1 q.1 (has_keyword_read keyword.Cascade p.1 q.0 q.1 q.2) in
+    let front = word keyword.Ref ∷ Word p.0 ∷ behind.0 in (
+      front,
+      subst (SpellsRole front) s.0 (behind.0, n.1, behind.1, refl),
+      h.1 ∙ ap (λ l. word keyword.Ref ∷ l) (n.0 ∙ ap (λ l. Word p.0 ∷ l) (behind.2 ∙ ap (λ l. behind.0 ++ l) s.1)),
+    )
 reference_read false ts r us e ms (inr h) = let q = said_same Plain r ts us e in ([], subst (SpellsRole []) q.0 refl, h.1 ∙ q.1)
 reference_read true ts r us e ms (inr h) = absurd (false≢true (sym h.0))
 reference_read false ts r us e ms (inl h) = absurd (false≢true h.0)
@@ -98,16 +112,29 @@ role_read ts r us e =
     let p = then_parts (has_keyword keyword.Key) role_behind ts r us e in
     role_behind_read p.0 p.1 r us p.3 ts (has_keyword_read keyword.Key ts p.0 p.1 p.2)
 
--- no role stands in front
+-- no role stands in front, and no CASCADE that would go on with one
 abbrev NoRole : List Token → Type 0
-NoRole us = role us ≡ Some (Plain, us)
+NoRole us = (role us ≡ Some (Plain, us)) × (the_keyword keyword.Cascade us ≡ None)
+
+-- CASCADE or nothing behind the name of a table, by the keyword in front
+by_cascade : List ℕ → List Token → Option (Front (Unit {0})) → Option (Front Role)
+by_cascade target ts found =
+    option_and_then (λ (r : Front Bool). say (Reference target (on_delete_of r.0)) r.1)
+    (option_or (option_and_then (λ (s : Front (Unit {0})). say true s.1) found) (Some (false, ts)))
+
+reference_to_spelled : (target : List ℕ) (behind : List Token) (d : OnDelete) (us : List Token) → SpellsOnDelete behind d
+    → the_keyword keyword.Cascade us ≡ None → reference_to target (behind ++ us) ≡ Some (Reference target d, us)
+unfolding by_cascade
+reference_to_spelled target behind Restrict us spelled end = ap (λ l. reference_to target (l ++ us)) spelled ∙ ap (by_cascade target us) end
+reference_to_spelled target behind Cascade us spelled end = ap (λ l. reference_to target (l ++ us)) spelled
 
 role_spelled : (front : List Token) (r : Role) (us : List Token) → SpellsRole front r → NoRole us → role (front ++ us) ≡ Some (r, us)
 role_spelled front Key us spelled end = ap (λ l. role (l ++ us)) spelled
-role_spelled front Plain us spelled end = ap (λ l. role (l ++ us)) spelled ∙ end
-role_spelled front (Reference target) us spelled end =
-    ap (λ l. role (l ++ us)) spelled.1
-    ∙ ap (option_and_then (λ (r : Front (List ℕ)). say (Reference r.0) r.1)) (name_spelled target us spelled.0)
+role_spelled front Plain us spelled end = ap (λ l. role (l ++ us)) spelled ∙ end.0
+role_spelled front (Reference target on_delete) us spelled end =
+    ap (λ l. role (l ++ us)) spelled.3
+    ∙ ap (option_and_then (λ (r : Front (List ℕ)). reference_to r.0 r.1)) (name_spelled target (spelled.0 ++ us) spelled.1)
+    ∙ reference_to_spelled target spelled.0 on_delete us spelled.2 end.1
 
 say_column : List ℕ → ColType → Role → Phrase Column
 say_column n t r = say (record { name = n; col_type = t; role = r })
@@ -146,12 +173,12 @@ column_spelled front c us h end =
 
 columns_exact : IsExact (comma_list column) (SpellsList (Mark Comma) SpellsColumn) (λ us. NoRole us × (the_symbol Comma us ≡ None))
 columns_exact =
-    list_exact (the_symbol Comma) (Mark Comma) column SpellsColumn NoRole comma (record { sound = column_read; complete = column_spelled }) (λ us. refl)
+    list_exact (the_symbol Comma) (Mark Comma) column SpellsColumn NoRole comma (record { sound = column_read; complete = column_spelled }) (λ us. (refl, refl))
 
 table_columns_exact : IsExact (in_parentheses (comma_list column)) (SpellsInParentheses (SpellsList (Mark Comma) SpellsColumn)) Always
 table_columns_exact =
     parentheses_exact (comma_list column) (SpellsList (Mark Comma) SpellsColumn) (λ us. NoRole us × (the_symbol Comma us ≡ None)) columns_exact
-    (λ us. (refl, refl))
+    (λ us. ((refl, refl), refl))
 
 -- INSERT
 

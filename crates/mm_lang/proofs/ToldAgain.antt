@@ -7,6 +7,8 @@ use Rattle.std.proofs.lemmas.List.Elements.{recursion_from_All}
 use Rattle.mm_schema.specs.Columns.{key_count, target_of}
 use Rattle.mm_schema.specs.Name.{IsName, is_lower, is_name_byte, is_name_text}
 use Rattle.mm_schema.specs.declared.column.Column.{Column}
+use Rattle.mm_schema.specs.declared.column.OnDelete.{OnDelete}
+use Rattle.mm_schema.specs.declared.column.OnDelete.TheVariants.{Cascade, Restrict}
 use Rattle.mm_schema.specs.declared.column.Role.{Role}
 use Rattle.mm_schema.specs.declared.column.Role.TheVariants as role
 use Rattle.mm_schema.specs.declared.index.IndexDef.{IndexDef}
@@ -20,8 +22,8 @@ use Rattle.mm_query.specs.declared.command.Definition.TheVariants as define
 use Rattle.mm_lang.specs.declared.keyword.Keyword.TheVariants as keyword
 use Rattle.mm_lang.specs.declared.token.Symbol.TheVariants.{Open, Close, Comma}
 use Rattle.mm_lang.specs.Grammar.{command_of}
-use Rattle.mm_lang.specs.ReplyText.{HasIndexNames, HasTableNames, column_text, columns_text, index_told, role_text, table_told}
-use Rattle.mm_lang.specs.Spelling.{SpellsColumn, SpellsList, SpellsRole, kind_word, type_word, word}
+use Rattle.mm_lang.specs.ReplyText.{HasIndexNames, HasTableNames, column_text, columns_text, index_told, on_delete_text, role_text, table_told}
+use Rattle.mm_lang.specs.Spelling.{SpellsColumn, SpellsList, SpellsOnDelete, SpellsRole, kind_word, type_word, word}
 use Rattle.mm_lang.specs.Tokens.{Token, Word, Mark, begins_word, is_word_byte, lexed, onto_word, tokens}
 use Rattle.mm_lang.specs.Words.{keyword_text}
 use Rattle.mm_lang.proofs.Lexing.{tokens_blank, tokens_none, word_step}
@@ -88,10 +90,28 @@ type_front : (t : ColType) (rest : List ℕ) → begins_word rest ≡ false → 
 type_front type.Int rest ends = word_front (codes "INT") rest refl refl ends
 type_front type.Text rest ends = word_front (codes "TEXT") rest refl refl ends
 
+on_delete_tokens : OnDelete → List Token
+on_delete_tokens Restrict = []
+on_delete_tokens Cascade = word keyword.Cascade ∷ []
+
+on_delete_ends : (d : OnDelete) (rest : List ℕ) → begins_word rest ≡ false → begins_word (on_delete_text d ++ rest) ≡ false
+on_delete_ends Restrict rest ends = ends
+on_delete_ends Cascade rest ends = refl
+
+on_delete_front : (d : OnDelete) (rest : List ℕ) → begins_word rest ≡ false → tokens (on_delete_text d ++ rest) ≡ on_delete_tokens d ++ tokens rest
+unfolding on_delete_tokens
+on_delete_front Restrict rest ends = refl
+on_delete_front Cascade rest ends = blank_front (codes "CASCADE" ++ rest) ∙ word_front (codes "CASCADE") rest refl refl ends
+
+on_delete_spells : (d : OnDelete) → SpellsOnDelete (on_delete_tokens d) d
+unfolding on_delete_tokens
+on_delete_spells Restrict = refl
+on_delete_spells Cascade = refl
+
 role_tokens : Role → List Token
 role_tokens role.Key = word keyword.Key ∷ []
 role_tokens role.Plain = []
-role_tokens (role.Reference table) = word keyword.Ref ∷ Word table ∷ []
+role_tokens (role.Reference table on_delete) = word keyword.Ref ∷ Word table ∷ on_delete_tokens on_delete
 
 -- the tables that a column refers to are names
 abbrev IsNamed : Column → Type 0
@@ -100,7 +120,7 @@ IsNamed c = IsName c.name × IfSome (target_of c) IsName
 role_ends : (r : Role) (rest : List ℕ) → begins_word rest ≡ false → begins_word (role_text r ++ rest) ≡ false
 role_ends role.Key rest ends = refl
 role_ends role.Plain rest ends = ends
-role_ends (role.Reference table) rest ends = refl
+role_ends (role.Reference table on_delete) rest ends = refl
 
 abbrev column_of_role : Role → Column
 column_of_role r = record { name = []; col_type = type.Int; role = r }
@@ -110,15 +130,18 @@ role_front : (r : Role) (rest : List ℕ) → IfSome (target_of (column_of_role 
 unfolding role_tokens
 role_front role.Key rest named ends = blank_front (codes "KEY" ++ rest) ∙ word_front (codes "KEY") rest refl refl ends
 role_front role.Plain rest named ends = refl
-role_front (role.Reference table) rest named ends =
-    blank_front (codes "REF" ++ 32 ∷ (table ++ rest)) ∙ word_front (codes "REF") (32 ∷ (table ++ rest)) refl refl refl
-    ∙ ap (λ l. word keyword.Ref ∷ l) (blank_front (table ++ rest) ∙ name_front table rest named ends)
+role_front (role.Reference table on_delete) rest named ends =
+    let behind = on_delete_text on_delete ++ rest in
+    ap (λ l. tokens (32 ∷ (codes "REF" ++ 32 ∷ l))) (append_assoc table (on_delete_text on_delete) rest)
+    ∙ blank_front (codes "REF" ++ 32 ∷ (table ++ behind)) ∙ word_front (codes "REF") (32 ∷ (table ++ behind)) refl refl refl
+    ∙ ap (λ l. word keyword.Ref ∷ l) (blank_front (table ++ behind) ∙ name_front table behind named (on_delete_ends on_delete rest ends)
+    ∙ ap (λ l. Word table ∷ l) (on_delete_front on_delete rest ends))
 
 role_spells : (r : Role) → IfSome (target_of (column_of_role r)) IsName → SpellsRole (role_tokens r) r
 unfolding role_tokens
 role_spells role.Key named = refl
 role_spells role.Plain named = refl
-role_spells (role.Reference table) named = (named, refl)
+role_spells (role.Reference table on_delete) named = (on_delete_tokens on_delete, named, on_delete_spells on_delete, refl)
 
 column_tokens : Column → List Token
 column_tokens c = Word c.name ∷ word (type_word c.col_type) ∷ role_tokens c.role

@@ -6,6 +6,8 @@ use Rattle.std.proofs.Math.IntN.{neg_ℤ}
 use Rattle.mm_schema.specs.Columns.{key_count}
 use Rattle.mm_schema.specs.Name.{is_name}
 use Rattle.mm_schema.specs.declared.column.Column.{Column}
+use Rattle.mm_schema.specs.declared.column.OnDelete.{OnDelete}
+use Rattle.mm_schema.specs.declared.column.OnDelete.TheVariants.{Cascade, Restrict}
 use Rattle.mm_schema.specs.declared.column.Role.{Role}
 use Rattle.mm_schema.specs.declared.column.Role.TheVariants.{Plain, Key, Reference}
 use Rattle.mm_schema.specs.declared.index.IndexKind.{IndexKind}
@@ -162,21 +164,30 @@ position = one_word (λ word. if is_numeral word then Some (digits_value 10 word
 abbrev pub order : Phrase (List ℕ)
 order = clause keyword.Order (the_symbol symbol.Comma) position
 
--- name, where REF stands in front, and else nothing
+-- What becomes of the rows that refer to a row that is deleted, by whether CASCADE stands behind the table's name.
+abbrev pub on_delete_of : Bool → OnDelete
+on_delete_of true = Cascade
+on_delete_of false = Restrict
+
+-- [CASCADE], behind REF and the name of a table
+abbrev pub reference_to : List ℕ → Phrase Role
+reference_to table = has_keyword keyword.Cascade >>= (λ there. say (Reference table (on_delete_of there)))
+
+-- name [CASCADE], where REF stands in front, and else nothing
 abbrev pub reference : Bool → Phrase Role
-reference true = name >>= (λ table. say (Reference table))
+reference true = name >>= reference_to
 reference false = say Plain
 
--- nothing, where KEY stands in front, and else [REF name]
+-- nothing, where KEY stands in front, and else [REF name [CASCADE]]
 abbrev pub role_behind : Bool → Phrase Role
 role_behind true = say Key
 role_behind false = has_keyword keyword.Ref >>= reference
 
--- [KEY | REF name]
+-- [KEY | REF name [CASCADE]]
 abbrev pub role : Phrase Role
 role = has_keyword keyword.Key >>= role_behind
 
--- coldef = name type [KEY | REF name]
+-- coldef = name type [KEY | REF name [CASCADE]]
 unfoldable pub column : Phrase Column
 column = do
   name ← name

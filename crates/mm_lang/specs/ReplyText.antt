@@ -8,6 +8,8 @@ use Rattle.mm_value.specs.declared.values.Value.{Value}
 use Rattle.mm_schema.specs.Columns.{target_of}
 use Rattle.mm_schema.specs.Name.{IsName}
 use Rattle.mm_schema.specs.declared.column.Column.{Column}
+use Rattle.mm_schema.specs.declared.column.OnDelete.{OnDelete}
+use Rattle.mm_schema.specs.declared.column.OnDelete.TheVariants.{Cascade, Restrict}
 use Rattle.mm_schema.specs.declared.column.Role.{Role}
 use Rattle.mm_schema.specs.declared.column.Role.TheVariants as role
 use Rattle.mm_schema.specs.declared.index.IndexDef.{IndexDef}
@@ -60,11 +62,16 @@ line_text step = line_alias step ++ way_text step
 abbrev pub steps_text : List PlanLine → List ℕ
 steps_text steps = counted_lines line_text (codes "steps ") steps
 
--- what a column is for, as TABLE has it, behind a space: KEY, REF name, or nothing
+-- what becomes of the rows that refer to a row that is deleted, as TABLE has it, behind a space: CASCADE, or nothing
+abbrev pub on_delete_text : OnDelete → List ℕ
+on_delete_text Restrict = []
+on_delete_text Cascade = 32 ∷ keyword_text keyword.Cascade
+
+-- what a column is for, as TABLE has it, behind a space: KEY, REF name [CASCADE], or nothing
 abbrev pub role_text : Role → List ℕ
 role_text role.Key = 32 ∷ keyword_text keyword.Key
 role_text role.Plain = []
-role_text (role.Reference table) = 32 ∷ keyword_text keyword.Ref ++ 32 ∷ table
+role_text (role.Reference table on_delete) = 32 ∷ keyword_text keyword.Ref ++ 32 ∷ table ++ on_delete_text on_delete
 
 -- a column, as TABLE has it
 abbrev pub column_text : Column → List ℕ

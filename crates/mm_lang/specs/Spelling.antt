@@ -5,6 +5,8 @@ use Rattle.std.proofs.Math.IntN.{neg_ℤ}
 use Rattle.mm_schema.specs.Columns.{key_count}
 use Rattle.mm_schema.specs.Name.{IsName}
 use Rattle.mm_schema.specs.declared.column.Column.{Column}
+use Rattle.mm_schema.specs.declared.column.OnDelete.{OnDelete}
+use Rattle.mm_schema.specs.declared.column.OnDelete.TheVariants.{Cascade, Restrict}
 use Rattle.mm_schema.specs.declared.column.Role.{Role}
 use Rattle.mm_schema.specs.declared.column.Role.TheVariants as role
 use Rattle.mm_schema.specs.declared.index.IndexKind.{IndexKind}
@@ -73,11 +75,17 @@ abbrev pub type_word : ColType → Keyword
 type_word type.Int = keyword.Int
 type_word type.Text = keyword.Text
 
--- coldef = name type [KEY | REF name]
+-- [CASCADE]
+abbrev pub SpellsOnDelete : List Token → OnDelete → Type 0
+SpellsOnDelete ts Restrict = ts ≡ []
+SpellsOnDelete ts Cascade = ts ≡ word keyword.Cascade ∷ []
+
+-- coldef = name type [KEY | REF name [CASCADE]]
 abbrev pub SpellsRole : List Token → Role → Type 0
 SpellsRole ts role.Key = ts ≡ word keyword.Key ∷ []
 SpellsRole ts role.Plain = ts ≡ []
-SpellsRole ts (role.Reference table) = IsName table × (ts ≡ word keyword.Ref ∷ Word table ∷ [])
+SpellsRole ts (role.Reference table on_delete) =
+    (behind : List Token) × IsName table × SpellsOnDelete behind on_delete × (ts ≡ word keyword.Ref ∷ Word table ∷ behind)
 
 abbrev pub SpellsColumn : List Token → Column → Type 0
 SpellsColumn ts column =

@@ -7,6 +7,7 @@ ghost use Rattle.mm_lang.specs.Words.{is_word, keyword_named, keyword_text};
 pub enum Keyword {
     And,
     Begin,
+    Cascade,
     Commit,
     Delete,
     Distinct,
@@ -39,9 +40,10 @@ pub enum Keyword {
 }
 
 /// All keywords, in the order of the alphabet.
-pub(crate) const KEYWORDS: [Keyword; 31] = [
+pub(crate) const KEYWORDS: [Keyword; 32] = [
     Keyword::And,
     Keyword::Begin,
+    Keyword::Cascade,
     Keyword::Commit,
     Keyword::Delete,
     Keyword::Distinct,
@@ -81,6 +83,7 @@ impl Keyword {
         match self {
             Keyword::And => b"AND",
             Keyword::Begin => b"BEGIN",
+            Keyword::Cascade => b"CASCADE",
             Keyword::Commit => b"COMMIT",
             Keyword::Delete => b"DELETE",
             Keyword::Distinct => b"DISTINCT",

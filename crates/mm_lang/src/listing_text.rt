@@ -3,7 +3,7 @@ ghost use Rattle.std.specs.Prelude.{◌≡◌, false, ◌∷◌, ◌++◌, codes
 ghost use Rattle.std.specs.List.{flat_map};
 ghost use Rattle.mm_value.specs.Device.{Writes};
 ghost use Rattle.mm_value.specs.Watched.{has_failed};
-ghost use Rattle.mm_lang.specs.ReplyText.{column_text, columns_text, index_line, listing_text, query_line, role_text, table_line, table_lines};
+ghost use Rattle.mm_lang.specs.ReplyText.{column_text, columns_text, index_line, listing_text, on_delete_text, query_line, role_text, table_line, table_lines};
 ghost use Rattle.mm_lang.specs.Spelling.{kind_word, type_word};
 ghost use Rattle.mm_lang.specs.Words.{keyword_text};
 ghost use Rattle.mm_lang.specs.declared.keyword.Keyword.TheVariants.{Ref};
@@ -11,7 +11,7 @@ ghost use Rattle.mm_lang.specs.declared.keyword.Keyword.TheVariants.{Ref};
 use crate::keyword::Keyword;
 use crate::reply_text::{write_after_space, write_count, write_four, write_two};
 use mm_query::{ListedQuery, ListedTable, Listing};
-use mm_schema::{Column, IndexDef, IndexKind, Role};
+use mm_schema::{Column, IndexDef, IndexKind, OnDelete, Role};
 use mm_value::{ColType, Watched, WriteFault, put_all};
 use std::io::Write;
 
@@ -120,17 +120,33 @@ fn write_role<W: Write>(role: &Role, writer: &mut Watched<W>) -> Result<(), Writ
     match role {
         Role::Key => write_after_space(Keyword::Key.text(), writer),
         Role::Plain => Ok(()),
-        Role::Reference(table) => write_reference(table.bytes(), writer),
+        Role::Reference { table, on_delete } => write_reference(table.bytes(), *on_delete, writer),
     }
 }
 
-/// Writes that a column refers to a table.
-fn write_reference<W: Write>(table: &[u8], writer: &mut Watched<W>) -> Result<(), WriteFault>
+/// Writes that a column refers to a table, and what becomes of its rows when those of the table are deleted.
+fn write_reference<W: Write>(
+    table: &[u8],
+    on_delete: OnDelete,
+    writer: &mut Watched<W>,
+) -> Result<(), WriteFault>
     requires { has_failed writer.old ≡ false }
-    ensures { Writes W.contents writer.old writer.new result (32 ∷ keyword_text Ref ++ 32 ∷ table.now) }
+    ensures { Writes W.contents writer.old writer.new result (32 ∷ keyword_text Ref ++ 32 ∷ table.now ++ on_delete_text on_delete) }
 {
     write_after_space(Keyword::Ref.text(), writer)?;
-    write_after_space(table, writer)
+    write_after_space(table, writer)?;
+    write_on_delete(on_delete, writer)
+}
+
+/// Writes what becomes of the rows that refer to a row that is deleted, as TABLE has it.
+fn write_on_delete<W: Write>(on_delete: OnDelete, writer: &mut Watched<W>) -> Result<(), WriteFault>
+    requires { has_failed writer.old ≡ false }
+    ensures { Writes W.contents writer.old writer.new result (on_delete_text on_delete) }
+{
+    match on_delete {
+        OnDelete::Restrict => Ok(()),
+        OnDelete::Cascade => write_after_space(Keyword::Cascade.text(), writer),
+    }
 }
 
 /// The word of a type.

@@ -25,8 +25,8 @@ pub const MAX_LINE_BYTES: usize = 4096;
 
 /// Reads a line, without its line feed and carriage return, as a command. A line of blanks alone, of no bytes or that
 /// begins with `--` reads as `Nothing`. Else the line is one of these, where `[ ]` is optional:
-/// `TABLE name (column, ..)`, where a column is `name type [KEY | REF name]`, a type is `INT` or `TEXT`, and just one column
-/// has `KEY`; `DROP TABLE name`; `INDEX name ON name (name) kind`, where a kind is `TREE` or `HASH`; `DROP INDEX name`;
+/// `TABLE name (column, ..)`, where a column is `name type [KEY | REF name [CASCADE]]`, a type is `INT` or `TEXT`, and just
+/// one column has `KEY`; `DROP TABLE name`; `INDEX name ON name (name) kind`, where a kind is `TREE` or `HASH`; `DROP INDEX name`;
 /// `INSERT name (literal, ..), ..`; `UPDATE name SET name = value, .. [WHERE test AND ..]`; `DELETE name [WHERE test AND ..]`,
 /// where a test is `name op value`, an op one of `=`, `<`, `<=`, `>` and `>=`, and a value `literal`, `name`, `name + digits`
 /// or `name - digits`; `SCAN name` and `SCAN INDEX name`;

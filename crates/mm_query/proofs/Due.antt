@@ -9,7 +9,7 @@ use Rattle.mm_schema.proofs.Dues.{due_behind, due_in_front}
 use Rattle.mm_schema.proofs.Places.{no_table, table_at_place}
 use Rattle.mm_value.specs.declared.refusal.Refusal.{Refusal}
 use Rattle.mm_query.specs.Binding.{binding_conditions}
-use Rattle.mm_query.specs.Edits.{changed_table, own_pairs, value_conditions}
+use Rattle.mm_query.specs.Edits.{changed_table, edits, value_conditions}
 use Rattle.mm_query.specs.Machine.{after_change, change_conditions, conditions, reply_to, row_conditions, state_after, step, unless_refused}
 use Rattle.mm_query.specs.Standing.{growth_conditions}
 use Rattle.mm_query.specs.State.{State}
@@ -50,7 +50,7 @@ due_in_front_of_rows mutation state refusal h =
 pub due_behind_values : (mutation : Mutation) (state : State)
     → first_refusal (binding_conditions mutation state.schema ++ value_conditions mutation state) ≡ None
     → first_refusal (change_conditions mutation state)
-    ≡ first_refusal (row_conditions (changed_table mutation) (own_pairs mutation state) state (after_change mutation state)
+    ≡ first_refusal (row_conditions (changed_table mutation) (edits mutation state) (after_change mutation state)
     ++ growth_conditions (after_change mutation state))
 due_behind_values mutation state none =
     ap first_refusal (sym (append_assoc (binding_conditions mutation state.schema) (value_conditions mutation state) _))

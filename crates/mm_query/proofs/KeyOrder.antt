@@ -1,10 +1,10 @@
 -- Every state that commands lead to has each table's rows strictly in key order.
-use Rattle.std.proofs.Common.{◌≡◌, ℕ, Bool, true, false, List, [], ◌++◌, map, Option, Some, None, refl, subst, sym}
+use Rattle.std.proofs.Common.{◌≡◌, ℕ, Bool, true, false, List, [], ◌∷◌, ◌++◌, filter, map, Option, Some, None, refl, subst, sym}
 use Rattle.std.specs.List.{IsDistinct}
 use Rattle.std.specs.Prelude.{IfSome}
 use Rattle.mm_schema.specs.Columns.{key_place}
 use Rattle.mm_schema.specs.Indexes.{table_with_index, table_without_index}
-use Rattle.mm_schema.specs.Instance.{AreInKeyOrder, Instance}
+use Rattle.mm_schema.specs.Instance.{AreInKeyOrder, Instance, TableEdits}
 use Rattle.mm_schema.specs.Name.{same_name}
 use Rattle.mm_schema.specs.Refused.{Condition, ascend, first_refusal}
 use Rattle.mm_schema.specs.Rows.{has_twin_keys, table_rows_conditions}
@@ -18,9 +18,9 @@ use Rattle.mm_schema.proofs.Places.{new_name_is_free}
 use Rattle.mm_schema.proofs.StrictOrder.{IsStrictlySortedBy-nil}
 use Rattle.mm_schema.proofs.Twins.{Row, column_cmp_total}
 use Rattle.mm_value.specs.declared.refusal.Refusal.TheVariants.{DuplicateKey}
-use Rattle.mm_query.specs.Binding.{binding_conditions}
-use Rattle.mm_query.specs.Edits.{changed_table, own_pairs, value_conditions}
-use Rattle.mm_query.specs.Machine.{after_all, after_change, after_definition, change_conditions, conditions, definition_conditions, row_conditions, some_is_referred, some_lacks_target}
+use Rattle.mm_query.specs.Binding.{binding_conditions, tests_for}
+use Rattle.mm_query.specs.Edits.{changed_table, edits, meets, own_edits, own_pairs, value_conditions}
+use Rattle.mm_query.specs.Machine.{after_all, after_change, after_definition, after_edits, change_conditions, conditions, definition_conditions, row_conditions, some_is_referred, some_lacks_target}
 use Rattle.mm_query.specs.Standing.{growth_conditions}
 use Rattle.mm_query.specs.State.{AreSavedRows, State, first_state, rows_in}
 use Rattle.mm_query.specs.declared.command.Command.{Command}
@@ -29,6 +29,7 @@ use Rattle.mm_query.specs.declared.command.Definition.{Definition}
 use Rattle.mm_query.specs.declared.command.Definition.TheVariants as define
 use Rattle.mm_query.specs.declared.command.Mutation.{Mutation}
 use Rattle.mm_query.specs.declared.command.Mutation.TheVariants.{Insert, Update, Delete}
+use Rattle.mm_query.proofs.Removals.{AreInKeyOrder-all_removed, cascades_remove, removals_remove}
 use Rattle.mm_query.proofs.Throughout.{each_held, HoldsThroughout, held_by_all}
 
 -- Each command's conditions stand in the one order.
@@ -101,25 +102,42 @@ no_twins key rows lacks referred behind due = first_none (has_twin_keys key rows
 
 -- Where nothing refuses a change, neither its rows nor the standing queries do.
 pub none_due_by_rows : (mutation : Mutation) (state : State) → first_refusal (change_conditions mutation state) ≡ None
-    → first_refusal (row_conditions (changed_table mutation) (own_pairs mutation state) state (after_change mutation state)
+    → first_refusal (row_conditions (changed_table mutation) (edits mutation state) (after_change mutation state)
     ++ growth_conditions (after_change mutation state)) ≡ None
 none_due_by_rows mutation state due =
     let by_rows =
-    row_conditions (changed_table mutation) (own_pairs mutation state) state (after_change mutation state)
+    row_conditions (changed_table mutation) (edits mutation state) (after_change mutation state)
     ++ growth_conditions (after_change mutation state) in
     none_due_behind (value_conditions mutation state) by_rows
     (none_due_behind (binding_conditions mutation state.schema) (value_conditions mutation state ++ by_rows) due)
 
+module _ (mutation : Mutation) (state : State) (due : first_refusal (change_conditions mutation state) ≡ None) (kept : IsKept state.schema state.rows)
+    (one : edits mutation state ≡ own_edits mutation state ∷ []) where
+  -- A change of one table leaves it in key order, since no two of its rows have one key.
+  order_of_one : AreInKeyOrder state.schema.tables (after_change mutation state).rows
+  order_of_one =
+      subst (λ (es : List TableEdits). AreInKeyOrder state.schema.tables (after_edits state.schema.tables es state.rows)) (sym one)
+      (AreInKeyOrder-changed (changed_table mutation) (own_pairs mutation state) state.schema.tables state.rows kept.order kept.distinct
+      (subst (λ (es : List TableEdits). has_twin_keys (key_named (changed_table mutation) state.schema)
+      (rows_in (record state { rows = after_edits state.schema.tables es state.rows }) (changed_table mutation)) ≡ false) one
+      (no_twins (key_named (changed_table mutation) state.schema) (rows_in (after_change mutation state) (changed_table mutation))
+      (some_lacks_target (changed_table mutation) (after_change mutation state)) (some_is_referred (edits mutation state) (after_change mutation state))
+      (growth_conditions (after_change mutation state))
+      (none_due_by_rows mutation state due))))
+
+order_after : (mutation : Mutation) (state : State) → first_refusal (change_conditions mutation state) ≡ None → IsKept state.schema state.rows
+    → AreInKeyOrder state.schema.tables (after_change mutation state).rows
+order_after (Insert table tuples) state due kept = order_of_one (Insert table tuples) state due kept refl
+order_after (Update table assignments tests) state due kept = order_of_one (Update table assignments tests) state due kept refl
+order_after (Delete table tests) state due kept =
+    AreInKeyOrder-all_removed state.schema.tables (edits (Delete table tests) state) state.rows
+    (cascades_remove state.schema state.schema.tables state.rows (own_edits (Delete table tests) state ∷ [])
+    (removals_remove (filter (meets (tests_for table state.schema tests)) (rows_in state table)), tt))
+    kept.order
+
 pub kept_by_change : (mutation : Mutation) (state : State) → first_refusal (change_conditions mutation state) ≡ None → IsKept state.schema state.rows
     → IsKept state.schema (after_change mutation state).rows
-kept_by_change mutation state due kept = record {
-  distinct = kept.distinct;
-  order = AreInKeyOrder-changed (changed_table mutation) (own_pairs mutation state) state.schema.tables state.rows kept.order kept.distinct
-      (no_twins (key_named (changed_table mutation) state.schema) (rows_in (after_change mutation state) (changed_table mutation))
-      (some_lacks_target (changed_table mutation) (after_change mutation state)) (some_is_referred (changed_table mutation) (own_pairs mutation state) state)
-      (growth_conditions (after_change mutation state))
-      (none_due_by_rows mutation state due));
-}
+kept_by_change mutation state due kept = record { distinct = kept.distinct; order = order_after mutation state due kept }
 
 -- ---- every state
 

@@ -7,6 +7,7 @@ use Rattle.std.proofs.lemmas.Bool.{or_from, or_parts}
 use Rattle.std.proofs.lemmas.List.Elements.{All-from_recursion, All-nil, All-push, All-weaker, recursion_from_All}
 use Rattle.std.proofs.lemmas.List.Folds.{list_any-append}
 use Rattle.mm_schema.specs.Indexes.{table_with_index, table_without_index}
+use Rattle.mm_schema.specs.Instance.{Instance, TableEdits, changed_instance, rows_named}
 use Rattle.mm_schema.specs.Name.{same_name}
 use Rattle.mm_schema.specs.Refused.{Condition, first_refusal}
 use Rattle.mm_schema.specs.Schema.{Schema, columns_named, is_other_referring_to, lacks_table, reads_table, with_table, without_table}
@@ -18,8 +19,8 @@ use Rattle.mm_schema.proofs.Dues.{none_due_behind}
 use Rattle.mm_schema.proofs.NameLemmas.{same_bytes, same_name_refl}
 use Rattle.mm_schema.proofs.References.{as_there, first_none, same_with, same_without, second_none, there_behind, there_still}
 use Rattle.mm_value.specs.declared.refusal.Refusal.TheVariants.{AliasTaken, NoSuchAlias, NoSuchColumn, NoSuchTable, NotInTransaction, StandingListTooLarge, TooMany, TypeMismatch}
-use Rattle.mm_query.specs.Edits.{changed_table, own_pairs}
-use Rattle.mm_query.specs.Machine.{after_change, after_definition, change_conditions, conditions, definition_conditions, is_of_index, row_conditions, state_after, step}
+use Rattle.mm_query.specs.Edits.{changed_table, edits}
+use Rattle.mm_query.specs.Machine.{after_change, after_definition, after_edits, change_conditions, conditions, definition_conditions, is_of_index, row_conditions, state_after, step}
 use Rattle.mm_query.specs.Queries.{bag, bag_of, eval, rows_by_columns, shown}
 use Rattle.mm_query.specs.Resolving.{IsAtomWithin, IsFieldWithin, IsQueryWithin, answer_in, passes_query_limits, placed_query, query_conditions, selected, width_at}
 use Rattle.mm_query.specs.Standing.{AreBeside, AreBound, HasQueries, after_unwatch, after_watch, growth_conditions, outgrows, query_named, shown_rows, tables_read, watch_conditions, without_query}
@@ -389,18 +390,36 @@ pub limit_by_change : (mutation : Mutation) (state : State) → first_refusal (c
     → list_any (outgrows (after_change mutation state)) (after_change mutation state).queries ≡ false
 limit_by_change mutation state due =
     first_none (list_any (outgrows (after_change mutation state)) (after_change mutation state).queries) StandingListTooLarge None
-    (none_due_behind (row_conditions (changed_table mutation) (own_pairs mutation state) state (after_change mutation state))
+    (none_due_behind (row_conditions (changed_table mutation) (edits mutation state) (after_change mutation state))
     (growth_conditions (after_change mutation state)) (none_due_by_rows mutation state due))
 
--- A query that does not read the changed table has the combinations that it had.
-pub same_bag : (mutation : Mutation) (state : State) (query : BoundQuery) → list_any (same_name (changed_table mutation)) (tables_read query) ≡ false
+-- Tables that edits do not concern keep their rows.
+rows_beside_edits : (name : List ℕ) (ts : List Table) (es : List TableEdits) (rows : Instance)
+    → AllByRecursion (λ (e : TableEdits). same_name e.table name ≡ false) es → rows_named name ts (after_edits ts es rows) ≡ rows_named name ts rows
+rows_beside_edits name ts [] rows others = refl
+rows_beside_edits name ts (e ∷ es) rows others =
+    rows_beside_edits name ts es (changed_instance ts (e ∷ []) rows) others.1 ∙ rows_of_others e.table e.pairs name others.0 ts rows
+
+-- A query that reads none of the tables that a change concerns has the combinations that it had.
+pub same_bag : (mutation : Mutation) (state : State) (query : BoundQuery)
+    → AllByRecursion (λ (e : TableEdits). list_any (same_name e.table) (tables_read query) ≡ false) (edits mutation state)
     → bag query (rows_in (after_change mutation state)) ≡ bag query (rows_in state)
 same_bag mutation state query unread = ap (bag_of query) (lists query.from unread)
   where
-    lists : (from : List FromItem) → list_any (same_name (changed_table mutation)) (map (λ (item : FromItem). item.table) from) ≡ false
+    firsts : (item : FromItem) (items : List FromItem) (es : List TableEdits)
+        → AllByRecursion (λ (e : TableEdits). list_any (same_name e.table) (map (λ (x : FromItem). x.table) (item ∷ items)) ≡ false) es
+        → AllByRecursion (λ (e : TableEdits). same_name e.table item.table ≡ false) es
+        × AllByRecursion (λ (e : TableEdits). list_any (same_name e.table) (map (λ (x : FromItem). x.table) items) ≡ false) es
+    firsts item items [] unread = (tt, tt)
+    firsts item items (e ∷ es) unread =
+        let p = or_parts (same_name e.table item.table) (list_any (same_name e.table) (map (λ (x : FromItem). x.table) items)) unread.0 in
+        let rest = firsts item items es unread.1 in
+        ((p.0, rest.0), (p.1, rest.1))
+
+    lists : (from : List FromItem)
+        → AllByRecursion (λ (e : TableEdits). list_any (same_name e.table) (map (λ (item : FromItem). item.table) from) ≡ false) (edits mutation state)
         → map (λ (item : FromItem). rows_in (after_change mutation state) item.table) from ≡ map (λ (item : FromItem). rows_in state item.table) from
     lists [] unread = refl
     lists (item ∷ items) unread =
-        let p = or_parts (same_name (changed_table mutation) item.table)
-        (list_any (same_name (changed_table mutation)) (map (λ (x : FromItem). x.table) items)) unread in
-        λ i. rows_of_others (changed_table mutation) (own_pairs mutation state) item.table p.0 state.schema.tables state.rows i ∷ lists items p.1 i
+        let p = firsts item items (edits mutation state) unread in
+        λ i. rows_beside_edits item.table state.schema.tables (edits mutation state) state.rows p.0 i ∷ lists items p.1 i

@@ -1,9 +1,13 @@
 -- The pairs of a change: for each row concerned the old row, if any, and the new one, if any.
-use Rattle.std.specs.Prelude.{ℕ, Bool, List, [], ◌∷◌, Some, None, filter, map}
-use Rattle.std.specs.List.{filter_map, flat_map, list_all}
-use Rattle.mm_schema.specs.Instance.{TableEdits}
+use Rattle.std.specs.Prelude.{ℕ, Bool, List, [], ◌∷◌, ◌++◌, Some, None, filter, map}
+use Rattle.std.specs.List.{filter_map, flat_map, list_all, list_any}
+use Rattle.mm_schema.specs.Instance.{Instance, TableEdits, pairs_of}
+use Rattle.mm_schema.specs.References.{cascading_of, refers}
 use Rattle.mm_schema.specs.Refused.{Condition}
 use Rattle.mm_schema.specs.Rows.{Pair, additions}
+use Rattle.mm_schema.specs.Schema.{Schema, key_named}
+use Rattle.mm_schema.specs.declared.column.Column.{Column}
+use Rattle.mm_schema.specs.declared.table.Table.{Table}
 use Rattle.mm_value.specs.declared.values.Value.{Value}
 use Rattle.mm_query.specs.Atoms.{holds, range_conditions, reads, updated_row}
 use Rattle.mm_query.specs.Binding.{assignments_for, tests_for}
@@ -21,9 +25,13 @@ meets tests row = list_all (holds (reads row)) tests
 abbrev pub updates : List (Assignment ℕ) → List (Atom ℕ) → List (List Value) → List Pair
 updates assignments tests rows = map (λ (row : List Value). (Some row, Some (updated_row assignments row))) (filter (meets tests) rows)
 
+-- The pairs of rows for which none comes.
+abbrev pub removals_of : List (List Value) → List Pair
+removals_of rows = map (λ (row : List Value). (Some row, None)) rows
+
 -- The pairs of rows that meet tests, and for which none comes.
 abbrev pub removals : List (Atom ℕ) → List (List Value) → List Pair
-removals tests rows = map (λ (row : List Value). (Some row, None)) (filter (meets tests) rows)
+removals tests rows = removals_of (filter (meets tests) rows)
 
 -- The table that a change names.
 abbrev pub changed_table : Mutation → List ℕ
@@ -49,6 +57,37 @@ value_conditions (Insert table tuples) state = []
 value_conditions (Update table assignments tests) state = range_conditions (new_values (own_pairs (Update table assignments tests) state))
 value_conditions (Delete table tests) state = []
 
--- The pairs of each table that a change concerns, those of the table that it names first.
+-- ---- rows that go along (the CASCADE of SQL's referential actions)
+
+-- The rows of the table of a name that edits take away or change.
+abbrev pub old_rows : List ℕ → List TableEdits → List (List Value)
+old_rows name edits = filter_map (λ (p : Pair). p.0) (pairs_of name edits)
+
+-- A row goes along with the rows of some removals: it has in a CASCADE column the key of one of them.
+abbrev pub goes_along : Schema → List TableEdits → List Column → List Value → Bool
+goes_along schema edits columns row =
+    list_any (λ (r : ℕ × List ℕ). list_any (refers r.0 (key_named r.1 schema) row) (old_rows r.1 edits)) (cascading_of columns)
+
+-- Edits with those of one table more, unless these are none.
+abbrev pub also : List TableEdits → List ℕ → List Pair → List TableEdits
+also edits table [] = edits
+also edits table (pair ∷ pairs) = edits ++ record { table = table; pairs = pair ∷ pairs } ∷ []
+
+-- Removals, and behind them, table by table in the order of creation, those of the rows that go along with what goes by then. A
+-- column refers to an older table, so none is missed.
+abbrev pub with_cascades : Schema → List Table → Instance → List TableEdits → List TableEdits
+with_cascades schema (table ∷ tables) (rows ∷ others) edits =
+    with_cascades schema tables others
+    (also edits table.definition.name (removals_of (filter (goes_along schema edits table.definition.columns) rows)))
+with_cascades schema (table ∷ tables) [] edits = edits
+with_cascades schema [] rows edits = edits
+
+-- The pairs of the table that a change names.
+abbrev pub own_edits : Mutation → State → TableEdits
+own_edits mutation state = record { table = changed_table mutation; pairs = own_pairs mutation state }
+
+-- The pairs of each table that a change concerns, those of the table that it names first. DELETE takes with it the rows that go along.
 abbrev pub edits : Mutation → State → List TableEdits
-edits mutation state = record { table = changed_table mutation; pairs = own_pairs mutation state } ∷ []
+edits (Insert table tuples) state = own_edits (Insert table tuples) state ∷ []
+edits (Update table assignments tests) state = own_edits (Update table assignments tests) state ∷ []
+edits (Delete table tests) state = with_cascades state.schema state.schema.tables state.rows (own_edits (Delete table tests) state ∷ [])

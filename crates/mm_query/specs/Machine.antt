@@ -3,11 +3,11 @@ use Rattle.std.specs.Prelude.{ℕ, Bool, true, false, not, ◌&&◌, if◌then�
 use Rattle.std.specs.List.{list_any}
 use Rattle.std.specs.Option.{option_map, option_map_or}
 use Rattle.mm_schema.specs.Indexes.{drop_index_conditions, index_conditions, index_named, lacks_index, with_index, without_index}
-use Rattle.mm_schema.specs.Instance.{Instance, changed_instance, without_rows}
+use Rattle.mm_schema.specs.Instance.{Instance, TableEdits, changed_instance, without_rows}
 use Rattle.mm_schema.specs.Name.{same_name}
 use Rattle.mm_schema.specs.References.{lacks_target_row, lose_targets, references_of}
 use Rattle.mm_schema.specs.Refused.{Condition, first_refusal}
-use Rattle.mm_schema.specs.Rows.{Pair, rows_by, table_rows_conditions}
+use Rattle.mm_schema.specs.Rows.{rows_by, table_rows_conditions}
 use Rattle.mm_schema.specs.Schema.{column_place_in, columns_named, drop_table_conditions, key_named, lacks_table, table_conditions, with_table, without_table}
 use Rattle.mm_schema.specs.Sorting.{in_order}
 use Rattle.mm_schema.specs.declared.index.IndexDef.{IndexDef}
@@ -62,9 +62,14 @@ after_definition (define.Unwatch name) state = after_unwatch name state
 
 -- ---- changes of rows
 
+-- The rows of all tables once edits are made, those of one table after another.
+abbrev pub after_edits : List Table → List TableEdits → Instance → Instance
+after_edits tables [] rows = rows
+after_edits tables (edits ∷ others) rows = after_edits tables others (changed_instance tables (edits ∷ []) rows)
+
 -- The state with the rows that a change makes of those that are there.
 abbrev pub after_change : Mutation → State → State
-after_change mutation state = record state { rows = changed_instance state.schema.tables (edits mutation state) state.rows }
+after_change mutation state = record state { rows = after_edits state.schema.tables (edits mutation state) state.rows }
 
 -- Some row of a table has in a REF column a value that is no key of the table that the column refers to.
 abbrev pub some_lacks_target : List ℕ → State → Bool
@@ -72,23 +77,29 @@ some_lacks_target table state =
     list_any (λ (r : ℕ × List ℕ). list_any (lacks_target_row r.0 (key_named r.1 state.schema) (rows_in state r.1)) (rows_in state table))
     (references_of (columns_named table state.schema))
 
--- Some pair of a table takes away the key of a row that a row of a table refers to. No table refers to itself.
-abbrev pub some_is_referred : List ℕ → List Pair → State → Bool
-some_is_referred table pairs state =
-    list_any (λ (t : Table). list_any (λ (r : ℕ × List ℕ). same_name r.1 table
-    && lose_targets r.0 (key_named table state.schema) (rows_in state t.definition.name) pairs) (references_of t.definition.columns)) state.schema.tables
+-- Some pair of a table takes away the key of a row that a row refers to which is there after the change. No table refers to itself,
+-- so that row is one that the change leaves as it is.
+abbrev pub is_referred_to : State → TableEdits → Bool
+is_referred_to after edits =
+    list_any (λ (t : Table). list_any (λ (r : ℕ × List ℕ). same_name r.1 edits.table
+    && lose_targets r.0 (key_named edits.table after.schema) (rows_in after t.definition.name) edits.pairs) (references_of t.definition.columns))
+    after.schema.tables
 
--- What refuses a change by the rows of a table before it and after it, in the one order, where these are its pairs.
-abbrev pub row_conditions : List ℕ → List Pair → State → State → List Condition
-row_conditions table pairs before after =
-    table_rows_conditions (key_named table before.schema) (rows_in after table) (some_lacks_target table after) (some_is_referred table pairs before)
+-- Some pair of any table does.
+abbrev pub some_is_referred : List TableEdits → State → Bool
+some_is_referred edits after = list_any (is_referred_to after) edits
+
+-- What refuses a change of a table by the rows after it, in the one order, where these are its edits.
+abbrev pub row_conditions : List ℕ → List TableEdits → State → List Condition
+row_conditions table edits after =
+    table_rows_conditions (key_named table after.schema) (rows_in after table) (some_lacks_target table after) (some_is_referred edits after)
 
 -- What refuses a change of rows, in the one order: first by the catalog alone, then by the values that it computes, then by the
 -- rows of its table, and last by the standing queries.
 abbrev pub change_conditions : Mutation → State → List Condition
 change_conditions mutation state =
     binding_conditions mutation state.schema ++ (value_conditions mutation state
-    ++ (row_conditions (changed_table mutation) (own_pairs mutation state) state (after_change mutation state)
+    ++ (row_conditions (changed_table mutation) (edits mutation state) (after_change mutation state)
     ++ growth_conditions (after_change mutation state)))
 
 -- ---- rows by an index

@@ -4,6 +4,7 @@
 mod atom;
 mod bind;
 mod bound_query;
+mod cascade_laws;
 mod combination;
 mod command;
 mod item_list;
@@ -24,6 +25,7 @@ mod update;
 pub use atom::{Assignment, Atom, Comparison, Operand};
 pub use bind::{BoundChange, bind_change};
 pub use bound_query::{BoundQuery, FieldPlace, bind_query};
+pub use cascade_laws::{cascades_leave_none_behind, cascades_take_no_others};
 pub use combination::{none_fails, values_of};
 pub use command::{Command, Definition, Mutation, NamedQuery};
 pub use item_list::ItemList;

@@ -1,10 +1,11 @@
 //! Laws of standing queries.
 ghost use Rattle.std.specs.Prelude.{◌≡◌, ℕ, false, None, Some, List};
-ghost use Rattle.std.specs.List.{list_any};
+ghost use Rattle.std.specs.List.{AllByRecursion, list_any};
 ghost use Rattle.std.specs.List.Sorted.{IsPermutation, IsSorted};
 ghost use Rattle.mm_schema.specs.Name.{same_name};
 ghost use Rattle.mm_schema.specs.Refused.{first_refusal};
-ghost use Rattle.mm_query.specs.Edits.{changed_table};
+ghost use Rattle.mm_schema.specs.Instance.{TableEdits};
+ghost use Rattle.mm_query.specs.Edits.{edits};
 ghost use Rattle.mm_query.specs.Machine.{after_change, change_conditions, step};
 ghost use Rattle.mm_query.specs.Queries.{bag, eval, rows_by_columns};
 ghost use Rattle.mm_query.specs.Resolving.{selected};
@@ -42,12 +43,12 @@ pub fn standing_queries_are_shown()
 {}
 
 /// No more than 1,048,576 combinations fit a standing query over the rows after a change that nothing refuses, nor over the
-/// rows when it is kept. A query that doesn't read the changed table has the combinations that it had.
+/// rows when it is kept. A query that reads none of the tables that a change concerns has the combinations that it had.
 pub fn standing_queries_stay_within_limit()
     ensures change { (mutation : Mutation) (state : State) → first_refusal (change_conditions mutation state) ≡ None
         → list_any (outgrows (after_change mutation state)) (after_change mutation state).queries ≡ false }
     ensures others { (mutation : Mutation) (state : State) (query : BoundQuery)
-        → list_any (same_name (changed_table mutation)) (tables_read query) ≡ false
+        → AllByRecursion (λ (e : TableEdits). list_any (same_name e.table) (tables_read query) ≡ false) (edits mutation state)
         → bag query (rows_in (after_change mutation state)) ≡ bag query (rows_in state) }
     ensures watch { (name : List ℕ) (query : Query) (state : State) → list_any (outgrows state) state.queries ≡ false
         → first_refusal (watch_conditions name query state) ≡ None

@@ -1,9 +1,11 @@
 -- The columns of a table.
-use Rattle.std.specs.Prelude.{ℕ, Bool, true, false, not, List, [], ◌∷◌, Option, Some, None, count_by, find, position, ◌||◌}
+use Rattle.std.specs.Prelude.{ℕ, Bool, true, false, not, if◌then◌else◌, List, [], ◌∷◌, Option, Some, None, count_by, find, position, ◌||◌}
 use Rattle.std.specs.List.{list_any, position_or_len}
 use Rattle.std.specs.Option.{option_map_or}
 use Rattle.mm_schema.specs.Name.{same_name}
 use Rattle.mm_schema.specs.declared.column.Column.{Column}
+use Rattle.mm_schema.specs.declared.column.OnDelete.{OnDelete}
+use Rattle.mm_schema.specs.declared.column.OnDelete.TheVariants.{Cascade, Restrict}
 use Rattle.mm_schema.specs.declared.column.Role.{Role}
 use Rattle.mm_schema.specs.declared.column.Role.TheVariants.{Key, Plain, Reference}
 use Rattle.mm_value.specs.declared.col_type.ColType.{ColType}
@@ -13,7 +15,7 @@ use Rattle.mm_value.specs.declared.col_type.ColType.TheVariants as type
 abbrev pub is_key_role : Role → Bool
 is_key_role Key = true
 is_key_role Plain = false
-is_key_role (Reference table) = false
+is_key_role (Reference table on_delete) = false
 
 abbrev pub is_key : Column → Bool
 is_key column = is_key_role column.role
@@ -54,7 +56,7 @@ differs_from_key type columns = option_map_or (λ key. not (same_type key.col_ty
 abbrev pub target_of_role : Role → Option (List ℕ)
 target_of_role Key = None
 target_of_role Plain = None
-target_of_role (Reference table) = Some table
+target_of_role (Reference table on_delete) = Some table
 
 abbrev pub target_of : Column → Option (List ℕ)
 target_of column = target_of_role column.role
@@ -62,3 +64,21 @@ target_of column = target_of_role column.role
 -- The column refers to the table of a name.
 abbrev pub refers_to : List ℕ → Column → Bool
 refers_to name column = option_map_or (same_name name) (target_of column) false
+
+-- The rows that refer to a row are deleted with it.
+abbrev pub is_cascade : OnDelete → Bool
+is_cascade Restrict = false
+is_cascade Cascade = true
+
+-- A row is deleted with the row that it refers to by a column of this role.
+abbrev pub cascades_role : Role → Bool
+cascades_role Key = false
+cascades_role Plain = false
+cascades_role (Reference table on_delete) = is_cascade on_delete
+
+abbrev pub cascades : Column → Bool
+cascades column = cascades_role column.role
+
+-- The name of the table that a column refers to, if a row of the column is deleted with the row that it refers to.
+abbrev pub cascading_target : Column → Option (List ℕ)
+cascading_target column = if cascades column then target_of column else None

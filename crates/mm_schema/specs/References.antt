@@ -1,11 +1,12 @@
 -- Foreign keys: columns whose values are keys of another table (referential integrity, Codd, TODS 1979).
-use Rattle.std.specs.Prelude.{◌≡◌, ℕ, ◌+◌, ◌-◌, Bool, false, not, ◌&&◌, if◌then◌else◌, All, List, [], ◌∷◌, ◌++◌, Option, Some, None, map, nat_lt, slice_get}
-use Rattle.std.specs.List.{list_any}
+use Rattle.std.specs.Prelude.{◌≡◌, ℕ, ◌+◌, ◌-◌, Bool, true, false, not, ◌&&◌, if◌then◌else◌, All, List, [], ◌∷◌, ◌++◌, Option, Some, None, map, nat_lt, slice_get}
+use Rattle.std.specs.List.{AllByRecursion, list_any}
 use Rattle.std.specs.Option.{option_cmp, unwrap_or}
 use Rattle.std.specs.Ordering.{is_eq}
 use Rattle.mm_value.specs.Order.{value_cmp}
 use Rattle.mm_value.specs.declared.values.Value.{Value}
-use Rattle.mm_schema.specs.Columns.{refers_to, target_of}
+use Rattle.mm_schema.specs.Columns.{cascading_target, refers_to, target_of}
+use Rattle.mm_schema.specs.Name.{same_name}
 use Rattle.mm_schema.specs.Rows.{Pair, same_in_column}
 use Rattle.mm_schema.specs.Schema.{Schema, lacks_target, table_place}
 use Rattle.mm_schema.specs.declared.column.Column.{Column}
@@ -36,6 +37,16 @@ references_from place (column ∷ columns) = in_front place (target_of column) (
 abbrev pub references_of : List Column → List (ℕ × List ℕ)
 references_of columns = references_from 0 columns
 
+-- The REF columns from a place on whose rows are deleted with the rows that they refer to, each with the name of the table
+-- that it refers to.
+abbrev pub cascading_from : ℕ → List Column → List (ℕ × List ℕ)
+cascading_from place [] = []
+cascading_from place (column ∷ columns) = in_front place (cascading_target column) (cascading_from (place + 1) columns)
+
+-- Those of a table.
+abbrev pub cascading_of : List Column → List (ℕ × List ℕ)
+cascading_of columns = cascading_from 0 columns
+
 -- A REF column of the table at a place, with the place of the table that it refers to in place of its name.
 abbrev pub reference_at : Schema → ℕ → ℕ × List ℕ → Reference
 reference_at schema from (column, target) = record { from = from; column = column; to = unwrap_or (table_place target schema) 0 }
@@ -57,6 +68,13 @@ above gone place = if nat_lt gone place then place - 1 else place
 -- A reference once the table at a place is gone.
 abbrev pub moved_up : ℕ → Reference → Reference
 moved_up gone reference = record { from = above gone reference.from; column = reference.column; to = above gone reference.to }
+
+-- Each column refers to a table that is older than its own: to one of these names, or to a table in front.
+abbrev pub RefersBack : List (List ℕ) → List Table → Type 0
+RefersBack names [] = Unit {0}
+RefersBack names (table ∷ tables) =
+    AllByRecursion (λ (r : ℕ × List ℕ). list_any (same_name r.1) names ≡ true) (references_of table.definition.columns)
+    × RefersBack (names ++ table.definition.name ∷ []) tables
 
 -- ---- rows
 

@@ -3,12 +3,21 @@ ghost use Rattle.std.specs.Prelude.{◌≡◌, ◌↔◌, ◌<◌, IsSome, IfOk,
 ghost use Rattle.std.specs.List.{list_any};
 ghost use Rattle.mm_schema.specs.Name.{same_name};
 ghost use Rattle.std.specs.Option.{option_copied};
-ghost use Rattle.mm_schema.specs.Columns.{column_place, differs_from_key, has_twin_names, is_key, key_count, key_place, refers_to, target_of};
+ghost use Rattle.mm_schema.specs.Columns.{cascades, column_place, differs_from_key, has_twin_names, is_cascade, is_key, key_count, key_place, refers_to, target_of};
 
 use crate::name::Name;
 use mm_value::ColType;
 use std::alloc::{AllocError, Global};
 use std::marker::Model;
+
+/// What a foreign key makes of it that a row is deleted to which rows refer.
+#[derive(Clone, Copy, Debug, PartialEq, Eq)]
+pub enum OnDelete {
+    /// The row is not deleted as long as a row refers to it.
+    Restrict,
+    /// The rows that refer to it are deleted too.
+    Cascade,
+}
 
 /// What a column is for.
 #[derive(Debug, PartialEq, Eq, Drop)]
@@ -17,8 +26,13 @@ pub enum Role {
     Key,
     /// Nothing beside its value.
     Plain,
-    /// A foreign key: each value is the key of a row of the table of this name.
-    Reference(Name),
+    /// A foreign key: each value is the key of a row of another table.
+    Reference {
+        /// The name of that table.
+        table: Name,
+        /// What becomes of the rows that refer to a row that is deleted.
+        on_delete: OnDelete,
+    },
 }
 
 /// A column of a table.
@@ -32,6 +46,18 @@ pub struct Column {
     pub role: Role,
 }
 
+impl OnDelete {
+    /// Whether the rows that refer to a row are deleted with it.
+    pub fn is_cascade(self) -> bool
+        ensures { result ≡ is_cascade self }
+    {
+        match self {
+            OnDelete::Restrict => false,
+            OnDelete::Cascade => true,
+        }
+    }
+}
+
 impl Role {
     /// A copy of the role. It takes no memory.
     fn copy(&self) -> Role
@@ -40,7 +66,10 @@ impl Role {
         match self {
             Role::Key => Role::Key,
             Role::Plain => Role::Plain,
-            Role::Reference(table) => Role::Reference(table.copy()),
+            Role::Reference { table, on_delete } => Role::Reference {
+                table: table.copy(),
+                on_delete: *on_delete,
+            },
         }
     }
 }
@@ -63,7 +92,7 @@ impl Column {
     {
         match self.role {
             Role::Key => true,
-            Role::Plain | Role::Reference(_) => false,
+            Role::Plain | Role::Reference { .. } => false,
         }
     }
 
@@ -73,7 +102,17 @@ impl Column {
     {
         match &self.role {
             Role::Key | Role::Plain => None,
-            Role::Reference(table) => Some(table),
+            Role::Reference { table, .. } => Some(table),
+        }
+    }
+
+    /// Whether a row is deleted with the row that it refers to by this column.
+    pub fn cascades(&self) -> bool
+        ensures { result ≡ cascades self.now }
+    {
+        match &self.role {
+            Role::Key | Role::Plain => false,
+            Role::Reference { on_delete, .. } => on_delete.is_cascade(),
         }
     }
 

@@ -11,7 +11,7 @@ mod standing;
 mod table;
 
 pub use catalog::{Catalog, MAX_COLUMNS, MAX_INDEXES, MAX_STANDING, MAX_TABLES};
-pub use column::{Column, Columns, Role};
+pub use column::{Column, Columns, OnDelete, Role};
 pub use index::{IndexDef, IndexId, IndexKind, Indexes};
 pub use laws::{
     changes_are_exact, in_order_sorts, references_have_targets, standing_queries_read_tables,

@@ -1,17 +1,18 @@
 -- A change of rows that nothing refuses by the catalog alone brings only rows of the types of their columns.
-use Rattle.std.proofs.Common.{◌≡◌, ℕ, false, List, Option, Some, None, filter, find, is_none, sym, subst}
+use Rattle.std.proofs.Common.{◌≡◌, ℕ, false, List, [], ◌∷◌, Option, Some, None, filter, find, is_none, sym, subst}
 use Rattle.std.specs.List.{All, list_any}
 use Rattle.std.specs.Option.{option_map_or}
 use Rattle.std.proofs.lemmas.Bool.{or_parts}
 use Rattle.std.proofs.lemmas.List.Elements.{All-filter, All-nil, All-weaker}
+use Rattle.mm_schema.specs.Instance.{Instance, TableEdits, changed_instance}
 use Rattle.mm_schema.specs.Refused.{first_refusal}
-use Rattle.mm_schema.specs.Schema.{HasDistinctNames, columns_named}
+use Rattle.mm_schema.specs.Schema.{HasDistinctNames, Schema, columns_named}
 use Rattle.mm_schema.specs.declared.table.Table.{Table}
 use Rattle.mm_schema.proofs.Twins.{Row}
 use Rattle.mm_query.specs.Binding.{assignments_for, binding_conditions, has_other_length, has_type_mismatch, tests_for}
-use Rattle.mm_query.specs.Edits.{changed_table, meets, own_pairs}
+use Rattle.mm_query.specs.Edits.{edits, meets, own_edits, own_pairs}
 use Rattle.mm_query.specs.Atoms.{updated_row}
-use Rattle.mm_query.specs.Machine.{after_change}
+use Rattle.mm_query.specs.Machine.{after_change, after_edits}
 use Rattle.mm_query.specs.Placing.{assignment_lacks_column, atom_lacks_column, mismatches, type_named}
 use Rattle.mm_query.specs.State.{State, rows_in}
 use Rattle.mm_query.specs.declared.atom.Assignment.{Assignment}
@@ -19,10 +20,11 @@ use Rattle.mm_query.specs.declared.atom.Atom.{Atom}
 use Rattle.mm_query.specs.declared.command.Mutation.{Mutation}
 use Rattle.mm_query.specs.declared.command.Mutation.TheVariants.{Insert, Update, Delete}
 use Rattle.mm_query.proofs.PlacedQueries.{none_hold}
+use Rattle.mm_query.proofs.Removals.{EachRemoves, cascades_remove, none_comes, removals_remove}
 use Rattle.mm_typing.specs.Typing.{AreTyped, HasTypes}
 use Rattle.mm_typing.proofs.Assigned.{all_fit, updated_typed}
 use Rattle.mm_typing.proofs.Places.{columns_in, has}
-use Rattle.mm_typing.proofs.Rows.{coming, coming_added, coming_changed, none_coming, tuples_typed}
+use Rattle.mm_typing.proofs.Rows.{coming, coming_added, coming_changed, tuples_typed}
 use Rattle.mm_typing.proofs.Tables.{named_typed, typed_changed}
 
 -- The tuples of an INSERT have the types of the columns of its table.
@@ -32,6 +34,15 @@ inserted_typed : (tuples : List Row) (found : Option Table) → is_none found �
     → All (HasTypes (columns_in found)) tuples
 inserted_typed tuples None there same long = cc
 inserted_typed tuples (Some t) there same long = tuples_typed t.definition.columns tuples same long
+
+-- Where rows only go, the others have the types of their columns as before.
+typed_all_removed : (schema : Schema) (gone : List TableEdits) (rows : Instance) → EachRemoves gone → HasDistinctNames schema
+    → AreTyped schema.tables rows → AreTyped schema.tables (after_edits schema.tables gone rows)
+typed_all_removed schema [] rows none distinct typed = typed
+typed_all_removed schema (e ∷ es) rows none distinct typed =
+    typed_all_removed schema es (changed_instance schema.tables (e ∷ []) rows) none.1 distinct
+    (typed_changed e.table e.pairs schema.tables rows typed distinct
+    (subst (All (HasTypes (columns_named e.table schema))) (sym (none_comes e.pairs none.0)) (All-nil _)))
 
 module _ (state : State) (typed : AreTyped state.schema.tables state.rows) where
   module _ (table : List ℕ) (assignments : List (Assignment (List ℕ))) (tests : List (Atom (List ℕ))) where
@@ -52,19 +63,23 @@ module _ (state : State) (typed : AreTyped state.schema.tables state.rows) where
         (All-filter (meets (tests_for table state.schema tests)) (HasTypes columns) (rows_in state table)
         (named_typed table state.schema.tables state.rows typed)))
 
-  own_typed : (mutation : Mutation) → first_refusal (binding_conditions mutation state.schema) ≡ None
-      → All (HasTypes (columns_named (changed_table mutation) state.schema)) (coming (own_pairs mutation state))
-  own_typed (Insert table tuples) due =
+  -- So have the tuples of an INSERT.
+  tuples_fit : (table : List ℕ) (tuples : List Row) → first_refusal (binding_conditions (Insert table tuples) state.schema) ≡ None
+      → All (HasTypes (columns_named table state.schema)) (coming (own_pairs (Insert table tuples) state))
+  tuples_fit table tuples due =
       let hold = none_hold (binding_conditions (Insert table tuples) state.schema) due in
       subst (All (HasTypes (columns_named table state.schema))) (sym (coming_added tuples))
       (inserted_typed tuples (find (has table) state.schema.tables) hold.0 hold.1.0 hold.1.1.0)
-  own_typed (Update table assignments tests) due = changed_rows_typed table assignments tests due
-  own_typed (Delete table tests) due =
-      subst (All (HasTypes (columns_named table state.schema)))
-      (sym (none_coming (filter (meets (tests_for table state.schema tests)) (rows_in state table)))) (All-nil _)
 
-  -- So all rows have their types after it.
+  -- So all rows have their types after a change. A DELETE brings none, in none of the tables that it concerns.
   pub typed_by_change : (mutation : Mutation) → HasDistinctNames state.schema → first_refusal (binding_conditions mutation state.schema) ≡ None
       → AreTyped state.schema.tables (after_change mutation state).rows
-  typed_by_change mutation distinct due =
-      typed_changed (changed_table mutation) (own_pairs mutation state) state.schema.tables state.rows typed distinct (own_typed mutation due)
+  typed_by_change (Insert table tuples) distinct due =
+      typed_changed table (own_pairs (Insert table tuples) state) state.schema.tables state.rows typed distinct (tuples_fit table tuples due)
+  typed_by_change (Update table assignments tests) distinct due =
+      typed_changed table (own_pairs (Update table assignments tests) state) state.schema.tables state.rows typed distinct
+      (changed_rows_typed table assignments tests due)
+  typed_by_change (Delete table tests) distinct due =
+      typed_all_removed state.schema (edits (Delete table tests) state) state.rows
+      (cascades_remove state.schema state.schema.tables state.rows (own_edits (Delete table tests) state ∷ [])
+      (removals_remove (filter (meets (tests_for table state.schema tests)) (rows_in state table)), tt)) distinct typed

@@ -62,17 +62,12 @@ held_by_changed P key (p ∷ ps) rows old new =
     All-permutation P (unsorted key (p ∷ ps) rows) _ (IsPermutation-in_order (column_cmp key) (unsorted key (p ∷ ps) rows))
     (All-append P _ (coming (p ∷ ps)) (All-filter _ P rows old) new)
 
--- INSERT brings its tuples, ..
+-- INSERT brings its tuples, and ..
 pub coming_added : (rows : List Row) → coming (additions rows) ≡ rows
 coming_added [] = refl
 coming_added (r ∷ rs) = ap (λ others. r ∷ others) (coming_added rs)
 
--- .. DELETE none, ..
-pub none_coming : (rows : List Row) → coming (map (λ (row : Row). (Some row, None)) rows) ≡ []
-none_coming [] = refl
-none_coming (r ∷ rs) = none_coming rs
-
--- .. and UPDATE one for each row.
+-- .. UPDATE one for each row.
 pub coming_changed : (P : Row → Type 0) (f : Row → Row) (rows : List Row) → All (λ (row : Row). P (f row)) rows
     → All P (coming (map (λ (row : Row). (Some row, Some (f row))) rows))
 coming_changed P f rows each = subst (All P) (sym (is rows)) (All-map P f rows each)

@@ -7,7 +7,7 @@ use Rattle.mm_schema.proofs.Dues.{due_in_front, none_due_behind}
 use Rattle.mm_value.specs.declared.refusal.Refusal.{Refusal}
 use Rattle.mm_value.specs.declared.refusal.Refusal.TheVariants.{NotInTransaction}
 use Rattle.mm_query.specs.Binding.{binding_conditions}
-use Rattle.mm_query.specs.Edits.{changed_table, own_pairs, value_conditions}
+use Rattle.mm_query.specs.Edits.{changed_table, edits, value_conditions}
 use Rattle.mm_query.specs.Machine.{Outcome, after_change, conditions, definition_conditions, is_of_index, reply_to, row_conditions, state_after, step, unless_refused}
 use Rattle.mm_query.specs.Standing.{AreBound, HasQueries, growth_conditions}
 use Rattle.mm_query.specs.State.{Savepoint, State, first_state, has_transaction}
@@ -36,7 +36,7 @@ typed_by_command (Define definition) state due distinct beside bound typed =
     (definition_conditions definition state) due) beside bound typed
 typed_by_command (Change mutation) state due distinct beside bound typed =
     let later = value_conditions mutation state
-    ++ (row_conditions (changed_table mutation) (own_pairs mutation state) state (after_change mutation state)
+    ++ (row_conditions (changed_table mutation) (edits mutation state) (after_change mutation state)
     ++ growth_conditions (after_change mutation state)) in
     record {
       rows = typed_by_change state typed.rows mutation distinct (none_in_front (binding_conditions mutation state.schema) later due);

@@ -1,14 +1,14 @@
 -- A phrase leaves no more tokens than there were.
 use Rattle.std.proofs.Common.{◌≡◌, ◌≤◌, ⊎_elim, ℕ, Bool, true, false, zero, suc, List, [], ◌∷◌, Option, Some, None, length, refl, ap, arith}
 use Rattle.std.proofs.lemmas.Option.{none-some}
-use Rattle.mm_schema.specs.declared.column.Role.TheVariants.{Plain, Key}
+use Rattle.mm_schema.specs.declared.column.Role.TheVariants.{Plain, Key, Reference}
 use Rattle.mm_lang.specs.declared.keyword.Keyword.{Keyword}
 use Rattle.mm_lang.specs.declared.keyword.Keyword.TheVariants as keyword
 use Rattle.mm_lang.specs.declared.token.Symbol.TheVariants.{Open, Close, Comma}
 use Rattle.mm_lang.specs.declared.token.Symbol.TheVariants as symbol
 use Rattle.mm_value.specs.Literal.{is_numeral}
 use Rattle.mm_value.specs.declared.values.Value.{Value}
-use Rattle.mm_lang.specs.Grammar.{literal_of, name, col_type, reference, role_behind, role, column, comma_list, tuple, comparison, numbered, digits, shift, operand_behind, operand_on, test_on, assignment, field, from_item, position}
+use Rattle.mm_lang.specs.Grammar.{literal_of, name, col_type, on_delete_of, reference_to, reference, role_behind, role, column, comma_list, tuple, comparison, numbered, digits, shift, operand_behind, operand_on, test_on, assignment, field, from_item, position}
 use Rattle.mm_lang.specs.Phrases.{Phrase, ◌>>=◌, say, one, word_of, the_symbol, the_keyword, behind_item, at_most, list_of, only_if, optional, maybe, has_keyword, in_parentheses}
 use Rattle.mm_lang.specs.Tokens.{Token, Signed, Mark}
 use Rattle.mm_lang.specs.steps.Parsing.{NeverLonger}
@@ -64,8 +64,13 @@ has_keyword_never_longer : (k : Keyword) → NeverLonger (has_keyword k)
 has_keyword_never_longer k =
     optional_never_longer false _ (then_never_longer (the_keyword k) (λ u. say true) (one_never_longer _) (λ u. say_never_longer true))
 
+reference_to_never_longer : (table : List ℕ) → NeverLonger (reference_to table)
+reference_to_never_longer table =
+    then_never_longer (has_keyword keyword.Cascade) (λ there. say (Reference table (on_delete_of there))) (has_keyword_never_longer keyword.Cascade)
+    (λ there. say_never_longer (Reference table (on_delete_of there)))
+
 reference_never_longer : (there : Bool) → NeverLonger (reference there)
-reference_never_longer true = then_never_longer name _ (one_never_longer _) (λ n. say_never_longer _)
+reference_never_longer true = then_never_longer name reference_to (one_never_longer _) reference_to_never_longer
 reference_never_longer false = say_never_longer Plain
 
 role_behind_never_longer : (there : Bool) → NeverLonger (role_behind there)

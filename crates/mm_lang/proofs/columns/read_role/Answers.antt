@@ -6,9 +6,8 @@ returns-then-skip_keyword c = gives (role_key c.args.reader.now c.skip_keyword.n
 
 pub returns-then-skip_keyword-2 : goal.returns-then-skip_keyword-2
 returns-then-skip_keyword-2 c =
-    gives
-    (role_reference c.args.reader.now c.skip_keyword.new.self c.name.new.self c.if-skip_keyword.ensures c.skip_keyword-2.new.self c.in_ok-name.field-0
-    c.if-skip_keyword-2.ensures c.in_ok-name.ensures)
+    role_reference c.args.reader.now c.skip_keyword.new.self c.read_reference.new.reader c.if-skip_keyword.ensures c.skip_keyword-2.new.self
+    c.read_reference.result c.if-skip_keyword-2.ensures c.read_reference.ensures
 
 pub returns : goal.returns
 returns c =
