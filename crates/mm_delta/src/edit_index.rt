@@ -99,8 +99,8 @@ impl<'c> EditIndex<'c> {
     }
 }
 
-/// The references of the rows that edits take away, each once. `Memory` is the only refusal.
-fn references_of_gone(alloc: Global, edits: &[Edit]) -> Result<IndexSet<(usize, u8)>, Refusal>
+/// The references of the rows that edits take away, part and slot of each, in a hash table. `Memory` is the only refusal.
+pub fn references_of_gone(alloc: Global, edits: &[Edit]) -> Result<IndexSet<(usize, u8)>, Refusal>
     ensures ok { IfOk result (λ gone. AreGone edits.now gone.keys) }
     ensures memory { IfErr result (λ refusal. refusal ≡ Memory) }
 {

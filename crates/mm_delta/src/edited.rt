@@ -31,7 +31,7 @@ pub(crate) fn edits_of<'c>(changes: &[TableEdits<'c>], table: usize) -> &'c [Edi
 }
 
 /// The reference of the row that an edit takes away, if any.
-pub(crate) fn row_gone(edit: &Edit) -> Option<RowRef>
+pub fn row_gone(edit: &Edit) -> Option<RowRef>
     ensures { result ≡ edit_name edit.now Old }
 {
     match edit {

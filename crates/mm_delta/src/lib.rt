@@ -25,6 +25,7 @@ mod walk;
 
 pub use bag_change::delta;
 pub use counted::{Counted, counts_are_undone};
-pub use edited::TableEdits;
+pub use edit_index::references_of_gone;
+pub use edited::{TableEdits, row_gone};
 pub use law::change_is_the_sum_of_its_terms;
 pub use signed::Signed;

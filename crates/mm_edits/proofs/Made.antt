@@ -1,12 +1,12 @@
 -- What the edits of an INSERT, an UPDATE and a DELETE name and bring.
-use Rattle.std.proofs.Common.{◌≡◌, ◌≢◌, ℕ, ◌+◌, List, [], ◌∷◌, Some, None, length, map, refl, sym, ap, ◌∙◌, subst, arith}
-use Rattle.std.specs.List.{All, AllPairs}
+use Rattle.std.proofs.Common.{◌≡◌, ◌≢◌, ℕ, ◌+◌, Bool, List, [], ◌∷◌, Some, None, length, map, refl, sym, ap, ◌∙◌, subst, arith}
+use Rattle.std.specs.List.{All, AllPairs, filter}
 use Rattle.std.proofs.lemmas.List.Elements.{All-map, All-nil, All-weaker}
 use Rattle.mm_value.specs.declared.row_ref.RowRef.{RowRef}
 use Rattle.mm_value.specs.declared.values.Value.{Value}
 use Rattle.mm_partition.specs.Places.{slot_at}
 use Rattle.mm_query.specs.Atoms.{updated_from, updated_row}
-use Rattle.mm_query.specs.Edits.{removals, updates}
+use Rattle.mm_query.specs.Edits.{meets, removals, updates}
 use Rattle.mm_query.specs.declared.atom.Assignment.{Assignment}
 use Rattle.mm_query.specs.declared.atom.Atom.{Atom}
 use Rattle.mm_schema.specs.Rows.{Pair, additions}
@@ -18,7 +18,7 @@ use Rattle.mm_relation.specs.RowLists.{edit_pairs, rows_of}
 use Rattle.mm_relation.specs.declared.edits.Edit.{Edit}
 use Rattle.mm_relation.specs.declared.edits.Edit.TheVariants.{Add, Gone, Swap}
 use Rattle.mm_relation.specs.declared.names.Side.TheVariants.{Old}
-use Rattle.mm_edits.proofs.Selected.{rows_selected, selected, selected_apart, selected_live, selected_wide}
+use Rattle.mm_edits.proofs.Selected.{passing_apart, passing_live, rows_selected, selected, selected_apart, selected_live, selected_wide}
 
 -- edits of references that are live and apart stand
 Standing-of : (now : Slots) (edits : List Edit) (refs : List RowRef) → named edit_name Old edits ≡ refs → All (HasRow now) refs
@@ -85,9 +85,16 @@ olds-gone : (refs : List RowRef) → named edit_name Old (map Gone refs) ≡ ref
 olds-gone [] = refl
 olds-gone (x ∷ xs) = ap (λ others. x ∷ others) (olds-gone xs)
 
-new_rows-gone : (refs : List RowRef) → new_rows (map Gone refs) ≡ []
+pub new_rows-gone : (refs : List RowRef) → new_rows (map Gone refs) ≡ []
 new_rows-gone [] = refl
 new_rows-gone (x ∷ xs) = new_rows-gone xs
+
+-- removals of any of a relation's rows
+pub Standing-gone : (stored : StoredRows) → IsKept stored.width stored.key (slot_at stored.places) stored.refs stored.indexes → (p : RowRef → Bool)
+    → Standing (slot_at stored.places) (map Gone (filter p stored.refs))
+Standing-gone stored kept p =
+    Standing-of (slot_at stored.places) (map Gone (filter p stored.refs)) (filter p stored.refs) (olds-gone (filter p stored.refs))
+    (passing_live stored kept p) (passing_apart stored kept p)
 
 -- ---- the edits of the rows that meet tests
 
@@ -125,8 +132,7 @@ module _ (stored : StoredRows) (kept : IsKept stored.width stored.key (slot_at s
       (sym (rows_selected (slot_at stored.places) tests stored.refs))
 
   pub Standing-removals : Standing (slot_at stored.places) (map Gone found)
-  Standing-removals =
-      Standing-of (slot_at stored.places) (map Gone found) found (olds-gone found) (selected_live stored kept tests) (selected_apart stored kept tests)
+  Standing-removals = Standing-gone stored kept (λ at. meets tests (row_at (slot_at stored.places) at))
 
   pub wide-removals : All (λ row. length row ≡ stored.width) (new_rows (map Gone found))
   wide-removals =

@@ -33,23 +33,31 @@ rows_selected now tests (x ∷ xs) =
     filter_step now (meets tests) x (filter (meets tests) (map (row_at now) xs)) (selected now tests xs) (meets tests (row_at now x))
     (rows_selected now tests xs)
 
-module _ (stored : StoredRows) (kept : IsKept stored.width stored.key (slot_at stored.places) stored.refs stored.indexes) (tests : List (Atom ℕ)) where
-  -- they are live ..
-  pub selected_live : All (HasRow (slot_at stored.places)) (selected (slot_at stored.places) tests stored.refs)
-  selected_live =
-      let now : Slots = slot_at stored.places in
-      All-filter (λ at. meets tests (row_at now at)) (HasRow now) stored.refs
+-- references of a relation that pass a test
+module _ (stored : StoredRows) (kept : IsKept stored.width stored.key (slot_at stored.places) stored.refs stored.indexes) (p : RowRef → Bool) where
+  -- are live ..
+  pub passing_live : All (HasRow (slot_at stored.places)) (filter p stored.refs)
+  passing_live =
+      All-filter p (HasRow (slot_at stored.places)) stored.refs
       (λ k d within. (kept.held (get_or stored.refs k d)).0 (Contains-get_or stored.refs k d within))
 
   -- .. and no two are one
-  pub selected_apart : AllPairs (λ a b. a ≢ b) (selected (slot_at stored.places) tests stored.refs)
-  selected_apart =
+  pub passing_apart : AllPairs (λ a b. a ≢ b) (filter p stored.refs)
+  passing_apart =
       let now : Slots = slot_at stored.places in
-      AllPairs-filter (λ a b. a ≢ b) (λ at. meets tests (row_at now at)) stored.refs
+      AllPairs-filter (λ a b. a ≢ b) p stored.refs
       (λ i j d before within same.
       KeysApart-ordered stored.key now stored.refs kept.by_key i j d before within
       (subst (λ (b : RowRef). column_cmp stored.key (row_at now (get_or stored.refs i d)) (row_at now b) ≡ Equal) same
       (tied_itself (column_cmp_total stored.key) (row_at now (get_or stored.refs i d)))))
+
+module _ (stored : StoredRows) (kept : IsKept stored.width stored.key (slot_at stored.places) stored.refs stored.indexes) (tests : List (Atom ℕ)) where
+  -- so are those of the rows that meet tests
+  pub selected_live : All (HasRow (slot_at stored.places)) (selected (slot_at stored.places) tests stored.refs)
+  selected_live = passing_live stored kept (λ at. meets tests (row_at (slot_at stored.places) at))
+
+  pub selected_apart : AllPairs (λ a b. a ≢ b) (selected (slot_at stored.places) tests stored.refs)
+  selected_apart = passing_apart stored kept (λ at. meets tests (row_at (slot_at stored.places) at))
 
   pub live_one : (at : RowRef) → Contains (selected (slot_at stored.places) tests stored.refs) at → HasRow (slot_at stored.places) at
   live_one at here = All-contains (HasRow (slot_at stored.places)) (selected (slot_at stored.places) tests stored.refs) at selected_live here

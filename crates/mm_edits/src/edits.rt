@@ -1,17 +1,20 @@
 //! The edits of an INSERT, an UPDATE and a DELETE.
-ghost use Rattle.std.specs.Prelude.{◌≡◌, ◌≤◌, length, All, IfOk};
-ghost use Rattle.mm_partition.specs.Places.{slot_at};
+ghost use Rattle.std.specs.Prelude.{◌≡◌, ◌≤◌, [], length, All, IfOk, filter, map};
+ghost use Rattle.std.specs.List.{list_any};
+ghost use Rattle.mm_partition.specs.Places.{IsLive, slot_at};
 ghost use Rattle.mm_query.specs.Atoms.{range_conditions, updated_row};
 ghost use Rattle.mm_query.specs.Binding.{AssignmentsWithin, TestsWithin};
 ghost use Rattle.mm_query.specs.Edits.{new_values, removals, updates};
+ghost use Rattle.mm_relation.specs.Before.{same_ref};
 ghost use Rattle.mm_relation.specs.Changes.{Standing};
 ghost use Rattle.mm_relation.specs.Edits.{new_rows};
 ghost use Rattle.mm_relation.specs.RowLists.{edit_pairs, rows_of};
 ghost use Rattle.mm_relation.specs.Refs.{Slots};
-ghost use Rattle.mm_relation.specs.declared.edits.Edit.TheVariants.{Swap};
+ghost use Rattle.mm_relation.specs.declared.edits.Edit.TheVariants.{Gone, Swap};
 ghost use Rattle.mm_schema.specs.Refused.{AnswersDue, first_refusal};
 ghost use Rattle.mm_schema.specs.Rows.{additions};
 
+use crate::found::{removals_once, sort_by_key, with_keys};
 use crate::select::select;
 use mm_query::{Assignment, Atom, updated_row};
 use mm_relation::{Edit, Relation};
@@ -86,4 +89,22 @@ pub fn removals(
     relation.is_kept();
     let found = select(alloc, relation, tests)?;
     found.into_iter().map(Edit::Gone).collect(alloc)
+}
+
+/// Edits that take out the rows of these references, each once and in key order, however the references stand. `AllocError` where
+/// memory is refused. It takes O(m log m) comparisons for m references, and m where they are in key order.
+pub fn removals_at(
+    alloc: Global,
+    relation: &Relation,
+    refs: &[RowRef],
+) -> Result<Vec<Edit>, AllocError>
+    requires live { All (IsLive relation.now.places) refs.now }
+    ensures items { IfOk result (λ edits. edits.items ≡ map Gone (filter (λ at. list_any (same_ref at) refs.now) relation.now.refs)) }
+    ensures standing { IfOk result (λ edits. Standing (slot_at relation.now.places) edits.items) }
+    ensures none_comes { IfOk result (λ edits. new_rows edits.items ≡ []) }
+{
+    relation.is_kept();
+    let mut found = with_keys(alloc, relation, refs)?;
+    sort_by_key(&mut found);
+    removals_once(alloc, found.as_slice())
 }

@@ -1,18 +1,19 @@
 //! Rows that are found along an index, and their order.
-ghost use Rattle.std.specs.Prelude.{◌≡◌, All, IfOk, IsPermutation, Some, filter, map, slice_get};
+ghost use Rattle.std.specs.Prelude.{◌≡◌, All, IfOk, IsPermutation, None, Some, filter, map, slice_get};
 ghost use Rattle.std.specs.List.Sorted.{IsSortedByKey};
-ghost use Rattle.mm_edits.specs.Found.{HasKey};
+ghost use Rattle.mm_edits.specs.Found.{HasKey, is_again, once};
 ghost use Rattle.mm_edits.specs.Paths.{AreAlong, IsThere};
 ghost use Rattle.mm_partition.specs.Places.{IsLive, slot_at};
 ghost use Rattle.mm_query.specs.Binding.{TestsWithin};
 ghost use Rattle.mm_query.specs.Edits.{meets};
 ghost use Rattle.mm_relation.specs.Refs.{row_at};
+ghost use Rattle.mm_relation.specs.declared.edits.Edit.TheVariants.{Gone};
 ghost use Rattle.mm_value.specs.Order.{value_cmp};
 
 use crate::paths::Path;
 use crate::select::meets;
 use mm_query::Atom;
-use mm_relation::Relation;
+use mm_relation::{Edit, Relation};
 use mm_value::{RowRef, Value, compare};
 use std::alloc::{AllocError, Global};
 
@@ -72,6 +73,30 @@ pub fn meeting<'a>(
     Ok(found)
 }
 
+/// The rows of these references, in their order. `AllocError` where memory is refused.
+pub fn with_keys<'a>(
+    alloc: Global,
+    relation: &'a Relation,
+    refs: &[RowRef],
+) -> Result<Vec<Keyed<'a>>, AllocError>
+    requires live { All (IsLive relation.now.places) refs.now }
+    ensures refs { IfOk result (λ found. map (λ row. row.at) found.items ≡ refs.now) }
+    ensures keys { IfOk result (λ found. All (HasKey relation.entry.now) found.items) }
+{
+    relation.is_kept();
+    let key = relation.key();
+    let mut found = Vec::new(alloc);
+    for at in refs {
+        let at = *at;
+        let row = relation.row(at);
+        found.push(Keyed {
+            key: row.value(key),
+            at,
+        })?;
+    }
+    Ok(found)
+}
+
 /// Puts rows in the order of their keys. It takes no memory and O(m log m) comparisons for m rows, and m where they are in
 /// that order.
 pub fn sort_by_key(found: &mut Vec<Keyed>)
@@ -86,4 +111,30 @@ pub fn refs_of(alloc: Global, found: &[Keyed]) -> Result<Vec<RowRef>, AllocError
     ensures { IfOk result (λ refs. refs.items ≡ map (λ row. row.at) found.now) }
 {
     found.iter().map(|row| row.at).collect(alloc)
+}
+
+/// Whether the reference is the one before it.
+fn is_again(before: Option<RowRef>, at: RowRef) -> bool
+    ensures { result ≡ is_again before at }
+{
+    match before {
+        Some(other) => other == at,
+        None => false,
+    }
+}
+
+/// Edits that take out these rows, in their order, and one of several that follow each other with one reference. `AllocError` where
+/// memory is refused.
+pub fn removals_once(alloc: Global, found: &[Keyed]) -> Result<Vec<Edit>, AllocError>
+    ensures { IfOk result (λ edits. edits.items ≡ map Gone (once None (map (λ row. row.at) found.now))) }
+{
+    let mut edits = Vec::new(alloc);
+    let mut before = None;
+    for row in found {
+        if !is_again(before, row.at) {
+            edits.push(Edit::Gone(row.at))?;
+        }
+        before = Some(row.at);
+    }
+    Ok(edits)
 }

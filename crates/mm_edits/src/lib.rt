@@ -10,4 +10,4 @@ mod select;
 #[cfg(test)]
 mod tests;
 
-pub use edits::{additions, removals, updates};
+pub use edits::{additions, removals, removals_at, updates};

@@ -1,13 +1,13 @@
 //! What no clause says: that ample memory is never refused. And each call once on real rows.
 ghost use Rattle.std.specs.Prelude.{◌≡◌, length, All, Contains, IfOk, IfSome};
-ghost use Rattle.mm_partition.specs.Places.{slot_at};
+ghost use Rattle.mm_partition.specs.Places.{IsLive, slot_at};
 ghost use Rattle.mm_query.specs.Atoms.{ReadsWithin};
 ghost use Rattle.mm_query.specs.Binding.{TestsWithin};
 ghost use Rattle.mm_relation.specs.Changes.{Standing};
 ghost use Rattle.mm_relation.specs.Edits.{new_rows};
 
 use crate::paths::{Path, path_for};
-use crate::{additions, removals, updates};
+use crate::{additions, removals, removals_at, updates};
 use mm_query::{Assignment, Atom, Comparison, Operand};
 use mm_relation::{Edit, Log, Relation};
 use mm_schema::IndexKind;
@@ -163,8 +163,10 @@ fn take(relation: &mut Relation, alloc: Global, tests: &[Atom<usize>]) -> Result
 
 /// The reference of the row that has a key.
 fn at_key(relation: &Relation, key: i64) -> Option<RowRef>
-    ensures { IfSome result (Contains relation.now.refs) }
+    ensures among { IfSome result (Contains relation.now.refs) }
+    ensures live { IfSome result (IsLive relation.now.places) }
 {
+    relation.is_kept();
     relation.find(&Value::Int(key))
 }
 
@@ -278,5 +280,40 @@ fn finds_rows_along_the_key(rt: HostRuntime) -> Result<(), Fail> {
     assert!(rt; matches!(path, Some(Path::Key { .. })));
     assert!(rt; take(&mut relation, alloc, &tests)?);
     assert_eq!(rt; numbers(&relation), [Some(10), Some(20), None]);
+    Ok(())
+}
+
+/// Takes out the rows of the keys 1 and 3, whose references are given out of order, and one twice.
+fn try_take_given(relation: &mut Relation, alloc: Global) -> Result<bool, AllocError>
+    ensures { relation.new.width ≡ relation.old.width }
+{
+    relation.is_kept();
+    let mut given = Vec::new(alloc);
+    for key in [3, 1, 3] {
+        if let Some(at) = at_key(relation, key) {
+            given.push(at)?;
+        }
+    }
+    let edits = removals_at(alloc, relation, given.as_slice())?;
+    make(relation, alloc, edits)
+}
+
+/// The same where memory is refused once at most.
+fn take_given(relation: &mut Relation, alloc: Global) -> Result<bool, AllocError>
+    ensures { relation.new.width ≡ relation.old.width }
+{
+    match try_take_given(relation, alloc) {
+        Ok(done) => Ok(done),
+        Err(_) => try_take_given(relation, alloc),
+    }
+}
+
+#[test]
+fn removes_the_rows_of_references(rt: HostRuntime) -> Result<(), Fail> {
+    let alloc = rt.alloc();
+    let mut relation = three(alloc)?;
+    assert!(rt; removals_at(alloc, &relation, &[])?.is_empty());
+    assert!(rt; take_given(&mut relation, alloc)?);
+    assert_eq!(rt; numbers(&relation), [None, Some(20), None]);
     Ok(())
 }

@@ -1,12 +1,12 @@
-mod Along
+pub mod Along
 pub mod Binds
-mod ClosedCascades
+pub mod ClosedCascades
 pub mod Due
-mod FoundTargets
+pub mod FoundTargets
 pub mod KeyOrder
-mod KeptTargets
-mod NamedRows
-mod OlderTables
+pub mod KeptTargets
+pub mod NamedRows
+pub mod OlderTables
 pub mod PlacedColumns
 pub mod PlacedQueries
 pub mod PlainEval
@@ -16,7 +16,7 @@ mod ReachedCascades
 pub mod Removals
 pub mod SortedRows
 pub mod StandingQueries
-mod StillFound
+pub mod StillFound
 pub mod Throughout
 mod Transactions
 mod Tuples

@@ -13,6 +13,7 @@ pub mod Moving
 pub mod OnlyReference
 pub mod Owing
 pub mod Referring
+pub mod Removals
 pub mod Retying
 pub mod Reversible
 pub mod Reverting

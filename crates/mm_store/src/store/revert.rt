@@ -1,15 +1,19 @@
 //! Commands that are taken back.
-ghost use Rattle.std.specs.Prelude.{◌≡◌, ◌+◌, ◌<◌, ◌≤◌, ◌++◌, ℕ, [], ◌∷◌, length, map, drop, take};
-ghost use Rattle.mm_relation.specs.Edits.{entry_name, named};
+ghost use Rattle.std.specs.Prelude.{◌≡◌, ◌+◌, ◌<◌, ◌≤◌, ◌++◌, ℕ, Bool, List, [], ◌∷◌, Some, None, if◌then◌else◌, length, map, drop, take};
+ghost use Rattle.mm_relation.specs.Edits.{entry_name, named, new_rows};
 ghost use Rattle.mm_relation.specs.Index.{EachTurns};
 ghost use Rattle.mm_relation.specs.Kept.{StoredRows};
 ghost use Rattle.mm_relation.specs.RowLists.{rows_of};
+ghost use Rattle.mm_relation.specs.declared.edits.Edit.{Edit};
 ghost use Rattle.mm_relation.specs.declared.names.Side.TheVariants as side;
+ghost use Rattle.mm_schema.specs.Refused.{first_refusal};
+ghost use Rattle.mm_schema.specs.Rows.{table_rows_conditions};
 ghost use Rattle.mm_store.specs.Commands.{IsTakenBack};
 ghost use Rattle.mm_store.specs.Marks.{rows_at_mark, rows_now};
-ghost use Rattle.mm_store.specs.Tables.{IsAt, SameForm, Turns};
+ghost use Rattle.mm_store.specs.Tables.{AreFit, IsAt, SameForm, Turns, has_orphans, rows_with};
 ghost use Rattle.mm_store.specs.Undoing.{CanUndo, HasSpare, IsReversible, headings_of};
 ghost use Rattle.mm_store.specs.Worlds.{Noted, back, back_all, world_of};
+ghost use Rattle.mm_value.specs.declared.refusal.Refusal.TheVariants.{RowIsReferenced};
 
 use super::Store;
 use crate::links::retie_all;
@@ -76,6 +80,17 @@ impl Store {
     /// nothing.
     pub fn rows_stand(&self)
         ensures { rows_now self.now ≡ map rows_of self.now.tables }
+    {
+        let _tables = &self.tables;
+    }
+
+    /// Rows may be taken out of a table unless a row of another table refers to one of them: nothing else refuses that. The call does
+    /// nothing.
+    pub fn removals_may_be_made(&self, table: usize)
+        ensures { (stored : StoredRows) → IsAt self.now table stored → (edits : List Edit) → AreFit stored edits → new_rows edits ≡ []
+            → (some_is_referred : Bool)
+            → first_refusal (table_rows_conditions stored.key (rows_with stored edits) (has_orphans self.now table (rows_with stored edits)) some_is_referred)
+            ≡ (if some_is_referred then Some RowIsReferenced else None) }
     {
         let _tables = &self.tables;
     }
