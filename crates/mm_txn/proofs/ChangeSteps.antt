@@ -1,9 +1,10 @@
 -- A change of rows as a step of the machine, by the edits of its table.
-use Rattle.std.proofs.Common.{◌≡◌, ℕ, ◌<◌, ◌==◌, Bool, true, false, cond, not, Result, Err, List, [], ◌∷◌, ◌++◌, Some, None, inl, inr, zero, suc, length, get_or, slice_get, slice_set, refl, sym, ap, subst, ◌∙◌, ⊎_elim, arith}
-use Rattle.std.specs.List.{All, list_any}
-use Rattle.std.specs.Option.{option_map_or}
-use Rattle.std.proofs.lemmas.Bool.{eqb-true, or_parts}
+use Rattle.std.proofs.Common.{◌≡◌, ℕ, ◌<◌, ◌==◌, ◌&&◌, ◌||◌, Bool, true, false, cond, not, Result, Err, List, [], ◌∷◌, ◌++◌, Option, Some, None, filter, find, map, inl, inr, zero, suc, length, get_or, slice_get, refl, sym, ap, subst, ◌∙◌, ⊎_elim, arith}
+use Rattle.std.specs.List.{All, AllByRecursion, list_any}
+use Rattle.std.specs.Option.{option_map_or, unwrap_or}
+use Rattle.std.proofs.lemmas.Bool.{eq-eqb, eqb-true, or_parts}
 use Rattle.std.proofs.lemmas.List.{length-map}
+use Rattle.std.proofs.lemmas.List.Elements.{All-head, recursion_from_All}
 use Rattle.mm_partition.specs.Places.{slot_at}
 use Rattle.mm_relation.specs.Changes.{Standing}
 use Rattle.mm_relation.specs.Edits.{new_rows}
@@ -11,23 +12,25 @@ use Rattle.mm_relation.specs.Kept.{StoredRows}
 use Rattle.mm_relation.specs.Refs.{Slots}
 use Rattle.mm_relation.specs.RowLists.{edit_pair, edit_pairs, rows_of}
 use Rattle.mm_relation.specs.declared.edits.Edit.{Edit}
-use Rattle.mm_schema.specs.References.{all_references}
+use Rattle.mm_schema.specs.Instance.{Instance, TableEdits as NamedEdits}
+use Rattle.mm_schema.specs.References.{RefersBack, all_references, lacks_target_row, lose_targets, references_of}
 use Rattle.mm_schema.specs.Refused.{AnswersDue, first_refusal}
-use Rattle.mm_schema.specs.Rows.{Pair, additions}
+use Rattle.mm_schema.specs.Rows.{Pair, additions, table_rows_conditions}
 use Rattle.mm_schema.specs.Schema.{HasDistinctNames, Schema, columns_named, key_named, lacks_table, table_passes, table_place}
 use Rattle.mm_schema.specs.declared.reference.Reference.{Reference}
 use Rattle.mm_schema.specs.declared.table.Table.{Table}
 use Rattle.mm_schema.proofs.Dues.{due_behind, due_in_front}
-use Rattle.mm_schema.proofs.Places.{table_at_place}
+use Rattle.mm_schema.proofs.Instances.{name_of}
+use Rattle.mm_schema.proofs.Places.{place_from_some, table_at_place}
 use Rattle.mm_schema.proofs.Twins.{Row}
-use Rattle.mm_store.specs.Tables.{AreFit, HasRows, edit_conditions, finds_orphan, makes_orphan, rows_with}
-use Rattle.mm_standing.specs.Queries.{StandingQuery, change_conditions as list_conditions}
+use Rattle.mm_store.specs.Tables.{AreFit, IsAt, Tables, finds_orphan, has_orphans, key_at, rows_at, rows_with}
+use Rattle.mm_standing.specs.Queries.{RowsByPlace, StandingQuery, change_conditions as list_conditions}
 use Rattle.mm_value.specs.declared.refusal.Refusal.{Refusal}
 use Rattle.mm_value.specs.declared.refusal.Refusal.TheVariants.{NoSuchTable, TypeMismatch, WrongNumberOfValues}
 use Rattle.mm_query.specs.Atoms.{range_conditions}
 use Rattle.mm_query.specs.Binding.{AssignmentsWithin, Binds, TestsWithin, binding_conditions, has_other_length, has_type_mismatch}
-use Rattle.mm_query.specs.Edits.{changed_table, new_values, own_pairs, removals, updates, value_conditions}
-use Rattle.mm_query.specs.Machine.{after_change, change_conditions, some_is_referred, some_lacks_target}
+use Rattle.mm_query.specs.Edits.{also, changed_table, edits, goes_along, new_values, own_edits, own_pairs, removals, removals_of, updates, value_conditions, with_cascades}
+use Rattle.mm_query.specs.Machine.{after_change, after_edits, change_conditions, is_referred_to, some_is_referred, some_lacks_target}
 use Rattle.mm_query.specs.Standing.{growth_conditions}
 use Rattle.mm_query.specs.State.{State, rows_in}
 use Rattle.mm_query.specs.declared.atom.Assignment.{Assignment}
@@ -37,15 +40,18 @@ use Rattle.mm_query.specs.declared.bound_query.BoundQuery.{BoundQuery}
 use Rattle.mm_query.specs.declared.command.Mutation.{Mutation}
 use Rattle.mm_query.specs.declared.command.Mutation.TheVariants as written
 use Rattle.mm_query.proofs.Binds.{bound_pairs, bound_place, delete_pairs, update_pairs}
-use Rattle.mm_query.proofs.Due.{due_in_front_of_rows, passes_at_place}
+use Rattle.mm_query.proofs.Due.{due_behind_values, due_in_front_of_rows, not_lacking, passes_at_place}
 use Rattle.mm_txn.specs.Kept.{AreOf, instance_of, state_of, watched_state}
-use Rattle.mm_txn.specs.TableEdits.{AreEditsOf, rows_edited}
+use Rattle.mm_txn.specs.TableEdits.{AreEditsOf, AreOwnEditsOf, FitsAt, HaveRows, PlacedEdits, edits_at, edits_conditions, leaves_orphan, leaves_orphans, named, pairs_at, rows_edited}
 use Rattle.mm_txn.specs.Watched.{IsPlaced, queries_of, rows_by_place}
-use Rattle.mm_txn.proofs.ListedRows.{edited_is, growth_placed}
-use Rattle.mm_txn.proofs.SavedRows.{pairs_watched, values_watched}
-use Rattle.mm_txn.proofs.ReferenceRows.{AreToOthers, all_there, lacks_are, loses_are, others_at}
-use Rattle.mm_txn.proofs.DatabaseSteps.{all_rows_after, change_is, due_of_rows, key_is, new_rows_in, rows_of_name, rows_there, some_there}
-use Rattle.mm_txn.proofs.RowsBeside.{AreOf-set, beside, instance_of-set}
+use Rattle.mm_txn.proofs.BackLinks.{IsOlder, first_of, older_at}
+use Rattle.mm_txn.proofs.DatabaseSteps.{key_is, rows_of_name, rows_there}
+use Rattle.mm_txn.proofs.ListedRows.{growth_placed, have_formed, rows_kept}
+use Rattle.mm_txn.proofs.Placed.{rows_by_name}
+use Rattle.mm_txn.proofs.SavedRows.{edits_watched, values_watched}
+use Rattle.mm_txn.proofs.ReferenceRows.{AreToOthers, IsToKept, IsToOther, all_there, key_by_name, lacks_are, loses_are, others_at, placed_itself, rows_by_name as rows_at_name, some_place}
+use Rattle.mm_txn.proofs.RowsBeside.{AreOf-formed, IsBeside, as_many_rows, beside}
+use Rattle.mm_txn.proofs.RowsMade.{InTurn, after_edited, in_turn, instance_is, many_after, none_at, none_later, rows_after}
 
 -- ---- what was bound
 
@@ -127,7 +133,7 @@ module _ (schema : Schema) (rs : List StoredRows) (are : AreOf schema.tables rs)
   -- Edits that bring just tuples are those of an INSERT.
   pub insert_edits : (rows : List Row) → Binds schema mutation (bound.Insert place rows) → first_refusal (binding_conditions mutation schema) ≡ None
       → (edits : List Edit) → ((now : Slots) → edit_pairs now edits ≡ additions rows) → ((now : Slots) → Standing now edits) → new_rows edits ≡ rows
-      → AreEditsOf mutation schema rs place edits
+      → AreOwnEditsOf mutation schema rs place edits
   insert_edits rows binds none edits pairs standing brings = record {
     placed = bound_place schema mutation place rows binds;
     fit = λ stored there.
@@ -155,7 +161,7 @@ module _ (schema : Schema) (rs : List StoredRows) (are : AreOf schema.tables rs)
       -- Edits that turn its rows by pairs are those of a change that has the pairs.
       pub stored_edits : (edits : List Edit) (pairs : List Pair) → edit_pairs (slot_at stored.places) edits ≡ pairs
           → own_pairs mutation (state_of schema rs) ≡ pairs → Standing (slot_at stored.places) edits
-          → All (λ row. length row ≡ stored.width) (new_rows edits) → AreEditsOf mutation schema rs place edits
+          → All (λ row. length row ≡ stored.width) (new_rows edits) → AreOwnEditsOf mutation schema rs place edits
       stored_edits edits pairs are_pairs owns standing wide = record {
         placed = placed;
         fit = λ other at. subst (λ (s : StoredRows). AreFit s edits) (one_there rs place stored other there at) (record { standing = standing; wide = wide });
@@ -185,6 +191,27 @@ module _ (schema : Schema) (rs : List StoredRows) (are : AreOf schema.tables rs)
           ∙ ap first_refusal (update_values schema mutation place assignments tests (state_of schema rs) binds)
           ∙ ap (λ pairs. first_refusal (range_conditions (new_values pairs))) (update_owns assignments tests binds))
 
+-- ---- the edits of all tables
+
+-- Edits that stand in front stay there.
+first_still : (schema : Schema) (e : NamedEdits) (ts : List Table) (rows : Instance) (es : List NamedEdits)
+    → (others : List NamedEdits) × (with_cascades schema ts rows (e ∷ es) ≡ e ∷ others)
+first_still schema e [] rows es = (es, refl)
+first_still schema e (t ∷ ts) [] es = (es, refl)
+first_still schema e (t ∷ ts) (r ∷ rs) es =
+    by (removals_of (filter (goes_along schema (e ∷ es) t.definition.columns) r)) (first_still schema e ts rs)
+  where
+    by : (pairs : List Pair) → ((fs : List NamedEdits) → (others : List NamedEdits) × (with_cascades schema ts rs (e ∷ fs) ≡ e ∷ others))
+        → (others : List NamedEdits) × (with_cascades schema ts rs (also (e ∷ es) (name_of t) pairs) ≡ e ∷ others)
+    by [] later = later es
+    by (p ∷ ps) later = later (es ++ record { table = name_of t; pairs = p ∷ ps } ∷ [])
+
+-- So those of the table that a change names come first.
+own_in_front : (mutation : Mutation) (state : State) → (others : List NamedEdits) × (edits mutation state ≡ own_edits mutation state ∷ others)
+own_in_front (written.Insert table tuples) state = ([], refl)
+own_in_front (written.Update table assignments tests) state = ([], refl)
+own_in_front (written.Delete table tests) state = first_still state.schema (own_edits (written.Delete table tests) state) state.schema.tables state.rows []
+
 -- ---- the step
 
 -- What is due of a change by its names is due of it.
@@ -202,94 +229,181 @@ early_due mutation schema rs queries refusal due =
     ⊎_elim (λ h. inl (due_in_front_of_rows mutation (watched_state schema rs queries) refusal
     (ap (λ values. first_refusal (binding_conditions mutation schema ++ values)) (sym (values_watched schema rs queries mutation)) ∙ h))) (λ m. inr m) due
 
-module _ (schema : Schema) (rs : List StoredRows) (are : AreOf schema.tables rs) (mutation : Mutation) (place : ℕ) (edits : List Edit)
-    (are_edits : AreEditsOf mutation schema rs place edits) where
-  pub change_within : place < length rs
-  change_within = rows_there schema rs are (changed_table mutation) place are_edits.placed
+module _ (schema : Schema) (store : Tables) (are : AreOf schema.tables store.tables) (distinct : HasDistinctNames schema) (mutation : Mutation)
+    (own : PlacedEdits) (along : List PlacedEdits) (are_edits : AreEditsOf mutation schema store own along) where
+  abbrev all_edits : List PlacedEdits
+  all_edits = own ∷ along
 
-  stored_there : (stored : StoredRows) × (slice_get rs place ≡ Some stored)
-  stored_there = some_there rs place change_within
+  own_there : FitsAt store own
+  own_there = All-head (FitsAt store) own along are_edits.are.fit
 
-  -- There are as many edits as pairs.
-  pub edits_counted : length edits ≡ length (own_pairs mutation (state_of schema rs))
+  turn : InTurn (length schema.tables) all_edits
+  turn = subst (λ (n : ℕ). InTurn n all_edits) (as_many_rows schema.tables store.tables are) (in_turn store all_edits are_edits.are)
+
+  -- There are as many edits of the table that a change names as pairs.
+  pub edits_counted : length own.1 ≡ length (own_pairs mutation (state_of schema store.tables))
   edits_counted =
-      let stored = stored_there.0 in
-      sym (length-map edits (edit_pair (slot_at stored.places))) ∙ ap length (are_edits.pairs stored stored_there.1)
+      let stored = own_there.0 in
+      let first = own_in_front mutation (state_of schema store.tables) in
+      let front : named schema store.tables own ∷ map (named schema store.tables) along ≡ own_edits mutation (state_of schema store.tables) ∷ first.0 =
+      are_edits.named ∙ first.1 in
+      let same : named schema store.tables own ≡ own_edits mutation (state_of schema store.tables) = cc in
+      sym (length-map own.1 (edit_pair (slot_at stored.places)))
+      ∙ (sym (ap (λ (s : Option StoredRows). length (option_map_or (λ (k : StoredRows). edit_pairs (slot_at k.places) own.1) s [])) own_there.1)
+      ∙ ap (λ (e : NamedEdits). length e.pairs) same)
 
   module _ (queries : List BoundQuery) where
-    own : (stored : StoredRows) → slice_get rs place ≡ Some stored → own_pairs mutation (watched_state schema rs queries) ≡ edit_pairs (slot_at stored.places) edits
-    own stored there = sym (pairs_watched schema rs queries mutation) ∙ sym (are_edits.pairs stored there)
+    abbrev state : State
+    state = watched_state schema store.tables queries
 
-  -- What the relation, the references and the lists refuse of the edits is what the state refuses of the change.
-  pub change_due : (lists : List StandingQuery) → All (IsPlaced schema) lists → HasDistinctNames schema → AreToOthers schema
-      → first_refusal (binding_conditions mutation schema ++ value_conditions mutation (state_of schema rs)) ≡ None
-      → (links : List Reference) → links ≡ all_references schema → {T : Type 0} (result : Result T Refusal)
-      → ((stored : StoredRows) → slice_get rs place ≡ Some stored
-      → AnswersDue (first_refusal (edit_conditions (record { tables = rs; links = links }) place stored edits
-      ++ list_conditions (rows_edited (record { tables = rs; links = links }) place edits) lists)) result)
-      → AnswersDue (first_refusal (change_conditions mutation (watched_state schema rs (queries_of lists)))) result
-  change_due lists are_placed distinct others none links are_links result each =
-      let stored = stored_there.0 in
-      let there = stored_there.1 in
-      let at = beside schema.tables rs place stored are there in
-      let pairs = edit_pairs (slot_at stored.places) edits in
-      let name = changed_table mutation in
-      let queries = queries_of lists in
-      let state = watched_state schema rs queries in
-      let owns : own_pairs mutation state ≡ pairs = own queries stored there in
-      let rows = new_rows_in schema rs are queries mutation place are_edits.placed stored there pairs owns in
-      let lacking : some_lacks_target name (after_change mutation state) ≡ list_any (finds_orphan rs place (rows_with stored edits)) links =
-      sym (lacks_are schema rs are name place are_edits.placed (own_pairs mutation state) (rows_in (after_change mutation state) name)
-      at.table at.there (others_at schema name place are_edits.placed at.table at.there others))
-      ∙ λ i. list_any (finds_orphan rs place (rows i)) (sym are_links i) in
-      let referred : some_is_referred name (own_pairs mutation state) state ≡ list_any (makes_orphan rs place stored.key pairs) links =
-      ap (λ ps. some_is_referred name ps state) owns
-      ∙ sym (loses_are schema name place are_edits.placed at.table at.there rs are distinct (key_named name schema) pairs (all_there schema others))
-      ∙ λ i. list_any (makes_orphan rs place (key_is schema rs are name place are_edits.placed stored there i) pairs) (sym are_links i) in
-      let growth : growth_conditions (after_change mutation state) ≡ list_conditions (rows_edited (record { tables = rs; links = links }) place edits) lists =
-      growth_placed (after_change mutation state) lists refl are_placed
-      ∙ ap (λ all. list_conditions (rows_by_place all) lists) (all_rows_after schema rs are queries mutation place are_edits.placed stored there pairs owns distinct)
-      ∙ ap (λ by. list_conditions by lists) (sym (edited_is (record { tables = rs; links = links }) place edits stored there)) in
-      subst (λ due. AnswersDue due result)
-      (due_of_rows schema rs are queries mutation place are_edits.placed stored there pairs owns
-      (ap (λ values. first_refusal (binding_conditions mutation schema ++ values)) (sym (values_watched schema rs queries mutation)) ∙ none)
-      (list_any (finds_orphan rs place (rows_with stored edits)) links) (list_any (makes_orphan rs place stored.key pairs) links) lacking referred
-      (list_conditions (rows_edited (record { tables = rs; links = links }) place edits) lists) growth)
-      (each stored there)
+    edits_are : map (named schema store.tables) all_edits ≡ edits mutation state
+    edits_are = are_edits.named ∙ edits_watched schema store.tables queries mutation
 
-  module _ (queries : List BoundQuery) where
+    after_is : rows_after schema distinct store are all_edits turn ≡ (after_change mutation state).rows
+    after_is = ap (λ (es : List NamedEdits). after_edits schema.tables es (instance_of store.tables)) edits_are
+
     -- The rows with the edits made are those after the change.
-    pub edited_after : HasDistinctNames schema → (links : List Reference)
-        → rows_edited (record { tables = rs; links = links }) place edits ≡ rows_by_place (after_change mutation (watched_state schema rs queries)).rows
-    edited_after distinct links =
-        let stored = stored_there.0 in
-        let there = stored_there.1 in
-        edited_is (record { tables = rs; links = links }) place edits stored there
-        ∙ ap rows_by_place (sym (all_rows_after schema rs are queries mutation place are_edits.placed stored there (edit_pairs (slot_at stored.places) edits)
-        (own queries stored there) distinct))
+    pub edited_after : rows_edited store all_edits ≡ rows_by_place (after_change mutation state).rows
+    edited_after = sym (after_edited schema distinct store are all_edits turn) ∙ ap rows_by_place after_is
 
-  module _ (queries : List BoundQuery) (tables : List StoredRows) where
-    pub change_done : HasDistinctNames schema → ((stored : StoredRows) → slice_get rs place ≡ Some stored
-        → (new : StoredRows) × (tables ≡ slice_set rs place new) × HasRows stored (rows_with stored edits) new)
-        → (watched_state schema tables queries ≡ after_change mutation (watched_state schema rs queries)) × AreOf schema.tables tables
-    change_done distinct each =
-        let stored = stored_there.0 in
-        let there = stored_there.1 in
-        let new = each stored there in (
-          ap (λ ts. watched_state schema ts queries) new.1
-              ∙ change_is schema rs are queries mutation place are_edits.placed stored there (edit_pairs (slot_at stored.places) edits) (own queries stored there)
-              distinct new.0 new.2.rows_are,
-          subst (AreOf schema.tables) (sym new.1) (AreOf-set schema.tables rs place stored new.0 there new.2.key new.2.width new.2.indexes are),
-        )
+    many_changed : length (after_change mutation state).rows ≡ length store.tables
+    many_changed = sym (ap (λ (rows : Instance). length rows) after_is) ∙ many_after schema distinct store are all_edits turn
 
-  module _ (tables : List StoredRows) where
-    pub change_refused : ((stored : StoredRows) → slice_get rs place ≡ Some stored
-        → (new : StoredRows) × (tables ≡ slice_set rs place new) × HasRows stored (rows_of stored) new)
-        → (instance_of tables ≡ instance_of rs) × AreOf schema.tables tables
-    change_refused each =
-        let stored = stored_there.0 in
-        let there = stored_there.1 in
-        let new = each stored there in (
-          ap instance_of new.1 ∙ instance_of-set rs place stored new.0 there new.2.rows_are,
-          subst (AreOf schema.tables) (sym new.1) (AreOf-set schema.tables rs place stored new.0 there new.2.key new.2.width new.2.indexes are),
-        )
+    module _ (new : Tables) where
+      pub change_done : HaveRows (rows_edited store all_edits) store new
+          → (watched_state schema new.tables queries ≡ after_change mutation state) × AreOf schema.tables new.tables
+      change_done have = (
+        ap (λ (rows : Instance). record { schema = schema; rows = rows; queries = queries; saved = None })
+            (instance_is (rows_edited store all_edits) store new have (after_change mutation state).rows many_changed (sym edited_after)),
+        AreOf-formed schema.tables store.tables new.tables (have_formed (rows_edited store all_edits) store new have) are,
+      )
+
+  -- Where all relations have the rows that they had, so has the state.
+  pub change_refused : (new : Tables) → HaveRows (rows_by_place (instance_of store.tables)) store new
+      → (instance_of new.tables ≡ instance_of store.tables) × AreOf schema.tables new.tables
+  change_refused new have = (
+    rows_kept store new have,
+    AreOf-formed schema.tables store.tables new.tables (have_formed (rows_by_place (instance_of store.tables)) store new have) are,
+  )
+
+  -- ---- what refuses it
+
+  module _ (targets : AreToOthers schema) (back : RefersBack [] schema.tables) (links : store.links ≡ all_references schema) (queries : List BoundQuery)
+      (stored : StoredRows) (there : IsAt store own.0 stored) where
+    abbrev name : List ℕ
+    name = changed_table mutation
+
+    abbrev after : State
+    after = after_change mutation (watched_state schema store.tables queries)
+
+    at : IsBeside schema.tables own.0 stored
+    at = beside schema.tables store.tables own.0 stored are there
+
+    own_made : edits_at all_edits own.0 ≡ own.1
+    own_made = ap (λ (b : Bool). option_map_or (λ (c : PlacedEdits). c.1) (cond b (Some own) (find (λ (c : PlacedEdits). c.0 == own.0) along)) [])
+        (eq-eqb own.0 own.0 refl)
+
+    -- The rows of a table's name are those at its place.
+    rows_of_table : (i : ℕ) (t : Table) → slice_get schema.tables i ≡ Some t → rows_edited store all_edits i ≡ rows_in after (name_of t)
+    rows_of_table i t here =
+        let placed = placed_itself schema distinct i t here in
+        ap (λ (by : RowsByPlace). by i) (edited_after queries)
+        ∙ (ap (rows_by_place after.rows) (sym (ap (λ p. unwrap_or p 0) placed))
+        ∙ sym (rows_by_name (name_of t) schema after.rows (not_lacking (name_of t) schema i t placed here)))
+
+    own_rows : rows_in after name ≡ rows_with stored own.1
+    own_rows =
+        rows_by_name name schema after.rows (not_lacking name schema own.0 at.table are_edits.placed at.there)
+        ∙ (ap (rows_by_place after.rows) (ap (λ p. unwrap_or p 0) are_edits.placed)
+        ∙ (sym (ap (λ (by : RowsByPlace). by own.0) (edited_after queries))
+        ∙ (ap (λ (s : Option StoredRows). option_map_or (λ k. rows_with k (edits_at all_edits own.0)) s []) there
+        ∙ ap (rows_with stored) own_made)))
+
+    -- Tables that stand before the one that a change names keep their rows.
+    older_kept : (k : ℕ) → k < own.0 → rows_edited store all_edits k ≡ rows_at store.tables k
+    older_kept k below =
+        let none : edits_at all_edits k ≡ [] = none_at k all_edits (none_later k all_edits (below, all_later along turn.1)) in
+        ap (λ (es : List Edit). option_map_or (λ s. rows_with s es) (slice_get store.tables k) []) none ∙ by (slice_get store.tables k)
+      where
+        all_later : (cs : List PlacedEdits) → AllByRecursion (λ (d : PlacedEdits). own.0 < d.0) cs → AllByRecursion (λ (d : PlacedEdits). k < d.0) cs
+        all_later [] later = tt
+        all_later (c ∷ cs) later = (let above = later.0 in omega arith, all_later cs later.1)
+
+        by : (found : Option StoredRows) → option_map_or (λ s. rows_with s []) found [] ≡ option_map_or rows_of found []
+        by None = refl
+        by (Some s) = refl
+
+    to_kept : (r : ℕ × List ℕ) → IsToOther schema name r → IsOlder schema own.0 r → IsToKept schema store.tables are name own.0 are_edits.placed after.rows
+        (rows_with stored own.1) r
+    to_kept r other older = (
+      other.0,
+      let k = some_place schema r.1 other.0 in
+          let first : k.0 ≡ first_of r.1 schema.tables = place_from_some _ schema.tables k.0 k.1 in
+          rows_by_name r.1 schema after.rows other.0
+          ∙ (ap (rows_by_place after.rows) (ap (λ p. unwrap_or p 0) k.1)
+          ∙ (sym (ap (λ (by : RowsByPlace). by k.0) (edited_after queries))
+          ∙ (older_kept k.0 (omega (arith, first, older)) ∙ sym (rows_at_name schema store.tables are r.1 k.0 k.1)))),
+    )
+
+    lacking : some_lacks_target name after ≡ has_orphans store own.0 (rows_with stored own.1)
+    lacking =
+        (λ i. list_any (λ (r : ℕ × List ℕ). list_any (lacks_target_row r.0 (key_named r.1 schema) (rows_in after r.1)) (own_rows i)) (references_of (columns_named name schema)))
+        ∙ (sym (lacks_are schema store.tables are name own.0 are_edits.placed after.rows (rows_with stored own.1) at.table at.there
+        (all_both (references_of at.table.definition.columns) (others_at schema name own.0 are_edits.placed at.table at.there targets)
+        (older_at schema back own.0 at.table at.there)))
+        ∙ ap (list_any (finds_orphan store.tables own.0 (rows_with stored own.1))) (sym links))
+      where
+        all_both : (refs : List (ℕ × List ℕ)) → AllByRecursion (IsToOther schema name) refs → AllByRecursion (IsOlder schema own.0) refs
+            → AllByRecursion (IsToKept schema store.tables are name own.0 are_edits.placed after.rows (rows_with stored own.1)) refs
+        all_both [] others older = tt
+        all_both (r ∷ rs) others older = (to_kept r others.0 older.0, all_both rs others.1 older.1)
+
+    -- Rows that stay are left behind by edits of a table just where the state tells it of its name.
+    orphans_of : (c : PlacedEdits) → FitsAt store c
+        → list_any (leaves_orphan store all_edits c) store.links ≡ is_referred_to after (named schema store.tables c)
+    orphans_of c fit =
+        let here = beside schema.tables store.tables c.0 fit.0 are fit.1 in
+        let n = name_of here.table in
+        let placed = placed_itself schema distinct c.0 here.table here.there in
+        let called : n ≡ (named schema store.tables c).table = sym (ap (λ (t : Option Table). option_map_or name_of t []) here.there) in
+        let key : key_at store.tables c.0 ≡ key_named n schema = sym (key_by_name schema store.tables are n c.0 placed) in
+        ap (list_any (leaves_orphan store all_edits c)) links
+        ∙ ((λ i. list_any (λ (r : Reference). (r.to == c.0) && lose_targets r.column (key i) (rows_edited store all_edits r.from) (pairs_at store.tables c)) (all_references schema))
+        ∙ (loses_are schema n c.0 placed here.table here.there (rows_edited store all_edits) after.rows rows_of_table (key_named n schema)
+        (pairs_at store.tables c) (all_there schema targets)
+        ∙ ap (λ (m : List ℕ). is_referred_to after (record { table = m; pairs = pairs_at store.tables c })) called))
+
+    referred : some_is_referred (edits mutation (watched_state schema store.tables queries)) after ≡ leaves_orphans store all_edits
+    referred =
+        ap (λ (es : List NamedEdits). some_is_referred es after) (sym (edits_are queries))
+        ∙ sym (by all_edits (recursion_from_All (FitsAt store) all_edits are_edits.are.fit))
+      where
+        by : (cs : List PlacedEdits) → AllByRecursion (FitsAt store) cs
+            → list_any (λ (c : PlacedEdits). list_any (leaves_orphan store all_edits c) store.links) cs
+            ≡ list_any (is_referred_to after) (map (named schema store.tables) cs)
+        by [] fit = refl
+        by (c ∷ cs) fit = λ i. orphans_of c fit.0 i || by cs fit.1 i
+
+    -- What the relations, the references and the lists refuse of the edits is what the state refuses of the change.
+    pub due_of_edits : (lists : List StandingQuery) → All (IsPlaced schema) lists → queries ≡ queries_of lists
+        → first_refusal (binding_conditions mutation schema ++ value_conditions mutation (state_of schema store.tables)) ≡ None
+        → first_refusal (edits_conditions store stored own along ++ list_conditions (rows_edited store all_edits) lists)
+        ≡ first_refusal (change_conditions mutation (watched_state schema store.tables queries))
+    due_of_edits lists are_placed are_queries none =
+        let key = key_is schema store.tables are name own.0 are_edits.placed stored there in
+        let growth : growth_conditions after ≡ list_conditions (rows_edited store all_edits) lists =
+        growth_placed after lists are_queries are_placed ∙ ap (λ (by : RowsByPlace). list_conditions by lists) (sym (edited_after queries)) in
+        sym (due_behind_values mutation (watched_state schema store.tables queries)
+        (ap (λ values. first_refusal (binding_conditions mutation schema ++ values)) (sym (values_watched schema store.tables queries mutation)) ∙ none)
+        ∙ λ i. first_refusal (table_rows_conditions (key i) (own_rows i) (lacking i) (referred i) ++ growth i))
+
+  pub change_due : (lists : List StandingQuery) → All (IsPlaced schema) lists → AreToOthers schema → RefersBack [] schema.tables → store.links ≡ all_references schema
+      → first_refusal (binding_conditions mutation schema ++ value_conditions mutation (state_of schema store.tables)) ≡ None
+      → {T : Type 0} (result : Result T Refusal)
+      → ((stored : StoredRows) → IsAt store own.0 stored
+      → AnswersDue (first_refusal (edits_conditions store stored own along ++ list_conditions (rows_edited store all_edits) lists)) result)
+      → AnswersDue (first_refusal (change_conditions mutation (watched_state schema store.tables (queries_of lists)))) result
+  change_due lists are_placed targets back links none {T} result each =
+      let stored = own_there.0 in
+      subst (λ due. AnswersDue {T = T} due result)
+      (due_of_edits targets back links (queries_of lists) stored own_there.1 lists are_placed refl none) (each stored own_there.1)

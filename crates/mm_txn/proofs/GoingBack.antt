@@ -1,10 +1,9 @@
 -- What can be gone back to, through what changes rows, takes changes back, and makes savepoints.
-use Rattle.std.proofs.Common.{◌≡◌, ℕ, suc, ◌≤◌, Bool, true, false, cond, List, [], ◌∷◌, ◌++◌, Some, None, drop, length, map, reverse, take, slice_get, refl, sym, ap, subst, ◌∙◌, arith}
+use Rattle.std.proofs.Common.{◌≡◌, ℕ, suc, ◌≤◌, List, [], ◌∷◌, ◌++◌, Some, length, map, reverse, take, slice_get, refl, sym, ap, subst, ◌∙◌, arith}
 use Rattle.std.specs.List.{All, AllByRecursion}
 use Rattle.std.proofs.lemmas.List.{drop_all, length-take}
 use Rattle.std.proofs.lemmas.List.Elements.{All-from_recursion, All-nil, All-push, All-take, recursion_from_All}
 use Rattle.mm_schema.specs.Instance.{Instance}
-use Rattle.mm_query.specs.State.{Saved, Savepoint}
 use Rattle.mm_standing.specs.State.{Lists, count_at}
 use Rattle.mm_store.specs.Marks.{rows_at_mark, rows_now}
 use Rattle.mm_store.specs.Tables.{Tables}
@@ -13,7 +12,7 @@ use Rattle.mm_store.proofs.MarkLaws.{rows_at_end}
 use Rattle.mm_value.specs.declared.values.Value.{Value}
 use Rattle.mm_txn.specs.Kept.{instance_of}
 use Rattle.mm_txn.specs.Marks.{Ascend}
-use Rattle.mm_txn.specs.Saved.{AreSaved, CanGoBack, IsSaved, saved_of, saved_rows, savepoint_at}
+use Rattle.mm_txn.specs.Saved.{AreSaved, CanGoBack, IsSaved, saved_of, savepoint_at}
 use Rattle.mm_txn.specs.Watched.{AreListed}
 use Rattle.mm_txn.specs.declared.savepoints.Mark.{Mark}
 use Rattle.mm_txn.proofs.ListSteps.{saved_now, saved_through}

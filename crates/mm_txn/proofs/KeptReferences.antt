@@ -7,7 +7,7 @@ use Rattle.std.proofs.lemmas.Bool.{cases_Bool, eq-eqb, eqb-true, or_parts}
 use Rattle.std.proofs.lemmas.List.{length_push, map-append}
 use Rattle.std.proofs.lemmas.List.Elements.{All-append, All-cons, All-from_recursion, All-nil, Contains-append_right, filter-append, recursion_from_All}
 use Rattle.mm_schema.specs.Columns.{refers_to, target_of}
-use Rattle.mm_schema.specs.Indexes.{with_index, without_index}
+use Rattle.mm_schema.specs.Indexes.{table_with_index, table_without_index, with_index, without_index}
 use Rattle.mm_schema.specs.Name.{same_name}
 use Rattle.mm_schema.specs.References.{HasTargets, RefersToOthers, above, all_references, in_front, moved_up, reference_at, references_behind, references_from, references_of}
 use Rattle.mm_schema.specs.Refused.{first_refusal}
@@ -20,7 +20,8 @@ use Rattle.mm_schema.specs.declared.table.TableDef.{TableDef}
 use Rattle.mm_schema.proofs.AllReferences.{IsReferenceWithin, others_added, others_indexed, others_left, others_unindexed, reference_there, references_with_index, references_with_table, references_without_index, references_without_table}
 use Rattle.mm_schema.proofs.Instances.{name_of}
 use Rattle.mm_schema.proofs.NameLemmas.{differs_back, same_bytes}
-use Rattle.mm_schema.proofs.References.{second_none, targets_added, targets_indexed, targets_left, targets_unindexed}
+use Rattle.mm_schema.proofs.References.{same_with, same_without, second_none, targets_added, targets_indexed, targets_left, targets_unindexed}
+use Rattle.mm_query.proofs.OlderTables.{older_with_definitions, older_with_table, older_without_table}
 use Rattle.mm_store.specs.Tables.{IsFrom, Tables, links_without}
 use Rattle.mm_txn.specs.Kept.{AreKept, AreOf}
 use Rattle.mm_txn.proofs.ReferenceRows.{AreToOthers, IsToOther, place_apart, some_place}
@@ -248,7 +249,13 @@ remove_last (y ∷ ys) x = ap (λ others. y ∷ others) (remove_last ys x)
 module _ (schema : Schema) (old new : Tables) (kept : AreKept schema old) where
   -- A change of rows keeps all, ..
   pub kept_by_rows : AreOf schema.tables new.tables → new.links ≡ old.links → AreKept schema new
-  kept_by_rows are links = record { relations = are; links = links ∙ kept.links; targets = kept.targets; others = kept.others }
+  kept_by_rows are links = record {
+    relations = are;
+    links = links ∙ kept.links;
+    targets = kept.targets;
+    others = kept.others;
+    back = kept.back;
+  }
 
   -- .. so does an index that comes or goes, ..
   pub kept_by_index : (index : IndexDef) → AreOf (with_index index schema).tables new.tables → new.links ≡ old.links → AreKept (with_index index schema) new
@@ -257,6 +264,7 @@ module _ (schema : Schema) (old new : Tables) (kept : AreKept schema old) where
     links = links ∙ kept.links ∙ sym (references_with_index index schema);
     targets = targets_indexed index schema kept.targets;
     others = others_indexed index schema kept.others;
+    back = older_with_definitions (table_with_index index) (same_with index) [] schema.tables kept.back;
   }
 
   pub kept_by_no_index : (name : List ℕ) → AreOf (without_index name schema).tables new.tables → new.links ≡ old.links
@@ -266,6 +274,7 @@ module _ (schema : Schema) (old new : Tables) (kept : AreKept schema old) where
     links = links ∙ kept.links ∙ sym (references_without_index name schema);
     targets = targets_unindexed name schema kept.targets;
     others = others_unindexed name schema kept.others;
+    back = older_with_definitions (table_without_index name) (same_without name) [] schema.tables kept.back;
   }
 
   -- .. a table that comes with its references, ..
@@ -279,6 +288,7 @@ module _ (schema : Schema) (old new : Tables) (kept : AreKept schema old) where
         ∙ sym (references_with_table definition schema kept.targets due);
     targets = targets_added definition schema kept.targets due;
     others = others_added definition schema kept.others due;
+    back = older_with_table definition schema due kept.back;
   }
 
   -- .. and one that goes with them.
@@ -290,4 +300,5 @@ module _ (schema : Schema) (old new : Tables) (kept : AreKept schema old) where
     links = links ∙ ap (links_without place) kept.links ∙ sym (references_without_table name schema place placed distinct kept.targets due);
     targets = targets_left name schema kept.targets due;
     others = others_left name schema kept.others;
+    back = older_without_table name schema due kept.back;
   }

@@ -1,3 +1,9 @@
+mod AllEdits
+mod BackLinks
+mod CascadeFinds
+mod CascadePlaces
+mod CascadeSteps
+mod CascadeTables
 mod ChangeSteps
 mod DatabaseSteps
 mod Explaining
@@ -9,8 +15,10 @@ mod ListSteps
 mod ListedRows
 mod OpenSteps
 mod ReferenceRows
+mod Referrers
 mod RollbackDue
 mod RowsBeside
+mod RowsMade
 mod SavedRows
 mod LatestMarks
 mod Selecting
@@ -21,3 +29,5 @@ mod WatchSteps
 mod Showing
 mod TestedQueries
 mod TypedSteps
+mod PlacedRows
+mod Removals

@@ -1,30 +1,34 @@
 -- The rows that standing queries read: the machine finds tables by their names, the lists by their places.
-use Rattle.std.proofs.Common.{◌≡◌, ℕ, ◌<◌, ◌≤◌, ◌==◌, ◌||◌, Bool, true, false, cond, List, [], ◌∷◌, Option, Some, None, length, slice_get, slice_set, refl, sym, ap, subst, ◌∙◌, arith}
+use Rattle.std.proofs.Common.{◌≡◌, ℕ, suc, ◌<◌, ◌≤◌, ◌==◌, ◌||◌, Bool, true, false, cond, List, [], ◌∷◌, Option, Some, None, get_or, length, map, slice_get, refl, sym, ap, subst, ◌∙◌, arith}
+use Rattle.std.specs.Prelude.{find}
 use Rattle.std.specs.List.{All, AllByRecursion, list_any}
 use Rattle.std.specs.Option.{option_map_or}
-use Rattle.std.proofs.lemmas.Bool.{eqb-false, eqb-true, ltb-false, or_parts}
-use Rattle.std.proofs.lemmas.List.{get_or-set_other, get_or-set_same, length-map, map-set}
-use Rattle.std.proofs.lemmas.List.Elements.{All-cons, All-nil, All-weaker, recursion_from_All}
-use Rattle.std.proofs.lemmas.Option.{slice_get_within}
-use Rattle.mm_delta.specs.Edited.{after_at, before_at}
+use Rattle.std.proofs.lemmas.Bool.{eqb-true, ltb-false, or_parts}
+use Rattle.std.proofs.lemmas.List.Elements.{All-cons, All-head, All-nil, All-tail, All-weaker, recursion_from_All}
+use Rattle.std.proofs.lemmas.Option.{get_or_from_slice_get, slice_get-get_or, slice_get_within}
+use Rattle.mm_delta.specs.Edited.{after_at, before_at, edits_at as told_at}
 use Rattle.mm_delta.specs.Steps.{EachFit}
 use Rattle.mm_delta.specs.declared.edited.TableEdits.{TableEdits}
 use Rattle.mm_query.specs.Standing.{growth_conditions, outgrows}
 use Rattle.mm_query.specs.State.{State}
+use Rattle.mm_relation.specs.Index.{EachTurns}
 use Rattle.mm_relation.specs.Kept.{StoredRows}
 use Rattle.mm_relation.specs.RowLists.{rows_of}
-use Rattle.mm_relation.specs.declared.edits.Edit.{Edit}
+use Rattle.mm_schema.specs.Instance.{Instance}
 use Rattle.mm_schema.specs.Refused.{first_refusal}
 use Rattle.mm_schema.specs.Schema.{Schema}
 use Rattle.mm_standing.specs.Queries.{IsServed, RowsByPlace, StandingQuery, bag_over, change_conditions, is_too_large}
 use Rattle.mm_standing.specs.State.{AreFew, AreServed}
-use Rattle.mm_store.specs.Tables.{AreFit, HasRows, Tables, Turns, rows_at, rows_with}
+use Rattle.mm_store.specs.Tables.{AreFit, HasRows, IsAt, SameForm, Tables, Turns, rows_with}
+use Rattle.mm_store.proofs.Forms.{forms_same}
+use Rattle.mm_store.proofs.Joining.{one_relation, some_at}
 use Rattle.mm_value.specs.declared.refusal.Refusal.TheVariants.{StandingListTooLarge}
 use Rattle.mm_txn.specs.Kept.{AreOf, instance_of}
-use Rattle.mm_txn.specs.TableEdits.{rows_edited}
+use Rattle.mm_txn.specs.TableEdits.{FitsAt, HaveRows, PlacedEdits, edits_at, rows_edited, told}
 use Rattle.mm_txn.specs.Watched.{IsPlaced, queries_of, rows_by_place}
-use Rattle.mm_txn.proofs.DatabaseSteps.{some_there}
 use Rattle.mm_txn.proofs.Placed.{bag_by_place, rows_at_place}
+use Rattle.mm_txn.proofs.PlacedRows.{edited_have}
+use Rattle.mm_txn.proofs.Removals.{form_turned}
 use Rattle.mm_txn.proofs.RowsBeside.{instance_of-set}
 use Rattle.mm_txn.proofs.Selecting.{all_there}
 
@@ -75,16 +79,21 @@ few_after rows queries none = each queries (none_holds _ none)
 pub before_is : (store : Tables) → before_at store ≡ rows_by_place (instance_of store.tables)
 before_is store = λ i place. rows_at_place store.tables place i
 
--- Those after it are those with the edits made.
-pub after_is : (store : Tables) (change : TableEdits) → after_at store (change ∷ []) ≡ rows_edited store change.table change.edits.now
-after_is store change = λ i place. by (change.table == place) (slice_get store.tables place) i
+-- The edits of a place are found alike.
+same_edits : (changes : List TableEdits) (place : ℕ) → told_at changes place ≡ edits_at (map told changes) place
+same_edits [] place = refl
+same_edits (c ∷ cs) place = by (c.table == place) (same_edits cs place)
   where
-    by : (b : Bool) (found : Option StoredRows)
-        → option_map_or (λ stored. rows_with stored (option_map_or (λ (c : TableEdits). c.edits.now) (cond b (Some change) None) [])) found []
-        ≡ cond b (option_map_or (λ stored. rows_with stored change.edits.now) found []) (option_map_or rows_of found [])
-    by true found = refl
-    by false None = refl
-    by false (Some stored) = refl
+    by : (b : Bool) → told_at cs place ≡ edits_at (map told cs) place
+        → option_map_or (λ (d : TableEdits). d.edits.now) (cond b (Some c) (find (λ (d : TableEdits). d.table == place) cs)) []
+        ≡ option_map_or (λ (d : PlacedEdits). d.1) (cond b (Some (told c)) (find (λ (d : PlacedEdits). d.0 == place) (map told cs))) []
+    by true rest = refl
+    by false rest = rest
+
+-- Those after it are those with the edits made.
+pub after_is : (store : Tables) (changes : List TableEdits) → after_at store changes ≡ rows_edited store (map told changes)
+after_is store changes =
+    λ i place. option_map_or (λ (stored : StoredRows). rows_with stored (same_edits changes place i)) (slice_get store.tables place) []
 
 fit_none : (stored : StoredRows) → AreFit stored []
 fit_none stored = record {
@@ -92,57 +101,100 @@ fit_none stored = record {
   wide = λ k d within. absurd (omega (arith, within));
 }
 
--- Edits that fit their table fit each.
-pub fit_each : (store : Tables) (change : TableEdits)
-    → ((stored : StoredRows) → slice_get store.tables change.table ≡ Some stored → AreFit stored change.edits.now) → EachFit store (change ∷ [])
-fit_each store change fit = λ place stored there. by place stored there (change.table == place) refl
+fit_found : (store : Tables) (changes : List PlacedEdits) → All (FitsAt store) changes → (place : ℕ) (stored : StoredRows) → IsAt store place stored
+    → AreFit stored (edits_at changes place)
+fit_found store [] fit place stored there = fit_none stored
+fit_found store (c ∷ cs) fit place stored there =
+    by (c.0 == place) refl (fit_found store cs (All-tail (FitsAt store) c cs fit) place stored there)
   where
-    by : (place : ℕ) (stored : StoredRows) → slice_get store.tables place ≡ Some stored → (b : Bool) → (change.table == place) ≡ b
-        → AreFit stored (option_map_or (λ (c : TableEdits). c.edits.now) (cond b (Some change) None) [])
-    by place stored there true own =
-        let same : change.table ≡ place = eqb-true change.table place own in
-        fit stored (subst (λ p. slice_get store.tables p ≡ Some stored) (sym same) there)
-    by place stored there false other = fit_none stored
+    by : (b : Bool) → (c.0 == place) ≡ b → AreFit stored (edits_at cs place)
+        → AreFit stored (option_map_or (λ (d : PlacedEdits). d.1) (cond b (Some c) (find (λ (d : PlacedEdits). d.0 == place) cs)) [])
+    by true own rest =
+        let first = All-head (FitsAt store) c cs fit in
+        let same : first.0 ≡ stored =
+        one_relation first.0 stored (sym first.1 ∙ (ap (slice_get store.tables) (eqb-true c.0 place own) ∙ there)) in
+        subst (λ (s : StoredRows). AreFit s c.1) same first.2
+    by false other rest = rest
 
--- With other rows at its place, the edits are made.
-pub edited_is : (store : Tables) (table : ℕ) (edits : List Edit) (stored : StoredRows) → slice_get store.tables table ≡ Some stored
-    → rows_edited store table edits ≡ rows_by_place (slice_set (instance_of store.tables) table (rows_with stored edits))
-edited_is store table edits stored there = λ i place. by place (table == place) refl i
-  where
-    within : table < length (instance_of store.tables)
-    within = omega (arith, slice_get_within store.tables table stored there, length-map store.tables rows_of)
-
-    by : (place : ℕ) (b : Bool) → (table == place) ≡ b
-        → cond b (option_map_or (λ s. rows_with s edits) (slice_get store.tables place) []) (rows_at store.tables place)
-        ≡ rows_by_place (slice_set (instance_of store.tables) table (rows_with stored edits)) place
-    by place true own =
-        let same : table ≡ place = eqb-true table place own in
-        subst (λ p. option_map_or (λ s. rows_with s edits) (slice_get store.tables p) []
-        ≡ rows_by_place (slice_set (instance_of store.tables) table (rows_with stored edits)) p) same
-        (ap (λ s. option_map_or (λ (k : StoredRows). rows_with k edits) s []) there
-        ∙ sym (get_or-set_same (instance_of store.tables) table (rows_with stored edits) [] within))
-    by place false other =
-        rows_at_place store.tables place
-        ∙ sym (get_or-set_other (instance_of store.tables) table place (rows_with stored edits) [] (λ e. eqb-false table place other (sym e)))
+-- Edits that fit their tables fit each.
+pub fit_each : (store : Tables) (changes : List TableEdits) → All (FitsAt store) (map told changes) → EachFit store changes
+fit_each store changes fit = λ place stored there.
+    subst (AreFit stored) (sym (same_edits changes place)) (fit_found store (map told changes) fit place stored there)
 
 -- ---- the rows of all tables after a change
 
-module _ (store new : Tables) (table : ℕ) (within : table < length store.tables) where
-  -- Where the relation there keeps its rows, all rows are as before.
-  pub rows_kept : ((stored : StoredRows) → slice_get store.tables table ≡ Some stored
-      → (other : StoredRows) × Turns store table other new × HasRows stored (rows_of stored) other) → instance_of new.tables ≡ instance_of store.tables
-  rows_kept each =
-      let stored = some_there store.tables table within in
-      let turned = each stored.0 stored.1 in
-      ap instance_of turned.1 ∙ instance_of-set store.tables table stored.0 turned.0 stored.1 turned.2.rows_are
+rows_same : (old new : List StoredRows) → length new ≡ length old
+    → ((place : ℕ) (stored : StoredRows) → slice_get old place ≡ Some stored → (now : StoredRows) × (slice_get new place ≡ Some now) × (rows_of now ≡ rows_of stored))
+    → instance_of new ≡ instance_of old
+rows_same [] [] count each = refl
+rows_same [] (n ∷ ns) count each = absurd (omega (arith, count))
+rows_same (o ∷ os) [] count each = absurd (omega (arith, count))
+rows_same (o ∷ os) (n ∷ ns) count each =
+    let found = each 0 o refl in
+    let first : rows_of n ≡ rows_of o = ap rows_of (one_relation n found.0 found.1) ∙ found.2 in
+    let rest : instance_of ns ≡ instance_of os = rows_same os ns (omega (arith, count)) (λ place stored there. each (suc place) stored there) in
+    λ i. first i ∷ rest i
 
-  -- Where it has the rows with the edits made, they are those with the edits made.
-  pub rows_made : (edits : List Edit) → ((stored : StoredRows) → slice_get store.tables table ≡ Some stored
-      → (other : StoredRows) × Turns store table other new × HasRows stored (rows_with stored edits) other)
-      → rows_edited store table edits ≡ rows_by_place (instance_of new.tables)
-  rows_made edits each =
-      let stored = some_there store.tables table within in
-      let turned = each stored.0 stored.1 in
-      edited_is store table edits stored.0 stored.1
-      ∙ ap rows_by_place (sym (ap instance_of turned.1 ∙ map-set (λ (k : StoredRows). rows_of k) store.tables table turned.0
-      ∙ ap (slice_set (instance_of store.tables) table) turned.2.rows_are))
+-- Where each relation keeps its rows, all rows are as before, ..
+pub rows_kept : (old new : Tables) → HaveRows (rows_by_place (instance_of old.tables)) old new → instance_of new.tables ≡ instance_of old.tables
+rows_kept old new have =
+    rows_same old.tables new.tables have.count
+    (λ place stored there.
+    let now = have.each place stored there in (
+      now.0,
+      now.1,
+      now.2.rows_are ∙ (sym (rows_at_place old.tables place) ∙ ap (λ (f : Option StoredRows). option_map_or rows_of f []) there),
+    ))
+
+-- .. and where each has the rows with the edits made, they are those with the edits made.
+pub rows_made : (old new : Tables) (changes : List PlacedEdits) → HaveRows (rows_edited old changes) old new
+    → rows_edited old changes ≡ rows_by_place (instance_of new.tables)
+rows_made old new changes have = λ i place. (sym (edited_have old new changes have place) ∙ rows_at_place new.tables place) i
+
+-- Relations that keep their rows and their form have their rows.
+pub rows_formed : (old new : Tables) → instance_of new.tables ≡ instance_of old.tables → EachTurns SameForm old.tables new.tables
+    → HaveRows (rows_by_place (instance_of old.tables)) old new
+rows_formed old new same form = record {
+  count = form.size;
+  each = λ place stored there.
+      let within : place < length old.tables = slice_get_within old.tables place stored there in
+      let now : StoredRows = get_or new.tables place stored in
+      let at : IsAt new place now = slice_get-get_or new.tables place stored (omega (arith, within, form.size)) in
+      let turned : SameForm stored now =
+      subst (λ (s : StoredRows). SameForm s now) (get_or_from_slice_get old.tables place stored stored there) (form.each place stored within) in (
+        now,
+        at,
+        record {
+          rows_are = sym (ap (λ (f : Option StoredRows). option_map_or rows_of f []) at)
+              ∙ (rows_at_place new.tables place ∙ ap (λ (rows : Instance). rows_by_place rows place) same);
+          width = turned.width;
+          key = turned.key;
+          indexes = turned.indexes;
+        },
+      );
+}
+
+-- Relations that have rows keep their form.
+pub have_formed : (rows : RowsByPlace) (old new : Tables) → HaveRows rows old new → EachTurns SameForm old.tables new.tables
+have_formed rows old new have = record {
+  size = have.count;
+  each = λ place d within.
+      let stored : StoredRows = get_or old.tables place d in
+      let found = have.each place stored (slice_get-get_or old.tables place d within) in
+      subst (SameForm stored) (sym (get_or_from_slice_get new.tables place found.0 d found.1))
+      (record { width = found.2.width; key = found.2.key; indexes = found.2.indexes });
+}
+
+-- All relations have the rows that they have, ..
+pub rows_as_they_were : (store : Tables) → HaveRows (rows_by_place (instance_of store.tables)) store store
+rows_as_they_were store = rows_formed store store refl (forms_same store.tables)
+
+-- .. also where one of them was put back.
+pub rows_put_back : (old new : Tables) (place : ℕ) → place < length old.tables
+    → ((stored : StoredRows) → IsAt old place stored → (next : StoredRows) × Turns old place next new × HasRows stored (rows_of stored) next)
+    → HaveRows (rows_by_place (instance_of old.tables)) old new
+rows_put_back old new place within each =
+    let stored = some_at old.tables place within in
+    let next = each stored.0 stored.1 in
+    rows_formed old new (ap instance_of next.1 ∙ instance_of-set old.tables place stored.0 next.0 stored.1 next.2.rows_are)
+    (form_turned old new place within rows_of each)

@@ -19,7 +19,7 @@ use Rattle.mm_query.proofs.Throughout.{gone_back, held_before, held_further}
 use Rattle.mm_typing.specs.Typing.{AreTyped, IsTyped, ShiftsNumbers}
 use Rattle.mm_value.specs.declared.values.Value.{Value}
 use Rattle.mm_txn.specs.Kept.{AreKept, AreOf, instance_of}
-use Rattle.mm_txn.specs.Saved.{AreSaved, CanGoBack, IsConsistent, IsSaved, IsSettled, kept_state, saved_of, saved_rows}
+use Rattle.mm_txn.specs.Saved.{CanGoBack, IsConsistent, IsSaved, IsSettled, kept_state, saved_of, saved_rows}
 use Rattle.mm_txn.specs.Watched.{AreListed, queries_of}
 use Rattle.mm_txn.specs.declared.savepoints.Mark.{Mark}
 use Rattle.mm_txn.proofs.GoingBack.{back_begun, back_marked, back_through, back_to_mark, saved_same}
@@ -38,13 +38,6 @@ drop_taken (suc n) (x ∷ xs) = drop_taken n xs
 saved_open : (P : Instance → Type 0) (is_open : Bool) (saved : Saved) → is_open ≡ true → IfSome (cond is_open (Some saved) None) (AreSavedRows P)
     → AreSavedRows P saved
 saved_open P is_open saved is held = subst (λ (b : Bool). IfSome (cond b (Some saved) None) (AreSavedRows P)) is held
-
--- The types of the state, whatever is written of what is saved.
-typed_with : (schema : Schema) (rows : Instance) (queries : List StandingQuery) (saved later : Option Saved) → later ≡ saved
-    → IsTyped (record { schema = schema; rows = rows; queries = queries_of queries; saved = saved })
-    → IsTyped (record { schema = schema; rows = rows; queries = queries_of queries; saved = later })
-typed_with schema rows queries saved later same typed =
-    subst (λ (s : Option Saved). IsTyped (record { schema = schema; rows = rows; queries = queries_of queries; saved = s })) (sym same) typed
 
 module _ (schema : Schema) (store : Tables) (undo : List Noted) (lists : Lists) (marks : List Mark) where
   -- A transaction that begins can go back to the rows now, which have their types.

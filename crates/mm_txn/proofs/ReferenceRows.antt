@@ -6,21 +6,21 @@ use Rattle.std.proofs.lemmas.Bool.{cases_Bool, eq-eqb, false≢true, ne_eqb}
 use Rattle.std.proofs.lemmas.List.Folds.{list_any-append}
 use Rattle.mm_relation.specs.Kept.{StoredRows}
 use Rattle.mm_relation.specs.RowLists.{rows_of}
-use Rattle.mm_schema.specs.Columns.{key_place}
-use Rattle.mm_schema.specs.Instance.{Instance, changed_instance, pairs_of, rows_named}
+use Rattle.mm_schema.specs.Instance.{Instance, rows_named}
 use Rattle.mm_schema.specs.Name.{same_name}
 use Rattle.mm_schema.specs.References.{all_references, lacks_target_row, lose_targets, reference_at, references_behind, references_of}
-use Rattle.mm_schema.specs.Rows.{Pair, changed}
+use Rattle.mm_schema.specs.Rows.{Pair}
 use Rattle.mm_schema.specs.Schema.{HasDistinctNames, Schema, columns_named, key_named, lacks_table, table_place}
+use Rattle.mm_schema.specs.declared.reference.Reference.{Reference}
 use Rattle.mm_schema.specs.declared.table.Table.{Table}
-use Rattle.mm_schema.proofs.Instances.{edits_of_one, name_of, pairs_of-other}
+use Rattle.mm_schema.proofs.Instances.{name_of}
 use Rattle.mm_schema.proofs.NameLemmas.{same_bytes, same_name_refl}
 use Rattle.mm_schema.proofs.Places.{past_from_none, place_from_some, table_at_place}
 use Rattle.mm_schema.proofs.Twins.{Row}
 use Rattle.mm_query.proofs.Due.{lacks_nowhere}
 use Rattle.mm_query.specs.State.{rows_in}
-use Rattle.mm_store.specs.Tables.{finds_orphan, key_at, makes_orphan, rows_at}
-use Rattle.mm_txn.specs.Kept.{AreOf, instance_of, state_of}
+use Rattle.mm_store.specs.Tables.{finds_orphan, key_at, rows_at}
+use Rattle.mm_txn.specs.Kept.{AreOf, state_of}
 use Rattle.mm_txn.proofs.IndexSteps.{own_place, slice_get_within}
 use Rattle.mm_txn.proofs.DatabaseSteps.{key_is, rows_of_name, rows_there, some_there}
 
@@ -40,7 +40,7 @@ any-none p none [] = refl
 any-none p none (x ∷ xs) = λ i. none x i || any-none p none xs i
 
 -- What is found passes.
-found_passes : {X : Type 0} (p : X → Bool) (xs : List X) (x : X) → find p xs ≡ Some x → p x ≡ true
+pub found_passes : {X : Type 0} (p : X → Bool) (xs : List X) (x : X) → find p xs ≡ Some x → p x ≡ true
 found_passes p [] x e = cc
 found_passes p (y ∷ ys) x e =
     elim (p y) as (λ b. p y ≡ b → cond b (Some y) (find p ys) ≡ Some x → p x ≡ true) [
@@ -61,25 +61,6 @@ module _ (schema : Schema) (rs : List StoredRows) (are : AreOf schema.tables rs)
   rows_by_name name place placed =
       let stored = some_there rs place (rows_there schema rs are name place placed) in
       rows_of_name schema rs are name place placed stored.0 stored.1 ∙ sym (ap (λ s. option_map_or rows_of s []) stored.1)
-
--- ---- rows of other tables
-
-module _ (name other : List ℕ) (pairs : List Pair) (differs : same_name name other ≡ false) where
-  one_or_others : (t : Table) (ts : List Table) (r : List Row) (rows : Instance) (b : Bool) → same_name other (name_of t) ≡ b
-      → rows_named other ts (changed_instance ts (edits_of_one name pairs) rows) ≡ rows_named other ts rows
-      → cond b (changed (key_place t.definition.columns) (pairs_of (name_of t) (edits_of_one name pairs)) r)
-      (rows_named other ts (changed_instance ts (edits_of_one name pairs) rows)) ≡ cond b r (rows_named other ts rows)
-  one_or_others t ts r rows true own rest =
-      let others : same_name name (name_of t) ≡ false = ap (same_name name) (sym (same_bytes other (name_of t) own)) ∙ differs in
-      ap (λ ps. changed (key_place t.definition.columns) ps r) (pairs_of-other name pairs (name_of t) others)
-  one_or_others t ts r rows false own rest = rest
-
-  -- A change of the rows of one table leaves those of another.
-  pub rows_of_others : (ts : List Table) (rows : Instance)
-      → rows_named other ts (changed_instance ts (edits_of_one name pairs) rows) ≡ rows_named other ts rows
-  rows_of_others [] rows = refl
-  rows_of_others (t ∷ ts) [] = refl
-  rows_of_others (t ∷ ts) (r ∷ rows) = one_or_others t ts r rows (same_name other (name_of t)) refl (rows_of_others ts rows)
 
 -- ---- rows that lack a target
 
@@ -167,39 +148,48 @@ some_place schema name there =
     ] refl
 
 module _ (schema : Schema) (rs : List StoredRows) (are : AreOf schema.tables rs) (name : List ℕ) (place : ℕ)
-    (placed : table_place name schema ≡ Some place) where
-  module _ (pairs : List Pair) (rows : List Row) where
-    lacks_same : (r : ℕ × List ℕ) → IsToOther schema name r → finds_orphan rs place rows (reference_at schema place r)
-        ≡ list_any (lacks_target_row r.0 (key_named r.1 schema)
-        (rows_named r.1 schema.tables (changed_instance schema.tables (edits_of_one name pairs) (instance_of rs)))) rows
-    lacks_same r is =
-        let k = some_place schema r.1 is.0 in
-        let to : unwrap_or (table_place r.1 schema) 0 ≡ k.0 = ap (λ p. unwrap_or p 0) k.1 in
-        let key : key_at rs (unwrap_or (table_place r.1 schema) 0) ≡ key_named r.1 schema = ap (key_at rs) to ∙ sym (key_by_name schema rs are r.1 k.0 k.1) in
-        let targets : rows_at rs (unwrap_or (table_place r.1 schema) 0)
-        ≡ rows_named r.1 schema.tables (changed_instance schema.tables (edits_of_one name pairs) (instance_of rs)) =
-        ap (rows_at rs) to ∙ sym (rows_by_name schema rs are r.1 k.0 k.1) ∙ sym (rows_of_others name r.1 pairs is.1 schema.tables (instance_of rs)) in
-        ap (λ b. b && list_any (lacks_target_row r.0 (key_at rs (unwrap_or (table_place r.1 schema) 0)) (rows_at rs (unwrap_or (table_place r.1 schema) 0))) rows)
-        (eq-eqb place place refl)
-        ∙ λ i. list_any (lacks_target_row r.0 (key i) (targets i)) rows
+    (placed : table_place name schema ≡ Some place) (after : Instance) (rows : List Row) where
+  -- The table that a column refers to is there, and has the rows that it had.
+  abbrev pub IsToKept : ℕ × List ℕ → Type 0
+  IsToKept r = (lacks_table r.1 schema ≡ false) × (rows_named r.1 schema.tables after ≡ rows_in (state_of schema rs) r.1)
 
-    -- Rows of the table lack a target by the catalog's references just where they do in the state.
-    pub lacks_are : (table : Table) → slice_get schema.tables place ≡ Some table
-        → AllByRecursion (IsToOther schema name) (references_of table.definition.columns)
-        → list_any (finds_orphan rs place rows) (all_references schema)
-        ≡ list_any (λ (r : ℕ × List ℕ). list_any (lacks_target_row r.0 (key_named r.1 schema)
-        (rows_named r.1 schema.tables (changed_instance schema.tables (edits_of_one name pairs) (instance_of rs)))) rows)
-        (references_of (columns_named name schema))
-    lacks_are table there others =
-        let columns : columns_named name schema ≡ table.definition.columns =
-        ap (λ t. option_map_or (λ (u : Table). u.definition.columns) t []) (table_at_place name schema place placed ∙ there) in
-        own_alone schema rs place rows place 0 schema.tables table there (zero-add place)
-        ∙ any-map (finds_orphan rs place rows) (reference_at schema place) (references_of table.definition.columns)
-        ∙ any-same (IsToOther schema name) _ _ lacks_same (references_of table.definition.columns) others
-        ∙ λ i. list_any (λ (r : ℕ × List ℕ). list_any (lacks_target_row r.0 (key_named r.1 schema)
-        (rows_named r.1 schema.tables (changed_instance schema.tables (edits_of_one name pairs) (instance_of rs)))) rows) (references_of (sym columns i))
+  lacks_same : (r : ℕ × List ℕ) → IsToKept r → finds_orphan rs place rows (reference_at schema place r)
+      ≡ list_any (lacks_target_row r.0 (key_named r.1 schema) (rows_named r.1 schema.tables after)) rows
+  lacks_same r is =
+      let k = some_place schema r.1 is.0 in
+      let to : unwrap_or (table_place r.1 schema) 0 ≡ k.0 = ap (λ p. unwrap_or p 0) k.1 in
+      let key : key_at rs (unwrap_or (table_place r.1 schema) 0) ≡ key_named r.1 schema = ap (key_at rs) to ∙ sym (key_by_name schema rs are r.1 k.0 k.1) in
+      let targets : rows_at rs (unwrap_or (table_place r.1 schema) 0) ≡ rows_named r.1 schema.tables after =
+      ap (rows_at rs) to ∙ sym (rows_by_name schema rs are r.1 k.0 k.1) ∙ sym is.1 in
+      ap (λ b. b && list_any (lacks_target_row r.0 (key_at rs (unwrap_or (table_place r.1 schema) 0)) (rows_at rs (unwrap_or (table_place r.1 schema) 0))) rows)
+      (eq-eqb place place refl)
+      ∙ λ i. list_any (lacks_target_row r.0 (key i) (targets i)) rows
+
+  -- Rows of the table lack a target by the catalog's references just where they do in the state.
+  pub lacks_are : (table : Table) → slice_get schema.tables place ≡ Some table → AllByRecursion IsToKept (references_of table.definition.columns)
+      → list_any (finds_orphan rs place rows) (all_references schema)
+      ≡ list_any (λ (r : ℕ × List ℕ). list_any (lacks_target_row r.0 (key_named r.1 schema) (rows_named r.1 schema.tables after)) rows)
+      (references_of (columns_named name schema))
+  lacks_are table there kept =
+      let columns : columns_named name schema ≡ table.definition.columns =
+      ap (λ t. option_map_or (λ (u : Table). u.definition.columns) t []) (table_at_place name schema place placed ∙ there) in
+      own_alone schema rs place rows place 0 schema.tables table there (zero-add place)
+      ∙ any-map (finds_orphan rs place rows) (reference_at schema place) (references_of table.definition.columns)
+      ∙ any-same IsToKept _ _ lacks_same (references_of table.definition.columns) kept
+      ∙ λ i. list_any (λ (r : ℕ × List ℕ). list_any (lacks_target_row r.0 (key_named r.1 schema) (rows_named r.1 schema.tables after)) rows)
+      (references_of (sym columns i))
 
 -- ---- keys that others refer to
+
+-- A table has its own place.
+pub placed_itself : (schema : Schema) → HasDistinctNames schema → (i : ℕ) (t : Table) → slice_get schema.tables i ≡ Some t
+    → table_place (name_of t) schema ≡ Some i
+placed_itself schema distinct i t here =
+    let first = own_place schema.tables i t here distinct in
+    elim (table_place (name_of t) schema) as (λ p. table_place (name_of t) schema ≡ p → table_place (name_of t) schema ≡ Some i) [
+      | None ↦ λ e. absurd (let past = past_from_none _ schema.tables e in let within = slice_get_within schema.tables i t here in omega (arith, past, first, within))
+      | Some k ↦ λ e. e ∙ ap (λ n. Some n) (place_from_some _ schema.tables k e ∙ first)
+    ] refl
 
 module _ (schema : Schema) (name : List ℕ) (place : ℕ) (placed : table_place name schema ≡ Some place) (table : Table)
     (there : slice_get schema.tables place ≡ Some table) where
@@ -226,43 +216,39 @@ module _ (schema : Schema) (name : List ℕ) (place : ℕ) (placed : table_place
         | inr other ↦ ap (λ m. m == place) to ∙ ne_eqb k.0 place (place_apart n k.0 k.1 other) ∙ sym other
       ]
 
-  module _ (rs : List StoredRows) (are : AreOf schema.tables rs) (distinct : HasDistinctNames schema) (key : ℕ) (pairs : List Pair) where
-    -- A table has its own place.
-    placed_itself : (i : ℕ) (t : Table) → slice_get schema.tables i ≡ Some t → table_place (name_of t) schema ≡ Some i
-    placed_itself i t here =
-        let first = own_place schema.tables i t here distinct in
-        elim (table_place (name_of t) schema) as (λ p. table_place (name_of t) schema ≡ p → table_place (name_of t) schema ≡ Some i) [
-          | None ↦ λ e. absurd (let past = past_from_none _ schema.tables e in let within = slice_get_within schema.tables i t here in omega (arith, past, first, within))
-          | Some k ↦ λ e. e ∙ ap (λ n. Some n) (place_from_some _ schema.tables k e ∙ first)
-        ] refl
+  module _ (rows : ℕ → List Row) (after : Instance)
+      (same : (i : ℕ) (t : Table) → slice_get schema.tables i ≡ Some t → rows i ≡ rows_named (name_of t) schema.tables after)
+      (key : ℕ) (pairs : List Pair) where
+    -- The reference is to the table, and the pairs take away a row, or its key, to which one of the rows refers.
+    abbrev pub loses_by : Reference → Bool
+    loses_by r = (r.to == place) && lose_targets r.column key (rows r.from) pairs
 
     -- one table's columns
     loses_same : (i : ℕ) (t : Table) → slice_get schema.tables i ≡ Some t
         → AllByRecursion (λ (r : ℕ × List ℕ). lacks_table r.1 schema ≡ false) (references_of t.definition.columns)
-        → list_any (makes_orphan rs place key pairs) (map (reference_at schema i) (references_of t.definition.columns))
-        ≡ list_any (λ (r : ℕ × List ℕ). same_name r.1 name && lose_targets r.0 key (rows_in (state_of schema rs) (name_of t)) pairs)
+        → list_any loses_by (map (reference_at schema i) (references_of t.definition.columns))
+        ≡ list_any (λ (r : ℕ × List ℕ). same_name r.1 name && lose_targets r.0 key (rows_named (name_of t) schema.tables after) pairs)
         (references_of t.definition.columns)
     loses_same i t here targets =
-        let rows : rows_at rs i ≡ rows_in (state_of schema rs) (name_of t) = sym (rows_by_name schema rs are (name_of t) i (placed_itself i t here)) in
-        any-map (makes_orphan rs place key pairs) (reference_at schema i) (references_of t.definition.columns)
+        any-map loses_by (reference_at schema i) (references_of t.definition.columns)
         ∙ any-same (λ (r : ℕ × List ℕ). lacks_table r.1 schema ≡ false) _ _
-        (λ r is k. to_is r.1 is k && lose_targets r.0 key (rows k) pairs) (references_of t.definition.columns) targets
+        (λ r is k. to_is r.1 is k && lose_targets r.0 key (same i t here k) pairs) (references_of t.definition.columns) targets
 
     -- Keys are referred to by the catalog's references just where they are in the state.
     loses_from : (i : ℕ) (ts : List Table) → ((k : ℕ) (t : Table) → slice_get ts k ≡ Some t → slice_get schema.tables (i + k) ≡ Some t)
         → AllByRecursion (λ (t : Table). AllByRecursion (λ (r : ℕ × List ℕ). lacks_table r.1 schema ≡ false) (references_of t.definition.columns)) ts
-        → list_any (makes_orphan rs place key pairs) (references_behind schema i ts)
-        ≡ list_any (λ (t : Table). list_any (λ (r : ℕ × List ℕ). same_name r.1 name && lose_targets r.0 key (rows_in (state_of schema rs) (name_of t)) pairs)
+        → list_any loses_by (references_behind schema i ts)
+        ≡ list_any (λ (t : Table). list_any (λ (r : ℕ × List ℕ). same_name r.1 name && lose_targets r.0 key (rows_named (name_of t) schema.tables after) pairs)
         (references_of t.definition.columns)) ts
     loses_from i [] behind targets = refl
     loses_from i (t ∷ ts) behind targets =
         let here : slice_get schema.tables i ≡ Some t = subst (λ n. slice_get schema.tables n ≡ Some t) (add-zero i) (behind 0 t refl) in
-        list_any-append (makes_orphan rs place key pairs) (map (reference_at schema i) (references_of t.definition.columns)) (references_behind schema (i + 1) ts)
+        list_any-append loses_by (map (reference_at schema i) (references_of t.definition.columns)) (references_behind schema (i + 1) ts)
         ∙ λ k. loses_same i t here targets.0 k
         || loses_from (i + 1) ts (λ n u at. subst (λ m. slice_get schema.tables m ≡ Some u) (omega arith) (behind (suc n) u at)) targets.1 k
 
     pub loses_are : AllByRecursion (λ (t : Table). AllByRecursion (λ (r : ℕ × List ℕ). lacks_table r.1 schema ≡ false) (references_of t.definition.columns)) schema.tables
-        → list_any (makes_orphan rs place key pairs) (all_references schema)
-        ≡ list_any (λ (t : Table). list_any (λ (r : ℕ × List ℕ). same_name r.1 name && lose_targets r.0 key (rows_in (state_of schema rs) (name_of t)) pairs)
+        → list_any loses_by (all_references schema)
+        ≡ list_any (λ (t : Table). list_any (λ (r : ℕ × List ℕ). same_name r.1 name && lose_targets r.0 key (rows_named (name_of t) schema.tables after) pairs)
         (references_of t.definition.columns)) schema.tables
     loses_are targets = loses_from 0 schema.tables (λ k t at. subst (λ n. slice_get schema.tables n ≡ Some t) (sym (zero-add k)) at) targets

@@ -2,12 +2,10 @@
 use Rattle.std.proofs.Common.{◌≡◌, ℕ, zero, suc, ◌+◌, ◌<◌, Bool, true, false, cond, not, List, [], ◌∷◌, ◌++◌, Some, length, map, slice_get, slice_set, refl, sym, ap, subst, ◌∙◌, arith}
 use Rattle.std.specs.List.{IsDistinct, filter, position_or_len, remove}
 use Rattle.std.proofs.lemmas.Map.Keys.{IsDistinct-tail}
-use Rattle.mm_schema.specs.Columns.{key_place}
-use Rattle.mm_schema.specs.Instance.{changed_instance, pairs_of, rows_named, without_rows}
+use Rattle.mm_schema.specs.Instance.{rows_named, without_rows}
 use Rattle.mm_schema.specs.Name.{same_name}
-use Rattle.mm_schema.specs.Rows.{Pair, changed}
 use Rattle.mm_schema.specs.declared.table.Table.{Table}
-use Rattle.mm_schema.proofs.Instances.{AreBeside, LackName, changed_instance-others, edits_of_one, name_of, others_lack, pairs_of-other, pairs_of-own}
+use Rattle.mm_schema.proofs.Instances.{AreBeside, LackName, name_of, others_lack}
 use Rattle.mm_schema.proofs.Twins.{Row}
 use Rattle.mm_txn.specs.Kept.{AreIndexes, AreOf, IsOf, instance_of}
 use Rattle.mm_relation.specs.Index.{EachTurns, SameIndex}
@@ -16,7 +14,7 @@ use Rattle.mm_relation.specs.declared.index.Index.{Index}
 use Rattle.mm_schema.specs.declared.column.Column.{Column}
 use Rattle.mm_schema.specs.declared.index.IndexDef.{IndexDef}
 use Rattle.mm_relation.specs.RowLists.{rows_of}
-use Rattle.mm_store.specs.Tables.{HasRows, SameForm}
+use Rattle.mm_store.specs.Tables.{SameForm}
 
 -- There are as many rows as tables.
 pub as_many_rows : (ts : List Table) (rs : List StoredRows) → AreOf ts rs → length rs ≡ length ts
@@ -25,7 +23,7 @@ as_many_rows (t ∷ ts) (r ∷ rs) are = ap (λ n. suc n) (as_many_rows ts rs ar
 as_many_rows [] (r ∷ rs) are = absurd are
 as_many_rows (t ∷ ts) [] are = absurd are
 
-are_beside : (ts : List Table) (rs : List StoredRows) → AreOf ts rs → AreBeside ts (instance_of rs)
+pub are_beside : (ts : List Table) (rs : List StoredRows) → AreOf ts rs → AreBeside ts (instance_of rs)
 are_beside [] [] are = tt
 are_beside (t ∷ ts) (r ∷ rs) are = are_beside ts rs are.1
 are_beside [] (r ∷ rs) are = absurd are
@@ -67,8 +65,6 @@ rows_at_place name (t ∷ ts) [] stored are here = cc
 
 -- ---- other rows at a place
 
--- ---- indexes
-
 -- Indexes that turned into others of their columns and kinds are those of the same definitions.
 pub AreIndexes-turned : (columns : List Column) (ds : List IndexDef) (xs ys : List Index) → EachTurns SameIndex xs ys → AreIndexes columns ds xs
     → AreIndexes columns ds ys
@@ -83,23 +79,6 @@ AreIndexes-turned columns (d ∷ ds) (x ∷ xs) (y ∷ ys) turned are =
       record { column = are.0.column ∙ ap (λ c. Some c) (sym first.0); kind = first.1 ∙ are.0.kind },
       AreIndexes-turned columns ds xs ys later are.1,
     )
-
--- They are rows of the same tables where they have the same columns, key and indexes.
-pub AreOf-set : (ts : List Table) (rs : List StoredRows) (place : ℕ) (old new : StoredRows) → slice_get rs place ≡ Some old → new.key ≡ old.key
-    → new.width ≡ old.width → EachTurns SameIndex old.indexes new.indexes → AreOf ts rs → AreOf ts (slice_set rs place new)
-AreOf-set (t ∷ ts) (r ∷ rs) zero old new h key width indexes are =
-    let was : r ≡ old = cc in
-    let is_of : IsOf t old = subst (IsOf t) was are.0 in (
-      record {
-        key = key ∙ is_of.key;
-        width = width ∙ is_of.width;
-        indexes = AreIndexes-turned t.definition.columns t.indexes old.indexes new.indexes indexes is_of.indexes;
-      },
-      are.1,
-    )
-AreOf-set (t ∷ ts) (r ∷ rs) (suc place) old new h key width indexes are = (are.0, AreOf-set ts rs place old new h key width indexes are.1)
-AreOf-set ts [] place old new h key width indexes are = cc
-AreOf-set [] (r ∷ rs) place old new h key width indexes are = absurd are
 
 -- Relations that have the columns, the keys and the indexes that they had are those of the same tables.
 pub AreOf-formed : (ts : List Table) (rs new : List StoredRows) → EachTurns SameForm rs new → AreOf ts rs → AreOf ts new
@@ -119,20 +98,6 @@ AreOf-formed (t ∷ ts) (r ∷ rs) (n ∷ ns) formed are =
       AreOf-formed ts rs ns later are.1,
     )
 
--- What stands at a place may be put there.
-pub set_itself : (rs : List StoredRows) (place : ℕ) (stored : StoredRows) → slice_get rs place ≡ Some stored → rs ≡ slice_set rs place stored
-set_itself [] place stored h = cc
-set_itself (r ∷ rs) zero stored h = let was : r ≡ stored = cc in ap (λ first. first ∷ rs) was
-set_itself (r ∷ rs) (suc place) stored h = ap (λ others. r ∷ others) (set_itself rs place stored h)
-
-pub HasRows-itself : (stored : StoredRows) → HasRows stored (rows_of stored) stored
-HasRows-itself stored = record {
-  rows_are = refl;
-  width = refl;
-  key = refl;
-  indexes = record { size = refl; each = λ k d below. (refl, refl) };
-}
-
 -- Where they are the same rows, all rows are.
 pub instance_of-set : (rs : List StoredRows) (place : ℕ) (old new : StoredRows) → slice_get rs place ≡ Some old → rows_of new ≡ rows_of old
     → instance_of (slice_set rs place new) ≡ instance_of rs
@@ -141,63 +106,6 @@ instance_of-set (r ∷ rs) zero old new h same =
     let was : r ≡ old = cc in
     λ i. (same ∙ sym (ap rows_of was)) i ∷ instance_of rs
 instance_of-set (r ∷ rs) (suc place) old new h same = ap (λ others. rows_of r ∷ others) (instance_of-set rs place old new h same)
-
-module _ (name : List ℕ) (pairs : List Pair) (old : StoredRows) where
-  own_or_others : (t : Table) (ts : List Table) (r : StoredRows) (rs : List StoredRows) (n : ℕ) (b : Bool) → same_name name (name_of t) ≡ b
-      → AreOf (t ∷ ts) (r ∷ rs) → IsDistinct same_name (map name_of (t ∷ ts)) → slice_get (r ∷ rs) (cond (not b) (1 + n) 0) ≡ Some old
-      → (slice_get rs n ≡ Some old
-      → changed_instance ts (edits_of_one name pairs) (instance_of rs) ≡ slice_set (instance_of rs) n (changed old.key pairs (rows_of old)))
-      → changed_instance (t ∷ ts) (edits_of_one name pairs) (instance_of (r ∷ rs))
-      ≡ slice_set (instance_of (r ∷ rs)) (cond (not b) (1 + n) 0) (changed old.key pairs (rows_of old))
-  own_or_others t ts r rs n true own are distinct here rest =
-      let same : r ≡ old = cc in
-      let becomes : changed (key_place t.definition.columns) (pairs_of (name_of t) (edits_of_one name pairs)) (rows_of r) ≡ changed old.key pairs (rows_of old) =
-      ap (λ key. changed key (pairs_of (name_of t) (edits_of_one name pairs)) (rows_of r)) (sym are.0.key)
-      ∙ ap (λ ps. changed r.key ps (rows_of r)) (pairs_of-own name pairs (name_of t) own)
-      ∙ ap (λ (k : StoredRows). changed k.key pairs (rows_of k)) same in
-      λ i. becomes i ∷ changed_instance-others name pairs ts (instance_of rs) (are_beside ts rs are.1) (others_lack name t ts own distinct) i
-  own_or_others t ts r rs n false other are distinct here rest =
-      let next : 1 + n ≡ suc n = omega arith in
-      (λ i. changed (key_place t.definition.columns) (pairs_of-other name pairs (name_of t) other i) (rows_of r)
-      ∷ rest (subst (λ k. slice_get (r ∷ rs) k ≡ Some old) next here) i)
-      ∙ ap (λ k. slice_set (instance_of (r ∷ rs)) k (changed old.key pairs (rows_of old))) (sym next)
-
-  -- The rows at the place of a name are changed by its pairs, and no others.
-  pub changed_rows_at_place : (ts : List Table) (rs : List StoredRows) → AreOf ts rs → IsDistinct same_name (map name_of ts)
-      → slice_get rs (position_or_len (λ t. same_name name (name_of t)) ts) ≡ Some old
-      → changed_instance ts (edits_of_one name pairs) (instance_of rs)
-      ≡ slice_set (instance_of rs) (position_or_len (λ t. same_name name (name_of t)) ts) (changed old.key pairs (rows_of old))
-  changed_rows_at_place (t ∷ ts) (r ∷ rs) are distinct here =
-      own_or_others t ts r rs (position_or_len (λ u. same_name name (name_of u)) ts) (same_name name (name_of t)) refl are distinct here
-      (changed_rows_at_place ts rs are.1 (IsDistinct-tail same_name (name_of t) (map name_of ts) distinct))
-  changed_rows_at_place [] [] are distinct here = refl
-  changed_rows_at_place [] (r ∷ rs) are distinct here = absurd are
-  changed_rows_at_place (t ∷ ts) [] are distinct here = absurd are
-
-module _ (name : List ℕ) (pairs : List Pair) (old : StoredRows) where
-  its_own_or_others : (t : Table) (ts : List Table) (r : StoredRows) (rs : List StoredRows) (n : ℕ) (b : Bool) → same_name name (name_of t) ≡ b
-      → AreOf (t ∷ ts) (r ∷ rs) → slice_get (r ∷ rs) (cond (not b) (1 + n) 0) ≡ Some old → (others : List Row)
-      → (slice_get rs n ≡ Some old → others ≡ changed old.key pairs (rows_of old))
-      → cond b (changed (key_place t.definition.columns) (pairs_of (name_of t) (edits_of_one name pairs)) (rows_of r)) others
-      ≡ changed old.key pairs (rows_of old)
-  its_own_or_others t ts r rs n true own are here others rest =
-      let same : r ≡ old = cc in
-      ap (λ key. changed key (pairs_of (name_of t) (edits_of_one name pairs)) (rows_of r)) (sym are.0.key)
-      ∙ ap (λ ps. changed r.key ps (rows_of r)) (pairs_of-own name pairs (name_of t) own)
-      ∙ ap (λ (k : StoredRows). changed k.key pairs (rows_of k)) same
-  its_own_or_others t ts r rs n false other are here others rest =
-      let next : 1 + n ≡ suc n = omega arith in rest (subst (λ k. slice_get (r ∷ rs) k ≡ Some old) next here)
-
-  -- The rows that the name has then are those rows, changed.
-  pub rows_after_change : (ts : List Table) (rs : List StoredRows) → AreOf ts rs
-      → slice_get rs (position_or_len (λ t. same_name name (name_of t)) ts) ≡ Some old
-      → rows_named name ts (changed_instance ts (edits_of_one name pairs) (instance_of rs)) ≡ changed old.key pairs (rows_of old)
-  rows_after_change (t ∷ ts) (r ∷ rs) are here =
-      its_own_or_others t ts r rs (position_or_len (λ u. same_name name (name_of u)) ts) (same_name name (name_of t)) refl are here
-      (rows_named name ts (changed_instance ts (edits_of_one name pairs) (instance_of rs))) (rows_after_change ts rs are.1)
-  rows_after_change [] [] are here = cc
-  rows_after_change [] (r ∷ rs) are here = absurd are
-  rows_after_change (t ∷ ts) [] are here = absurd are
 
 -- ---- one more table
 

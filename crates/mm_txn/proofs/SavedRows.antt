@@ -1,6 +1,6 @@
 -- What changes rows does not look at the rows that are saved, and keeps them.
-use Rattle.std.proofs.Common.{◌≡◌, Result, List, Option, None, refl, ap, subst, ◌∙◌}
-use Rattle.mm_query.specs.Edits.{own_pairs, value_conditions}
+use Rattle.std.proofs.Common.{◌≡◌, Result, List, Option, refl, ap, subst, ◌∙◌}
+use Rattle.mm_query.specs.Edits.{edits, own_pairs, value_conditions}
 use Rattle.mm_query.specs.Machine.{after_change, change_conditions}
 use Rattle.mm_query.specs.State.{Saved, State}
 use Rattle.mm_query.specs.declared.bound_query.BoundQuery.{BoundQuery}
@@ -18,10 +18,10 @@ state_with schema rs queries saved = record (watched_state schema rs queries) { 
 
 module _ (schema : Schema) (rs : List StoredRows) (queries : List BoundQuery) where
   -- What a change asks for does not depend on the standing queries.
-  pub pairs_watched : (mutation : Mutation) → own_pairs mutation (state_of schema rs) ≡ own_pairs mutation (watched_state schema rs queries)
-  pairs_watched (Insert table tuples) = refl
-  pairs_watched (Update table assignments tests) = refl
-  pairs_watched (Delete table tests) = refl
+  pub edits_watched : (mutation : Mutation) → edits mutation (state_of schema rs) ≡ edits mutation (watched_state schema rs queries)
+  edits_watched (Insert table tuples) = refl
+  edits_watched (Update table assignments tests) = refl
+  edits_watched (Delete table tests) = refl
 
   pub values_watched : (mutation : Mutation) → value_conditions mutation (state_of schema rs) ≡ value_conditions mutation (watched_state schema rs queries)
   values_watched (Insert table tuples) = refl

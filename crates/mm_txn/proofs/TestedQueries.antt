@@ -1,5 +1,5 @@
 -- Standing queries add numbers only to numbers of the rows before a change and of those after it.
-use Rattle.std.proofs.Common.{◌≡◌, ℕ, zero, suc, false, List, [], ◌∷◌, Option, Some, None, get_or, length, slice_get, refl, sym, ap, subst, ◌<◌, ◌∙◌, arith}
+use Rattle.std.proofs.Common.{◌≡◌, ℕ, zero, suc, false, List, [], ◌∷◌, Option, Some, None, get_or, length, map, slice_get, refl, sym, ap, subst, ◌<◌, ◌∙◌, arith}
 use Rattle.std.specs.List.{All, list_any}
 use Rattle.std.specs.Option.{option_and_then, option_map, option_map_or, unwrap_or}
 use Rattle.std.proofs.lemmas.Bool.{or_parts}
@@ -23,23 +23,23 @@ use Rattle.mm_standing.specs.Queries.{RowsByPlace, StandingQuery}
 use Rattle.mm_standing.specs.Reads.{AreTypeTested}
 use Rattle.mm_store.specs.Tables.{Tables}
 use Rattle.mm_txn.specs.Kept.{instance_of}
-use Rattle.mm_txn.specs.TableEdits.{rows_edited}
+use Rattle.mm_txn.specs.TableEdits.{rows_edited, told}
 use Rattle.mm_txn.specs.Watched.{IsPlaced, IsTested, queries_of, rows_by_place}
 use Rattle.mm_txn.proofs.ListedRows.{after_is, before_is}
 use Rattle.mm_txn.proofs.Placed.{rows_by_name}
 
 -- ---- for the lists
 
--- What is tested of the rows by their places is tested of a store and the edits of one table.
-pub type_tested : (store : Tables) (change : TableEdits) (queries : List StandingQuery)
-    → All (IsTested (rows_by_place (instance_of store.tables)) (rows_edited store change.table change.edits.now)) queries
-    → AreTypeTested store (change ∷ []) queries
-type_tested store change queries tested = λ k d within. record {
+-- What is tested of the rows by their places is tested of a store and the edits of its tables.
+pub type_tested : (store : Tables) (changes : List TableEdits) (queries : List StandingQuery)
+    → All (IsTested (rows_by_place (instance_of store.tables)) (rows_edited store (map told changes))) queries
+    → AreTypeTested store changes queries
+type_tested store changes queries tested = λ k d within. record {
   whole = (tested k d within).whole;
   before = subst (λ (r : RowsByPlace). AddsToNumbers (get_or queries k d).query (λ j. r (get_or (get_or queries k d).tables j 0)))
       (sym (before_is store)) (tested k d within).before;
   after = subst (λ (r : RowsByPlace). AddsToNumbers (get_or queries k d).query (λ j. r (get_or (get_or queries k d).tables j 0)))
-      (sym (after_is store change)) (tested k d within).after;
+      (sym (after_is store changes)) (tested k d within).after;
 }
 
 -- ---- by the types of rows

@@ -1,5 +1,5 @@
 -- Types of rows and of standing queries through changes of the catalog and of rows.
-use Rattle.std.proofs.Common.{◌≡◌, ◌⊎◌, ℕ, Bool, true, false, cond, not, ◌&&◌, Result, Ok, Err, OnOk, OnErr, List, ◌∷◌, ◌++◌, Option, Some, None, is_some, length, inl, inr, refl, sym, ap, subst, ◌∙◌, ⊎_elim, arith}
+use Rattle.std.proofs.Common.{◌≡◌, ◌⊎◌, ℕ, Bool, true, false, cond, not, ◌&&◌, Result, Ok, Err, OnOk, OnErr, List, ◌++◌, Option, Some, None, is_some, length, inl, inr, refl, sym, ap, subst, ◌∙◌, ⊎_elim, arith}
 use Rattle.std.proofs.lemmas.Bool.{cases_Bool}
 use Rattle.mm_schema.specs.Refused.{AnswersDue, Condition, first_refusal}
 use Rattle.mm_schema.specs.Schema.{HasDistinctNames, Schema}
@@ -13,11 +13,9 @@ use Rattle.mm_typing.specs.Typing.{AreTyped, IsTyped}
 use Rattle.mm_typing.proofs.Changes.{typed_by_change}
 use Rattle.mm_typing.proofs.Definitions.{typed_by_definition}
 use Rattle.mm_value.specs.declared.refusal.Refusal.{Refusal}
-use Rattle.mm_value.specs.declared.refusal.Refusal.TheVariants.{NotInTransaction}
 use Rattle.mm_query.specs.Binding.{binding_conditions}
-use Rattle.mm_query.specs.Machine.{after_change, after_definition, conditions, definition_conditions, is_of_index}
-use Rattle.mm_query.specs.State.{Saved, State, has_transaction}
-use Rattle.mm_query.specs.declared.command.Command.TheVariants.{Define}
+use Rattle.mm_query.specs.Machine.{after_change, after_definition, definition_conditions, is_of_index}
+use Rattle.mm_query.specs.State.{Saved, State}
 use Rattle.mm_query.specs.declared.command.Definition.{Definition}
 use Rattle.mm_query.specs.declared.command.Definition.TheVariants as define
 use Rattle.mm_query.specs.declared.command.Mutation.{Mutation}
@@ -116,17 +114,6 @@ module _ (schema : Schema) (store : Tables) (undo : List Noted) (lists : Lists) 
   -- Nothing can be taken back where a change concerns more than an index.
   pub settled_before : is_of_index definition ≡ false → IsSettled undo lists
   settled_before none = (was.settled (closed_where_none is_open (is_of_index definition) may none)).0
-
-  -- What is due of the change by the catalog and the rows is due of it.
-  pub definition_due : {T : Type 0} (result : Result T Refusal) → AnswersDue (first_refusal (definition_conditions definition rest_state)) result
-      → AnswersDue (first_refusal (conditions (Define definition) state)) result
-  definition_due {T} result due =
-      let front : (has_transaction state && not (is_of_index definition)) ≡ false =
-      ap (λ (b : Bool). b && not (is_of_index definition)) (saved_where_open is_open (saved_of undo store marks)) ∙ may in
-      let same : first_refusal (conditions (Define definition) state) ≡ first_refusal (definition_conditions definition rest_state) =
-      ap (λ (b : Bool). first_refusal (record { holds = b; refusal = NotInTransaction } ∷ definition_conditions definition state)) front
-      ∙ ap first_refusal (conditions_beside definition rest_state saved) in
-      subst (λ (d : Option Refusal). AnswersDue {T = T} d result) (sym same) due
 
   module _ (schema' : Schema) (store' : Tables) (lists' : Lists)
       (rows : is_of_index definition ≡ true → (mark : ℕ) → rows_at_mark mark undo store' ≡ rows_at_mark mark undo store) where

@@ -10,7 +10,7 @@ use Rattle.mm_schema.specs.Instance.{Instance}
 use Rattle.mm_schema.specs.Name.{same_name}
 use Rattle.mm_schema.specs.Refused.{Condition, first_refusal}
 use Rattle.mm_schema.specs.Schema.{Schema, lacks_table}
-use Rattle.mm_schema.specs.Standing.{HasDistinctStanding, drop_standing_conditions, lacks_some_table, lacks_standing, standing_conditions, standing_named, standing_place, with_standing, without_standing}
+use Rattle.mm_schema.specs.Standing.{HasDistinctStanding, drop_standing_conditions, lacks_some_table, lacks_standing, standing_named, standing_place, with_standing, without_standing}
 use Rattle.mm_schema.specs.declared.standing.StandingDef.{StandingDef}
 use Rattle.mm_schema.proofs.Dues.{due_behind, due_in_front}
 use Rattle.mm_schema.proofs.NameLemmas.{same_bytes, same_name_refl}
@@ -20,9 +20,8 @@ use Rattle.mm_schema.proofs.StandingLemmas.{names_of}
 use Rattle.mm_delta.specs.Counts.{Counts, Entries, count_in, count_of}
 use Rattle.mm_store.specs.Tables.{Tables, rows_at}
 use Rattle.mm_value.specs.declared.refusal.Refusal.{Refusal}
-use Rattle.mm_value.specs.declared.refusal.Refusal.TheVariants.{NameTaken, NoSuchStandingQuery, StandingListTooLarge, TooMany}
+use Rattle.mm_value.specs.declared.refusal.Refusal.TheVariants.{NoSuchStandingQuery, StandingListTooLarge}
 use Rattle.mm_value.specs.declared.values.Value.{Value}
-use Rattle.mm_query.specs.Machine.{after_definition}
 use Rattle.mm_query.specs.Queries.{bag, bag_of}
 use Rattle.mm_query.specs.Resolving.{IsQueryWithin, passes_query_limits, placed_query}
 use Rattle.mm_query.specs.Standing.{AreBeside, after_watch, outgrows, tables_read, watch_conditions, without_query}
@@ -67,9 +66,6 @@ module _ (name : List ℕ) (query : Query) (schema : Schema) (none : first_refus
   -- .. and its name is free.
   pub name_free : is_some (standing_named name schema) ≡ false
   name_free = hold.1.1.0
-
-  pub name_none_due : first_refusal (standing_conditions name schema) ≡ None
-  name_none_due = ap (λ b. cond b (Some NameTaken) (cond (nat_le 32 (length schema.standing)) (Some TooMany) None)) name_free ∙ ap (λ b. cond b (Some TooMany) None) limits.1
 
 -- There are as many lists as standing queries.
 pub as_many_lists : (schema : Schema) (queries : List StandingQuery) → ArePlaced schema queries → length schema.standing ≡ length queries
@@ -126,7 +122,13 @@ module _ (schema : Schema) (standing : List StandingDef) where
 
   -- They leave the tables as they are.
   pub kept_beside : (store : Tables) → AreKept schema store → AreKept beside_these store
-  kept_beside store kept = record { relations = kept.relations; links = kept.links; targets = kept.targets; others = kept.others }
+  kept_beside store kept = record {
+    relations = kept.relations;
+    links = kept.links;
+    targets = kept.targets;
+    others = kept.others;
+    back = kept.back;
+  }
 
 -- ---- a standing query that comes
 
@@ -411,13 +413,6 @@ pub standing_missing : (name : List ℕ) (schema : Schema) → standing_place na
     → first_refusal (drop_standing_conditions name schema) ≡ Some NoSuchStandingQuery
 standing_missing name schema nowhere =
     ap (λ (q : Option StandingDef). cond (is_none q) (Some NoSuchStandingQuery) None) (find_nowhere (λ (q : StandingDef). same_name name q.name) schema.standing nowhere)
-
--- The state without it is the machine's.
-pub state_by_unwatch : (name : List ℕ) (schema schema' : Schema) (store : Tables) (lists lists' : Lists) → schema' ≡ without_standing name schema
-    → queries_of lists'.queries ≡ without_query name schema.standing (queries_of lists.queries)
-    → state_at_rest schema' store lists' ≡ after_definition (define.Unwatch name) (state_at_rest schema store lists)
-state_by_unwatch name schema schema' store lists lists' schema_is queries_are =
-    λ i. record { schema = schema_is i; rows = instance_of store.tables; queries = queries_are i; saved = None }
 
 -- All is at rest without it, or as it was.
 pub unwatched_rest : {T : Type 0} (schema schema' : Schema) (store : Tables) (lists lists' : Lists) (result : Result T Refusal) (name : List ℕ)

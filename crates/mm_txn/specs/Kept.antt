@@ -6,7 +6,7 @@ use Rattle.mm_relation.specs.RowLists.{rows_of}
 use Rattle.mm_relation.specs.declared.index.Index.{Index}
 use Rattle.mm_schema.specs.Columns.{column_place, key_place}
 use Rattle.mm_schema.specs.Instance.{Instance}
-use Rattle.mm_schema.specs.References.{HasTargets, RefersToOthers, all_references}
+use Rattle.mm_schema.specs.References.{HasTargets, RefersBack, RefersToOthers, all_references}
 use Rattle.mm_schema.specs.Schema.{Schema}
 use Rattle.mm_schema.specs.declared.column.Column.{Column}
 use Rattle.mm_schema.specs.declared.index.IndexDef.{IndexDef}
@@ -53,9 +53,10 @@ AreOf [] (r ∷ rs) = ⊥
 AreOf (t ∷ ts) [] = ⊥
 
 -- There is a relation for each table; the store's references are those of the catalog's columns, and each is to another table
--- that is there.
+-- that is there, which is older.
 pub record AreKept (schema : Schema) (store : Tables) : Type 0 where
   pub relations : AreOf schema.tables store.tables
   pub links : store.links ≡ all_references schema
   pub targets : HasTargets schema
   pub others : RefersToOthers schema
+  pub back : RefersBack [] schema.tables

@@ -1,4 +1,5 @@
 pub mod Along
+pub mod Cascades
 pub mod Kept
 pub mod Marks
 pub mod Rest

@@ -1,51 +1,53 @@
 //! Changes of rows, and of the lists of standing queries with them.
-ghost use Rattle.std.specs.Prelude.{◌≡◌, ℕ, ◌<◌, ◌≤◌, ◌++◌, All, true, false, List, [], length, map, OnOk, OnErr};
+ghost use Rattle.std.specs.Prelude.{◌≡◌, ℕ, ◌<◌, ◌≤◌, ◌++◌, ◌∷◌, All, true, false, List, [], Some, None, if◌then◌else◌, length, map, IfOk, OnOk, OnErr};
+ghost use Rattle.mm_partition.specs.Places.{slot_at};
+ghost use Rattle.mm_relation.specs.Edits.{new_rows};
 ghost use Rattle.mm_relation.specs.Index.{EachTurns};
 ghost use Rattle.mm_relation.specs.Kept.{StoredRows};
-ghost use Rattle.mm_relation.specs.RowLists.{rows_of};
+ghost use Rattle.mm_relation.specs.RowLists.{edit_pairs};
 ghost use Rattle.mm_schema.specs.Refused.{AnswersDue, first_refusal};
 ghost use Rattle.mm_delta.specs.Counts.{Counts};
 ghost use Rattle.mm_standing.specs.Queries.{change_conditions as list_conditions};
 ghost use Rattle.mm_standing.specs.State.{AreServed, FitPrepared, count_at, count_now};
 ghost use Rattle.mm_store.specs.Marks.{rows_at_mark};
-ghost use Rattle.mm_store.specs.Tables.{AreFit, HasRows, IsAt, SameForm, Turns, edit_conditions, rows_with};
+ghost use Rattle.mm_store.specs.Tables.{AreFit, HasRows, IsAt, SameForm, Turns, makes_orphans, rows_with};
 ghost use Rattle.mm_store.specs.Undoing.{CanUndo};
+ghost use Rattle.mm_store.specs.Worlds.{Noted};
+ghost use Rattle.mm_value.specs.declared.refusal.Refusal.TheVariants.{RowIsReferenced};
 ghost use Rattle.mm_value.specs.declared.values.Value.{Value};
 ghost use Rattle.mm_txn.specs.Kept.{instance_of};
 ghost use Rattle.mm_txn.specs.Saved.{IsSettled};
-ghost use Rattle.mm_txn.specs.TableEdits.{rows_edited};
+ghost use Rattle.mm_txn.specs.TableEdits.{AreEdits, FitsAt, HaveRows, edits_conditions, leaves_orphans, placed, rows_edited, told};
 ghost use Rattle.mm_txn.specs.Watched.{AreListed, IsTested, rows_by_place};
 
-use mm_delta::TableEdits;
-use mm_relation::Edit;
+use crate::edits::{ChangeEdits, TableEdits};
+use mm_delta::TableEdits as TableChange;
 use mm_standing::Standing;
 use mm_store::{Meter, Store, Undo};
 use mm_value::Refusal;
 use std::alloc::{AllocError, Global};
 
-/// Makes all edits of a table that its rows and the standing queries allow, and notes them in the log, or none. Each list follows its
-/// query. The refusals are those of [`Store::check`], and behind them those of [`Standing::prepare`].
+/// Makes all edits of a change that its rows and the standing queries allow, and notes them in the log, or none. Each list follows its
+/// query. The refusals are those of [`Store::check`] for the table that the change names, where `RowIsReferenced` is also due where a
+/// row refers that no edit takes out to one of another table that goes; and behind them those of [`Standing::prepare`].
 pub(crate) fn make_edits(
     alloc: Global,
     store: &mut Store,
     standing: &mut Standing,
-    table: usize,
-    edits: Vec<Edit>,
+    edits: ChangeEdits,
     undo: &mut Undo,
 ) -> Result<(), Refusal>
-    requires there { table < length store.old.tables }
-    requires fit { (stored : StoredRows) → IsAt store.old table stored → AreFit stored edits.items }
+    requires are { AreEdits store.old (placed edits.own ∷ map placed edits.along.items) }
+    requires back { All (λ reference. reference.to < reference.from) store.old.links }
     requires fits { CanUndo store.old undo.old }
     requires served { AreServed store.old standing.old.queries }
     requires listed { AreListed (instance_of store.old.tables) standing.old }
-    requires typed { All (IsTested (rows_by_place (instance_of store.old.tables)) (rows_edited store.old table edits.items)) standing.old.queries }
-    ensures due { (stored : StoredRows) → IsAt store.old table stored
-        → AnswersDue (first_refusal (edit_conditions store.old table stored edits.items
-        ++ list_conditions (rows_edited store.old table edits.items) standing.old.queries)) result }
-    ensures ok { OnOk result ((stored : StoredRows) → IsAt store.old table stored
-        → (new : StoredRows) × Turns store.old table new store.new × HasRows stored (rows_with stored edits.items) new) }
-    ensures err { OnErr result ((stored : StoredRows) → IsAt store.old table stored
-        → (new : StoredRows) × Turns store.old table new store.new × HasRows stored (rows_of stored) new) }
+    requires typed { All (IsTested (rows_by_place (instance_of store.old.tables)) (rows_edited store.old (placed edits.own ∷ map placed edits.along.items))) standing.old.queries }
+    ensures due { (stored : StoredRows) → IsAt store.old edits.own.table stored
+        → AnswersDue (first_refusal (edits_conditions store.old stored (placed edits.own) (map placed edits.along.items)
+        ++ list_conditions (rows_edited store.old (placed edits.own ∷ map placed edits.along.items)) standing.old.queries)) result }
+    ensures ok { OnOk result (HaveRows (rows_edited store.old (placed edits.own ∷ map placed edits.along.items)) store.old store.new) }
+    ensures err { OnErr result (HaveRows (rows_by_place (instance_of store.old.tables)) store.old store.new) }
     ensures links { store.new.links ≡ store.old.links }
     ensures kept { OnErr result (undo.new ≡ undo.old) }
     ensures longer { length undo.old ≤ length undo.new }
@@ -60,13 +62,164 @@ pub(crate) fn make_edits(
     ensures undone { (mark : ℕ) → mark ≤ length standing.old.log
         → (list : ℕ) (row : List Value) → count_at mark list row standing.new ≡ count_at mark list row standing.old }
 {
-    store.check(alloc, table, edits.as_slice())?;
-    prepare_lists(alloc, store, standing, table, edits.as_slice())?;
-    if let Err(AllocError) = store.apply(alloc, table, edits, undo) {
+    let ChangeEdits { own, along } = edits;
+    if along.is_empty() {
+        edit_table(alloc, store, standing, own, undo)
+    } else {
+        remove_rows(alloc, store, standing, own, along, undo)
+    }
+}
+
+/// Makes the edits of one table, as [`make_edits`] does. What refuses them by the rows comes first, and costs no list any work.
+fn edit_table(
+    alloc: Global,
+    store: &mut Store,
+    standing: &mut Standing,
+    own: TableEdits,
+    undo: &mut Undo,
+) -> Result<(), Refusal>
+    requires are { AreEdits store.old (placed own ∷ []) }
+    requires back { All (λ reference. reference.to < reference.from) store.old.links }
+    requires fits { CanUndo store.old undo.old }
+    requires served { AreServed store.old standing.old.queries }
+    requires listed { AreListed (instance_of store.old.tables) standing.old }
+    requires typed { All (IsTested (rows_by_place (instance_of store.old.tables)) (rows_edited store.old (placed own ∷ []))) standing.old.queries }
+    ensures due { (stored : StoredRows) → IsAt store.old own.table stored
+        → AnswersDue (first_refusal (edits_conditions store.old stored (placed own) ([])
+        ++ list_conditions (rows_edited store.old (placed own ∷ [])) standing.old.queries)) result }
+    ensures ok { OnOk result (HaveRows (rows_edited store.old (placed own ∷ [])) store.old store.new) }
+    ensures err { OnErr result (HaveRows (rows_by_place (instance_of store.old.tables)) store.old store.new) }
+    ensures links { store.new.links ≡ store.old.links }
+    ensures kept { OnErr result (undo.new ≡ undo.old) }
+    ensures longer { length undo.old ≤ length undo.new }
+    ensures fits { CanUndo store.new undo.new }
+    ensures listed { AreListed (instance_of store.new.tables) standing.new }
+    ensures queries { standing.new.queries ≡ standing.old.queries }
+    ensures log { OnErr result (standing.new.log ≡ standing.old.log) }
+    ensures log_longer { length standing.old.log ≤ length standing.new.log }
+
+    // Going back to an older mark gives the rows and each list as it gave them.
+    ensures saved { (mark : ℕ) → mark ≤ length undo.old → rows_at_mark mark undo.new store.new ≡ rows_at_mark mark undo.old store.old }
+    ensures undone { (mark : ℕ) → mark ≤ length standing.old.log
+        → (list : ℕ) (row : List Value) → count_at mark list row standing.new ≡ count_at mark list row standing.old }
+{
+    store.check(alloc, own.table, own.edits.as_slice())?;
+    let changes = [own.as_change()];
+    prepare_lists(alloc, store, standing, &changes)?;
+    if let Err(AllocError) = store.apply(alloc, own.table, own.edits, undo) {
         standing.discard();
         return Err(Refusal::Memory);
     }
     standing.apply_prepared();
+    Ok(())
+}
+
+/// Takes rows out of several tables, as [`make_edits`] does. A row may only go once the rows that refer to it are gone, so the lists,
+/// which read rows as they are before, are made ready first, and what a row refuses is found while the tables are gone through.
+fn remove_rows(
+    alloc: Global,
+    store: &mut Store,
+    standing: &mut Standing,
+    own: TableEdits,
+    along: Vec<TableEdits>,
+    undo: &mut Undo,
+) -> Result<(), Refusal>
+    requires are { AreEdits store.old (placed own ∷ map placed along.items) }
+    requires back { All (λ reference. reference.to < reference.from) store.old.links }
+    requires several { 0 < length along.items }
+    requires fits { CanUndo store.old undo.old }
+    requires served { AreServed store.old standing.old.queries }
+    requires listed { AreListed (instance_of store.old.tables) standing.old }
+    requires typed { All (IsTested (rows_by_place (instance_of store.old.tables)) (rows_edited store.old (placed own ∷ map placed along.items))) standing.old.queries }
+    ensures due { (stored : StoredRows) → IsAt store.old own.table stored
+        → AnswersDue (first_refusal (edits_conditions store.old stored (placed own) (map placed along.items)
+        ++ list_conditions (rows_edited store.old (placed own ∷ map placed along.items)) standing.old.queries)) result }
+    ensures ok { OnOk result (HaveRows (rows_edited store.old (placed own ∷ map placed along.items)) store.old store.new) }
+    ensures err { OnErr result (HaveRows (rows_by_place (instance_of store.old.tables)) store.old store.new) }
+    ensures links { store.new.links ≡ store.old.links }
+    ensures kept { OnErr result (undo.new ≡ undo.old) }
+    ensures longer { length undo.old ≤ length undo.new }
+    ensures fits { CanUndo store.new undo.new }
+    ensures listed { AreListed (instance_of store.new.tables) standing.new }
+    ensures queries { standing.new.queries ≡ standing.old.queries }
+    ensures log { OnErr result (standing.new.log ≡ standing.old.log) }
+    ensures log_longer { length standing.old.log ≤ length standing.new.log }
+
+    // Going back to an older mark gives the rows and each list as it gave them.
+    ensures saved { (mark : ℕ) → mark ≤ length undo.old → rows_at_mark mark undo.new store.new ≡ rows_at_mark mark undo.old store.old }
+    ensures undone { (mark : ℕ) → mark ≤ length standing.old.log
+        → (list : ℕ) (row : List Value) → count_at mark list row standing.new ≡ count_at mark list row standing.old }
+{
+    store.removals_may_be_made(own.table);
+    store.rows_stand();
+    let prepared = prepare_removals(alloc, store, standing, &own, along.as_slice());
+    if let Err(Refusal::Memory) = prepared {
+        return Err(Refusal::Memory);
+    }
+    let mark = undo.mark();
+    if let Err(refusal) = remove_each(alloc, store, own, along, undo).and(prepared) {
+        store.revert(undo, mark);
+        standing.discard();
+        return Err(refusal);
+    }
+    standing.apply_prepared();
+    Ok(())
+}
+
+/// Takes rows out of tables, from the last table to the first: a column refers to an older table, so all rows that refer to a row
+/// are gone by then unless they stay. `RowIsReferenced` where one of these refers to a row that goes; `Memory` may come in its place and
+/// in that of success. Then some of the rows may be gone, and the log tells which.
+fn remove_each(
+    alloc: Global,
+    store: &mut Store,
+    own: TableEdits,
+    mut along: Vec<TableEdits>,
+    undo: &mut Undo,
+) -> Result<(), Refusal>
+    requires are { AreEdits store.old (placed own ∷ map placed along.items) }
+    requires back { All (λ reference. reference.to < reference.from) store.old.links }
+    requires several { 0 < length along.items }
+    requires fits { CanUndo store.old undo.old }
+    ensures due { AnswersDue (if leaves_orphans store.old (placed own ∷ map placed along.items) then Some RowIsReferenced else None) result }
+    ensures ok { OnOk result (HaveRows (rows_edited store.old (placed own ∷ map placed along.items)) store.old store.new) }
+    ensures form { EachTurns SameForm store.old.tables store.new.tables }
+    ensures links { store.new.links ≡ store.old.links }
+    ensures noted { (entries : List Noted) × (undo.new ≡ undo.old ++ entries) }
+    ensures fits { CanUndo store.new undo.new }
+    ensures saved { (mark : ℕ) → mark ≤ length undo.old → rows_at_mark mark undo.new store.new ≡ rows_at_mark mark undo.old store.old }
+{
+    while let Some(removals) = along.pop() {
+        remove_from(alloc, store, removals, undo)?;
+    }
+    remove_from(alloc, store, own, undo)
+}
+
+/// Takes rows out of one table, and notes that in the log. `RowIsReferenced` where a row of another table refers to one of them; `Memory`
+/// may come in its place and in that of success. Then all rows are as before.
+fn remove_from(
+    alloc: Global,
+    store: &mut Store,
+    removals: TableEdits,
+    undo: &mut Undo,
+) -> Result<(), Refusal>
+    requires there { removals.table < length store.old.tables }
+    requires fit { (stored : StoredRows) → IsAt store.old removals.table stored → AreFit stored removals.edits.items }
+    requires removals { new_rows removals.edits.items ≡ [] }
+    requires fits { CanUndo store.old undo.old }
+    ensures due { (stored : StoredRows) → IsAt store.old removals.table stored
+        → AnswersDue (if makes_orphans store.old removals.table stored.key (edit_pairs (slot_at stored.places) removals.edits.items) then Some RowIsReferenced else None) result }
+    ensures ok { OnOk result ((stored : StoredRows) → IsAt store.old removals.table stored
+        → (new : StoredRows) × Turns store.old removals.table new store.new × HasRows stored (rows_with stored removals.edits.items) new) }
+    ensures form { EachTurns SameForm store.old.tables store.new.tables }
+    ensures links { store.new.links ≡ store.old.links }
+    ensures noted { (entries : List Noted) × (undo.new ≡ undo.old ++ entries) }
+    ensures fits { CanUndo store.new undo.new }
+    ensures saved { (mark : ℕ) → mark ≤ length undo.old → rows_at_mark mark undo.new store.new ≡ rows_at_mark mark undo.old store.old }
+{
+    let TableEdits { table, edits } = removals;
+    store.removals_may_be_made(table);
+    store.check(alloc, table, edits.as_slice())?;
+    store.apply(alloc, table, edits, undo)?;
     Ok(())
 }
 
@@ -95,21 +248,59 @@ pub(crate) fn settle_outside(
     }
 }
 
-/// Makes ready what edits of a table change of the lists. `StandingListTooLarge` where a list would have more than 1,048,576 rows;
+/// Makes ready what removals of several tables change of the lists. It refuses what [`prepare_lists`] does.
+fn prepare_removals(
+    alloc: Global,
+    store: &Store,
+    standing: &mut Standing,
+    own: &TableEdits,
+    along: &[TableEdits],
+) -> Result<(), Refusal>
+    requires fit { All (FitsAt store.now) (placed own.now ∷ map placed along.now) }
+    requires served { AreServed store.now standing.old.queries }
+    requires listed { AreListed (instance_of store.now.tables) standing.old }
+    requires typed { All (IsTested (rows_by_place (instance_of store.now.tables)) (rows_edited store.now (placed own.now ∷ map placed along.now))) standing.old.queries }
+    ensures due { AnswersDue (first_refusal (list_conditions (rows_edited store.now (placed own.now ∷ map placed along.now)) standing.old.queries)) result }
+    ensures ok { OnOk result (FitPrepared (rows_edited store.now (placed own.now ∷ map placed along.now)) standing.new) }
+    ensures err { OnErr result (standing.new.prepared ≡ []) }
+    ensures entries { map (λ (bag : Counts). bag.entries) standing.new.bags ≡ map (λ (bag : Counts). bag.entries) standing.old.bags }
+    ensures queries { standing.new.queries ≡ standing.old.queries }
+    ensures log { standing.new.log ≡ standing.old.log }
+{
+    let changes = as_changes(alloc, own, along)?;
+    prepare_lists(alloc, store, standing, changes.as_slice())
+}
+
+/// The edits of several tables for the lists of standing queries. `AllocError` where memory is refused.
+fn as_changes<'e>(
+    alloc: Global,
+    own: &'e TableEdits,
+    along: &'e [TableEdits],
+) -> Result<Vec<TableChange<'e>>, AllocError>
+    ensures { IfOk result (λ changes. map told changes.items ≡ placed own.now ∷ map placed along.now) }
+{
+    let mut changes = Vec::with_capacity(alloc, along.len())?;
+    changes.push(own.as_change())?;
+    for removals in along {
+        changes.push(removals.as_change())?;
+    }
+    Ok(changes)
+}
+
+/// Makes ready what edits of tables change of the lists. `StandingListTooLarge` where a list would have more than 1,048,576 rows;
 /// `Memory` may come in its place and in that of success. Then nothing is ready.
 fn prepare_lists(
     alloc: Global,
     store: &Store,
     standing: &mut Standing,
-    table: usize,
-    edits: &[Edit],
+    changes: &[TableChange<'_>],
 ) -> Result<(), Refusal>
-    requires fit { (stored : StoredRows) → IsAt store.now table stored → AreFit stored edits.now }
+    requires fit { All (FitsAt store.now) (map told changes.now) }
     requires served { AreServed store.now standing.old.queries }
     requires listed { AreListed (instance_of store.now.tables) standing.old }
-    requires typed { All (IsTested (rows_by_place (instance_of store.now.tables)) (rows_edited store.now table edits.now)) standing.old.queries }
-    ensures due { AnswersDue (first_refusal (list_conditions (rows_edited store.now table edits.now) standing.old.queries)) result }
-    ensures ok { OnOk result (FitPrepared (rows_edited store.now table edits.now) standing.new) }
+    requires typed { All (IsTested (rows_by_place (instance_of store.now.tables)) (rows_edited store.now (map told changes.now))) standing.old.queries }
+    ensures due { AnswersDue (first_refusal (list_conditions (rows_edited store.now (map told changes.now)) standing.old.queries)) result }
+    ensures ok { OnOk result (FitPrepared (rows_edited store.now (map told changes.now)) standing.new) }
     ensures err { OnErr result (standing.new.prepared ≡ []) }
     ensures entries { map (λ (bag : Counts). bag.entries) standing.new.bags ≡ map (λ (bag : Counts). bag.entries) standing.old.bags }
     ensures queries { standing.new.queries ≡ standing.old.queries }
@@ -117,6 +308,5 @@ fn prepare_lists(
 {
     let mut meter = Meter::new();
     let mut view = store.view(&mut meter);
-    let changes = [TableEdits { table, edits }];
-    standing.prepare(alloc, &mut view, &changes)
+    standing.prepare(alloc, &mut view, changes)
 }

@@ -1,12 +1,7 @@
 //! The database: its calls are steps of the machine of row lists.
-ghost use Rattle.std.specs.Prelude.{◌≡◌, ◌<◌, ◌≤◌, false, [], Some, None, IfErr, IfOk, OnOk, OnErr, MatchResult, length, pos};
-ghost use Rattle.mm_relation.specs.Kept.{StoredRows};
+ghost use Rattle.std.specs.Prelude.{◌≡◌, ◌≤◌, Some, None, IfErr, IfOk, OnOk, OnErr, MatchResult, length, pos};
 ghost use Rattle.mm_relation.specs.RowLists.{rows_of};
 ghost use Rattle.mm_schema.specs.Refused.{AnswersDue, first_refusal};
-ghost use Rattle.mm_relation.specs.Index.{EachTurns};
-ghost use Rattle.mm_store.specs.Marks.{rows_at_mark};
-ghost use Rattle.mm_store.specs.Tables.{AreFit, HasRows, IsAt, SameForm, Turns, edit_conditions, rows_with};
-ghost use Rattle.mm_store.specs.Undoing.{CanUndo};
 ghost use Rattle.mm_query.specs.Edits.{own_pairs};
 ghost use Rattle.mm_query.specs.Machine.{conditions, plan_in, rows_by_index, state_after};
 ghost use Rattle.mm_query.specs.Resolving.{selected};
@@ -16,11 +11,10 @@ ghost use Rattle.mm_query.specs.State.{first_state, rows_in};
 ghost use Rattle.mm_query.specs.declared.command.Command.TheVariants.{Define, Change, Scan, ScanIndex, Select, Explain, Show, Begin, Commit, Rollback, Savepoint, RollbackTo};
 ghost use Rattle.mm_value.specs.declared.values.Value.TheVariants.{Int};
 ghost use Rattle.mm_txn.specs.Along.{IsAlong};
-ghost use Rattle.mm_txn.specs.Kept.{instance_of};
 
 use crate::changes::{make_edits, settle_outside};
 use crate::definitions::{define, is_of_index};
-use crate::edits::{TableEdits, edits_of};
+use crate::edits::edits_of;
 use crate::explain::explain_query;
 use crate::listing::list_tables;
 use crate::savepoints::{MAX_SAVEPOINTS, Mark, latest};
@@ -177,18 +171,17 @@ impl Db {
     /// and those behind it move up; a new index is one over the rows that are there; a new standing query comes last, and its list
     /// has the rows that it gives now. No rollback undoes it.
     ///
-    /// The first refusal that is due is answered: `NotInTransaction` where a transaction is open, unless an index is made or dropped.
-    /// To a new table: `NoSuchTable`
-    /// where a column refers to a table that isn't there; `NameTaken` where its name is taken or a column stands twice;
-    /// `TypeMismatch` where a column differs in type from the key of the table that it refers to; `TooMany` where there are 64
-    /// tables already or it has more than 16 columns. To a table that is dropped: `NoSuchTable` where none has the name; `InUse`
-    /// where a column of another table refers to it or a standing query reads it. To a new index: `NoSuchTable` and `NoSuchColumn`
-    /// where its table or its column isn't there; `NameTaken` where an index of any table has its name; `TooMany` where its table
-    /// has 16 indexes already. To an index that is dropped: `NoSuchIndex` where none has the name. To a new standing query: those
-    /// of [`Db::select`] but for `ResultTooLarge`; behind `NoSuchColumn` comes `NameTaken` where a standing query has its name;
-    /// `TooMany` also where there are 32 standing queries already; and last `StandingListTooLarge` where more than 1,048,576
-    /// combinations of rows fit. To a standing query that is dropped: `NoSuchStandingQuery` where none has the name. `Memory` may
-    /// come in their place and in that of success.
+    /// The first refusal that is due is answered: `NotInTransaction` where a transaction is open, unless an index is made or
+    /// dropped. To a new table: `NoSuchTable` where a column refers to a table that isn't there; `NameTaken` where its name is
+    /// taken or a column stands twice; `TypeMismatch` where a column differs in type from the key of the table that it refers
+    /// to; `TooMany` where there are 64 tables already or it has more than 16 columns. To a table that is dropped:
+    /// `NoSuchTable` where none has the name; `InUse` where a column of another table refers to it or a standing query reads
+    /// it. To a new index: `NoSuchTable` and `NoSuchColumn` where its table or its column isn't there; `NameTaken` where an
+    /// index of any table has its name; `TooMany` where its table has 16 indexes already. To an index that is dropped:
+    /// `NoSuchIndex` where none has the name. To a new standing query: those of [`Db::select`] but for `ResultTooLarge`; behind
+    /// `NoSuchColumn` comes `NameTaken` where a standing query has its name; `TooMany` also where there are 32 standing queries
+    /// already; and last `StandingListTooLarge` where more than 1,048,576 combinations of rows fit. To a standing query that is
+    /// dropped: `NoSuchStandingQuery` where none has the name. `Memory` may come in their place and in that of success.
     pub fn define(&mut self, alloc: Global, definition: Definition) -> Result<(), Refusal>
         ensures due { AnswersDue (first_refusal (conditions (Define definition) self.old)) result }
         ensures ok { OnOk result (self.new ≡ state_after (Define definition) self.old) }
@@ -207,30 +200,29 @@ impl Db {
         )
     }
 
-    /// Changes the rows of a table, and tells how many rows that concerned: those that came, that meet the tests of an UPDATE, or
-    /// that went.
+    /// Changes the rows of a table, and tells how many rows of it that concerned: those that came, that meet the tests of an UPDATE,
+    /// or that went. With a row that a DELETE takes out go the rows that have its key in a CASCADE column, of whichever table.
     ///
     /// The first refusal that is due is answered. By the catalog: `NoSuchTable`; `NoSuchColumn` where an assignment or a test
     /// names a column that isn't there; `NameTaken` where a column stands twice in SET; `TypeMismatch` where a value and its
     /// column or two sides differ in type, or a text is shifted; `WrongNumberOfValues` where a row is longer or shorter than its
     /// table is wide; `TooMany` where there are more than 16 tests. By the rows: `ArithmeticOutOfRange` where a new value doesn't
     /// fit 64 bits; `DuplicateKey` where two rows would have one key; `NoTargetRow` where a foreign key would refer to no row;
-    /// `RowIsReferenced` where a row would be gone, or its key, to which a row of another table refers; `TableFull` where there
-    /// would be more than 1,048,576 rows. By the standing queries: `StandingListTooLarge` where over the rows after the change more
-    /// than 1,048,576 combinations fit one of them. `Memory` may come in their place and in that of success.
+    /// `RowIsReferenced` where a row would be gone, or its key, to which a row of another table refers that stays; `TableFull`
+    /// where there would be more than 1,048,576 rows. By the standing queries: `StandingListTooLarge` where over the rows after
+    /// the change more than 1,048,576 combinations fit one of them. `Memory` may come in their place and in that of success.
     pub fn change(&mut self, alloc: Global, mutation: Mutation) -> Result<usize, Refusal>
         ensures due { AnswersDue (first_refusal (conditions (Change mutation) self.old)) result }
         ensures ok { OnOk result (self.new ≡ state_after (Change mutation) self.old) }
         ensures count { IfOk result (λ count. count ≡ length (own_pairs mutation self.old)) }
         ensures err { OnErr result (self.new ≡ self.old) }
     {
-        let TableEdits { table, edits } = edits_of(alloc, &self.catalog, &self.store, mutation)?;
-        let count = edits.len();
+        let edits = edits_of(alloc, &self.catalog, &self.store, mutation)?;
+        let count = edits.own.edits.len();
         make_edits(
             alloc,
             &mut self.store,
             &mut self.standing,
-            table,
             edits,
             &mut self.undo,
         )?;

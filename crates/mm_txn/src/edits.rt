@@ -1,12 +1,14 @@
 //! What a change of rows asks of its table.
-ghost use Rattle.std.specs.Prelude.{◌++◌, IfOk};
+ghost use Rattle.std.specs.Prelude.{◌≡◌, ◌++◌, ◌∷◌, map, IfOk};
 ghost use Rattle.mm_schema.specs.Refused.{AnswersDue, first_refusal};
 ghost use Rattle.mm_schema.specs.Schema.{HasDistinctNames};
 ghost use Rattle.mm_query.specs.Binding.{binding_conditions};
 ghost use Rattle.mm_query.specs.Edits.{value_conditions};
-ghost use Rattle.mm_txn.specs.Kept.{AreOf, state_of};
-ghost use Rattle.mm_txn.specs.TableEdits.{AreEditsOf};
+ghost use Rattle.mm_txn.specs.Kept.{AreKept, AreOf, state_of};
+ghost use Rattle.mm_txn.specs.TableEdits.{AreEditsOf, AreOwnEditsOf, placed, told};
 
+use crate::cascades::cascades;
+use mm_delta::TableEdits as TableChange;
 use mm_edits::{additions, removals, updates};
 use mm_query::{BoundChange, Mutation, bind_change};
 use mm_relation::Edit;
@@ -24,9 +26,53 @@ pub(crate) struct TableEdits {
     pub(crate) edits: Vec<Edit>,
 }
 
+impl TableEdits {
+    /// The same for the lists of standing queries.
+    pub(crate) fn as_change(&self) -> TableChange<'_>
+        ensures { told result ≡ placed self.now }
+    {
+        TableChange {
+            table: self.table,
+            edits: self.edits.as_slice(),
+        }
+    }
+}
+
+/// The edits of all tables that a change concerns.
+#[derive(Drop)]
+pub(crate) struct ChangeEdits {
+    /// Those of the table that it names.
+    pub(crate) own: TableEdits,
+    /// Those of the rows that go along with a DELETE, in the order of the tables' creation. There are none with another change.
+    pub(crate) along: Vec<TableEdits>,
+}
+
 /// The edits that a change asks for. Of what the catalog and the new values refuse the first is answered: the refusals are
 /// those of [`bind_change`] and [`updates`]; or `Memory` in its place or in that of success.
 pub(crate) fn edits_of(
+    alloc: Global,
+    catalog: &Catalog,
+    store: &Store,
+    mutation: Mutation,
+) -> Result<ChangeEdits, Refusal>
+    requires { AreKept catalog.now store.now }
+    ensures due { AnswersDue (first_refusal (binding_conditions mutation catalog.now
+        ++ value_conditions mutation (state_of catalog.now store.now.tables))) result }
+    ensures ok { IfOk result (λ e. AreEditsOf mutation catalog.now store.now (placed e.own) (map placed e.along.items)) }
+    ensures distinct { HasDistinctNames catalog.now }
+{
+    let cascades_rows = matches!(mutation, Mutation::Delete { .. });
+    let own = own_edits(alloc, catalog, store, mutation)?;
+    let along = if cascades_rows {
+        cascades(alloc, catalog, store, &own)?
+    } else {
+        Vec::new(alloc)
+    };
+    Ok(ChangeEdits { own, along })
+}
+
+/// The edits of the table that a change names. It refuses what [`edits_of`] does.
+fn own_edits(
     alloc: Global,
     catalog: &Catalog,
     store: &Store,
@@ -35,7 +81,7 @@ pub(crate) fn edits_of(
     requires { AreOf catalog.now.tables store.now.tables }
     ensures due { AnswersDue (first_refusal (binding_conditions mutation catalog.now
         ++ value_conditions mutation (state_of catalog.now store.now.tables))) result }
-    ensures ok { IfOk result (λ e. AreEditsOf mutation catalog.now store.now.tables e.table e.edits.items) }
+    ensures ok { IfOk result (λ e. AreOwnEditsOf mutation catalog.now store.now.tables e.table e.edits.items) }
     ensures distinct { HasDistinctNames catalog.now }
 {
     match bind_change(alloc, catalog, mutation)? {

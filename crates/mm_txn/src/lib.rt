@@ -4,6 +4,7 @@
 //! A call that may take memory is handed the allocator; no other call takes any.
 #![tactic(auto)]
 
+mod cascades;
 mod changes;
 mod database;
 mod definitions;

@@ -1,7 +1,8 @@
--- The new rows of the edits' table are the state's, and what is saved stays.
-use Rattle.std.proofs.Common.{◌≡◌, ℕ, Err, Ok, Some, None, length, sym, ap, subst, ◌∙◌, arith}
+-- The new rows of the edits' tables are the state's, and what is saved stays.
+use Rattle.std.proofs.Common.{◌≡◌, ℕ, ◌<◌, Err, Ok, List, None, length, map, sym, ap, subst, ◌∙◌, arith}
 use Rattle.std.specs.List.{All}
 use Rattle.std.proofs.lemmas.Result.{err_from_is_err_and}
+use Rattle.mm_schema.specs.declared.reference.Reference.{Reference}
 use Rattle.mm_standing.specs.Queries.{RowsByPlace}
 use Rattle.mm_query.specs.Edits.{own_pairs, value_conditions}
 use Rattle.mm_query.specs.Machine.{after_change}
@@ -9,8 +10,10 @@ use Rattle.mm_query.specs.State.{State}
 use Rattle.mm_typing.specs.Typing.{AreTyped}
 use Rattle.mm_txn.specs.Kept.{instance_of, state_of, watched_state}
 use Rattle.mm_txn.specs.Saved.{saved_rows}
+use Rattle.mm_txn.specs.TableEdits.{placed}
 use Rattle.mm_txn.specs.Watched.{IsTested, queries_of, rows_by_place}
-use Rattle.mm_txn.proofs.ChangeSteps.{change_done, change_due, change_refused, change_within, early_due, edited_after, edits_counted}
+use Rattle.mm_txn.proofs.BackLinks.{references_back}
+use Rattle.mm_txn.proofs.ChangeSteps.{change_done, change_due, change_refused, early_due, edited_after, edits_counted}
 use Rattle.mm_txn.proofs.KeptReferences.{all_to_others}
 use Rattle.mm_txn.proofs.ListedRows.{served}
 use Rattle.mm_txn.proofs.OpenSteps.{changed, refused, saved_through_change, saved_to_the_end}
@@ -19,19 +22,22 @@ use Rattle.mm_txn.proofs.TestedQueries.{queries_tested}
 use Rattle.mm_txn.proofs.TypedSteps.{rows_typed_after}
 use Rattle.mm_txn.proofs.database.Db.change.Goals as goal
 
-pub returns-in_err-table-clause-due : goal.returns-in_err-table-clause-due
-returns-in_err-table-clause-due c =
+pub returns-in_err-edits-clause-due : goal.returns-in_err-edits-clause-due
+returns-in_err-edits-clause-due c =
     let p = err_from_is_err_and c.from_residual.result c.from_residual.ensures.1 in
     let saved = saved_rows c.self.inside.is_open c.self.inside.undo c.self.inside.store c.self.inside.marks.items in
     let queries = queries_of c.self.inside.standing.queries in
     rw (p.1, p.2) (due_beside c.self.inside.catalog c.self.inside.store.tables queries saved c.args.mutation c.args.self.now c.self.view_is {T = ℕ}
-    (Err c.in_err-table.field-0.0)
-    (early_due c.args.mutation c.self.inside.catalog c.self.inside.store.tables queries c.in_err-table.field-0.0 c.in_err-table.ensures.due))
+    (Err c.in_err-edits.field-0.0)
+    (early_due c.args.mutation c.self.inside.catalog c.self.inside.store.tables queries c.in_err-edits.field-0.0 c.in_err-edits.ensures.due))
 
-pub make_edits-requires-clause-there : goal.make_edits-requires-clause-there
-make_edits-requires-clause-there c =
-    change_within c.self.inside.catalog c.self.inside.store.tables c.self.invariant.kept.relations c.args.mutation c.in_ok-table.field-0.table
-    c.in_ok-table.field-0.edits.items c.in_ok-table.ensures.ok
+pub make_edits-requires-clause-are : goal.make_edits-requires-clause-are
+make_edits-requires-clause-are c = c.in_ok-edits.ensures.ok.are
+
+pub make_edits-requires-clause-back : goal.make_edits-requires-clause-back
+make_edits-requires-clause-back c =
+    subst (λ (links : List Reference). All (λ (r : Reference). r.to < r.from) links) (sym c.self.invariant.kept.links)
+    (references_back c.self.inside.catalog c.self.invariant.kept.back)
 
 pub make_edits-requires-clause-served : goal.make_edits-requires-clause-served
 make_edits-requires-clause-served c =
@@ -42,18 +48,18 @@ make_edits-requires-clause-typed c =
     let lists = c.self.inside.standing.queries in
     let state = watched_state c.self.inside.catalog c.self.inside.store.tables (queries_of lists) in
     subst (λ (r : RowsByPlace). All (IsTested (rows_by_place (instance_of c.self.inside.store.tables)) r) lists)
-    (sym (edited_after c.self.inside.catalog c.self.inside.store.tables c.self.invariant.kept.relations c.args.mutation c.in_ok-table.field-0.table
-    c.in_ok-table.field-0.edits.items c.in_ok-table.ensures.ok (queries_of lists) c.in_ok-table.ensures.distinct c.self.inside.store.links))
+    (sym (edited_after c.self.inside.catalog c.self.inside.store c.self.invariant.kept.relations c.in_ok-edits.ensures.distinct c.args.mutation
+    (placed c.in_ok-edits.edits.own) (map placed c.in_ok-edits.edits.along.items) c.in_ok-edits.ensures.ok (queries_of lists)))
     (queries_tested c.self.inside.catalog (instance_of c.self.inside.store.tables) (after_change c.args.mutation state).rows lists c.self.invariant.placed.placed
     c.self.invariant.typed.rows
     (rows_typed_after c.args.mutation state (value_conditions c.args.mutation (state_of c.self.inside.catalog c.self.inside.store.tables))
-    c.in_ok-table.ensures.distinct c.in_ok-table.ensures.due c.self.invariant.typed.rows)
+    c.in_ok-edits.ensures.distinct c.in_ok-edits.ensures.due c.self.invariant.typed.rows)
     c.self.invariant.typed.queries)
 
 pub invariant_of-self : goal.invariant_of-self
 invariant_of-self c =
-    let back = change_refused c.self.inside.catalog c.self.inside.store.tables c.self.invariant.kept.relations c.args.mutation c.in_ok-table.field-0.table
-    c.in_ok-table.field-0.edits.items c.in_ok-table.ensures.ok c.make_edits.new.store.tables c.in_err-make_edits.ensures.err in
+    let back = change_refused c.self.inside.catalog c.self.inside.store c.self.invariant.kept.relations c.in_ok-edits.ensures.distinct c.args.mutation
+    (placed c.in_ok-edits.edits.own) (map placed c.in_ok-edits.edits.along.items) c.in_ok-edits.ensures.ok c.make_edits.new.store c.in_err-make_edits.ensures.err in
     refused c.self.inside.catalog c.self.inside.store c.self.inside.undo c.self.inside.standing c.self.inside.marks.items c.self.inside.is_open c.self.invariant
     c.make_edits.new.store c.make_edits.new.undo c.make_edits.new.standing
     back.1
@@ -66,19 +72,18 @@ returns-in_err-make_edits-clause-due c =
     let p = err_from_is_err_and c.from_residual-in_err-make_edits.result c.from_residual-in_err-make_edits.ensures.1 in
     let saved = saved_rows c.self.inside.is_open c.self.inside.undo c.self.inside.store c.self.inside.marks.items in
     let lists = c.self.inside.standing.queries in
-    let due = change_due c.self.inside.catalog c.self.inside.store.tables c.self.invariant.kept.relations c.args.mutation c.in_ok-table.field-0.table
-    c.in_ok-table.field-0.edits.items c.in_ok-table.ensures.ok lists c.self.invariant.placed.placed c.in_ok-table.ensures.distinct
-    (all_to_others c.self.inside.catalog c.self.invariant.kept.targets c.self.invariant.kept.others) c.in_ok-table.ensures.due
-    c.self.inside.store.links c.self.invariant.kept.links {T = ℕ} (Err c.in_err-make_edits.field-0.0)
-    c.in_err-make_edits.ensures.due in
+    let due = change_due c.self.inside.catalog c.self.inside.store c.self.invariant.kept.relations c.in_ok-edits.ensures.distinct c.args.mutation
+    (placed c.in_ok-edits.edits.own) (map placed c.in_ok-edits.edits.along.items) c.in_ok-edits.ensures.ok lists c.self.invariant.placed.placed
+    (all_to_others c.self.inside.catalog c.self.invariant.kept.targets c.self.invariant.kept.others) c.self.invariant.kept.back c.self.invariant.kept.links
+    c.in_ok-edits.ensures.due {T = ℕ} (Err c.in_err-make_edits.field-0.0) c.in_err-make_edits.ensures.due in
     rw (p.1, p.2) (due_beside c.self.inside.catalog c.self.inside.store.tables (queries_of lists) saved c.args.mutation c.args.self.now c.self.view_is {T = ℕ}
     (Err c.in_err-make_edits.field-0.0) due)
 
 pub returns-in_err-make_edits-clause-err : goal.returns-in_err-make_edits-clause-err
 returns-in_err-make_edits-clause-err c =
     let p = err_from_is_err_and c.from_residual-in_err-make_edits.result c.from_residual-in_err-make_edits.ensures.1 in
-    let back = change_refused c.self.inside.catalog c.self.inside.store.tables c.self.invariant.kept.relations c.args.mutation c.in_ok-table.field-0.table
-    c.in_ok-table.field-0.edits.items c.in_ok-table.ensures.ok c.make_edits.new.store.tables c.in_err-make_edits.ensures.err in
+    let back = change_refused c.self.inside.catalog c.self.inside.store c.self.invariant.kept.relations c.in_ok-edits.ensures.distinct c.args.mutation
+    (placed c.in_ok-edits.edits.own) (map placed c.in_ok-edits.edits.along.items) c.in_ok-edits.ensures.ok c.make_edits.new.store c.in_err-make_edits.ensures.err in
     let same = back.0 in
     let saved = saved_through_change c.self.inside.catalog c.self.inside.store c.self.inside.undo c.self.inside.standing c.self.inside.marks.items
     c.self.inside.is_open c.self.invariant c.make_edits.new.store c.make_edits.new.undo c.make_edits.new.standing back.1
@@ -90,12 +95,12 @@ returns-in_err-make_edits-clause-err c =
 pub invariant_of-self-2 : goal.invariant_of-self-2
 invariant_of-self-2 c =
     let queries = queries_of c.self.inside.standing.queries in
-    let done = change_done c.self.inside.catalog c.self.inside.store.tables c.self.invariant.kept.relations c.args.mutation c.in_ok-table.field-0.table
-    c.in_ok-table.field-0.edits.items c.in_ok-table.ensures.ok queries c.make_edits.new.store.tables c.in_ok-table.ensures.distinct c.in_ok-make_edits.ensures.ok in
+    let done = change_done c.self.inside.catalog c.self.inside.store c.self.invariant.kept.relations c.in_ok-edits.ensures.distinct c.args.mutation
+    (placed c.in_ok-edits.edits.own) (map placed c.in_ok-edits.edits.along.items) c.in_ok-edits.ensures.ok queries c.make_edits.new.store c.in_ok-make_edits.ensures.ok in
     let typed : AreTyped c.self.inside.catalog.tables (instance_of c.make_edits.new.store.tables) =
     subst (λ (s : State). AreTyped c.self.inside.catalog.tables s.rows) (sym done.0)
     (rows_typed_after c.args.mutation (watched_state c.self.inside.catalog c.self.inside.store.tables queries)
-    (value_conditions c.args.mutation (state_of c.self.inside.catalog c.self.inside.store.tables)) c.in_ok-table.ensures.distinct c.in_ok-table.ensures.due
+    (value_conditions c.args.mutation (state_of c.self.inside.catalog c.self.inside.store.tables)) c.in_ok-edits.ensures.distinct c.in_ok-edits.ensures.due
     c.self.invariant.typed.rows) in
     changed c.self.inside.catalog c.self.inside.store c.self.inside.undo c.self.inside.standing c.self.inside.marks.items c.self.inside.is_open c.self.invariant
     c.make_edits.new.store c.make_edits.new.undo c.make_edits.new.standing done.1
@@ -109,18 +114,18 @@ pub returns-clause-due : goal.returns-clause-due
 returns-clause-due c =
     let saved = saved_rows c.self.inside.is_open c.self.inside.undo c.self.inside.store c.self.inside.marks.items in
     let lists = c.self.inside.standing.queries in
-    let due = change_due c.self.inside.catalog c.self.inside.store.tables c.self.invariant.kept.relations c.args.mutation c.in_ok-table.field-0.table
-    c.in_ok-table.field-0.edits.items c.in_ok-table.ensures.ok lists c.self.invariant.placed.placed c.in_ok-table.ensures.distinct
-    (all_to_others c.self.inside.catalog c.self.invariant.kept.targets c.self.invariant.kept.others) c.in_ok-table.ensures.due
-    c.self.inside.store.links c.self.invariant.kept.links {T = Unit {0}} (Ok tt) c.in_ok-make_edits.ensures.due in
+    let due = change_due c.self.inside.catalog c.self.inside.store c.self.invariant.kept.relations c.in_ok-edits.ensures.distinct c.args.mutation
+    (placed c.in_ok-edits.edits.own) (map placed c.in_ok-edits.edits.along.items) c.in_ok-edits.ensures.ok lists c.self.invariant.placed.placed
+    (all_to_others c.self.inside.catalog c.self.invariant.kept.targets c.self.invariant.kept.others) c.self.invariant.kept.back c.self.invariant.kept.links
+    c.in_ok-edits.ensures.due {T = Unit {0}} (Ok tt) c.in_ok-make_edits.ensures.due in
     due_beside c.self.inside.catalog c.self.inside.store.tables (queries_of lists) saved c.args.mutation c.args.self.now c.self.view_is {T = Unit {0}} (Ok tt) due
 
 pub returns-clause-ok : goal.returns-clause-ok
 returns-clause-ok c =
     let saved = saved_rows c.self.inside.is_open c.self.inside.undo c.self.inside.store c.self.inside.marks.items in
     let queries = queries_of c.self.inside.standing.queries in
-    let done = change_done c.self.inside.catalog c.self.inside.store.tables c.self.invariant.kept.relations c.args.mutation c.in_ok-table.field-0.table
-    c.in_ok-table.field-0.edits.items c.in_ok-table.ensures.ok queries c.make_edits.new.store.tables c.in_ok-table.ensures.distinct c.in_ok-make_edits.ensures.ok in
+    let done = change_done c.self.inside.catalog c.self.inside.store c.self.invariant.kept.relations c.in_ok-edits.ensures.distinct c.args.mutation
+    (placed c.in_ok-edits.edits.own) (map placed c.in_ok-edits.edits.along.items) c.in_ok-edits.ensures.ok queries c.make_edits.new.store c.in_ok-make_edits.ensures.ok in
     done_beside c.self.inside.catalog c.self.inside.store.tables queries saved c.args.mutation c.args.self.now c.self.view_is c.settle_outside.new.store.tables
     (queries_of c.settle_outside.new.standing.queries) (saved_rows c.self.inside.is_open c.settle_outside.new.undo c.settle_outside.new.store c.self.inside.marks.items)
     (ap queries_of (c.settle_outside.ensures.queries ∙ c.make_edits.ensures.queries))
@@ -134,8 +139,9 @@ returns-clause-ok c =
 pub returns-clause-count : goal.returns-clause-count
 returns-clause-count c =
     let saved = saved_rows c.self.inside.is_open c.self.inside.undo c.self.inside.store c.self.inside.marks.items in
-    let counted : c.len-count.result ≡ length c.in_ok-table.field-0.edits.items = omega (arith, c.len-count.ensures, c.in_ok-table.field-0.edits.ok) in
-    counted ∙ edits_counted c.self.inside.catalog c.self.inside.store.tables c.self.invariant.kept.relations c.args.mutation c.in_ok-table.field-0.table
-    c.in_ok-table.field-0.edits.items c.in_ok-table.ensures.ok
-    ∙ ap length (pairs_beside c.self.inside.catalog c.self.inside.store.tables (queries_of c.self.inside.standing.queries) saved c.args.mutation)
-    ∙ ap (λ (s : State). length (own_pairs c.args.mutation s)) c.self.view_is
+    let own = c.in_ok-edits.edits.own in
+    let counted : c.len-count.result ≡ length own.edits.items = omega (arith, c.len-count.ensures, own.edits.ok) in
+    counted ∙ (edits_counted c.self.inside.catalog c.self.inside.store c.self.invariant.kept.relations c.in_ok-edits.ensures.distinct c.args.mutation
+    (placed own) (map placed c.in_ok-edits.edits.along.items) c.in_ok-edits.ensures.ok
+    ∙ (ap length (pairs_beside c.self.inside.catalog c.self.inside.store.tables (queries_of c.self.inside.standing.queries) saved c.args.mutation)
+    ∙ ap (λ (s : State). length (own_pairs c.args.mutation s)) c.self.view_is))

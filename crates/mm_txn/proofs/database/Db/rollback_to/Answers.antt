@@ -1,6 +1,6 @@
 -- The rows are those at the latest savepoint of the name, to which the transaction can go back still.
-use Rattle.std.proofs.Common.{◌≡◌, ℕ, suc, ◌+◌, ◌<◌, ◌≤◌, Bool, true, false, List, length, Option, Some, None, IfSome, take, get_or, slice_get, refl, sym, ap, subst, ◌∙◌, arith}
-use Rattle.std.specs.List.{All, AllByRecursion}
+use Rattle.std.proofs.Common.{◌≡◌, ℕ, suc, ◌+◌, ◌<◌, ◌≤◌, Bool, true, false, List, length, Option, Some, IfSome, take, get_or, slice_get, refl, sym, ap, subst, ◌∙◌, arith}
+use Rattle.std.specs.List.{All}
 use Rattle.std.proofs.lemmas.List.Elements.{recursion_from_All}
 use Rattle.std.proofs.lemmas.Option.{slice_get_read}
 use Rattle.std.proofs.lemmas.Result.{err_from_is_err_and}
@@ -11,11 +11,8 @@ use Rattle.mm_value.specs.declared.refusal.Refusal.TheVariants.{NoSuchSavepoint}
 use Rattle.mm_query.specs.Machine.{after_rollback_to, conditions}
 use Rattle.mm_query.specs.State.{State}
 use Rattle.mm_query.specs.declared.command.Command.TheVariants.{RollbackTo}
-use Rattle.mm_standing.specs.State.{Lists, count_at}
+use Rattle.mm_standing.specs.State.{Lists}
 use Rattle.mm_store.specs.Marks.{rows_at_mark}
-use Rattle.mm_store.specs.Worlds.{Noted}
-use Rattle.mm_value.specs.declared.values.Value.{Value}
-use Rattle.mm_txn.specs.Kept.{instance_of}
 use Rattle.mm_txn.specs.Saved.{IsConsistent, kept_state}
 use Rattle.mm_txn.specs.declared.savepoints.Mark.{Mark}
 use Rattle.mm_txn.proofs.LatestMarks.{IsLatest, latest_is, mark_within}

@@ -1,0 +1,134 @@
+-- The edits of all tables that a change concerns: those of the table that it names, and those that go along.
+use Rattle.std.proofs.Common.{◌≡◌, ℕ, Bool, true, false, List, [], ◌∷◌, Option, Some, map, slice_get, refl, sym, ap, ◌∙◌, arith}
+use Rattle.std.specs.List.{filter, filter_map}
+use Rattle.std.specs.Option.{option_map_or}
+use Rattle.std.proofs.lemmas.List.Elements.{All-cons, All-nil}
+use Rattle.mm_partition.specs.Places.{slot_at}
+use Rattle.mm_relation.specs.Edits.{new_rows}
+use Rattle.mm_relation.specs.Kept.{StoredRows}
+use Rattle.mm_relation.specs.Refs.{Slots}
+use Rattle.mm_relation.specs.RowLists.{edit_pairs}
+use Rattle.mm_relation.specs.declared.edits.Edit.{Edit}
+use Rattle.mm_relation.specs.declared.edits.Edit.TheVariants.{Add, Gone, Swap}
+use Rattle.mm_schema.specs.Instance.{TableEdits as NamedEdits}
+use Rattle.mm_schema.specs.Name.{same_name}
+use Rattle.mm_schema.specs.Rows.{Pair}
+use Rattle.mm_schema.specs.Schema.{Schema}
+use Rattle.mm_schema.specs.declared.table.Table.{Table}
+use Rattle.mm_schema.proofs.Instances.{name_of}
+use Rattle.mm_schema.proofs.NameLemmas.{same_bytes}
+use Rattle.mm_schema.proofs.Places.{place_within, table_at_place}
+use Rattle.mm_query.specs.Binding.{tests_for}
+use Rattle.mm_query.specs.Edits.{changed_table, edits as all_edits, meets, own_edits, own_pairs, with_cascades}
+use Rattle.mm_query.specs.State.{State, rows_in}
+use Rattle.mm_query.specs.declared.atom.Atom.{Atom}
+use Rattle.mm_query.specs.declared.command.Mutation.{Mutation}
+use Rattle.mm_query.specs.declared.command.Mutation.TheVariants.{Insert, Update, Delete}
+use Rattle.mm_query.proofs.Removals.{AreRemovals, none_comes, removals_remove}
+use Rattle.mm_store.specs.Tables.{Tables}
+use Rattle.mm_txn.specs.Kept.{AreOf, instance_of, state_of}
+use Rattle.mm_txn.specs.TableEdits.{AreEdits, AreEditsOf, AreOwnEditsOf, FitsAt, PlacedEdits, named, pairs_at}
+use Rattle.mm_txn.proofs.DatabaseSteps.{rows_there, some_there}
+use Rattle.mm_txn.proofs.ReferenceRows.{found_passes}
+
+-- ---- a change with which rows may go along
+
+abbrev pub is_delete : Mutation → Bool
+is_delete (Insert table tuples) = false
+is_delete (Update table assignments tests) = false
+is_delete (Delete table tests) = true
+
+pub not_delete : (mutation : Mutation) → ((table : List ℕ) (tests : List (Atom (List ℕ))) → mutation ≡ Delete table tests → ⊥) → is_delete mutation ≡ false
+not_delete (Insert table tuples) other = refl
+not_delete (Update table assignments tests) other = refl
+not_delete (Delete table tests) other = absurd (other table tests refl)
+
+-- It brings no rows, ..
+delete_removes : (mutation : Mutation) (state : State) → is_delete mutation ≡ true → AreRemovals (own_pairs mutation state)
+delete_removes (Insert table tuples) state is = cc
+delete_removes (Update table assignments tests) state is = cc
+delete_removes (Delete table tests) state is = removals_remove (filter (meets (tests_for table state.schema tests)) (rows_in state table))
+
+-- .. and its edits are those of its table with the rows that go along, ..
+delete_edits : (mutation : Mutation) (state : State) → is_delete mutation ≡ true
+    → all_edits mutation state ≡ with_cascades state.schema state.schema.tables state.rows (own_edits mutation state ∷ [])
+delete_edits (Insert table tuples) state is = cc
+delete_edits (Update table assignments tests) state is = cc
+delete_edits (Delete table tests) state is = refl
+
+-- .. and those of any other change are those of its table alone.
+other_edits : (mutation : Mutation) (state : State) → is_delete mutation ≡ false → all_edits mutation state ≡ own_edits mutation state ∷ []
+other_edits (Insert table tuples) state is = refl
+other_edits (Update table assignments tests) state is = refl
+other_edits (Delete table tests) state is = cc
+
+-- The rows that edits bring are those of their pairs.
+brought : (now : Slots) (edits : List Edit) → filter_map (λ (p : Pair). p.1) (edit_pairs now edits) ≡ new_rows edits
+brought now [] = refl
+brought now (Add row ∷ es) = ap (λ rows. row ∷ rows) (brought now es)
+brought now (Swap at row ∷ es) = ap (λ rows. row ∷ rows) (brought now es)
+brought now (Gone at ∷ es) = brought now es
+
+-- ---- the edits of one
+
+module _ (schema : Schema) (store : Tables) (are : AreOf schema.tables store.tables) (mutation : Mutation) (place : ℕ) (edits : List Edit)
+    (own : AreOwnEditsOf mutation schema store.tables place edits) where
+  abbrev own_placed : PlacedEdits
+  own_placed = (place, edits)
+
+  abbrev state : State
+  state = state_of schema store.tables
+
+  stored_there : (stored : StoredRows) × (slice_get store.tables place ≡ Some stored)
+  stored_there = some_there store.tables place (rows_there schema store.tables are (changed_table mutation) place own.placed)
+
+  -- They fit their relation, ..
+  pub own_fit : FitsAt store own_placed
+  own_fit = (stored_there.0, stored_there.1, own.fit stored_there.0 stored_there.1)
+
+  -- .. bring no rows where rows may go along, ..
+  pub own_removes : is_delete mutation ≡ true → new_rows edits ≡ []
+  own_removes is =
+      sym (brought (slot_at stored_there.0.places) edits)
+      ∙ (ap (filter_map (λ (p : Pair). p.1)) (own.pairs stored_there.0 stored_there.1)
+      ∙ none_comes (own_pairs mutation state) (delete_removes mutation state is))
+
+  own_named : named schema store.tables own_placed ≡ own_edits mutation state
+  own_named =
+      let name = changed_table mutation in
+      let table = some_there schema.tables place (place_within name schema place own.placed) in
+      let mine : same_name name (name_of table.0) ≡ true =
+      found_passes (λ t. same_name name (name_of t)) schema.tables table.0 (table_at_place name schema place own.placed ∙ table.1) in
+      let called : option_map_or name_of (slice_get schema.tables place) [] ≡ name =
+      ap (λ (t : Option Table). option_map_or name_of t []) table.1 ∙ sym (same_bytes name (name_of table.0) mine) in
+      let pairs : pairs_at store.tables own_placed ≡ own_pairs mutation state =
+      ap (λ (s : Option StoredRows). option_map_or (λ stored. edit_pairs (slot_at stored.places) edits) s []) stored_there.1
+      ∙ own.pairs stored_there.0 stored_there.1 in
+      λ i. record { table = called i; pairs = pairs i }
+
+  alone : AreEdits store (own_placed ∷ [])
+  alone = record {
+    fit = All-cons (FitsAt store) own_placed [] own_fit (All-nil (FitsAt store));
+    ascend = λ i j d below within. absurd (omega arith);
+    removals = λ several. absurd (omega arith);
+  }
+
+  -- .. and are all edits of a change with which none go along.
+  pub edits_alone : is_delete mutation ≡ false → AreEditsOf mutation schema store own_placed []
+  edits_alone is = record {
+    placed = own.placed;
+    are = alone;
+    named = (λ i. own_named i ∷ []) ∙ sym (other_edits mutation state is);
+  }
+
+  -- With the removals of rows that go along they are those of a DELETE.
+  pub edits_with_others : is_delete mutation ≡ true → (along : List PlacedEdits) → AreEdits store (own_placed ∷ along)
+      → map (named schema store.tables) (own_placed ∷ along)
+      ≡ with_cascades schema schema.tables (instance_of store.tables) (named schema store.tables own_placed ∷ [])
+      → AreEditsOf mutation schema store own_placed along
+  edits_with_others is along all cascades = record {
+    placed = own.placed;
+    are = all;
+    named = cascades
+        ∙ (ap (λ (e : NamedEdits). with_cascades schema schema.tables (instance_of store.tables) (e ∷ [])) own_named ∙ sym (delete_edits mutation state is));
+  }

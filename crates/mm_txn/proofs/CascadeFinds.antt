@@ -1,0 +1,198 @@
+-- What the loops over edits, columns and tables find.
+use Rattle.std.proofs.Common.{◌≡◌, ◌≢◌, ℕ, suc, ◌+◌, ◌<◌, ◌≤◌, Bool, true, false, cond, ◌||◌, ◌==◌, List, [], ◌∷◌, ◌++◌, Option, Some, None, inl, inr, drop, drop-cons, filter, find, get_or, length, map, slice_get, take, refl, sym, ap, ◌∙◌, subst, arith}
+use Rattle.std.specs.List.{All, Contains, cons_option, filter_map, list_any}
+use Rattle.std.specs.Option.{option_map_or}
+use Rattle.std.proofs.lemmas.Bool.{eq-eqb, ne_eqb}
+use Rattle.std.proofs.lemmas.List.{get_or-map, length-map, map-append, take_more}
+use Rattle.std.proofs.lemmas.List.Elements.{All-cons, All-nil, All-push, filter-append, recursion_from_All}
+use Rattle.std.proofs.lemmas.List.Folds.{list_any-append}
+use Rattle.std.proofs.lemmas.List.Quantifiers.{all_pairs_push}
+use Rattle.mm_partition.specs.Places.{slot_at}
+use Rattle.mm_relation.specs.Edits.{edit_name, named as names, new_rows}
+use Rattle.mm_relation.specs.Kept.{IsKept, StoredRows}
+use Rattle.mm_relation.specs.Refs.{HasRow}
+use Rattle.mm_relation.specs.RowLists.{edit_pairs, rows_of}
+use Rattle.mm_relation.specs.declared.edits.Edit.{Edit}
+use Rattle.mm_relation.specs.declared.names.Side.TheVariants.{Old}
+use Rattle.mm_schema.specs.Instance.{TableEdits as NamedEdits}
+use Rattle.mm_schema.specs.References.{refers}
+use Rattle.mm_schema.specs.Rows.{Pair}
+use Rattle.mm_schema.specs.Schema.{HasDistinctNames, Schema}
+use Rattle.mm_schema.specs.declared.table.Table.{Table}
+use Rattle.mm_schema.proofs.Instances.{name_of}
+use Rattle.mm_schema.proofs.StrictOrder.{AllByRecursion-IsIn, IsIn, IsIn-from_Contains}
+use Rattle.mm_schema.proofs.Twins.{Row}
+use Rattle.mm_query.specs.Edits.{also, goes_along, removals_of, with_cascades}
+use Rattle.mm_delta.specs.Steps.{takes}
+use Rattle.mm_store.specs.Links.{RefersTo}
+use Rattle.mm_store.specs.Tables.{AreFit, IsAt, Tables, rows_at}
+use Rattle.mm_value.specs.declared.row_ref.RowRef.{RowRef}
+use Rattle.mm_txn.specs.Cascades.{Along, IsCascade, along_of, goes_by, goes_by_some}
+use Rattle.mm_txn.specs.declared.cascades.Cascade.{Cascade}
+use Rattle.mm_txn.specs.Kept.{AreKept, instance_of}
+use Rattle.mm_txn.specs.TableEdits.{AreEdits, FitsAt, PlacedEdits, edits_at, named, pairs_at, placed}
+use Rattle.mm_txn.specs.declared.edits.TableEdits.{TableEdits}
+use Rattle.mm_txn.proofs.CascadeSteps.{all_done, also_some, one_table, up_to_own}
+use Rattle.mm_txn.proofs.CascadePlaces.{some_at}
+use Rattle.mm_txn.proofs.CascadeTables.{as_many, fits_within, relation_at, rows_beside}
+use Rattle.mm_txn.proofs.Referrers.{rows_taken, target_goes, tests}
+
+-- ---- edits of one table
+
+named_in : (es : List Edit) (e : Edit) → IsIn e es → (at : RowRef) → edit_name e Old ≡ Some at → IsIn at (names edit_name Old es)
+named_in [] e here at name = absurd here
+named_in (x ∷ xs) e (inl same) at name =
+    subst (λ (o : Option RowRef). IsIn at (cons_option o (names edit_name Old xs))) (sym (ap (λ (y : Edit). edit_name y Old) same ∙ name)) (inl refl)
+named_in (x ∷ xs) e (inr later) at name = by (edit_name x Old) (named_in xs e later at name)
+  where
+    by : (o : Option RowRef) → IsIn at (names edit_name Old xs) → IsIn at (cons_option o (names edit_name Old xs))
+    by None there = there
+    by (Some other) there = inr there
+
+same_at : (store : Tables) (place : ℕ) (a b : StoredRows) → IsAt store place a → IsAt store place b → a ≡ b
+same_at store place a b at_a at_b = let both : Some a ≡ Some b = sym at_a ∙ at_b in cc
+
+pub fits_relation : (store : Tables) (change : PlacedEdits) → FitsAt store change → (target : StoredRows) → IsAt store change.0 target → AreFit target change.1
+fits_relation store change fit target at = subst (λ (s : StoredRows). AreFit s change.1) (same_at store change.0 fit.0 target fit.1 at) fit.2
+
+-- The row that an edit takes away is there.
+pub gone_live : (store : Tables) (change : PlacedEdits) → FitsAt store change → (target : StoredRows) → IsAt store change.0 target → (k : ℕ) (e : Edit)
+    → k < length change.1 → e ≡ get_or change.1 k e → (at : RowRef) → edit_name e Old ≡ Some at → HasRow (slot_at target.places) at
+gone_live store change fit target there k e within is at name =
+    AllByRecursion-IsIn (HasRow (slot_at target.places)) (names edit_name Old change.1) at
+    (recursion_from_All (HasRow (slot_at target.places)) (names edit_name Old change.1) (fits_relation store change fit target there).standing.live)
+    (named_in change.1 e (IsIn-from_Contains change.1 e (k, within, sym is)) at name)
+
+-- Rows go by edits as they do by the rows that these take away.
+pub goes_by_at : (store : Tables) (column : ℕ) (change : PlacedEdits) (target : StoredRows) → IsAt store change.0 target → (row : Row)
+    → tests column target.key (rows_taken (slot_at target.places) change.1) row ≡ goes_by store.tables column change row
+goes_by_at store column change target at row = λ i.
+    list_any (refers column (option_map_or (λ (s : StoredRows). s.key) (sym at i) 0) row)
+    (filter_map (λ (p : Pair). p.0) (option_map_or (λ (s : StoredRows). edit_pairs (slot_at s.places) change.1) (sym at i) []))
+
+-- What a row refers to goes just where the row goes along.
+pub scan_goes : (store : Tables) (table column : ℕ) (change : PlacedEdits) → IsCascade store table column change → (row : Row) (found : RowRef)
+    → (target : StoredRows) × (to : ℕ) × Contains store.links (record { from = table; column = column; to = to }) × IsAt store to target
+    × RefersTo column target.key (slot_at target.places) row found
+    → ((target : StoredRows) → IsAt store change.0 target → IsKept target.width target.key (slot_at target.places) target.refs target.indexes)
+    → list_any (takes found) change.1 ≡ goes_by store.tables column change row
+scan_goes store table column change is row found (target, to, link, at, refers_to) kept =
+    let own : IsAt store change.0 target = subst (λ n. IsAt store n target) (is.link.1 to link) at in
+    target_goes column target (kept target own) row found refers_to change.1 (fits_relation store change is.fit target own).standing
+    ∙ goes_by_at store column change target own row
+
+pub filter_push : (q : RowRef → Bool) (xs : List RowRef) (x : RowRef) (b : Bool) → q x ≡ b → filter q (xs ++ x ∷ []) ≡ filter q xs ++ cond b (x ∷ []) []
+filter_push q xs x b is = filter-append q xs (x ∷ []) ∙ ap (λ c. filter q xs ++ cond c (x ∷ []) []) is
+
+-- What is found at a place behind another.
+pub removals_found : (own : PlacedEdits) (along : List TableEdits) (place k : ℕ) (x : TableEdits) → k < length along → x ≡ get_or along k x
+    → x.table ≡ place → own.0 ≢ place → edits_at (map placed (drop k along)) place ≡ edits_at (map placed along) place
+    → x.edits.items ≡ edits_at (own ∷ map placed along) place
+removals_found own along place k x within is here other rest =
+    sym (ap (λ b. option_map_or (λ (d : PlacedEdits). d.1) (cond b (Some (placed x)) (find (λ (d : PlacedEdits). d.0 == place) (map placed (drop (suc k) along)))) [])
+    (eq-eqb x.table place here))
+    ∙ ap (λ xs. edits_at (map placed xs) place) (sym (drop-cons along k x within ∙ ap (λ y. y ∷ drop (suc k) along) (sym is)))
+    ∙ rest
+    ∙ sym (ap (λ b. option_map_or (λ (d : PlacedEdits). d.1) (cond b (Some own) (find (λ (d : PlacedEdits). d.0 == place) (map placed along))) [])
+    (ne_eqb own.0 place other))
+
+-- ---- columns
+
+pub cascade_so : (P : Along → Type 0) (alongs : List Along) → All P alongs → (cs : List Cascade) → map along_of cs ≡ alongs → (k : ℕ) (c : Cascade)
+    → k < length cs → c ≡ get_or cs k c → P (along_of c)
+cascade_so P alongs all cs same k c within is =
+    subst P (ap (λ xs. get_or xs k (along_of c)) (sym same) ∙ get_or-map along_of cs k c (along_of c) within ∙ ap along_of (sym is))
+    (all k (along_of c) (subst (λ n. k < n) (sym (length-map cs along_of) ∙ ap length same) within))
+
+pub along_push : (rs : List StoredRows) (cs : List Cascade) (k : ℕ) (c : Cascade) → k < length cs → c ≡ get_or cs k c → (row : Row)
+    → (goes_by_some rs (map along_of (take k cs)) row || goes_by rs c.column (c.to, c.gone.now) row) ≡ goes_by_some rs (map along_of (take (k + 1) cs)) row
+along_push rs cs k c within is row = sym
+    (ap (λ xs. goes_by_some rs (map along_of xs) row) (take_more cs k c within ∙ ap (λ x. take k cs ++ x ∷ []) (sym is))
+    ∙ ap (λ xs. goes_by_some rs xs row) (map-append along_of (take k cs) (c ∷ []))
+    ∙ list_any-append (λ (a : Along). goes_by rs a.0 a.1 row) (map along_of (take k cs)) (along_of c ∷ [])
+    ∙ ap (λ b. goes_by_some rs (map along_of (take k cs)) row || b) (or_false (goes_by rs c.column (c.to, c.gone.now) row)))
+  where
+    or_false : (b : Bool) → (b || false) ≡ b
+    or_false true = refl
+    or_false false = refl
+
+-- ---- tables
+
+pub one_edited : (store : Tables) (own : PlacedEdits) → FitsAt store own → AreEdits store (own ∷ [])
+one_edited store own fit = record {
+  fit = All-cons (FitsAt store) own [] fit (All-nil (FitsAt store));
+  ascend = λ i j d before within. absurd (omega (arith, before, within));
+  removals = λ more. absurd (omega (arith, more));
+}
+
+pub one_more : (store : Tables) (cs : List PlacedEdits) (c : PlacedEdits) → AreEdits store cs → FitsAt store c → All (λ (d : PlacedEdits). d.0 < c.0) cs
+    → All (λ (d : PlacedEdits). new_rows d.1 ≡ []) cs → new_rows c.1 ≡ [] → AreEdits store (cs ++ c ∷ [])
+one_more store cs c are fit before removals none = record {
+  fit = All-push (FitsAt store) cs c are.fit fit;
+  ascend = all_pairs_push (λ (a b : PlacedEdits). a.0 < b.0) cs c are.ascend before;
+  removals = λ more. All-push (λ (d : PlacedEdits). new_rows d.1 ≡ []) cs c removals none;
+}
+
+module _ (schema : Schema) (store : Tables) (kept : AreKept schema store) (distinct : HasDistinctNames schema) where
+  abbrev rs : List StoredRows
+  rs = store.tables
+
+  abbrev rest_from : ℕ → List NamedEdits → List NamedEdits
+  rest_from k es = with_cascades schema (drop k schema.tables) (drop k (instance_of rs)) es
+
+  table_of : (k : ℕ) → k < length rs → (t : Table) × (slice_get schema.tables k ≡ Some t)
+  table_of k within = some_at schema.tables k (subst (λ n. k < n) (sym (as_many schema.tables rs kept.relations)) within)
+
+  -- The tables up to that of the command add none.
+  pub rest_at_first : (own : PlacedEdits) → FitsAt store own
+      → with_cascades schema schema.tables (instance_of rs) (named schema rs own ∷ []) ≡ rest_from (own.0 + 1) (named schema rs own ∷ [])
+  rest_at_first own fit =
+      let (t, at) = table_of own.0 (fits_within store own fit) in
+      up_to_own schema (named schema rs own) [] refl own.0 schema.tables (instance_of rs) kept.back distinct t at
+      (ap (λ o. option_map_or (λ (u : Table). u.definition.name) o []) at)
+
+  module _ (table : ℕ) (within : table < length schema.tables) (edits : List Edit) (cs : List PlacedEdits)
+      (pairs : (t : Table) → slice_get schema.tables table ≡ Some t → pairs_at rs (table, edits)
+      ≡ removals_of (filter (goes_along schema (map (named schema rs) cs) t.definition.columns) (rows_at rs table))) where
+    abbrev before : List NamedEdits
+    before = map (named schema rs) cs
+
+    next : rest_from table before ≡ rest_from (table + 1) (also before (named schema rs (table, edits)).table (pairs_at rs (table, edits)))
+    next =
+        let (t, at) = some_at schema.tables table within in
+        let beside = relation_at schema.tables rs kept.relations table t at in
+        let name : name_of t ≡ (named schema rs (table, edits)).table = sym (ap (λ o. option_map_or (λ (u : Table). u.definition.name) o []) at) in
+        let rows : rows_of beside.stored ≡ rows_at rs table = sym (ap (λ o. option_map_or rows_of o []) beside.at) in
+        one_table schema schema.tables (instance_of rs) table t (rows_of beside.stored) before at (rows_beside rs table beside.stored beside.at)
+        ∙ (λ i. rest_from (table + 1) (also before (name i) (removals_of (filter (goes_along schema before t.definition.columns) (rows i)))))
+        ∙ ap (λ ps. rest_from (table + 1) (also before (named schema rs (table, edits)).table ps)) (sym (pairs t at))
+
+    -- A table that adds none, ..
+    pub none_more : edits ≡ [] → rest_from table before ≡ rest_from (table + 1) before
+    none_more none = next ∙ ap (λ ps. rest_from (table + 1) (also before (named schema rs (table, edits)).table ps)) no_pairs
+      where
+        at_none : (o : Option StoredRows) → option_map_or (λ (s : StoredRows). edit_pairs (slot_at s.places) []) o [] ≡ []
+        at_none None = refl
+        at_none (Some s) = refl
+
+        no_pairs : pairs_at rs (table, edits) ≡ []
+        no_pairs = ap (λ (es : List Edit). pairs_at rs (table, es)) none ∙ at_none (slice_get rs table)
+
+    -- .. and one that adds some.
+    pub some_more : edits ≢ [] → rest_from table before ≡ rest_from (table + 1) (map (named schema rs) (cs ++ (table, edits) ∷ []))
+    some_more some =
+        next ∙ ap (rest_from (table + 1)) (also_some before (named schema rs (table, edits)).table (pairs_at rs (table, edits)) pairs_there
+        ∙ sym (map-append (named schema rs) cs ((table, edits) ∷ [])))
+      where
+        not_none : (s : StoredRows) (es : List Edit) → es ≢ [] → edit_pairs (slot_at s.places) es ≢ []
+        not_none s [] there none = there refl
+        not_none s (e ∷ es) there none = cc
+
+        pairs_there : pairs_at rs (table, edits) ≢ []
+        pairs_there none =
+            let stored = some_at rs table (subst (λ n. table < n) (as_many schema.tables rs kept.relations) within) in
+            not_none stored.0 edits some
+            (sym (ap (λ o. option_map_or (λ (s : StoredRows). edit_pairs (slot_at s.places) edits) o []) stored.1) ∙ none)
+
+  pub rest_at_last : (k : ℕ) → length schema.tables ≤ k → (es : List NamedEdits) → rest_from k es ≡ es
+  rest_at_last k past es = all_done schema schema.tables (instance_of rs) k es past

@@ -1,0 +1,81 @@
+-- The rows are found column by column.
+use Rattle.std.proofs.Common.{◌≡◌, ◌<◌, Bool, List, [], ◌∷◌, map, take, ap, ◌∙◌, subst, sym, ◌||◌}
+use Rattle.std.specs.List.{All, filter, list_any}
+use Rattle.std.specs.Option.{option_map_or}
+use Rattle.std.proofs.lemmas.List.{take_all}
+use Rattle.std.proofs.lemmas.List.Elements.{All-nil}
+use Rattle.mm_partition.specs.Places.{IsLive, slot_at}
+use Rattle.mm_relation.specs.Before.{same_ref}
+use Rattle.mm_relation.specs.Kept.{StoredRows}
+use Rattle.mm_relation.specs.Refs.{row_at}
+use Rattle.mm_relation.specs.RowLists.{edit_pairs, rows_of}
+use Rattle.mm_schema.proofs.StrictOrder.{Contains-from_IsIn}
+use Rattle.mm_schema.proofs.Twins.{Row}
+use Rattle.mm_query.specs.Edits.{goes_along, removals_of}
+use Rattle.mm_value.specs.declared.row_ref.RowRef.{RowRef}
+use Rattle.mm_txn.specs.Cascades.{Along, IsCascade, along_of, alongs_from, goes_by, goes_by_some}
+use Rattle.mm_txn.specs.TableEdits.{PlacedEdits, named, placed}
+use Rattle.mm_txn.proofs.CascadeFinds.{along_push, cascade_so}
+use Rattle.mm_txn.proofs.CascadeSteps.{pairs_filtered}
+use Rattle.mm_txn.proofs.CascadePlaces.{some_at}
+use Rattle.mm_txn.proofs.CascadeTables.{alongs_are, alongs_go, as_many}
+use Rattle.mm_txn.proofs.Referrers.{adds_both, adds_same}
+use Rattle.mm_txn.proofs.cascades.going_along.Goals as goal
+
+pub add_referrers-requires-clause-there : goal.add_referrers-requires-clause-there
+add_referrers-requires-clause-there c =
+    subst (λ n. c.args.table < n) (as_many c.args.catalog.now.tables c.args.store.now.tables c.requires.kept.relations) c.requires.there
+
+pub add_referrers-requires-clause-cascade : goal.add_referrers-requires-clause-cascade
+add_referrers-requires-clause-cascade c =
+    let schema = c.args.catalog.now in
+    let store = c.args.store.now in
+    let cs : List PlacedEdits = placed c.args.own.now ∷ map placed c.args.along.now in
+    let (t, at) = some_at schema.tables c.args.table c.requires.there in
+    cascade_so (λ (a : Along). IsCascade store c.args.table a.0 a.1) (alongs_from schema cs 0 t.definition.columns)
+    (alongs_are schema store c.requires.kept c.requires.distinct cs c.requires.are c.args.table t at) c.deref-cascade-items.result.now
+    (ap (map along_of) c.deref-cascade-items.ensures.value ∙ c.in_ok-columns.ensures.found t at) c.loop-cascade.cascade-index c.cascade-item.result
+    c.loop-cascade-test.true c.cascade-item.is
+
+pub loop-cascade-preserved : goal.loop-cascade-preserved
+loop-cascade-preserved c = λ stored at.
+    let rs = c.args.store.now.tables in
+    let items = c.deref-cascade-items.result.now in
+    let k = c.loop-cascade.cascade-index in
+    let item = c.cascade-item.result in
+    adds_same stored (λ row. goes_by_some rs (map along_of (take k items)) row || goes_by rs item.column (item.to, item.gone.now) row) _
+    (along_push rs items k item c.loop-cascade-test.true c.cascade-item.is) [] c.add_referrers.new.found.items
+    (adds_both stored (goes_by_some rs (map along_of (take k items))) (goes_by rs item.column (item.to, item.gone.now)) [] c.loop-cascade.found.items
+    c.add_referrers.new.found.items (c.loop-cascade.invariant stored at) (c.in_ok-add_referrers.ensures.found stored at))
+
+pub table-requires : goal.table-requires
+table-requires c =
+    subst (λ n. c.args.table < n) (as_many c.args.catalog.now.tables c.args.store.now.tables c.requires.kept.relations) c.requires.there
+
+pub removals_at-requires : goal.removals_at-requires
+removals_at-requires c = record {
+  live = subst (All (IsLive c.table.result.now.places)) (sym c.as_slice.ensures.value)
+      ((c.loop-cascade.invariant c.table.result.now c.table.ensures.at).live (All-nil (IsLive c.table.result.now.places)));
+}
+
+pub returns-clause-pairs : goal.returns-clause-pairs
+returns-clause-pairs c = λ t at.
+    let schema = c.args.catalog.now in
+    let store = c.args.store.now in
+    let stored = c.table.result.now in
+    let now = slot_at stored.places in
+    let cs : List PlacedEdits = placed c.args.own.now ∷ map placed c.args.along.now in
+    let items = c.deref-cascade-items.result.now in
+    let k = c.loop-cascade.cascade-index in
+    let p : Row → Bool = goes_along schema (map (named schema store.tables) cs) t.definition.columns in
+    let q : RowRef → Bool = λ x. list_any (same_ref x) c.as_slice.result.now in
+    let goes : (row : Row) → goes_by_some store.tables (map along_of (take k items)) row ≡ p row =
+    λ row. ap (λ xs. goes_by_some store.tables (map along_of xs) row) (take_all k items c.loop-cascade-test.false ∙ c.deref-cascade-items.ensures.value)
+    ∙ ap (λ xs. goes_by_some store.tables xs row) (c.in_ok-columns.ensures.found t at)
+    ∙ alongs_go schema store c.requires.kept c.requires.distinct cs c.requires.are c.args.table t at row in
+    ap (λ o. option_map_or (λ (s : StoredRows). edit_pairs (slot_at s.places) c.in_ok-removals_at.field-0.items) o []) c.table.ensures.at
+    ∙ ap (edit_pairs now) c.in_ok-removals_at.ensures.items
+    ∙ pairs_filtered now q p stored.refs (λ x here.
+    ap (list_any (same_ref x)) c.as_slice.ensures.value
+    ∙ (c.loop-cascade.invariant stored c.table.ensures.at).found x (Contains-from_IsIn stored.refs x here) ∙ goes (row_at now x))
+    ∙ ap (λ rows. removals_of (filter p rows)) (sym (ap (λ o. option_map_or rows_of o []) c.table.ensures.at))

@@ -1,0 +1,10 @@
+use Rattle.std.proofs.Common.{[], map, take}
+use Rattle.mm_relation.specs.Kept.{StoredRows}
+use Rattle.mm_store.specs.Tables.{IsAt}
+use Rattle.mm_txn.specs.Cascades.{AddsReferrers, along_of, goes_by_some}
+use Rattle.mm_txn.proofs.cascades.going_along.Given as goal
+
+-- the references of the rows that go along by the columns so far were found
+abbrev pub invariant-loop-cascade : goal.invariant-loop-cascade
+invariant-loop-cascade l = (stored : StoredRows) → IsAt l.store l.table stored
+    → AddsReferrers stored (goes_by_some l.store.tables (map along_of (take l.cascade-index l.cascade-items))) [] l.found.items

@@ -1,0 +1,127 @@
+-- The lists follow the rows of one table.
+use Rattle.std.proofs.Common.{◌≡◌, Err, List, [], ◌∷◌, None, sym, ap, subst, ◌∙◌}
+use Rattle.std.specs.List.{All}
+use Rattle.std.proofs.lemmas.Result.{err_from_is_err_and}
+use Rattle.mm_relation.specs.declared.edits.Edit.{Edit}
+use Rattle.mm_schema.specs.Instance.{Instance}
+use Rattle.mm_schema.specs.Refused.{AnswersDue, Condition, first_refusal}
+use Rattle.mm_schema.proofs.Dues.{due_behind}
+use Rattle.mm_standing.specs.Queries.{change_conditions as list_conditions}
+use Rattle.mm_standing.specs.State.{AreFew, FitPrepared, Lists, count_now}
+use Rattle.mm_store.specs.Tables.{AreFit, edit_conditions}
+use Rattle.mm_txn.specs.Kept.{instance_of}
+use Rattle.mm_txn.specs.TableEdits.{FitsAt, PlacedEdits, edits_conditions, placed, rows_edited}
+use Rattle.mm_txn.specs.Watched.{AreListed, IsTested, rows_by_place}
+use Rattle.mm_txn.proofs.ListSteps.{behind_due, front_due, listed_made, listed_still, longer_made, same_counts, undone_made}
+use Rattle.mm_txn.proofs.ListedRows.{few_after, rows_as_they_were, rows_kept, rows_made, rows_put_back}
+use Rattle.mm_txn.proofs.PlacedRows.{one_fits, one_made, one_refused, one_there}
+use Rattle.mm_txn.proofs.changes.edit_table.Goals as goal
+
+pub check-requires-clause-there : goal.check-requires-clause-there
+check-requires-clause-there c = one_there c.args.store.now (placed c.args.own) c.requires.are
+
+pub check-requires-clause-fit : goal.check-requires-clause-fit
+check-requires-clause-fit c =
+    λ stored at.
+    subst (λ (es : List Edit). AreFit stored es) (sym c.as_slice.ensures.value) (one_fits c.args.store.now (placed c.args.own) c.requires.are stored at)
+
+pub returns-in_err-check-clause-err : goal.returns-in_err-check-clause-err
+returns-in_err-check-clause-err c =
+    let p = err_from_is_err_and c.from_residual.result c.from_residual.ensures.1 in
+    rw (p.1) (rows_as_they_were c.args.store.now)
+
+pub returns-in_err-check-clause-due : goal.returns-in_err-check-clause-due
+returns-in_err-check-clause-due c =
+    let p = err_from_is_err_and c.from_residual.result c.from_residual.ensures.1 in
+    let store = c.args.store.now in
+    let own : PlacedEdits = placed c.args.own in
+    let refusal = c.in_err-check.field-0.0 in
+    rw (p.1, p.2) (λ stored at.
+    front_due (edits_conditions store stored own []) (list_conditions (rows_edited store (own ∷ [])) c.args.standing.now.queries) refusal
+    (subst (λ (cs : List Condition). AnswersDue {T = Unit {0}} (first_refusal cs) (Err refusal)) (sym (one_refused store own c.requires.are c.requires.back stored at))
+    (subst (λ (es : List Edit). AnswersDue {T = Unit {0}} (first_refusal (edit_conditions store own.0 stored es)) (Err refusal)) c.as_slice.ensures.value
+    (c.in_err-check.ensures.due stored at))))
+
+pub prepare_lists-requires-clause-fit : goal.prepare_lists-requires-clause-fit
+prepare_lists-requires-clause-fit c =
+    subst (λ (p : PlacedEdits). All (FitsAt c.args.store.now) (p ∷ [])) (sym c.as_change.ensures) c.requires.are.fit
+
+pub prepare_lists-requires-clause-typed : goal.prepare_lists-requires-clause-typed
+prepare_lists-requires-clause-typed c =
+    subst (λ (p : PlacedEdits). All (IsTested (rows_by_place (instance_of c.args.store.now.tables)) (rows_edited c.args.store.now (p ∷ []))) c.args.standing.now.queries)
+    (sym c.as_change.ensures) c.requires.typed
+
+pub returns-in_err-prepare_lists-clause-err : goal.returns-in_err-prepare_lists-clause-err
+returns-in_err-prepare_lists-clause-err c =
+    let p = err_from_is_err_and c.from_residual-in_err-prepare_lists.result c.from_residual-in_err-prepare_lists.ensures.1 in
+    rw (p.1) (rows_as_they_were c.args.store.now)
+
+pub returns-in_err-prepare_lists-clause-due : goal.returns-in_err-prepare_lists-clause-due
+returns-in_err-prepare_lists-clause-due c =
+    let p = err_from_is_err_and c.from_residual-in_err-prepare_lists.result c.from_residual-in_err-prepare_lists.ensures.1 in
+    let store = c.args.store.now in
+    let own : PlacedEdits = placed c.args.own in
+    let refusal = c.in_err-prepare_lists.field-0.0 in
+    rw (p.1, p.2) (λ stored at.
+    behind_due (edits_conditions store stored own []) (list_conditions (rows_edited store (own ∷ [])) c.args.standing.now.queries) refusal
+    (subst (λ (cs : List Condition). first_refusal cs ≡ None) (sym (one_refused store own c.requires.are c.requires.back stored at))
+    (subst (λ (es : List Edit). first_refusal (edit_conditions store own.0 stored es) ≡ None) c.as_slice.ensures.value (c.in_ok-check.ensures.due stored at)))
+    (subst (λ (p : PlacedEdits). AnswersDue {T = Unit {0}} (first_refusal (list_conditions (rows_edited store (p ∷ [])) c.args.standing.now.queries)) (Err refusal))
+    c.as_change.ensures c.in_err-prepare_lists.ensures.due))
+
+pub returns-in-Err-clause-err : goal.returns-in-Err-clause-err
+returns-in-Err-clause-err c =
+    rows_put_back c.args.store.now c.apply.new.self c.args.own.table (one_there c.args.store.now (placed c.args.own) c.requires.are) c.in-Err.ensures.err
+
+pub returns-in-Err-clause-listed : goal.returns-in-Err-clause-listed
+returns-in-Err-clause-listed c =
+    let store = c.args.store.now in
+    subst (λ (r : Instance). AreListed r c.discard.new.self)
+    (sym (rows_kept store c.apply.new.self
+    (rows_put_back store c.apply.new.self c.args.own.table (one_there store (placed c.args.own) c.requires.are) c.in-Err.ensures.err)))
+    (listed_still (instance_of store.tables) c.args.standing.now c.discard.new.self
+    (ap (λ (l : Lists). l.queries) c.discard.ensures ∙ c.prepare_lists.ensures.queries) c.requires.listed
+    (λ list row. ap (λ (l : Lists). count_now l list row) c.discard.ensures
+    ∙ same_counts c.args.standing.now c.prepare_lists.new.standing c.prepare_lists.ensures.entries list row)
+    (ap (λ (l : Lists). l.prepared) c.discard.ensures))
+
+pub returns-clause-due : goal.returns-clause-due
+returns-clause-due c =
+    let store = c.args.store.now in
+    let own : PlacedEdits = placed c.args.own in
+    λ stored at.
+    due_behind (edits_conditions store stored own []) (list_conditions (rows_edited store (own ∷ [])) c.args.standing.now.queries)
+    (subst (λ (cs : List Condition). first_refusal cs ≡ None) (sym (one_refused store own c.requires.are c.requires.back stored at))
+    (subst (λ (es : List Edit). first_refusal (edit_conditions store own.0 stored es) ≡ None) c.as_slice.ensures.value (c.in_ok-check.ensures.due stored at)))
+    ∙ subst (λ (p : PlacedEdits). first_refusal (list_conditions (rows_edited store (p ∷ [])) c.args.standing.now.queries) ≡ None)
+    c.as_change.ensures c.in_ok-prepare_lists.ensures.due
+
+pub returns-clause-ok : goal.returns-clause-ok
+returns-clause-ok c =
+    one_made c.args.store.now (placed c.args.own) c.requires.are c.apply.new.self c.in_default.ensures.ok c.apply.ensures.links
+
+pub returns-clause-listed : goal.returns-clause-listed
+returns-clause-listed c =
+    let store = c.args.store.now in
+    let own : PlacedEdits = placed c.args.own in
+    let after = rows_edited store (own ∷ []) in
+    let due = subst (λ (p : PlacedEdits). first_refusal (list_conditions (rows_edited store (p ∷ [])) c.args.standing.now.queries) ≡ None)
+    c.as_change.ensures c.in_ok-prepare_lists.ensures.due in
+    listed_made c.args.standing.now c.prepare_lists.new.standing c.apply_prepared.new.self c.prepare_lists.ensures.entries c.apply_prepared.ensures.made
+    (instance_of c.apply.new.self.tables) after
+    (rows_made store c.apply.new.self (own ∷ [])
+    (one_made store own c.requires.are c.apply.new.self c.in_default.ensures.ok c.apply.ensures.links))
+    (subst (λ (p : PlacedEdits). FitPrepared (rows_edited store (p ∷ [])) c.prepare_lists.new.standing) c.as_change.ensures c.in_ok-prepare_lists.ensures.ok)
+    c.apply_prepared.ensures.queries
+    (subst (AreFew after) (sym c.prepare_lists.ensures.queries) (few_after after c.args.standing.now.queries due))
+    c.apply_prepared.ensures.prepared
+
+pub returns-clause-undone : goal.returns-clause-undone
+returns-clause-undone c =
+    undone_made c.args.standing.now c.prepare_lists.new.standing c.apply_prepared.new.self c.prepare_lists.ensures.entries c.apply_prepared.ensures.made
+    c.prepare_lists.ensures.log
+
+pub returns-clause-log_longer : goal.returns-clause-log_longer
+returns-clause-log_longer c =
+    longer_made c.args.standing.now c.prepare_lists.new.standing c.apply_prepared.new.self c.prepare_lists.ensures.entries c.apply_prepared.ensures.made
+    c.prepare_lists.ensures.log

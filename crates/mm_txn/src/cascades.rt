@@ -1,0 +1,245 @@
+//! The rows that go along with the rows of a DELETE (the CASCADE of SQL's referential actions).
+ghost use Rattle.std.specs.Prelude.{◌≡◌, ◌<◌, ◌∷◌, [], All, filter, length, map, slice_get, IfErr, IfOk, OnOk, Some};
+ghost use Rattle.std.specs.Option.{option_copied, option_map};
+ghost use Rattle.mm_relation.specs.Edits.{new_rows};
+ghost use Rattle.mm_relation.specs.Kept.{StoredRows};
+ghost use Rattle.mm_schema.specs.Columns.{cascading_target};
+ghost use Rattle.mm_schema.specs.Schema.{HasDistinctNames};
+ghost use Rattle.mm_schema.specs.declared.table.Table.{Table};
+ghost use Rattle.mm_store.specs.Looked.{IsIndexOn};
+ghost use Rattle.mm_store.specs.Tables.{IsAt, rows_at};
+ghost use Rattle.mm_query.specs.Edits.{goes_along, removals_of, with_cascades};
+ghost use Rattle.mm_value.specs.declared.refusal.Refusal.TheVariants.{Memory};
+ghost use Rattle.mm_txn.specs.Cascades.{AddsReferrers, IsCascade, along_of, along_to, alongs_from, goes_by};
+ghost use Rattle.mm_txn.specs.Kept.{AreKept, instance_of};
+ghost use Rattle.mm_txn.specs.TableEdits.{AreEdits, FitsAt, edits_at, named, pairs_at, placed};
+
+use crate::edits::TableEdits;
+use mm_delta::{references_of_gone, row_gone};
+use mm_edits::removals_at;
+use mm_relation::Edit;
+use mm_schema::{Catalog, Column, Name};
+use mm_store::{ColumnIndex, Store};
+use mm_value::{Refusal, RowRef};
+use std::alloc::Global;
+
+/// A CASCADE column of a table, and the rows that go of the table that it refers to.
+#[derive(Drop)]
+struct Cascade<'a> {
+    /// The place of the column, counted from 0.
+    column: usize,
+    /// The place of the table that it refers to.
+    to: usize,
+    /// What is taken out of that table.
+    gone: &'a [Edit],
+}
+
+/// Removals of the rows that go along with those that a DELETE takes out of a table: of each row that has in a CASCADE column the key
+/// of one that goes, whichever table it is of. A column refers to an older table, so one pass over the tables in the order of
+/// creation finds all. The removals are in that order, and none are empty. `Memory` is the only refusal.
+pub(crate) fn cascades(
+    alloc: Global,
+    catalog: &Catalog,
+    store: &Store,
+    own: &TableEdits,
+) -> Result<Vec<TableEdits>, Refusal>
+    requires kept { AreKept catalog.now store.now }
+    requires distinct { HasDistinctNames catalog.now }
+    requires fit { FitsAt store.now (placed own.now) }
+    requires removals { new_rows own.now.edits.items ≡ [] }
+    ensures are { IfOk result (λ along. AreEdits store.now (placed own.now ∷ map placed along.items)) }
+    ensures cascades { IfOk result (λ along. map (named catalog.now store.now.tables) (placed own.now ∷ map placed along.items)
+        ≡ with_cascades catalog.now catalog.now.tables (instance_of store.now.tables) (named catalog.now store.now.tables (placed own.now) ∷ [])) }
+    ensures memory { IfErr result (λ refusal. refusal ≡ Memory) }
+{
+    let mut along = Vec::new(alloc);
+    let count = catalog.tables().len();
+    for table in own.table + 1..count {
+        let edits = going_along(alloc, catalog, store, table, own, along.as_slice())?;
+        if !edits.is_empty() {
+            along.push(TableEdits { table, edits })?;
+        }
+    }
+    Ok(along)
+}
+
+/// Removals of the rows of a table that go along with rows of older tables. `Memory` is the only refusal.
+fn going_along(
+    alloc: Global,
+    catalog: &Catalog,
+    store: &Store,
+    table: usize,
+    own: &TableEdits,
+    along: &[TableEdits],
+) -> Result<Vec<Edit>, Refusal>
+    requires kept { AreKept catalog.now store.now }
+    requires distinct { HasDistinctNames catalog.now }
+    requires there { table < length catalog.now.tables }
+    requires are { AreEdits store.now (placed own.now ∷ map placed along.now) }
+    ensures fit { IfOk result (λ edits. FitsAt store.now (table, edits.items)) }
+    ensures removals { IfOk result (λ edits. new_rows edits.items ≡ []) }
+    ensures pairs { IfOk result (λ edits. (t : Table) → slice_get catalog.now.tables table ≡ Some t
+        → pairs_at store.now.tables (table, edits.items)
+        ≡ removals_of (filter (goes_along catalog.now (map (named catalog.now store.now.tables) (placed own.now ∷ map placed along.now)) t.definition.columns)
+        (rows_at store.now.tables table))) }
+    ensures memory { IfErr result (λ refusal. refusal ≡ Memory) }
+{
+    let columns = cascading_columns(alloc, catalog, table, own, along)?;
+    let mut found = Vec::new(alloc);
+    for cascade in &columns {
+        add_referrers(alloc, store, table, cascade, &mut found)?;
+    }
+    Ok(removals_at(alloc, store.table(table), found.as_slice())?)
+}
+
+/// The CASCADE columns of a table that refer to tables of which rows go. `Memory` is the only refusal.
+fn cascading_columns<'a>(
+    alloc: Global,
+    catalog: &Catalog,
+    table: usize,
+    own: &'a TableEdits,
+    along: &'a [TableEdits],
+) -> Result<Vec<Cascade<'a>>, Refusal>
+    requires there { table < length catalog.now.tables }
+    ensures found { IfOk result (λ found. (t : Table) → slice_get catalog.now.tables table ≡ Some t
+        → map along_of found.items ≡ alongs_from catalog.now (placed own.entry.now ∷ map placed along.entry.now) 0 t.definition.columns) }
+    ensures memory { IfErr result (λ refusal. refusal ≡ Memory) }
+{
+    let columns = &catalog.table_at(table).definition.columns;
+    let mut found = Vec::new(alloc);
+    for (place, column) in columns.as_slice().iter().enumerate() {
+        if let Some(cascade) = cascade_of(catalog, place, column, own, along) {
+            found.push(cascade)?;
+        }
+    }
+    Ok(found)
+}
+
+/// The column at a place of its table, if it is a CASCADE column and refers to a table of which rows go.
+fn cascade_of<'a>(
+    catalog: &Catalog,
+    place: usize,
+    column: &Column,
+    own: &'a TableEdits,
+    along: &'a [TableEdits],
+) -> Option<Cascade<'a>>
+    ensures { option_map along_of result
+        ≡ along_to catalog.now (placed own.entry.now ∷ map placed along.entry.now) place (cascading_target column.now) }
+{
+    let target = cascading_target(column)?;
+    let to = catalog.place_of(target).unwrap_or(0);
+    let gone = removals_of(own, along, to);
+    if gone.is_empty() {
+        return None;
+    }
+    Some(Cascade {
+        column: place,
+        to,
+        gone,
+    })
+}
+
+/// The name of the table that a column refers to, if a row of the column is deleted with the row that it refers to.
+fn cascading_target(column: &Column) -> Option<&Name>
+    ensures { option_copied result ≡ cascading_target column.now }
+{
+    if column.cascades() {
+        column.target()
+    } else {
+        None
+    }
+}
+
+/// What is taken out of the table at a place.
+fn removals_of<'a>(own: &'a TableEdits, along: &'a [TableEdits], place: usize) -> &'a [Edit]
+    ensures { result.now ≡ edits_at (placed own.entry.now ∷ map placed along.entry.now) place }
+{
+    if own.table == place {
+        return own.edits.as_slice();
+    }
+    for removals in along {
+        if removals.table == place {
+            return removals.edits.as_slice();
+        }
+    }
+    &[]
+}
+
+/// Appends the references of the rows of a table that go along by a CASCADE column: found by an index of the column where it has
+/// one, else by one pass over the rows. `Memory` is the only refusal.
+fn add_referrers(
+    alloc: Global,
+    store: &Store,
+    table: usize,
+    cascade: &Cascade,
+    found: &mut Vec<RowRef>,
+) -> Result<(), Refusal>
+    requires there { table < length store.now.tables }
+    requires cascade { IsCascade store.now table cascade.now.column (cascade.now.to, cascade.now.gone.now) }
+    ensures found { OnOk result ((stored : StoredRows) → IsAt store.now table stored
+        → AddsReferrers stored (goes_by store.now.tables cascade.now.column (cascade.now.to, cascade.now.gone.now)) found.old.items found.new.items) }
+    ensures memory { IfErr result (λ refusal. refusal ≡ Memory) }
+{
+    match store.index_on(table, cascade.column) {
+        Some(index) => add_by_index(alloc, store, table, index, cascade, found),
+        None => add_by_scan(alloc, store, table, cascade, found),
+    }
+}
+
+/// The same by an index of the column: for each row that goes those that have its key there. `Memory` is the only refusal.
+fn add_by_index(
+    alloc: Global,
+    store: &Store,
+    table: usize,
+    index: ColumnIndex,
+    cascade: &Cascade,
+    found: &mut Vec<RowRef>,
+) -> Result<(), Refusal>
+    requires there { table < length store.now.tables }
+    requires cascade { IsCascade store.now table cascade.now.column (cascade.now.to, cascade.now.gone.now) }
+    requires index { (stored : StoredRows) → IsAt store.now table stored → IsIndexOn stored cascade.now.column index }
+    ensures found { OnOk result ((stored : StoredRows) → IsAt store.now table stored
+        → AddsReferrers stored (goes_by store.now.tables cascade.now.column (cascade.now.to, cascade.now.gone.now)) found.old.items found.new.items) }
+    ensures memory { IfErr result (λ refusal. refusal ≡ Memory) }
+{
+    store.is_kept(table);
+    store.is_kept(cascade.to);
+    let target = store.table(cascade.to);
+    for edit in cascade.gone {
+        match row_gone(edit) {
+            Some(at) => {
+                let key = target.row(at).value(target.key());
+                store.matches(alloc, table, index, key, found)?;
+            }
+            None => {}
+        }
+    }
+    Ok(())
+}
+
+/// The same without one: each row of the table is asked once whether the row that it refers to goes. `Memory` is the only refusal.
+fn add_by_scan(
+    alloc: Global,
+    store: &Store,
+    table: usize,
+    cascade: &Cascade,
+    found: &mut Vec<RowRef>,
+) -> Result<(), Refusal>
+    requires there { table < length store.now.tables }
+    requires cascade { IsCascade store.now table cascade.now.column (cascade.now.to, cascade.now.gone.now) }
+    ensures found { OnOk result ((stored : StoredRows) → IsAt store.now table stored
+        → AddsReferrers stored (goes_by store.now.tables cascade.now.column (cascade.now.to, cascade.now.gone.now)) found.old.items found.new.items) }
+    ensures memory { IfErr result (λ refusal. refusal ≡ Memory) }
+{
+    store.is_kept(table);
+    store.is_kept(cascade.to);
+    let gone = references_of_gone(alloc, cascade.gone)?;
+    let relation = store.table(table);
+    for at in relation.by_key() {
+        let target = store.follow(table, cascade.column, at);
+        if gone.contains(&(target.part, target.slot)) {
+            found.push(at)?;
+        }
+    }
+    Ok(())
+}
