@@ -5,6 +5,8 @@
 #![tactic(auto)]
 
 #[cfg(test)]
+mod cascades;
+#[cfg(test)]
 mod growths;
 #[cfg(test)]
 mod samples;

@@ -1,0 +1,76 @@
+//! Growths of memory that are refused to deletes that cascade.
+use crate::samples::{command, database, give, told};
+use crate::steps::{give_each, granted, roll_back, tell_refused};
+use mm_value::Refusal;
+use std::test::Fail;
+
+/// Departments with their employees and what these are paid, for a department that may be another one. One of the two columns that
+/// cascade has an index.
+const FILLED: [&str; 8] = [
+    "TABLE dept (id INT KEY)",
+    "TABLE emp (id INT KEY, d INT REF dept CASCADE)",
+    "TABLE pay (id INT KEY, e INT REF emp CASCADE, d INT REF dept)",
+    "INDEX by_d ON emp (d) HASH",
+    "WATCH paid SELECT e.id, p.id FROM emp e, pay p WHERE p.e = e.id",
+    "INSERT dept (1), (2)",
+    "INSERT emp (10, 1), (11, 2), (12, 1)",
+    "INSERT pay (100, 10, 2), (101, 11, 2), (102, 12, 2), (103, 12, 1)",
+];
+
+/// What tells of all rows, along the index too.
+const QUESTIONS: [&str; 4] = [
+    "SELECT e.id FROM emp e",
+    "SELECT e.id FROM emp e WHERE e.d = 1",
+    "SELECT p.id FROM pay p",
+    "SHOW paid",
+];
+
+const ALL: &str =
+    "(10)\n(11)\n(12)\nrows 3\n(10)\n(12)\nrows 2\n(100)\n(101)\n(102)\n(103)\nrows 4\n\
+    (10, 100)\n(11, 101)\n(12, 102)\n(12, 103)\nrows 4\n";
+
+const WITHOUT_FIRST: &str = "(11)\nrows 1\nrows 0\n(101)\nrows 1\n(11, 101)\nrows 1\n";
+
+#[test]
+fn cascade_growths(rt: HostRuntime) -> Result<(), Fail> {
+    give_each(
+        &rt,
+        &FILLED,
+        &QUESTIONS,
+        &[("DELETE dept WHERE id = 1", WITHOUT_FIRST)],
+    )
+}
+
+#[test]
+fn rolled_back_cascade_growths(rt: HostRuntime) -> Result<(), Fail> {
+    roll_back(
+        &rt,
+        &FILLED,
+        &["BEGIN"],
+        "DELETE dept WHERE id = 1",
+        "ROLLBACK",
+        &QUESTIONS,
+        ALL,
+    )
+}
+
+#[test]
+fn hindered_cascade_growths(rt: HostRuntime) -> Result<(), Fail> {
+    let alloc = rt.alloc();
+    let Some(mut database) = granted(&rt, database(alloc, &FILLED)) else {
+        return Ok(());
+    };
+    let Some(given) = granted(&rt, command(alloc, "DELETE dept WHERE id = 2")) else {
+        return Ok(());
+    };
+    let outcome = give(alloc, &mut database, given);
+    if let Err(Refusal::Memory) = outcome {
+        tell_refused(&rt, Refusal::Memory)?;
+    } else {
+        assert!(rt; matches!(outcome, Err(Refusal::RowIsReferenced)));
+    }
+    if let Some(still) = granted(&rt, told(alloc, &database, &QUESTIONS)) {
+        assert_eq!(rt; still.as_slice(), ALL.as_bytes());
+    }
+    Ok(())
+}
