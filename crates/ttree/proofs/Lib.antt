@@ -6,6 +6,7 @@ pub mod Meeting
 pub mod Taken
 pub mod Sizes
 pub mod Between
+pub mod Bound
 pub mod Sought
 pub mod Decides
 pub mod Path

@@ -168,6 +168,30 @@ module _ (Covers : RowRef → Type 0) (cmp : RowRef → RowRef → Ordering) whe
                 (less_from_greater (get_or back 0 added) added first_covered covered first_after);
           }
 
+-- among the last entries of an ordered list, or behind them
+module _ (Covers : RowRef → Type 0) (cmp : RowRef → RowRef → Ordering) (total : IsTotalOrderOn Covers cmp) (left middle : List RowRef)
+    (was : IsOrdered Covers cmp (left ++ middle)) (added : RowRef) (covered : Covers added) where
+  pub adds_behind : (at : ℕ) → 1 ≤ at → at ≤ length middle → All (λ a. cmp a added ≡ Less) (take at middle) → All (λ a. cmp a added ≡ Greater) (drop at middle)
+      → AddsInOrder cmp (left ++ middle) added (left ++ insert middle at added)
+  adds_behind at above_first bound before after =
+      let front : List RowRef = left ++ take at middle in
+      let whole : front ++ drop at middle ≡ left ++ middle = append_assoc left (take at middle) (drop at middle)
+      ∙ ap (λ xs. left ++ xs) (take-append-drop at middle) in
+      let parts_was : IsOrdered Covers cmp (front ++ drop at middle) = subst (IsOrdered Covers cmp) (sym whole) was in
+      let last_place : length front - 1 ≡ length left + (at - 1) = omega (arith, length-append left (take at middle), length-take at middle) in
+      let last : cmp (get_or front (length front - 1) added) added ≡ Less = ap (λ a. cmp a added) (ap (λ n. get_or front n added) last_place
+      ∙ get_or-append-add left (take at middle) (at - 1) added)
+      ∙ before (at - 1) added (omega (arith, length-take at middle)) in
+      record {
+        front = front;
+        back = drop at middle;
+        refs_are = sym whole;
+        more_are = simp append_assoc;
+        above_front = above_all Covers cmp total added covered front (IsOrdered-front Covers cmp front (drop at middle) parts_was) last;
+        below_back = λ k d within. less_from_greater Covers cmp total (get_or (drop at middle) k d) added
+            ((IsOrdered-back Covers cmp front (drop at middle) parts_was).covered k d within) covered (after k d within);
+      }
+
 moved : (left middle : List RowRef) (at : ℕ) (least added : RowRef) → 1 ≤ at → 1 ≤ length middle → get_or middle 0 least ≡ least
     → left ++ least ∷ [] ++ insert (remove middle 0) (at - 1) added ≡ left ++ insert middle at added
 moved left [] at least added above_first some is = absurd (omega arith)

@@ -55,36 +55,27 @@ module _ (Covers : RowRef → Type 0) (cmp : RowRef → RowRef → Ordering) (Re
       (λ (past : length left ≤ k). none_after 0 some greater k e (omega arith) within)
       (cases_lt k (length left))
 
-  -- the greatest of the middle lies before the place, and nothing on the right fits
-  pub none_from_right : 1 ≤ length middle → place (get_or middle (length middle - 1) d) ≡ Less → All (λ a. place a ≢ Equal) right
-      → All (λ a. place a ≢ Equal) (left ++ middle ++ right)
-  none_from_right some less in_right =
-      All-append (λ a. place a ≢ Equal) (left ++ middle) right (λ k e within.
-      subst (λ x. place x ≢ Equal) (get_or_append_left (left ++ middle) right e k within)
-      (none_before (length middle - 1) (omega arith) less k e (omega (arith, length-append left middle)))) in_right
+  -- the least of the middle lies before the place, so nothing on the left fits
+  pub none_up_to : 1 ≤ length middle → place (get_or middle 0 d) ≡ Less → All (λ a. place a ≢ Equal) left
+  none_up_to some less k e within =
+      let is : get_or (left ++ middle ++ right) k e ≡ get_or left k e = get_or_append_left (left ++ middle) right e k (omega (arith, length-append left middle))
+      ∙ get_or_append_left left middle e k within in
+      subst (λ x. place x ≢ Equal) is (none_before 0 some less k e (omega arith))
 
-  -- the place lies between two entries of the middle
-  pub none_between : 1 ≤ length middle → place (get_or middle 0 d) ≢ Greater → place (get_or middle (length middle - 1) d) ≢ Less → (at : ℕ)
-      → at ≤ length middle → All (λ a. place a ≡ Less) (take at middle) → All (λ a. place a ≡ Greater) (drop at middle)
-      → All (λ a. place a ≢ Equal) (left ++ middle ++ right)
-  none_between some first last at bound before after =
-      let least : (0 < at) = ⊎_elim (λ (h : 0 < at). h) (λ (h : at ≤ 0).
-      let zero_is : at ≡ 0 = omega arith in
-      let there : place (get_or (drop at middle) 0 d) ≡ Greater = after 0 d (omega (arith, length-drop at middle)) in
-      absurd (first (ap place (ap (λ n. get_or middle n d) (let e : 0 ≡ at + 0 = omega arith in e) ∙ sym (get_or-drop at middle 0 d)) ∙ there)))
-      (cases_lt 0 at) in
-      let greatest : (at < length middle) = ⊎_elim (λ (h : at < length middle). h) (λ (h : length middle ≤ at).
-      let there : place (get_or (take at middle) (length middle - 1) d) ≡ Less = before (length middle - 1) d (omega (arith, length-take at middle)) in
-      absurd (last (ap place (sym (get_or-take at middle (length middle - 1) d (omega arith))) ∙ there))) (cases_lt at (length middle)) in
-      let less : place (get_or middle (at - 1) d) ≡ Less = ap place (sym (get_or-take at middle (at - 1) d (omega arith)))
-      ∙ before (at - 1) d (omega (arith, length-take at middle)) in
-      let greater : place (get_or middle at d) ≡ Greater = ap place
-      (ap (λ n. get_or middle n d) (let e : at ≡ at + 0 = omega arith in e) ∙ sym (get_or-drop at middle 0 d))
-      ∙ after 0 d (omega (arith, length-drop at middle)) in
-      λ k e within. ⊎_elim
-      (λ (low : k < length left + at). none_before (at - 1) (omega arith) less k e (omega arith))
-      (λ (high : length left + at ≤ k). none_after at greatest greater k e high within)
-      (cases_lt k (length left + at))
+-- entries before a place of which lie before the probe's, and those behind after it, do not fit
+pub none_around : (place : RowRef → Ordering) (entries : List RowRef) (at : ℕ) → at ≤ length entries → All (λ a. place a ≡ Less) (take at entries)
+    → All (λ a. place a ≡ Greater) (drop at entries) → All (λ a. place a ≢ Equal) entries
+none_around place entries at bound before after k e within equal =
+    ⊎_elim
+    (λ (low : k < at).
+    let less : place (get_or entries k e) ≡ Less = ap place (sym (get_or-take at entries k e low)) ∙ before k e (omega (arith, length-take at entries)) in
+    cc)
+    (λ (high : at ≤ k).
+    let there : at + (k - at) ≡ k = omega arith in
+    let greater : place (get_or entries k e) ≡ Greater = ap place (ap (λ n. get_or entries n e) (sym there) ∙ sym (get_or-drop at entries (k - at) e))
+    ∙ after (k - at) e (omega (arith, length-drop at entries)) in
+    cc)
+    (cases_lt k at)
 
 -- what always holds holds where there is nothing
 pub IfNone-always : {X : Type 0} (o : Option X) (P : Type 0) → P → IfNone o P

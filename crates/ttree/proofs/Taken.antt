@@ -92,46 +92,32 @@ module _ (Covers : RowRef → Type 0) (cmp : RowRef → RowRef → Ordering) (to
       absurd (cc))
       (Contains-append_cases left (middle ++ right) gone (subst (λ xs. Contains xs gone) (append_assoc left middle right) held))
 
-  pub contains_right : cmp gone (get_or middle (length middle - 1) gone) ≡ Greater → Contains (left ++ middle ++ right) gone → Contains right gone
-  contains_right after held =
-      let greatest : RowRef = get_or middle (length middle - 1) gone in
-      let greatest_covered : Covers greatest = (IsOrdered-middle Covers cmp left middle right was).covered (length middle - 1) gone (omega arith) in
-      let last : cmp (get_or (left ++ middle) (length (left ++ middle) - 1) gone) gone ≡ Less =
-      ap (λ a. cmp a gone) (last_of Covers cmp total left middle gone some) ∙ less_from_greater Covers cmp total gone greatest covered greatest_covered after in
-      ⊎_elim
-      (λ (h : Contains (left ++ middle) gone).
-      let less : cmp gone gone ≡ Less = ap (λ a. cmp a gone) (sym h.2) ∙ above_all Covers cmp total gone covered (left ++ middle) front_was last h.0 gone h.1 in
-      let equal : cmp gone gone ≡ Equal = equal_to_itself Covers cmp total gone covered in
-      absurd (cc))
-      (λ (h : Contains right gone). h)
-      (Contains-append_cases (left ++ middle) right gone held)
-
   in_left : Contains left gone → cmp gone (get_or middle 0 gone) ≡ Less
   in_left h =
       let across : All (λ a. All (λ b. cmp a b ≡ Less) middle) left = AllPairs-append_across (λ a b. cmp a b ≡ Less) left middle front_was.ascending in
       ap (λ a. cmp a (get_or middle 0 gone)) (sym h.2) ∙ across h.0 gone h.1 0 gone (omega arith)
 
-  in_right : Contains right gone → cmp gone (get_or middle (length middle - 1) gone) ≡ Greater
-  in_right h =
+  -- what is held on the right lies after the middle
+  pub after_middle : Contains right gone → cmp gone (get_or middle (length middle - 1) gone) ≡ Greater
+  after_middle h =
       let across : All (λ a. All (λ b. cmp a b ≡ Less) right) middle = AllPairs-append_across (λ a b. cmp a b ≡ Less) middle right rest_was.ascending in
       let greatest : RowRef = get_or middle (length middle - 1) gone in
       let less : cmp greatest gone ≡ Less = ap (cmp greatest) (sym h.2) ∙ across (length middle - 1) gone (omega arith) h.0 gone h.1 in
       total.antisymm gone greatest covered ((IsOrdered-middle Covers cmp left middle right was).covered (length middle - 1) gone (omega arith))
       ∙ ap ordering_reverse less
 
-  pub contains_middle : cmp gone (get_or middle 0 gone) ≢ Less → cmp gone (get_or middle (length middle - 1) gone) ≢ Greater
-      → Contains (left ++ middle ++ right) gone → Contains middle gone
-  contains_middle not_before not_after held =
+  -- what does not lie before the middle is held there or on the right
+  pub contains_from : cmp gone (get_or middle 0 gone) ≢ Less → Contains (left ++ middle ++ right) gone → Contains middle gone ⊎ Contains right gone
+  contains_from not_before held =
       ⊎_elim
-      (λ (h : Contains (left ++ middle) gone).
-      ⊎_elim (λ (l : Contains left gone). absurd (not_before (in_left l))) (λ (m : Contains middle gone). m) (Contains-append_cases left middle gone h))
-      (λ (h : Contains right gone). absurd (not_after (in_right h)))
-      (Contains-append_cases (left ++ middle) right gone held)
+      (λ (l : Contains left gone). absurd (not_before (in_left l)))
+      (λ (h : Contains (middle ++ right) gone). Contains-append_cases middle right gone h)
+      (Contains-append_cases left (middle ++ right) gone (subst (λ xs. Contains xs gone) (append_assoc left middle right) held))
 
--- what follows where a test holds
-pub OnTrue-weaker : (b : Bool) (P Q : Type 0) → (P → Q) → OnTrue b P → OnTrue b Q
-OnTrue-weaker true P Q f h = f h
-OnTrue-weaker false P Q f h = h
+-- what holds where a test does
+pub on_true : (b : Bool) (P : Type 0) → b ≡ true → OnTrue b P → P
+on_true true P holds h = h
+on_true false P holds h = (cc)
 
 -- an ordered list without one of its references, which stands in the middle of three parts
 pub adds_taken : (Covers : RowRef → Type 0) (cmp : RowRef → RowRef → Ordering) (left middle right : List RowRef) (i : ℕ) (gone : RowRef)

@@ -1,4 +1,5 @@
 pub mod Balanced
+pub mod Bound
 pub mod Decides
 pub mod Held
 pub mod Lowest

@@ -1,16 +1,16 @@
 //! Insertion into a T-tree.
-ghost use Rattle.std.specs.Prelude.{◌≡◌, ◌≢◌, ◌+◌, ◌-◌, ◌^◌, ◌<◌, ◌≤◌, [], ◌∷◌, ◌++◌, length, take, drop, slice_index_or, All};
+ghost use Rattle.std.specs.Prelude.{◌≡◌, ◌≢◌, ◌+◌, ◌-◌, ◌^◌, ◌<◌, ◌≤◌, ◌↔◌, [], ◌∷◌, ◌++◌, length, take, drop, slice_index_or, All, IsTrue, IfOk, IfErr, IfSome, OnOk, OnErr};
 ghost use Rattle.std.specs.declared.cmp.Ordering.TheVariants.{Less, Equal, Greater};
 ghost use Rattle.ttree_node.specs.Tree.{fork, tree_of, in_order, height_of, node_count};
 ghost use Rattle.mm_order.specs.Order.{IsOrdered};
 ghost use Rattle.mm_order.specs.Refs.{AddsInOrder};
 ghost use Rattle.ttree.specs.Balanced.{IsTTree};
+ghost use Rattle.ttree.specs.Bound.{LiesBelow};
 
 use crate::balance::balance;
-use crate::search::{search, side_of};
+use crate::search::{is_before, search};
 use mm_order::{AtReference, RefOrder, Seek};
 use mm_value::RowRef;
-use std::cmp::Ordering;
 use ttree_node::{Entries, Spares, Subtree};
 
 /// Puts an entry after all others: at the end of the rightmost node, or, where that is full,
@@ -74,17 +74,16 @@ fn insert_between<O: RefOrder>(
     balance(node)
 }
 
-/// Where a reference goes among entries that it lies between.
+/// Where a reference goes among entries of which it does not lie before the first.
 fn place_among<O: RefOrder>(entries: &Entries, order: &O, added: RowRef) -> usize
     requires ordered { IsOrdered (O.covers order.now) (O.cmp order.now) entries.now }
     requires covered { O.covers order.now added }
     requires apart { All (λ a. O.cmp order.now a added ≢ Equal) entries.now }
     requires not_before { O.cmp order.now added (slice_index_or entries.now 0 added) ≢ Less }
-    requires not_after { O.cmp order.now added (slice_index_or entries.now (length entries.now - 1) added) ≢ Greater }
     requires some { 1 ≤ length entries.now }
     requires at_most_16 { length entries.now ≤ 16 }
     ensures above_first { 1 ≤ result }
-    ensures below_last { result < length entries.now }
+    ensures in_bounds { result ≤ length entries.now }
     ensures before { All (λ a. O.cmp order.now a added ≡ Less) (take result entries.now) }
     ensures after { All (λ a. O.cmp order.now a added ≡ Greater) (drop result entries.now) }
 {
@@ -99,50 +98,92 @@ fn place_among<O: RefOrder>(entries: &Entries, order: &O, added: RowRef) -> usiz
     at
 }
 
-/// Puts a reference at its place: into the node that bounds it or, where none does, into the last
-/// node of the path to it, or into a new leaf under that where it is full.
+/// Whether a reference lies before a bound. Where there is none it doesn't.
+fn is_below<O: RefOrder>(order: &O, added: RowRef, bound: Option<RowRef>) -> bool
+    requires covered { O.covers order.now added }
+    requires bound_covered { IfSome bound (O.covers order.now) }
+    ensures { IsTrue result ↔ LiesBelow (O.cmp order.now) added bound }
+{
+    match bound {
+        None => false,
+        Some(bound) => order.compare(added, bound).is_lt(),
+    }
+}
+
+/// Puts a reference at its place in a tree whose entries lie behind a bound, if there is one. `Err` with the tree as it was where the
+/// reference lies before the bound.
+///
+/// It asks one question a node on the way down, whether the reference lies before the node's least entry. Under a node of which it does
+/// not, the greatest entry of that node is the bound. So it goes into the node that bounds it or, where none does, into the last node of
+/// the path to it, or into a new leaf under that where it is full.
 pub(crate) fn insert_into<O: RefOrder>(
     tree: Option<Subtree>,
     order: &O,
+    bound: Option<RowRef>,
     added: RowRef,
     spares: &mut Spares,
-) -> Subtree
+) -> Result<Subtree, Option<Subtree>>
     requires tree { IsTTree (tree_of tree) }
     requires ordered { IsOrdered (O.covers order.now) (O.cmp order.now) (in_order (tree_of tree)) }
     requires covered { O.covers order.now added }
     requires apart { All (λ a. O.cmp order.now a added ≢ Equal) (in_order (tree_of tree)) }
+    requires bound_covered { IfSome bound (O.covers order.now) }
+    requires behind { IfSome bound (λ b. All (λ a. O.cmp order.now b a ≡ Less) (in_order (tree_of tree))) }
     requires spare { 1 ≤ spares.old }
     requires height_fits { height_of (tree_of tree) + 2 < 2 ^ 64 }
-    ensures tree { IsTTree (fork result) }
-    ensures adds { AddsInOrder (O.cmp order.now) (in_order (tree_of tree)) added (in_order (fork result)) }
-    ensures nodes { node_count (fork result) + spares.new ≡ node_count (tree_of tree) + spares.old }
+    ensures tree { IfOk result (λ made. IsTTree (fork made)) }
+    ensures adds { IfOk result (λ made. AddsInOrder (O.cmp order.now) (in_order (tree_of tree)) added (in_order (fork made))) }
+    ensures nodes { IfOk result (λ made. node_count (fork made) + spares.new ≡ node_count (tree_of tree) + spares.old) }
     ensures one_spare { spares.old ≤ spares.new + 1 }
-    ensures not_lower { height_of (tree_of tree) ≤ height_of (fork result) }
-    ensures at_most_one_higher { height_of (fork result) ≤ height_of (tree_of tree) + 1 }
+    ensures not_lower { IfOk result (λ made. height_of (tree_of tree) ≤ height_of (fork made)) }
+    ensures at_most_one_higher { IfOk result (λ made. height_of (fork made) ≤ height_of (tree_of tree) + 1) }
+    ensures behind { OnOk result (LiesBelow (O.cmp order.now) added bound → ⊥) }
+    ensures below { OnErr result (LiesBelow (O.cmp order.now) added bound) }
+    ensures kept { IfErr result (λ kept. tree_of kept ≡ tree_of tree) }
+    ensures spares_kept { OnErr result (spares.new ≡ spares.old) }
 {
     let Some(mut node) = tree else {
-        return Subtree::leaf(spares, added);
+        if is_below(order, added, bound) {
+            return Err(None);
+        }
+        return Ok(Subtree::leaf(spares, added));
     };
     let len = node.entries().len();
-    match side_of(&node, order, added) {
-        Ordering::Less => {
-            let left = node.take_left();
-            if left.is_none() && len < 16 {
-                node.put_entry(0, added);
-                return node;
+    if is_before(&node, order, added) {
+        let left = node.take_left();
+        if left.is_none() && len < 16 {
+            if is_below(order, added, bound) {
+                return Err(Some(node));
             }
-            node.set_left(Some(insert_into(left, order, added, spares)));
-            balance(node)
+            node.put_entry(0, added);
+            return Ok(node);
         }
-        Ordering::Greater => {
-            let right = node.take_right();
-            if right.is_none() && len < 16 {
-                node.put_entry(len, added);
-                return node;
+        return match insert_into(left, order, bound, added, spares) {
+            Ok(left) => {
+                node.set_left(Some(left));
+                Ok(balance(node))
             }
-            node.set_right(Some(insert_into(right, order, added, spares)));
-            balance(node)
+            Err(left) => {
+                node.set_left(left);
+                Err(Some(node))
+            }
+        };
+    }
+    let right = node.take_right();
+    if right.is_none() && len < 16 {
+        let at = place_among(node.entries(), order, added);
+        node.put_entry(at, added);
+        return Ok(node);
+    }
+    let last = node.entries().last();
+    match insert_into(right, order, Some(last), added, spares) {
+        Ok(right) => {
+            node.set_right(Some(right));
+            Ok(balance(node))
         }
-        Ordering::Equal => insert_between(node, order, added, spares),
+        Err(right) => {
+            node.set_right(right);
+            Ok(insert_between(node, order, added, spares))
+        }
     }
 }

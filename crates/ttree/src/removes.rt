@@ -8,10 +8,9 @@ ghost use Rattle.mm_order.specs.Refs.{AddsInOrder};
 ghost use Rattle.ttree.specs.Balanced.{IsTTree, IsRootOver, IsMended};
 
 use crate::balance::{balance, is_leaf};
-use crate::search::{search, side_of};
+use crate::search::{is_before, search};
 use mm_order::{AtReference, RefOrder, Seek};
 use mm_value::RowRef;
-use std::cmp::Ordering;
 use ttree_node::{Entries, Spares, Subtree};
 
 /// Merges a half-leaf with its left leaf where both fit into one node.
@@ -192,7 +191,39 @@ fn find_held<O: RefOrder>(entries: &Entries, order: &O, gone: RowRef) -> Option<
     }
 }
 
-/// Takes a reference out of a tree, and says whether it was there.
+/// Takes a reference out of a root's entries, and says whether it was there.
+fn remove_among<O: RefOrder>(
+    mut node: Subtree,
+    order: &O,
+    gone: RowRef,
+    spares: &mut Spares,
+) -> (Option<Subtree>, bool)
+    requires tree { IsTTree (fork node) }
+    requires ordered { IsOrdered (O.covers order.now) (O.cmp order.now) (in_order (fork node)) }
+    requires covered { O.covers order.now gone }
+    requires height_fits { height_of (fork node) + 1 < 2 ^ 64 }
+    requires pool_fits { node_count (fork node) + spares.old < 2 ^ 64 }
+    ensures tree { IsTTree (tree_of result.0) }
+    ensures held { IsTrue result.1 ↔ Contains node.entries gone }
+    ensures taken { OnTrue result.1 (AddsInOrder (O.cmp order.now) (in_order (tree_of result.0)) gone (in_order (fork node))) }
+    ensures absent { OnFalse result.1 (tree_of result.0 ≡ fork node) }
+    ensures nodes { node_count (tree_of result.0) + spares.new ≡ node_count (fork node) + spares.old }
+    ensures spares { spares.old ≤ spares.new }
+    ensures not_higher { height_of (tree_of result.0) ≤ height_of (fork node) }
+    ensures at_most_one_lower { height_of (fork node) ≤ height_of (tree_of result.0) + 1 }
+{
+    match find_held(node.entries(), order, gone) {
+        Some(i) => {
+            node.take_entry(i);
+            (refill(node, spares), true)
+        }
+        None => (Some(node), false),
+    }
+}
+
+/// Takes a reference out of a tree, and says whether it was there. It asks one question a node on the way down, whether the
+/// reference lies before the node's least entry. If it is held but in none of the nodes from the last one on that it does not lie
+/// before, it is in that one (Lehman and Carey, University of Wisconsin-Madison, 1985).
 pub(crate) fn remove_from<O: RefOrder>(
     tree: Option<Subtree>,
     order: &O,
@@ -207,7 +238,7 @@ pub(crate) fn remove_from<O: RefOrder>(
     ensures tree { IsTTree (tree_of result.0) }
     ensures held { IsTrue result.1 ↔ Contains (in_order (tree_of tree)) gone }
     ensures taken { OnTrue result.1 (AddsInOrder (O.cmp order.now) (in_order (tree_of result.0)) gone (in_order (tree_of tree))) }
-    ensures absent { OnFalse result.1 (in_order (tree_of result.0) ≡ in_order (tree_of tree)) }
+    ensures absent { OnFalse result.1 (tree_of result.0 ≡ tree_of tree) }
     ensures nodes { node_count (tree_of result.0) + spares.new ≡ node_count (tree_of tree) + spares.old }
     ensures spares { spares.old ≤ spares.new }
     ensures not_higher { height_of (tree_of result.0) ≤ height_of (tree_of tree) }
@@ -216,25 +247,20 @@ pub(crate) fn remove_from<O: RefOrder>(
     let Some(mut node) = tree else {
         return (None, false);
     };
-    match side_of(&node, order, gone) {
-        Ordering::Less => {
-            let left = node.take_left();
-            let (left, found) = remove_from(left, order, gone, spares);
-            node.set_left(left);
-            (Some(mend(node, spares)), found)
+    if is_before(&node, order, gone) {
+        let left = node.take_left();
+        let (left, found) = remove_from(left, order, gone, spares);
+        node.set_left(left);
+        if !found {
+            return (Some(node), false);
         }
-        Ordering::Greater => {
-            let right = node.take_right();
-            let (right, found) = remove_from(right, order, gone, spares);
-            node.set_right(right);
-            (Some(mend(node, spares)), found)
-        }
-        Ordering::Equal => match find_held(node.entries(), order, gone) {
-            Some(i) => {
-                node.take_entry(i);
-                (refill(node, spares), true)
-            }
-            None => (Some(node), false),
-        },
+        return (Some(mend(node, spares)), true);
     }
+    let right = node.take_right();
+    let (right, found) = remove_from(right, order, gone, spares);
+    node.set_right(right);
+    if !found {
+        return remove_among(node, order, gone, spares);
+    }
+    (Some(mend(node, spares)), true)
 }

@@ -1,5 +1,5 @@
 //! Search inside a node.
-ghost use Rattle.std.specs.Prelude.{◌≡◌, ◌+◌, ◌≢◌, ◌-◌, ◌<◌, ◌≤◌, ◌↔◌, length, take, drop, slice_index_or, All, IfOk, IfErr};
+ghost use Rattle.std.specs.Prelude.{◌≡◌, ◌+◌, ◌-◌, ◌<◌, ◌≤◌, ◌↔◌, length, take, drop, slice_index_or, All, IsTrue, IfOk, IfErr};
 ghost use Rattle.std.specs.List.{HoldsAt};
 ghost use Rattle.std.specs.List.Sorted.{IsNonDecreasingBy};
 ghost use Rattle.std.specs.Ordering.{ordering_index};
@@ -43,22 +43,12 @@ pub(crate) fn search<P: Probe>(seek: &mut Seek<P>, entries: &Entries) -> Result<
     }
 }
 
-/// On which side of a root's entries a reference lies: `Less` before them all, `Greater` after
-/// them all, else `Equal`.
-pub(crate) fn side_of<O: RefOrder>(node: &Subtree, order: &O, sought: RowRef) -> Ordering
+/// Whether a reference lies before all of a root's entries, by one question.
+pub(crate) fn is_before<O: RefOrder>(node: &Subtree, order: &O, sought: RowRef) -> bool
     requires some { 1 ≤ length node.now.entries }
     requires covered_entries { All (O.covers order.now) node.now.entries }
     requires covered { O.covers order.now sought }
-    ensures before { (result ≡ Ordering.Less) ↔ (O.cmp order.now sought (slice_index_or node.now.entries 0 sought) ≡ Ordering.Less) }
-    ensures after { result ≡ Ordering.Greater → O.cmp order.now sought (slice_index_or node.now.entries (length node.now.entries - 1) sought) ≡ Ordering.Greater }
-    ensures not_after { result ≡ Ordering.Equal → O.cmp order.now sought (slice_index_or node.now.entries (length node.now.entries - 1) sought) ≢ Ordering.Greater }
+    ensures { IsTrue result ↔ (O.cmp order.now sought (slice_index_or node.now.entries 0 sought) ≡ Ordering.Less) }
 {
-    let entries = node.entries();
-    if order.compare(sought, entries.first()).is_lt() {
-        Ordering::Less
-    } else if order.compare(sought, entries.last()).is_gt() {
-        Ordering::Greater
-    } else {
-        Ordering::Equal
-    }
+    order.compare(sought, node.entries().first()).is_lt()
 }

@@ -1,5 +1,5 @@
 //! The T-tree.
-ghost use Rattle.std.specs.Prelude.{◌≡◌, ◌≢◌, ◌+◌, ◌*◌, ◌≤◌, min, [], length, All, Contains, IfSome, IfNone, IfOk};
+ghost use Rattle.std.specs.Prelude.{◌≡◌, ◌≢◌, ◌+◌, ◌≤◌, min, [], length, All, Contains, IfSome, IfNone, IfOk};
 ghost use Rattle.std.specs.Int.{div_ceil};
 ghost use Rattle.std.specs.declared.cmp.Ordering.TheVariants.{Equal};
 ghost use Rattle.mm_order.specs.Order.{IsOrdered};
@@ -87,8 +87,8 @@ impl TTree {
         }
     }
 
-    /// An entry that fits the probe of the search, none where none does. It asks two questions a
-    /// node and five inside one, so at most 61 where the tree has at most 1,048,576 references.
+    /// An entry that fits the probe of the search, none where none does. It asks one question a
+    /// node and five inside one, so at most 33 where the tree has at most 1,048,576 references.
     #[tactic(auto, using(crate::proofs::Sizes::height_at_most_28))]
     pub fn find<O: RefOrder, P: Probe>(&self, order: &O, seek: &mut Seek<P>) -> Option<RowRef>
         requires ordered { IsOrdered (O.covers order.now) (O.cmp order.now) self.now.refs }
@@ -97,8 +97,8 @@ impl TTree {
         ensures fits { IfSome result (λ r. P.place_of seek.old.probe r ≡ Equal) }
         ensures none { IfNone result (All (λ a. P.place_of seek.old.probe a ≢ Equal) self.now.refs) }
         ensures probe { seek.new.probe ≡ seek.old.probe }
-        ensures steps { seek.new.count ≤ seek.old.count + 2 * self.now.height + 5 }
-        ensures at_most_61 { length self.now.refs ≤ 1048576 → seek.new.count ≤ seek.old.count + 61 }
+        ensures steps { seek.new.count ≤ seek.old.count + self.now.height + 5 }
+        ensures at_most_33 { length self.now.refs ≤ 1048576 → seek.new.count ≤ seek.old.count + 33 }
     {
         find_in(self.root.as_ref(), order, seek)
     }
@@ -146,7 +146,9 @@ impl OrderedRefs for TTree {
 
     #[tactic(auto, using(crate::proofs::Sizes::height_at_most_nodes, crate::proofs::Sizes::entries_at_most))]
     fn insert<O: RefOrder>(&mut self, order: &O, added: RowRef) {
-        let root = insert_into(self.root.take(), order, added, &mut self.spares);
+        let Ok(root) = insert_into(self.root.take(), order, None, added, &mut self.spares) else {
+            unreachable!()
+        };
         self.root = Some(root);
         self.len += 1;
     }

@@ -1,4 +1,4 @@
-use Rattle.std.proofs.Common.{◌≡◌, ◌≢◌, ◌-◌, [], ◌∷◌, ◌++◌, List, length, take, drop, get_or, sym, ap, ◌∙◌, subst, arith, rules}
+use Rattle.std.proofs.Common.{◌≡◌, ◌≢◌, ◌-◌, ◌<◌, [], ◌∷◌, ◌++◌, List, length, take, drop, get_or, sym, ap, ◌∙◌, subst, arith, rules}
 use Rattle.std.proofs.lemmas.Option.{get_or_from_slice_get}
 use Rattle.std.specs.List.{All, insert, remove}
 use Rattle.std.specs.declared.cmp.Ordering.TheVariants.{Less, Equal, Greater}
@@ -6,7 +6,7 @@ use Rattle.mm_value.specs.declared.row_ref.RowRef.{RowRef}
 use Rattle.mm_order.specs.Refs.{AddsInOrder}
 use Rattle.mm_order.proofs.Pairs.{All-append_left, All-append_right}
 use Rattle.ttree_node.specs.Tree.{fork, in_order}
-use Rattle.ttree.proofs.Parts.{IsOrdered-middle, adds_between, moved_least}
+use Rattle.ttree.proofs.Parts.{IsOrdered-middle, adds_between, below_last, moved_least}
 use Rattle.ttree.proofs.inserts.insert_between.Goals as goal
 
 pub place_among-at-requires-clause-ordered : goal.place_among-at-requires-clause-ordered
@@ -26,9 +26,12 @@ returns-then-len-lt16-clause-adds g c =
     let at = c.place_among-at.result in
     let before : All (λ a. cmp a c.args.added ≡ Less) (take at c.args.node.entries) = rw c.entries.ensures.value at c.place_among-at.ensures.before in
     let after : All (λ a. cmp a c.args.added ≡ Greater) (drop at c.args.node.entries) = rw c.entries.ensures.value at c.place_among-at.ensures.after in
+    let below : at < length c.args.node.entries = below_last _ _ (g.met.O.RefOrder.total c.args.order.now) c.args.node.entries
+    (IsOrdered-middle _ _ (in_order c.args.node.left) c.args.node.entries (in_order c.args.node.right) c.requires.ordered) c.requires.tree.2.filled
+    c.args.added c.requires.covered at before c.requires.not_after in
     rw c.put_entry.ensures (adds_between _ _ (g.met.O.RefOrder.total c.args.order.now) (in_order c.args.node.left) c.args.node.entries
     (in_order c.args.node.right) c.requires.ordered c.requires.tree.2.filled c.args.added c.requires.covered at c.place_among-at.ensures.above_first
-    (omega (arith, ap length c.entries.ensures.value, c.place_among-at.ensures.below_last)) before after)
+    below before after)
 
 pub returns-clause-adds : goal.returns-clause-adds
 returns-clause-adds g c =
@@ -40,9 +43,11 @@ returns-clause-adds g c =
     let least : RowRef = c.take_entry-least.result in
     let before : All (λ a. cmp a c.args.added ≡ Less) (take at entries) = rw c.entries.ensures.value at c.place_among-at.ensures.before in
     let after : All (λ a. cmp a c.args.added ≡ Greater) (drop at entries) = rw c.entries.ensures.value at c.place_among-at.ensures.after in
+    let below : at < length entries = below_last _ _ (g.met.O.RefOrder.total c.args.order.now) entries
+    (IsOrdered-middle _ _ left entries right c.requires.ordered) c.requires.tree.2.filled c.args.added c.requires.covered at before c.requires.not_after in
     let adds : AddsInOrder cmp (left ++ entries ++ right) c.args.added (left ++ insert entries at c.args.added ++ right) =
     adds_between _ _ (g.met.O.RefOrder.total c.args.order.now) left entries right c.requires.ordered c.requires.tree.2.filled c.args.added c.requires.covered
-    at c.place_among-at.ensures.above_first (omega (arith, ap length c.entries.ensures.value, c.place_among-at.ensures.below_last)) before after in
+    at c.place_among-at.ensures.above_first below before after in
     let least_is : get_or entries 0 least ≡ least = get_or_from_slice_get entries 0 least least c.take_entry-least.ensures.taken in
     let made : in_order (fork c.balance.result) ≡ left ++ least ∷ [] ++ insert (remove entries 0) (at - 1) c.args.added ++ right = search rules in
     subst (AddsInOrder cmp (left ++ entries ++ right) c.args.added)

@@ -6,5 +6,5 @@ use Rattle.ttree.proofs.tree.TTreeOrderedRefs.insert.Goals as goal
 
 pub returns-clause-ordered : goal.returns-clause-ordered
 returns-clause-ordered g c =
-    let adds : AddsInOrder (g.O.RefOrder.cmp c.args.order.now) c.args.self.now.refs c.args.added (in_order (fork c.insert_into-root.result)) = search rules in
-    IsOrdered-added _ _ c.args.self.now.refs c.args.added (in_order (fork c.insert_into-root.result)) c.requires.ordered c.requires.covered adds
+    let adds : AddsInOrder (g.O.RefOrder.cmp c.args.order.now) c.args.self.now.refs c.args.added (in_order (fork c.in-Ok.root)) = search rules in
+    IsOrdered-added _ _ c.args.self.now.refs c.args.added (in_order (fork c.in-Ok.root)) c.requires.ordered c.requires.covered adds
