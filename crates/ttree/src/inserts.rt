@@ -113,8 +113,8 @@ fn is_below<O: RefOrder>(order: &O, added: RowRef, bound: Option<RowRef>) -> boo
 /// Puts a reference at its place in a tree whose entries lie behind a bound, if there is one. `Err` with the tree as it was where the
 /// reference lies before the bound.
 ///
-/// It asks one question a node on the way down, whether the reference lies before the node's least entry. Under a node of which it does
-/// not, the greatest entry of that node is the bound. So it goes into the node that bounds it or, where none does, into the last node of
+/// It asks one question a node on the way down, whether the reference lies before the node's least entry (Lu, Ng and Tian, ADC 2000).
+/// Under a node of which it does not, the greatest entry of that node is the bound. So it goes into the node that bounds it or, where none does, into the last node of
 /// the path to it, or into a new leaf under that where it is full.
 pub(crate) fn insert_into<O: RefOrder>(
     tree: Option<Subtree>,

@@ -32,7 +32,7 @@ pub(crate) fn find_in<O: RefOrder, P: Probe>(
 }
 
 /// The last node on the way down whose first entry does not lie behind the sought place, by one question a node; none where all
-/// entries lie behind it. Where anything fits, an entry of that node does.
+/// entries lie behind it. Where anything fits, an entry of that node does (Lu, Ng and Tian, ADC 2000).
 fn bounding_node<'a, O: RefOrder, P: Probe>(
     tree: Option<&'a Subtree>,
     order: &O,

@@ -222,8 +222,8 @@ fn remove_among<O: RefOrder>(
 }
 
 /// Takes a reference out of a tree, and says whether it was there. It asks one question a node on the way down, whether the
-/// reference lies before the node's least entry. If it is held but in none of the nodes from the last one on that it does not lie
-/// before, it is in that one (Lehman and Carey, University of Wisconsin-Madison, 1985).
+/// reference lies before the node's least entry, and searches the nodes where it does not on the way back, until it is found
+/// (Lu, Ng and Tian, ADC 2000).
 pub(crate) fn remove_from<O: RefOrder>(
     tree: Option<Subtree>,
     order: &O,
