@@ -16,7 +16,7 @@ use Rattle.mm_order.specs.Refs.{AddsInOrder}
 use Rattle.std.specs.Bool.{OnTrue}
 use Rattle.std.proofs.lemmas.List.{get_or_append_left}
 use Rattle.std.proofs.lemmas.List.Elements.{Contains-append_cases}
-use Rattle.ttree.proofs.Parts.{IsOrdered-front, IsOrdered-middle, IsOrdered-back, below_all, above_all, less_from_greater, last_of}
+use Rattle.ttree.proofs.Parts.{IsOrdered-front, IsOrdered-middle, IsOrdered-back, below_all}
 use Rattle.mm_order.proofs.Pairs.{AllPairs-append_right, AllPairs-append_across}
 
 -- the last entry, taken out and put back

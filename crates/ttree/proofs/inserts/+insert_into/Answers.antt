@@ -1,6 +1,6 @@
-use Rattle.std.proofs.Common.{◌≡◌, ◌≢◌, ◌-◌, [], ◌∷◌, ◌++◌, List, length, get_or, take, drop, refl, sym, ap, ◌∙◌, subst, arith, rules}
+use Rattle.std.proofs.Common.{◌≡◌, ◌≢◌, ◌-◌, [], ◌∷◌, ◌++◌, List, length, get_or, take, drop, sym, ap, ◌∙◌, subst, arith, rules}
 use Rattle.std.proofs.lemmas.List.{get_or_default}
-use Rattle.std.specs.Prelude.{Option, Some, None, IfSome}
+use Rattle.std.specs.Prelude.{IfSome}
 use Rattle.std.specs.List.{All, insert}
 use Rattle.std.specs.declared.cmp.Ordering.{Ordering}
 use Rattle.std.specs.declared.cmp.Ordering.TheVariants.{Less, Equal, Greater}
@@ -11,7 +11,6 @@ use Rattle.mm_order.proofs.Pairs.{All-append_left, All-append_right}
 use Rattle.ttree_node.specs.Entries.{last_entry}
 use Rattle.ttree_node.specs.Tree.{Empty, fork, tree_of, in_order}
 use Rattle.ttree.specs.Balanced.{IsTTree}
-use Rattle.ttree.specs.Bound.{LiesBelow}
 use Rattle.ttree.proofs.Bound.{after_last, behind_front, last_behind, not_below}
 use Rattle.ttree.proofs.Parts.{IsOrdered-front, IsOrdered-middle, IsOrdered-back, adds_alone, adds_behind, adds_left, adds_right}
 use Rattle.ttree.proofs.inserts.+insert_into.Goals as goal

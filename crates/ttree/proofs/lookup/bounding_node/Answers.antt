@@ -1,11 +1,9 @@
-use Rattle.std.proofs.Common.{◌≡◌, ◌≢◌, ◌+◌, ◌≤◌, ◌++◌, List, [], length, refl, sym, ap, ◌∙◌, subst, arith, rules, All}
+use Rattle.std.proofs.Common.{◌≡◌, ◌≢◌, ◌+◌, ◌≤◌, ◌++◌, [], refl, sym, ap, ◌∙◌, subst, arith}
 use Rattle.std.specs.Ordering.{is_gt}
 use Rattle.std.specs.Option.{option_copied}
-use Rattle.std.specs.declared.cmp.Ordering.{Ordering}
 use Rattle.std.specs.declared.cmp.Ordering.TheVariants.{Greater}
-use Rattle.mm_order.specs.Order.{IsOrdered}
 use Rattle.ttree_node.specs.Entries.{first_entry}
-use Rattle.ttree_node.specs.Tree.{Root, fork, tree_of, in_order, height_of}
+use Rattle.ttree_node.specs.Tree.{fork, tree_of, in_order, height_of}
 use Rattle.ttree.specs.Balanced.{IsTTree}
 use Rattle.ttree.proofs.Between.{greater_from_test}
 use Rattle.ttree.proofs.Decides.{Narrows, decided, entries_of, first_covered, narrows_left, narrows_right, none_decided}
