@@ -1,5 +1,5 @@
 //! What no clause says: that ample memory is never refused. And each call once on real rows.
-ghost use Rattle.std.specs.Prelude.{◌≡◌, ◌≤◌, List, [], ◌∷◌, length, All, Contains, Some, IfSome, IfOk};
+ghost use Rattle.std.specs.Prelude.{◌≡◌, ◌≤◌, List, ◌<◌, [], ◌∷◌, length, All, Contains, Some, IfSome, IfOk};
 ghost use Rattle.mm_value.specs.declared.row_ref.RowRef.{RowRef as Ref};
 ghost use Rattle.mm_relation.specs.declared.names.Side.TheVariants as side;
 ghost use Rattle.mm_partition.specs.Places.{slot_at};
@@ -177,18 +177,18 @@ fn count_of(relation: &Relation, alloc: Global, digit: i64) -> Result<usize, All
     Ok(found.len())
 }
 
-/// How many rows there are in the order of the digits, of at most 1,000.
-fn count_by_digit(relation: &Relation, alloc: Global) -> Result<usize, AllocError>
+/// How many rows there are in the order of the digits, of at most 1,000, and how high a tree they make.
+fn size_by_digit(relation: &Relation, alloc: Global) -> Result<(usize, usize), AllocError>
     requires { IsSample relation.now }
 {
     if relation.len() > 1000 {
-        return Ok(0);
+        return Ok((0, 0));
     }
     let ordered = match relation.ordered_by(alloc, 1) {
         Ok(ordered) => ordered,
         Err(_) => relation.ordered_by(alloc, 1)?,
     };
-    Ok(ordered.len())
+    Ok((ordered.len(), ordered.height()))
 }
 
 /// The digits beside the keys below 6.
@@ -354,19 +354,36 @@ fn sample_again(alloc: Global) -> Result<Relation, AllocError>
     }
 }
 
+/// What is told where rows that should go in do not.
+const NOT_PUT: &str = "the rows are not put in";
+
+/// The table with a row for each key, none where two would have one key.
+fn sample_with(alloc: Global, keys: &[i64]) -> Result<Option<Relation>, AllocError>
+    ensures { IfOk result (λ made. IfSome made IsSample) }
+{
+    let mut relation = sample_again(alloc)?;
+    if !put(&mut relation, alloc, keys)? {
+        return Ok(None);
+    }
+    Ok(Some(relation))
+}
+
 #[test]
 fn refuses_twins(rt: HostRuntime) -> Result<(), Fail> {
     let alloc = rt.alloc();
-    let mut relation = sample_again(alloc)?;
-    assert!(rt; put(&mut relation, alloc, &[3, 1, 2])?);
-    assert_eq!(rt; relation.len(), 3);
-
+    let mut relation = sample_with(alloc, &[3, 1, 2])?.ok_or(NOT_PUT)?;
     // Two new rows of one key, and a new row with the key of an old one.
     assert!(rt; !put(&mut relation, alloc, &[5, 4, 5])?);
     assert!(rt; !put(&mut relation, alloc, &[6, 2])?);
     assert_eq!(rt; relation.len(), 3);
     assert_eq!(rt; digit_of(&relation, 5), None);
+    Ok(())
+}
 
+#[test]
+fn takes_other_keys(rt: HostRuntime) -> Result<(), Fail> {
+    let alloc = rt.alloc();
+    let mut relation = sample_with(alloc, &[3, 1, 2])?.ok_or(NOT_PUT)?;
     assert!(rt; put(&mut relation, alloc, &[])?);
     assert!(rt; put(&mut relation, alloc, &[14])?);
     assert_eq!(rt; digit_of(&relation, 14), Some(4));
@@ -385,14 +402,22 @@ fn counts(relation: &Relation, alloc: Global) -> Result<[usize; 4], AllocError>
     ])
 }
 
+/// Five keys, of which three have the digit 1.
+const FIVE: [i64; 5] = [1, 11, 22, 35, 21];
+
+#[test]
+fn fills_indexes(rt: HostRuntime) -> Result<(), Fail> {
+    let alloc = rt.alloc();
+    let relation = sample_with(alloc, &FIVE)?.ok_or(NOT_PUT)?;
+    assert_eq!(rt; counts(&relation, alloc)?, [4, 3, 1, 1]);
+    assert_eq!(rt; size_by_digit(&relation, alloc)?, (5, 1));
+    Ok(())
+}
+
 #[test]
 fn keeps_indexes(rt: HostRuntime) -> Result<(), Fail> {
     let alloc = rt.alloc();
-    let mut relation = sample_again(alloc)?;
-    assert!(rt; put(&mut relation, alloc, &[1, 11, 22, 35, 21])?);
-    assert_eq!(rt; counts(&relation, alloc)?, [4, 3, 1, 1]);
-    assert_eq!(rt; count_by_digit(&relation, alloc)?, 5);
-
+    let mut relation = sample_with(alloc, &FIVE)?.ok_or(NOT_PUT)?;
     assert!(rt; turn(&mut relation, alloc, 11, Some(15))?);
     assert!(rt; turn(&mut relation, alloc, 22, None)?);
     assert_eq!(rt; counts(&relation, alloc)?, [2, 2, 0, 2]);
@@ -411,43 +436,69 @@ fn shuffled_keys(alloc: Global) -> Result<Vec<i64>, AllocError> {
     Ok(keys)
 }
 
-#[test]
-fn builds_full_trees_over_rows(rt: HostRuntime) -> Result<(), Fail> {
-    let alloc = rt.alloc();
-    let mut relation = sample_again(alloc)?;
+/// The table with a row for each of the shuffled keys, none where they cannot be put in.
+fn thousand(alloc: Global) -> Result<Option<Relation>, AllocError>
+    ensures { IfOk result (λ made. IfSome made IsSample) }
+{
     let keys = shuffled_keys(alloc)?;
-    assert!(rt; put(&mut relation, alloc, keys.as_slice())?);
-    assert!(rt; relation.len() <= 1000);
-    let ordered = match relation.ordered_by(alloc, 1) {
-        Ok(ordered) => ordered,
-        Err(_) => relation.ordered_by(alloc, 1)?,
-    };
+    sample_with(alloc, keys.as_slice())
+}
+
+#[test]
+fn orders_rows_in_a_full_tree(rt: HostRuntime) -> Result<(), Fail> {
+    let alloc = rt.alloc();
+    let relation = thousand(alloc)?.ok_or(NOT_PUT)?;
     // 63 nodes, as many as six levels have.
-    assert_eq!(rt; ordered.len(), 1000);
-    assert_eq!(rt; ordered.height(), 6);
-    if relation.add_index(alloc, 1, IndexKind::Tree, 0).is_err() {
-        relation.add_index(alloc, 1, IndexKind::Tree, 0)?;
+    assert_eq!(rt; size_by_digit(&relation, alloc)?, (1000, 6));
+    Ok(())
+}
+
+/// Adds a TREE index, where memory is refused once at most.
+fn add_tree(relation: &mut Relation, alloc: Global, column: usize) -> Result<(), AllocError>
+    requires column { column < relation.old.width }
+    requires few { length relation.old.refs ≤ 1048576 }
+    ensures width { relation.new.width ≡ relation.old.width }
+    ensures refs { relation.new.refs ≡ relation.old.refs }
+{
+    if relation
+        .add_index(alloc, column, IndexKind::Tree, 0)
+        .is_err()
+    {
+        relation.add_index(alloc, column, IndexKind::Tree, 0)?;
     }
-    if relation.add_index(alloc, 0, IndexKind::Tree, 0).is_err() {
-        relation.add_index(alloc, 0, IndexKind::Tree, 0)?;
-    }
+    Ok(())
+}
+
+#[test]
+fn builds_trees_over_rows(rt: HostRuntime) -> Result<(), Fail> {
+    let alloc = rt.alloc();
+    let mut relation = thousand(alloc)?.ok_or(NOT_PUT)?;
+    assert!(rt; relation.len() <= 1000);
+    add_tree(&mut relation, alloc, 1)?;
+    add_tree(&mut relation, alloc, 0)?;
     assert_eq!(rt; relation.len(), 1000);
     Ok(())
+}
+
+/// Whether the row of a key has the key's digit and can be taken out.
+fn goes(relation: &mut Relation, alloc: Global, key: i64) -> Result<bool, AllocError>
+    requires { IsSample relation.old }
+    ensures { IsSample relation.new }
+{
+    if digit_of(relation, key) != Some(key % 10) {
+        return Ok(false);
+    }
+    Ok(turn(relation, alloc, key, None)? && digit_of(relation, key).is_none())
 }
 
 #[test]
 fn finds_each_of_many_rows(rt: HostRuntime) -> Result<(), Fail> {
     let alloc = rt.alloc();
-    let mut relation = sample_again(alloc)?;
-    let keys = shuffled_keys(alloc)?;
-    assert!(rt; put(&mut relation, alloc, keys.as_slice())?);
-    assert_eq!(rt; relation.len(), 1000);
+    let mut relation = thousand(alloc)?.ok_or(NOT_PUT)?;
     assert!(rt; !put(&mut relation, alloc, &[2000, 619])?);
-
+    let keys = shuffled_keys(alloc)?;
     for key in &keys {
-        assert_eq!(rt; digit_of(&relation, *key), Some(*key % 10));
-        assert!(rt; turn(&mut relation, alloc, *key, None)?);
-        assert_eq!(rt; digit_of(&relation, *key), None);
+        assert!(rt; goes(&mut relation, alloc, *key)?);
     }
     assert_eq!(rt; relation.len(), 0);
     relation.trim_spares(1);
@@ -470,34 +521,47 @@ fn try_exchanges(
     }
 }
 
+const FIRST: Exchange = Exchange {
+    one: 1,
+    other: 2,
+    gone: 3,
+    key: 5,
+    digit: 1,
+};
+
+const SECOND: Exchange = Exchange {
+    one: 2,
+    other: 5,
+    gone: 1,
+    key: 3,
+    digit: 3,
+};
+
+#[test]
+fn makes_a_command(rt: HostRuntime) -> Result<(), Fail> {
+    let alloc = rt.alloc();
+    let mut relation = sample_with(alloc, &[1, 2, 3, 4])?.ok_or(NOT_PUT)?;
+    let once = try_exchanges(&mut relation, alloc, &[FIRST])?;
+    let digits = [None, Some(2), Some(1), None, Some(4), Some(1)];
+    assert!(rt; once.is_some_and(|shown| shown.is(&digits, &[0, 2, 1, 0, 1])));
+    Ok(())
+}
+
+#[test]
+fn makes_a_command_on_top_of_another(rt: HostRuntime) -> Result<(), Fail> {
+    let alloc = rt.alloc();
+    let mut relation = sample_with(alloc, &[1, 2, 3, 4])?.ok_or(NOT_PUT)?;
+    let twice = try_exchanges(&mut relation, alloc, &[FIRST, SECOND])?;
+    let digits = [None, None, Some(1), Some(3), Some(4), Some(1)];
+    assert!(rt; twice.is_some_and(|shown| shown.is(&digits, &[0, 2, 0, 1, 1])));
+    Ok(())
+}
+
 #[test]
 fn takes_commands_back(rt: HostRuntime) -> Result<(), Fail> {
     let alloc = rt.alloc();
-    let mut relation = sample_again(alloc)?;
-    assert!(rt; put(&mut relation, alloc, &[1, 2, 3, 4])?);
-    let first = Exchange {
-        one: 1,
-        other: 2,
-        gone: 3,
-        key: 5,
-        digit: 1,
-    };
-    let second = Exchange {
-        one: 2,
-        other: 5,
-        gone: 1,
-        key: 3,
-        digit: 3,
-    };
-
-    let once = try_exchanges(&mut relation, alloc, &[first])?;
-    let digits = [None, Some(2), Some(1), None, Some(4), Some(1)];
-    assert!(rt; once.is_some_and(|shown| shown.is(&digits, &[0, 2, 1, 0, 1])));
-
-    let twice = try_exchanges(&mut relation, alloc, &[first, second])?;
-    let digits = [None, None, Some(1), Some(3), Some(4), Some(1)];
-    assert!(rt; twice.is_some_and(|shown| shown.is(&digits, &[0, 2, 0, 1, 1])));
-
+    let mut relation = sample_with(alloc, &[1, 2, 3, 4])?.ok_or(NOT_PUT)?;
+    try_exchanges(&mut relation, alloc, &[FIRST, SECOND])?;
     let back = try_exchanges(&mut relation, alloc, &[])?;
     let digits = [None, Some(1), Some(2), Some(3), Some(4), None];
     assert!(rt; back.is_some_and(|shown| shown.is(&digits, &[0, 1, 1, 1, 1])));

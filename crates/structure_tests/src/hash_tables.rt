@@ -1,6 +1,8 @@
 //! Bags of references by hash.
+use crate::references::are;
 use mlhash::HashRefs;
 use mm_value::RowRef;
+use std::alloc::{AllocError, Global};
 use std::process::Abort;
 use std::test::Fail;
 
@@ -15,33 +17,109 @@ fn insert(rt: &impl Abort, refs: &mut HashRefs, hash: u64, reference: RowRef) {
     refs.insert(hash, reference);
 }
 
-#[test]
-fn finds_and_removes(rt: HostRuntime) -> Result<(), Fail> {
-    let alloc = rt.alloc();
+/// A bag with two references of the hash 4 and one of the hash 8.
+fn of_three(rt: &impl Abort, alloc: Global) -> Result<HashRefs, AllocError> {
     let mut refs = HashRefs::new(alloc);
-    assert_eq!(rt; (refs.len(), refs.spare()), (0, 0));
     refs.reserve(alloc, 3)?;
-    insert(&rt, &mut refs, 4, slot(1));
-    insert(&rt, &mut refs, 4, slot(2));
-    insert(&rt, &mut refs, 8, slot(3));
-    assert_eq!(rt; refs.len(), 3);
+    insert(rt, &mut refs, 4, slot(1));
+    insert(rt, &mut refs, 4, slot(2));
+    insert(rt, &mut refs, 8, slot(3));
+    Ok(refs)
+}
 
+/// Whether a bag finds these references of a hash, in whatever order.
+fn finds(alloc: Global, refs: &HashRefs, hash: u64, wanted: &[RowRef]) -> Result<bool, AllocError> {
     let mut found = Vec::new(alloc);
-    refs.matches(alloc, 4, &mut found)?;
-    assert_eq!(rt; found.len(), 2);
-    assert!(rt; found.contains(&slot(1)) && found.contains(&slot(2)));
+    refs.matches(alloc, hash, &mut found)?;
+    Ok(are(&found, wanted))
+}
 
+/// Whether a bag has these references and no more.
+fn has(alloc: Global, refs: &HashRefs, wanted: &[RowRef]) -> Result<bool, AllocError> {
+    let mut found = Vec::new(alloc);
+    refs.copy_all(alloc, &mut found)?;
+    Ok(are(&found, wanted))
+}
+
+#[test]
+fn finds_by_hash(rt: HostRuntime) -> Result<(), Fail> {
+    let alloc = rt.alloc();
+    let refs = of_three(&rt, alloc)?;
+    assert_eq!(rt; refs.len(), 3);
+    assert!(rt; finds(alloc, &refs, 4, &[slot(1), slot(2)])?);
+    assert!(rt; has(alloc, &refs, &[slot(1), slot(2), slot(3)])?);
+    Ok(())
+}
+
+#[test]
+fn removes_one_of_its_hash(rt: HostRuntime) -> Result<(), Fail> {
+    let alloc = rt.alloc();
+    let mut refs = of_three(&rt, alloc)?;
     assert!(rt; refs.remove(4, slot(1)));
     assert!(rt; !refs.remove(4, slot(1)));
-    found.clear();
-    refs.matches(alloc, 4, &mut found)?;
-    assert_eq!(rt; found.as_slice(), [slot(2)].as_slice());
-
-    found.clear();
-    refs.copy_all(alloc, &mut found)?;
-    assert_eq!(rt; found.len(), 2);
-    assert!(rt; found.contains(&slot(2)) && found.contains(&slot(3)));
+    assert!(rt; finds(alloc, &refs, 4, &[slot(2)])?);
+    assert!(rt; has(alloc, &refs, &[slot(2), slot(3)])?);
     Ok(())
+}
+
+#[test]
+fn an_empty_bag_has_no_room(rt: HostRuntime) -> Result<(), Fail> {
+    let refs = HashRefs::new(rt.alloc());
+    assert_eq!(rt; (refs.len(), refs.spare()), (0, 0));
+    Ok(())
+}
+
+/// Puts 20 references into a bag, five of each of the hashes below 4. Room for one may be refused once, which changes nothing.
+fn fill(rt: &impl Abort, alloc: Global, refs: &mut HashRefs) -> Result<(), AllocError> {
+    for hash in 0..20u8 {
+        if refs.reserve(alloc, 1).is_err() {
+            assert_eq!(rt; (refs.len(), refs.spare()), (usize::from(hash), 0));
+            refs.reserve(alloc, 1)?;
+        }
+        insert(rt, refs, u64::from(hash % 4), slot(hash));
+    }
+    Ok(())
+}
+
+/// Appends the references of each hash below 4, which may be refused once and then appends nothing.
+fn append_by_hash(
+    rt: &impl Abort,
+    alloc: Global,
+    refs: &HashRefs,
+    found: &mut Vec<RowRef>,
+) -> Result<(), AllocError> {
+    for hash in 0..4u8 {
+        let before = found.len();
+        if refs.matches(alloc, u64::from(hash), found).is_err() {
+            assert_eq!(rt; found.len(), before);
+            refs.matches(alloc, u64::from(hash), found)?;
+        }
+        assert_eq!(rt; found.len(), usize::from(hash) * 5 + 5);
+    }
+    Ok(())
+}
+
+/// Appends all references, which may be refused once and then appends nothing.
+fn append_all(
+    rt: &impl Abort,
+    alloc: Global,
+    refs: &HashRefs,
+    found: &mut Vec<RowRef>,
+) -> Result<(), AllocError> {
+    let before = found.len();
+    if refs.copy_all(alloc, found).is_err() {
+        assert_eq!(rt; found.len(), before);
+        refs.copy_all(alloc, found)?;
+    }
+    Ok(())
+}
+
+/// Takes the references of `fill` out again.
+fn drain(rt: &impl Abort, refs: &mut HashRefs) {
+    for hash in 0..20u8 {
+        assert!(rt; refs.remove(u64::from(hash % 4), slot(hash)), "{hash}");
+    }
+    assert_eq!(rt; refs.len(), 0);
 }
 
 // Where the run refuses one allocation, the refused call has changed nothing, and the next one answers.
@@ -49,26 +127,10 @@ fn finds_and_removes(rt: HostRuntime) -> Result<(), Fail> {
 fn a_refused_call_can_be_given_again(rt: HostRuntime) -> Result<(), Fail> {
     let alloc = rt.alloc();
     let mut refs = HashRefs::new(alloc);
-    for hash in 0..20u8 {
-        if refs.reserve(alloc, 1).is_err() {
-            assert_eq!(rt; (refs.len(), refs.spare()), (usize::from(hash), 0));
-            refs.reserve(alloc, 1)?;
-        }
-        insert(&rt, &mut refs, u64::from(hash % 4), slot(hash));
-    }
+    fill(&rt, alloc, &mut refs)?;
     let mut found = Vec::new(alloc);
-    for hash in 0..4u8 {
-        let before = found.len();
-        if refs.matches(alloc, u64::from(hash), &mut found).is_err() {
-            assert_eq!(rt; found.len(), before);
-            refs.matches(alloc, u64::from(hash), &mut found)?;
-        }
-        assert_eq!(rt; found.len(), usize::from(hash) * 5 + 5);
-    }
-    if refs.copy_all(alloc, &mut found).is_err() {
-        assert_eq!(rt; found.len(), 20);
-        refs.copy_all(alloc, &mut found)?;
-    }
+    append_by_hash(&rt, alloc, &refs, &mut found)?;
+    append_all(&rt, alloc, &refs, &mut found)?;
     assert_eq!(rt; found.len(), 40);
     for hash in 0..20u8 {
         assert_eq!(rt;
@@ -77,9 +139,6 @@ fn a_refused_call_can_be_given_again(rt: HostRuntime) -> Result<(), Fail> {
             "{hash}"
         );
     }
-    for hash in 0..20u8 {
-        assert!(rt; refs.remove(u64::from(hash % 4), slot(hash)), "{hash}");
-    }
-    assert_eq!(rt; refs.len(), 0);
+    drain(&rt, &mut refs);
     Ok(())
 }

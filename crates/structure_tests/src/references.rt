@@ -35,3 +35,8 @@ pub fn ascending(alloc: Global, count: usize) -> Result<Vec<RowRef>, AllocError>
     }
     Ok(refs)
 }
+
+/// Whether these are the references of a list, in whatever order.
+pub fn are(found: &[RowRef], wanted: &[RowRef]) -> bool {
+    found.len() == wanted.len() && wanted.iter().all(|wanted| found.contains(wanted))
+}

@@ -70,53 +70,80 @@ fn height_follows_the_count(rt: HostRuntime) -> Result<(), Fail> {
     Ok(())
 }
 
-#[test]
-fn grows_and_shrinks(rt: HostRuntime) -> Result<(), Fail> {
-    let alloc = rt.alloc();
+/// A tree of the partitions below 2,000, of which the lower half was put in from the greatest to the least.
+fn grown(rt: &impl Abort, alloc: Global) -> Result<TTree, AllocError>
+    ensures { IfOk result (λ tree. IsByPlace tree.refs) }
+{
     let mut tree = TTree::new(alloc);
     'down: for i in 0..1000 {
-        reserve(&rt, &mut tree, alloc, 1)?;
+        reserve(rt, &mut tree, alloc, 1)?;
         tree.insert(&ByPlace, first_of(999 - i));
     }
     'up: for part in 1000..2000 {
-        reserve(&rt, &mut tree, alloc, 1)?;
+        reserve(rt, &mut tree, alloc, 1)?;
         tree.insert(&ByPlace, first_of(part));
     }
-    assert!(rt; tree.height() <= 9);
+    Ok(tree)
+}
+
+/// Asserts that a tree has so many of the partitions up to the last, and that they are those from the first on.
+fn assert_up_to(
+    rt: &impl Abort,
+    alloc: Global,
+    tree: &TTree,
+    last: usize,
+    first: usize,
+    count: usize,
+) -> Result<(), AllocError>
+    requires { IsByPlace tree.now.refs }
+{
     let mut out = Vec::new(alloc);
     tree.copy_range(
         alloc,
         &ByPlace,
         &InPartition(0),
-        &InPartition(1999),
+        &InPartition(last),
         &mut out,
     )?;
-    assert_eq!(rt; out.len(), 2000);
+    assert_eq!(rt; out.len(), count);
     for (i, held) in out.iter().enumerate() {
-        assert_eq!(rt; held.part, i);
+        assert_eq!(rt; held.part.wrapping_sub(first), i);
     }
-    'gone: for part in 0..1900 {
+    Ok(())
+}
+
+/// The partition of the entry of a partition that a tree finds, if it finds one, and how many questions it asks.
+fn found(tree: &TTree, part: usize) -> (Option<usize>, u64)
+    requires { IsByPlace tree.now.refs }
+{
+    let probe = InPartition(part);
+    let mut seek = Seek::new(&probe);
+    let found = tree.find(&ByPlace, &mut seek);
+    (found.map(|at| at.part), seek.count())
+}
+
+#[test]
+fn grows(rt: HostRuntime) -> Result<(), Fail> {
+    let tree = grown(&rt, rt.alloc())?;
+    assert_eq!(rt; tree.len(), 2000);
+    assert!(rt; tree.height() <= 9);
+    assert_up_to(&rt, rt.alloc(), &tree, 1999, 0, 2000)?;
+    Ok(())
+}
+
+#[test]
+fn shrinks(rt: HostRuntime) -> Result<(), Fail> {
+    let mut tree = grown(&rt, rt.alloc())?;
+    for part in 0..1900 {
         assert!(rt; tree.remove(&ByPlace, first_of(part)));
     }
     assert_eq!(rt; tree.len(), 100);
     assert!(rt; tree.height() <= 4);
-    let probe = InPartition(1925);
-    let mut seek = Seek::new(&probe);
-    assert_eq!(rt; tree.find(&ByPlace, &mut seek), Some(first_of(1925)));
-    assert!(rt; seek.count() <= 13);
-    assert_eq!(rt; tree.find(&ByPlace, &mut Seek::new(&InPartition(5))), None);
-    out.clear();
-    tree.copy_range(
-        alloc,
-        &ByPlace,
-        &InPartition(0),
-        &InPartition(1949),
-        &mut out,
-    )?;
-    assert_eq!(rt; out.len(), 50);
-    for (i, held) in out.iter().enumerate() {
-        assert_eq!(rt; held.part, 1900 + i);
-    }
+    let (part, questions) = found(&tree, 1925);
+    assert_eq!(rt; part, Some(1925));
+    assert!(rt; questions <= 9);
+    assert_eq!(rt; found(&tree, 5).0, None);
+    assert_up_to(&rt, rt.alloc(), &tree, 1949, 1900, 50)?;
     Ok(())
 }
 

@@ -1,9 +1,10 @@
 //! Values: hashes and prefixes from outside, and copies.
 use crate::samples::{is_equal, text};
 use mm_value::{
-    ColType, MAX_TEXT_BYTES, Row, Text, Value, hash64, order_prefix, orders_are_total,
+    ColType, MAX_TEXT_BYTES, Refusal, Row, Text, Value, hash64, order_prefix, orders_are_total,
     prefixes_keep_order,
 };
+use std::alloc::Global;
 use std::test::Fail;
 
 #[test]
@@ -65,23 +66,51 @@ fn prefixes_of_texts_have_eight_bytes(rt: HostRuntime) -> Result<(), Fail> {
     Ok(())
 }
 
+/// The longest text.
+fn longest(alloc: Global) -> Result<Text, Refusal> {
+    let bytes = [b'x'; MAX_TEXT_BYTES];
+    Text::new(alloc, &bytes)
+}
+
 #[test]
-fn copies_are_equal(rt: HostRuntime) -> Result<(), Fail> {
-    let long = [b'x'; MAX_TEXT_BYTES];
-    let text = Text::new(rt.alloc(), &long)?;
+fn a_copy_of_a_text_is_equal(rt: HostRuntime) -> Result<(), Fail> {
+    let text = longest(rt.alloc())?;
     assert_eq!(rt; text.bytes().len(), 64);
-    let value = Value::Text(text.copy(rt.alloc())?);
+    let copy = text.copy(rt.alloc())?;
+    assert_eq!(rt; copy.bytes(), text.bytes());
+    Ok(())
+}
+
+#[test]
+fn a_copy_of_a_value_is_equal(rt: HostRuntime) -> Result<(), Fail> {
+    let value = Value::Text(longest(rt.alloc())?);
     assert!(rt; value.col_type() == ColType::Text);
-    assert!(rt; is_equal(&value.copy(rt.alloc())?, &value));
-    let mut values = Vec::new(rt.alloc());
+    let copy = value.copy(rt.alloc())?;
+    assert!(rt; is_equal(&copy, &value));
+    Ok(())
+}
+
+/// The row of a number and the longest text.
+fn row_of_two(alloc: Global) -> Result<Row, Refusal> {
+    let mut values = Vec::new(alloc);
     values.push(Value::Int(7))?;
-    values.push(value)?;
-    let row = Row::new(values);
+    values.push(Value::Text(longest(alloc)?))?;
+    Ok(Row::new(values))
+}
+
+#[test]
+fn a_copy_of_a_row_is_equal(rt: HostRuntime) -> Result<(), Fail> {
+    let row = row_of_two(rt.alloc())?;
     let copy = row.copy(rt.alloc())?;
     assert_eq!(rt; copy.len(), 2);
     for (a, b) in row.values().iter().zip(copy.values()) {
         assert!(rt; is_equal(a, b));
     }
+    Ok(())
+}
+
+#[test]
+fn orders_have_their_laws(_rt: HostRuntime) -> Result<(), Fail> {
     orders_are_total();
     Ok(())
 }

@@ -1,6 +1,6 @@
 //! Bags of references by hash.
 use crate::growths::asked_again;
-use crate::references::first_of;
+use crate::references::{are, first_of};
 use mlhash::HashRefs;
 use mm_value::RowRef;
 use std::alloc::{AllocError, Global};
@@ -14,11 +14,6 @@ fn put_three(alloc: Global, refs: &mut HashRefs) -> Result<(), AllocError> {
     refs.insert(9, first_of(2));
     refs.insert(4, first_of(3));
     Ok(())
-}
-
-/// Whether these are the references of a list, in whatever order.
-fn are(found: &[RowRef], wanted: &[RowRef]) -> bool {
-    found.len() == wanted.len() && wanted.iter().all(|wanted| found.contains(wanted))
 }
 
 /// Asserts that the three references of `put_three` are in a bag, and no more.
@@ -72,6 +67,13 @@ fn hash_matches_growths(rt: HostRuntime) -> Result<(), Fail> {
     Ok(())
 }
 
+/// A full list of one reference, which has to grow for the next.
+fn full_list(alloc: Global) -> Result<Vec<RowRef>, AllocError> {
+    let mut list = Vec::with_capacity(alloc, 1)?;
+    list.push(first_of(0))?;
+    Ok(list)
+}
+
 #[test]
 fn hash_copy_growths(rt: HostRuntime) -> Result<(), Fail> {
     let alloc = rt.alloc();
@@ -79,24 +81,16 @@ fn hash_copy_growths(rt: HostRuntime) -> Result<(), Fail> {
     if put_three(alloc, &mut refs).is_err() {
         return Ok(());
     }
-    // Full, so that it has to grow.
-    let Ok(mut found) = Vec::with_capacity(alloc, 1) else {
+    let Ok(mut found) = full_list(alloc) else {
         return Ok(());
     };
-    if found.push(first_of(0)).is_err() {
-        return Ok(());
-    }
     if refs.copy_all(alloc, &mut found).is_err() {
         asked_again(&rt)?;
-        assert_eq!(rt; found.as_slice(), [first_of(0)].as_slice());
+        assert!(rt; are(&found, &[first_of(0)]));
         assert_three(&rt, alloc, &refs)?;
         refs.copy_all(alloc, &mut found)?;
     }
-    assert!(rt;
-        are(
-            &found,
-            &[first_of(0), first_of(1), first_of(2), first_of(3)]
-        )
-    );
+    let wanted = [first_of(0), first_of(1), first_of(2), first_of(3)];
+    assert!(rt; are(&found, &wanted));
     Ok(())
 }

@@ -1,6 +1,6 @@
 use Rattle.std.proofs.Common.{◌+◌, ◌<◌, ◌≤◌, All}
 use Rattle.structure_tests.specs.Orders.{IsByPlace}
-use Rattle.structure_tests.proofs.trees.grows_and_shrinks.Given as goal
+use Rattle.structure_tests.proofs.trees.grown.Given as goal
 
 -- the references from 1000 - i on are in, in order
 abbrev pub invariant-down : goal.invariant-down
@@ -16,7 +16,3 @@ invariant-up g l = record {
   ordered : IsByPlace l.tree.refs;
   earlier : All (λ a. a.part < l.part) l.tree.refs;
 }
-
--- what is left is in order
-abbrev pub invariant-gone : goal.invariant-gone
-invariant-gone g l = IsByPlace l.tree.refs

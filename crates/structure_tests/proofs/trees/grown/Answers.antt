@@ -1,7 +1,7 @@
 use Rattle.std.proofs.Common.{◌+◌, ◌<◌, ◌≤◌, All, List, sym, subst, arith}
 use Rattle.mm_value.specs.declared.row_ref.RowRef.{RowRef}
 use Rattle.mm_order.proofs.Ordered.{All-added}
-use Rattle.structure_tests.proofs.trees.grows_and_shrinks.Goals as goal
+use Rattle.structure_tests.proofs.trees.grown.Goals as goal
 
 pub down-preserved : goal.down-preserved
 down-preserved g c =
