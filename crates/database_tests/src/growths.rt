@@ -7,8 +7,11 @@ use crate::samples::{
     bound_query, catalog, change, index, query, reading, rows, sizes_of_bound, table, text_of_rows,
 };
 use crate::steps::{ask_each, give_each, granted, read_each, roll_back, tell_refused};
-use mm_query::{FieldPlace, PlainRows, bind_change, bind_query, plain_eval};
+use mm_query::{
+    BoundQuery, FieldPlace, PlainRows, Query, RowList, bind_change, bind_query, plain_eval,
+};
 use mm_schema::{Catalog, Name};
+use std::process::Abort;
 use std::test::Fail;
 
 /// Tables of which the first is referred to.
@@ -58,93 +61,142 @@ pub const FIRST_EMP: &str = "(11, 'bob')\nrows 1\n('sales', 'ann')\n('stock', 'b
 pub const MOVED_EMP: &str =
     "(10, 'ann of the second floor')\n(11, 'bob')\nrows 2\n('stock', 'ann of the second floor')\n('stock', 'bob')\nrows 2\n";
 
+/// Adds a table, again where memory is refused, and looks at its place. Whether that came so far: not where memory was refused in front
+/// of the call.
+fn add_table_again(
+    rt: &(impl Abort + AllocGlobal + Print),
+    catalog: &mut Catalog,
+    line: &str,
+    place: usize,
+) -> Result<bool, Fail> {
+    let Some(added) = granted(rt, table(rt.alloc(), line)) else {
+        return Ok(false);
+    };
+    let name = added.name.copy();
+    if let Err(refusal) = catalog.add_table(added) {
+        tell_refused(rt, refusal)?;
+        assert_eq!(rt; catalog.tables().len(), place);
+        assert!(rt; catalog.find_table(&name).is_none());
+        catalog.add_table(table(rt.alloc(), line)?)?;
+    }
+    assert_eq!(rt; catalog.place_of(&name), Some(place));
+    Ok(true)
+}
+
 #[test]
 fn catalog_table_growths(rt: HostRuntime) -> Result<(), Fail> {
-    let alloc = rt.alloc();
-    let mut catalog = Catalog::new(alloc);
-    for (count, line) in TABLES.iter().enumerate() {
-        let Some(added) = granted(&rt, table(alloc, line)) else {
+    let mut catalog = Catalog::new(rt.alloc());
+    for (place, line) in TABLES.iter().enumerate() {
+        if !add_table_again(&rt, &mut catalog, line, place)? {
             return Ok(());
-        };
-        let name = added.name.copy();
-        if let Err(refusal) = catalog.add_table(added) {
-            tell_refused(&rt, refusal)?;
-            assert_eq!(rt; catalog.tables().len(), count);
-            assert!(rt; catalog.find_table(&name).is_none());
-            catalog.add_table(table(alloc, line)?)?;
         }
-        assert_eq!(rt; catalog.place_of(&name), Some(count));
     }
+    Ok(())
+}
+
+/// Adds an index, again where memory is refused, and looks at the table that has it.
+fn add_index_again(
+    rt: &(impl Abort + Print),
+    catalog: &mut Catalog,
+    name: &Name,
+) -> Result<(), Fail> {
+    if let Err(refusal) = catalog.add_index(index(name).ok_or(NO_NAME)?) {
+        tell_refused(rt, refusal)?;
+        assert!(rt; catalog.find_index(name).is_none());
+        catalog.add_index(index(name).ok_or(NO_NAME)?)?;
+    }
+    assert_eq!(rt; catalog.place_with_index(name), Some(0));
     Ok(())
 }
 
 #[test]
 fn catalog_index_growths(rt: HostRuntime) -> Result<(), Fail> {
-    let alloc = rt.alloc();
-    let Some(mut catalog) = granted(&rt, catalog(alloc, &TABLES)) else {
+    let Some(mut catalog) = granted(&rt, catalog(rt.alloc(), &TABLES)) else {
         return Ok(());
     };
     for bytes in NAMES {
         let name = Name::new(bytes).ok_or(NO_NAME)?;
-        if let Err(refusal) = catalog.add_index(index(&name).ok_or(NO_NAME)?) {
-            tell_refused(&rt, refusal)?;
-            assert!(rt; catalog.find_index(&name).is_none());
-            catalog.add_index(index(&name).ok_or(NO_NAME)?)?;
-        }
-        assert_eq!(rt; catalog.place_with_index(&name), Some(0));
+        add_index_again(&rt, &mut catalog, &name)?;
     }
     Ok(())
+}
+
+/// Adds a standing query over a table, again where memory is refused, and looks at its place. Whether that came so far: not where
+/// memory was refused in front of the call.
+fn add_standing_again(
+    rt: &(impl Abort + AllocGlobal + Print),
+    catalog: &mut Catalog,
+    name: &Name,
+    place: usize,
+) -> Result<bool, Fail> {
+    let Ok(tables) = reading(rt.alloc(), catalog, name) else {
+        return Ok(false);
+    };
+    if let Err(refusal) = catalog.add_standing(name.copy(), tables) {
+        tell_refused(rt, refusal)?;
+        assert_eq!(rt; catalog.standing().len(), place);
+        let tables = reading(rt.alloc(), catalog, name)?;
+        catalog.add_standing(name.copy(), tables)?;
+    }
+    assert_eq!(rt; catalog.standing_place_of(name), Some(place));
+    Ok(true)
 }
 
 #[test]
 fn catalog_standing_growths(rt: HostRuntime) -> Result<(), Fail> {
-    let alloc = rt.alloc();
-    let Some(mut catalog) = granted(&rt, catalog(alloc, &TABLES)) else {
+    let Some(mut catalog) = granted(&rt, catalog(rt.alloc(), &TABLES)) else {
         return Ok(());
     };
-    for (count, bytes) in NAMES.iter().enumerate() {
+    for (place, bytes) in NAMES.iter().enumerate() {
         let name = Name::new(bytes).ok_or(NO_NAME)?;
-        let Ok(tables) = reading(alloc, &catalog, &name) else {
+        if !add_standing_again(&rt, &mut catalog, &name, place)? {
             return Ok(());
-        };
-        if let Err(refusal) = catalog.add_standing(name.copy(), tables) {
-            tell_refused(&rt, refusal)?;
-            assert_eq!(rt; catalog.standing().len(), count);
-            let tables = reading(alloc, &catalog, &name)?;
-            catalog.add_standing(name.copy(), tables)?;
         }
-        assert_eq!(rt; catalog.standing_place_of(&name), Some(count));
     }
     Ok(())
 }
 
-#[test]
-fn bind_query_growths(rt: HostRuntime) -> Result<(), Fail> {
-    let alloc = rt.alloc();
-    let Some(catalog) = granted(&rt, catalog(alloc, &TABLES)) else {
-        return Ok(());
-    };
-    let line =
-        "SELECT b.s, a.id FROM a a, b b WHERE a.id = b.r AND b.s = 'of eighteen bytes.' ORDER 2, 1";
-    let Some(query) = granted(&rt, query(alloc, line)) else {
-        return Ok(());
-    };
-    let bound = match bind_query(alloc, &catalog, &query) {
-        Ok(bound) => bound,
-        Err(refusal) => {
-            tell_refused(&rt, refusal)?;
-            bind_query(alloc, &catalog, &query)?
-        }
-    };
-    let text = FieldPlace {
+/// A query of all clauses but DISTINCT.
+const QUERY: &str =
+    "SELECT b.s, a.id FROM a a, b b WHERE a.id = b.r AND b.s = 'of eighteen bytes.' ORDER 2, 1";
+
+/// The fields of that query.
+const FIELDS: [FieldPlace; 2] = [
+    FieldPlace {
         place: 1,
         column: 2,
-    };
-    let id = FieldPlace {
+    },
+    FieldPlace {
         place: 0,
         column: 0,
+    },
+];
+
+/// Binds a query, again where memory is refused.
+fn bind_query_again(
+    rt: &(impl Abort + AllocGlobal + Print),
+    catalog: &Catalog,
+    query: &Query,
+) -> Result<BoundQuery, Fail> {
+    match bind_query(rt.alloc(), catalog, query) {
+        Ok(bound) => Ok(bound),
+        Err(refusal) => {
+            tell_refused(rt, refusal)?;
+            Ok(bind_query(rt.alloc(), catalog, query)?)
+        }
+    }
+}
+
+#[test]
+fn bind_query_growths(rt: HostRuntime) -> Result<(), Fail> {
+    let Some(catalog) = granted(&rt, catalog(rt.alloc(), &TABLES)) else {
+        return Ok(());
     };
-    assert_eq!(rt; bound.fields.as_slice(), [text, id].as_slice());
+    let Some(query) = granted(&rt, query(rt.alloc(), QUERY)) else {
+        return Ok(());
+    };
+    let bound = bind_query_again(&rt, &catalog, &query)?;
+    assert_eq!(rt; bound.fields.as_slice(), FIELDS.as_slice());
     assert_eq!(rt; bound.order.as_slice(), [1, 0].as_slice());
     assert_eq!(rt;
         [bound.from.as_slice().len(), bound.atoms.as_slice().len()],
@@ -153,10 +205,32 @@ fn bind_query_growths(rt: HostRuntime) -> Result<(), Fail> {
     Ok(())
 }
 
+/// Binds a change, again where memory is refused, and looks at the sizes of its lists. Whether that came so far: not where memory was
+/// refused in front of the call.
+fn bind_again(
+    rt: &(impl Abort + AllocGlobal + Print),
+    catalog: &Catalog,
+    line: &str,
+    expected: [usize; 3],
+) -> Result<bool, Fail> {
+    let alloc = rt.alloc();
+    let Some(mutation) = granted(rt, change(alloc, line)) else {
+        return Ok(false);
+    };
+    let bound = match bind_change(alloc, catalog, mutation) {
+        Ok(bound) => bound,
+        Err(refusal) => {
+            tell_refused(rt, refusal)?;
+            bind_change(alloc, catalog, change(alloc, line)?)?
+        }
+    };
+    assert_eq!(rt; sizes_of_bound(&bound), expected);
+    Ok(true)
+}
+
 #[test]
 fn bind_change_growths(rt: HostRuntime) -> Result<(), Fail> {
-    let alloc = rt.alloc();
-    let Some(catalog) = granted(&rt, catalog(alloc, &TABLES)) else {
+    let Some(catalog) = granted(&rt, catalog(rt.alloc(), &TABLES)) else {
         return Ok(());
     };
     for (line, expected) in [
@@ -170,50 +244,59 @@ fn bind_change_growths(rt: HostRuntime) -> Result<(), Fail> {
         ),
         ("INSERT a (7)", [0, 1, 0]),
     ] {
-        let Some(mutation) = granted(&rt, change(alloc, line)) else {
+        if !bind_again(&rt, &catalog, line, expected)? {
             return Ok(());
-        };
-        let bound = match bind_change(alloc, &catalog, mutation) {
-            Ok(bound) => bound,
-            Err(refusal) => {
-                tell_refused(&rt, refusal)?;
-                bind_change(alloc, &catalog, change(alloc, line)?)?
-            }
-        };
-        assert_eq!(rt; sizes_of_bound(&bound), expected);
+        }
+    }
+    Ok(())
+}
+
+/// Adds the same rows twice, again where memory is refused.
+fn add_twice<'a>(
+    rt: &(impl Abort + Print),
+    lists: &mut PlainRows<'a>,
+    tuples: &'a RowList,
+) -> Result<(), Fail> {
+    for _ in 0..2 {
+        if let Err(refusal) = lists.add(tuples.as_slice()) {
+            tell_refused(rt, refusal)?;
+            lists.add(tuples.as_slice())?;
+        }
+    }
+    Ok(())
+}
+
+/// Evaluates a query, again where memory is refused, and looks at its rows.
+fn eval_again(
+    rt: &(impl Abort + AllocGlobal + Print),
+    bound: &BoundQuery,
+    lists: &PlainRows,
+) -> Result<(), Fail> {
+    let found = match plain_eval(rt.alloc(), bound, lists) {
+        Ok(found) => found,
+        Err(refusal) => {
+            tell_refused(rt, refusal)?;
+            plain_eval(rt.alloc(), bound, lists)?
+        }
+    };
+    if let Some(told) = granted(rt, text_of_rows(rt.alloc(), &found)) {
+        let expected = b"(1, 3)\n(2, 4)\n(3, 5)\nrows 3\n";
+        assert_eq!(rt; told.as_slice(), expected.as_slice());
     }
     Ok(())
 }
 
 #[test]
 fn plain_eval_growths(rt: HostRuntime) -> Result<(), Fail> {
-    let alloc = rt.alloc();
-    let Some(bound) = granted(&rt, bound_query(alloc)) else {
+    let Some(bound) = granted(&rt, bound_query(rt.alloc())) else {
         return Ok(());
     };
-    let Some(tuples) = granted(&rt, rows(alloc, "INSERT a (1), (2), (3), (4), (5)")) else {
+    let Some(tuples) = granted(&rt, rows(rt.alloc(), "INSERT a (1), (2), (3), (4), (5)")) else {
         return Ok(());
     };
-    let mut lists = PlainRows::new(alloc);
-    for _ in 0..2 {
-        if let Err(refusal) = lists.add(tuples.as_slice()) {
-            tell_refused(&rt, refusal)?;
-            lists.add(tuples.as_slice())?;
-        }
-    }
-    let found = match plain_eval(alloc, &bound, &lists) {
-        Ok(found) => found,
-        Err(refusal) => {
-            tell_refused(&rt, refusal)?;
-            plain_eval(alloc, &bound, &lists)?
-        }
-    };
-    let Some(told) = granted(&rt, text_of_rows(alloc, &found)) else {
-        return Ok(());
-    };
-    let expected = b"(1, 3)\n(2, 4)\n(3, 5)\nrows 3\n";
-    assert_eq!(rt; told.as_slice(), expected.as_slice());
-    Ok(())
+    let mut lists = PlainRows::new(rt.alloc());
+    add_twice(&rt, &mut lists, &tuples)?;
+    eval_again(&rt, &bound, &lists)
 }
 
 #[test]

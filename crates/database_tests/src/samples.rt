@@ -176,14 +176,19 @@ pub fn ask<'s>(
     }
 }
 
+/// Writes what a database answers to a question behind what was told.
+fn tell(alloc: Global, database: &Db, question: &str, told: &mut Vec<u8>) -> Result<(), Refusal> {
+    let zero = Value::Int(0);
+    let question = command(alloc, question)?;
+    let answer = ask(alloc, database, &question, &zero)?;
+    write(&answer, told)
+}
+
 /// What a database answers to these questions, one behind the other.
 pub fn told(alloc: Global, database: &Db, questions: &[&str]) -> Result<Vec<u8>, Refusal> {
     let mut told = Vec::new(alloc);
     for question in questions {
-        let zero = Value::Int(0);
-        let question = command(alloc, question)?;
-        let answer = ask(alloc, database, &question, &zero)?;
-        write(&answer, &mut told)?;
+        tell(alloc, database, question, &mut told)?;
     }
     Ok(told)
 }

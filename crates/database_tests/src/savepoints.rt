@@ -3,7 +3,9 @@ use crate::growths::{FILLED, FIRST_EMP, MOVED_EMP, NAMES, NO_NAME, OF_EMP};
 use crate::samples::opened;
 use crate::steps::{give_each, granted, roll_back, tell_refused};
 use mm_schema::Name;
+use mm_txn::Db;
 use mm_value::Refusal;
+use std::process::Abort;
 use std::test::Fail;
 
 /// The plan of a question, and its answer.
@@ -12,20 +14,26 @@ const PLAN_AND_ANSWER: [&str; 2] = [
     "SELECT e.id FROM emp e WHERE e.name = 'bob'",
 ];
 
+/// Makes a savepoint, again where memory is refused, and goes back to it.
+fn save_again(rt: &(impl Abort + Print), database: &mut Db, name: &Name) -> Result<(), Fail> {
+    if let Err(refusal) = database.savepoint(name.copy()) {
+        tell_refused(rt, refusal)?;
+        assert!(rt; matches!(database.rollback_to(name), Err(Refusal::NoSuchSavepoint)));
+        database.savepoint(name.copy())?;
+    }
+    database.rollback_to(name)?;
+    Ok(())
+}
+
 #[test]
 fn savepoint_growths(rt: HostRuntime) -> Result<(), Fail> {
-    let alloc = rt.alloc();
-    let Some(mut database) = granted(&rt, opened(alloc, &FILLED, &["BEGIN", "DELETE emp"])) else {
+    let inside = ["BEGIN", "DELETE emp"];
+    let Some(mut database) = granted(&rt, opened(rt.alloc(), &FILLED, &inside)) else {
         return Ok(());
     };
     for bytes in NAMES {
         let name = Name::new(bytes).ok_or(NO_NAME)?;
-        if let Err(refusal) = database.savepoint(name.copy()) {
-            tell_refused(&rt, refusal)?;
-            assert!(rt; matches!(database.rollback_to(&name), Err(Refusal::NoSuchSavepoint)));
-            database.savepoint(name.copy())?;
-        }
-        database.rollback_to(&name)?;
+        save_again(&rt, &mut database, &name)?;
     }
     Ok(())
 }

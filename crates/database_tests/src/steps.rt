@@ -71,30 +71,39 @@ pub fn give_again(
 }
 
 /// Looks at what a database tells, unless memory is refused to that.
-fn look(rt: &(impl Abort + AllocGlobal), database: &Db, questions: &[&str], expected: &str) {
+pub fn look(rt: &(impl Abort + AllocGlobal), database: &Db, questions: &[&str], expected: &str) {
     if let Some(told) = granted(rt, told(rt.alloc(), database, questions)) {
         assert_eq!(rt; told.as_slice(), expected.as_bytes());
     }
 }
 
-/// Gives lines to the database that others have made, each once more where memory is refused to it, and looks at what the database
-/// tells behind each of them.
+/// Gives lines to a database, each once more where memory is refused to it, and looks at what the database tells behind each of them.
+fn give_all_again(
+    rt: &(impl Abort + AllocGlobal + Print),
+    database: &mut Db,
+    questions: &[&str],
+    lines: &[(&str, &str)],
+) -> Result<(), Fail> {
+    for (line, expected) in lines {
+        if !give_again(rt, database, line, questions)? {
+            return Ok(());
+        }
+        look(rt, database, questions, expected);
+    }
+    Ok(())
+}
+
+/// The same with the database that other lines have made.
 pub fn give_each(
     rt: &(impl Abort + AllocGlobal + Print),
     made_by: &[&str],
     questions: &[&str],
     lines: &[(&str, &str)],
 ) -> Result<(), Fail> {
-    let Some(mut database) = granted(rt, database(rt.alloc(), made_by)) else {
-        return Ok(());
-    };
-    for (line, expected) in lines {
-        if !give_again(rt, &mut database, line, questions)? {
-            return Ok(());
-        }
-        look(rt, &database, questions, expected);
+    match granted(rt, database(rt.alloc(), made_by)) {
+        Some(mut database) => give_all_again(rt, &mut database, questions, lines),
+        None => Ok(()),
     }
-    Ok(())
 }
 
 /// Gives a line to a database, which is refused where memory is. Whether that came so far: not where memory was refused in front of
@@ -113,8 +122,25 @@ fn give_once(
     Ok(true)
 }
 
-/// Opens a transaction by lines behind those that make a database, gives it one more line, which is refused where memory is, and
-/// rolls back by `back` in either case; then it looks at what the database tells.
+/// Gives a database one more line, which is refused where memory is, and rolls back by `back` in either case; then it looks at what
+/// the database tells.
+fn give_and_roll_back(
+    rt: &(impl Abort + AllocGlobal + Print),
+    database: &mut Db,
+    line: &str,
+    back: &str,
+    questions: &[&str],
+    expected: &str,
+) -> Result<(), Fail> {
+    if give_once(rt, database, line)? {
+        let back = command(rt.alloc(), back)?;
+        give(rt.alloc(), database, back)?;
+        look(rt, database, questions, expected);
+    }
+    Ok(())
+}
+
+/// The same with the database that lines have made, in a transaction that others have opened.
 pub fn roll_back(
     rt: &(impl Abort + AllocGlobal + Print),
     made_by: &[&str],
@@ -124,15 +150,12 @@ pub fn roll_back(
     questions: &[&str],
     expected: &str,
 ) -> Result<(), Fail> {
-    let Some(mut database) = granted(rt, opened(rt.alloc(), made_by, inside)) else {
-        return Ok(());
-    };
-    if give_once(rt, &mut database, line)? {
-        let back = command(rt.alloc(), back)?;
-        give(rt.alloc(), &mut database, back)?;
-        look(rt, &database, questions, expected);
+    match granted(rt, opened(rt.alloc(), made_by, inside)) {
+        Some(mut database) => {
+            give_and_roll_back(rt, &mut database, line, back, questions, expected)
+        }
+        None => Ok(()),
     }
-    Ok(())
 }
 
 /// Asks a question, and once more where memory is refused.

@@ -83,18 +83,7 @@ pub fn with_keys<'a>(
     ensures refs { IfOk result (λ found. map (λ row. row.at) found.items ≡ refs.now) }
     ensures keys { IfOk result (λ found. All (HasKey relation.entry.now) found.items) }
 {
-    relation.is_kept();
-    let key = relation.key();
-    let mut found = Vec::new(alloc);
-    for at in refs {
-        let at = *at;
-        let row = relation.row(at);
-        found.push(Keyed {
-            key: row.value(key),
-            at,
-        })?;
-    }
-    Ok(found)
+    meeting(alloc, relation, refs, &[])
 }
 
 /// Puts rows in the order of their keys. It takes no memory and O(m log m) comparisons for m rows, and m where they are in

@@ -228,28 +228,58 @@ fn removes_the_rows_that_meet_tests(rt: HostRuntime) -> Result<(), Fail> {
     Ok(())
 }
 
-#[test]
-fn finds_rows_along_a_tree(rt: HostRuntime) -> Result<(), Fail> {
-    let alloc = rt.alloc();
-    let mut relation = three_indexed(alloc, IndexKind::Tree)?;
-    let tests = [
+/// The tests that a second value lies below 30 and at 20 or above.
+fn from_20_below_30() -> [Atom<usize>; 2]
+    ensures { TestsWithin 2 result }
+{
+    [
         number_is(Comparison::Less, 30),
         number_is(Comparison::GreaterOrEqual, 20),
-    ];
+    ]
+}
+
+#[test]
+fn finds_both_ends_of_a_range(rt: HostRuntime) -> Result<(), Fail> {
+    let relation = three_indexed(rt.alloc(), IndexKind::Tree)?;
+    let tests = from_20_below_30();
     let both_ends = match path_for(&relation, &tests) {
         Some(Path::Tree { index: 0, ends }) => ends.low.is_some() && ends.high.is_some(),
         _ => false,
     };
     assert!(rt; both_ends);
+    Ok(())
+}
+
+#[test]
+fn finds_rows_along_a_tree(rt: HostRuntime) -> Result<(), Fail> {
+    let alloc = rt.alloc();
+    let mut relation = three_indexed(alloc, IndexKind::Tree)?;
+    let tests = from_20_below_30();
     assert_eq!(rt; shift(&mut relation, alloc, 50, &tests), Ok(true));
     assert_eq!(rt; numbers(&relation), [Some(10), Some(70), Some(30)]);
     // Along the tree the row of the key 3 now comes before that of the key 2.
     let above = number_is(Comparison::Greater, 10);
     assert_eq!(rt; shift(&mut relation, alloc, 1, &[above]), Ok(true));
     assert_eq!(rt; numbers(&relation), [Some(10), Some(71), Some(31)]);
-    let same = number_is(Comparison::Equal, 71);
+    Ok(())
+}
+
+#[test]
+fn removes_a_row_that_is_found_along_a_tree(rt: HostRuntime) -> Result<(), Fail> {
+    let alloc = rt.alloc();
+    let mut relation = three_indexed(alloc, IndexKind::Tree)?;
+    let same = number_is(Comparison::Equal, 20);
     assert!(rt; take(&mut relation, alloc, &[same])?);
-    assert_eq!(rt; numbers(&relation), [Some(10), None, Some(31)]);
+    assert_eq!(rt; numbers(&relation), [Some(10), None, Some(30)]);
+    Ok(())
+}
+
+#[test]
+fn a_hash_index_serves_a_value(rt: HostRuntime) -> Result<(), Fail> {
+    let relation = three_indexed(rt.alloc(), IndexKind::Hash)?;
+    let tests = [at_least(2), number_is(Comparison::Equal, 10)];
+    let path = path_for(&relation, &tests);
+    assert!(rt; matches!(path, Some(Path::Hash { index: 0, .. })));
     Ok(())
 }
 
@@ -260,13 +290,18 @@ fn finds_rows_by_their_hashes(rt: HostRuntime) -> Result<(), Fail> {
     assert_eq!(rt; shift(&mut relation, alloc, -10, &[at_least(2)]), Ok(true));
     assert_eq!(rt; numbers(&relation), [Some(10), Some(10), Some(20)]);
     let tests = [at_least(2), number_is(Comparison::Equal, 10)];
-    let path = path_for(&relation, &tests);
-    assert!(rt; matches!(path, Some(Path::Hash { index: 0, .. })));
     assert_eq!(rt; shift(&mut relation, alloc, 5, &tests), Ok(true));
     assert_eq!(rt; numbers(&relation), [Some(10), Some(15), Some(20)]);
+    Ok(())
+}
+
+#[test]
+fn removes_no_row_of_another_hash(rt: HostRuntime) -> Result<(), Fail> {
+    let alloc = rt.alloc();
+    let mut relation = three_indexed(alloc, IndexKind::Hash)?;
     let twelve = number_is(Comparison::Equal, 12);
     assert!(rt; take(&mut relation, alloc, &[twelve])?);
-    assert_eq!(rt; numbers(&relation), [Some(10), Some(15), Some(20)]);
+    assert_eq!(rt; numbers(&relation), [Some(10), Some(20), Some(30)]);
     Ok(())
 }
 

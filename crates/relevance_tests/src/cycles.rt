@@ -6,11 +6,17 @@ use mm_value::{Refusal, Row, Value};
 use std::alloc::Global;
 use std::test::Fail;
 
-/// The names of the edges of the cycle of a row at the first place, and none where it has no cycle.
-fn edges(alloc: Global, query: &BoundQuery, row: &Row) -> Result<Vec<CycleEdge>, Fail> {
-    match irrelevant(alloc, query, 0, row)? {
-        Some(cycle) => Ok(cycle.edges),
-        None => Ok(Vec::new(alloc)),
+/// Whether the cycle of a row of this value at the first place has just these edges. Of no edges, whether there is no cycle.
+fn has_edges(
+    alloc: Global,
+    query: &BoundQuery,
+    value: Value,
+    wanted: &[CycleEdge],
+) -> Result<bool, Refusal> {
+    let row = row(alloc, 1, value)?;
+    match irrelevant(alloc, query, 0, &row)? {
+        Some(cycle) => Ok(!wanted.is_empty() && cycle.edges.as_slice() == wanted),
+        None => Ok(wanted.is_empty()),
     }
 }
 
@@ -18,13 +24,34 @@ fn edges(alloc: Global, query: &BoundQuery, row: &Row) -> Result<Vec<CycleEdge>,
 fn no_value_lies_between_4_and_5(rt: HostRuntime) -> Result<(), Fail> {
     let alloc = rt.alloc();
     let query = between(alloc)?;
+    assert!(rt; has_edges(alloc, &query, Value::Int(4), &[lower(0), lower(1)])?);
+    assert!(rt; has_edges(alloc, &query, Value::Int(3), &[])?);
+    Ok(())
+}
+
+/// Whether the cycle of one row is accepted for it and for another row.
+fn is_accepted(
+    alloc: Global,
+    query: &BoundQuery,
+    row: &Row,
+    other: &Row,
+) -> Result<(bool, bool), Refusal> {
+    match irrelevant(alloc, query, 0, row)? {
+        Some(cycle) => Ok((
+            check_cycle(query, 0, row, &cycle),
+            check_cycle(query, 0, other, &cycle),
+        )),
+        None => Ok((false, false)),
+    }
+}
+
+#[test]
+fn a_cycle_is_accepted_for_its_row_alone(rt: HostRuntime) -> Result<(), Fail> {
+    let alloc = rt.alloc();
+    let query = between(alloc)?;
     let far = row(alloc, 1, Value::Int(4))?;
     let near = row(alloc, 2, Value::Int(3))?;
-    let cycle = irrelevant(alloc, &query, 0, &far)?.ok_or("no cycle")?;
-    assert_eq!(rt; cycle.edges.as_slice(), [lower(0), lower(1)].as_slice());
-    assert!(rt; check_cycle(&query, 0, &far, &cycle));
-    assert!(rt; !check_cycle(&query, 0, &near, &cycle));
-    assert!(rt; edges(alloc, &query, &near)?.is_empty());
+    assert_eq!(rt; is_accepted(alloc, &query, &far, &near)?, (true, false));
     Ok(())
 }
 
@@ -32,24 +59,24 @@ fn no_value_lies_between_4_and_5(rt: HostRuntime) -> Result<(), Fail> {
 fn no_row_fits_a_query_that_nothing_fits(rt: HostRuntime) -> Result<(), Fail> {
     let alloc = rt.alloc();
     let query = never(alloc)?;
-    let found = edges(alloc, &query, &row(alloc, 1, Value::Int(4))?)?;
-    assert_eq!(rt; found.as_slice(), [lower(0), lower(1)].as_slice());
+    assert!(rt; has_edges(alloc, &query, Value::Int(4), &[lower(0), lower(1)])?);
     Ok(())
+}
+
+/// `a.v < 5`
+fn below_5(alloc: Global) -> Result<BoundQuery, Refusal> {
+    let five = Operand::Literal(Value::Int(5));
+    let mut atoms = Vec::new(alloc);
+    atoms.push(atom(field(0, 1), Comparison::Less, five))?;
+    query(alloc, 2, atoms)
 }
 
 #[test]
 fn a_constant_is_compared_with_the_row(rt: HostRuntime) -> Result<(), Fail> {
     let alloc = rt.alloc();
-    let mut atoms = Vec::new(alloc);
-    atoms.push(atom(
-        field(0, 1),
-        Comparison::Less,
-        Operand::Literal(Value::Int(5)),
-    ))?;
-    let query = query(alloc, 2, atoms)?;
-    let found = edges(alloc, &query, &row(alloc, 1, Value::Int(7))?)?;
-    assert_eq!(rt; found.as_slice(), [lower(0)].as_slice());
-    assert!(rt; edges(alloc, &query, &row(alloc, 1, Value::Int(4))?)?.is_empty());
+    let query = below_5(alloc)?;
+    assert!(rt; has_edges(alloc, &query, Value::Int(7), &[lower(0)])?);
+    assert!(rt; has_edges(alloc, &query, Value::Int(4), &[])?);
     Ok(())
 }
 
@@ -57,9 +84,8 @@ fn a_constant_is_compared_with_the_row(rt: HostRuntime) -> Result<(), Fail> {
 fn a_text_is_compared_with_the_row(rt: HostRuntime) -> Result<(), Fail> {
     let alloc = rt.alloc();
     let query = is_ann(alloc)?;
-    let found = edges(alloc, &query, &row(alloc, 1, text(alloc, b"bob")?)?)?;
-    assert_eq!(rt; found.as_slice(), [lower(0)].as_slice());
-    assert!(rt; edges(alloc, &query, &row(alloc, 1, text(alloc, b"ann")?)?)?.is_empty());
+    assert!(rt; has_edges(alloc, &query, text(alloc, b"bob")?, &[lower(0)])?);
+    assert!(rt; has_edges(alloc, &query, text(alloc, b"ann")?, &[])?);
     Ok(())
 }
 
@@ -75,18 +101,23 @@ fn ring(alloc: Global, back: i64) -> Result<BoundQuery, Refusal> {
     query(alloc, 2, atoms)
 }
 
+/// How many edges the accepted cycle of a row of this number has in such a ring, none where there is none.
+fn edges_in_ring(alloc: Global, back: i64, number: i64) -> Result<Option<usize>, Refusal> {
+    let query = ring(alloc, back)?;
+    let row = row(alloc, 1, Value::Int(number))?;
+    match irrelevant(alloc, &query, 0, &row)? {
+        Some(cycle) if check_cycle(&query, 0, &row, &cycle) => Ok(Some(cycle.edges.len())),
+        _ => Ok(None),
+    }
+}
+
 #[test]
 fn a_ring_of_sixteen_equalities_holds_where_its_numbers_come_back(
     rt: HostRuntime,
 ) -> Result<(), Fail> {
     let alloc = rt.alloc();
-    let row = row(alloc, 1, Value::Int(4))?;
-    assert!(rt; edges(alloc, &ring(alloc, -15)?, &row)?.is_empty());
-    for back in [-16, -14] {
-        let query = ring(alloc, back)?;
-        let cycle = irrelevant(alloc, &query, 0, &row)?.ok_or("no cycle")?;
-        assert_eq!(rt; cycle.edges.len(), 16);
-        assert!(rt; check_cycle(&query, 0, &row, &cycle));
-    }
+    assert_eq!(rt; edges_in_ring(alloc, -16, 4)?, Some(16));
+    assert_eq!(rt; edges_in_ring(alloc, -15, 4)?, None);
+    assert_eq!(rt; edges_in_ring(alloc, -14, 4)?, Some(16));
     Ok(())
 }

@@ -100,24 +100,6 @@ impl Case {
         )
     }
 
-    /// The same with a row more in a table.
-    pub fn with(
-        mut self,
-        alloc: Global,
-        table: usize,
-        key: i64,
-        number: i64,
-    ) -> Result<Case, Refusal> {
-        self.add(alloc, table, key, number)?;
-        Ok(self)
-    }
-
-    /// The same without the row of a key of a table.
-    pub fn without(mut self, alloc: Global, table: usize, key: i64) -> Result<Case, Refusal> {
-        self.remove(alloc, table, key)?;
-        Ok(self)
-    }
-
     /// Makes the addition of a row ready, and drops it. `NoSuchTable` where no table stands at the place; what else refuses the
     /// lists of a change. Where it is refused, what is ready is made, which is nothing.
     pub fn prepare_and_drop(
@@ -163,26 +145,14 @@ impl Case {
         )
     }
 
-    /// The same with a standing query more.
-    pub fn watching(
-        mut self,
-        alloc: Global,
-        query: BoundQuery,
-        tables: Vec<usize>,
-    ) -> Result<Case, Refusal> {
-        self.watch(alloc, query, tables)?;
-        Ok(self)
-    }
-
-    /// The same with a standing query more over both tables, whose list was found over those of another case. What was changed is
-    /// settled first. `NotInTransaction` unless the first table is empty in both, since the list would not fit; else the refusals of
-    /// `watch`.
-    pub fn watching_elsewhere(
-        mut self,
+    /// Keeps a standing query over both tables, whose list was found over those of another case. What was changed is settled first.
+    /// `NotInTransaction` unless the first table is empty in both, since the list would not fit; else the refusals of `watch`.
+    pub fn watch_elsewhere(
+        &mut self,
         alloc: Global,
         other: &Case,
         query: BoundQuery,
-    ) -> Result<Case, Refusal> {
+    ) -> Result<(), Refusal> {
         let tables = vec![in alloc; 0, 1]?;
         refuse(&query, tables.as_slice())?;
         self.mark = START;
@@ -198,8 +168,7 @@ impl Case {
             &other.store,
             query,
             tables,
-        )?;
-        Ok(self)
+        )
     }
 
     /// How many rows were read when the last change was prepared.

@@ -11,11 +11,31 @@ use mm_query::{BoundQuery, Comparison};
 use mm_value::{Refusal, Row};
 use std::alloc::Global;
 use std::io;
+use std::process::Abort;
 use std::test::Fail;
 
 /// Tells that a call was refused memory and is given again. A run that refuses growths looks for the line.
 fn asked_again(rt: &impl Print) -> io::Result<()> {
     rt.println("refused")
+}
+
+/// Asserts that a call on the sample was refused memory, and that the lists are as they were.
+fn assert_unchanged(
+    rt: &(impl Abort + AllocGlobal + Print),
+    case: &Case,
+    refusal: Refusal,
+) -> Result<(), Fail> {
+    asked_again(rt)?;
+    assert_eq!(rt; refusal, Refusal::Memory);
+    assert!(rt; is_as_sampled(case, rt.alloc())?);
+    Ok(())
+}
+
+/// Asserts that a list shows just these rows, unless memory is refused.
+fn look(rt: &(impl Abort + AllocGlobal), case: &Case, place: usize, rows: &[&[i64]]) {
+    if let Ok(is_shown) = case.shows(rt.alloc(), place, rows) {
+        assert!(rt; is_shown);
+    }
 }
 
 /// The pairs of keys of rows with the same number, of the first table and of the second.
@@ -33,80 +53,83 @@ fn watch_joined(case: &mut Case, alloc: Global) -> Result<(), Refusal> {
     case.watch(alloc, joined(alloc)?, tables)
 }
 
+/// Keeps a standing query, again where memory is refused, and looks at its list.
+fn watch_again(rt: &(impl Abort + AllocGlobal + Print), case: &mut Case) -> Result<(), Fail> {
+    if let Err(refusal) = watch_joined(case, rt.alloc()) {
+        assert_unchanged(rt, case, refusal)?;
+        assert!(rt; case.count(3).is_err());
+        watch_joined(case, rt.alloc())?;
+    }
+    look(rt, case, 3, &[&[1, 1], &[2, 1]]);
+    Ok(())
+}
+
 #[test]
 fn watch_growths(rt: HostRuntime) -> Result<(), Fail> {
-    let alloc = rt.alloc();
-    let Ok(mut case) = sample(alloc) else {
+    let Ok(mut case) = sample(rt.alloc()) else {
         return Ok(());
     };
-    if let Err(refusal) = watch_joined(&mut case, alloc) {
-        asked_again(&rt)?;
-        assert_eq!(rt; refusal, Refusal::Memory);
-        assert!(rt; case.count(3).is_err());
-        assert!(rt; is_as_sampled(&case, alloc)?);
-        assert!(rt; watch_joined(&mut case, alloc).is_ok());
+    watch_again(&rt, &mut case)
+}
+
+/// Makes an addition ready and drops it, again where memory is refused, and looks at the lists.
+fn prepare_again(rt: &(impl Abort + AllocGlobal + Print), case: &mut Case) -> Result<(), Fail> {
+    if let Err(refusal) = case.prepare_and_drop(rt.alloc(), 0, 3, 5) {
+        assert_unchanged(rt, case, refusal)?;
+        case.prepare_and_drop(rt.alloc(), 0, 3, 5)?;
     }
-    let Ok(is_shown) = case.shows(alloc, 3, &[&[1, 1], &[2, 1]]) else {
-        return Ok(());
-    };
-    assert!(rt; is_shown);
+    if let Ok(is_shown) = is_as_sampled(case, rt.alloc()) {
+        assert!(rt; is_shown);
+    }
     Ok(())
 }
 
 #[test]
 fn prepare_growths(rt: HostRuntime) -> Result<(), Fail> {
-    let alloc = rt.alloc();
-    let Ok(mut case) = sample(alloc) else {
+    let Ok(mut case) = sample(rt.alloc()) else {
         return Ok(());
     };
-    if let Err(refusal) = case.prepare_and_drop(alloc, 0, 3, 5) {
-        asked_again(&rt)?;
-        assert_eq!(rt; refusal, Refusal::Memory);
-        assert!(rt; is_as_sampled(&case, alloc)?);
-        assert!(rt; case.prepare_and_drop(alloc, 0, 3, 5).is_ok());
+    prepare_again(&rt, &mut case)
+}
+
+/// Adds a row, again where memory is refused, and looks at a list.
+fn add_again(rt: &(impl Abort + AllocGlobal + Print), case: &mut Case) -> Result<(), Fail> {
+    if let Err(refusal) = case.add(rt.alloc(), 0, 3, 5) {
+        assert_unchanged(rt, case, refusal)?;
+        case.add(rt.alloc(), 0, 3, 5)?;
     }
-    let Ok(is_shown) = is_as_sampled(&case, alloc) else {
-        return Ok(());
-    };
-    assert!(rt; is_shown);
+    look(rt, case, 0, &[&[1, 1], &[2, 1], &[3, 1]]);
     Ok(())
 }
 
 #[test]
 fn change_growths(rt: HostRuntime) -> Result<(), Fail> {
-    let alloc = rt.alloc();
-    let Ok(mut case) = sample(alloc) else {
+    let Ok(mut case) = sample(rt.alloc()) else {
         return Ok(());
     };
-    if let Err(refusal) = case.add(alloc, 0, 3, 5) {
-        asked_again(&rt)?;
-        assert_eq!(rt; refusal, Refusal::Memory);
-        assert!(rt; is_as_sampled(&case, alloc)?);
-        assert!(rt; case.add(alloc, 0, 3, 5).is_ok());
+    add_again(&rt, &mut case)
+}
+
+/// Looks at a list, again where memory is refused.
+fn look_again(rt: &(impl Abort + AllocGlobal + Print), case: &Case) -> Result<(), Fail> {
+    let rows: &[&[i64]] = &[&[1, 1], &[2, 1]];
+    match case.shows(rt.alloc(), 0, rows) {
+        Ok(is_shown) => assert!(rt; is_shown),
+        Err(refusal) => {
+            asked_again(rt)?;
+            assert_eq!(rt; refusal, Refusal::Memory);
+            assert!(rt; case.shows(rt.alloc(), 0, rows)?);
+        }
     }
-    let Ok(is_shown) = case.shows(alloc, 0, &[&[1, 1], &[2, 1], &[3, 1]]) else {
-        return Ok(());
-    };
-    assert!(rt; is_shown);
     Ok(())
 }
 
 #[test]
 fn list_growths(rt: HostRuntime) -> Result<(), Fail> {
-    let alloc = rt.alloc();
-    let Ok(case) = sample(alloc) else {
+    let Ok(case) = sample(rt.alloc()) else {
         return Ok(());
     };
-    let rows: &[&[i64]] = &[&[1, 1], &[2, 1]];
-    match case.shows(alloc, 0, rows) {
-        Ok(is_shown) => assert!(rt; is_shown),
-        Err(refusal) => {
-            asked_again(&rt)?;
-            assert_eq!(rt; refusal, Refusal::Memory);
-            assert!(rt; case.shows(alloc, 0, rows)?);
-        }
-    }
-    Ok(())
+    look_again(&rt, &case)
 }
 
 /// Whether the only change is that of the count of a row of these two numbers, by 1.
@@ -117,25 +140,38 @@ fn is_one_more(changes: &[Signed], numbers: &[i64]) -> bool {
     }
 }
 
-#[test]
-fn delta_growths(rt: HostRuntime) -> Result<(), Fail> {
-    let alloc = rt.alloc();
-    let Ok(case) = sample(alloc) else {
-        return Ok(());
-    };
-    let Ok(query) = joined(alloc) else {
-        return Ok(());
-    };
-    match case.changes_of(alloc, &query, &[0, 1], 0, 3, 5) {
-        Ok(changes) => assert!(rt; is_one_more(changes.as_slice(), &[3, 1])),
+/// The changes that an addition makes, asked for again where memory is refused.
+fn changes_again(
+    rt: &(impl Abort + AllocGlobal + Print),
+    case: &Case,
+    query: &BoundQuery,
+) -> Result<Vec<Signed>, Fail> {
+    match case.changes_of(rt.alloc(), query, &[0, 1], 0, 3, 5) {
+        Ok(changes) => Ok(changes),
         Err(refusal) => {
-            asked_again(&rt)?;
+            asked_again(rt)?;
             assert_eq!(rt; refusal, Refusal::Memory);
-            let changes = case.changes_of(alloc, &query, &[0, 1], 0, 3, 5)?;
-            assert!(rt; is_one_more(changes.as_slice(), &[3, 1]));
+            Ok(case.changes_of(rt.alloc(), query, &[0, 1], 0, 3, 5)?)
         }
     }
+}
+
+/// Asserts what an addition changes of the count of each row.
+fn find_changes(rt: &(impl Abort + AllocGlobal + Print), case: &Case) -> Result<(), Fail> {
+    let Ok(query) = joined(rt.alloc()) else {
+        return Ok(());
+    };
+    let changes = changes_again(rt, case, &query)?;
+    assert!(rt; is_one_more(changes.as_slice(), &[3, 1]));
     Ok(())
+}
+
+#[test]
+fn delta_growths(rt: HostRuntime) -> Result<(), Fail> {
+    let Ok(case) = sample(rt.alloc()) else {
+        return Ok(());
+    };
+    find_changes(&rt, &case)
 }
 
 /// A bag with a row of a key once and one of another key twice.

@@ -1,81 +1,123 @@
 //! What lists show, also once changes are taken back.
-use crate::three_lists::{is_as_sampled, sample};
+use crate::case::Case;
+use crate::three_lists::{SAMPLED, sample, show};
 use mm_value::Refusal;
+use std::alloc::Global;
+use std::process::Abort;
 use std::test::Fail;
+
+/// Asserts how many rows the three lists show.
+fn assert_counts(rt: &impl Abort, case: &Case, counts: [usize; 3]) -> Result<(), Refusal> {
+    for (place, count) in counts.iter().enumerate() {
+        assert_eq!(rt; case.count(place)?, *count);
+    }
+    Ok(())
+}
+
+/// Asserts that the three lists show just these rows.
+fn assert_shown(
+    rt: &(impl Abort + AllocGlobal),
+    case: &Case,
+    lists: [&[&[i64]]; 3],
+) -> Result<(), Refusal> {
+    assert!(rt; show(case, rt.alloc(), lists)?);
+    Ok(())
+}
 
 #[test]
 fn counts_with_and_without_distinct(rt: HostRuntime) -> Result<(), Fail> {
-    let alloc = rt.alloc();
-    let case = sample(alloc)?;
-    assert!(rt; is_as_sampled(&case, alloc)?);
-    assert_eq!(rt; case.count(0)?, 2);
-    assert_eq!(rt; case.count(1)?, 2);
-    assert_eq!(rt; case.count(2)?, 1);
+    let case = sample(rt.alloc())?;
+    assert_counts(&rt, &case, [2, 2, 1])?;
+    assert_shown(&rt, &case, SAMPLED)?;
     Ok(())
+}
+
+/// Adds a row to the first table, and sets a mark. Then all rows of the sample go from there, and one comes in the second table.
+fn turn(case: &mut Case, alloc: Global) -> Result<(), Refusal> {
+    case.add(alloc, 0, 3, 7)?;
+    case.set_mark();
+    case.remove(alloc, 0, 1)?;
+    case.remove(alloc, 0, 2)?;
+    case.add(alloc, 1, 2, 7)
+}
+
+/// What the lists show at the mark of `turn`.
+const AT_MARK: [&[&[i64]]; 3] = [&[&[1, 1], &[2, 1]], &[&[5], &[5], &[7]], &[&[5], &[7]]];
+
+/// Makes the changes of `turn`, behind which no row of the count 0 is shown, and takes them back.
+fn turn_and_back(rt: &(impl Abort + AllocGlobal), case: &mut Case) -> Result<(), Refusal> {
+    turn(case, rt.alloc())?;
+    assert_shown(rt, case, [&[&[3, 2]], &[&[7]], &[&[7]]])?;
+    case.go_back();
+    assert_shown(rt, case, AT_MARK)?;
+    case.go_back_to_start();
+    assert_shown(rt, case, SAMPLED)
 }
 
 #[test]
 fn lists_go_back(rt: HostRuntime) -> Result<(), Fail> {
-    let alloc = rt.alloc();
-    let mut case = sample(alloc)?.with(alloc, 0, 3, 7)?;
-    case.set_mark();
-    let mut case = case
-        .without(alloc, 0, 1)?
-        .without(alloc, 0, 2)?
-        .with(alloc, 1, 2, 7)?;
-
-    // No row of count 0 is shown.
-    assert!(rt; case.shows(alloc, 0, &[&[3, 2]])?);
-    assert!(rt; case.shows(alloc, 1, &[&[7]])?);
-    assert!(rt; case.shows(alloc, 2, &[&[7]])?);
-
-    case.go_back();
-    assert!(rt; case.shows(alloc, 0, &[&[1, 1], &[2, 1]])?);
-    assert!(rt; case.shows(alloc, 1, &[&[5], &[5], &[7]])?);
-    assert!(rt; case.shows(alloc, 2, &[&[5], &[7]])?);
-
-    case.go_back_to_start();
-    assert!(rt; is_as_sampled(&case, alloc)?);
+    let mut case = sample(rt.alloc())?;
+    turn_and_back(&rt, &mut case)?;
     Ok(())
+}
+
+/// Makes the removal of a row final, behind which nothing is taken back, and adds the row again.
+fn settle_and_add(rt: &(impl Abort + AllocGlobal), case: &mut Case) -> Result<(), Refusal> {
+    case.remove(rt.alloc(), 0, 1)?;
+    case.settle();
+    case.go_back_to_start();
+    assert_shown(rt, case, [&[&[2, 1]], &[&[5]], &[&[5]]])?;
+    case.add(rt.alloc(), 0, 1, 5)?;
+    assert_shown(rt, case, SAMPLED)
 }
 
 #[test]
 fn settled_changes_stay(rt: HostRuntime) -> Result<(), Fail> {
-    let alloc = rt.alloc();
-    let mut case = sample(alloc)?.without(alloc, 0, 1)?;
-    case.settle();
-    case.go_back_to_start();
-    assert!(rt; case.shows(alloc, 0, &[&[2, 1]])?);
-    assert!(rt; case.shows(alloc, 1, &[&[5]])?);
+    let mut case = sample(rt.alloc())?;
+    settle_and_add(&rt, &mut case)?;
+    Ok(())
+}
 
-    // A row that went comes again.
-    let case = case.with(alloc, 0, 1, 5)?;
-    assert!(rt; is_as_sampled(&case, alloc)?);
+/// Drops a change that is ready, and makes another.
+fn drop_and_add(rt: &(impl Abort + AllocGlobal), case: &mut Case) -> Result<(), Refusal> {
+    case.prepare_and_drop(rt.alloc(), 0, 3, 7)?;
+    assert_shown(rt, case, SAMPLED)?;
+    case.add(rt.alloc(), 0, 4, 9)?;
+    assert!(rt; case.shows(rt.alloc(), 1, &[&[5], &[5], &[9]])?);
     Ok(())
 }
 
 #[test]
 fn discarded_changes_are_not_made(rt: HostRuntime) -> Result<(), Fail> {
-    let alloc = rt.alloc();
-    let mut case = sample(alloc)?;
-    case.prepare_and_drop(alloc, 0, 3, 7)?;
-    assert!(rt; is_as_sampled(&case, alloc)?);
-    let case = case.with(alloc, 0, 4, 9)?;
-    assert!(rt; case.shows(alloc, 1, &[&[5], &[5], &[9]])?);
+    let mut case = sample(rt.alloc())?;
+    drop_and_add(&rt, &mut case)?;
     Ok(())
+}
+
+/// Asserts that two lists show just these rows, and that there is no third.
+fn assert_two(
+    rt: &(impl Abort + AllocGlobal),
+    case: &Case,
+    first: &[&[i64]],
+    second: &[&[i64]],
+) -> Result<(), Refusal> {
+    assert!(rt; case.shows(rt.alloc(), 0, first)?);
+    assert!(rt; case.shows(rt.alloc(), 1, second)?);
+    assert!(rt; matches!(case.count(2), Err(Refusal::NoSuchStandingQuery)));
+    Ok(())
+}
+
+/// Drops the first standing query, and adds a row.
+fn unwatch_and_add(rt: &(impl Abort + AllocGlobal), case: &mut Case) -> Result<(), Refusal> {
+    case.unwatch(0);
+    assert_two(rt, case, &[&[5], &[5]], &[&[5]])?;
+    case.add(rt.alloc(), 0, 3, 7)?;
+    assert_two(rt, case, &[&[5], &[5], &[7]], &[&[5], &[7]])
 }
 
 #[test]
 fn lists_move_up(rt: HostRuntime) -> Result<(), Fail> {
-    let alloc = rt.alloc();
-    let mut case = sample(alloc)?;
-    case.unwatch(0);
-    assert!(rt; case.shows(alloc, 0, &[&[5], &[5]])?);
-    assert!(rt; case.shows(alloc, 1, &[&[5]])?);
-    assert!(rt; matches!(case.count(2), Err(Refusal::NoSuchStandingQuery)));
-
-    let case = case.with(alloc, 0, 3, 7)?;
-    assert!(rt; case.shows(alloc, 0, &[&[5], &[5], &[7]])?);
-    assert!(rt; case.shows(alloc, 1, &[&[5], &[7]])?);
+    let mut case = sample(rt.alloc())?;
+    unwatch_and_add(&rt, &mut case)?;
     Ok(())
 }

@@ -1,9 +1,11 @@
 //! How many rows a change reads.
 use crate::case::Case;
 use crate::samples::{key, number, numbers_compare, pairs};
+use crate::three_lists::put;
 use mm_query::{Atom, Comparison, Operand};
 use mm_value::{Refusal, Value};
 use std::alloc::Global;
+use std::process::Abort;
 use std::test::Fail;
 
 /// Where no value lies between the new row's number and the bound, a checked cycle shows it, and no row beside the new one is read.
@@ -23,73 +25,103 @@ const ALL_PAIRS: [&[i64]; 10] = [
     &[4, 4],
 ];
 
-/// How many rows the last of four changes reads for the pairs of rows of one table that have the same number, and whether the list
-/// shows them then. With `indexed` the numbers have a HASH index.
-fn joined_with_itself(alloc: Global, indexed: bool) -> Result<(u64, bool), Refusal> {
-    let atoms = [numbers_compare(Comparison::Equal)];
-    let query = pairs(alloc, [key(0), key(1)], atoms)?;
-    let case = Case::new(alloc, indexed)?
-        .with(alloc, 0, 1, 5)?
-        .with(alloc, 0, 2, 5)?
-        .with(alloc, 0, 4, 9)?
-        .watching(alloc, query, vec![in alloc; 0, 0]?)?
-        .with(alloc, 0, 3, 5)?;
-    let is_shown = case.shows(alloc, 0, &ALL_PAIRS)?;
-    Ok((case.reads(), is_shown))
+/// Adds a row to the first table, and asserts that so many rows are read at most, and that the first list shows just these rows then.
+fn assert_reads(
+    rt: &(impl Abort + AllocGlobal),
+    case: &mut Case,
+    row: (i64, i64),
+    at_most: u64,
+    rows: &[&[i64]],
+) -> Result<(), Refusal> {
+    let (key, number) = row;
+    case.add(rt.alloc(), 0, key, number)?;
+    assert!(rt; case.reads() <= at_most);
+    assert!(rt; case.shows(rt.alloc(), 0, rows)?);
+    Ok(())
+}
+
+/// Keeps the pairs of rows of the first table that have the same number.
+fn watch_pairs(case: &mut Case, alloc: Global) -> Result<(), Refusal> {
+    let equal = [numbers_compare(Comparison::Equal)];
+    let query = pairs(alloc, [key(0), key(1)], equal)?;
+    case.watch(alloc, query, vec![in alloc; 0, 0]?)
+}
+
+/// Asserts how many rows the last of four changes reads at most for those pairs.
+fn join_with_itself(
+    rt: &(impl Abort + AllocGlobal),
+    case: &mut Case,
+    at_most: u64,
+) -> Result<(), Refusal> {
+    put(case, rt.alloc(), &[(0, 1, 5), (0, 2, 5), (0, 4, 9)])?;
+    watch_pairs(case, rt.alloc())?;
+    assert_reads(rt, case, (3, 5), at_most, &ALL_PAIRS)
 }
 
 #[test]
-fn reads_are_few(rt: HostRuntime) -> Result<(), Fail> {
-    let alloc = rt.alloc();
-    let (reads, is_shown) = joined_with_itself(alloc, true)?;
-    assert!(rt; reads <= 6);
-    assert!(rt; is_shown);
-    let (reads, is_shown) = joined_with_itself(alloc, false)?;
-    assert!(rt; reads <= 8);
-    assert!(rt; is_shown);
+fn reads_are_few_along_an_index(rt: HostRuntime) -> Result<(), Fail> {
+    let mut case = Case::new(rt.alloc(), true)?;
+    join_with_itself(&rt, &mut case, 6)?;
     Ok(())
+}
+
+#[test]
+fn reads_are_few_without_an_index(rt: HostRuntime) -> Result<(), Fail> {
+    let mut case = Case::new(rt.alloc(), false)?;
+    join_with_itself(&rt, &mut case, 8)?;
+    Ok(())
+}
+
+/// Adds a row of the key 1 and the number 9 to the second table, and of the number 4 elsewhere. Then it keeps a list that is found there.
+fn watch_elsewhere(case: &mut Case, elsewhere: &mut Case, alloc: Global) -> Result<(), Refusal> {
+    elsewhere.add(alloc, 1, 1, 4)?;
+    case.add(alloc, 1, 1, 9)?;
+    let query = pairs(alloc, [key(0)], [numbers_compare(Comparison::Equal)])?;
+    case.watch_elsewhere(alloc, elsewhere, query)
+}
+
+/// Asserts that a row goes with one that stands in the view, and not where the list was found.
+fn follow_the_view(
+    rt: &(impl Abort + AllocGlobal),
+    case: &mut Case,
+    elsewhere: &mut Case,
+) -> Result<(), Refusal> {
+    watch_elsewhere(case, elsewhere, rt.alloc())?;
+    assert_eq!(rt; case.count(0)?, 0);
+    assert_reads(rt, case, (1, 9), 2, &[&[1]])
 }
 
 #[test]
 fn lists_follow_the_view(rt: HostRuntime) -> Result<(), Fail> {
-    let alloc = rt.alloc();
-    let query = pairs(alloc, [key(0)], [numbers_compare(Comparison::Equal)])?;
-    let elsewhere = Case::new(alloc, false)?.with(alloc, 1, 1, 4)?;
-    let case = Case::new(alloc, false)?
-        .with(alloc, 1, 1, 9)?
-        .watching_elsewhere(alloc, &elsewhere, query)?;
-    assert_eq!(rt; case.count(0)?, 0);
-
-    // The row that it goes with stands in the view, and not where the list was found.
-    let case = case.with(alloc, 0, 1, 9)?;
-    assert!(rt; case.reads() <= 2);
-    assert!(rt; case.shows(alloc, 0, &[&[1]])?);
+    let mut elsewhere = Case::new(rt.alloc(), false)?;
+    let mut case = Case::new(rt.alloc(), false)?;
+    follow_the_view(&rt, &mut case, &mut elsewhere)?;
     Ok(())
 }
 
-#[test]
-fn irrelevant_rows_are_not_combined(rt: HostRuntime) -> Result<(), Fail> {
-    let alloc = rt.alloc();
+/// Keeps the keys of the first table whose number is less than one of the second that is less than 5.
+fn watch_below_5(case: &mut Case, alloc: Global) -> Result<(), Refusal> {
     let below_5 = Atom {
         left: number(1),
         comparison: Comparison::Less,
         right: Operand::Literal(Value::Int(5)),
     };
-    let query = pairs(
-        alloc,
-        [key(0)],
-        [numbers_compare(Comparison::Less), below_5],
-    )?;
-    let case = Case::new(alloc, false)?
-        .with(alloc, 1, 1, 4)?
-        .watching(alloc, query, vec![in alloc; 0, 1]?)?;
+    let atoms = [numbers_compare(Comparison::Less), below_5];
+    let query = pairs(alloc, [key(0)], atoms)?;
+    case.watch(alloc, query, vec![in alloc; 0, 1]?)
+}
 
-    let case = case.with(alloc, 0, 1, 4)?;
-    assert!(rt; case.reads() <= READS_OF_IRRELEVANT_ROW);
-    assert_eq!(rt; case.count(0)?, 0);
+/// Asserts how few rows an irrelevant row reads, and how few one that goes with the only row of the second table.
+fn leave_out(rt: &(impl Abort + AllocGlobal), case: &mut Case) -> Result<(), Refusal> {
+    case.add(rt.alloc(), 1, 1, 4)?;
+    watch_below_5(case, rt.alloc())?;
+    assert_reads(rt, case, (1, 4), READS_OF_IRRELEVANT_ROW, &[])?;
+    assert_reads(rt, case, (2, 3), 2, &[&[2]])
+}
 
-    let case = case.with(alloc, 0, 2, 3)?;
-    assert!(rt; case.reads() <= 2);
-    assert!(rt; case.shows(alloc, 0, &[&[2]])?);
+#[test]
+fn irrelevant_rows_are_not_combined(rt: HostRuntime) -> Result<(), Fail> {
+    let mut case = Case::new(rt.alloc(), false)?;
+    leave_out(&rt, &mut case)?;
     Ok(())
 }

@@ -5,6 +5,7 @@ use mm_query::{Atom, Comparison, FieldName, FromItem, ItemList, Operand, PlanLin
 use mm_schema::{Catalog, Column, Columns, Name, Role, TableDef};
 use mm_value::{ColType, Refusal};
 use std::alloc::Global;
+use std::process::Abort;
 use std::test::Fail;
 
 /// A table of whole numbers, of which the column id is the key and v is not. None where memory is refused.
@@ -69,38 +70,64 @@ fn query(alloc: Global) -> Option<Query> {
     })
 }
 
+/// The places, asked for again where memory is refused.
+fn places_again(
+    rt: &(impl Abort + Print),
+    alloc: Global,
+    catalog: &Catalog,
+    from: &[FromItem],
+) -> Result<Vec<usize>, Fail> {
+    match places_of(alloc, catalog, from) {
+        Ok(places) => Ok(places),
+        Err(refusal) => {
+            asked_again(rt)?;
+            assert_eq!(rt; refusal, Refusal::Memory);
+            Ok(places_of(alloc, catalog, from)?)
+        }
+    }
+}
+
 #[test]
 fn places_of_growths(rt: HostRuntime) -> Result<(), Fail> {
     let alloc = rt.alloc();
-    let (Some(catalog), Some(query)) = (tables(alloc), query(alloc)) else {
+    let Some(catalog) = tables(alloc) else {
         return Ok(());
     };
-    let places = match places_of(alloc, &catalog, query.from.as_slice()) {
-        Ok(places) => places,
-        Err(refusal) => {
-            asked_again(&rt)?;
-            assert_eq!(rt; refusal, Refusal::Memory);
-            places_of(alloc, &catalog, query.from.as_slice())?
-        }
+    let Some(query) = query(alloc) else {
+        return Ok(());
     };
+    let places = places_again(&rt, alloc, &catalog, query.from.as_slice())?;
     assert_eq!(rt; places.as_slice(), [1, 0].as_slice());
     Ok(())
+}
+
+/// The plan over tables of a hundred rows, asked for again where memory is refused.
+fn plan_again(
+    rt: &(impl Abort + Print),
+    alloc: Global,
+    catalog: &Catalog,
+    query: &Query,
+) -> Result<ItemList<PlanLine>, Fail> {
+    match plan(alloc, catalog, &[100, 100], query) {
+        Ok(lines) => Ok(lines),
+        Err(refusal) => {
+            asked_again(rt)?;
+            assert_eq!(rt; refusal, Refusal::Memory);
+            Ok(plan(alloc, catalog, &[100, 100], query)?)
+        }
+    }
 }
 
 #[test]
 fn plan_growths(rt: HostRuntime) -> Result<(), Fail> {
     let alloc = rt.alloc();
-    let (Some(catalog), Some(query)) = (tables(alloc), query(alloc)) else {
+    let Some(catalog) = tables(alloc) else {
         return Ok(());
     };
-    let lines = match plan(alloc, &catalog, &[100, 100], &query) {
-        Ok(lines) => lines,
-        Err(refusal) => {
-            asked_again(&rt)?;
-            assert_eq!(rt; refusal, Refusal::Memory);
-            plan(alloc, &catalog, &[100, 100], &query)?
-        }
+    let Some(query) = query(alloc) else {
+        return Ok(());
     };
+    let lines = plan_again(&rt, alloc, &catalog, &query)?;
     // The column has no index, so a hash table is built over it.
     let lines = lines.as_slice();
     assert!(rt; matches!(lines, [PlanLine::Scan { .. }, PlanLine::BuiltHash { .. }]));

@@ -1,6 +1,6 @@
 -- Neither store has a row in the first table.
 use Rattle.standing_tests.proofs.TableRows.{none_from_both}
-use Rattle.standing_tests.proofs.case.Case.watching_elsewhere.Goals as goal
+use Rattle.standing_tests.proofs.case.Case.watch_elsewhere.Goals as goal
 
 pub watch-requires-clause-rows : goal.watch-requires-clause-rows
 watch-requires-clause-rows c =
