@@ -5,6 +5,7 @@ ghost use Rattle.mm_partition.specs.Places.{IsUnchanged};
 use mm_partition::Partitions;
 use mm_value::{Row, Text, Value};
 use std::alloc::Global;
+use std::process::Abort;
 use std::test::Fail;
 
 /// The row of this number, whose memory may be refused once.
@@ -39,11 +40,10 @@ fn number_in(row: &Row) -> Option<i64> {
     }
 }
 
-#[test]
-fn keeps_a_row_by_its_reference(rt: HostRuntime) -> Result<(), Fail> {
+/// Places a row, replaces it, hides and shows it, and releases it.
+fn keep_a_row(rt: &(impl Abort + AllocGlobal), rows: &mut Partitions) -> Result<(), Fail> {
     let alloc = rt.alloc();
-    let mut rows = Partitions::new(alloc);
-    reserve(alloc, &mut rows, 1)?;
+    reserve(alloc, rows, 1)?;
     let at = rows.place(row_of(alloc, 1)?);
     assert_eq!(rt; number_in(rows.get(at)), Some(1));
 
@@ -61,10 +61,15 @@ fn keeps_a_row_by_its_reference(rt: HostRuntime) -> Result<(), Fail> {
 }
 
 #[test]
-fn gives_each_row_its_own_place(rt: HostRuntime) -> Result<(), Fail> {
+fn keeps_a_row_by_its_reference(rt: HostRuntime) -> Result<(), Fail> {
+    let mut rows = Partitions::new(rt.alloc());
+    keep_a_row(&rt, &mut rows)
+}
+
+/// Places two rows, and 200 behind them.
+fn place_two(rt: &(impl Abort + AllocGlobal), rows: &mut Partitions) -> Result<(), Fail> {
     let alloc = rt.alloc();
-    let mut rows = Partitions::new(alloc);
-    reserve(alloc, &mut rows, 2)?;
+    reserve(alloc, rows, 2)?;
     let one = rows.place(row_of(alloc, 1)?);
     let two = rows.place(row_of(alloc, 2)?);
     assert_ne!(rt; one, two);
@@ -72,7 +77,7 @@ fn gives_each_row_its_own_place(rt: HostRuntime) -> Result<(), Fail> {
     assert_eq!(rt; number_in(rows.get(two)), Some(2));
 
     // Past the end of the first partition.
-    reserve(alloc, &mut rows, 200)?;
+    reserve(alloc, rows, 200)?;
     assert_eq!(rt; number_in(rows.get(one)), Some(1));
     for _ in 0..200usize {
         rows.place(row_of(alloc, 3)?);
@@ -82,10 +87,15 @@ fn gives_each_row_its_own_place(rt: HostRuntime) -> Result<(), Fail> {
 }
 
 #[test]
-fn gives_freed_slots_again_before_new_ones(rt: HostRuntime) -> Result<(), Fail> {
+fn gives_each_row_its_own_place(rt: HostRuntime) -> Result<(), Fail> {
+    let mut rows = Partitions::new(rt.alloc());
+    place_two(&rt, &mut rows)
+}
+
+/// Places two rows, frees their slots, and places two others.
+fn free_two(rt: &(impl Abort + AllocGlobal), rows: &mut Partitions) -> Result<(), Fail> {
     let alloc = rt.alloc();
-    let mut rows = Partitions::new(alloc);
-    reserve(alloc, &mut rows, 2)?;
+    reserve(alloc, rows, 2)?;
     let one = rows.place(row_of(alloc, 1)?);
     let two = rows.place(row_of(alloc, 2)?);
     rows.hide(one);
@@ -100,10 +110,15 @@ fn gives_freed_slots_again_before_new_ones(rt: HostRuntime) -> Result<(), Fail> 
 }
 
 #[test]
-fn leaves_a_hidden_slot_alone(rt: HostRuntime) -> Result<(), Fail> {
+fn gives_freed_slots_again_before_new_ones(rt: HostRuntime) -> Result<(), Fail> {
+    let mut rows = Partitions::new(rt.alloc());
+    free_two(&rt, &mut rows)
+}
+
+/// Places a row behind one that is hidden, and one more once that is released.
+fn hide_one(rt: &(impl Abort + AllocGlobal), rows: &mut Partitions) -> Result<(), Fail> {
     let alloc = rt.alloc();
-    let mut rows = Partitions::new(alloc);
-    reserve(alloc, &mut rows, 2)?;
+    reserve(alloc, rows, 2)?;
     let one = rows.place(row_of(alloc, 1)?);
     rows.hide(one);
     let two = rows.place(row_of(alloc, 2)?);
@@ -121,10 +136,15 @@ fn leaves_a_hidden_slot_alone(rt: HostRuntime) -> Result<(), Fail> {
 }
 
 #[test]
-fn finds_each_row_of_several_partitions(rt: HostRuntime) -> Result<(), Fail> {
+fn leaves_a_hidden_slot_alone(rt: HostRuntime) -> Result<(), Fail> {
+    let mut rows = Partitions::new(rt.alloc());
+    hide_one(&rt, &mut rows)
+}
+
+/// Places 130 rows.
+fn fill_partitions(rt: &(impl Abort + AllocGlobal), rows: &mut Partitions) -> Result<(), Fail> {
     let alloc = rt.alloc();
-    let mut rows = Partitions::new(alloc);
-    reserve(alloc, &mut rows, 130)?;
+    reserve(alloc, rows, 130)?;
     let first = rows.place(row_of(alloc, 0)?);
     for k in 1..130usize {
         let at = rows.place(row_of(alloc, k as i64)?);
@@ -133,6 +153,12 @@ fn finds_each_row_of_several_partitions(rt: HostRuntime) -> Result<(), Fail> {
     }
     assert_eq!(rt; number_in(rows.get(first)), Some(0));
     Ok(())
+}
+
+#[test]
+fn finds_each_row_of_several_partitions(rt: HostRuntime) -> Result<(), Fail> {
+    let mut rows = Partitions::new(rt.alloc());
+    fill_partitions(&rt, &mut rows)
 }
 
 /// The row of this number and this text, whose memory may be refused once.
@@ -156,15 +182,14 @@ fn track(alloc: Global, rows: &mut Partitions, column: usize) -> Result<(), Fail
     Ok(())
 }
 
-#[test]
-fn keeps_the_prefixes_of_tracked_columns(rt: HostRuntime) -> Result<(), Fail> {
+/// Tracks two columns, one row before and one behind.
+fn track_two(rt: &(impl Abort + AllocGlobal), rows: &mut Partitions) -> Result<(), Fail> {
     let alloc = rt.alloc();
-    let mut rows = Partitions::new(alloc);
-    reserve(alloc, &mut rows, 2)?;
+    reserve(alloc, rows, 2)?;
     rows.place(row_with_text(alloc, 5, b"abcdefgh")?);
     assert!(rt; rows.prefixes(0).is_none());
-    track(alloc, &mut rows, 1)?;
-    track(alloc, &mut rows, 0)?;
+    track(alloc, rows, 1)?;
+    track(alloc, rows, 0)?;
     rows.place(row_of(alloc, i64::MAX)?);
     assert!(rt; rows.prefixes(0) == Some(&[0x4000000000000005u64, 0x7fffffffffffffff]));
     // The second row has no second value.
@@ -173,12 +198,17 @@ fn keeps_the_prefixes_of_tracked_columns(rt: HostRuntime) -> Result<(), Fail> {
 }
 
 #[test]
-fn overwrites_the_prefixes_of_a_slot(rt: HostRuntime) -> Result<(), Fail> {
+fn keeps_the_prefixes_of_tracked_columns(rt: HostRuntime) -> Result<(), Fail> {
+    let mut rows = Partitions::new(rt.alloc());
+    track_two(&rt, &mut rows)
+}
+
+/// Replaces a row, and places one in the slot that it gives up.
+fn overwrite(rt: &(impl Abort + AllocGlobal), rows: &mut Partitions) -> Result<(), Fail> {
     let alloc = rt.alloc();
-    let mut rows = Partitions::new(alloc);
-    reserve(alloc, &mut rows, 1)?;
+    reserve(alloc, rows, 1)?;
     let one = rows.place(row_with_text(alloc, 5, b"a")?);
-    track(alloc, &mut rows, 1)?;
+    track(alloc, rows, 1)?;
     rows.replace(one, row_with_text(alloc, 6, b"b")?);
     assert!(rt; rows.prefixes(1) == Some(&[0xb100000000000000u64]));
 
@@ -191,12 +221,17 @@ fn overwrites_the_prefixes_of_a_slot(rt: HostRuntime) -> Result<(), Fail> {
 }
 
 #[test]
-fn forgets_a_column_that_is_not_tracked_any_more(rt: HostRuntime) -> Result<(), Fail> {
+fn overwrites_the_prefixes_of_a_slot(rt: HostRuntime) -> Result<(), Fail> {
+    let mut rows = Partitions::new(rt.alloc());
+    overwrite(&rt, &mut rows)
+}
+
+/// Tracks two columns, and one of them no more.
+fn track_and_untrack(rt: &(impl Abort + AllocGlobal), rows: &mut Partitions) -> Result<(), Fail> {
     let alloc = rt.alloc();
-    let mut rows = Partitions::new(alloc);
-    track(alloc, &mut rows, 0)?;
-    track(alloc, &mut rows, 1)?;
-    track(alloc, &mut rows, 1)?;
+    track(alloc, rows, 0)?;
+    track(alloc, rows, 1)?;
+    track(alloc, rows, 1)?;
     rows.untrack(1);
     assert!(rt; rows.prefixes(1).is_none());
     assert!(rt; rows.prefixes(0).is_some());
@@ -204,12 +239,17 @@ fn forgets_a_column_that_is_not_tracked_any_more(rt: HostRuntime) -> Result<(), 
 }
 
 #[test]
-fn tracks_the_rows_to_come(rt: HostRuntime) -> Result<(), Fail> {
+fn forgets_a_column_that_is_not_tracked_any_more(rt: HostRuntime) -> Result<(), Fail> {
+    let mut rows = Partitions::new(rt.alloc());
+    track_and_untrack(&rt, &mut rows)
+}
+
+/// Tracks a column, and places 130 rows.
+fn track_and_fill(rt: &(impl Abort + AllocGlobal), rows: &mut Partitions) -> Result<(), Fail> {
     let alloc = rt.alloc();
-    let mut rows = Partitions::new(alloc);
-    track(alloc, &mut rows, 0)?;
+    track(alloc, rows, 0)?;
     for k in 0..130usize {
-        reserve(alloc, &mut rows, 1)?;
+        reserve(alloc, rows, 1)?;
         rows.place(row_of(alloc, k as i64)?);
     }
     let prefixes = rows.prefixes(0).unwrap_or(&[]);
@@ -218,4 +258,10 @@ fn tracks_the_rows_to_come(rt: HostRuntime) -> Result<(), Fail> {
         assert_eq!(rt; *prefix, 0x4000000000000000 + k as u64);
     }
     Ok(())
+}
+
+#[test]
+fn tracks_the_rows_to_come(rt: HostRuntime) -> Result<(), Fail> {
+    let mut rows = Partitions::new(rt.alloc());
+    track_and_fill(&rt, &mut rows)
 }

@@ -1,31 +1,51 @@
 //! Foreign keys.
+ghost use Rattle.std.specs.Prelude.{◌≤◌, length, OnOk};
+ghost use Rattle.mm_foreign.specs.Ties.{KeepsTargets};
+
 use crate::growths::asked_again;
 use mm_foreign::ForeignKey;
 use mm_value::RowRef;
+use std::process::Abort;
 use std::test::Fail;
+
+const ROW: RowRef = RowRef { part: 0, slot: 0 };
+
+/// A row far behind the first.
+const FAR: RowRef = RowRef { part: 7, slot: 51 };
+
+/// Makes room for rows and their targets, again where memory is refused. Then the first row is tied as before.
+fn reserve_again(rt: &(impl Abort + AllocGlobal + Print), key: &mut ForeignKey) -> Result<(), Fail>
+    ensures referrers { OnOk result (500 ≤ length key.new.targets) }
+    ensures extent { OnOk result (500 ≤ key.new.extent) }
+    ensures targets { KeepsTargets key.old key.new }
+{
+    // For the entries of the referring rows, and for the counts of their targets.
+    if key.reserve(rt.alloc(), 500, 500).is_err() {
+        asked_again(rt)?;
+        assert_eq!(rt; key.target(ROW), Some(ROW));
+        assert!(rt; key.is_referred(ROW));
+        key.reserve(rt.alloc(), 500, 500)?;
+    }
+    Ok(())
+}
+
+/// Ties the first row to itself, makes room, and ties the far row to itself.
+fn tie_both(rt: &(impl Abort + AllocGlobal + Print), key: &mut ForeignKey) -> Result<(), Fail> {
+    if key.reserve(rt.alloc(), 1, 1).is_err() {
+        return Ok(());
+    }
+    assert_eq!(rt; key.target(ROW), None);
+    key.tie(ROW, ROW);
+    reserve_again(rt, key)?;
+    assert_eq!(rt; key.target(FAR), None);
+    key.tie(FAR, FAR);
+    assert_eq!(rt; (key.target(FAR), key.target(ROW)), (Some(FAR), Some(ROW)));
+    assert!(rt; key.is_referred(FAR));
+    Ok(())
+}
 
 #[test]
 fn foreign_key_growths(rt: HostRuntime) -> Result<(), Fail> {
-    let alloc = rt.alloc();
-    let mut key = ForeignKey::new(alloc);
-    let row = RowRef { part: 0, slot: 0 };
-    let far = RowRef { part: 7, slot: 51 };
-    if key.reserve(alloc, 1, 1).is_err() {
-        return Ok(());
-    }
-    assert_eq!(rt; key.target(row), None);
-    key.tie(row, row);
-    // For the entries of the referring rows, and for the counts of their targets.
-    if key.reserve(alloc, 500, 500).is_err() {
-        asked_again(&rt)?;
-        assert_eq!(rt; key.target(row), Some(row));
-        assert!(rt; key.is_referred(row));
-        key.reserve(alloc, 500, 500)?;
-    }
-    assert_eq!(rt; key.target(far), None);
-    key.tie(far, far);
-    assert_eq!(rt; key.target(far), Some(far));
-    assert_eq!(rt; key.target(row), Some(row));
-    assert!(rt; key.is_referred(far));
-    Ok(())
+    let mut key = ForeignKey::new(rt.alloc());
+    tie_both(&rt, &mut key)
 }

@@ -27,44 +27,56 @@ fn assert_three(rt: &impl Abort, alloc: Global, refs: &HashRefs) -> Result<(), A
     Ok(())
 }
 
-// The bag does without bucket heads and places of its directory where memory is refused for them.
-#[test]
-fn hash_reserve_growths(rt: HostRuntime) -> Result<(), Fail> {
-    let alloc = rt.alloc();
-    let mut refs = HashRefs::new(alloc);
-    if put_three(alloc, &mut refs).is_err() {
+/// Makes room, again where memory is refused, and uses it. The bag does without bucket heads and places of its directory where memory
+/// is refused for them.
+fn reserve_again(rt: &(impl Abort + AllocGlobal + Print), refs: &mut HashRefs) -> Result<(), Fail> {
+    if put_three(rt.alloc(), refs).is_err() {
         return Ok(());
     }
     let spare = refs.spare();
-    if refs.reserve(alloc, 40).is_err() {
-        asked_again(&rt)?;
+    if refs.reserve(rt.alloc(), 40).is_err() {
+        asked_again(rt)?;
         assert_eq!(rt; (refs.len(), refs.spare()), (3, spare));
-        assert_three(&rt, alloc, &refs)?;
-        refs.reserve(alloc, 40)?;
+        assert_three(rt, rt.alloc(), refs)?;
+        refs.reserve(rt.alloc(), 40)?;
     }
     refs.insert(9, first_of(4));
     assert!(rt; refs.remove(9, first_of(4)));
     assert!(rt; refs.spare() >= 40);
-    let _ = assert_three(&rt, alloc, &refs);
+    let _ = assert_three(rt, rt.alloc(), refs);
+    Ok(())
+}
+
+#[test]
+fn hash_reserve_growths(rt: HostRuntime) -> Result<(), Fail> {
+    let mut refs = HashRefs::new(rt.alloc());
+    reserve_again(&rt, &mut refs)
+}
+
+/// Finds the references of a hash, again where memory is refused.
+fn match_again(
+    rt: &(impl Abort + AllocGlobal + Print),
+    refs: &mut HashRefs,
+    found: &mut Vec<RowRef>,
+) -> Result<(), Fail> {
+    if put_three(rt.alloc(), refs).is_err() {
+        return Ok(());
+    }
+    if refs.matches(rt.alloc(), 4, found).is_err() {
+        asked_again(rt)?;
+        assert!(rt; found.is_empty());
+        assert_three(rt, rt.alloc(), refs)?;
+        refs.matches(rt.alloc(), 4, found)?;
+    }
+    assert!(rt; are(found, &[first_of(1), first_of(3)]));
     Ok(())
 }
 
 #[test]
 fn hash_matches_growths(rt: HostRuntime) -> Result<(), Fail> {
-    let alloc = rt.alloc();
-    let mut refs = HashRefs::new(alloc);
-    if put_three(alloc, &mut refs).is_err() {
-        return Ok(());
-    }
-    let mut found = Vec::new(alloc);
-    if refs.matches(alloc, 4, &mut found).is_err() {
-        asked_again(&rt)?;
-        assert!(rt; found.is_empty());
-        assert_three(&rt, alloc, &refs)?;
-        refs.matches(alloc, 4, &mut found)?;
-    }
-    assert!(rt; are(&found, &[first_of(1), first_of(3)]));
-    Ok(())
+    let mut refs = HashRefs::new(rt.alloc());
+    let mut found = Vec::new(rt.alloc());
+    match_again(&rt, &mut refs, &mut found)
 }
 
 /// A full list of one reference, which has to grow for the next.
@@ -74,23 +86,31 @@ fn full_list(alloc: Global) -> Result<Vec<RowRef>, AllocError> {
     Ok(list)
 }
 
-#[test]
-fn hash_copy_growths(rt: HostRuntime) -> Result<(), Fail> {
-    let alloc = rt.alloc();
-    let mut refs = HashRefs::new(alloc);
-    if put_three(alloc, &mut refs).is_err() {
-        return Ok(());
-    }
-    let Ok(mut found) = full_list(alloc) else {
-        return Ok(());
-    };
-    if refs.copy_all(alloc, &mut found).is_err() {
-        asked_again(&rt)?;
-        assert!(rt; are(&found, &[first_of(0)]));
-        assert_three(&rt, alloc, &refs)?;
-        refs.copy_all(alloc, &mut found)?;
+/// Copies all references behind one, again where memory is refused.
+fn copy_again(
+    rt: &(impl Abort + AllocGlobal + Print),
+    refs: &HashRefs,
+    found: &mut Vec<RowRef>,
+) -> Result<(), Fail> {
+    if refs.copy_all(rt.alloc(), found).is_err() {
+        asked_again(rt)?;
+        assert!(rt; are(found, &[first_of(0)]));
+        assert_three(rt, rt.alloc(), refs)?;
+        refs.copy_all(rt.alloc(), found)?;
     }
     let wanted = [first_of(0), first_of(1), first_of(2), first_of(3)];
-    assert!(rt; are(&found, &wanted));
+    assert!(rt; are(found, &wanted));
     Ok(())
+}
+
+#[test]
+fn hash_copy_growths(rt: HostRuntime) -> Result<(), Fail> {
+    let mut refs = HashRefs::new(rt.alloc());
+    if put_three(rt.alloc(), &mut refs).is_err() {
+        return Ok(());
+    }
+    let Ok(mut found) = full_list(rt.alloc()) else {
+        return Ok(());
+    };
+    copy_again(&rt, &refs, &mut found)
 }

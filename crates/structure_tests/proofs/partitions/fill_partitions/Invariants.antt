@@ -1,6 +1,6 @@
 use Rattle.std.proofs.Common.{◌+◌, ◌≤◌}
 use Rattle.mm_partition.specs.Places.{IsLive}
-use Rattle.structure_tests.proofs.partitions.finds_each_row_of_several_partitions.Given as goal
+use Rattle.structure_tests.proofs.partitions.fill_partitions.Given as goal
 
 -- there is room for the rows to come, and the first row lives
 abbrev pub invariant-loop-k : goal.invariant-loop-k
