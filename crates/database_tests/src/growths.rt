@@ -187,6 +187,16 @@ fn bind_query_again(
     }
 }
 
+/// Asserts that the query is bound to the tables.
+fn assert_bound(rt: &impl Abort, bound: &BoundQuery) {
+    assert_eq!(rt; bound.fields.as_slice(), FIELDS.as_slice());
+    assert_eq!(rt; bound.order.as_slice(), [1, 0].as_slice());
+    assert_eq!(rt;
+        [bound.from.as_slice().len(), bound.atoms.as_slice().len()],
+        [2, 2]
+    );
+}
+
 #[test]
 fn bind_query_growths(rt: HostRuntime) -> Result<(), Fail> {
     let Some(catalog) = granted(&rt, catalog(rt.alloc(), &TABLES)) else {
@@ -196,12 +206,7 @@ fn bind_query_growths(rt: HostRuntime) -> Result<(), Fail> {
         return Ok(());
     };
     let bound = bind_query_again(&rt, &catalog, &query)?;
-    assert_eq!(rt; bound.fields.as_slice(), FIELDS.as_slice());
-    assert_eq!(rt; bound.order.as_slice(), [1, 0].as_slice());
-    assert_eq!(rt;
-        [bound.from.as_slice().len(), bound.atoms.as_slice().len()],
-        [2, 2]
-    );
+    assert_bound(&rt, &bound);
     Ok(())
 }
 

@@ -25,17 +25,21 @@ fn save_again(rt: &(impl Abort + Print), database: &mut Db, name: &Name) -> Resu
     Ok(())
 }
 
-#[test]
-fn savepoint_growths(rt: HostRuntime) -> Result<(), Fail> {
-    let inside = ["BEGIN", "DELETE emp"];
-    let Some(mut database) = granted(&rt, opened(rt.alloc(), &FILLED, &inside)) else {
-        return Ok(());
-    };
+/// Makes a savepoint of each name, again where memory is refused, and goes back to it.
+fn save_each(rt: &(impl Abort + Print), database: &mut Db) -> Result<(), Fail> {
     for bytes in NAMES {
         let name = Name::new(bytes).ok_or(NO_NAME)?;
-        save_again(&rt, &mut database, &name)?;
+        save_again(rt, database, &name)?;
     }
     Ok(())
+}
+
+#[test]
+fn savepoint_growths(rt: HostRuntime) -> Result<(), Fail> {
+    match granted(&rt, opened(rt.alloc(), &FILLED, &["BEGIN", "DELETE emp"])) {
+        Some(mut database) => save_each(&rt, &mut database),
+        None => Ok(()),
+    }
 }
 
 #[test]
