@@ -88,20 +88,7 @@ widths schema (written.Insert name tuples) place rows binds none table there =
 widths schema (written.Update name assignments tests) place rows binds none table there = absurd binds
 widths schema (written.Delete name tests) place rows binds none table there = absurd binds
 
--- INSERT and DELETE compute no values, ..
-pub insert_values : (schema : Schema) (mutation : Mutation) (place : ℕ) (rows : List Row) (state : State) → Binds schema mutation (bound.Insert place rows)
-    → value_conditions mutation state ≡ []
-insert_values schema (written.Insert name tuples) place rows state binds = refl
-insert_values schema (written.Update name assignments tests) place rows state binds = absurd binds
-insert_values schema (written.Delete name tests) place rows state binds = absurd binds
-
-pub delete_values : (schema : Schema) (mutation : Mutation) (place : ℕ) (tests : List (Atom ℕ)) (state : State)
-    → Binds schema mutation (bound.Delete place tests) → value_conditions mutation state ≡ []
-delete_values schema (written.Insert name tuples) place tests state binds = absurd binds
-delete_values schema (written.Update name assignments written_tests) place tests state binds = absurd binds
-delete_values schema (written.Delete name written_tests) place tests state binds = refl
-
--- .. and UPDATE those of its new rows.
+-- UPDATE computes the values of its new rows.
 pub update_values : (schema : Schema) (mutation : Mutation) (place : ℕ) (assignments : List (Assignment ℕ)) (tests : List (Atom ℕ)) (state : State)
     → Binds schema mutation (bound.Update place assignments tests) → value_conditions mutation state ≡ range_conditions (new_values (own_pairs mutation state))
 update_values schema (written.Insert name tuples) place assignments tests state binds = absurd binds

@@ -17,14 +17,7 @@ use Rattle.mm_txn.specs.Kept.{AreIndexes, AreOf, instance_of, state_of}
 use Rattle.mm_txn.proofs.RowsBeside.{AreOf-push, as_many_rows, beside, dropped_at_place, rows_at_place}
 
 module _ (schema : Schema) (rs : List StoredRows) (are : AreOf schema.tables rs) where
-  -- A new table beside which there are no rows is a new table of the state, ..
-  pub table_added : (definition : TableDef) (stored : StoredRows) → rows_of stored ≡ []
-      → state_of (with_table definition schema) (rs ++ stored ∷ []) ≡ after_definition (define.Table definition) (state_of schema rs)
-  table_added definition stored none =
-      ap (λ rows. record { schema = with_table definition schema; rows = rows; queries = []; saved = None })
-      (map-append (λ (k : StoredRows). rows_of k) rs (stored ∷ []) ∙ ap (λ rows. instance_of rs ++ rows ∷ []) none)
-
-  -- .. and those are its rows.
+  -- The rows of a new table are those beside it.
   pub rows_added : (definition : TableDef) (stored : StoredRows) → stored.key ≡ key_place definition.columns → stored.width ≡ length definition.columns
       → stored.indexes ≡ [] → AreOf (with_table definition schema).tables (rs ++ stored ∷ [])
   rows_added definition stored key width none =

@@ -66,16 +66,7 @@ module _ (store : Tables) (undo : List Noted) (lists : Lists) (rows : rows_now s
       subst (λ (r : Instance). AreSaved changes r lists) (sym (rows_at_end store undo commands past ∙ rows))
       (saved_now changes (instance_of store.tables) lists (drop_all changes lists.log over) listed)
 
-  -- A transaction that begins can go back to the rows now, ..
-  pub back_begun : (marks : List Mark) → undo ≡ [] → lists.log ≡ [] → marks ≡ [] → CanGoBack store undo lists marks
-  back_begun marks none log no_marks =
-      subst (CanGoBack store undo lists) (sym no_marks) (record {
-        saved = saved_at_end 0 0 (omega (arith, ap length none)) (omega (arith, ap length log));
-        each = All-nil (IsSaved undo store lists);
-        ascend = (omega arith, omega arith);
-      })
-
-  -- .. and one that makes a savepoint too, beside all to which it could.
+  -- A transaction that makes a savepoint can go back to that too, beside all to which it could.
   pub back_marked : (marks : List Mark) (mark : Mark) → mark.commands ≡ length undo → mark.changes ≡ length lists.log → CanGoBack store undo lists marks
       → CanGoBack store undo lists (marks ++ mark ∷ [])
   back_marked marks mark commands changes back = record {

@@ -22,7 +22,7 @@ use Rattle.mm_txn.specs.Kept.{AreKept, AreOf, instance_of}
 use Rattle.mm_txn.specs.Saved.{CanGoBack, IsConsistent, IsSaved, IsSettled, kept_state, saved_of, saved_rows}
 use Rattle.mm_txn.specs.Watched.{AreListed, queries_of}
 use Rattle.mm_txn.specs.declared.savepoints.Mark.{Mark}
-use Rattle.mm_txn.proofs.GoingBack.{back_begun, back_marked, back_through, back_to_mark, saved_same}
+use Rattle.mm_txn.proofs.GoingBack.{back_marked, back_through, back_to_mark, saved_same}
 use Rattle.mm_txn.proofs.KeptReferences.{kept_by_rows}
 use Rattle.mm_txn.proofs.ListSteps.{listed_back, listed_still, placed_still}
 use Rattle.mm_txn.proofs.RowsBeside.{AreOf-formed}
@@ -40,29 +40,6 @@ saved_open : (P : Instance → Type 0) (is_open : Bool) (saved : Saved) → is_o
 saved_open P is_open saved is held = subst (λ (b : Bool). IfSome (cond b (Some saved) None) (AreSavedRows P)) is held
 
 module _ (schema : Schema) (store : Tables) (undo : List Noted) (lists : Lists) (marks : List Mark) where
-  -- A transaction that begins can go back to the rows now, which have their types.
-  pub begun : IsConsistent schema store undo lists false marks → rows_now store ≡ instance_of store.tables → IsConsistent schema store undo lists true marks
-  begun was rows =
-      let settled = was.settled refl in
-      record {
-        kept = was.kept;
-        placed = was.placed;
-        typed = record {
-          rows = was.typed.rows;
-          saved = record {
-            at_begin = subst (AreTyped schema.tables) (sym (ap (λ log. rows_at_mark 0 log store) settled.0.undo_is ∙ rows)) was.typed.rows;
-            savepoints =
-                subst (λ (ms : List Mark). All (λ (s : Savepoint). AreTyped schema.tables s.rows) (saved_of undo store ms).savepoints) (sym settled.1)
-                (All-nil (λ (s : Savepoint). AreTyped schema.tables s.rows));
-          };
-          queries = was.typed.queries;
-        };
-        listed = was.listed;
-        fits = was.fits;
-        back = λ e. back_begun store undo lists rows was.listed marks settled.0.undo_is settled.0.log settled.1;
-        settled = λ e. absurd (false≢true (sym e));
-      }
-
   -- BEGIN saves the rows now, and no savepoint.
   pub begins : IsConsistent schema store undo lists false marks → rows_now store ≡ instance_of store.tables
       → saved_of undo store marks ≡ record { at_begin = instance_of store.tables; savepoints = [] }

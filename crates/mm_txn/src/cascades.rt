@@ -206,12 +206,9 @@ fn add_by_index(
     store.is_kept(cascade.to);
     let target = store.table(cascade.to);
     for edit in cascade.gone {
-        match row_gone(edit) {
-            Some(at) => {
-                let key = target.row(at).value(target.key());
-                store.matches(alloc, table, index, key, found)?;
-            }
-            None => {}
+        if let Some(at) = row_gone(edit) {
+            let key = target.row(at).value(target.key());
+            store.matches(alloc, table, index, key, found)?;
         }
     }
     Ok(())

@@ -279,7 +279,7 @@ fn as_changes<'e>(
 ) -> Result<Vec<TableChange<'e>>, AllocError>
     ensures { IfOk result (λ changes. map told changes.items ≡ placed own.now ∷ map placed along.now) }
 {
-    let mut changes = Vec::with_capacity(alloc, along.len())?;
+    let mut changes = Vec::with_capacity(alloc, along.len().saturating_add(1))?;
     changes.push(own.as_change())?;
     for removals in along {
         changes.push(removals.as_change())?;
