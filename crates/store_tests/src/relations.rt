@@ -14,6 +14,7 @@ use mm_relation::{Edit, Log, Relation};
 use mm_schema::IndexKind;
 use mm_value::{Row, RowRef, Value};
 use std::alloc::{AllocError, Global};
+use std::process::Abort;
 use std::test::Fail;
 
 /// No rows, with a TREE index on the second column at place 0, and a HASH index at place 1.
@@ -368,26 +369,40 @@ fn sample_with(alloc: Global, keys: &[i64]) -> Result<Option<Relation>, AllocErr
     Ok(Some(relation))
 }
 
+/// Adds rows of which two would have one key.
+fn refuse_twins(rt: &(impl Abort + AllocGlobal), relation: &mut Relation) -> Result<(), Fail>
+    requires { IsSample relation.old }
+{
+    let alloc = rt.alloc();
+    // Two new rows of one key, and a new row with the key of an old one.
+    assert!(rt; !put(relation, alloc, &[5, 4, 5])?);
+    assert!(rt; !put(relation, alloc, &[6, 2])?);
+    assert_eq!(rt; relation.len(), 3);
+    assert_eq!(rt; digit_of(relation, 5), None);
+    Ok(())
+}
+
 #[test]
 fn refuses_twins(rt: HostRuntime) -> Result<(), Fail> {
+    let mut relation = sample_with(rt.alloc(), &[3, 1, 2])?.ok_or(NOT_PUT)?;
+    refuse_twins(&rt, &mut relation)
+}
+
+/// Adds no row, and one of a new key.
+fn take_others(rt: &(impl Abort + AllocGlobal), relation: &mut Relation) -> Result<(), Fail>
+    requires { IsSample relation.old }
+{
     let alloc = rt.alloc();
-    let mut relation = sample_with(alloc, &[3, 1, 2])?.ok_or(NOT_PUT)?;
-    // Two new rows of one key, and a new row with the key of an old one.
-    assert!(rt; !put(&mut relation, alloc, &[5, 4, 5])?);
-    assert!(rt; !put(&mut relation, alloc, &[6, 2])?);
-    assert_eq!(rt; relation.len(), 3);
-    assert_eq!(rt; digit_of(&relation, 5), None);
+    assert!(rt; put(relation, alloc, &[])?);
+    assert!(rt; put(relation, alloc, &[14])?);
+    assert_eq!(rt; digit_of(relation, 14), Some(4));
     Ok(())
 }
 
 #[test]
 fn takes_other_keys(rt: HostRuntime) -> Result<(), Fail> {
-    let alloc = rt.alloc();
-    let mut relation = sample_with(alloc, &[3, 1, 2])?.ok_or(NOT_PUT)?;
-    assert!(rt; put(&mut relation, alloc, &[])?);
-    assert!(rt; put(&mut relation, alloc, &[14])?);
-    assert_eq!(rt; digit_of(&relation, 14), Some(4));
-    Ok(())
+    let mut relation = sample_with(rt.alloc(), &[3, 1, 2])?.ok_or(NOT_PUT)?;
+    take_others(&rt, &mut relation)
 }
 
 /// How many rows have the digits 1 and 2, by the TREE index, and how many 1, 2 and 5, by the HASH index.
@@ -405,23 +420,37 @@ fn counts(relation: &Relation, alloc: Global) -> Result<[usize; 4], AllocError>
 /// Five keys, of which three have the digit 1.
 const FIVE: [i64; 5] = [1, 11, 22, 35, 21];
 
+/// Counts the rows of each digit along the indexes.
+fn count_five(rt: &(impl Abort + AllocGlobal), relation: &Relation) -> Result<(), Fail>
+    requires { IsSample relation.now }
+{
+    let alloc = rt.alloc();
+    assert_eq!(rt; counts(relation, alloc)?, [4, 3, 1, 1]);
+    assert_eq!(rt; size_by_digit(relation, alloc)?, (5, 1));
+    Ok(())
+}
+
 #[test]
 fn fills_indexes(rt: HostRuntime) -> Result<(), Fail> {
+    let relation = sample_with(rt.alloc(), &FIVE)?.ok_or(NOT_PUT)?;
+    count_five(&rt, &relation)
+}
+
+/// Changes one row and takes another out.
+fn turn_two(rt: &(impl Abort + AllocGlobal), relation: &mut Relation) -> Result<(), Fail>
+    requires { IsSample relation.old }
+{
     let alloc = rt.alloc();
-    let relation = sample_with(alloc, &FIVE)?.ok_or(NOT_PUT)?;
-    assert_eq!(rt; counts(&relation, alloc)?, [4, 3, 1, 1]);
-    assert_eq!(rt; size_by_digit(&relation, alloc)?, (5, 1));
+    assert!(rt; turn(relation, alloc, 11, Some(15))?);
+    assert!(rt; turn(relation, alloc, 22, None)?);
+    assert_eq!(rt; counts(relation, alloc)?, [2, 2, 0, 2]);
     Ok(())
 }
 
 #[test]
 fn keeps_indexes(rt: HostRuntime) -> Result<(), Fail> {
-    let alloc = rt.alloc();
-    let mut relation = sample_with(alloc, &FIVE)?.ok_or(NOT_PUT)?;
-    assert!(rt; turn(&mut relation, alloc, 11, Some(15))?);
-    assert!(rt; turn(&mut relation, alloc, 22, None)?);
-    assert_eq!(rt; counts(&relation, alloc)?, [2, 2, 0, 2]);
-    Ok(())
+    let mut relation = sample_with(rt.alloc(), &FIVE)?.ok_or(NOT_PUT)?;
+    turn_two(&rt, &mut relation)
 }
 
 /// A thousand keys in an order that looks random: the multiples of 619 modulo the prime 1,009 go round all numbers.
@@ -469,15 +498,22 @@ fn add_tree(relation: &mut Relation, alloc: Global, column: usize) -> Result<(),
     Ok(())
 }
 
-#[test]
-fn builds_trees_over_rows(rt: HostRuntime) -> Result<(), Fail> {
+/// Adds TREE indexes over a thousand rows.
+fn add_trees(rt: &(impl Abort + AllocGlobal), relation: &mut Relation) -> Result<(), Fail>
+    requires { IsSample relation.old }
+{
     let alloc = rt.alloc();
-    let mut relation = thousand(alloc)?.ok_or(NOT_PUT)?;
     assert!(rt; relation.len() <= 1000);
-    add_tree(&mut relation, alloc, 1)?;
-    add_tree(&mut relation, alloc, 0)?;
+    add_tree(relation, alloc, 1)?;
+    add_tree(relation, alloc, 0)?;
     assert_eq!(rt; relation.len(), 1000);
     Ok(())
+}
+
+#[test]
+fn builds_trees_over_rows(rt: HostRuntime) -> Result<(), Fail> {
+    let mut relation = thousand(rt.alloc())?.ok_or(NOT_PUT)?;
+    add_trees(&rt, &mut relation)
 }
 
 /// Whether the row of a key has the key's digit and can be taken out.
@@ -491,19 +527,26 @@ fn goes(relation: &mut Relation, alloc: Global, key: i64) -> Result<bool, AllocE
     Ok(turn(relation, alloc, key, None)? && digit_of(relation, key).is_none())
 }
 
-#[test]
-fn finds_each_of_many_rows(rt: HostRuntime) -> Result<(), Fail> {
+/// Finds each row by its key and takes it out.
+fn find_and_take_each(rt: &(impl Abort + AllocGlobal), relation: &mut Relation) -> Result<(), Fail>
+    requires { IsSample relation.old }
+{
     let alloc = rt.alloc();
-    let mut relation = thousand(alloc)?.ok_or(NOT_PUT)?;
-    assert!(rt; !put(&mut relation, alloc, &[2000, 619])?);
+    assert!(rt; !put(relation, alloc, &[2000, 619])?);
     let keys = shuffled_keys(alloc)?;
     for key in &keys {
-        assert!(rt; goes(&mut relation, alloc, *key)?);
+        assert!(rt; goes(relation, alloc, *key)?);
     }
     assert_eq!(rt; relation.len(), 0);
     relation.trim_spares(1);
     assert_eq!(rt; relation.len(), 0);
     Ok(())
+}
+
+#[test]
+fn finds_each_of_many_rows(rt: HostRuntime) -> Result<(), Fail> {
+    let mut relation = thousand(rt.alloc())?.ok_or(NOT_PUT)?;
+    find_and_take_each(&rt, &mut relation)
 }
 
 /// The same as `there_and_back` with nothing owed, where memory is refused once at most.

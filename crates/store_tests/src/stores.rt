@@ -15,6 +15,7 @@ use mm_store::{Meter, Store, Undo};
 use mm_value::{Refusal, Row, RowRef, Value};
 use std::alloc::{AllocError, Global};
 use std::marker::Model;
+use std::process::Abort;
 use std::test::Fail;
 
 /// Adds an index on the second column of a table.
@@ -277,28 +278,37 @@ fn starts_empty(rt: HostRuntime) -> Result<(), Fail> {
     Ok(())
 }
 
-#[test]
-fn keeps_tables_apart(rt: HostRuntime) -> Result<(), Fail> {
+/// Adds rows to two tables, and drops the first.
+fn keep_apart(rt: &(impl Abort + AllocGlobal), store: &mut Store) -> Result<(), Fail>
+    requires two { length store.old.tables ≡ 2 }
+    requires none { store.old.links ≡ [] }
+    requires plain { ArePlain store.old }
+{
     let alloc = rt.alloc();
-    let mut store = sample_again(alloc, &[])?;
     assert_eq!(rt; store.len(), 2);
-    assert!(rt; put(&mut store, alloc, 0, &[1, 2, 3])?);
-    assert!(rt; put(&mut store, alloc, 1, &[3, 14])?);
+    assert!(rt; put(store, alloc, 0, &[1, 2, 3])?);
+    assert!(rt; put(store, alloc, 1, &[3, 14])?);
 
     // A key is taken in its own table alone.
-    assert!(rt; !put(&mut store, alloc, 1, &[5, 14])?);
-    assert!(rt; put(&mut store, alloc, 0, &[14])?);
+    assert!(rt; !put(store, alloc, 1, &[5, 14])?);
+    assert!(rt; put(store, alloc, 0, &[14])?);
     assert_eq!(rt; store.table(0).len(), 4);
     assert_eq!(rt; store.table(1).len(), 2);
-    assert!(rt; !has_key(&store, 1, 5));
+    assert!(rt; !has_key(store, 1, 5));
 
     // The second moves up, with its rows.
     store.drop_table(0);
     assert_eq!(rt; store.len(), 1);
     assert_eq!(rt; store.table(0).len(), 2);
-    assert!(rt; has_key(&store, 0, 14));
-    assert!(rt; !has_key(&store, 0, 1));
+    assert!(rt; has_key(store, 0, 14));
+    assert!(rt; !has_key(store, 0, 1));
     Ok(())
+}
+
+#[test]
+fn keeps_tables_apart(rt: HostRuntime) -> Result<(), Fail> {
+    let mut store = sample_again(rt.alloc(), &[])?;
+    keep_apart(&rt, &mut store)
 }
 
 /// The second column of the second table refers to the first.
@@ -580,11 +590,9 @@ impl Case {
     }
 }
 
-#[test]
-fn keeps_targets_of_references(rt: HostRuntime) -> Result<(), Fail> {
+/// Adds rows that refer to others, and takes both out.
+fn keep_targets(rt: &(impl Abort + AllocGlobal), case: &mut Case) -> Result<(), Fail> {
     let alloc = rt.alloc();
-    let mut case = Case::new(alloc, &[1, 3], &[])?;
-
     // A row needs its target.
     let trials = [
         (1, Step::Put(&[12]), false),
@@ -607,15 +615,26 @@ fn keeps_targets_of_references(rt: HostRuntime) -> Result<(), Fail> {
 }
 
 #[test]
-fn looks_values_up(rt: HostRuntime) -> Result<(), Fail> {
+fn keeps_targets_of_references(rt: HostRuntime) -> Result<(), Fail> {
+    let mut case = Case::new(rt.alloc(), &[1, 3], &[])?;
+    keep_targets(&rt, &mut case)
+}
+
+/// Counts the rows of the second table that have a value in a column, and those between two keys.
+fn look_up(rt: &(impl Abort + AllocGlobal), case: &Case) -> Result<(), Fail> {
     let alloc = rt.alloc();
-    let case = Case::new(alloc, &[2, 3], &[12, 13, 22])?;
     assert_eq!(rt; case.count(alloc, 0, 22)?, Some(1));
     assert_eq!(rt; case.count(alloc, 0, 23)?, Some(0));
     assert_eq!(rt; case.count(alloc, 1, 2)?, Some(2));
     assert_eq!(rt; case.count(alloc, 2, 2)?, None);
     assert_eq!(rt; count_between(&case.store, alloc, 1, 13, 30)?, 2);
     Ok(())
+}
+
+#[test]
+fn looks_values_up(rt: HostRuntime) -> Result<(), Fail> {
+    let case = Case::new(rt.alloc(), &[2, 3], &[12, 13, 22])?;
+    look_up(&rt, &case)
 }
 
 /// A new target, and a row that refers to it.
@@ -641,10 +660,9 @@ fn goes_back_to_marks(rt: HostRuntime) -> Result<(), Fail> {
     Ok(())
 }
 
-#[test]
-fn makes_again_what_was_taken_back(rt: HostRuntime) -> Result<(), Fail> {
+/// Makes steps, takes them back, makes them again for good, and looks at a target.
+fn make_again(rt: &(impl Abort + AllocGlobal), case: &mut Case) -> Result<(), Fail> {
     let alloc = rt.alloc();
-    let mut case = Case::new(alloc, &[1, 2, 3], &[11, 12, 23])?;
     assert!(rt; case.comes_back(alloc, &FIRST_STEPS)?);
     assert!(rt; case.goes_as(alloc, &FIRST_STEPS)?);
     case.finish();
@@ -654,9 +672,14 @@ fn makes_again_what_was_taken_back(rt: HostRuntime) -> Result<(), Fail> {
 }
 
 #[test]
-fn gives_places_out_again(rt: HostRuntime) -> Result<(), Fail> {
+fn makes_again_what_was_taken_back(rt: HostRuntime) -> Result<(), Fail> {
+    let mut case = Case::new(rt.alloc(), &[1, 2, 3], &[11, 12, 23])?;
+    make_again(&rt, &mut case)
+}
+
+/// Takes a row out, adds one behind it, and one more once that is final.
+fn give_out_again(rt: &(impl Abort + AllocGlobal), case: &mut Case) -> Result<(), Fail> {
     let alloc = rt.alloc();
-    let mut case = Case::new(alloc, &[2, 3], &[12])?;
     let place = case.second(12);
 
     // The place of a hidden row is not given out until the command is final.
@@ -670,13 +693,24 @@ fn gives_places_out_again(rt: HostRuntime) -> Result<(), Fail> {
 }
 
 #[test]
-fn takes_many_changes_back(rt: HostRuntime) -> Result<(), Fail> {
+fn gives_places_out_again(rt: HostRuntime) -> Result<(), Fail> {
+    let mut case = Case::new(rt.alloc(), &[2, 3], &[12])?;
+    give_out_again(&rt, &mut case)
+}
+
+/// Makes many changes and takes them back, and takes the targets out.
+fn take_many_back(rt: &(impl Abort + AllocGlobal), case: &mut Case) -> Result<(), Fail> {
     let alloc = rt.alloc();
-    let mut case = Case::new(alloc, &[0, 1], &[])?;
     assert!(rt; case.many_come_back(alloc, 5000)?);
 
     // No row refers to the targets any more.
     let trials = [(0, Step::Remove(0), true), (0, Step::Remove(1), true)];
     assert!(rt; case.goes_as(alloc, &trials)?);
     Ok(())
+}
+
+#[test]
+fn takes_many_changes_back(rt: HostRuntime) -> Result<(), Fail> {
+    let mut case = Case::new(rt.alloc(), &[0, 1], &[])?;
+    take_many_back(&rt, &mut case)
 }
