@@ -114,8 +114,8 @@ fn is_below<O: RefOrder>(order: &O, added: RowRef, bound: Option<RowRef>) -> boo
 /// reference lies before the bound.
 ///
 /// It asks one question a node on the way down, whether the reference lies before the node's least entry (Lu, Ng and Tian, ADC 2000).
-/// Under a node of which it does not, the greatest entry of that node is the bound. So it goes into the node that bounds it or, where none does, into the last node of
-/// the path to it, or into a new leaf under that where it is full.
+/// Under a node of which it does not, the greatest entry of that node is the bound. So it goes into the node that bounds it or, where
+/// none does, into the last node of the path to it, or into a new leaf under that where it is full.
 pub(crate) fn insert_into<O: RefOrder>(
     tree: Option<Subtree>,
     order: &O,
