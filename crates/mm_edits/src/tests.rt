@@ -268,7 +268,12 @@ fn finds_rows_along_a_tree(rt: HostRuntime) -> Result<(), Fail> {
 fn removes_a_row_that_is_found_along_a_tree(rt: HostRuntime) -> Result<(), Fail> {
     let alloc = rt.alloc();
     let mut relation = three_indexed(alloc, IndexKind::Tree)?;
-    let same = number_is(Comparison::Equal, 20);
+    // The row has moved in the tree before it goes.
+    assert_eq!(rt;
+        shift(&mut relation, alloc, 50, &from_20_below_30()),
+        Ok(true)
+    );
+    let same = number_is(Comparison::Equal, 70);
     assert!(rt; take(&mut relation, alloc, &[same])?);
     assert_eq!(rt; numbers(&relation), [Some(10), None, Some(30)]);
     Ok(())
@@ -299,9 +304,10 @@ fn finds_rows_by_their_hashes(rt: HostRuntime) -> Result<(), Fail> {
 fn removes_no_row_of_another_hash(rt: HostRuntime) -> Result<(), Fail> {
     let alloc = rt.alloc();
     let mut relation = three_indexed(alloc, IndexKind::Hash)?;
+    assert_eq!(rt; shift(&mut relation, alloc, 5, &[at_least(2)]), Ok(true));
     let twelve = number_is(Comparison::Equal, 12);
     assert!(rt; take(&mut relation, alloc, &[twelve])?);
-    assert_eq!(rt; numbers(&relation), [Some(10), Some(20), Some(30)]);
+    assert_eq!(rt; numbers(&relation), [Some(10), Some(25), Some(35)]);
     Ok(())
 }
 

@@ -112,14 +112,14 @@ fn assert_up_to(
     Ok(())
 }
 
-/// The partition of the entry of a partition that a tree finds, if it finds one, and how many questions it asks.
-fn found(tree: &TTree, part: usize) -> (Option<usize>, u64)
+/// The reference into a partition that a tree finds, if it finds one, and how many questions it asks.
+fn found(tree: &TTree, part: usize) -> (Option<RowRef>, u64)
     requires { IsByPlace tree.now.refs }
 {
     let probe = InPartition(part);
     let mut seek = Seek::new(&probe);
     let found = tree.find(&ByPlace, &mut seek);
-    (found.map(|at| at.part), seek.count())
+    (found, seek.count())
 }
 
 #[test]
@@ -139,8 +139,8 @@ fn shrinks(rt: HostRuntime) -> Result<(), Fail> {
     }
     assert_eq!(rt; tree.len(), 100);
     assert!(rt; tree.height() <= 4);
-    let (part, questions) = found(&tree, 1925);
-    assert_eq!(rt; part, Some(1925));
+    let (at, questions) = found(&tree, 1925);
+    assert_eq!(rt; at, Some(first_of(1925)));
     assert!(rt; questions <= 9);
     assert_eq!(rt; found(&tree, 5).0, None);
     assert_up_to(&rt, rt.alloc(), &tree, 1949, 1900, 50)?;
