@@ -13,6 +13,7 @@ use mm_relation::{Edit, Log, Relation};
 use mm_schema::IndexKind;
 use mm_value::{Refusal, Row, RowRef, Value};
 use std::alloc::{AllocError, Global};
+use std::process::Abort;
 use std::test::Fail;
 
 /// Makes the edits for good, and says that it did, unless two rows would have one key then.
@@ -39,13 +40,20 @@ fn row_of(alloc: Global, key: u8) -> Result<Row, AllocError>
     Ok(Row::new(values))
 }
 
+/// Rows of the keys 1, 2 and 3.
+fn three_rows(alloc: Global) -> Result<Vec<Row>, AllocError>
+    ensures { IfOk result (λ rows. All (λ row. length row ≡ 2) rows.items) }
+{
+    let rows = vec![in alloc; row_of(alloc, 1)?, row_of(alloc, 2)?, row_of(alloc, 3)?]?;
+    Ok(rows)
+}
+
 /// The rows of the keys 1, 2 and 3.
 fn try_three(alloc: Global) -> Result<Relation, AllocError>
     ensures { IfOk result (λ relation. relation.width ≡ 2) }
 {
+    let edits = additions(alloc, three_rows(alloc)?)?;
     let mut relation = Relation::new(alloc, 2, 0);
-    let rows = vec![in alloc; row_of(alloc, 1)?, row_of(alloc, 2)?, row_of(alloc, 3)?]?;
-    let edits = additions(alloc, rows)?;
     make(&mut relation, alloc, edits)?;
     Ok(relation)
 }
@@ -193,37 +201,70 @@ fn numbers(relation: &Relation) -> [Option<i64>; 3] {
     ]
 }
 
+/// Adds a number to the second value of each row that meets the tests, and says which numbers stand there then.
+fn shift_to(
+    rt: &(impl Abort + AllocGlobal),
+    relation: &mut Relation,
+    by: i64,
+    tests: &[Atom<usize>],
+    wanted: [Option<i64>; 3],
+) -> Result<(), Fail>
+    requires width { relation.old.width ≡ 2 }
+    requires tests { TestsWithin 2 tests.now }
+    ensures { relation.new.width ≡ 2 }
+{
+    assert_eq!(rt; shift(relation, rt.alloc(), by, tests), Ok(true));
+    assert_eq!(rt; numbers(relation), wanted);
+    Ok(())
+}
+
+/// Takes out each row that meets the tests, and says which numbers are left.
+fn take_to(
+    rt: &(impl Abort + AllocGlobal),
+    relation: &mut Relation,
+    tests: &[Atom<usize>],
+    wanted: [Option<i64>; 3],
+) -> Result<(), Fail>
+    requires width { relation.old.width ≡ 2 }
+    requires tests { TestsWithin 2 tests.now }
+    ensures { relation.new.width ≡ 2 }
+{
+    assert!(rt; take(relation, rt.alloc(), tests)?);
+    assert_eq!(rt; numbers(relation), wanted);
+    Ok(())
+}
+
 #[test]
 fn updates_the_rows_that_meet_tests(rt: HostRuntime) -> Result<(), Fail> {
-    let alloc = rt.alloc();
-    let mut relation = three(alloc)?;
-    assert_eq!(rt; numbers(&relation), [Some(10), Some(20), Some(30)]);
-    assert_eq!(rt; shift(&mut relation, alloc, 5, &[at_least(2)]), Ok(true));
-    assert_eq!(rt; numbers(&relation), [Some(10), Some(25), Some(35)]);
-    assert_eq!(rt; shift(&mut relation, alloc, -35, &[]), Ok(true));
-    assert_eq!(rt; numbers(&relation), [Some(-25), Some(-10), Some(0)]);
-    Ok(())
+    let mut relation = three(rt.alloc())?;
+    let relation = &mut relation;
+    assert_eq!(rt; numbers(relation), [Some(10), Some(20), Some(30)]);
+    shift_to(
+        &rt,
+        relation,
+        5,
+        &[at_least(2)],
+        [Some(10), Some(25), Some(35)],
+    )?;
+    shift_to(&rt, relation, -35, &[], [Some(-25), Some(-10), Some(0)])
 }
 
 #[test]
 fn refuses_a_number_past_the_range(rt: HostRuntime) -> Result<(), Fail> {
-    let alloc = rt.alloc();
-    let mut relation = three(alloc)?;
-    let refused = Err(Refusal::ArithmeticOutOfRange);
-    assert_eq!(rt; shift(&mut relation, alloc, i64::MAX - 29, &[]), refused);
-    assert_eq!(rt; numbers(&relation), [Some(10), Some(20), Some(30)]);
-    assert_eq!(rt; shift(&mut relation, alloc, i64::MAX - 30, &[]), Ok(true));
-    assert_eq!(rt; number_of(&relation, 3), Some(i64::MAX));
-    Ok(())
+    let mut relation = three(rt.alloc())?;
+    let relation = &mut relation;
+    let shifted = shift(relation, rt.alloc(), i64::MAX - 29, &[]);
+    assert_eq!(rt; shifted, Err(Refusal::ArithmeticOutOfRange));
+    assert_eq!(rt; numbers(relation), [Some(10), Some(20), Some(30)]);
+    let greatest = [i64::MAX - 20, i64::MAX - 10, i64::MAX].map(Some);
+    shift_to(&rt, relation, i64::MAX - 30, &[], greatest)
 }
 
 #[test]
 fn removes_the_rows_that_meet_tests(rt: HostRuntime) -> Result<(), Fail> {
-    let alloc = rt.alloc();
-    let mut relation = three(alloc)?;
-    assert!(rt; take(&mut relation, alloc, &[at_least(2)])?);
-    assert_eq!(rt; numbers(&relation), [Some(10), None, None]);
-    assert!(rt; take(&mut relation, alloc, &[])?);
+    let mut relation = three(rt.alloc())?;
+    take_to(&rt, &mut relation, &[at_least(2)], [Some(10), None, None])?;
+    take_to(&rt, &mut relation, &[], [None, None, None])?;
     assert_eq!(rt; relation.len(), 0);
     Ok(())
 }
@@ -252,31 +293,24 @@ fn finds_both_ends_of_a_range(rt: HostRuntime) -> Result<(), Fail> {
 
 #[test]
 fn finds_rows_along_a_tree(rt: HostRuntime) -> Result<(), Fail> {
-    let alloc = rt.alloc();
-    let mut relation = three_indexed(alloc, IndexKind::Tree)?;
-    let tests = from_20_below_30();
-    assert_eq!(rt; shift(&mut relation, alloc, 50, &tests), Ok(true));
-    assert_eq!(rt; numbers(&relation), [Some(10), Some(70), Some(30)]);
+    let mut relation = three_indexed(rt.alloc(), IndexKind::Tree)?;
+    let relation = &mut relation;
+    let within = from_20_below_30();
+    shift_to(&rt, relation, 50, &within, [Some(10), Some(70), Some(30)])?;
     // Along the tree the row of the key 3 now comes before that of the key 2.
     let above = number_is(Comparison::Greater, 10);
-    assert_eq!(rt; shift(&mut relation, alloc, 1, &[above]), Ok(true));
-    assert_eq!(rt; numbers(&relation), [Some(10), Some(71), Some(31)]);
-    Ok(())
+    shift_to(&rt, relation, 1, &[above], [Some(10), Some(71), Some(31)])
 }
 
 #[test]
 fn removes_a_row_that_is_found_along_a_tree(rt: HostRuntime) -> Result<(), Fail> {
-    let alloc = rt.alloc();
-    let mut relation = three_indexed(alloc, IndexKind::Tree)?;
+    let mut relation = three_indexed(rt.alloc(), IndexKind::Tree)?;
+    let relation = &mut relation;
     // The row has moved in the tree before it goes.
-    assert_eq!(rt;
-        shift(&mut relation, alloc, 50, &from_20_below_30()),
-        Ok(true)
-    );
+    let within = from_20_below_30();
+    shift_to(&rt, relation, 50, &within, [Some(10), Some(70), Some(30)])?;
     let same = number_is(Comparison::Equal, 70);
-    assert!(rt; take(&mut relation, alloc, &[same])?);
-    assert_eq!(rt; numbers(&relation), [Some(10), None, Some(30)]);
-    Ok(())
+    take_to(&rt, relation, &[same], [Some(10), None, Some(30)])
 }
 
 #[test]
@@ -290,38 +324,44 @@ fn a_hash_index_serves_a_value(rt: HostRuntime) -> Result<(), Fail> {
 
 #[test]
 fn finds_rows_by_their_hashes(rt: HostRuntime) -> Result<(), Fail> {
-    let alloc = rt.alloc();
-    let mut relation = three_indexed(alloc, IndexKind::Hash)?;
-    assert_eq!(rt; shift(&mut relation, alloc, -10, &[at_least(2)]), Ok(true));
-    assert_eq!(rt; numbers(&relation), [Some(10), Some(10), Some(20)]);
+    let mut relation = three_indexed(rt.alloc(), IndexKind::Hash)?;
+    let relation = &mut relation;
+    shift_to(
+        &rt,
+        relation,
+        -10,
+        &[at_least(2)],
+        [Some(10), Some(10), Some(20)],
+    )?;
     let tests = [at_least(2), number_is(Comparison::Equal, 10)];
-    assert_eq!(rt; shift(&mut relation, alloc, 5, &tests), Ok(true));
-    assert_eq!(rt; numbers(&relation), [Some(10), Some(15), Some(20)]);
-    Ok(())
+    shift_to(&rt, relation, 5, &tests, [Some(10), Some(15), Some(20)])
 }
 
 #[test]
 fn removes_no_row_of_another_hash(rt: HostRuntime) -> Result<(), Fail> {
-    let alloc = rt.alloc();
-    let mut relation = three_indexed(alloc, IndexKind::Hash)?;
-    assert_eq!(rt; shift(&mut relation, alloc, 5, &[at_least(2)]), Ok(true));
+    let mut relation = three_indexed(rt.alloc(), IndexKind::Hash)?;
+    let relation = &mut relation;
+    let wanted = [Some(10), Some(25), Some(35)];
+    shift_to(&rt, relation, 5, &[at_least(2)], wanted)?;
     let twelve = number_is(Comparison::Equal, 12);
-    assert!(rt; take(&mut relation, alloc, &[twelve])?);
-    assert_eq!(rt; numbers(&relation), [Some(10), Some(25), Some(35)]);
+    take_to(&rt, relation, &[twelve], wanted)
+}
+
+#[test]
+fn goes_along_the_key(rt: HostRuntime) -> Result<(), Fail> {
+    let relation = three_indexed(rt.alloc(), IndexKind::Hash)?;
+    let tests = [number_is(Comparison::Greater, 20), at_least(2)];
+    assert!(rt; path_for(&relation, &tests[..1]).is_none());
+    let path = path_for(&relation, &tests);
+    assert!(rt; matches!(path, Some(Path::Key { .. })));
     Ok(())
 }
 
 #[test]
 fn finds_rows_along_the_key(rt: HostRuntime) -> Result<(), Fail> {
-    let alloc = rt.alloc();
-    let mut relation = three_indexed(alloc, IndexKind::Hash)?;
+    let mut relation = three_indexed(rt.alloc(), IndexKind::Hash)?;
     let tests = [number_is(Comparison::Greater, 20), at_least(2)];
-    assert!(rt; path_for(&relation, &tests[..1]).is_none());
-    let path = path_for(&relation, &tests);
-    assert!(rt; matches!(path, Some(Path::Key { .. })));
-    assert!(rt; take(&mut relation, alloc, &tests)?);
-    assert_eq!(rt; numbers(&relation), [Some(10), Some(20), None]);
-    Ok(())
+    take_to(&rt, &mut relation, &tests, [Some(10), Some(20), None])
 }
 
 /// Takes out the rows of the keys 1 and 3, whose references are given out of order, and one twice.
@@ -353,8 +393,14 @@ fn take_given(relation: &mut Relation, alloc: Global) -> Result<bool, AllocError
 fn removes_the_rows_of_references(rt: HostRuntime) -> Result<(), Fail> {
     let alloc = rt.alloc();
     let mut relation = three(alloc)?;
-    assert!(rt; removals_at(alloc, &relation, &[])?.is_empty());
     assert!(rt; take_given(&mut relation, alloc)?);
     assert_eq!(rt; numbers(&relation), [None, Some(20), None]);
+    Ok(())
+}
+
+#[test]
+fn removes_nothing_without_references(rt: HostRuntime) -> Result<(), Fail> {
+    let relation = three(rt.alloc())?;
+    assert!(rt; removals_at(rt.alloc(), &relation, &[])?.is_empty());
     Ok(())
 }
