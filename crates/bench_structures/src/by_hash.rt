@@ -28,12 +28,13 @@ fn measure_distinct(rt: &HostRuntime, n: usize) -> anyhow::Result<()> {
     let alloc = rt.alloc();
     let sought = shuffled(alloc, n, Hashes::Distinct)?;
     let mut bag = HashRefs::new(alloc);
-    time_fill(rt, "HashRefs", &mut bag, n, Hashes::Distinct)?;
-    let start = Instant::now(rt)?;
-    let found = ask(alloc, &bag, sought.as_slice())?;
-    let pass = Pass::new("HashRefs", "look-up", n);
-    print(rt, &pass, start.elapsed(rt)?, found)?;
-    time_empty(rt, "HashRefs", &mut bag, sought.as_slice())
+    time_distinct(rt, &mut bag, sought.as_slice())
+}
+
+fn time_distinct(rt: &HostRuntime, bag: &mut HashRefs, sought: &[Entry]) -> anyhow::Result<()> {
+    time_fill(rt, "HashRefs", bag, sought.len(), Hashes::Distinct)?;
+    time_ask(rt, "HashRefs", bag, sought)?;
+    time_empty(rt, "HashRefs", bag, sought)
 }
 
 fn measure_few(rt: &HostRuntime, n: usize) -> anyhow::Result<()> {
@@ -85,6 +86,20 @@ fn time_fill(
     }
     let pass = Pass::new(structure, "insert", n);
     print(rt, &pass, start.elapsed(rt)?, 0)?;
+    Ok(())
+}
+
+fn time_ask(
+    rt: &HostRuntime,
+    structure: &str,
+    bag: &HashRefs,
+    sought: &[Entry],
+) -> anyhow::Result<()> {
+    let alloc = rt.alloc();
+    let start = Instant::now(rt)?;
+    let found = ask(alloc, bag, sought)?;
+    let pass = Pass::new(structure, "look-up", sought.len());
+    print(rt, &pass, start.elapsed(rt)?, found)?;
     Ok(())
 }
 

@@ -23,35 +23,7 @@ pub(crate) fn measure_tree(rt: &HostRuntime, n: usize) -> anyhow::Result<()> {
     let order = ByKey {
         keys: keys.as_slice(),
     };
-    let mut tree = TTree::new(alloc);
-    let start = Instant::now(rt)?;
-    fill(alloc, &mut tree, &order, n)?;
-    print(rt, &Pass::new("TTree", "insert", n), start.elapsed(rt)?, 0)?;
-    let start = Instant::now(rt)?;
-    let found = ask_tree(&tree, &order, sought.as_slice());
-    print(
-        rt,
-        &Pass::new("TTree", "look-up", n),
-        start.elapsed(rt)?,
-        found,
-    )?;
-    let start = Instant::now(rt)?;
-    let walked = walk(&tree);
-    print(
-        rt,
-        &Pass::new("TTree", "walk", n),
-        start.elapsed(rt)?,
-        walked,
-    )?;
-    let start = Instant::now(rt)?;
-    let gone = empty(&mut tree, &order, sought.as_slice());
-    print(
-        rt,
-        &Pass::new("TTree", "remove", n),
-        start.elapsed(rt)?,
-        gone,
-    )?;
-    Ok(())
+    time_tree(rt, &mut TTree::new(alloc), &order, sought.as_slice())
 }
 
 /// Fills a sorted vector with `n` references, asks for each and takes them out.
@@ -63,32 +35,7 @@ pub(crate) fn measure_vector(rt: &HostRuntime, n: usize) -> anyhow::Result<()> {
     let order = ByKey {
         keys: keys.as_slice(),
     };
-    let mut list = SortedRefs::new(alloc);
-    let start = Instant::now(rt)?;
-    fill(alloc, &mut list, &order, n)?;
-    print(
-        rt,
-        &Pass::new("SortedRefs", "insert", n),
-        start.elapsed(rt)?,
-        0,
-    )?;
-    let start = Instant::now(rt)?;
-    let found = ask_vector(alloc, &list, &order, sought.as_slice())?;
-    print(
-        rt,
-        &Pass::new("SortedRefs", "look-up", n),
-        start.elapsed(rt)?,
-        found,
-    )?;
-    let start = Instant::now(rt)?;
-    let gone = empty(&mut list, &order, sought.as_slice());
-    print(
-        rt,
-        &Pass::new("SortedRefs", "remove", n),
-        start.elapsed(rt)?,
-        gone,
-    )?;
-    Ok(())
+    time_vector(rt, &mut SortedRefs::new(alloc), &order, sought.as_slice())
 }
 
 /// Fills an empty list with references in ascending order.
@@ -100,22 +47,111 @@ fn measure_ascending<L: OrderedRefs>(
 ) -> anyhow::Result<()>
     requires { L.refs list.old ≡ [] }
 {
-    let alloc = rt.alloc();
-    let mut keys = Vec::with_capacity(alloc, n)?;
-    for number in 0..n {
-        keys.push(number as u64)?;
-    }
+    let keys = ascending_below(rt.alloc(), n)?;
     let order = ByKey {
         keys: keys.as_slice(),
     };
+    time_fill(rt, &Pass::new(structure, "ascending", n), list, &order, n)
+}
+
+fn time_tree(
+    rt: &HostRuntime,
+    tree: &mut TTree,
+    order: &ByKey,
+    sought: &[Entry],
+) -> anyhow::Result<()>
+    requires { tree.old.refs ≡ [] }
+{
+    let n = sought.len();
+    time_fill(rt, &Pass::new("TTree", "insert", n), tree, order, n)?;
+    time_ask_tree(rt, tree, order, sought)?;
+    time_walk(rt, tree, n)?;
+    time_empty(rt, "TTree", tree, order, sought)
+}
+
+fn time_vector(
+    rt: &HostRuntime,
+    list: &mut SortedRefs,
+    order: &ByKey,
+    sought: &[Entry],
+) -> anyhow::Result<()>
+    requires { list.old.refs ≡ [] }
+{
+    let n = sought.len();
+    time_fill(rt, &Pass::new("SortedRefs", "insert", n), list, order, n)?;
+    time_ask_vector(rt, list, order, sought)?;
+    time_empty(rt, "SortedRefs", list, order, sought)
+}
+
+fn time_fill<L: OrderedRefs>(
+    rt: &HostRuntime,
+    pass: &Pass,
+    list: &mut L,
+    order: &ByKey,
+    n: usize,
+) -> anyhow::Result<()>
+    requires { L.refs list.old ≡ [] }
+    ensures { OnOk result (IsOrdered (λ _. Unit {0}) (by_key order.now.keys.now) (L.refs list.new)) }
+{
+    let alloc = rt.alloc();
     let start = Instant::now(rt)?;
-    fill(alloc, list, &order, n)?;
-    print(
-        rt,
-        &Pass::new(structure, "ascending", n),
-        start.elapsed(rt)?,
-        0,
-    )?;
+    fill(alloc, list, order, n)?;
+    print(rt, pass, start.elapsed(rt)?, 0)?;
+    Ok(())
+}
+
+fn time_ask_tree(
+    rt: &HostRuntime,
+    tree: &TTree,
+    order: &ByKey,
+    sought: &[Entry],
+) -> anyhow::Result<()>
+    requires { IsOrdered (λ _. Unit {0}) (by_key order.now.keys.now) tree.now.refs }
+{
+    let start = Instant::now(rt)?;
+    let found = ask_tree(tree, order, sought);
+    let pass = Pass::new("TTree", "look-up", sought.len());
+    print(rt, &pass, start.elapsed(rt)?, found)?;
+    Ok(())
+}
+
+fn time_ask_vector(
+    rt: &HostRuntime,
+    list: &SortedRefs,
+    order: &ByKey,
+    sought: &[Entry],
+) -> anyhow::Result<()>
+    requires { IsOrdered (λ _. Unit {0}) (by_key order.now.keys.now) list.now.refs }
+{
+    let alloc = rt.alloc();
+    let start = Instant::now(rt)?;
+    let found = ask_vector(alloc, list, order, sought)?;
+    let pass = Pass::new("SortedRefs", "look-up", sought.len());
+    print(rt, &pass, start.elapsed(rt)?, found)?;
+    Ok(())
+}
+
+fn time_walk(rt: &HostRuntime, tree: &TTree, n: usize) -> anyhow::Result<()> {
+    let start = Instant::now(rt)?;
+    let walked = walk(tree);
+    let pass = Pass::new("TTree", "walk", n);
+    print(rt, &pass, start.elapsed(rt)?, walked)?;
+    Ok(())
+}
+
+fn time_empty<L: OrderedRefs>(
+    rt: &HostRuntime,
+    structure: &str,
+    list: &mut L,
+    order: &ByKey,
+    sought: &[Entry],
+) -> anyhow::Result<()>
+    requires { IsOrdered (λ _. Unit {0}) (by_key order.now.keys.now) (L.refs list.old) }
+{
+    let start = Instant::now(rt)?;
+    let gone = empty(list, order, sought);
+    let pass = Pass::new(structure, "remove", sought.len());
+    print(rt, &pass, start.elapsed(rt)?, gone)?;
     Ok(())
 }
 
@@ -129,6 +165,15 @@ fn walk(tree: &TTree) -> usize {
         sum = sum.wrapping_add(reference.part);
     }
     sum
+}
+
+/// The numbers below `n`.
+fn ascending_below(alloc: Global, n: usize) -> Result<Vec<u64>, AllocError> {
+    let mut keys = Vec::with_capacity(alloc, n)?;
+    for number in 0..n {
+        keys.push(number as u64)?;
+    }
+    Ok(keys)
 }
 
 fn keys_below(alloc: Global, n: usize) -> Result<Vec<u64>, AllocError> {

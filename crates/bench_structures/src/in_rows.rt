@@ -12,20 +12,42 @@ use std::time::Instant;
 
 /// Fills partitions with `n` rows of no values, asks for each in shuffled order, and takes them out, the last one first.
 pub(crate) fn measure(rt: &HostRuntime, n: usize) -> anyhow::Result<()> {
+    let mut rows = Partitions::new(rt.alloc());
+    let refs = time_fill(rt, &mut rows, n)?;
+    time_ask(rt, &rows, refs.as_slice())?;
+    time_empty(rt, &mut rows, refs)
+}
+
+fn time_fill(rt: &HostRuntime, rows: &mut Partitions, n: usize) -> anyhow::Result<Vec<RowRef>>
+    ensures live { IfOk result (λ refs. All (IsLive rows.new) refs.items) }
+    ensures apart { IfOk result (λ refs. AreApart refs.items) }
+{
     let alloc = rt.alloc();
-    let mut rows = Partitions::new(alloc);
     let start = Instant::now(rt)?;
-    let refs = fill(alloc, &mut rows, n)?;
-    let insert = start.elapsed(rt)?;
+    let refs = fill(alloc, rows, n)?;
+    let pass = Pass::new("Partitions", "insert", n);
+    print(rt, &pass, start.elapsed(rt)?, 0)?;
+    Ok(refs)
+}
+
+fn time_ask(rt: &HostRuntime, rows: &Partitions, refs: &[RowRef]) -> anyhow::Result<()>
+    requires { All (IsLive rows.now) refs.now }
+{
     let start = Instant::now(rt)?;
-    let sum = ask(&rows, refs.as_slice());
-    let look_up = start.elapsed(rt)?;
+    let sum = ask(rows, refs);
+    let pass = Pass::new("Partitions", "look-up", refs.len());
+    print(rt, &pass, start.elapsed(rt)?, sum)?;
+    Ok(())
+}
+
+fn time_empty(rt: &HostRuntime, rows: &mut Partitions, refs: Vec<RowRef>) -> anyhow::Result<()>
+    requires live { All (IsLive rows.old) refs.items }
+    requires apart { AreApart refs.items }
+{
+    let pass = Pass::new("Partitions", "remove", refs.len());
     let start = Instant::now(rt)?;
-    let gone = empty(&mut rows, refs);
-    let remove = start.elapsed(rt)?;
-    print(rt, &Pass::new("Partitions", "insert", n), insert, 0)?;
-    print(rt, &Pass::new("Partitions", "look-up", n), look_up, sum)?;
-    print(rt, &Pass::new("Partitions", "remove", n), remove, gone)?;
+    let gone = empty(rows, refs);
+    print(rt, &pass, start.elapsed(rt)?, gone)?;
     Ok(())
 }
 

@@ -15,13 +15,21 @@ const RING: usize = 16;
 
 /// Asks about a row that may fit and one that cannot, under two atoms and under a ring of sixteen equalities.
 pub(crate) fn measure(rt: &HostRuntime) -> anyhow::Result<()> {
-    let alloc = rt.alloc();
-    let narrow = narrow(alloc)?;
-    time(rt, "two_atoms", "relevant", &narrow, 1)?;
-    time(rt, "two_atoms", "irrelevant", &narrow, 7)?;
+    time_two_atoms(rt, "relevant", 1)?;
+    time_two_atoms(rt, "irrelevant", 7)?;
     let round = 1 - RING as i64;
-    time(rt, "ring", "relevant", &ring(alloc, round)?, 1)?;
-    time(rt, "ring", "irrelevant", &ring(alloc, round - 1)?, 1)
+    time_ring(rt, "relevant", round)?;
+    time_ring(rt, "irrelevant", round - 1)
+}
+
+fn time_two_atoms(rt: &HostRuntime, row: &str, key: i64) -> anyhow::Result<()> {
+    let bound = narrow(rt.alloc())?;
+    time(rt, "two_atoms", row, &bound, key)
+}
+
+fn time_ring(rt: &HostRuntime, row: &str, last: i64) -> anyhow::Result<()> {
+    let bound = ring(rt.alloc(), last)?;
+    time(rt, "ring", row, &bound, 1)
 }
 
 fn time(

@@ -473,13 +473,18 @@ fn thousand(alloc: Global) -> Result<Option<Relation>, AllocError>
     sample_with(alloc, keys.as_slice())
 }
 
+/// Orders a thousand rows in a tree of 63 nodes, as many as six levels have.
+fn order_rows(rt: &(impl Abort + AllocGlobal), relation: &Relation) -> Result<(), Fail>
+    requires { IsSample relation.now }
+{
+    assert_eq!(rt; size_by_digit(relation, rt.alloc())?, (1000, 6));
+    Ok(())
+}
+
 #[test]
 fn orders_rows_in_a_full_tree(rt: HostRuntime) -> Result<(), Fail> {
-    let alloc = rt.alloc();
-    let relation = thousand(alloc)?.ok_or(NOT_PUT)?;
-    // 63 nodes, as many as six levels have.
-    assert_eq!(rt; size_by_digit(&relation, alloc)?, (1000, 6));
-    Ok(())
+    let relation = thousand(rt.alloc())?.ok_or(NOT_PUT)?;
+    order_rows(&rt, &relation)
 }
 
 /// Adds a TREE index, where memory is refused once at most.
@@ -564,6 +569,21 @@ fn try_exchanges(
     }
 }
 
+/// Whether the table shows these digits and counts behind the commands, which are then taken back.
+fn shows_behind(
+    relation: &mut Relation,
+    alloc: Global,
+    exchanges: &[Exchange],
+    digits: &[Option<i64>],
+    counts: &[usize],
+) -> Result<bool, AllocError>
+    requires { IsSample relation.old }
+    ensures { IsSample relation.new }
+{
+    let shown = try_exchanges(relation, alloc, exchanges)?;
+    Ok(shown.is_some_and(|shown| shown.is(digits, counts)))
+}
+
 const FIRST: Exchange = Exchange {
     one: 1,
     other: 2,
@@ -584,9 +604,8 @@ const SECOND: Exchange = Exchange {
 fn makes_a_command(rt: HostRuntime) -> Result<(), Fail> {
     let alloc = rt.alloc();
     let mut relation = sample_with(alloc, &[1, 2, 3, 4])?.ok_or(NOT_PUT)?;
-    let once = try_exchanges(&mut relation, alloc, &[FIRST])?;
     let digits = [None, Some(2), Some(1), None, Some(4), Some(1)];
-    assert!(rt; once.is_some_and(|shown| shown.is(&digits, &[0, 2, 1, 0, 1])));
+    assert!(rt; shows_behind(&mut relation, alloc, &[FIRST], &digits, &[0, 2, 1, 0, 1])?);
     Ok(())
 }
 
@@ -594,19 +613,32 @@ fn makes_a_command(rt: HostRuntime) -> Result<(), Fail> {
 fn makes_a_command_on_top_of_another(rt: HostRuntime) -> Result<(), Fail> {
     let alloc = rt.alloc();
     let mut relation = sample_with(alloc, &[1, 2, 3, 4])?.ok_or(NOT_PUT)?;
-    let twice = try_exchanges(&mut relation, alloc, &[FIRST, SECOND])?;
     let digits = [None, None, Some(1), Some(3), Some(4), Some(1)];
-    assert!(rt; twice.is_some_and(|shown| shown.is(&digits, &[0, 2, 0, 1, 1])));
+    assert!(rt;
+        shows_behind(
+            &mut relation,
+            alloc,
+            &[FIRST, SECOND],
+            &digits,
+            &[0, 2, 0, 1, 1]
+        )?
+    );
+    Ok(())
+}
+
+/// Makes two commands, which are taken back, and looks at the table.
+fn take_two_back(rt: &(impl Abort + AllocGlobal), relation: &mut Relation) -> Result<(), Fail>
+    requires { IsSample relation.old }
+{
+    let alloc = rt.alloc();
+    try_exchanges(relation, alloc, &[FIRST, SECOND])?;
+    let digits = [None, Some(1), Some(2), Some(3), Some(4), None];
+    assert!(rt; shows_behind(relation, alloc, &[], &digits, &[0, 1, 1, 1, 1])?);
     Ok(())
 }
 
 #[test]
 fn takes_commands_back(rt: HostRuntime) -> Result<(), Fail> {
-    let alloc = rt.alloc();
-    let mut relation = sample_with(alloc, &[1, 2, 3, 4])?.ok_or(NOT_PUT)?;
-    try_exchanges(&mut relation, alloc, &[FIRST, SECOND])?;
-    let back = try_exchanges(&mut relation, alloc, &[])?;
-    let digits = [None, Some(1), Some(2), Some(3), Some(4), None];
-    assert!(rt; back.is_some_and(|shown| shown.is(&digits, &[0, 1, 1, 1, 1])));
-    Ok(())
+    let mut relation = sample_with(rt.alloc(), &[1, 2, 3, 4])?.ok_or(NOT_PUT)?;
+    take_two_back(&rt, &mut relation)
 }

@@ -278,30 +278,39 @@ fn starts_empty(rt: HostRuntime) -> Result<(), Fail> {
     Ok(())
 }
 
+/// Adds rows to two tables, and says which are taken. A key is taken in its own table alone.
+fn put_apart(store: &mut Store, alloc: Global) -> Result<[bool; 4], AllocError>
+    requires two { length store.old.tables ≡ 2 }
+    requires plain { ArePlain store.old }
+    ensures two { length store.new.tables ≡ 2 }
+    ensures links { store.new.links ≡ store.old.links }
+{
+    Ok([
+        put(store, alloc, 0, &[1, 2, 3])?,
+        put(store, alloc, 1, &[3, 14])?,
+        put(store, alloc, 1, &[5, 14])?,
+        put(store, alloc, 0, &[14])?,
+    ])
+}
+
 /// Adds rows to two tables, and drops the first.
 fn keep_apart(rt: &(impl Abort + AllocGlobal), store: &mut Store) -> Result<(), Fail>
     requires two { length store.old.tables ≡ 2 }
     requires none { store.old.links ≡ [] }
     requires plain { ArePlain store.old }
 {
-    let alloc = rt.alloc();
     assert_eq!(rt; store.len(), 2);
-    assert!(rt; put(store, alloc, 0, &[1, 2, 3])?);
-    assert!(rt; put(store, alloc, 1, &[3, 14])?);
-
-    // A key is taken in its own table alone.
-    assert!(rt; !put(store, alloc, 1, &[5, 14])?);
-    assert!(rt; put(store, alloc, 0, &[14])?);
-    assert_eq!(rt; store.table(0).len(), 4);
-    assert_eq!(rt; store.table(1).len(), 2);
+    assert_eq!(rt; put_apart(store, rt.alloc())?, [true, true, false, true]);
+    assert_eq!(rt; [store.table(0).len(), store.table(1).len()], [4, 2]);
     assert!(rt; !has_key(store, 1, 5));
 
     // The second moves up, with its rows.
     store.drop_table(0);
-    assert_eq!(rt; store.len(), 1);
-    assert_eq!(rt; store.table(0).len(), 2);
-    assert!(rt; has_key(store, 0, 14));
-    assert!(rt; !has_key(store, 0, 1));
+    assert_eq!(rt; [store.len(), store.table(0).len()], [1, 2]);
+    assert_eq!(rt;
+        [has_key(store, 0, 14), has_key(store, 0, 1)],
+        [true, false]
+    );
     Ok(())
 }
 
@@ -551,6 +560,12 @@ impl Case {
         target_of(&self.store, key)
     }
 
+    /// Whether the row of a key of the second table refers to that of a key of the first, and both are there.
+    fn refers(&self, key: i64, to: i64) -> bool {
+        let target = self.target(key);
+        target.is_some() && target == self.first(to)
+    }
+
     /// What the tables show.
     fn look(&self, alloc: Global) -> Result<Shown, AllocError> {
         match try_look(&self.store, alloc) {
@@ -590,27 +605,27 @@ impl Case {
     }
 }
 
+/// A row needs its target.
+const REFERRING: [Trial; 2] = [
+    (1, Step::Put(&[12]), false),
+    (1, Step::Put(&[13, 23]), true),
+];
+
+/// A target stays until the last of its rows goes.
+const LEAVING: [Trial; 5] = [
+    (0, Step::Remove(3), false),
+    (1, Step::Remove(13), true),
+    (0, Step::Remove(3), false),
+    (1, Step::Remove(23), true),
+    (0, Step::Remove(3), true),
+];
+
 /// Adds rows that refer to others, and takes both out.
 fn keep_targets(rt: &(impl Abort + AllocGlobal), case: &mut Case) -> Result<(), Fail> {
     let alloc = rt.alloc();
-    // A row needs its target.
-    let trials = [
-        (1, Step::Put(&[12]), false),
-        (1, Step::Put(&[13, 23]), true),
-    ];
-    assert!(rt; case.goes_as(alloc, &trials)?);
-    assert!(rt; case.first(3).is_some());
-    assert_eq!(rt; case.target(13), case.first(3));
-
-    // A target stays until the last of its rows goes.
-    let trials = [
-        (0, Step::Remove(3), false),
-        (1, Step::Remove(13), true),
-        (0, Step::Remove(3), false),
-        (1, Step::Remove(23), true),
-        (0, Step::Remove(3), true),
-    ];
-    assert!(rt; case.goes_as(alloc, &trials)?);
+    assert!(rt; case.goes_as(alloc, &REFERRING)?);
+    assert!(rt; case.refers(13, 3));
+    assert!(rt; case.goes_as(alloc, &LEAVING)?);
     Ok(())
 }
 
@@ -623,10 +638,15 @@ fn keeps_targets_of_references(rt: HostRuntime) -> Result<(), Fail> {
 /// Counts the rows of the second table that have a value in a column, and those between two keys.
 fn look_up(rt: &(impl Abort + AllocGlobal), case: &Case) -> Result<(), Fail> {
     let alloc = rt.alloc();
-    assert_eq!(rt; case.count(alloc, 0, 22)?, Some(1));
-    assert_eq!(rt; case.count(alloc, 0, 23)?, Some(0));
-    assert_eq!(rt; case.count(alloc, 1, 2)?, Some(2));
-    assert_eq!(rt; case.count(alloc, 2, 2)?, None);
+    let counts = [
+        (0, 22, Some(1)),
+        (0, 23, Some(0)),
+        (1, 2, Some(2)),
+        (2, 2, None),
+    ];
+    for (column, value, count) in counts {
+        assert_eq!(rt; case.count(alloc, column, value)?, count);
+    }
     assert_eq!(rt; count_between(&case.store, alloc, 1, 13, 30)?, 2);
     Ok(())
 }
@@ -651,13 +671,17 @@ const MORE_STEPS: [Trial; 7] = [
     (1, Step::Turn(23, 5), false),
 ];
 
-#[test]
-fn goes_back_to_marks(rt: HostRuntime) -> Result<(), Fail> {
-    let alloc = rt.alloc();
-    let mut case = Case::new(alloc, &[1, 2, 3], &[11, 12, 23])?;
-    assert!(rt; case.comes_back_twice(alloc, &FIRST_STEPS, &MORE_STEPS)?);
+/// Makes steps and more of them, and takes all back.
+fn go_back_twice(rt: &(impl Abort + AllocGlobal), case: &mut Case) -> Result<(), Fail> {
+    assert!(rt; case.comes_back_twice(rt.alloc(), &FIRST_STEPS, &MORE_STEPS)?);
     assert_eq!(rt; case.undo.mark(), 0);
     Ok(())
+}
+
+#[test]
+fn goes_back_to_marks(rt: HostRuntime) -> Result<(), Fail> {
+    let mut case = Case::new(rt.alloc(), &[1, 2, 3], &[11, 12, 23])?;
+    go_back_twice(&rt, &mut case)
 }
 
 /// Makes steps, takes them back, makes them again for good, and looks at a target.
@@ -666,8 +690,7 @@ fn make_again(rt: &(impl Abort + AllocGlobal), case: &mut Case) -> Result<(), Fa
     assert!(rt; case.comes_back(alloc, &FIRST_STEPS)?);
     assert!(rt; case.goes_as(alloc, &FIRST_STEPS)?);
     case.finish();
-    assert!(rt; case.first(4).is_some());
-    assert_eq!(rt; case.target(11), case.first(4));
+    assert!(rt; case.refers(11, 4));
     Ok(())
 }
 

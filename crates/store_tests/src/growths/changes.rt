@@ -34,25 +34,15 @@ impl Case {
     }
 }
 
-/// Makes a step of the second table and takes it back. The table is to show one thing in front of it, and another behind it.
-fn goes_and_comes(
-    rt: &(impl Abort + Print),
+/// Takes a step of the second table back. The table is to show one thing in front of the step, and another behind it.
+fn comes_back(
+    rt: &impl Abort,
     alloc: Global,
     case: &mut Case,
-    step: Step,
+    mark: usize,
     tables: [Shows; 2],
 ) -> Result<(), Fail> {
     let [before, after] = tables;
-    let mark = case.undo.mark();
-    let Some(answer) = case.make(alloc, step) else {
-        return Ok(());
-    };
-    if answer.is_err() {
-        asked_again(rt)?;
-        assert_eq!(rt; case.undo.mark(), mark);
-        assert!(rt; case.second_shows(alloc, before)?);
-        assert_eq!(rt; case.make(alloc, step), Some(Ok(())));
-    }
     let Ok(is_made) = case.second_shows(alloc, after) else {
         return Ok(());
     };
@@ -63,6 +53,27 @@ fn goes_and_comes(
     };
     assert!(rt; is_back);
     Ok(())
+}
+
+/// Makes a step of the second table and takes it back. The table is to show one thing in front of it, and another behind it.
+fn goes_and_comes(
+    rt: &(impl Abort + Print),
+    alloc: Global,
+    case: &mut Case,
+    step: Step,
+    tables: [Shows; 2],
+) -> Result<(), Fail> {
+    let mark = case.undo.mark();
+    let Some(answer) = case.make(alloc, step) else {
+        return Ok(());
+    };
+    if answer.is_err() {
+        asked_again(rt)?;
+        assert_eq!(rt; case.undo.mark(), mark);
+        assert!(rt; case.second_shows(alloc, tables[0])?);
+        assert_eq!(rt; case.make(alloc, step), Some(Ok(())));
+    }
+    comes_back(rt, alloc, case, mark, tables)
 }
 
 /// No rows.
@@ -103,17 +114,48 @@ const TWO: Shows = Shows {
     by_hash: &[(1, 1), (2, 1), (3, 0)],
 };
 
+/// Turns one row of three, and takes the last out.
+fn turns_and_removes(
+    rt: &(impl Abort + Print),
+    alloc: Global,
+    case: &mut Case,
+) -> Result<(), Fail> {
+    goes_and_comes(rt, alloc, case, Step::Turn(13, 2), [THREE, TURNED])?;
+    let Ok(true) = case.step(alloc, 1, Step::Turn(13, 2)) else {
+        return Ok(());
+    };
+    goes_and_comes(rt, alloc, case, Step::Remove(32), [TURNED, TWO])
+}
+
 #[test]
 fn apply_to_rows_growths(rt: HostRuntime) -> Result<(), Fail> {
     let alloc = rt.alloc();
     let Ok(mut case) = Case::new(alloc, &[1, 2, 3], &[13, 21, 32]) else {
         return Ok(());
     };
-    goes_and_comes(&rt, alloc, &mut case, Step::Turn(13, 2), [THREE, TURNED])?;
-    let Ok(true) = case.step(alloc, 1, Step::Turn(13, 2)) else {
-        return Ok(());
-    };
-    goes_and_comes(&rt, alloc, &mut case, Step::Remove(32), [TURNED, TWO])
+    turns_and_removes(&rt, alloc, &mut case)
+}
+
+/// Steps of the second table, and whether each may be made.
+const CHECKS: [(Step, Result<(), Refusal>); 3] = [
+    (Step::Put(&[41, 22]), Ok(())),
+    (Step::Put(&[41, 32]), Err(Refusal::DuplicateKey)),
+    (Step::Put(&[41, 34]), Err(Refusal::NoTargetRow)),
+];
+
+/// Checks steps of the second table.
+fn checks(rt: &(impl Abort + Print), alloc: Global, case: &Case) -> Result<(), Fail> {
+    for (step, due) in &CHECKS {
+        let Some(mut answer) = case.check(alloc, *step) else {
+            return Ok(());
+        };
+        if answer == Err(Refusal::Memory) {
+            asked_again(rt)?;
+            answer = case.check(alloc, *step).ok_or("no edits")?;
+        }
+        assert_eq!(rt; answer, *due);
+    }
+    Ok(())
 }
 
 #[test]
@@ -122,20 +164,5 @@ fn check_growths(rt: HostRuntime) -> Result<(), Fail> {
     let Ok(case) = Case::new(alloc, &[1, 2, 3], &[13, 21, 32]) else {
         return Ok(());
     };
-    let trials = [
-        (Step::Put(&[41, 22]), Ok(())),
-        (Step::Put(&[41, 32]), Err(Refusal::DuplicateKey)),
-        (Step::Put(&[41, 34]), Err(Refusal::NoTargetRow)),
-    ];
-    for (step, due) in trials {
-        let Some(mut answer) = case.check(alloc, step) else {
-            return Ok(());
-        };
-        if answer == Err(Refusal::Memory) {
-            asked_again(&rt)?;
-            answer = case.check(alloc, step).ok_or("no edits")?;
-        }
-        assert_eq!(rt; answer, due);
-    }
-    Ok(())
+    checks(&rt, alloc, &case)
 }

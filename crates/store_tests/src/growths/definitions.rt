@@ -63,14 +63,12 @@ const TO_FIRST: Reference = Reference {
     to: 0,
 };
 
-#[test]
-fn add_table_growths(rt: HostRuntime) -> Result<(), Fail> {
-    let alloc = rt.alloc();
-    let Ok(mut store) = four_tables(alloc) else {
-        return Ok(());
-    };
+/// Adds a table to four, which refers to the first of them.
+fn adds_table(rt: &(impl Abort + Print), alloc: Global, store: &mut Store) -> Result<(), Fail>
+    requires { length store.old.tables ≡ 4 }
+{
     if store.add_table(alloc, 2, 0, &[TO_FIRST]).is_err() {
-        asked_again(&rt)?;
+        asked_again(rt)?;
         assert_eq!(rt; store.len(), 4);
         assert!(rt; !store.refers_only_to(4, 1, 0));
         store.add_table(alloc, 2, 0, &[TO_FIRST])?;
@@ -85,7 +83,41 @@ fn add_table_growths(rt: HostRuntime) -> Result<(), Fail> {
     Ok(())
 }
 
-/// Adds an index of a kind to the first table, which then is to show this.
+#[test]
+fn add_table_growths(rt: HostRuntime) -> Result<(), Fail> {
+    let alloc = rt.alloc();
+    let Ok(mut store) = four_tables(alloc) else {
+        return Ok(());
+    };
+    adds_table(&rt, alloc, &mut store)
+}
+
+/// Adds an index of a kind to the first of four tables, which then is to show this.
+fn adds_index(
+    rt: &(impl Abort + Print),
+    alloc: Global,
+    store: &mut Store,
+    kind: IndexKind,
+    after: Shows,
+) -> Result<(), Fail>
+    requires four { length store.old.tables ≡ 4 }
+    requires plain { ArePlain store.old }
+{
+    if add_index(store, alloc, 0, kind).is_err() {
+        asked_again(rt)?;
+        assert!(rt; store.table(0).index_of(1, kind).is_none());
+        assert!(rt; table_shows(store.table(0), alloc, BARE)?);
+        add_index(store, alloc, 0, kind)?;
+    }
+    assert_eq!(rt; store.len(), 4);
+    let Ok(is_made) = table_shows(store.table(0), alloc, after) else {
+        return Ok(());
+    };
+    assert!(rt; is_made);
+    Ok(())
+}
+
+/// The same with four tables made for it.
 fn indexes(
     rt: &(impl Abort + Print),
     alloc: Global,
@@ -95,18 +127,7 @@ fn indexes(
     let Ok(mut store) = four_tables(alloc) else {
         return Ok(());
     };
-    if add_index(&mut store, alloc, 0, kind).is_err() {
-        asked_again(rt)?;
-        assert!(rt; store.table(0).index_of(1, kind).is_none());
-        assert!(rt; table_shows(store.table(0), alloc, BARE)?);
-        add_index(&mut store, alloc, 0, kind)?;
-    }
-    assert_eq!(rt; store.len(), 4);
-    let Ok(is_made) = table_shows(store.table(0), alloc, after) else {
-        return Ok(());
-    };
-    assert!(rt; is_made);
-    Ok(())
+    adds_index(rt, alloc, &mut store, kind, after)
 }
 
 #[test]

@@ -138,7 +138,25 @@ fn are_rows(rows: &[Row], pairs: &[(i64, i64)]) -> bool {
     rows.len() == pairs.len()
 }
 
-/// Appends what a search finds to a reference that is there. The rows are then to be those of these keys.
+/// Appends what a search finds to references that are there. The rows are then to be those of these keys.
+fn appends_to(
+    rt: &(impl Abort + Print),
+    alloc: Global,
+    case: &Case,
+    sought: Search,
+    found: &mut Vec<RowRef>,
+    keys: &[i64],
+) -> Result<(), Fail> {
+    if append_found(&case.store, alloc, sought, found).is_err() {
+        asked_again(rt)?;
+        assert!(rt; case.are_of(found.as_slice(), &[41]));
+        append_found(&case.store, alloc, sought, found)?;
+    }
+    assert!(rt; case.are_of(found.as_slice(), keys));
+    Ok(())
+}
+
+/// The same behind the reference of the row of key 41, in a case made for it.
 fn appends(
     rt: &(impl Abort + Print),
     alloc: Global,
@@ -152,13 +170,7 @@ fn appends(
     let Ok(mut found) = vec![in alloc; at] else {
         return Ok(());
     };
-    if append_found(&case.store, alloc, sought, &mut found).is_err() {
-        asked_again(rt)?;
-        assert_eq!(rt; found.as_slice(), [at].as_slice());
-        append_found(&case.store, alloc, sought, &mut found)?;
-    }
-    assert!(rt; case.are_of(found.as_slice(), keys));
-    Ok(())
+    appends_to(rt, alloc, &case, sought, &mut found, keys)
 }
 
 #[test]
@@ -181,16 +193,12 @@ fn matches_growths(rt: HostRuntime) -> Result<(), Fail> {
     appends(&rt, rt.alloc(), Search::First(1), &[41, 21, 41, 51])
 }
 
-#[test]
-fn rows_of_growths(rt: HostRuntime) -> Result<(), Fail> {
-    let alloc = rt.alloc();
-    let Ok(case) = Case::with_rows(alloc) else {
-        return Ok(());
-    };
+/// Reads the rows of the second table.
+fn reads_rows(rt: &(impl Abort + Print), alloc: Global, case: &Case) -> Result<(), Fail> {
     let rows = match case.store.rows_of(alloc, 1) {
         Ok(rows) => rows,
         Err(refusal) => {
-            asked_again(&rt)?;
+            asked_again(rt)?;
             assert_eq!(rt; refusal, Refusal::Memory);
             case.store.rows_of(alloc, 1)?
         }
@@ -201,19 +209,47 @@ fn rows_of_growths(rt: HostRuntime) -> Result<(), Fail> {
 }
 
 #[test]
+fn rows_of_growths(rt: HostRuntime) -> Result<(), Fail> {
+    let alloc = rt.alloc();
+    let Ok(case) = Case::with_rows(alloc) else {
+        return Ok(());
+    };
+    reads_rows(&rt, alloc, &case)
+}
+
+/// Scans the second table in the order of its keys.
+fn scans_keys(rt: &(impl Abort + Print), alloc: Global, case: &Case) -> Result<(), Fail> {
+    let refs = match case.store.key_scan(alloc, 1) {
+        Ok(refs) => refs,
+        Err(_) => {
+            asked_again(rt)?;
+            case.store.key_scan(alloc, 1)?
+        }
+    };
+    assert!(rt; case.are_of(refs.as_slice(), &[13, 21, 32, 41, 51]));
+    Ok(())
+}
+
+#[test]
 fn key_scan_growths(rt: HostRuntime) -> Result<(), Fail> {
     let alloc = rt.alloc();
     let Ok(case) = Case::with_rows(alloc) else {
         return Ok(());
     };
-    let refs = match case.store.key_scan(alloc, 1) {
-        Ok(refs) => refs,
+    scans_keys(&rt, alloc, &case)
+}
+
+/// Orders the rows of the second table by their values.
+fn orders_values(rt: &(impl Abort + Print), alloc: Global, case: &Case) -> Result<(), Fail> {
+    let relation = case.store.table(1);
+    let ordered = match relation.ordered_by(alloc, 1) {
+        Ok(ordered) => ordered,
         Err(_) => {
-            asked_again(&rt)?;
-            case.store.key_scan(alloc, 1)?
+            asked_again(rt)?;
+            relation.ordered_by(alloc, 1)?
         }
     };
-    assert!(rt; case.are_of(refs.as_slice(), &[13, 21, 32, 41, 51]));
+    assert!(rt; goes_along(relation, ordered.iter(), &[21, 41, 51, 32, 13]));
     Ok(())
 }
 
@@ -223,14 +259,5 @@ fn ordered_by_growths(rt: HostRuntime) -> Result<(), Fail> {
     let Ok(case) = Case::with_rows(alloc) else {
         return Ok(());
     };
-    let relation = case.store.table(1);
-    let ordered = match relation.ordered_by(alloc, 1) {
-        Ok(ordered) => ordered,
-        Err(_) => {
-            asked_again(&rt)?;
-            relation.ordered_by(alloc, 1)?
-        }
-    };
-    assert!(rt; goes_along(relation, ordered.iter(), &[21, 41, 51, 32, 13]));
-    Ok(())
+    orders_values(&rt, alloc, &case)
 }
