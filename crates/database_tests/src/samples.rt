@@ -177,10 +177,14 @@ pub fn ask<'s>(
 }
 
 /// Writes what a database answers to a question behind what was told.
-fn tell(alloc: Global, database: &Db, question: &str, told: &mut Vec<u8>) -> Result<(), Refusal> {
+fn tell(
+    alloc: Global,
+    database: &Db,
+    question: &Command,
+    told: &mut Vec<u8>,
+) -> Result<(), Refusal> {
     let zero = Value::Int(0);
-    let question = command(alloc, question)?;
-    let answer = ask(alloc, database, &question, &zero)?;
+    let answer = ask(alloc, database, question, &zero)?;
     write(&answer, told)
 }
 
@@ -188,7 +192,8 @@ fn tell(alloc: Global, database: &Db, question: &str, told: &mut Vec<u8>) -> Res
 pub fn told(alloc: Global, database: &Db, questions: &[&str]) -> Result<Vec<u8>, Refusal> {
     let mut told = Vec::new(alloc);
     for question in questions {
-        tell(alloc, database, question, &mut told)?;
+        let question = command(alloc, question)?;
+        tell(alloc, database, &question, &mut told)?;
     }
     Ok(told)
 }

@@ -27,20 +27,24 @@ pub fn tell_refused(rt: &(impl Abort + Print), refusal: Refusal) -> io::Result<(
     println!(rt; "refused")
 }
 
+/// Reads a line, and once more where memory is refused.
+fn read_again(rt: &(impl Abort + AllocGlobal + Print), line: &str) -> Result<Command, Fail> {
+    match command(rt.alloc(), line) {
+        Ok(command) => Ok(command),
+        Err(refusal) => {
+            tell_refused(rt, refusal)?;
+            Ok(command(rt.alloc(), line)?)
+        }
+    }
+}
+
 /// Reads lines, each once more where memory is refused, and looks at the sizes of the lists in their commands.
 pub fn read_each(
     rt: &(impl Abort + AllocGlobal + Print),
     lines: &[(&str, [usize; 4])],
 ) -> Result<(), Fail> {
-    let alloc = rt.alloc();
     for (line, expected) in lines {
-        let command = match command(alloc, line) {
-            Ok(command) => command,
-            Err(refusal) => {
-                tell_refused(rt, refusal)?;
-                command(alloc, line)?
-            }
-        };
+        let command = read_again(rt, line)?;
         assert_eq!(rt; sizes(&command), *expected, "at {line}");
     }
     Ok(())
@@ -176,20 +180,27 @@ fn ask_again<'s>(
     }
 }
 
-/// What a database answers to a question, which is asked once more where memory is refused; none where it is refused in front of the
-/// call or behind it.
+/// What a database answers to a question, which is asked once more where memory is refused; none where it is refused behind the call.
+fn answer_to(
+    rt: &(impl Abort + AllocGlobal + Print),
+    database: &Db,
+    question: &Command,
+) -> Result<Option<Vec<u8>>, Fail> {
+    let zero = Value::Int(0);
+    let answer = ask_again(rt, database, question, &zero)?;
+    Ok(granted(rt, text_of(rt.alloc(), &answer)))
+}
+
+/// The same of the question of a line; none where memory is refused in front of the call, too.
 fn answer(
     rt: &(impl Abort + AllocGlobal + Print),
     database: &Db,
     line: &str,
 ) -> Result<Option<Vec<u8>>, Fail> {
-    let alloc = rt.alloc();
-    let Some(question) = granted(rt, command(alloc, line)) else {
-        return Ok(None);
-    };
-    let zero = Value::Int(0);
-    let answer = ask_again(rt, database, &question, &zero)?;
-    Ok(granted(rt, text_of(alloc, &answer)))
+    match granted(rt, command(rt.alloc(), line)) {
+        Some(question) => answer_to(rt, database, &question),
+        None => Ok(None),
+    }
 }
 
 /// Asks a database questions, each once more where memory is refused to it, and looks at the answers.

@@ -1,6 +1,8 @@
 //! Queries evaluated row by row.
 use crate::samples::{catalog, field, number, put, query, text, with_atom};
-use mm_query::{Comparison, FieldName, Operand, PlainRows, Query, bind_query, plain_eval};
+use mm_query::{
+    BoundQuery, Comparison, FieldName, Operand, PlainRows, Query, bind_query, plain_eval,
+};
 use mm_value::{Refusal, Row, Value};
 use std::process::Abort;
 
@@ -16,32 +18,45 @@ fn pairs(rt: &(impl Abort + AllocGlobal), pairs: &[(i64, i64)]) -> Vec<Row> {
     rows
 }
 
-/// The bag of a query over the rows of one table or of two, asked again where memory was refused.
+/// A query that is bound, once more where memory was refused.
+fn bound(rt: &(impl Abort + AllocGlobal), query: &Query) -> BoundQuery {
+    let catalog = catalog(rt);
+    let bound = match bind_query(rt.alloc(), &catalog, query) {
+        Err(Refusal::Memory) => bind_query(rt.alloc(), &catalog, query),
+        bound => bound,
+    };
+    bound.expect(rt, "a query")
+}
+
+/// Adds the rows of a table, once more where memory was refused.
+fn add<'a>(rt: &impl Abort, rows: &mut PlainRows<'a>, table: &'a [Row]) {
+    if rows.add(table).is_err() {
+        let _ = rows.add(table).ok().expect(rt, "memory");
+    }
+}
+
+/// The bag of a query over the rows of its tables, asked again where memory was refused.
+fn bag(rt: &(impl Abort + AllocGlobal), query: &BoundQuery, rows: &PlainRows<'_>) -> Vec<Row> {
+    match plain_eval(rt.alloc(), query, rows) {
+        Err(Refusal::Memory) => plain_eval(rt.alloc(), query, rows).expect(rt, "rows"),
+        found => found.expect(rt, "rows"),
+    }
+}
+
+/// The bag of a query over the rows of one table or of two.
 fn found(
     rt: &(impl Abort + AllocGlobal),
     query: &Query,
     first: &[Row],
     second: Option<&[Row]>,
 ) -> Vec<Row> {
-    let catalog = catalog(rt);
-    let bound = match bind_query(rt.alloc(), &catalog, query) {
-        Err(Refusal::Memory) => bind_query(rt.alloc(), &catalog, query),
-        bound => bound,
-    };
-    let bound = bound.expect(rt, "a query");
+    let query = bound(rt, query);
     let mut rows = PlainRows::new(rt.alloc());
-    if rows.add(first).is_err() {
-        let _ = rows.add(first).ok().expect(rt, "memory");
-    }
+    add(rt, &mut rows, first);
     if let Some(second) = second {
-        if rows.add(second).is_err() {
-            let _ = rows.add(second).ok().expect(rt, "memory");
-        }
+        add(rt, &mut rows, second);
     }
-    match plain_eval(rt.alloc(), &bound, &rows) {
-        Err(Refusal::Memory) => plain_eval(rt.alloc(), &bound, &rows).expect(rt, "rows"),
-        found => found.expect(rt, "rows"),
-    }
+    bag(rt, &query, &rows)
 }
 
 /// The whole number in a column of a row.

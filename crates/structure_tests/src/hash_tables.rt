@@ -41,25 +41,35 @@ fn has(alloc: Global, refs: &HashRefs, wanted: &[RowRef]) -> Result<bool, AllocE
     Ok(are(&found, wanted))
 }
 
+/// Finds the two references of the hash 4, and all three.
+fn find_three(rt: &(impl Abort + AllocGlobal), refs: &HashRefs) -> Result<(), Fail> {
+    let alloc = rt.alloc();
+    assert_eq!(rt; refs.len(), 3);
+    assert!(rt; finds(alloc, refs, 4, &[slot(1), slot(2)])?);
+    assert!(rt; has(alloc, refs, &[slot(1), slot(2), slot(3)])?);
+    Ok(())
+}
+
 #[test]
 fn finds_by_hash(rt: HostRuntime) -> Result<(), Fail> {
+    let refs = of_three(&rt, rt.alloc())?;
+    find_three(&rt, &refs)
+}
+
+/// Takes one of the two references of the hash 4 out.
+fn remove_one(rt: &(impl Abort + AllocGlobal), refs: &mut HashRefs) -> Result<(), Fail> {
     let alloc = rt.alloc();
-    let refs = of_three(&rt, alloc)?;
-    assert_eq!(rt; refs.len(), 3);
-    assert!(rt; finds(alloc, &refs, 4, &[slot(1), slot(2)])?);
-    assert!(rt; has(alloc, &refs, &[slot(1), slot(2), slot(3)])?);
+    assert!(rt; refs.remove(4, slot(1)));
+    assert!(rt; !refs.remove(4, slot(1)));
+    assert!(rt; finds(alloc, refs, 4, &[slot(2)])?);
+    assert!(rt; has(alloc, refs, &[slot(2), slot(3)])?);
     Ok(())
 }
 
 #[test]
 fn removes_one_of_its_hash(rt: HostRuntime) -> Result<(), Fail> {
-    let alloc = rt.alloc();
-    let mut refs = of_three(&rt, alloc)?;
-    assert!(rt; refs.remove(4, slot(1)));
-    assert!(rt; !refs.remove(4, slot(1)));
-    assert!(rt; finds(alloc, &refs, 4, &[slot(2)])?);
-    assert!(rt; has(alloc, &refs, &[slot(2), slot(3)])?);
-    Ok(())
+    let mut refs = of_three(&rt, rt.alloc())?;
+    remove_one(&rt, &mut refs)
 }
 
 #[test]
@@ -122,6 +132,18 @@ fn drain(rt: &impl Abort, refs: &mut HashRefs) {
     assert_eq!(rt; refs.len(), 0);
 }
 
+/// Asserts that each reference of `fill` is found twice, and no other.
+fn assert_twice(rt: &impl Abort, found: &[RowRef]) {
+    assert_eq!(rt; found.len(), 40);
+    for hash in 0..20u8 {
+        assert_eq!(rt;
+            found.iter().filter(|r| **r == slot(hash)).count(),
+            2,
+            "{hash}"
+        );
+    }
+}
+
 // Where the run refuses one allocation, the refused call has changed nothing, and the next one answers.
 #[test]
 fn a_refused_call_can_be_given_again(rt: HostRuntime) -> Result<(), Fail> {
@@ -131,14 +153,7 @@ fn a_refused_call_can_be_given_again(rt: HostRuntime) -> Result<(), Fail> {
     let mut found = Vec::new(alloc);
     append_by_hash(&rt, alloc, &refs, &mut found)?;
     append_all(&rt, alloc, &refs, &mut found)?;
-    assert_eq!(rt; found.len(), 40);
-    for hash in 0..20u8 {
-        assert_eq!(rt;
-            found.iter().filter(|r| **r == slot(hash)).count(),
-            2,
-            "{hash}"
-        );
-    }
+    assert_twice(&rt, &found);
     drain(&rt, &mut refs);
     Ok(())
 }

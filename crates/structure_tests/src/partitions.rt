@@ -1,9 +1,9 @@
 //! Rows in partitions, and the prefixes of their columns.
-ghost use Rattle.std.specs.Prelude.{◌≡◌, ◌≤◌, OnOk};
-ghost use Rattle.mm_partition.specs.Places.{IsUnchanged};
+ghost use Rattle.std.specs.Prelude.{◌≡◌, ◌≢◌, ◌≤◌, ◌+◌, IfOk, OnOk};
+ghost use Rattle.mm_partition.specs.Places.{Free, IsLive, IsUnchanged, ChangesOnly};
 
 use mm_partition::Partitions;
-use mm_value::{Row, Text, Value};
+use mm_value::{Row, RowRef, Text, Value};
 use std::alloc::Global;
 use std::process::Abort;
 use std::test::Fail;
@@ -40,6 +40,19 @@ fn number_in(row: &Row) -> Option<i64> {
     }
 }
 
+/// Hides and shows the row of 2, and releases it.
+fn hide_and_show(rt: &impl Abort, rows: &mut Partitions, at: RowRef)
+    requires { IsLive rows.old at }
+{
+    rows.hide(at);
+    rows.unhide(at);
+    assert_eq!(rt; number_in(rows.get(at)), Some(2));
+
+    rows.hide(at);
+    let gone = rows.release(at);
+    assert_eq!(rt; number_in(&gone), Some(2));
+}
+
 /// Places a row, replaces it, hides and shows it, and releases it.
 fn keep_a_row(rt: &(impl Abort + AllocGlobal), rows: &mut Partitions) -> Result<(), Fail> {
     let alloc = rt.alloc();
@@ -50,13 +63,7 @@ fn keep_a_row(rt: &(impl Abort + AllocGlobal), rows: &mut Partitions) -> Result<
     let was = rows.replace(at, row_of(alloc, 2)?);
     assert_eq!(rt; number_in(&was), Some(1));
 
-    rows.hide(at);
-    rows.unhide(at);
-    assert_eq!(rt; number_in(rows.get(at)), Some(2));
-
-    rows.hide(at);
-    let gone = rows.release(at);
-    assert_eq!(rt; number_in(&gone), Some(2));
+    hide_and_show(rt, rows, at);
     Ok(())
 }
 
@@ -66,17 +73,43 @@ fn keeps_a_row_by_its_reference(rt: HostRuntime) -> Result<(), Fail> {
     keep_a_row(&rt, &mut rows)
 }
 
-/// Places two rows, and 200 behind them.
-fn place_two(rt: &(impl Abort + AllocGlobal), rows: &mut Partitions) -> Result<(), Fail> {
+/// Places the rows of 1 and 2 at two references.
+fn place_two(
+    rt: &(impl Abort + AllocGlobal),
+    rows: &mut Partitions,
+) -> Result<(RowRef, RowRef), Fail>
+    ensures one { IfOk result (λ placed. IsLive rows.new placed.0) }
+    ensures two { IfOk result (λ placed. IsLive rows.new placed.1) }
+    ensures apart { IfOk result (λ placed. placed.0 ≢ placed.1) }
+{
     let alloc = rt.alloc();
     reserve(alloc, rows, 2)?;
     let one = rows.place(row_of(alloc, 1)?);
     let two = rows.place(row_of(alloc, 2)?);
     assert_ne!(rt; one, two);
-    assert_eq!(rt; number_in(rows.get(one)), Some(1));
-    assert_eq!(rt; number_in(rows.get(two)), Some(2));
+    Ok((one, two))
+}
 
-    // Past the end of the first partition.
+/// Asserts that two references have the rows of 1 and 2.
+fn assert_two(rt: &impl Abort, rows: &Partitions, one: RowRef, two: RowRef)
+    requires one { IsLive rows.now one }
+    requires two { IsLive rows.now two }
+{
+    let numbers = [number_in(rows.get(one)), number_in(rows.get(two))];
+    assert_eq!(rt; numbers, [Some(1), Some(2)]);
+}
+
+/// Places 200 rows behind those of 1 and 2, past the end of the first partition.
+fn place_behind(
+    rt: &(impl Abort + AllocGlobal),
+    rows: &mut Partitions,
+    one: RowRef,
+    two: RowRef,
+) -> Result<(), Fail>
+    requires one { IsLive rows.old one }
+    requires two { IsLive rows.old two }
+{
+    let alloc = rt.alloc();
     reserve(alloc, rows, 200)?;
     assert_eq!(rt; number_in(rows.get(one)), Some(1));
     for _ in 0..200usize {
@@ -89,19 +122,27 @@ fn place_two(rt: &(impl Abort + AllocGlobal), rows: &mut Partitions) -> Result<(
 #[test]
 fn gives_each_row_its_own_place(rt: HostRuntime) -> Result<(), Fail> {
     let mut rows = Partitions::new(rt.alloc());
-    place_two(&rt, &mut rows)
+    let (one, two) = place_two(&rt, &mut rows)?;
+    assert_two(&rt, &rows, one, two);
+    place_behind(&rt, &mut rows, one, two)
+}
+
+/// Frees the slot of a row.
+fn free(rows: &mut Partitions, at: RowRef)
+    requires { IsLive rows.old at }
+    ensures freed { ChangesOnly rows.old rows.new at Free }
+    ensures room { rows.new.room ≡ rows.old.room + 1 }
+{
+    rows.hide(at);
+    rows.release(at);
 }
 
 /// Places two rows, frees their slots, and places two others.
 fn free_two(rt: &(impl Abort + AllocGlobal), rows: &mut Partitions) -> Result<(), Fail> {
     let alloc = rt.alloc();
-    reserve(alloc, rows, 2)?;
-    let one = rows.place(row_of(alloc, 1)?);
-    let two = rows.place(row_of(alloc, 2)?);
-    rows.hide(one);
-    rows.release(one);
-    rows.hide(two);
-    rows.release(two);
+    let (one, two) = place_two(rt, rows)?;
+    free(rows, one);
+    free(rows, two);
 
     // The last one freed comes first.
     assert_eq!(rt; rows.place(row_of(alloc, 3)?), two);
@@ -125,12 +166,10 @@ fn hide_one(rt: &(impl Abort + AllocGlobal), rows: &mut Partitions) -> Result<()
     assert_ne!(rt; one, two);
 
     rows.unhide(one);
-    assert_eq!(rt; number_in(rows.get(one)), Some(1));
-    assert_eq!(rt; number_in(rows.get(two)), Some(2));
+    assert_two(rt, rows, one, two);
 
     // Once it is released it is the next.
-    rows.hide(one);
-    rows.release(one);
+    free(rows, one);
     assert_eq!(rt; rows.place(row_of(alloc, 3)?), one);
     Ok(())
 }
@@ -213,8 +252,7 @@ fn overwrite(rt: &(impl Abort + AllocGlobal), rows: &mut Partitions) -> Result<(
     assert!(rt; rows.prefixes(1) == Some(&[0xb100000000000000u64]));
 
     // The freed slot is given out again.
-    rows.hide(one);
-    rows.release(one);
+    free(rows, one);
     rows.place(row_with_text(alloc, 7, b"")?);
     assert!(rt; rows.prefixes(1) == Some(&[0x8000000000000000u64]));
     Ok(())

@@ -1,5 +1,6 @@
 //! The nodes of a T-tree: their turns, their entries, and the pool of free ones.
-ghost use Rattle.std.specs.Prelude.{◌≡◌, max, OnOk};
+ghost use Rattle.std.specs.Prelude.{◌≡◌, ◌<◌, length, max, OnOk};
+ghost use Rattle.ttree_node.specs.Slide.{IsLeaf, child};
 
 use crate::references::first_of;
 use std::alloc::{AllocError, Global};
@@ -44,6 +45,32 @@ fn write_parts(tree: Option<&Subtree>, parts: &mut Vec<usize>) -> Result<(), All
     write_parts(tree.right(), parts)
 }
 
+/// Asserts that a tree has entries of these parts from left to right.
+fn assert_parts(
+    rt: &impl Abort,
+    alloc: Global,
+    tree: Option<&Subtree>,
+    want: &[usize],
+) -> Result<(), AllocError> {
+    let mut parts = Vec::new(alloc);
+    write_parts(tree, &mut parts)?;
+    assert_eq!(rt; parts.as_slice(), want);
+    Ok(())
+}
+
+/// Asserts that a tree of three levels has this part at its root, and the parts 1 to 4 from left to right.
+fn assert_four(
+    rt: &impl Abort,
+    alloc: Global,
+    tree: &Subtree,
+    root: usize,
+) -> Result<(), AllocError>
+    requires { 0 < length tree.now.entries }
+{
+    assert_eq!(rt; (tree.height(), tree.entries().get(0).part), (3, root));
+    assert_parts(rt, alloc, Some(tree), &[1, 2, 3, 4])
+}
+
 #[test]
 fn rotations_keep_the_order(rt: HostRuntime) -> Result<(), Fail> {
     let alloc = rt.alloc();
@@ -54,20 +81,33 @@ fn rotations_keep_the_order(rt: HostRuntime) -> Result<(), Fail> {
     second.set_left(Some(Subtree::leaf(&mut spares, first_of(2))));
     second.set_right(Some(Subtree::leaf(&mut spares, first_of(4))));
     first.set_right(Some(second));
-    assert_eq!(rt; first.height(), 3);
+    assert_four(&rt, alloc, &first, 1)?;
     let turned = first.rotate_left();
-    assert_eq!(rt; turned.entries().get(0).part, 3);
-    let mut parts = Vec::new(alloc);
-    write_parts(Some(&turned), &mut parts)?;
-    assert_eq!(rt; parts.as_slice(), [1, 2, 3, 4].as_slice());
+    assert_four(&rt, alloc, &turned, 3)?;
     let back = turned.rotate_right();
-    assert_eq!(rt; back.height(), 3);
-    parts.clear();
-    write_parts(Some(&back), &mut parts)?;
-    assert_eq!(rt; parts.as_slice(), [1, 2, 3, 4].as_slice());
+    assert_four(&rt, alloc, &back, 1)?;
     back.free_into(&mut spares);
     assert_eq!(rt; spares.len(), 4);
     Ok(())
+}
+
+/// Fills a node and slides its entries to the leaf of 100 on a side.
+fn slide(rt: &impl Abort, alloc: Global, node: &mut Subtree, side: Side) -> Result<(), AllocError>
+    requires { IsLeaf (child side node.old) }
+{
+    fill(rt, node);
+    node.slide(side);
+    assert_eq!(rt; node.entries().len(), 3);
+    match side {
+        Side::Left => {
+            let want = [100, 0, 1, 2, 3, 4, 5, 6, 7, 8, 9, 10, 11, 12];
+            assert_parts(rt, alloc, node.left(), &want)
+        }
+        Side::Right => {
+            let want = [3, 4, 5, 6, 7, 8, 9, 10, 11, 12, 13, 14, 15, 100];
+            assert_parts(rt, alloc, node.right(), &want)
+        }
+    }
 }
 
 #[test]
@@ -78,23 +118,11 @@ fn entries_move_to_a_leaf(rt: HostRuntime) -> Result<(), Fail> {
         reserve(&rt, alloc, &mut spares, 2)?;
         let leaf = Subtree::leaf(&mut spares, first_of(100));
         let mut node = Subtree::leaf(&mut spares, first_of(15));
-        fill(&rt, &mut node);
         match side {
             Side::Left => node.set_left(Some(leaf)),
             Side::Right => node.set_right(Some(leaf)),
         }
-        node.slide(side);
-        assert_eq!(rt; node.entries().len(), 3);
-        let mut parts = Vec::new(alloc);
-        match side {
-            Side::Left => write_parts(node.left(), &mut parts)?,
-            Side::Right => write_parts(node.right(), &mut parts)?,
-        }
-        let want = match side {
-            Side::Left => [100, 0, 1, 2, 3, 4, 5, 6, 7, 8, 9, 10, 11, 12],
-            Side::Right => [3, 4, 5, 6, 7, 8, 9, 10, 11, 12, 13, 14, 15, 100],
-        };
-        assert_eq!(rt; parts.as_slice(), want.as_slice());
+        slide(&rt, alloc, &mut node, side)?;
     }
     Ok(())
 }
@@ -108,9 +136,7 @@ fn entries_shift(rt: HostRuntime) -> Result<(), Fail> {
     node.put_entry(0, first_of(1));
     node.put_entry(2, first_of(3));
     assert_eq!(rt; node.take_entry(1).part, 2);
-    let mut parts = Vec::new(alloc);
-    write_parts(Some(&node), &mut parts)?;
-    assert_eq!(rt; parts.as_slice(), [1, 3].as_slice());
+    assert_parts(&rt, alloc, Some(&node), &[1, 3])?;
     Ok(())
 }
 

@@ -1,5 +1,5 @@
 //! T-trees: which references they hold, how high they are, and where entries stand in the nodes.
-ghost use Rattle.std.specs.Prelude.{◌≡◌, ◌≤◌, IfOk};
+ghost use Rattle.std.specs.Prelude.{◌≡◌, [], IfOk};
 ghost use Rattle.std.specs.Ordering.{nat_cmp};
 ghost use Rattle.structure_tests.specs.Orders.{IsByPlace};
 
@@ -50,11 +50,11 @@ fn counting_at(part: usize) -> Counting
     }
 }
 
-#[test]
-fn height_follows_the_count(rt: HostRuntime) -> Result<(), Fail> {
-    let alloc = rt.alloc();
-    let mut tree = TTree::new(alloc);
-    reserve(&rt, &mut tree, alloc, 17)?;
+/// Puts 17 references into an empty tree, and takes the last out again.
+fn fill_first_node(rt: &(impl Abort + AllocGlobal), tree: &mut TTree) -> Result<(), Fail>
+    requires { tree.old.refs ≡ [] }
+{
+    reserve(rt, tree, rt.alloc(), 17)?;
     for part in 0..16 {
         tree.insert(&ByPlace, first_of(part));
     }
@@ -68,6 +68,12 @@ fn height_follows_the_count(rt: HostRuntime) -> Result<(), Fail> {
     tree.trim_spares(1);
     assert_eq!(rt; tree.spare(), 1);
     Ok(())
+}
+
+#[test]
+fn height_follows_the_count(rt: HostRuntime) -> Result<(), Fail> {
+    let mut tree = TTree::new(rt.alloc());
+    fill_first_node(&rt, &mut tree)
 }
 
 /// A tree of the partitions below 2,000, of which the lower half was put in from the greatest to the least.
@@ -131,20 +137,27 @@ fn grows(rt: HostRuntime) -> Result<(), Fail> {
     Ok(())
 }
 
-#[test]
-fn shrinks(rt: HostRuntime) -> Result<(), Fail> {
-    let mut tree = grown(&rt, rt.alloc())?;
+/// Takes 1,900 of 2,000 references out.
+fn shrink(rt: &(impl Abort + AllocGlobal), tree: &mut TTree) -> Result<(), Fail>
+    requires { IsByPlace tree.old.refs }
+{
     for part in 0..1900 {
         assert!(rt; tree.remove(&ByPlace, first_of(part)));
     }
     assert_eq!(rt; tree.len(), 100);
     assert!(rt; tree.height() <= 4);
-    let (at, questions) = found(&tree, 1925);
+    let (at, questions) = found(tree, 1925);
     assert_eq!(rt; at, Some(first_of(1925)));
     assert!(rt; questions <= 9);
-    assert_eq!(rt; found(&tree, 5).0, None);
-    assert_up_to(&rt, rt.alloc(), &tree, 1949, 1900, 50)?;
+    assert_eq!(rt; found(tree, 5).0, None);
+    assert_up_to(rt, rt.alloc(), tree, 1949, 1900, 50)?;
     Ok(())
+}
+
+#[test]
+fn shrinks(rt: HostRuntime) -> Result<(), Fail> {
+    let mut tree = grown(&rt, rt.alloc())?;
+    shrink(&rt, &mut tree)
 }
 
 /// Takes a reference out where it is in, and puts it in where it is not.
@@ -201,6 +214,15 @@ fn assert_parts(
     Ok(())
 }
 
+/// Asserts that a tree goes over these references, and no others.
+fn assert_goes_over(rt: &impl Abort, tree: &TTree, want: &[RowRef]) {
+    assert!(rt; tree.len() <= 1_048_576);
+    assert_eq!(rt; [tree.len(), tree.iter().count()], [want.len(); 2]);
+    for (held, want) in tree.iter().zip(want.iter()) {
+        assert_eq!(rt; held, *want);
+    }
+}
+
 /// Asserts that both hold the same references in the same order.
 fn assert_same(
     rt: &impl Abort,
@@ -216,12 +238,7 @@ fn assert_same(
     let mut want = Vec::new(alloc);
     sorted.copy_range(alloc, &ByPlace, &Anywhere, &Anywhere, &mut want)?;
     assert_eq!(rt; held.as_slice(), want.as_slice());
-    assert_eq!(rt; tree.len(), want.len());
-    assert!(rt; tree.len() <= 1_048_576);
-    assert_eq!(rt; tree.iter().count(), want.len());
-    for (held, want) in tree.iter().zip(want.iter()) {
-        assert_eq!(rt; held, *want);
-    }
+    assert_goes_over(rt, tree, &want);
     Ok(())
 }
 
@@ -262,21 +279,24 @@ fn a_range_asks_about_the_ends_of_a_node(rt: HostRuntime) -> Result<(), Fail> {
     Ok(())
 }
 
-#[test]
-fn double_rotation_fills_the_new_root(rt: HostRuntime) -> Result<(), Fail> {
-    let alloc = rt.alloc();
-    let mut tree = TTree::new(alloc);
-    for part in 101..117 {
-        toggle(&mut tree, alloc, first_of(part))?;
+/// Toggles a reference of each partition from `first` on, below `end`.
+fn toggle_each(tree: &mut TTree, alloc: Global, first: usize, end: usize) -> Result<(), AllocError>
+    requires { IsByPlace tree.old.refs }
+    ensures { IsByPlace tree.new.refs }
+{
+    for part in first..end {
+        toggle(tree, alloc, first_of(part))?;
     }
-    toggle(&mut tree, alloc, first_of(50))?;
-    'low: for part in 1..16 {
-        toggle(&mut tree, alloc, first_of(part))?;
-    }
-    toggle(&mut tree, alloc, first_of(60))?;
+    Ok(())
+}
+
+/// Asserts that a tree has the partitions 1 to 15, 50, 60 and 101 to 116, in three nodes.
+fn assert_rotated(rt: &impl Abort, alloc: Global, tree: &TTree) -> Result<(), AllocError>
+    requires { IsByPlace tree.now.refs }
+{
     assert_eq!(rt; tree.height(), 2);
     // The list in order lies in the three nodes: 1 to 3, then 4 to 15 with 50 and 60, then 101 to 116.
-    assert_ends(&rt, alloc, &tree, [(4, 60), (1, 3), (101, 116)])?;
+    assert_ends(rt, alloc, tree, [(4, 60), (1, 3), (101, 116)])?;
     let mut want = Vec::new(alloc);
     'left: for part in 1..16 {
         want.push(part)?;
@@ -285,7 +305,18 @@ fn double_rotation_fills_the_new_root(rt: HostRuntime) -> Result<(), Fail> {
     'right: for part in 101..117 {
         want.push(part)?;
     }
-    assert_parts(&rt, alloc, &tree, &want)?;
+    assert_parts(rt, alloc, tree, &want)
+}
+
+#[test]
+fn double_rotation_fills_the_new_root(rt: HostRuntime) -> Result<(), Fail> {
+    let alloc = rt.alloc();
+    let mut tree = TTree::new(alloc);
+    toggle_each(&mut tree, alloc, 101, 117)?;
+    toggle(&mut tree, alloc, first_of(50))?;
+    toggle_each(&mut tree, alloc, 1, 16)?;
+    toggle(&mut tree, alloc, first_of(60))?;
+    assert_rotated(&rt, alloc, &tree)?;
     Ok(())
 }
 
@@ -318,32 +349,33 @@ fn assert_built(
     count: usize,
     height: usize,
 ) -> Result<TTree, AllocError>
-    requires { count ≤ 1048576 }
     ensures { IfOk result (λ tree. IsByPlace tree.refs) }
 {
     let refs = ascending(alloc, count)?;
     let tree = TTree::from_sorted(alloc, refs.as_slice())?;
-    assert_eq!(rt; tree.len(), count);
-    assert_eq!(rt; tree.height(), height);
-    assert_eq!(rt; tree.spare(), 0);
-    assert_eq!(rt; tree.iter().count(), count);
-    for (held, want) in tree.iter().zip(refs.iter()) {
-        assert_eq!(rt; held, *want);
-    }
+    assert_eq!(rt;
+        (tree.len(), tree.height(), tree.spare()),
+        (count, height, 0)
+    );
+    assert_goes_over(rt, &tree, &refs);
     Ok(tree)
 }
 
 #[test]
 fn a_list_in_order_fills_the_nodes(rt: HostRuntime) -> Result<(), Fail> {
     let alloc = rt.alloc();
-    assert_built(&rt, alloc, 0, 0)?;
-    assert_built(&rt, alloc, 1, 1)?;
-    assert_built(&rt, alloc, 16, 1)?;
-    assert_built(&rt, alloc, 17, 2)?;
-    assert_built(&rt, alloc, 48, 2)?;
-    assert_built(&rt, alloc, 112, 3)?;
-    assert_built(&rt, alloc, 113, 4)?;
-    assert_built(&rt, alloc, 1_048_576, 17)?;
+    for (count, height) in [
+        (0, 0),
+        (1, 1),
+        (16, 1),
+        (17, 2),
+        (48, 2),
+        (112, 3),
+        (113, 4),
+        (1_048_576, 17),
+    ] {
+        assert_built(&rt, alloc, count, height)?;
+    }
     let tree = assert_built(&rt, alloc, 40, 2)?;
     assert_ends(&rt, alloc, &tree, [(16, 31), (0, 15), (32, 39)])?;
     Ok(())

@@ -58,7 +58,31 @@ fn assert_reserves<R: OrderedRefs>(
     Ok(())
 }
 
-/// Copies those references of `put_two` that lie in the partition of 7, behind another reference.
+/// Copies those references of `put_two` that lie in the partition of 7, behind the references 1, 0, 1 and 0.
+fn copy_behind<R: OrderedRefs>(
+    rt: &(impl Abort + Print),
+    alloc: Global,
+    refs: &R,
+    out: &mut Vec<RowRef>,
+) -> Result<(), Fail>
+    requires { IsByPlace (R.refs refs.now) }
+{
+    let (zero, one) = (numbered(0), numbered(1));
+    let part = InPartition(1);
+    if refs.copy_range(alloc, &ByPlace, &part, &part, out).is_err() {
+        asked_again(rt)?;
+        assert_eq!(rt; out.as_slice(), [one, zero, one, zero].as_slice());
+        assert_held(rt, alloc, refs, &[numbered(3), numbered(7)])?;
+        refs.copy_range(alloc, &ByPlace, &part, &part, out)?;
+    }
+    assert_eq!(rt;
+        out.as_slice(),
+        [one, zero, one, zero, numbered(7)].as_slice()
+    );
+    Ok(())
+}
+
+/// Copies references behind others, of which there are enough that the list has to grow.
 fn assert_copies<R: OrderedRefs>(
     rt: &(impl Abort + Print),
     alloc: Global,
@@ -73,31 +97,7 @@ fn assert_copies<R: OrderedRefs>(
     {
         return Ok(());
     }
-    let part = InPartition(1);
-    if refs
-        .copy_range(alloc, &ByPlace, &part, &part, &mut out)
-        .is_err()
-    {
-        asked_again(rt)?;
-        assert_eq!(rt;
-            out.as_slice(),
-            [numbered(1), numbered(0), numbered(1), numbered(0)].as_slice()
-        );
-        assert_held(rt, alloc, refs, &[numbered(3), numbered(7)])?;
-        refs.copy_range(alloc, &ByPlace, &part, &part, &mut out)?;
-    }
-    assert_eq!(rt;
-        out.as_slice(),
-        [
-            numbered(1),
-            numbered(0),
-            numbered(1),
-            numbered(0),
-            numbered(7)
-        ]
-        .as_slice()
-    );
-    Ok(())
+    copy_behind(rt, alloc, refs, &mut out)
 }
 
 #[test]

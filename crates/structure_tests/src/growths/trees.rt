@@ -3,27 +3,38 @@ use crate::growths::asked_again;
 use crate::references::{ascending, first_of};
 use crate::samples::{Anywhere, ByPlace};
 use mm_order::OrderedRefs;
+use mm_value::RowRef;
+use std::process::Abort;
 use std::test::Fail;
 use ttree::TTree;
 use ttree_node::Spares;
 
-#[test]
-fn from_sorted_growths(rt: HostRuntime) -> Result<(), Fail> {
-    let alloc = rt.alloc();
-    let Ok(refs) = ascending(alloc, 40) else {
-        return Ok(());
-    };
-    let tree = match TTree::from_sorted(alloc, &refs) {
-        Ok(tree) => tree,
+/// A tree over references in order, asked for again where memory is refused.
+fn build_again(rt: &(impl Abort + AllocGlobal + Print), refs: &[RowRef]) -> Result<TTree, Fail> {
+    match TTree::from_sorted(rt.alloc(), refs) {
+        Ok(tree) => Ok(tree),
         Err(_) => {
-            asked_again(&rt)?;
-            TTree::from_sorted(alloc, &refs)?
+            asked_again(rt)?;
+            Ok(TTree::from_sorted(rt.alloc(), refs)?)
         }
-    };
+    }
+}
+
+/// Asserts that a tree of 40 references is as low as it can be, and that they are these.
+fn assert_built(rt: &impl Abort, tree: &TTree, refs: &[RowRef]) {
     assert_eq!(rt; (tree.len(), tree.height(), tree.spare()), (40, 2, 0));
     for (held, want) in tree.iter().zip(refs.iter()) {
         assert_eq!(rt; held, *want);
     }
+}
+
+#[test]
+fn from_sorted_growths(rt: HostRuntime) -> Result<(), Fail> {
+    let Ok(refs) = ascending(rt.alloc(), 40) else {
+        return Ok(());
+    };
+    let tree = build_again(&rt, &refs)?;
+    assert_built(&rt, &tree, &refs);
     Ok(())
 }
 

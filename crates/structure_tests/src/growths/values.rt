@@ -3,6 +3,7 @@ use crate::growths::asked_again;
 use crate::samples::{is_equal, text};
 use mm_value::{Refusal, Row, Text, Value, read_literal};
 use std::alloc::Global;
+use std::process::Abort;
 use std::test::Fail;
 
 #[test]
@@ -20,22 +21,28 @@ fn text_growths(rt: HostRuntime) -> Result<(), Fail> {
     Ok(())
 }
 
+/// A copy of a text, asked for again where memory is refused.
+fn copy_again(rt: &(impl Abort + AllocGlobal + Print), text: &Text) -> Result<Text, Fail> {
+    match text.copy(rt.alloc()) {
+        Ok(copy) => Ok(copy),
+        Err(refusal) => {
+            asked_again(rt)?;
+            assert_eq!(rt; refusal, Refusal::Memory);
+            Ok(text.copy(rt.alloc())?)
+        }
+    }
+}
+
 #[test]
 fn text_copy_growths(rt: HostRuntime) -> Result<(), Fail> {
-    let alloc = rt.alloc();
-    let Ok(first) = Text::new(alloc, b"seventeen letters") else {
+    let Ok(first) = Text::new(rt.alloc(), b"seventeen letters") else {
         return Ok(());
     };
-    let copy = match first.copy(alloc) {
-        Ok(copy) => copy,
-        Err(refusal) => {
-            asked_again(&rt)?;
-            assert_eq!(rt; refusal, Refusal::Memory);
-            first.copy(alloc)?
-        }
-    };
-    assert_eq!(rt; copy.bytes(), b"seventeen letters".as_slice());
-    assert_eq!(rt; first.bytes(), b"seventeen letters".as_slice());
+    let copy = copy_again(&rt, &first)?;
+    assert_eq!(rt;
+        [copy.bytes(), first.bytes()],
+        [b"seventeen letters".as_slice(); 2]
+    );
     Ok(())
 }
 

@@ -1,6 +1,6 @@
 use Rattle.std.proofs.Common.{◌+◌, ◌<◌, ◌≤◌, All}
 use Rattle.structure_tests.specs.Orders.{IsByPlace}
-use Rattle.structure_tests.proofs.trees.height_follows_the_count.Given as goal
+use Rattle.structure_tests.proofs.trees.fill_first_node.Given as goal
 
 -- the references below the next are in, in order, and there is room for the others
 abbrev pub invariant-loop-part : goal.invariant-loop-part

@@ -1,6 +1,6 @@
 use Rattle.std.proofs.Common.{◌+◌, ◌≤◌}
 use Rattle.mm_partition.specs.Places.{IsLive}
-use Rattle.structure_tests.proofs.partitions.place_two.Given as goal
+use Rattle.structure_tests.proofs.partitions.place_behind.Given as goal
 
 -- there is room for the rows to come, and the second row lives
 abbrev pub invariant-loop : goal.invariant-loop

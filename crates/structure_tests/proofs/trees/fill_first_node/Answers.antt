@@ -1,6 +1,6 @@
 use Rattle.std.proofs.Common.{◌+◌, ◌<◌, arith}
 use Rattle.mm_order.proofs.Ordered.{All-added}
-use Rattle.structure_tests.proofs.trees.height_follows_the_count.Goals as goal
+use Rattle.structure_tests.proofs.trees.fill_first_node.Goals as goal
 
 pub loop-part-preserved : goal.loop-part-preserved
 loop-part-preserved g c = record {

@@ -1,5 +1,5 @@
 use Rattle.structure_tests.specs.Orders.{IsByPlace}
-use Rattle.structure_tests.proofs.trees.shrinks.Given as goal
+use Rattle.structure_tests.proofs.trees.shrink.Given as goal
 
 -- what is left is in order
 abbrev pub invariant-loop-part : goal.invariant-loop-part
