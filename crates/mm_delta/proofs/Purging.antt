@@ -28,6 +28,10 @@ module _ (row : List Value) (i : ℕ) (es fs : Entries) (once : IsOnce es) (at :
     entry_gone =
         ap is_some (found row ∙ ap (λ b. cond b None (lookup (same_row row) es)) (same_row_equiv.refl row))
 
+    -- The entries of other rows stay.
+    pub entry_beside : (q : List Value) → same_row row q ≡ false → has_entry q fs ≡ has_entry q es
+    entry_beside q apart = ap is_some (found q ∙ ap (λ b. cond b None (lookup (same_row q) es)) apart)
+
     -- No entry comes.
     pub entry_was : (q : List Value) → has_entry q fs ≡ true → has_entry q es ≡ true
     entry_was q had = by (same_row row q) (ap is_some (found q))

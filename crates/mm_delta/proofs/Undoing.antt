@@ -1,5 +1,5 @@
 -- Changes that are opposite undo one another, and each finds its entry.
-use Rattle.std.proofs.Common.{◌≡◌, ℕ, ℤ, pos, ◌+ℤ◌, neg_ℤ, Bool, true, false, cond, ◌||◌, is_some, Some, List, [], ◌∷◌, ◌++◌, refl, sym, ap, ◌∙◌, arith}
+use Rattle.std.proofs.Common.{◌≡◌, ℕ, ℤ, pos, ◌+ℤ◌, neg_ℤ, ◌⊎◌, inl, inr, Bool, true, false, cond, ◌||◌, is_some, Some, List, [], ◌∷◌, ◌++◌, refl, sym, ap, ◌∙◌, arith}
 use Rattle.std.proofs.lemmas.Int.{ints}
 use Rattle.std.specs.List.{AllByRecursion, list_any}
 use Rattle.std.specs.Map.{keys_of, lookup}
@@ -81,6 +81,20 @@ module _ (change : Signed) (old new : Entries) (adds : Adds change old new) wher
       by : (b : Bool) → has_entry row new ≡ list_any (same_row row) (cond b (keys_of old) (keys_of old ++ change.row ∷ [])) → has_entry row new ≡ true
       by true h = h ∙ there
       by false h = h ∙ any_at_end row change.row (keys_of old) ∙ ap (λ b. b || same_row row change.row) there
+
+  -- Only the changed row can have come by an entry.
+  pub only_one : (row : List Value) → has_entry row new ≡ true → (has_entry row old ≡ true) ⊎ (same_row row change.row ≡ true)
+  only_one row has = by (has_entry change.row old) (placed row)
+    where
+      either : (a b : Bool) → has_entry row old ≡ a → a || b ≡ true → (has_entry row old ≡ true) ⊎ (b ≡ true)
+      either true b is h = inl is
+      either false b is h = inr h
+
+      by : (b : Bool) → has_entry row new ≡ list_any (same_row row) (cond b (keys_of old) (keys_of old ++ change.row ∷ [])) → (has_entry row old ≡ true) ⊎ (same_row row change.row ≡ true)
+      by true h = inl (entry_in_keys row old ∙ sym h ∙ has)
+      by false h =
+          either (list_any (same_row row) (keys_of old)) (same_row row change.row) (entry_in_keys row old)
+          (sym (any_at_end row change.row (keys_of old)) ∙ sym h ∙ has)
 
 pub kept_all : (changes : List Signed) (old new : Entries) → AddsAll changes old new → (row : List Value) → has_entry row old ≡ true → has_entry row new ≡ true
 kept_all [] old new h row had = ap (has_entry row) h ∙ had

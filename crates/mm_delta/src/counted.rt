@@ -1,10 +1,11 @@
 //! Bags of rows kept as counts.
-ghost use Rattle.std.specs.Prelude.{◌≡◌, ◌+◌, ◌≤◌, ◌<◌, ◌^◌, ◌⊎◌, pos, ◌+ℤ◌, ◌≤ℤ◌, ◌<ℤ◌, true, [], ◌++◌, false, length, List, neg_ℤ, replicate, Some, slice_get, IfErr, IfOk, OnOk, OnErr};
+ghost use Rattle.std.specs.Prelude.{◌≡◌, ◌+◌, ◌≤◌, ◌<◌, ◌^◌, ◌⊎◌, pos, ◌+ℤ◌, ◌≤ℤ◌, ◌<ℤ◌, true, [], ◌++◌, false, length, List, neg_ℤ, not, replicate, Some, slice_get, IfErr, IfOk, OnOk, OnErr};
 ghost use Rattle.mm_value.specs.declared.refusal.Refusal.TheVariants.{Memory};
 ghost use Rattle.indexmap.specs.IndexMap.{spare};
 ghost use Rattle.std.specs.List.{AllByRecursion};
 ghost use Rattle.mm_delta.specs.Counts.{Adds, AddsAll, Entries, IsOnce, count_in, count_of, has_entry, rows_of, signed_count, total_of};
 ghost use Rattle.mm_delta.specs.declared.signed.Signed.{Signed as Change};
+ghost use Rattle.mm_value.specs.Equality.{same_row};
 ghost use Rattle.mm_value.specs.declared.values.Value.{Value as Val};
 
 use crate::signed::Signed;
@@ -109,9 +110,10 @@ impl Counted {
         self.counts.into_iter()
     }
 
-    /// Adds to the count of a row. It asks for an entry of the row or for room, for a count that stays at 0 or above, and for
-    /// a total below 2^64. An entry keeps its place, also where its count falls to 0. It takes no memory.
-    pub fn add(&mut self, change: Signed)
+    /// Adds to the count of a row, and tells whether the row had no entry before. It asks for an entry of the row or for room, for
+    /// a count that stays at 0 or above, and for a total below 2^64. An entry keeps its place, also where its count falls to 0. It
+    /// takes no memory.
+    pub fn add(&mut self, change: Signed) -> bool
         requires room { (has_entry change.row self.old.entries ≡ true) ⊎ (0 < self.old.room) }
         requires count { pos 0 ≤ℤ (pos (count_in change.row self.old.entries) +ℤ change.count) }
         requires total { (pos (total_of self.old.entries) +ℤ change.count) <ℤ pos (2 ^ 64) }
@@ -119,10 +121,11 @@ impl Counted {
         ensures total { pos (total_of self.new.entries) ≡ pos (total_of self.old.entries) +ℤ change.count }
         ensures kept { has_entry change.row self.old.entries ≡ true → self.new.room ≡ self.old.room }
         ensures used { self.old.room ≤ self.new.room + 1 }
+        ensures is_new { result ≡ not (has_entry change.row self.old.entries) }
     {
         let Signed { row, count } = change;
         self.total = changed(self.total, count);
-        add_count(&mut self.counts, row, count);
+        add_count(&mut self.counts, row, count)
     }
 
     /// Adds to the count of a row that has an entry, which keeps its place. It asks for a count that stays at 0 or above, and for
@@ -174,6 +177,7 @@ impl Counted {
         ensures total { total_of self.new.entries ≡ total_of self.old.entries }
         ensures gone { count_in row.now self.old.entries ≡ 0 → has_entry row.now self.new.entries ≡ false }
         ensures others { (other : List Val) → has_entry other self.new.entries ≡ true → has_entry other self.old.entries ≡ true }
+        ensures beside { (other : List Val) → same_row row.now other ≡ false → has_entry other self.new.entries ≡ has_entry other self.old.entries }
         ensures kept { 0 < count_in row.now self.old.entries → self.new.entries ≡ self.old.entries }
         ensures room { self.old.room ≤ self.new.room }
     {
@@ -206,8 +210,8 @@ fn push_copies(rows: &mut Vec<Row>, alloc: Global, row: &Row, count: usize) -> R
     Ok(())
 }
 
-// Adds to the count of a row, which has an entry, or there is room for one.
-fn add_count(counts: &mut IndexMap<Row, usize>, row: Row, change: i128)
+// Adds to the count of a row, which has an entry, or there is room for one, and tells whether it had none.
+fn add_count(counts: &mut IndexMap<Row, usize>, row: Row, change: i128) -> bool
     requires room { (has_entry row counts.old.entries ≡ true) ⊎ (0 < spare counts.old) }
     requires once { IsOnce counts.old.entries }
     requires least { pos 0 ≤ℤ (pos (count_in row counts.old.entries) +ℤ change) }
@@ -217,10 +221,13 @@ fn add_count(counts: &mut IndexMap<Row, usize>, row: Row, change: i128)
     ensures kept { has_entry row counts.old.entries ≡ true → spare counts.new ≡ spare counts.old }
     ensures used { spare counts.old ≤ spare counts.new + 1 }
     ensures once { IsOnce counts.new.entries }
+    ensures is_new { result ≡ not (has_entry row counts.old.entries) }
 {
-    if !change_found(counts, &row, change) {
+    let is_new = !change_found(counts, &row, change);
+    if is_new {
         counts.insert(row, changed(0, change)).unwrap();
     }
+    is_new
 }
 
 // Adds to the count of a row where it has an entry, and tells whether it has.

@@ -1,5 +1,5 @@
 -- What the bags have where one of them is another.
-use Rattle.std.proofs.Common.{◌≡◌, ◌≢◌, ℕ, zero, suc, ℤ, pos, ◌+◌, ◌+ℤ◌, ◌≤◌, ◌<◌, ◌≤ℤ◌, ◌<ℤ◌, ◌^◌, Bool, true, false, true≢false, cond, List, [], ◌∷◌, length, map, get_or, set, refl, sym, ap, ◌∙◌, arith}
+use Rattle.std.proofs.Common.{◌≡◌, ◌≢◌, ℕ, zero, suc, ℤ, pos, ◌+◌, ◌+ℤ◌, ◌≤◌, ◌<◌, ◌≤ℤ◌, ◌<ℤ◌, ◌^◌, ◌⊎◌, inl, inr, ⊎_elim, Bool, true, false, true≢false, cond, List, [], ◌∷◌, length, map, get_or, set, refl, sym, ap, ◌∙◌, arith}
 use Rattle.std.specs.Prelude.{◌==◌}
 use Rattle.std.proofs.lemmas.Int.{ints}
 use Rattle.std.proofs.lemmas.Bool.{eq-eqb, eqb-true}
@@ -8,8 +8,8 @@ use Rattle.mm_value.specs.Equality.{same_row}
 use Rattle.mm_value.specs.EqualityLaws.{same_row_equiv}
 use Rattle.mm_value.specs.declared.values.Value.{Value}
 use Rattle.mm_delta.specs.Counts.{Adds, Counts, Entries, count_in, has_entry, signed_count, total_of}
-use Rattle.mm_delta.proofs.Undoing.{found_all, kept_all}
-use Rattle.mm_standing.specs.Bags.{AddedTo, IsWithin, entries_at, list_change, room_at, row_change}
+use Rattle.mm_delta.proofs.Undoing.{found_all, kept_all, only_one}
+use Rattle.mm_standing.specs.Bags.{AddedTo, IsWithin, Purges, entries_at, list_change, names, room_at, row_change}
 use Rattle.mm_standing.specs.declared.change.ListChange.{ListChange}
 
 pub at_map : {X Y : Type 0} (f : X → Y) (xs : List X) (i : ℕ) (d : X) (e : Y) → i < length xs → get_or (map f xs) i e ≡ f (get_or xs i d)
@@ -76,6 +76,11 @@ module _ (bags : List Counts) (at : ℕ) (b0 b1 : Counts) (there : at < length b
           ∙ keeps row (ap (has_entry row) (sym entries_here) ∙ ap (λ l. has_entry row (entries_at bags l)) same ∙ had)
       by false e = ap (has_entry row) (set_other (λ (b : Counts). b.entries) bags at list b1 [] (not_same at list e)) ∙ had
 
+  -- An entry in its place is one of the bag.
+  pub in_bag : (list : ℕ) (row : List Value) → at ≡ list → has_entry row (entries_at (set bags at b1) list) ≡ true → has_entry row b1.entries ≡ true
+  in_bag list row same has =
+      ap (has_entry row) (sym new_here) ∙ ap (λ l. has_entry row (entries_at (set bags at b1) l)) same ∙ has
+
   pub room_used : b0.room ≤ b1.room + 1 → (list : ℕ) → room_at bags list ≤ room_at (set bags at b1) list + cond (at == list) 1 0
   room_used used list = by (at == list) refl
     where
@@ -101,9 +106,71 @@ module _ (bags : List Counts) (c : ListChange) (b0 b1 : Counts) (there : c.list 
     found = ap (has_entry c.change.row) (set_here (λ (b : Counts). b.entries) bags c.list b1 [] there)
         ∙ (found_all (c.change ∷ []) b0.entries b1.entries (b1.entries, adds, refl)).0;
     kept = entry_kept bags c.list b0 b1 there is (λ row had. kept_all (c.change ∷ []) b0.entries b1.entries (b1.entries, adds, refl) row had);
+    only = only;
     rooms = room_used bags c.list b0 b1 there is used;
     size = length-set bags c.list b1;
   }
+    where
+      only : (list : ℕ) (row : List Value) → has_entry row (entries_at (set bags c.list b1) list) ≡ true
+          → (has_entry row (entries_at bags list) ≡ true) ⊎ (names list row c ≡ true)
+      only list row has = by (c.list == list) refl
+        where
+          by : (b : Bool) → (c.list == list) ≡ b → (has_entry row (entries_at bags list) ≡ true) ⊎ (names list row c ≡ true)
+          by true e =
+              let same : c.list ≡ list = eqb-true c.list list e in
+              ⊎_elim
+              (λ had. inl (ap (λ l. has_entry row (entries_at bags l)) (sym same) ∙ ap (has_entry row) (entries_here bags c.list b0 b1 there is) ∙ had))
+              (λ it. inr (ap (λ a. cond a (same_row row c.change.row) false) e ∙ it))
+              (only_one c.change b0.entries b1.entries adds row (in_bag bags c.list b0 b1 there is list row same has))
+          by false e = inl (ap (has_entry row) (sym (set_other (λ (b : Counts). b.entries) bags c.list list b1 [] (not_same c.list list e))) ∙ has)
+
+  -- The entry of its row goes, where it is asked for and the count is 0.
+  pub purged : ((row : List Value) → count_in row b1.entries ≡ count_in row b0.entries) → total_of b1.entries ≡ total_of b0.entries
+      → (count_in c.change.row b0.entries ≡ 0 → has_entry c.change.row b1.entries ≡ false)
+      → ((row : List Value) → has_entry row b1.entries ≡ true → has_entry row b0.entries ≡ true)
+      → ((row : List Value) → same_row c.change.row row ≡ false → has_entry row b1.entries ≡ has_entry row b0.entries)
+      → Purges true c bags (set bags c.list b1)
+  purged counts total goes others beside = record {
+    counts = λ list row. unchanged bags c.list b0 b1 there is (count_in row) (counts row) list;
+    totals = λ list. unchanged bags c.list b0 b1 there is total_of total list;
+    gone = λ asked is_0.
+        ap (has_entry c.change.row) (new_here bags c.list b0 b1 there is)
+        ∙ goes (ap (count_in c.change.row) (sym (entries_here bags c.list b0 b1 there is)) ∙ is_0);
+    others = λ list row has. from list row has (c.list == list) refl;
+    beside = λ list row apart. stays list row apart (c.list == list) refl;
+    kept = λ asked. absurd (true≢false asked);
+    size = length-set bags c.list b1;
+  }
+    where
+      from : (list : ℕ) (row : List Value) → has_entry row (entries_at (set bags c.list b1) list) ≡ true → (b : Bool) → (c.list == list) ≡ b
+          → has_entry row (entries_at bags list) ≡ true
+      from list row has true e =
+          let same : c.list ≡ list = eqb-true c.list list e in
+          ap (λ l. has_entry row (entries_at bags l)) (sym same) ∙ ap (has_entry row) (entries_here bags c.list b0 b1 there is)
+          ∙ others row (in_bag bags c.list b0 b1 there is list row same has)
+      from list row has false e = ap (has_entry row) (sym (set_other (λ (b : Counts). b.entries) bags c.list list b1 [] (not_same c.list list e))) ∙ has
+
+      stays : (list : ℕ) (row : List Value) → names list row c ≡ false → (b : Bool) → (c.list == list) ≡ b
+          → has_entry row (entries_at (set bags c.list b1) list) ≡ has_entry row (entries_at bags list)
+      stays list row apart true e =
+          let same : c.list ≡ list = eqb-true c.list list e in
+          let other : same_row c.change.row row ≡ false =
+          same_row_equiv.symm c.change.row row ∙ sym (ap (λ a. cond a (same_row row c.change.row) false) e) ∙ apart in
+          ap (λ l. has_entry row (entries_at (set bags c.list b1) l)) (sym same) ∙ ap (has_entry row) (new_here bags c.list b0 b1 there is)
+          ∙ beside row other ∙ ap (has_entry row) (sym (entries_here bags c.list b0 b1 there is)) ∙ ap (λ l. has_entry row (entries_at bags l)) same
+      stays list row apart false e = ap (has_entry row) (set_other (λ (b : Counts). b.entries) bags c.list list b1 [] (not_same c.list list e))
+
+-- Nothing goes where it is not asked for.
+pub purged_none : (c : ListChange) (bags : List Counts) → Purges false c bags bags
+purged_none c bags = record {
+  counts = λ list row. refl;
+  totals = λ list. refl;
+  gone = λ asked. absurd (true≢false (sym asked));
+  others = λ list row has. has;
+  beside = λ list row apart. refl;
+  kept = λ asked. refl;
+  size = refl;
+}
 
 itself : (row : List Value) → same_row row row ≡ true
 itself row = same_row_equiv.refl row

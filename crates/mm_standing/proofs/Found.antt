@@ -1,5 +1,5 @@
 -- The bag of the rows that a plan finds.
-use Rattle.std.proofs.Common.{◌≡◌, ℕ, pos, ◌+◌, ◌+ℤ◌, Bool, true, false, cond, List, [], ◌∷◌, ◌++◌, Some, map, sym, ap, ◌∙◌, subst, arith}
+use Rattle.std.proofs.Common.{◌≡◌, ℕ, pos, ◌+◌, ◌+ℤ◌, ⊎_elim, Bool, true, false, true≢false, cond, List, [], ◌∷◌, ◌++◌, Some, map, sym, ap, ◌∙◌, subst, arith}
 use Rattle.std.specs.List.Sorted.{IsPermutation}
 use Rattle.std.proofs.lemmas.Int.{ints}
 use Rattle.std.proofs.lemmas.List.Sorted.{IsPermutation-map, IsPermutation-sym, IsPermutation-trans, sum_by-IsPermutation}
@@ -15,6 +15,8 @@ use Rattle.mm_templist.specs.Combos.{Combos, combo_rows}
 use Rattle.mm_templist.specs.Results.{projected_rows, result_rows}
 use Rattle.mm_select.specs.Fitting.{AreFitting, fitting}
 use Rattle.mm_delta.specs.Counts.{Adds, Entries, count_in}
+use Rattle.mm_delta.proofs.Undoing.{only_one}
+use Rattle.mm_standing.specs.Bags.{ArePositive}
 use Rattle.mm_standing.specs.Queries.{IsBagOf}
 
 -- ---- one row after another
@@ -30,6 +32,18 @@ bag_more es fs rows row bag adds other =
     counted_more (same_row other row) (count_in other fs) (count_in other es) (adds.counts other)
     ∙ ap (λ n. n + cond (same_row other row) 1 0) (bag other)
     ∙ sym (sum_by_push (λ r. cond (same_row other r) 1 0) rows row)
+
+-- Its count is above 0, and those of the others are as they were.
+pub positive_more : (es fs : Entries) (row : List Value) → ArePositive es → Adds (record { row = row; count = pos 1 }) es fs → ArePositive fs
+positive_more es fs row positive adds other has =
+    let counted = counted_more (same_row other row) (count_in other fs) (count_in other es) (adds.counts other) in
+    ⊎_elim
+    (λ had. let was = positive other had in omega (arith, was, counted))
+    (λ same. let one : ◌≡◌ {A = ℕ} (cond (same_row other row) 1 0) 1 = ap {B = ℕ} (λ b. cond b 1 0) same in omega (arith, one, counted))
+    (only_one (record { row = row; count = pos 1 }) es fs adds other has)
+
+pub positive_none : ArePositive []
+positive_none row has = absurd (true≢false (sym has))
 
 -- ---- what a plan finds
 

@@ -5,12 +5,12 @@ pub mod InPlace
 pub mod Net
 pub mod Others
 pub mod Preparing
-pub mod Purged
 pub mod Pushing
 pub mod Ready
 pub mod Rest
 pub mod Segments
 pub mod Stages
 pub mod Steps
+pub mod Told
 pub mod Totals
 pub mod Values

@@ -1,9 +1,9 @@
 -- What stays sound where a bag goes, or what is ready.
-use Rattle.std.proofs.Common.{◌≡◌, ℕ, zero, suc, pos, ◌+ℤ◌, ◌<ℤ◌, ◌≤ℤ◌, ◌≤◌, ◌<◌, ◌^◌, ◌⊎◌, inl, inr, ⊎_elim, List, [], ◌∷◌, ◌++◌, length, map, get_or, refl, sym, subst, arith}
+use Rattle.std.proofs.Common.{◌≡◌, ℕ, zero, suc, pos, ◌+ℤ◌, ◌<ℤ◌, ◌≤ℤ◌, ◌≤◌, ◌<◌, ◌^◌, ◌⊎◌, inl, inr, ⊎_elim, List, [], ◌∷◌, ◌++◌, length, map, get_or, refl, sym, ap, ◌∙◌, subst, arith}
 use Rattle.std.specs.List.{All, remove}
 use Rattle.std.proofs.lemmas.Int.{ints}
-use Rattle.mm_delta.specs.Counts.{Counts, Entries, count_in, total_of}
-use Rattle.mm_standing.specs.Bags.{HasEntry, IsSound, IsWithin, done_of, entries_at, opposite, room_at}
+use Rattle.mm_delta.specs.Counts.{Counts, Entries, count_in, has_entry, total_of}
+use Rattle.mm_standing.specs.Bags.{ArePositive, HasEntry, IsLean, IsSound, IsWithin, done_of, entries_at, opposite, room_at}
 use Rattle.mm_standing.specs.declared.change.ListChange.{ListChange}
 use Rattle.mm_standing.specs.declared.change.Prepared.{Prepared}
 use Rattle.mm_standing.proofs.Stages.{nothing_left, nothing_to_add}
@@ -53,6 +53,12 @@ sound_less bags place sound =
       logged = none (HasEntry left);
     }
 
+-- No entry without it has the count 0.
+pub lean_less : (bags : List Counts) (place : ℕ) → IsLean bags [] → IsLean (remove bags place) []
+lean_less bags place lean list row has is_0 =
+    let r = removed_at (λ (b : Counts). b.entries) bags place list [] in
+    lean r.0 row (ap (has_entry row) (sym r.1) ∙ has) (ap (count_in row) (sym r.1) ∙ is_0)
+
 -- What is at a place with one element more is at the same place without it, or it is that element.
 pushed_at : {X Y : Type 0} (f : X → Y) (xs : List X) (x : X) (k : ℕ) (e : Y)
     → (get_or (map f (xs ++ x ∷ [])) k e ≡ get_or (map f xs) k e) ⊎ (get_or (map f (xs ++ x ∷ [])) k e ≡ f x)
@@ -85,3 +91,14 @@ sound_more bags bag fits sound =
       undo = nothing_to_add all now;
       logged = none (HasEntry all);
     }
+
+-- Nor has one of such a bag.
+pub lean_more : (bags : List Counts) (bag : Counts) → ArePositive bag.entries → IsLean bags [] → IsLean (bags ++ bag ∷ []) []
+lean_more bags bag above lean list row has is_0 =
+    ⊎_elim
+    (λ same. lean list row (ap (has_entry row) (sym same) ∙ has) (ap (count_in row) (sym same) ∙ is_0))
+    (λ here.
+    let some : 0 < count_in row bag.entries = above row (ap (has_entry row) (sym here) ∙ has) in
+    let none : count_in row bag.entries ≡ 0 = ap (count_in row) (sym here) ∙ is_0 in
+    absurd (omega (arith, some, none)))
+    (pushed_at (λ (b : Counts). b.entries) bags bag list [])

@@ -1,12 +1,12 @@
 -- What stays sound where a change is made or undone.
-use Rattle.std.proofs.Common.{◌≡◌, ℕ, pos, ◌+◌, ◌+ℤ◌, ◌≤ℤ◌, ◌<ℤ◌, ◌^◌, ◌≤◌, ◌<◌, true, cond, List, [], ◌∷◌, ◌++◌, Some, length, drop, refl, sym, ap, ◌∙◌, subst, arith}
+use Rattle.std.proofs.Common.{◌≡◌, ℕ, pos, ◌+◌, ◌+ℤ◌, ◌≤ℤ◌, ◌<ℤ◌, ◌^◌, ◌≤◌, ◌<◌, cond, List, [], ◌∷◌, ◌++◌, Some, length, drop, refl, sym, ap, ◌∙◌, subst, arith}
 use Rattle.std.specs.Prelude.{◌==◌}
 use Rattle.std.specs.List.{All}
 use Rattle.std.proofs.lemmas.Int.{ints}
 use Rattle.std.proofs.lemmas.List.{map-append, drop-append-le, length_push}
 use Rattle.std.proofs.lemmas.List.Elements.{All-pop, All-push, All-weaker}
 use Rattle.std.proofs.lemmas.List.Sums.{sum_by_push}
-use Rattle.mm_delta.specs.Counts.{Counts, count_in, has_entry, total_of}
+use Rattle.mm_delta.specs.Counts.{Counts, count_in, total_of}
 use Rattle.mm_standing.specs.Bags.{AddedTo, CanAdd, HasEntry, IsSound, IsWithin, Made, count_with, done_of, entries_at, number_for, opposite, room_at}
 use Rattle.mm_standing.specs.declared.change.ListChange.{ListChange}
 use Rattle.mm_standing.specs.declared.change.Prepared.{Prepared}
@@ -52,7 +52,7 @@ module _ (bags : List Counts) (rest : List Prepared) (next : Prepared) (log : Li
       omega (arith, n, one, fits)
 
   module _ (bags' : List Counts) (adds : AddedTo next.done bags bags') where
-    undo_is : next.undo ≡ opposite next.done
+    pub undo_is : next.undo ≡ opposite next.done
     undo_is = (All_left (λ (p : Prepared). p.undo ≡ opposite p.done) rest next sound.opposites).1
 
     still : CanAdd bags' (done_of rest)
@@ -103,11 +103,8 @@ module _ (bags : List Counts) (rest : List ListChange) (c : ListChange) (sound :
   found : All (HasEntry bags) rest × HasEntry bags c
   found = All_left (HasEntry bags) rest c sound.logged
 
-  pub newest_there : c.list < length bags
-  newest_there = found.1.0
-
-  pub newest_entry : has_entry c.change.row (entries_at bags c.list) ≡ true
-  newest_entry = found.1.1
+  pub newest_entry : HasEntry bags c
+  newest_entry = found.1
 
   pub newest_within : IsWithin bags (c ∷ [])
   newest_within = last_one bags rest c sound.undo

@@ -1,9 +1,12 @@
 -- The bags of standing queries, and changes of the counts of their rows.
-use Rattle.std.specs.Prelude.{◌≡◌, ◌==◌, ℕ, ℤ, pos, ◌+◌, ◌≤◌, ◌<◌, ◌^◌, ◌+ℤ◌, ◌≤ℤ◌, ◌<ℤ◌, neg_ℤ, true, if◌then◌else◌, All, length, List, [], ◌∷◌, count_by, drop, map, slice_index_or}
+use Rattle.std.specs.Prelude.{◌≡◌, ◌==◌, ℕ, ℤ, pos, ◌+◌, ◌≤◌, ◌<◌, ◌⊎◌, ◌^◌, ◌+ℤ◌, ◌≤ℤ◌, ◌<ℤ◌, neg_ℤ, Bool, true, false, if◌then◌else◌, All, length, List, [], ◌∷◌, count_by, drop, map, slice_index_or, take}
+use Rattle.std.specs.List.{list_any}
+use Rattle.mm_value.specs.Equality.{same_row}
 use Rattle.mm_value.specs.declared.values.Value.{Value}
 use Rattle.mm_delta.specs.Counts.{Counts, Entries, count_in, count_of, has_entry, signed_count, total_of}
 use Rattle.mm_delta.specs.declared.signed.Signed.{Signed}
 use Rattle.mm_standing.specs.declared.change.ListChange.{ListChange}
+use Rattle.mm_standing.specs.declared.change.Logged.{Logged}
 use Rattle.mm_standing.specs.declared.change.Prepared.{Prepared}
 
 -- The entries of the bag of a list; none where there is no such list.
@@ -68,6 +71,24 @@ IsSmall c = pos 0 ≤ℤ (c.change.count +ℤ pos (2 ^ 64))
 abbrev pub done_of : List Prepared → List ListChange
 done_of prepared = map (λ (p : Prepared). p.done) prepared
 
+-- The changes of a log that undo what was made.
+abbrev pub undos : List Logged → List ListChange
+undos log = map (λ (made : Logged). made.undo) log
+
+-- The change is of this row of this list.
+abbrev pub names : ℕ → List Value → ListChange → Bool
+names list row c = if c.list == list then same_row row c.change.row else false
+
+-- Some of the changes is of this row of this list.
+abbrev pub is_named : ℕ → List Value → List ListChange → Bool
+is_named list row changes = list_any (names list row) changes
+
+-- Each entry whose count is 0 is of a row that the log names. So where the log is empty no count is 0.
+abbrev pub IsLean : List Counts → List ListChange → Type 0
+IsLean bags log =
+    (list : ℕ) (row : List Value) → has_entry row (entries_at bags list) ≡ true → count_in row (entries_at bags list) ≡ 0
+    → is_named list row log ≡ true
+
 -- A list of the change is there, and its row has an entry in it.
 abbrev pub HasEntry : List Counts → ListChange → Type 0
 HasEntry bags c = (c.list < length bags) × (has_entry c.change.row (entries_at bags c.list) ≡ true)
@@ -87,8 +108,36 @@ pub record AddedTo (c : ListChange) (old new : List Counts) : Type 0 where
   pub totals : (list : ℕ) → pos (total_of (entries_at new list)) ≡ pos (total_of (entries_at old list)) +ℤ list_change list c
   pub found : has_entry c.change.row (entries_at new c.list) ≡ true
   pub kept : (list : ℕ) (row : List Value) → has_entry row (entries_at old list) ≡ true → has_entry row (entries_at new list) ≡ true
+  pub only : (list : ℕ) (row : List Value) → has_entry row (entries_at new list) ≡ true
+      → (has_entry row (entries_at old list) ≡ true) ⊎ (names list row c ≡ true)
   pub rooms : (list : ℕ) → room_at old list ≤ room_at new list + (if c.list == list then 1 else 0)
   pub size : length new ≡ length old
+
+-- The row of a change has lost its entry if its count is 0, where that is asked for, and all else is as it was.
+pub record Purges (is_asked : Bool) (c : ListChange) (old new : List Counts) : Type 0 where
+  pub counts : (list : ℕ) (row : List Value) → count_in row (entries_at new list) ≡ count_in row (entries_at old list)
+  pub totals : (list : ℕ) → total_of (entries_at new list) ≡ total_of (entries_at old list)
+  pub gone : is_asked ≡ true → count_in c.change.row (entries_at old c.list) ≡ 0 → has_entry c.change.row (entries_at new c.list) ≡ false
+  pub others : (list : ℕ) (row : List Value) → has_entry row (entries_at new list) ≡ true → has_entry row (entries_at old list) ≡ true
+  pub beside : (list : ℕ) (row : List Value) → names list row c ≡ false → has_entry row (entries_at new list) ≡ has_entry row (entries_at old list)
+  pub kept : is_asked ≡ false → new ≡ old
+  pub size : length new ≡ length old
+
+-- The log tells of a change that it undoes whether the row had no entry before: then none of the earlier changes is of that row;
+-- else one of them is, or the row's count was not 0.
+pub record Tells (bags : List Counts) (earlier : List ListChange) (made : Logged) (onwards : List ListChange) : Type 0 where
+  pub first : made.is_new ≡ true → is_named made.undo.list made.undo.change.row earlier ≡ false
+  pub again : made.is_new ≡ false → count_with bags onwards made.undo.list made.undo.change.row ≡ pos 0
+      → is_named made.undo.list made.undo.change.row earlier ≡ true
+
+-- It does so of each, and no entry has the count 0 but for it.
+pub record IsTold (bags : List Counts) (log : List Logged) : Type 0 where
+  pub each : (i : ℕ) (d : Logged) → i < length log → Tells bags (take i (undos log)) (slice_index_or log i d) (drop i (undos log))
+  pub lean : IsLean bags (undos log)
+
+-- Every row that has an entry has a count above 0.
+abbrev pub ArePositive : Entries → Type 0
+ArePositive entries = (row : List Value) → has_entry row entries ≡ true → 0 < count_in row entries
 
 -- All that was ready is made: each count is another by it, and is what it was at each mark where the log is undone.
 pub record Made (bags : List Counts) (prepared : List Prepared) (log : List ListChange) (bags' : List Counts) (prepared' : List Prepared)

@@ -17,3 +17,12 @@ pub struct Prepared {
     pub done: ListChange,
     pub undo: ListChange,
 }
+
+/// What undoes a change that was made, as the log keeps it.
+#[derive(Debug, Drop)]
+pub struct Logged {
+    /// The opposite change.
+    pub undo: ListChange,
+    /// Whether the row had no entry in its list before the change.
+    pub is_new: bool,
+}

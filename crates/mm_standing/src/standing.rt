@@ -1,14 +1,14 @@
 //! The standing queries and their lists.
-ghost use Rattle.std.specs.Prelude.{◌≡◌, ℕ, ◌++◌, ◌∷◌, ◌≤◌, ◌<◌, All, List, [], drop, false, length, map, pos, Some, slice_get, take, IfErr, IfOk, OnErr, OnOk};
+ghost use Rattle.std.specs.Prelude.{◌≡◌, ℕ, ◌++◌, ◌∷◌, ◌≤◌, ◌<◌, All, List, [], drop, length, map, pos, Some, slice_get, take, IfErr, IfOk, OnErr, OnOk};
 ghost use Rattle.std.specs.List.{remove, sum_by};
-ghost use Rattle.mm_delta.specs.Counts.{Counts as BagCounts, count_in, has_entry};
+ghost use Rattle.mm_delta.specs.Counts.{Counts as BagCounts, count_in};
 ghost use Rattle.mm_delta.specs.Edited.{after_at, before_at};
 ghost use Rattle.mm_delta.specs.Steps.{EachFit};
 ghost use Rattle.mm_query.specs.Queries.{bag_of};
 ghost use Rattle.mm_schema.specs.References.{above};
 ghost use Rattle.mm_schema.specs.Refused.{AnswersDue, first_refusal};
 ghost use Rattle.mm_store.specs.Tables.{rows_at};
-ghost use Rattle.mm_standing.specs.Bags.{CanAdd, IsSmall, Made, done_of, entries_at};
+ghost use Rattle.mm_standing.specs.Bags.{CanAdd, IsLean, IsSmall, Made, done_of, entries_at};
 ghost use Rattle.mm_standing.specs.Queries.{IsBagOf, StandingQuery, bag_over, change_conditions, list_conditions, shown_of};
 ghost use Rattle.mm_standing.specs.Reads.{AreOfCyclicRows, AreTypeTested, RowTests, query_reads};
 ghost use Rattle.mm_standing.specs.State.{AreFew, AreServed, FitNow, FitPrepared, count_at};
@@ -17,8 +17,8 @@ ghost use Rattle.mm_standing.specs.declared.change.ListChange.{ListChange as Any
 ghost use Rattle.mm_value.specs.declared.refusal.Refusal.TheVariants.{Memory};
 ghost use Rattle.mm_value.specs.declared.values.Value.{Value as Val};
 
-use crate::bags::{forget_behind, make_all, purge, undo_behind};
-use crate::change::{ListChange, Prepared};
+use crate::bags::{make_all, purge, undo_behind};
+use crate::change::{ListChange, Logged, Prepared};
 use crate::listing::{count_shown, list_shown};
 use crate::prepare::{changes_of_lists, numbers, reserve_each, with_opposites};
 use crate::watched::Watched;
@@ -38,7 +38,7 @@ pub struct Standing {
     queries: Vec<Watched>,
     bags: Vec<Counted>,
     prepared: Vec<Prepared>,
-    log: Vec<ListChange>,
+    log: Vec<Logged>,
     reads: u64,
 }
 
@@ -49,18 +49,19 @@ impl Model for Standing {
 
     ghost Value = { Lists };
 
-    ghost use Rattle.mm_standing.specs.Bags.{IsSound};
+    ghost use Rattle.mm_standing.specs.Bags.{IsSound, IsTold, undos};
 
     ghost view = { λ s. record {
       queries = s.queries.items;
       bags = s.bags.items;
       prepared = s.prepared.items;
-      log = s.log.items;
+      log = undos s.log.items;
       reads = s.reads;
     } };
 
-    ghost invariant = { λ s. IsSound s.bags.items s.prepared.items s.log.items
-        × (vec_len s.log + vec_len s.prepared ≤ vec_capacity s.log) × (length s.queries.items ≡ length s.bags.items) };
+    ghost invariant = { λ s. IsSound s.bags.items s.prepared.items (undos s.log.items)
+        × (vec_len s.log + vec_len s.prepared ≤ vec_capacity s.log) × (length s.queries.items ≡ length s.bags.items)
+        × IsTold s.bags.items s.log.items };
 }
 
 impl Standing {
@@ -116,29 +117,27 @@ impl Standing {
         make_all(&mut self.bags, &mut self.prepared, &mut self.log);
     }
 
-    /// Gives every list back as it was at a mark. It asks for nothing prepared. It takes no memory. After mark 0 nothing can be
-    /// undone any more, and a row of the log whose count is 0 has no entry from then on.
+    /// Gives every list back as it was at a mark. It asks for nothing prepared. It takes no memory. A row whose count is 0 keeps
+    /// its entry only where what is left of the log names it.
     pub fn revert(&mut self, mark: usize)
         requires prepared { self.old.prepared ≡ [] }
         requires mark { mark ≤ length self.old.log }
         ensures log { self.new.log ≡ take mark self.old.log }
         ensures counts { (earlier : ℕ) → earlier ≤ mark → (list : ℕ) (row : List Val)
             → count_at earlier list row self.new ≡ count_at earlier list row self.old }
-        ensures purged { mark ≡ 0 → All (λ (c : AnyChange). count_in c.change.row (entries_at self.new.bags c.list) ≡ 0
-            → has_entry c.change.row (entries_at self.new.bags c.list) ≡ false) self.old.log }
+        ensures lean { IsLean self.new.bags self.new.log }
         ensures size { length self.new.bags ≡ length self.old.bags }
         ensures rest { self.new ≡ record self.old { bags = self.new.bags; log = self.new.log } }
     {
         undo_behind(&mut self.bags, self.log.as_slice(), mark);
-        forget_behind(&mut self.bags, &mut self.log, mark);
+        self.log.truncate(mark);
     }
 
-    /// Forgets the log, after which no change can be undone. A row of the log whose count is 0 has no entry from then on. It
-    /// asks for nothing prepared. No count changes.
+    /// Forgets the log, after which no change can be undone. No row whose count is 0 has an entry from then on. It asks for
+    /// nothing prepared. No count changes.
     pub fn settle(&mut self)
         requires { self.old.prepared ≡ [] }
-        ensures purged { All (λ (c : AnyChange). count_in c.change.row (entries_at self.old.bags c.list) ≡ 0
-            → has_entry c.change.row (entries_at self.new.bags c.list) ≡ false) self.old.log }
+        ensures lean { IsLean self.new.bags self.new.log }
         ensures counts { (list : ℕ) (row : List Val)
             → count_in row (entries_at self.new.bags list) ≡ count_in row (entries_at self.old.bags list) }
         ensures size { length self.new.bags ≡ length self.old.bags }

@@ -3,6 +3,7 @@ ghost use Rattle.std.specs.Prelude.{◌≡◌, ◌≢◌, ◌<◌, ◌≤◌, �
 ghost use Rattle.mm_delta.specs.Counts.{total_of};
 ghost use Rattle.mm_query.specs.Queries.{bag_of};
 ghost use Rattle.mm_schema.specs.Refused.{AnswersDue, first_refusal};
+ghost use Rattle.mm_standing.specs.Bags.{ArePositive};
 ghost use Rattle.mm_standing.specs.Queries.{IsBagOf, list_conditions};
 ghost use Rattle.mm_store.specs.Tables.{rows_at};
 ghost use Rattle.mm_value.specs.declared.refusal.Refusal.TheVariants.{Memory, ResultTooLarge, StandingListTooLarge};
@@ -28,6 +29,7 @@ pub(crate) fn bag_now(
     ensures due { AnswersDue (first_refusal (list_conditions (bag_of query.now (map (rows_at store.now.tables) tables.now)))) result }
     ensures ok { IfOk result (λ bag. IsBagOf bag.entries (bag_of query.now (map (rows_at store.now.tables) tables.now))) }
     ensures total { IfOk result (λ bag. total_of bag.entries < 2 ^ 64) }
+    ensures positive { IfOk result (λ bag. ArePositive bag.entries) }
 {
     let mut meter = Meter::new();
     let list = match run_plan(alloc, store, &mut meter, query, tables, plan) {
@@ -53,6 +55,7 @@ fn as_list(refusal: Refusal) -> Refusal
 fn counted(alloc: Global, rows: Vec<Row>) -> Result<Counted, Refusal>
     ensures ok { IfOk result (λ bag. IsBagOf bag.entries rows.items) }
     ensures total { IfOk result (λ bag. total_of bag.entries < 2 ^ 64) }
+    ensures positive { IfOk result (λ bag. ArePositive bag.entries) }
     ensures memory { IfErr result (λ refusal. refusal ≡ Memory) }
 {
     let mut bag = Counted::new(alloc);

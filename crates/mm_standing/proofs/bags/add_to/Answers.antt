@@ -1,5 +1,5 @@
 -- The bag of the change's list has it added, and the others are as they were.
-use Rattle.std.proofs.Common.{inl, inr, pos, ◌+ℤ◌, ◌≤ℤ◌, ◌<ℤ◌, ◌^◌, ⊎_elim, sym, ap, ◌∙◌, subst, arith}
+use Rattle.std.proofs.Common.{inl, inr, pos, ◌+ℤ◌, ◌≤ℤ◌, ◌<ℤ◌, ◌^◌, ⊎_elim, not, sym, ap, ◌∙◌, subst, arith}
 use Rattle.mm_delta.specs.Counts.{Entries, count_in, has_entry, total_of}
 use Rattle.mm_standing.proofs.Adding.{added, count_here, entries_here, room_here, total_here}
 use Rattle.mm_standing.proofs.bags.add_to.Goals as goal
@@ -25,7 +25,12 @@ add-requires-clause-total c =
     let here = entries_here bags c.args.change.list c.index_mut.result.now c.index_mut.result.now c.requires.there c.index_mut.ensures.value in
     subst (λ (es : Entries). (pos (total_of es) +ℤ c.args.change.change.count) <ℤ pos (2 ^ 64)) here (total_here bags c.args.change c.requires.within)
 
-pub returns : goal.returns
-returns c =
+pub returns-clause-added : goal.returns-clause-added
+returns-clause-added c =
     added c.args.bags.now.items c.args.change c.index_mut.result.now c.add.new.self c.requires.there c.index_mut.ensures.value
     c.add.ensures.added c.add.ensures.total c.add.ensures.used
+
+pub returns-clause-is_new : goal.returns-clause-is_new
+returns-clause-is_new c =
+    let here = entries_here c.args.bags.now.items c.args.change.list c.index_mut.result.now c.index_mut.result.now c.requires.there c.index_mut.ensures.value in
+    c.add.ensures.is_new ∙ ap (λ (es : Entries). not (has_entry c.args.change.change.row es)) (sym here)

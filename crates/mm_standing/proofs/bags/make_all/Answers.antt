@@ -1,33 +1,36 @@
 -- One change more is made, and is in the log.
-use Rattle.std.proofs.Common.{◌++◌, ◌∷◌, [], List, inr, subst, sym, arith}
-use Rattle.mm_standing.specs.Bags.{IsSound, Made}
+use Rattle.std.proofs.Common.{◌≡◌, ◌++◌, ◌∷◌, [], List, inr, subst, sym, ap, ◌∙◌, arith}
+use Rattle.mm_standing.specs.Bags.{IsSound, IsTold, Made, undos}
+use Rattle.mm_standing.specs.declared.change.Logged.{Logged}
 use Rattle.mm_standing.specs.declared.change.Prepared.{Prepared}
-use Rattle.mm_standing.proofs.Steps.{made_more, made_none, next_room, next_there, next_within, sound_made}
+use Rattle.mm_standing.proofs.Steps.{made_more, made_none, next_room, next_there, next_within, sound_made, undo_is}
+use Rattle.mm_standing.proofs.Told.{joined, told_made}
 use Rattle.mm_standing.proofs.bags.make_all.Goals as goal
 use Rattle.mm_standing.proofs.bags.make_all.Goals.{In-Some}
 
 pub loop-next-init : goal.loop-next-init
 loop-next-init c = record {
   sound = c.requires.sound;
+  told = c.requires.told;
   room = c.requires.room;
-  made = made_none c.args.bags.now.items c.args.prepared.now.items c.args.log.now.items;
+  made = made_none c.args.bags.now.items c.args.prepared.now.items (undos c.args.log.now.items);
 }
 
-sound_with : (c : In-Some) → IsSound c.loop-next.bags.items (c.pop.new.self.items ++ c.in-Some.next ∷ []) c.loop-next.log.items
+sound_with : (c : In-Some) → IsSound c.loop-next.bags.items (c.pop.new.self.items ++ c.in-Some.next ∷ []) (undos c.loop-next.log.items)
 sound_with c =
-    subst (λ (ps : List Prepared). IsSound c.loop-next.bags.items ps c.loop-next.log.items) c.in-Some.ensures.items c.loop-next.invariant.sound
+    subst (λ (ps : List Prepared). IsSound c.loop-next.bags.items ps (undos c.loop-next.log.items)) c.in-Some.ensures.items c.loop-next.invariant.sound
 
-pub add_to-requires-clause-there : goal.add_to-requires-clause-there
-add_to-requires-clause-there c =
-    next_there c.loop-next.bags.items c.pop.new.self.items c.in-Some.next c.loop-next.log.items (sound_with (goal.at.add_to-requires-clause-there c).In-Some)
+pub add_to-is_new-requires-clause-there : goal.add_to-is_new-requires-clause-there
+add_to-is_new-requires-clause-there c =
+    next_there c.loop-next.bags.items c.pop.new.self.items c.in-Some.next (undos c.loop-next.log.items) (sound_with (goal.at.add_to-is_new-requires-clause-there c).In-Some)
 
-pub add_to-requires-clause-room : goal.add_to-requires-clause-room
-add_to-requires-clause-room c =
-    inr (next_room c.loop-next.bags.items c.pop.new.self.items c.in-Some.next c.loop-next.log.items (sound_with (goal.at.add_to-requires-clause-room c).In-Some))
+pub add_to-is_new-requires-clause-room : goal.add_to-is_new-requires-clause-room
+add_to-is_new-requires-clause-room c =
+    inr (next_room c.loop-next.bags.items c.pop.new.self.items c.in-Some.next (undos c.loop-next.log.items) (sound_with (goal.at.add_to-is_new-requires-clause-room c).In-Some))
 
-pub add_to-requires-clause-within : goal.add_to-requires-clause-within
-add_to-requires-clause-within c =
-    next_within c.loop-next.bags.items c.pop.new.self.items c.in-Some.next c.loop-next.log.items (sound_with (goal.at.add_to-requires-clause-within c).In-Some)
+pub add_to-is_new-requires-clause-within : goal.add_to-is_new-requires-clause-within
+add_to-is_new-requires-clause-within c =
+    next_within c.loop-next.bags.items c.pop.new.self.items c.in-Some.next (undos c.loop-next.log.items) (sound_with (goal.at.add_to-is_new-requires-clause-within c).In-Some)
 
 pub loop-next-preserved : goal.loop-next-preserved
 loop-next-preserved c =
@@ -36,14 +39,23 @@ loop-next-preserved c =
     let next = c.in-Some.next in
     let log = c.loop-next.log.items in
     let sound = sound_with (goal.at.loop-next-preserved c).In-Some in
-    let bags' = c.add_to.new.bags.items in
-    let made = subst (λ (ps : List Prepared). Made c.args.bags.now.items c.args.prepared.now.items c.args.log.now.items bags ps log) c.in-Some.ensures.items c.loop-next.invariant.made in
+    let adds = c.add_to-is_new.ensures in
+    let bags' = c.add_to-is_new.new.bags.items in
+    let entry : Logged = record { undo = next.undo; is_new = c.add_to-is_new.result } in
+    let made = subst (λ (ps : List Prepared). Made c.args.bags.now.items c.args.prepared.now.items (undos c.args.log.now.items) bags ps (undos log))
+    c.in-Some.ensures.items c.loop-next.invariant.made in
     let room = c.loop-next.invariant.room in
     let more = c.push_reserved.ensures in
     let less = c.in-Some.ensures.cases in
+    let longer : undos c.push_reserved.new.self.items ≡ undos log ++ next.undo ∷ [] =
+    ap (λ (l : List Logged). undos l) more.items ∙ joined log entry in
+    let is = undo_is bags rest next (undos log) sound bags' adds.added in
     record {
-      sound = subst (λ l. IsSound bags' rest l) (sym more.items) (sound_made bags rest next log sound bags' c.add_to.ensures);
+      sound = subst (λ l. IsSound bags' rest l) (sym longer) (sound_made bags rest next (undos log) sound bags' adds.added);
+      told = subst (λ (l : List Logged). IsTold bags' l) (sym more.items)
+          (subst (λ u. let m : Logged = record { undo = u; is_new = c.add_to-is_new.result } in IsTold bags' (log ++ m ∷ [])) (sym is)
+          (told_made next.done bags bags' adds.added log c.add_to-is_new.result sound.logged c.loop-next.invariant.told adds.is_new));
       room = omega (arith, room, more.len, more.capacity, less);
-      made = subst (λ l. Made c.args.bags.now.items c.args.prepared.now.items c.args.log.now.items bags' rest l) (sym more.items)
-          (made_more bags rest next log sound bags' c.add_to.ensures c.args.bags.now.items c.args.prepared.now.items c.args.log.now.items made);
+      made = subst (λ l. Made c.args.bags.now.items c.args.prepared.now.items (undos c.args.log.now.items) bags' rest l) (sym longer)
+          (made_more bags rest next (undos log) sound bags' adds.added c.args.bags.now.items c.args.prepared.now.items (undos c.args.log.now.items) made);
     }

@@ -1,14 +1,15 @@
 use Rattle.std.proofs.Common.{◌+◌, ◌≤◌, vec_len}
 use Rattle.std.specs.Vec.{vec_capacity}
-use Rattle.mm_standing.specs.Bags.{IsSound, Made}
+use Rattle.mm_standing.specs.Bags.{IsSound, IsTold, Made, undos}
 use Rattle.mm_standing.proofs.bags.make_all.Given as goal
 
 -- what is made so far, and what is left
 abbrev pub invariant-loop-next : goal.invariant-loop-next
 invariant-loop-next l = record {
-  sound : IsSound l.bags.items l.prepared.items l.log.items;
+  sound : IsSound l.bags.items l.prepared.items (undos l.log.items);
+  told : IsTold l.bags.items l.log.items;
   room : vec_len l.log + vec_len l.prepared ≤ vec_capacity l.log;
-  made : Made l.fn.bags.items l.fn.prepared.items l.fn.log.items l.bags.items l.prepared.items l.log.items;
+  made : Made l.fn.bags.items l.fn.prepared.items (undos l.fn.log.items) l.bags.items l.prepared.items (undos l.log.items);
 }
 
 abbrev pub decreases-loop-next : goal.decreases-loop-next

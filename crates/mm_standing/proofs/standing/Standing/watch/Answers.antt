@@ -2,11 +2,12 @@
 use Rattle.std.proofs.Common.{◌≡◌, ◌++◌, ◌∷◌, [], List, length, sym, ap, ◌∙◌, subst, arith}
 use Rattle.std.proofs.lemmas.List.{length_push}
 use Rattle.mm_delta.specs.Counts.{Counts}
-use Rattle.mm_standing.specs.Bags.{IsSound}
+use Rattle.mm_standing.specs.Bags.{IsLean, IsSound, IsTold, undos}
 use Rattle.mm_standing.specs.Queries.{StandingQuery}
 use Rattle.mm_standing.specs.State.{Lists}
 use Rattle.mm_standing.specs.declared.change.Prepared.{Prepared}
-use Rattle.mm_standing.proofs.Rest.{sound_more}
+use Rattle.mm_standing.proofs.Rest.{lean_more, sound_more}
+use Rattle.mm_standing.proofs.Told.{told_none}
 use Rattle.mm_standing.proofs.standing.Standing.watch.Goals as goal
 
 pub invariant_of-self-2 : goal.invariant_of-self-2
@@ -16,7 +17,8 @@ invariant_of-self-2 c =
     let prepared = ap (λ (v : Lists). v.prepared) c.self.view_is ∙ c.requires.prepared in
     let log = ap (λ (v : Lists). v.log) c.self.view_is ∙ c.requires.log in
     let sound : IsSound old.bags.items [] [] =
-    subst (IsSound old.bags.items []) log (subst (λ (ps : List Prepared). IsSound old.bags.items ps old.log.items) prepared c.self.invariant.0) in
+    subst (IsSound old.bags.items []) log (subst (λ (ps : List Prepared). IsSound old.bags.items ps (undos old.log.items)) prepared c.self.invariant.0) in
+    let lean : IsLean old.bags.items [] = subst (IsLean old.bags.items) log c.self.invariant.3.lean in
     let more : IsSound (old.bags.items ++ bag ∷ []) [] [] = sound_more old.bags.items bag c.in_ok-bag.ensures.total sound in
     let bags : c.push_reserved-2.new.self.items ≡ old.bags.items ++ bag ∷ [] =
     c.push_reserved-2.ensures.items ∙ ap (λ (bs : List Counts). bs ++ bag ∷ []) c.in_ok-reserve-2.ensures.items in
@@ -27,9 +29,10 @@ invariant_of-self-2 c =
     let q = length_push c.reserve.new.self.items one in
     let b = length_push old.bags.items bag in
     let bags_long = ap (λ (bs : List Counts). length bs) bags in (
-      subst (λ (bs : List Counts). IsSound bs old.prepared.items old.log.items) (sym bags)
-          (subst (λ (ps : List Prepared). IsSound (old.bags.items ++ bag ∷ []) ps old.log.items) (sym prepared)
+      subst (λ (bs : List Counts). IsSound bs old.prepared.items (undos old.log.items)) (sym bags)
+          (subst (λ (ps : List Prepared). IsSound (old.bags.items ++ bag ∷ []) ps (undos old.log.items)) (sym prepared)
           (subst (IsSound (old.bags.items ++ bag ∷ []) []) (sym log) more)),
       c.self.invariant.1,
       omega (arith, same, queries, kept, q, b, bags_long),
+      subst (λ (bs : List Counts). IsTold bs old.log.items) (sym bags) (told_none (old.bags.items ++ bag ∷ []) old.log.items log (lean_more old.bags.items bag c.in_ok-bag.ensures.positive lean)),
     )
