@@ -83,7 +83,7 @@ names list row c = if c.list == list then same_row row c.change.row else false
 abbrev pub is_named : ℕ → List Value → List ListChange → Bool
 is_named list row changes = list_any (names list row) changes
 
--- Each entry whose count is 0 is of a row that the log names. So where the log is empty no count is 0.
+-- Each entry whose count is 0 is of a row that the log names. So where the log is empty no entry has the count 0.
 abbrev pub IsLean : List Counts → List ListChange → Type 0
 IsLean bags log =
     (list : ℕ) (row : List Value) → has_entry row (entries_at bags list) ≡ true → count_in row (entries_at bags list) ≡ 0
@@ -130,7 +130,7 @@ pub record Tells (bags : List Counts) (earlier : List ListChange) (made : Logged
   pub again : made.is_new ≡ false → count_with bags onwards made.undo.list made.undo.change.row ≡ pos 0
       → is_named made.undo.list made.undo.change.row earlier ≡ true
 
--- It does so of each, and no entry has the count 0 but for it.
+-- It tells so of each of its changes, and it names the row of each entry whose count is 0.
 pub record IsTold (bags : List Counts) (log : List Logged) : Type 0 where
   pub each : (i : ℕ) (d : Logged) → i < length log → Tells bags (take i (undos log)) (slice_index_or log i d) (drop i (undos log))
   pub lean : IsLean bags (undos log)

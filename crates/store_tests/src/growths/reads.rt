@@ -138,18 +138,19 @@ fn are_rows(rows: &[Row], pairs: &[(i64, i64)]) -> bool {
     rows.len() == pairs.len()
 }
 
-/// Appends what a search finds to references that are there. The rows are then to be those of these keys.
+/// Appends what a search finds to a list of one reference. The rows are then to be those of these keys.
 fn appends_to(
     rt: &(impl Abort + Print),
     alloc: Global,
     case: &Case,
     sought: Search,
+    at: RowRef,
     found: &mut Vec<RowRef>,
     keys: &[i64],
 ) -> Result<(), Fail> {
     if append_found(&case.store, alloc, sought, found).is_err() {
         asked_again(rt)?;
-        assert!(rt; case.are_of(found.as_slice(), &[41]));
+        assert_eq!(rt; found.as_slice(), [at].as_slice());
         append_found(&case.store, alloc, sought, found)?;
     }
     assert!(rt; case.are_of(found.as_slice(), keys));
@@ -170,7 +171,7 @@ fn appends(
     let Ok(mut found) = vec![in alloc; at] else {
         return Ok(());
     };
-    appends_to(rt, alloc, &case, sought, &mut found, keys)
+    appends_to(rt, alloc, &case, sought, at, &mut found, keys)
 }
 
 #[test]
