@@ -1,16 +1,19 @@
 -- Joining the tables of a query, one after another.
-use Rattle.std.proofs.Common.{◌≡◌, ◌≢◌, ◌⊎◌, inl, inr, IfErr, IfOk, IsPermutation, Result, Ok, Err, ℕ, suc, ◌+◌, ◌*◌, ◌<◌, ◌≤◌, Bool, true, false, cond, nat_lt, List, [], ◌∷◌, ◌++◌, Some, None, All, length, map, get_or, take, append_assoc, refl, sym, ap, ◌∙◌, subst, arith}
+use Rattle.std.proofs.Common.{◌≡◌, ◌≢◌, ◌⊎◌, inl, inr, IfErr, IfOk, IsPermutation, Result, Ok, Err, ℕ, suc, ◌+◌, ◌*◌, ◌<◌, ◌≤◌, Bool, true, false, cond, nat_lt, List, [], ◌∷◌, ◌++◌, Some, None, All, drop, length, map, get_or, take, append_assoc, refl, sym, ap, ◌∙◌, subst, arith}
 use Rattle.std.proofs.lemmas.Bool.{cases_eq}
 use Rattle.std.proofs.lemmas.Bool.Decides.{nat_tests}
 use Rattle.std.proofs.lemmas.Nat.{mul-le}
-use Rattle.std.proofs.lemmas.List.{append-nil, length-map, map-append}
+use Rattle.std.specs.List.{list_all}
+use Rattle.std.proofs.lemmas.List.{append-nil, drop_all, length-append, length-map, map-append}
 use Rattle.std.proofs.lemmas.List.Elements.{All-cons, All-head, All-nil, All-tail}
 use Rattle.std.proofs.lemmas.List.Sorted.{IsPermutation-refl, IsPermutation-sym, IsPermutation-trans, length_permutation}
 use Rattle.mm_join.specs.Caps.{cap_conditions}
 use Rattle.mm_join.specs.Joined.{joined}
 use Rattle.mm_join.proofs.JoinSteps.{joined_fitting}
 use Rattle.mm_plan.proofs.Bounds.{few_of_three, length-joined}
+use Rattle.mm_plan.proofs.Growing.{no_fewer_of}
 use Rattle.mm_plan.specs.Begun.{IsBegun, most_combinations}
+use Rattle.mm_plan.specs.Growing.{HaveRows, IsCap, names_first}
 use Rattle.mm_query.specs.Queries.{bag_of, none_fails, projected, size_conditions}
 use Rattle.mm_query.specs.declared.atom.Atom.{Atom}
 use Rattle.mm_query.specs.declared.bound_query.BoundQuery.{BoundQuery}
@@ -36,6 +39,7 @@ pub record Splits (store : Tables) (first tables : List ℕ) : Type 0 where
   pub later : List ℕ
   pub is : tables ≡ first ++ next ∷ later
   pub front : take (length first + 1) tables ≡ first ++ next ∷ []
+  pub behind : drop (length first + 1) tables ≡ later
   pub there : next < length store.tables
 
 taken_behind : (first : List ℕ) (next : ℕ) (later : List ℕ) → take (length first + 1) (first ++ next ∷ later) ≡ first ++ next ∷ []
@@ -43,6 +47,12 @@ taken_behind [] next later = refl
 taken_behind (t ∷ first) next later =
     let one : length (t ∷ first) + 1 ≡ suc (length first + 1) = omega (arith) in
     ap (λ n. take n (t ∷ first ++ next ∷ later)) one ∙ ap (λ ts. t ∷ ts) (taken_behind first next later)
+
+dropped_front : (first : List ℕ) (next : ℕ) (later : List ℕ) → drop (length first + 1) (first ++ next ∷ later) ≡ later
+dropped_front [] next later = refl
+dropped_front (t ∷ first) next later =
+    let one : length (t ∷ first) + 1 ≡ suc (length first + 1) = omega (arith) in
+    ap (λ n. drop n (t ∷ first ++ next ∷ later)) one ∙ dropped_front first next later
 
 last_there : (store : Tables) (first : List ℕ) (next : ℕ) (later : List ℕ) → All (λ t. t < length store.tables) (first ++ next ∷ later)
     → next < length store.tables
@@ -57,6 +67,7 @@ splits store first tables all (next ∷ later) is more = record {
   later = later;
   is = is;
   front = ap (take (length first + 1)) is ∙ taken_behind first next later;
+  behind = ap (drop (length first + 1)) is ∙ dropped_front first next later;
   there = last_there store first next later (subst (All (λ t. t < length store.tables)) is all);
 }
 
@@ -142,14 +153,6 @@ behind_is : (first : List ℕ) (next : ℕ) (later : List ℕ) → get_or (first
 behind_is [] next later = refl
 behind_is (t ∷ first) next later = behind_is first next later
 
-none_later : (later : List ℕ) (first : List ℕ) (next : ℕ) → length first + 1 ≡ length (first ++ next ∷ later) → later ≡ []
-none_later [] first next same = refl
-none_later (l ∷ later) first next same = absurd (longer first same)
-  where
-    longer : (first : List ℕ) → length first + 1 ≡ length (first ++ next ∷ l ∷ later) → ⊥
-    longer [] same = omega (arith, same)
-    longer (t ∷ first) same = longer first (omega (arith, same))
-
 not_refused : (n : ℕ) → cond (nat_lt 1048576 n) (Some ResultTooLarge) None ≡ None → n ≤ 1048576
 not_refused n due = by (nat_lt 1048576 n) refl due
   where
@@ -161,10 +164,17 @@ front_there : (P : ℕ → Type 0) (first rest : List ℕ) → All P (first ++ r
 front_there P [] rest all = All-nil P
 front_there P (t ∷ first) rest all = All-cons P t first (All-head P t (first ++ rest) all) (front_there P first rest (All-tail P t (first ++ rest) all))
 
--- how many combinations the join of the next table may give
-abbrev pub IsCap : ℕ → List ℕ → List ℕ → Type 0
-IsCap cap first tables =
-    ((length first + 1 ≡ length tables) × (cap ≡ 1048576)) ⊎ ((length first + 1 ≢ length tables) × (cap ≡ 18446744073709551615))
+-- More are refused where fewer are.
+more_refused : (few many : ℕ) (refusal : Refusal) → few ≤ many → cond (nat_lt 1048576 few) (Some ResultTooLarge) None ≡ Some refusal
+    → cond (nat_lt 1048576 many) (Some ResultTooLarge) None ≡ Some refusal
+more_refused few many refusal more due = by (nat_lt 1048576 few) refl due
+  where
+    by : (b : Bool) → nat_lt 1048576 few ≡ b → cond b (Some ResultTooLarge) None ≡ Some refusal
+        → cond (nat_lt 1048576 many) (Some ResultTooLarge) None ≡ Some refusal
+    by true too_many due =
+        let too : nat_lt 1048576 many ≡ true = grind (arith, nat_tests, too_many, more) in
+        ap (λ b. cond b (Some ResultTooLarge) None) too ∙ due
+    by false few due = absurd (none_is_some refusal due)
 
 module _ (store : Tables) (query : BoundQuery) (tables : List ℕ) (list : Combos) (begun : IsBegun store query tables list)
     (all : All (λ t. t < length store.tables) tables) (short : length tables ≤ 4) (left : length list.tables < length tables)
@@ -186,30 +196,49 @@ module _ (store : Tables) (query : BoundQuery) (tables : List ℕ) (list : Combo
   few_next : length (rows_at store.tables split.next) ≤ 1048576
   few_next = subst (λ t. length (rows_at store.tables t) ≤ 1048576) next_is few_rows
 
-  last : length list.tables + 1 ≡ length tables → tables ≡ list.tables ++ split.next ∷ []
-  last same = split.is ∙ ap (λ later. list.tables ++ split.next ∷ later)
-      (none_later split.later list.tables split.next (same ∙ ap length split.is))
-
-  due_at_last : length list.tables + 1 ≡ length tables
+  -- Where no table is left behind it, the join is refused as the query is, ..
+  due_at_last : split.later ≡ []
       → first_refusal (size_conditions (bag_of query (map (rows_at store.tables) tables))) ≡ first_refusal (cap_conditions 1048576 given)
-  due_at_last same = ap (λ ts. first_refusal (size_conditions (bag_of query (map (rows_at store.tables) ts)))) (last same)
+  due_at_last none =
+      ap (λ ts. first_refusal (size_conditions (bag_of query (map (rows_at store.tables) ts)))) (split.is ∙ ap (λ later. list.tables ++ split.next ∷ later) none)
       ∙ due_behind store query list begun.fitting split.next
 
+  length_one_more : length (list.tables ++ split.next ∷ []) ≡ length list.tables + 1
+  length_one_more = length-append list.tables (split.next ∷ [])
+
+  -- .. where each combination goes on, the query has no fewer, ..
+  due_before : list_all (names_first (length list.tables + 1)) query.atoms ≡ true → HaveRows store split.later
+      → (refusal : Refusal) → first_refusal (cap_conditions 1048576 given) ≡ Some refusal
+      → first_refusal (size_conditions (bag_of query (map (rows_at store.tables) tables))) ≡ Some refusal
+  due_before named rows refusal due =
+      let with_next = list.tables ++ split.next ∷ [] in
+      let whole : with_next ++ split.later ≡ tables = append_assoc list.tables (split.next ∷ []) split.later ∙ sym split.is in
+      let more = no_fewer_of store query.atoms with_next split.later (subst (λ n. list_all (names_first n) query.atoms ≡ true) (sym length_one_more) named) rows in
+      let here : length given ≡ length (fitting query.atoms (map (rows_at store.tables) with_next)) =
+      sym (length_permutation given (fitting query.atoms (map (rows_at store.tables) with_next)) (fits_behind store query list begun.fitting split.next)) in
+      let all : length (fitting query.atoms (map (rows_at store.tables) (with_next ++ split.later))) ≡ length (bag_of query (map (rows_at store.tables) tables)) =
+      ap (λ ts. length (fitting query.atoms (map (rows_at store.tables) ts))) whole ∙ sym (length-bag store query tables) in
+      more_refused (length given) (length (bag_of query (map (rows_at store.tables) tables))) refusal (omega (arith, more, here, all)) due
+
+  -- .. and else it is refused nothing.
   none_before : length list.tables + 1 ≢ length tables → first_refusal (cap_conditions 18446744073709551615 given) ≡ None
   none_before more = none_refused store query list begun.fitting split.next few_next begun.bounded (omega (arith, left, short, more))
 
   -- What refuses a join refuses the query.
-  pub refused : (cap : ℕ) → IsCap cap list.tables tables → (result : Result Combos Refusal) → AnswersDue (first_refusal (cap_conditions cap given)) result
+  pub refused : (cap : ℕ) → IsCap store query.atoms tables (length list.tables + 1) cap → (result : Result Combos Refusal)
+      → AnswersDue (first_refusal (cap_conditions cap given)) result
       → IfErr result (λ refusal. (first_refusal (size_conditions (bag_of query (map (rows_at store.tables) tables))) ≡ Some refusal) ⊎ (refusal ≡ Memory))
   refused cap is (Ok next) due = tt
   refused cap is (Err refusal) (inr memory) = inr memory
-  refused cap (inl (same, is)) (Err refusal) (inl due) =
-      inl (due_at_last same ∙ (ap (λ n. first_refusal (cap_conditions n given)) (sym is) ∙ due))
-  refused cap (inr (more, is)) (Err refusal) (inl due) =
+  refused cap (inl (is, inl none)) (Err refusal) (inl due) =
+      inl (due_at_last (sym split.behind ∙ none) ∙ (ap (λ n. first_refusal (cap_conditions n given)) (sym is) ∙ due))
+  refused cap (inl (is, inr (named, rows))) (Err refusal) (inl due) =
+      inl (due_before named (subst (HaveRows store) split.behind rows) refusal (ap (λ n. first_refusal (cap_conditions n given)) (sym is) ∙ due))
+  refused cap (inr (is, more)) (Err refusal) (inl due) =
       absurd (none_is_some refusal (sym (none_before more) ∙ (ap (λ n. first_refusal (cap_conditions n given)) (sym is) ∙ due)))
 
   -- What it gives has the combinations of one table more.
-  pub goes_on : (cap : ℕ) → IsCap cap list.tables tables → (result : Result Combos Refusal) → AnswersDue (first_refusal (cap_conditions cap given)) result
+  pub goes_on : (cap : ℕ) → IsCap store query.atoms tables (length list.tables + 1) cap → (result : Result Combos Refusal) → AnswersDue (first_refusal (cap_conditions cap given)) result
       → IfOk result (λ next. IsPermutation (combo_rows store next) given) → IfOk result (λ next. All (AreLive store next.tables) next.combos)
       → IfOk result (λ next. next.tables ≡ list.tables ++ split.next ∷ []) → IfOk result (λ next. next.fields ≡ query.fields)
       → IfOk result (λ next. IsBegun store query tables next)
@@ -217,7 +246,7 @@ module _ (store : Tables) (query : BoundQuery) (tables : List ℕ) (list : Combo
   goes_on cap is (Ok next) due same live at fields =
       let count : length next.combos ≡ length given =
       sym (length_permutation (combo_rows store next) given same ∙ length-map next.combos (rows_of_combo store next.tables)) in
-      let one_more : length next.tables ≡ suc (length list.tables) = ap length at ∙ length_one_more list.tables in
+      let one_more : length next.tables ≡ suc (length list.tables) = (let one = ap length at ∙ length_one_more in omega (arith, one)) in
       record {
         rest = split.later;
         first = split.is ∙ (sym (append_assoc list.tables (split.next ∷ []) split.later) ∙ ap (λ ts. ts ++ split.later) (sym at));
@@ -231,15 +260,11 @@ module _ (store : Tables) (query : BoundQuery) (tables : List ℕ) (list : Combo
         capped = λ whole. within is (sym one_more ∙ ap length whole) count due;
       }
     where
-      length_one_more : (first : List ℕ) → length (first ++ split.next ∷ []) ≡ suc (length first)
-      length_one_more [] = refl
-      length_one_more (t ∷ first) = ap (λ n. suc n) (length_one_more first)
-
-      within : IsCap cap list.tables tables → suc (length list.tables) ≡ length tables → length next.combos ≡ length given
+      within : IsCap store query.atoms tables (length list.tables + 1) cap → suc (length list.tables) ≡ length tables → length next.combos ≡ length given
           → first_refusal (cap_conditions cap given) ≡ None → length next.combos ≤ 1048576
-      within (inl (one, is)) whole count due =
+      within (inl (is, none)) whole count due =
           subst (λ n. n ≤ 1048576) (sym count) (not_refused (length given) (ap (λ n. first_refusal (cap_conditions n given)) (sym is) ∙ due))
-      within (inr (more, is)) whole count due = absurd (more (omega (arith, whole)))
+      within (inr (is, more)) whole count due = absurd (more (omega (arith, whole)))
 
 -- What holds of a list for each further table holds of it for this one.
 pub of_next : (P : ℕ → Type 0) (Q : ℕ → Combos → Type 0) (table : ℕ) → P table → (result : Result Combos Refusal)
@@ -283,6 +308,9 @@ none_left store query tables list begun none = by begun.rest begun.first
 
 -- ---- the first table
 
+none_behind : (tables : List ℕ) → 1 ≡ length tables → drop 1 tables ≡ []
+none_behind tables one = drop_all 1 tables (omega (arith, one))
+
 within_cap : (cap n : ℕ) → n ≤ cap → cond (nat_lt cap n) (Some ResultTooLarge) None ≡ None
 within_cap cap n few =
     let not_more : nat_lt cap n ≡ false = grind (arith, nat_tests, few) in
@@ -308,9 +336,9 @@ module _ (store : Tables) (query : BoundQuery) (tables : List ℕ) (all : All (�
       (few_next store query tables unit none_yet all short some few_rows) none_yet.bounded in
       omega (arith, most)
 
-  cap_of : (1 ≡ length tables) ⊎ (1 ≡ length tables → ⊥) → (cap : ℕ) × IsCap cap [] tables × (1048576 ≤ cap)
-  cap_of (inl one) = (1048576, inl (one, refl), omega (arith))
-  cap_of (inr more) = (18446744073709551615, inr (more, refl), omega (arith))
+  cap_of : (1 ≡ length tables) ⊎ (1 ≡ length tables → ⊥) → (cap : ℕ) × IsCap store query.atoms tables 1 cap × (1048576 ≤ cap)
+  cap_of (inl one) = (1048576, inl (refl, inl (none_behind tables one)), omega (arith))
+  cap_of (inr more) = (18446744073709551615, inr (refl, more), omega (arith))
 
   -- A list of the rows of the first table that fit is what joins go on from.
   pub first_begun : (list : Combos) → AreFitting store query.atoms list → All (AreLive store list.tables) list.combos → list.tables ≡ take 1 tables

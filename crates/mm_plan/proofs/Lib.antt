@@ -1,4 +1,5 @@
 mod Bounds
+mod Growing
 mod Joining
 pub mod Referred
 pub mod Unserved

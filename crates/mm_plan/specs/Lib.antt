@@ -1,4 +1,5 @@
 pub mod Begun
 pub mod From
+pub mod Growing
 pub mod Rules
 pub mod Ways

@@ -5,6 +5,7 @@
 #![tactic(auto)]
 
 mod access;
+mod caps;
 mod first;
 mod from;
 mod further;

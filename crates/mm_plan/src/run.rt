@@ -14,9 +14,10 @@ ghost use Rattle.mm_templist.specs.Combos.{AreLive, combo_rows};
 ghost use Rattle.mm_value.specs.declared.refusal.Refusal.TheVariants.{Memory};
 
 use crate::access::{Access, merge_access, planned_access};
+use crate::caps::cap_of;
 use crate::ways::{NextTable, Way};
 use mm_join::{hash_build, hash_probe, nested_loops, precomputed, tree_join, tree_merge};
-use mm_query::{Atom, BoundQuery, FieldPlace, MAX_COMBINATIONS, PlanLine};
+use mm_query::{Atom, BoundQuery, FieldPlace, PlanLine};
 use mm_select::{by_hash, by_scan, by_tree};
 use mm_store::{Meter, Store};
 use mm_templist::{Descriptor, TempList};
@@ -138,12 +139,8 @@ fn join_next<'a>(
     let joined = outers.len();
     // A table has at most 1,048,576 rows, so no list that is joined further has 2^64 combinations.
     store.table(tables[joined]);
-    let is_last = joined + 1 == tables.len();
-    let cap = if is_last {
-        MAX_COMBINATIONS as u64
-    } else {
-        u64::MAX
-    };
+    let atoms = query.atoms.as_slice();
+    let cap = cap_of(store, atoms, tables, joined + 1);
     let descriptor = Descriptor {
         tables: &tables[..joined + 1],
         fields: query.fields.as_slice(),
@@ -152,7 +149,7 @@ fn join_next<'a>(
         store,
         outers,
         table: tables[joined],
-        atoms: query.atoms.as_slice(),
+        atoms,
     };
     let way = match plan.get(joined) {
         Some(line) => next.way(line),

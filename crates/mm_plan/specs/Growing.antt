@@ -1,0 +1,27 @@
+-- Joins of further tables that leave out no combination.
+use Rattle.std.specs.Prelude.{◌≡◌, ◌≢◌, ◌⊎◌, ℕ, ◌<◌, ◌&&◌, Bool, true, List, [], All, drop, length, nat_lt}
+use Rattle.std.specs.List.{list_all}
+use Rattle.std.specs.Option.{option_map_or}
+use Rattle.mm_query.specs.Resolving.{column_of}
+use Rattle.mm_query.specs.declared.atom.Atom.{Atom}
+use Rattle.mm_query.specs.declared.bound_query.FieldPlace.{FieldPlace}
+use Rattle.mm_store.specs.Tables.{Tables, rows_at}
+
+-- The atom names fields of the first so many tables alone.
+abbrev pub names_first : ℕ → Atom FieldPlace → Bool
+names_first tables atom =
+    nat_lt atom.left.place tables && option_map_or (λ (field : FieldPlace). nat_lt field.place tables) (column_of atom.right) true
+
+-- Each of these tables has a row.
+abbrev pub HaveRows : Tables → List ℕ → Type 0
+HaveRows store tables = All (λ table. 0 < length (rows_at store.tables table)) tables
+
+-- Each combination of the first so many tables that fits so far is part of one that fits the query: no table is left, or no atom names a
+-- field of those that are, and each of them has a row.
+abbrev pub NoneLost : Tables → List (Atom FieldPlace) → ℕ → List ℕ → Type 0
+NoneLost store atoms tables later = (later ≡ []) ⊎ ((list_all (names_first tables) atoms ≡ true) × HaveRows store later)
+
+-- So many combinations the first so many tables of a query may have: as many as the query where each goes on, and else as many as may be.
+abbrev pub IsCap : Tables → List (Atom FieldPlace) → List ℕ → ℕ → ℕ → Type 0
+IsCap store atoms tables first cap =
+    ((cap ≡ 1048576) × NoneLost store atoms first (drop first tables)) ⊎ ((cap ≡ 18446744073709551615) × (first ≢ length tables))
