@@ -5,7 +5,8 @@
 
 #[cfg(test)]
 mod plain_results;
-pub mod put_again;
+#[cfg(test)]
+mod put_again;
 #[cfg(test)]
 mod readings;
 #[cfg(test)]

@@ -18,8 +18,8 @@ use Rattle.mm_value.proofs.SameRows.{rows_exact}
 use Rattle.mm_schema.specs.Sorting.{in_order}
 use Rattle.mm_query.specs.Queries.{bag_of, combinations, fits, one_of_each, projected, rows_by_columns, value_at}
 use Rattle.mm_query.specs.declared.bound_query.BoundQuery.{BoundQuery}
-use Rattle.mm_query.proofs.QueryLaws.{one_counted, shown_permutation}
-use Rattle.mm_query.proofs.SortedRows.{shown_of_permutation}
+use Rattle.mm_laws.proofs.QueryLaws.{one_counted, shown_permutation}
+use Rattle.mm_laws.proofs.SortedRows.{shown_of_permutation}
 use Rattle.mm_delta.specs.Counts.{Entries, IsOnce, count_in, count_of, total_of}
 use Rattle.mm_standing.specs.Queries.{IsBagOf, shown_of}
 use Rattle.mm_standing.specs.Showing.{rows_shown, times_shown}

@@ -20,8 +20,8 @@ use Rattle.mm_value.proofs.Prefixes.{prefixes_keep}
 use Rattle.mm_value.specs.Prefix.{order_prefix}
 use Rattle.mm_schema.specs.Sorting.{in_order}
 use Rattle.mm_query.specs.Queries.{one_of_each, rows_by_columns, same_row, sort_key}
-use Rattle.mm_query.proofs.QueryLaws.{shown_total}
-use Rattle.mm_query.proofs.SortedRows.{deduped_is_in_order, sorted_is_in_order}
+use Rattle.mm_laws.proofs.QueryLaws.{shown_total}
+use Rattle.mm_laws.proofs.SortedRows.{deduped_is_in_order, sorted_is_in_order}
 use Rattle.mm_templist.specs.Runs.{leading_prefix, referred, run_from}
 use Rattle.mm_templist.specs.Shown.{HasPrefix, placed_cmp, placed_row}
 use Rattle.mm_templist.specs.declared.shown.Placed.{Placed}

@@ -24,7 +24,7 @@ use Rattle.mm_query.specs.State.{State, rows_in}
 use Rattle.mm_query.specs.declared.atom.Atom.{Atom}
 use Rattle.mm_query.specs.declared.command.Mutation.{Mutation}
 use Rattle.mm_query.specs.declared.command.Mutation.TheVariants.{Insert, Update, Delete}
-use Rattle.mm_query.proofs.Removals.{AreRemovals, none_comes, removals_remove}
+use Rattle.mm_laws.proofs.Removals.{AreRemovals, none_comes, removals_remove}
 use Rattle.mm_store.specs.Tables.{Tables}
 use Rattle.mm_txn.specs.Kept.{AreOf, instance_of, state_of}
 use Rattle.mm_txn.specs.TableEdits.{AreEdits, AreEditsOf, AreOwnEditsOf, FitsAt, PlacedEdits, named, pairs_at}

@@ -15,7 +15,7 @@ use Rattle.mm_store.specs.Undoing.{CanUndo}
 use Rattle.mm_store.specs.Worlds.{Noted}
 use Rattle.mm_query.specs.Machine.{after_rollback_to, after_savepoint, back_to, rows_at_latest}
 use Rattle.mm_query.specs.State.{AreSavedRows, Saved, Savepoint, State}
-use Rattle.mm_query.proofs.Throughout.{gone_back, held_before, held_further}
+use Rattle.mm_laws.proofs.Throughout.{gone_back, held_before, held_further}
 use Rattle.mm_typing.specs.Typing.{AreTyped, IsTyped, ShiftsNumbers}
 use Rattle.mm_value.specs.declared.values.Value.{Value}
 use Rattle.mm_txn.specs.Kept.{AreKept, AreOf, instance_of}

@@ -36,7 +36,7 @@ use Rattle.mm_query.specs.declared.command.Definition.{Definition}
 use Rattle.mm_query.specs.declared.command.Definition.TheVariants as define
 use Rattle.mm_query.specs.declared.query.FromItem.{FromItem}
 use Rattle.mm_query.proofs.Due.{step-done}
-use Rattle.mm_query.proofs.StandingQueries.{watched_by_step}
+use Rattle.mm_laws.proofs.StandingQueries.{watched_by_step}
 use Rattle.mm_plan.specs.From.{places_in}
 use Rattle.mm_standing.specs.Queries.{RowsByPlace, StandingQuery, bag_over}
 use Rattle.mm_standing.specs.State.{AreFew, FitNow, Lists}

@@ -18,7 +18,7 @@ use Rattle.mm_schema.specs.declared.table.Table.{Table}
 use Rattle.mm_schema.proofs.Instances.{AreBeside, name_of, pairs_of-other, pairs_of-own}
 use Rattle.mm_schema.proofs.NameLemmas.{same_bytes, same_name_refl}
 use Rattle.mm_query.specs.Machine.{after_edits}
-use Rattle.mm_query.proofs.StillFound.{beside_still}
+use Rattle.mm_laws.proofs.StillFound.{beside_still}
 use Rattle.mm_standing.specs.Queries.{RowsByPlace}
 use Rattle.mm_store.specs.Tables.{Tables, rows_with}
 use Rattle.mm_txn.specs.Kept.{AreOf, instance_of}

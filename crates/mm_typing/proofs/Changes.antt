@@ -20,7 +20,7 @@ use Rattle.mm_query.specs.declared.atom.Atom.{Atom}
 use Rattle.mm_query.specs.declared.command.Mutation.{Mutation}
 use Rattle.mm_query.specs.declared.command.Mutation.TheVariants.{Insert, Update, Delete}
 use Rattle.mm_query.proofs.PlacedQueries.{none_hold}
-use Rattle.mm_query.proofs.Removals.{EachRemoves, cascades_remove, none_comes, removals_remove}
+use Rattle.mm_laws.proofs.Removals.{EachRemoves, cascades_remove, none_comes, removals_remove}
 use Rattle.mm_typing.specs.Typing.{AreTyped, HasTypes}
 use Rattle.mm_typing.proofs.Assigned.{all_fit, updated_typed}
 use Rattle.mm_typing.proofs.Places.{columns_in, has}

@@ -20,7 +20,7 @@ use Rattle.mm_query.specs.declared.command.Definition.TheVariants as define
 use Rattle.mm_query.specs.declared.query.FromItem.{FromItem}
 use Rattle.mm_query.specs.declared.query.Query.{Query}
 use Rattle.mm_query.proofs.PlacedQueries.{none_hold}
-use Rattle.mm_query.proofs.Throughout.{each_held}
+use Rattle.mm_laws.proofs.Throughout.{each_held}
 use Rattle.mm_typing.specs.Typing.{AreTyped, IsTyped, ShiftsNumbers}
 use Rattle.mm_typing.proofs.Places.{columns_behind, columns_kept, columns_left}
 use Rattle.mm_typing.proofs.Queries.{KeepsColumns, atoms_shift, query_stays}

@@ -7,7 +7,8 @@
 mod growths;
 #[cfg(test)]
 mod joins;
-pub mod pair;
+#[cfg(test)]
+mod pair;
 #[cfg(test)]
 mod plan_runs;
 #[cfg(test)]

@@ -9,4 +9,5 @@ mod growths;
 mod relations;
 #[cfg(test)]
 mod stores;
-pub mod triple;
+#[cfg(test)]
+mod triple;

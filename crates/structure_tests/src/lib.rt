@@ -19,7 +19,8 @@ mod orders;
 mod partitions;
 #[cfg(test)]
 mod printed_rows;
-pub mod references;
+#[cfg(test)]
+mod references;
 #[cfg(test)]
 mod samples;
 #[cfg(test)]

@@ -22,27 +22,27 @@ fn literals_are_read(rt: HostRuntime) -> Result<(), Fail> {
         (b"'a''b'".as_slice(), b"a'b".as_slice()),
         (b"'\xff -- \x00'".as_slice(), b"\xff -- \x00".as_slice()),
     ] {
-        let value = read_literal(rt.alloc(), bytes)?;
-        assert!(rt; is_equal(&value, &text(rt.alloc(), want)?));
+        assert!(rt; is_text_of(rt.alloc(), bytes, want)?);
     }
     literals_are_exact();
     Ok(())
 }
 
+/// Whether bytes are read as the text of others.
+fn is_text_of(alloc: Global, bytes: &[u8], want: &[u8]) -> Result<bool, Refusal> {
+    let value = read_literal(alloc, bytes)?;
+    Ok(is_equal(&value, &text(alloc, want)?))
+}
+
 #[test]
 fn texts_have_64_bytes_at_most(rt: HostRuntime) -> Result<(), Fail> {
-    let mut literal = Vec::new(rt.alloc());
-    literal.push(b'\'')?;
-    for _ in 0..64 {
-        literal.push(b'x')?;
+    let mut bytes = [b'x'; 68];
+    for quote in [0, 65, 66, 67] {
+        bytes[quote] = b'\'';
     }
-    literal.push(b'\'')?;
-    let value = read_literal(rt.alloc(), &literal)?;
-    assert!(rt; is_equal(&value, &text(rt.alloc(), &[b'x'; 64])?));
-    literal.push(b'\'')?;
-    assert_eq!(rt; refusal(rt.alloc(), &literal), Some(Refusal::Syntax));
-    literal.push(b'\'')?;
-    assert_eq!(rt; refusal(rt.alloc(), &literal), Some(Refusal::TextTooLong));
+    assert!(rt; is_text_of(rt.alloc(), &bytes[..66], &[b'x'; 64])?);
+    assert_eq!(rt; refusal(rt.alloc(), &bytes[..67]), Some(Refusal::Syntax));
+    assert_eq!(rt; refusal(rt.alloc(), &bytes), Some(Refusal::TextTooLong));
     Ok(())
 }
 

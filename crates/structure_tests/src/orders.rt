@@ -1,20 +1,19 @@
 //! Ordered lists of references, and counted searches.
+ghost use Rattle.structure_tests.specs.Orders.{IsByPlace};
+
 use crate::references::numbered;
 use crate::samples::{Anywhere, ByPlace, InPartition, reserve};
 use mm_order::{AtReference, OrderedRefs, Probe, Seek, SortedRefs};
+use mm_value::RowRef;
+use std::alloc::{AllocError, Global};
 use std::cmp::Ordering;
+use std::process::Abort;
 use std::test::Fail;
 
-#[test]
-fn holds_references_in_order(rt: HostRuntime) -> Result<(), Fail> {
-    let alloc = rt.alloc();
-    let mut refs = SortedRefs::new(alloc);
-    reserve(&rt, &mut refs, alloc, 17)?;
-    for n in 1..18 {
-        refs.insert(&ByPlace, numbered(n));
-    }
-    assert_eq!(rt; refs.len(), 17);
-
+/// Asserts that these are the references 1 to 17, in order.
+fn assert_up_to_17(rt: &impl Abort, alloc: Global, refs: &SortedRefs) -> Result<(), AllocError>
+    requires { IsByPlace refs.now.refs }
+{
     let mut all = Vec::new(alloc);
     if refs
         .copy_range(alloc, &ByPlace, &Anywhere, &Anywhere, &mut all)
@@ -27,10 +26,44 @@ fn holds_references_in_order(rt: HostRuntime) -> Result<(), Fail> {
     for (i, held) in all.iter().enumerate() {
         assert_eq!(rt; *held, numbered(i + 1));
     }
+    Ok(())
+}
 
+#[test]
+fn holds_references_in_order(rt: HostRuntime) -> Result<(), Fail> {
+    let alloc = rt.alloc();
+    let mut refs = SortedRefs::new(alloc);
+    reserve(&rt, &mut refs, alloc, 17)?;
+    for n in 1..18 {
+        refs.insert(&ByPlace, numbered(n));
+    }
+    assert_eq!(rt; refs.len(), 17);
+
+    assert_up_to_17(&rt, alloc, &refs)?;
     assert!(rt; refs.remove(&ByPlace, numbered(17)));
     assert!(rt; !refs.remove(&ByPlace, numbered(17)));
     assert!(rt; 1 <= refs.spare());
+    Ok(())
+}
+
+/// Copies the references of a partition behind others, again where memory is refused; then the others are as before.
+fn copy_part(
+    rt: &impl Abort,
+    alloc: Global,
+    refs: &SortedRefs,
+    part: usize,
+    out: &mut Vec<RowRef>,
+) -> Result<(), AllocError>
+    requires { IsByPlace refs.now.refs }
+{
+    let (probe, before) = (InPartition(part), out.len());
+    if refs
+        .copy_range(alloc, &ByPlace, &probe, &probe, out)
+        .is_err()
+    {
+        assert_eq!(rt; out.len(), before);
+        refs.copy_range(alloc, &ByPlace, &probe, &probe, out)?;
+    }
     Ok(())
 }
 
@@ -43,25 +76,7 @@ fn copies_a_range(rt: HostRuntime) -> Result<(), Fail> {
     refs.insert(&ByPlace, numbered(3));
     let mut out = Vec::new(alloc);
     for part in 0..3 {
-        if refs
-            .copy_range(
-                alloc,
-                &ByPlace,
-                &InPartition(part),
-                &InPartition(part),
-                &mut out,
-            )
-            .is_err()
-        {
-            assert_eq!(rt; out.len(), part);
-            refs.copy_range(
-                alloc,
-                &ByPlace,
-                &InPartition(part),
-                &InPartition(part),
-                &mut out,
-            )?;
-        }
+        copy_part(&rt, alloc, &refs, part, &mut out)?;
     }
     assert_eq!(rt; out.as_slice(), [numbered(3), numbered(7)].as_slice());
     Ok(())

@@ -1,5 +1,0 @@
-use Rattle.mm_query.proofs.ReachedCascades.{none_left}
-use Rattle.mm_query.proofs.cascade_laws.cascades_leave_none_behind.Goals as goal
-
-pub returns : goal.returns
-returns c = none_left

@@ -1,5 +1,0 @@
-use Rattle.mm_query.proofs.ReachedCascades.{no_others}
-use Rattle.mm_query.proofs.cascade_laws.cascades_take_no_others.Goals as goal
-
-pub returns : goal.returns
-returns c = no_others

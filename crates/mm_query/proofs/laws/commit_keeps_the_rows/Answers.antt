@@ -1,5 +1,0 @@
-use Rattle.mm_query.proofs.Transactions.{committed}
-use Rattle.mm_query.proofs.laws.commit_keeps_the_rows.Goals as goal
-
-pub returns : goal.returns
-returns c commands state closed free = committed state closed commands free

@@ -1,5 +1,0 @@
-use Rattle.mm_query.proofs.Transactions.{back_at_savepoint}
-use Rattle.mm_query.proofs.laws.rollback_to_restores_the_rows_at_its_savepoint.Goals as goal
-
-pub returns : goal.returns
-returns c name commands state due leave = back_at_savepoint name state due commands leave

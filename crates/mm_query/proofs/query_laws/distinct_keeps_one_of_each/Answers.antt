@@ -1,5 +1,0 @@
-use Rattle.mm_query.proofs.QueryLaws.{one_counted}
-use Rattle.mm_query.proofs.query_laws.distinct_keeps_one_of_each.Goals as goal
-
-pub returns : goal.returns
-returns c = one_counted

@@ -1,5 +1,0 @@
-use Rattle.mm_query.proofs.QueryLaws.{query_ascending}
-use Rattle.mm_query.proofs.query_laws.query_conditions_ascend.Goals as goal
-
-pub returns : goal.returns
-returns c = query_ascending
