@@ -16,7 +16,7 @@ use Rattle.mm_value.specs.declared.row_ref.RowRef.{RowRef}
 use Rattle.mm_value.specs.Equality.{same_row}
 use Rattle.mm_value.specs.EqualityLaws.{same_row_equiv}
 use Rattle.mm_value.proofs.SameRows.{rows_exact}
-use Rattle.mm_delta.specs.Counts.{count_of}
+use Rattle.mm_bag.specs.Counts.{count_of}
 use Rattle.mm_delta.specs.Edited.{after_at, before_at, come_at, edits_at, gone_at}
 use Rattle.mm_delta.specs.Skipping.{IsRowOf}
 use Rattle.mm_delta.specs.Steps.{EachFit}

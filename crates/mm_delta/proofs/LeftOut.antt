@@ -15,7 +15,7 @@ use Rattle.mm_query.specs.declared.bound_query.BoundQuery.{BoundQuery}
 use Rattle.mm_query.specs.declared.bound_query.FieldPlace.{FieldPlace}
 use Rattle.mm_relevance.specs.Relevance.{AddsToNumber, AddsToNumbers, IsCyclic, is_text}
 use Rattle.mm_relevance.proofs.Adding.{adds_nothing}
-use Rattle.mm_delta.specs.Counts.{count_of}
+use Rattle.mm_bag.specs.Counts.{count_of}
 use Rattle.mm_delta.specs.Edited.{after_at, before_at}
 use Rattle.mm_delta.specs.Skipping.{IsOfCyclicRows, IsRowOf, IsTypeTested}
 use Rattle.mm_delta.specs.Terms.{lists_around}

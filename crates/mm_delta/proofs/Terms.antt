@@ -18,7 +18,7 @@ use Rattle.mm_store.specs.Tables.{IsAt, Tables, rows_with}
 use Rattle.mm_value.specs.declared.values.Value.{Value}
 use Rattle.mm_query.specs.Queries.{bag_of}
 use Rattle.mm_query.specs.declared.bound_query.BoundQuery.{BoundQuery}
-use Rattle.mm_delta.specs.Counts.{Entries, count_in, count_of}
+use Rattle.mm_bag.specs.Counts.{Entries, count_in, count_of}
 use Rattle.mm_delta.specs.Edited.{after_at, before_at, come_at, edits_at, gone_at}
 use Rattle.mm_delta.specs.Steps.{EachFit, HasTables, coming, row_reads}
 use Rattle.mm_delta.specs.Terms.{lists_around}

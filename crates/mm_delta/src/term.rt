@@ -10,7 +10,7 @@ ghost use Rattle.mm_store.specs.Tables.{AreFit, IsAt};
 ghost use Rattle.mm_value.specs.declared.refusal.Refusal.TheVariants.{Memory};
 ghost use Rattle.mm_value.specs.declared.values.Value.{Value as AnyValue};
 ghost use Rattle.mm_query.specs.Queries.{bag_of};
-ghost use Rattle.mm_delta.specs.Counts.{count_in, count_of};
+ghost use Rattle.mm_bag.specs.Counts.{count_in, count_of};
 ghost use Rattle.mm_delta.specs.Edited.{after_at, before_at, come_at, gone_at};
 ghost use Rattle.mm_delta.specs.Skipping.{IsOfCyclicRows, IsRowOf, IsTypeTested};
 ghost use Rattle.mm_delta.specs.Steps.{EachFit, HasTables, row_reads, term_reads};
@@ -19,8 +19,8 @@ ghost use Rattle.mm_delta.specs.Walk.{other_places};
 
 use crate::edited::row_gone;
 use crate::rows::{add_coming, read_all};
-use crate::tally::Tally;
 use crate::walk::Walk;
+use mm_bag::Tally;
 use mm_relation::Edit;
 use mm_store::View;
 use mm_value::{Refusal, Row, RowRef};

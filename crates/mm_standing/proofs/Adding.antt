@@ -7,8 +7,8 @@ use Rattle.std.proofs.lemmas.List.{length-set}
 use Rattle.mm_value.specs.Equality.{same_row}
 use Rattle.mm_value.specs.EqualityLaws.{same_row_equiv}
 use Rattle.mm_value.specs.declared.values.Value.{Value}
-use Rattle.mm_delta.specs.Counts.{Adds, Counts, Entries, count_in, has_entry, signed_count, total_of}
-use Rattle.mm_delta.proofs.Undoing.{found_all, kept_all, only_one}
+use Rattle.mm_bag.specs.Counts.{Adds, Counts, Entries, count_in, has_entry, signed_count, total_of}
+use Rattle.mm_bag.proofs.Undoing.{found_all, kept_all, only_one}
 use Rattle.mm_standing.specs.Bags.{AddedTo, IsWithin, Purges, entries_at, list_change, names, room_at, row_change}
 use Rattle.mm_standing.specs.declared.change.ListChange.{ListChange}
 

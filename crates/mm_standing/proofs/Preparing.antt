@@ -5,7 +5,7 @@ use Rattle.std.specs.Prelude.{◌==◌}
 use Rattle.std.proofs.lemmas.Bool.{eqb-true}
 use Rattle.std.proofs.lemmas.List.{length-map}
 use Rattle.std.proofs.lemmas.List.Elements.{All-weaker}
-use Rattle.mm_delta.specs.Counts.{Counts, Entries, count_in, has_entry, total_of}
+use Rattle.mm_bag.specs.Counts.{Counts, Entries, count_in, has_entry, total_of}
 use Rattle.mm_standing.specs.Bags.{CanAdd, HasEntry, IsSound, IsWithin, done_of, entries_at, list_change, number_for, opposite, room_at, row_change, sum_over}
 use Rattle.mm_standing.specs.declared.change.ListChange.{ListChange}
 use Rattle.mm_standing.specs.declared.change.Prepared.{Prepared}

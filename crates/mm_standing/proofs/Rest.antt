@@ -2,7 +2,7 @@
 use Rattle.std.proofs.Common.{◌≡◌, ℕ, zero, suc, pos, ◌+ℤ◌, ◌<ℤ◌, ◌≤ℤ◌, ◌≤◌, ◌<◌, ◌^◌, ◌⊎◌, inl, inr, ⊎_elim, List, [], ◌∷◌, ◌++◌, length, map, get_or, refl, sym, ap, ◌∙◌, subst, arith}
 use Rattle.std.specs.List.{All, remove}
 use Rattle.std.proofs.lemmas.Int.{ints}
-use Rattle.mm_delta.specs.Counts.{Counts, Entries, count_in, has_entry, total_of}
+use Rattle.mm_bag.specs.Counts.{Counts, Entries, count_in, has_entry, total_of}
 use Rattle.mm_standing.specs.Bags.{ArePositive, HasEntry, IsLean, IsSound, IsWithin, done_of, entries_at, opposite, room_at}
 use Rattle.mm_standing.specs.declared.change.ListChange.{ListChange}
 use Rattle.mm_standing.specs.declared.change.Prepared.{Prepared}

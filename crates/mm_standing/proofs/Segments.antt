@@ -9,8 +9,8 @@ use Rattle.std.proofs.lemmas.List.{drop-map}
 use Rattle.std.proofs.lemmas.List.Elements.{All-append, All-drop, All-head, All-map, All-nil, All-tail, All-weaker}
 use Rattle.mm_value.specs.Equality.{same_row}
 use Rattle.mm_value.specs.declared.values.Value.{Value}
-use Rattle.mm_delta.specs.Counts.{Counts, count_in, count_of, signed_count, total_of}
-use Rattle.mm_delta.specs.declared.signed.Signed.{Signed}
+use Rattle.mm_bag.specs.Counts.{Counts, count_in, count_of, signed_count, total_of}
+use Rattle.mm_bag.specs.declared.signed.Signed.{Signed}
 use Rattle.mm_standing.specs.Bags.{Brings, CanAdd, IsSmall, IsWithin, count_with, entries_at, list_change, row_change, sum_over, total_with}
 use Rattle.mm_standing.specs.declared.change.ListChange.{ListChange}
 use Rattle.mm_standing.proofs.Adding.{entries_here, not_same}

@@ -5,7 +5,7 @@ use Rattle.std.proofs.lemmas.Int.{ints}
 use Rattle.std.proofs.Math.Seq.{drop-length, drop-nil}
 use Rattle.mm_value.specs.Equality.{same_row}
 use Rattle.mm_value.specs.declared.values.Value.{Value}
-use Rattle.mm_delta.specs.Counts.{Counts, count_in, total_of}
+use Rattle.mm_bag.specs.Counts.{Counts, count_in, total_of}
 use Rattle.mm_standing.specs.Bags.{AddedTo, CanAdd, IsWithin, count_with, entries_at, list_change, opposite, row_change, sum_over, total_with}
 use Rattle.mm_standing.specs.declared.change.ListChange.{ListChange}
 

@@ -6,7 +6,7 @@ use Rattle.std.proofs.lemmas.Int.{ints}
 use Rattle.std.proofs.lemmas.List.{map-append, drop-append-le, length_push}
 use Rattle.std.proofs.lemmas.List.Elements.{All-pop, All-push, All-weaker}
 use Rattle.std.proofs.lemmas.List.Sums.{sum_by_push}
-use Rattle.mm_delta.specs.Counts.{Counts, count_in, total_of}
+use Rattle.mm_bag.specs.Counts.{Counts, count_in, total_of}
 use Rattle.mm_standing.specs.Bags.{AddedTo, CanAdd, HasEntry, IsSound, IsWithin, Made, count_with, done_of, entries_at, number_for, opposite, room_at}
 use Rattle.mm_standing.specs.declared.change.ListChange.{ListChange}
 use Rattle.mm_standing.specs.declared.change.Prepared.{Prepared}

@@ -13,7 +13,7 @@ use Rattle.mm_value.specs.Equality.{same_row}
 use Rattle.mm_value.specs.EqualityLaws.{same_row_equiv}
 use Rattle.mm_value.specs.declared.values.Value.{Value}
 use Rattle.mm_value.proofs.SameRows.{rows_exact}
-use Rattle.mm_delta.specs.Counts.{Counts, Entries, count_in, has_entry}
+use Rattle.mm_bag.specs.Counts.{Counts, Entries, count_in, has_entry}
 use Rattle.mm_standing.specs.Bags.{AddedTo, HasEntry, IsLean, IsSound, IsTold, IsWithin, Purges, Tells, count_with, entries_at, is_named, list_change, names, opposite, room_at, row_change, sum_over, undos}
 use Rattle.mm_standing.specs.declared.change.ListChange.{ListChange}
 use Rattle.mm_standing.specs.declared.change.Logged.{Logged}

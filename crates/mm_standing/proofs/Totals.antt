@@ -20,7 +20,7 @@ use Rattle.mm_query.specs.Queries.{bag_of, combinations, fits, one_of_each, proj
 use Rattle.mm_query.specs.declared.bound_query.BoundQuery.{BoundQuery}
 use Rattle.mm_laws.proofs.QueryLaws.{one_counted, shown_permutation}
 use Rattle.mm_laws.proofs.SortedRows.{shown_of_permutation}
-use Rattle.mm_delta.specs.Counts.{Entries, IsOnce, count_in, count_of, total_of}
+use Rattle.mm_bag.specs.Counts.{Entries, IsOnce, count_in, count_of, total_of}
 use Rattle.mm_standing.specs.Queries.{IsBagOf, shown_of}
 use Rattle.mm_standing.specs.Showing.{rows_shown, times_shown}
 use Rattle.mm_standing.proofs.Counting.{counted_at, counted_once, find_counted, permutation_from_counts}

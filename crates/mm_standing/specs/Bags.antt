@@ -3,8 +3,8 @@ use Rattle.std.specs.Prelude.{◌≡◌, ◌==◌, ℕ, ℤ, pos, ◌+◌, ◌�
 use Rattle.std.specs.List.{list_any}
 use Rattle.mm_value.specs.Equality.{same_row}
 use Rattle.mm_value.specs.declared.values.Value.{Value}
-use Rattle.mm_delta.specs.Counts.{Counts, Entries, count_in, count_of, has_entry, signed_count, total_of}
-use Rattle.mm_delta.specs.declared.signed.Signed.{Signed}
+use Rattle.mm_bag.specs.Counts.{Counts, Entries, count_in, count_of, has_entry, signed_count, total_of}
+use Rattle.mm_bag.specs.declared.signed.Signed.{Signed}
 use Rattle.mm_standing.specs.declared.change.ListChange.{ListChange}
 use Rattle.mm_standing.specs.declared.change.Logged.{Logged}
 use Rattle.mm_standing.specs.declared.change.Prepared.{Prepared}

@@ -7,7 +7,7 @@ use Rattle.mm_value.specs.declared.refusal.Refusal.TheVariants.{StandingListTooL
 use Rattle.mm_value.specs.declared.values.Value.{Value}
 use Rattle.mm_query.specs.Queries.{bag_of, one_of_each, shown}
 use Rattle.mm_query.specs.declared.bound_query.BoundQuery.{BoundQuery}
-use Rattle.mm_delta.specs.Counts.{Entries, count_in, count_of}
+use Rattle.mm_bag.specs.Counts.{Entries, count_in, count_of}
 
 -- A query, and the place in the store of each table of its FROM list.
 pub record StandingQuery : Type 0 where

@@ -1,11 +1,11 @@
 //! Changes that are made ready, with all memory that they ask for.
 ghost use Rattle.std.specs.Prelude.{◌≡◌, ◌++◌, ◌+◌, ◌≤◌, ◌<◌, ◌^◌, ℕ, [], All, length, map, neg_ℤ, pos, slice_index, ◌+ℤ◌, ◌≤ℤ◌, ◌<ℤ◌, IfErr, IfOk, OnOk};
 ghost use Rattle.std.specs.List.{sum_by};
-ghost use Rattle.mm_delta.specs.Counts.{Counts as BagCounts, count_in};
+ghost use Rattle.mm_bag.specs.Counts.{Counts as BagCounts, count_in};
 ghost use Rattle.mm_delta.specs.Edited.{after_at, before_at};
 ghost use Rattle.mm_delta.specs.Skipping.{IsTypeTested};
 ghost use Rattle.mm_delta.specs.Steps.{EachFit};
-ghost use Rattle.mm_delta.specs.declared.signed.Signed.{Signed as Change};
+ghost use Rattle.mm_bag.specs.declared.signed.Signed.{Signed as Change};
 ghost use Rattle.mm_schema.specs.Refused.{AnswersDue, first_refusal};
 ghost use Rattle.mm_standing.specs.Bags.{Brings, CanAdd, IsSmall, count_with, done_of, entries_at, number_for, opposite, room_at, sum_over};
 ghost use Rattle.mm_standing.specs.Queries.{AreCounts, IsBagOf, IsServed, bag_over, change_conditions, list_conditions};

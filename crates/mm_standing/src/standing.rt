@@ -1,7 +1,7 @@
 //! The standing queries and their lists.
 ghost use Rattle.std.specs.Prelude.{◌≡◌, ℕ, ◌++◌, ◌∷◌, ◌≤◌, ◌<◌, All, List, [], drop, length, map, pos, Some, slice_get, take, IfErr, IfOk, OnErr, OnOk};
 ghost use Rattle.std.specs.List.{remove, sum_by};
-ghost use Rattle.mm_delta.specs.Counts.{Counts as BagCounts, count_in};
+ghost use Rattle.mm_bag.specs.Counts.{Counts as BagCounts, count_in};
 ghost use Rattle.mm_delta.specs.Edited.{after_at, before_at};
 ghost use Rattle.mm_delta.specs.Steps.{EachFit};
 ghost use Rattle.mm_query.specs.Queries.{bag_of};

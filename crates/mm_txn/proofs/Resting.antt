@@ -21,7 +21,7 @@ use Rattle.mm_schema.proofs.Instances.{LackName, name_of, others_lack}
 use Rattle.mm_schema.proofs.NameLemmas.{same_bytes}
 use Rattle.mm_schema.proofs.Places.{place_from_some}
 use Rattle.mm_schema.proofs.References.{as_there, same_with, same_without, second_none, there_behind, there_still}
-use Rattle.mm_delta.specs.Counts.{count_of}
+use Rattle.mm_bag.specs.Counts.{count_of}
 use Rattle.mm_store.specs.Tables.{Tables}
 use Rattle.mm_value.specs.declared.refusal.Refusal.{Refusal}
 use Rattle.mm_value.specs.declared.values.Value.{Value}

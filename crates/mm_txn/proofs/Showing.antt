@@ -15,7 +15,7 @@ use Rattle.mm_schema.specs.declared.standing.StandingDef.{StandingDef}
 use Rattle.mm_schema.proofs.NameLemmas.{differs_back, same_name_refl}
 use Rattle.mm_schema.proofs.Places.{place_from_some, within_from_some}
 use Rattle.mm_schema.proofs.StandingLemmas.{names_of}
-use Rattle.mm_delta.specs.Counts.{count_in, count_of}
+use Rattle.mm_bag.specs.Counts.{count_in, count_of}
 use Rattle.mm_value.specs.declared.refusal.Refusal.{Refusal}
 use Rattle.mm_value.specs.declared.refusal.Refusal.TheVariants.{Memory}
 use Rattle.mm_value.specs.declared.values.Value.{Value}

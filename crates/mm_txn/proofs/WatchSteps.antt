@@ -17,7 +17,7 @@ use Rattle.mm_schema.proofs.NameLemmas.{same_bytes, same_name_refl}
 use Rattle.mm_schema.proofs.Places.{find_at_place, find_nowhere, place_from_some, within_from_some}
 use Rattle.mm_schema.proofs.References.{first_none}
 use Rattle.mm_schema.proofs.StandingLemmas.{names_of}
-use Rattle.mm_delta.specs.Counts.{Counts, Entries, count_in, count_of}
+use Rattle.mm_bag.specs.Counts.{Counts, Entries, count_in, count_of}
 use Rattle.mm_store.specs.Tables.{Tables, rows_at}
 use Rattle.mm_value.specs.declared.refusal.Refusal.{Refusal}
 use Rattle.mm_value.specs.declared.refusal.Refusal.TheVariants.{NoSuchStandingQuery, StandingListTooLarge}

@@ -6,7 +6,7 @@ ghost use Rattle.mm_relation.specs.Index.{EachTurns};
 ghost use Rattle.mm_relation.specs.Kept.{StoredRows};
 ghost use Rattle.mm_relation.specs.RowLists.{edit_pairs};
 ghost use Rattle.mm_schema.specs.Refused.{AnswersDue, first_refusal};
-ghost use Rattle.mm_delta.specs.Counts.{Counts};
+ghost use Rattle.mm_bag.specs.Counts.{Counts};
 ghost use Rattle.mm_standing.specs.Queries.{change_conditions as list_conditions};
 ghost use Rattle.mm_standing.specs.State.{AreServed, FitPrepared, count_at, count_now};
 ghost use Rattle.mm_store.specs.Marks.{rows_at_mark};

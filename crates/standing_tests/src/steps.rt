@@ -1,6 +1,6 @@
 //! What is done to two tables and to the lists of standing queries over them.
 ghost use Rattle.std.specs.Prelude.{◌≡◌, ℕ, ◌<◌, ◌≤◌, All, List, [], ◌∷◌, length, map, true, IfOk, IfSome, OnErr, OnOk};
-ghost use Rattle.mm_delta.specs.Counts.{Counts};
+ghost use Rattle.mm_bag.specs.Counts.{Counts};
 ghost use Rattle.mm_delta.specs.Edited.{before_at};
 ghost use Rattle.mm_query.specs.Queries.{bag_of};
 ghost use Rattle.mm_relation.specs.Edits.{edit_name, named, new_rows};

@@ -4,7 +4,7 @@ use Rattle.std.proofs.lemmas.Result.{IfOk-weaker}
 use Rattle.mm_query.specs.Queries.{bag_of}
 use Rattle.mm_store.proofs.Joining.{some_at}
 use Rattle.mm_store.specs.Tables.{IsAt, Tables}
-use Rattle.mm_delta.specs.Counts.{count_in, count_of, signed_count}
+use Rattle.mm_bag.specs.Counts.{count_in, count_of, signed_count}
 use Rattle.mm_delta.specs.Edited.{after_at, before_at, come_at, gone_at}
 use Rattle.mm_delta.specs.Skipping.{IsTypeTested}
 use Rattle.mm_delta.specs.Steps.{EachFit, term_reads}

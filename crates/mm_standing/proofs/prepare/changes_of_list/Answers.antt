@@ -6,9 +6,9 @@ use Rattle.mm_value.specs.declared.refusal.Refusal.TheVariants.{StandingListTooL
 use Rattle.mm_value.specs.declared.values.Value.{Value}
 use Rattle.mm_query.specs.declared.bound_query.BoundQuery.{BoundQuery}
 use Rattle.mm_delta.specs.Change.{change_between}
-use Rattle.mm_delta.specs.Counts.{count_of, signed_count}
+use Rattle.mm_bag.specs.Counts.{count_of, signed_count}
 use Rattle.mm_delta.specs.Edited.{after_at, before_at}
-use Rattle.mm_delta.specs.declared.signed.Signed.{Signed}
+use Rattle.mm_bag.specs.declared.signed.Signed.{Signed}
 use Rattle.mm_standing.specs.Queries.{RowsByPlace, StandingQuery, bag_over}
 use Rattle.mm_standing.proofs.Net.{brings, sum_of, total_after}
 use Rattle.mm_standing.proofs.prepare.changes_of_list.Goals as goal

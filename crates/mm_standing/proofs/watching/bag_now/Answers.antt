@@ -5,7 +5,7 @@ use Rattle.std.proofs.lemmas.Result.{IfOk-weaker}
 use Rattle.mm_value.specs.declared.values.Value.{Value}
 use Rattle.mm_query.specs.Queries.{bag_of}
 use Rattle.mm_store.specs.Tables.{rows_at}
-use Rattle.mm_delta.specs.Counts.{Counts}
+use Rattle.mm_bag.specs.Counts.{Counts}
 use Rattle.mm_standing.specs.Queries.{IsBagOf}
 use Rattle.mm_standing.proofs.Found.{bag_moved, result_bag}
 use Rattle.mm_standing.proofs.watching.bag_now.Goals as goal

@@ -6,7 +6,7 @@ use Rattle.mm_relation.specs.Refs.{row_at}
 use Rattle.mm_relation.specs.declared.names.Side.TheVariants.{Old}
 use Rattle.mm_store.proofs.Joining.{some_at}
 use Rattle.mm_store.specs.Tables.{AreFit}
-use Rattle.mm_delta.specs.Counts.{count_in}
+use Rattle.mm_bag.specs.Counts.{count_in}
 use Rattle.mm_delta.specs.Edited.{come_at, gone_at}
 use Rattle.mm_delta.specs.Skipping.{IsRowOf, IsTypeTested}
 use Rattle.mm_delta.specs.Steps.{EachFit, HasTables, row_reads}

@@ -2,7 +2,7 @@
 use Rattle.std.proofs.Common.{◌<◌, [], List, length, sym, ap, ◌∙◌, subst, arith}
 use Rattle.std.specs.List.{remove}
 use Rattle.std.proofs.lemmas.List.Edits.{length-remove}
-use Rattle.mm_delta.specs.Counts.{Counts}
+use Rattle.mm_bag.specs.Counts.{Counts}
 use Rattle.mm_standing.specs.Bags.{IsLean, IsSound, IsTold, undos}
 use Rattle.mm_standing.specs.State.{Lists}
 use Rattle.mm_standing.specs.declared.change.Prepared.{Prepared}

@@ -1,7 +1,7 @@
 -- The query and its bag come; with an empty log all is sound.
 use Rattle.std.proofs.Common.{◌≡◌, ◌++◌, ◌∷◌, [], List, length, sym, ap, ◌∙◌, subst, arith}
 use Rattle.std.proofs.lemmas.List.{length_push}
-use Rattle.mm_delta.specs.Counts.{Counts}
+use Rattle.mm_bag.specs.Counts.{Counts}
 use Rattle.mm_standing.specs.Bags.{IsLean, IsSound, IsTold, undos}
 use Rattle.mm_standing.specs.Queries.{StandingQuery}
 use Rattle.mm_standing.specs.State.{Lists}

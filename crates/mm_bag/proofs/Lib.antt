@@ -1,0 +1,10 @@
+pub mod Adding
+pub mod CountUps
+pub mod Entries
+pub mod Listing
+pub mod Merging
+pub mod Passing
+pub mod Purging
+pub mod Tallies
+pub mod Undoing
+pub mod Turning
