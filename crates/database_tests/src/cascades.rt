@@ -1,6 +1,7 @@
 //! Growths of memory that are refused to deletes that cascade.
+use crate::assertions::assert_that;
 use crate::samples::{command, database, give};
-use crate::steps::{give_each, granted, look, roll_back, tell_refused};
+use crate::steps::{end_refused, give_each, look, roll_back, tell_refused};
 use mm_txn::Db;
 use mm_value::Refusal;
 use std::process::Abort;
@@ -58,12 +59,13 @@ fn rolled_back_cascade_growths(rt: HostRuntime) -> Result<(), Fail> {
 
 /// Gives a DELETE that is refused, by the rows or for want of memory, and looks at all rows.
 fn hinder(rt: &(impl Abort + AllocGlobal + Print), database: &mut Db) -> Result<(), Fail> {
-    let Some(given) = granted(rt, command(rt.alloc(), "DELETE dept WHERE id = 2")) else {
-        return Ok(());
+    let outcome = match command(rt.alloc(), "DELETE dept WHERE id = 2") {
+        Ok(given) => give(rt.alloc(), database, given),
+        Err(refusal) => return end_refused(rt, refusal),
     };
-    match give(rt.alloc(), database, given) {
+    match outcome {
         Err(Refusal::Memory) => tell_refused(rt, Refusal::Memory)?,
-        outcome => assert!(rt; matches!(outcome, Err(Refusal::RowIsReferenced))),
+        outcome => assert_that(rt, matches!(outcome, Err(Refusal::RowIsReferenced))),
     }
     look(rt, database, &QUESTIONS, ALL);
     Ok(())
@@ -71,8 +73,12 @@ fn hinder(rt: &(impl Abort + AllocGlobal + Print), database: &mut Db) -> Result<
 
 #[test]
 fn hindered_cascade_growths(rt: HostRuntime) -> Result<(), Fail> {
-    match granted(&rt, database(rt.alloc(), &FILLED)) {
-        Some(mut database) => hinder(&rt, &mut database),
-        None => Ok(()),
+    match database(rt.alloc(), &FILLED) {
+        Ok(mut database) => {
+            let outcome = hinder(&rt, &mut database);
+            drop(database);
+            outcome
+        }
+        Err(refusal) => end_refused(&rt, refusal),
     }
 }

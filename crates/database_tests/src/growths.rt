@@ -3,14 +3,20 @@
 //!
 //! So whatever else may be refused before that line ends the test, as passed. `SCAN`, `DROP` and `UNWATCH` ask for no memory, nor
 //! do `BEGIN`, `COMMIT`, `ROLLBACK` and `ROLLBACK TO`. Tests of savepoints stand in `savepoints.rt`.
+use crate::assertions::{assert_same, assert_that};
 use crate::samples::{
-    bound_query, catalog, change, index, query, reading, rows, sizes_of_bound, table, text_of_rows,
+    bound_query, catalog, change, command, index, inserted, reading, selected, sizes_of_bound,
+    table, text_of_rows,
 };
-use crate::steps::{ask_each, give_each, granted, read_each, roll_back, tell_refused};
+use crate::steps::{
+    ask_each, end_refused, expect_memory, give_each, not_so_far, read_each, roll_back, tell_refused,
+};
 use mm_query::{
-    BoundQuery, FieldPlace, PlainRows, Query, RowList, bind_change, bind_query, plain_eval,
+    BoundQuery, Command, FieldPlace, PlainRows, Query, RowList, bind_change, bind_query, plain_eval,
 };
 use mm_schema::{Catalog, Name};
+use mm_value::{Refusal, Row};
+use std::alloc::Global;
 use std::process::Abort;
 use std::test::Fail;
 
@@ -69,29 +75,60 @@ fn add_table_again(
     line: &str,
     place: usize,
 ) -> Result<bool, Fail> {
-    let Some(added) = granted(rt, table(rt.alloc(), line)) else {
-        return Ok(false);
-    };
-    let name = added.name.copy();
-    if let Err(refusal) = catalog.add_table(added) {
+    match table(rt.alloc(), line) {
+        Ok(added) => {
+            let name = added.name.copy();
+            let outcome = catalog.add_table(added);
+            expect_table(rt, catalog, line, &name, place, outcome)
+        }
+        Err(refusal) => not_so_far(rt, refusal),
+    }
+}
+
+/// Adds the table of a line again where memory was refused to it, and looks at its place.
+fn expect_table(
+    rt: &(impl Abort + AllocGlobal + Print),
+    catalog: &mut Catalog,
+    line: &str,
+    name: &Name,
+    place: usize,
+    outcome: Result<(), Refusal>,
+) -> Result<bool, Fail> {
+    if let Err(refusal) = outcome {
         tell_refused(rt, refusal)?;
-        assert_eq!(rt; catalog.tables().len(), place);
-        assert!(rt; catalog.find_table(&name).is_none());
+        assert_same(rt, catalog.tables().len(), place);
+        assert_that(rt, catalog.find_table(name).is_none());
         catalog.add_table(table(rt.alloc(), line)?)?;
     }
-    assert_eq!(rt; catalog.place_of(&name), Some(place));
+    assert_same(rt, catalog.place_of(name), Some(place));
     Ok(true)
+}
+
+/// Adds the tables, each again where memory is refused.
+fn add_tables_again(
+    rt: &(impl Abort + AllocGlobal + Print),
+    catalog: &mut Catalog,
+) -> Result<(), Fail> {
+    for (place, line) in TABLES.iter().enumerate() {
+        if !add_table_again(rt, catalog, line, place)? {
+            return Ok(());
+        }
+    }
+    Ok(())
 }
 
 #[test]
 fn catalog_table_growths(rt: HostRuntime) -> Result<(), Fail> {
     let mut catalog = Catalog::new(rt.alloc());
-    for (place, line) in TABLES.iter().enumerate() {
-        if !add_table_again(&rt, &mut catalog, line, place)? {
-            return Ok(());
-        }
+    add_tables_again(&rt, &mut catalog)
+}
+
+/// Adds an index of a name on the keys of the table a.
+fn add_index(catalog: &mut Catalog, name: &Name) -> Result<(), Refusal> {
+    match index(name) {
+        Some(index) => catalog.add_index(index),
+        None => Err(Refusal::Syntax),
     }
-    Ok(())
 }
 
 /// Adds an index, again where memory is refused, and looks at the table that has it.
@@ -100,25 +137,36 @@ fn add_index_again(
     catalog: &mut Catalog,
     name: &Name,
 ) -> Result<(), Fail> {
-    if let Err(refusal) = catalog.add_index(index(name).ok_or(NO_NAME)?) {
+    if let Err(refusal) = add_index(catalog, name) {
         tell_refused(rt, refusal)?;
-        assert!(rt; catalog.find_index(name).is_none());
-        catalog.add_index(index(name).ok_or(NO_NAME)?)?;
+        assert_that(rt, catalog.find_index(name).is_none());
+        add_index(catalog, name)?;
     }
-    assert_eq!(rt; catalog.place_with_index(name), Some(0));
+    assert_same(rt, catalog.place_with_index(name), Some(0));
+    Ok(())
+}
+
+/// Adds an index of each name, again where memory is refused.
+fn add_indexes_again(rt: &(impl Abort + Print), catalog: &mut Catalog) -> Result<(), Fail> {
+    for bytes in NAMES {
+        let name = Name::new(bytes).ok_or(NO_NAME)?;
+        add_index_again(rt, catalog, &name)?;
+    }
     Ok(())
 }
 
 #[test]
 fn catalog_index_growths(rt: HostRuntime) -> Result<(), Fail> {
-    let Some(mut catalog) = granted(&rt, catalog(rt.alloc(), &TABLES)) else {
-        return Ok(());
-    };
-    for bytes in NAMES {
-        let name = Name::new(bytes).ok_or(NO_NAME)?;
-        add_index_again(&rt, &mut catalog, &name)?;
+    match catalog(rt.alloc(), &TABLES) {
+        Ok(mut catalog) => add_indexes_again(&rt, &mut catalog),
+        Err(refusal) => end_refused(&rt, refusal),
     }
-    Ok(())
+}
+
+/// Adds a standing query over a table.
+fn add_standing(alloc: Global, catalog: &mut Catalog, name: &Name) -> Result<(), Refusal> {
+    let tables = reading(alloc, catalog, name)?;
+    catalog.add_standing(name.copy(), tables)
 }
 
 /// Adds a standing query over a table, again where memory is refused, and looks at its place. Whether that came so far: not where
@@ -129,31 +177,39 @@ fn add_standing_again(
     name: &Name,
     place: usize,
 ) -> Result<bool, Fail> {
-    let Ok(tables) = reading(rt.alloc(), catalog, name) else {
-        return Ok(false);
+    let outcome = match reading(rt.alloc(), catalog, name) {
+        Ok(tables) => catalog.add_standing(name.copy(), tables),
+        Err(_) => return Ok(false),
     };
-    if let Err(refusal) = catalog.add_standing(name.copy(), tables) {
+    if let Err(refusal) = outcome {
         tell_refused(rt, refusal)?;
-        assert_eq!(rt; catalog.standing().len(), place);
-        let tables = reading(rt.alloc(), catalog, name)?;
-        catalog.add_standing(name.copy(), tables)?;
+        assert_same(rt, catalog.standing().len(), place);
+        add_standing(rt.alloc(), catalog, name)?;
     }
-    assert_eq!(rt; catalog.standing_place_of(name), Some(place));
+    assert_same(rt, catalog.standing_place_of(name), Some(place));
     Ok(true)
 }
 
-#[test]
-fn catalog_standing_growths(rt: HostRuntime) -> Result<(), Fail> {
-    let Some(mut catalog) = granted(&rt, catalog(rt.alloc(), &TABLES)) else {
-        return Ok(());
-    };
+/// Adds a standing query of each name, again where memory is refused.
+fn add_each_standing_again(
+    rt: &(impl Abort + AllocGlobal + Print),
+    catalog: &mut Catalog,
+) -> Result<(), Fail> {
     for (place, bytes) in NAMES.iter().enumerate() {
         let name = Name::new(bytes).ok_or(NO_NAME)?;
-        if !add_standing_again(&rt, &mut catalog, &name, place)? {
+        if !add_standing_again(rt, catalog, &name, place)? {
             return Ok(());
         }
     }
     Ok(())
+}
+
+#[test]
+fn catalog_standing_growths(rt: HostRuntime) -> Result<(), Fail> {
+    match catalog(rt.alloc(), &TABLES) {
+        Ok(mut catalog) => add_each_standing_again(&rt, &mut catalog),
+        Err(refusal) => end_refused(&rt, refusal),
+    }
 }
 
 /// A query of all clauses but DISTINCT.
@@ -189,25 +245,45 @@ fn bind_query_again(
 
 /// Asserts that the query is bound to the tables.
 fn assert_bound(rt: &impl Abort, bound: &BoundQuery) {
-    assert_eq!(rt; bound.fields.as_slice(), FIELDS.as_slice());
-    assert_eq!(rt; bound.order.as_slice(), [1, 0].as_slice());
-    assert_eq!(rt;
-        [bound.from.as_slice().len(), bound.atoms.as_slice().len()],
-        [2, 2]
-    );
+    assert_same(rt, bound.fields.as_slice(), FIELDS.as_slice());
+    assert_same(rt, bound.order.as_slice(), [1, 0].as_slice());
+    let sizes = [bound.from.as_slice().len(), bound.atoms.as_slice().len()];
+    assert_same(rt, sizes, [2, 2]);
+}
+
+/// Binds the query of a command, again where memory is refused, and looks at it.
+fn bind_selected_again(
+    rt: &(impl Abort + AllocGlobal + Print),
+    catalog: &Catalog,
+    command: &Command,
+) -> Result<(), Fail> {
+    let query = selected(command)?;
+    let bound = bind_query_again(rt, catalog, query)?;
+    assert_bound(rt, &bound);
+    Ok(())
+}
+
+/// The same with the query of all clauses but DISTINCT.
+fn bind_the_query_again(
+    rt: &(impl Abort + AllocGlobal + Print),
+    catalog: &Catalog,
+) -> Result<(), Fail> {
+    match command(rt.alloc(), QUERY) {
+        Ok(command) => {
+            let outcome = bind_selected_again(rt, catalog, &command);
+            drop(command);
+            outcome
+        }
+        Err(refusal) => end_refused(rt, refusal),
+    }
 }
 
 #[test]
 fn bind_query_growths(rt: HostRuntime) -> Result<(), Fail> {
-    let Some(catalog) = granted(&rt, catalog(rt.alloc(), &TABLES)) else {
-        return Ok(());
-    };
-    let Some(query) = granted(&rt, query(rt.alloc(), QUERY)) else {
-        return Ok(());
-    };
-    let bound = bind_query_again(&rt, &catalog, &query)?;
-    assert_bound(&rt, &bound);
-    Ok(())
+    match catalog(rt.alloc(), &TABLES) {
+        Ok(catalog) => bind_the_query_again(&rt, &catalog),
+        Err(refusal) => end_refused(&rt, refusal),
+    }
 }
 
 /// Binds a change, again where memory is refused, and looks at the sizes of its lists. Whether that came so far: not where memory was
@@ -219,41 +295,53 @@ fn bind_again(
     expected: [usize; 3],
 ) -> Result<bool, Fail> {
     let alloc = rt.alloc();
-    let Some(mutation) = granted(rt, change(alloc, line)) else {
-        return Ok(false);
+    let outcome = match change(alloc, line) {
+        Ok(mutation) => bind_change(alloc, catalog, mutation),
+        Err(refusal) => return not_so_far(rt, refusal),
     };
-    let bound = match bind_change(alloc, catalog, mutation) {
+    let bound = match outcome {
         Ok(bound) => bound,
         Err(refusal) => {
             tell_refused(rt, refusal)?;
             bind_change(alloc, catalog, change(alloc, line)?)?
         }
     };
-    assert_eq!(rt; sizes_of_bound(&bound), expected);
+    assert_same(rt, sizes_of_bound(&bound), expected);
     Ok(true)
 }
 
-#[test]
-fn bind_change_growths(rt: HostRuntime) -> Result<(), Fail> {
-    let Some(catalog) = granted(&rt, catalog(rt.alloc(), &TABLES)) else {
-        return Ok(());
-    };
-    for (line, expected) in [
-        (
-            "UPDATE b SET s = 'of eighteen bytes.', r = r + 1 WHERE id > 5",
-            [1, 2, 1],
-        ),
-        (
-            "DELETE b WHERE s = 'of eighteen bytes.' AND r = id",
-            [1, 0, 2],
-        ),
-        ("INSERT a (7)", [0, 1, 0]),
-    ] {
-        if !bind_again(&rt, &catalog, line, expected)? {
+/// Changes, with the place of the table that each is bound to, and the sizes of its lists.
+const CHANGES: [(&str, [usize; 3]); 3] = [
+    (
+        "UPDATE b SET s = 'of eighteen bytes.', r = r + 1 WHERE id > 5",
+        [1, 2, 1],
+    ),
+    (
+        "DELETE b WHERE s = 'of eighteen bytes.' AND r = id",
+        [1, 0, 2],
+    ),
+    ("INSERT a (7)", [0, 1, 0]),
+];
+
+/// Binds the changes, each again where memory is refused.
+fn bind_changes_again(
+    rt: &(impl Abort + AllocGlobal + Print),
+    catalog: &Catalog,
+) -> Result<(), Fail> {
+    for (line, expected) in CHANGES {
+        if !bind_again(rt, catalog, line, expected)? {
             return Ok(());
         }
     }
     Ok(())
+}
+
+#[test]
+fn bind_change_growths(rt: HostRuntime) -> Result<(), Fail> {
+    match catalog(rt.alloc(), &TABLES) {
+        Ok(catalog) => bind_changes_again(&rt, &catalog),
+        Err(refusal) => end_refused(&rt, refusal),
+    }
 }
 
 /// Adds the same rows twice, again where memory is refused.
@@ -277,31 +365,68 @@ fn eval_again(
     bound: &BoundQuery,
     lists: &PlainRows,
 ) -> Result<(), Fail> {
-    let found = match plain_eval(rt.alloc(), bound, lists) {
-        Ok(found) => found,
+    match plain_eval(rt.alloc(), bound, lists) {
+        Ok(found) => expect_found(rt, &found),
         Err(refusal) => {
             tell_refused(rt, refusal)?;
-            plain_eval(rt.alloc(), bound, lists)?
+            expect_found(rt, &plain_eval(rt.alloc(), bound, lists)?);
         }
-    };
-    if let Some(told) = granted(rt, text_of_rows(rt.alloc(), &found)) {
-        let expected = b"(1, 3)\n(2, 4)\n(3, 5)\nrows 3\n";
-        assert_eq!(rt; told.as_slice(), expected.as_slice());
     }
     Ok(())
 }
 
+/// Looks at the rows of the query, unless memory is refused to their text.
+fn expect_found(rt: &(impl Abort + AllocGlobal), found: &[Row]) {
+    match text_of_rows(rt.alloc(), found) {
+        Ok(told) => {
+            let expected = b"(1, 3)\n(2, 4)\n(3, 5)\nrows 3\n";
+            assert_same(rt, told.as_slice(), expected.as_slice());
+        }
+        Err(refusal) => expect_memory(rt, refusal),
+    }
+}
+
+/// Adds rows twice and evaluates a query over them.
+fn eval_over(
+    rt: &(impl Abort + AllocGlobal + Print),
+    bound: &BoundQuery,
+    tuples: &RowList,
+) -> Result<(), Fail> {
+    let mut lists = PlainRows::new(rt.alloc());
+    add_twice(rt, &mut lists, tuples)?;
+    eval_again(rt, bound, &lists)
+}
+
+/// The same with the rows of an `INSERT`.
+fn eval_over_tuples(
+    rt: &(impl Abort + AllocGlobal + Print),
+    bound: &BoundQuery,
+    insert: &Command,
+) -> Result<(), Fail> {
+    eval_over(rt, bound, inserted(insert)?)
+}
+
+/// The same with the rows of a line.
+fn eval_over_inserted(
+    rt: &(impl Abort + AllocGlobal + Print),
+    bound: &BoundQuery,
+) -> Result<(), Fail> {
+    match command(rt.alloc(), "INSERT a (1), (2), (3), (4), (5)") {
+        Ok(insert) => {
+            let outcome = eval_over_tuples(rt, bound, &insert);
+            drop(insert);
+            outcome
+        }
+        Err(refusal) => end_refused(rt, refusal),
+    }
+}
+
 #[test]
 fn plain_eval_growths(rt: HostRuntime) -> Result<(), Fail> {
-    let Some(bound) = granted(&rt, bound_query(rt.alloc())) else {
-        return Ok(());
-    };
-    let Some(tuples) = granted(&rt, rows(rt.alloc(), "INSERT a (1), (2), (3), (4), (5)")) else {
-        return Ok(());
-    };
-    let mut lists = PlainRows::new(rt.alloc());
-    add_twice(&rt, &mut lists, &tuples)?;
-    eval_again(&rt, &bound, &lists)
+    match bound_query(rt.alloc()) {
+        Ok(bound) => eval_over_inserted(&rt, &bound),
+        Err(refusal) => end_refused(&rt, refusal),
+    }
 }
 
 #[test]

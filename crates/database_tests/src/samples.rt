@@ -1,4 +1,7 @@
 //! Catalogs, rows and databases that lines make, and what they tell.
+//!
+//! A command, an answer or a database is let go by a call of `drop`, here and in the other modules: that is proved once, where the
+//! end of a scope is proved at each place.
 ghost use Rattle.std.specs.Prelude.{◌≡◌, false, IfOk, pos};
 ghost use Rattle.mm_schema.specs.Standing.{lacks_some_table};
 ghost use Rattle.mm_value.specs.declared.values.Value.TheVariants.{Int};
@@ -29,7 +32,10 @@ pub fn command(alloc: Global, line: &str) -> Result<Command, Refusal> {
 pub fn table(alloc: Global, line: &str) -> Result<TableDef, Refusal> {
     match command(alloc, line)? {
         Command::Define(Definition::Table(table)) => Ok(table),
-        _other => Err(Refusal::Syntax),
+        other => {
+            drop(other);
+            Err(Refusal::Syntax)
+        }
     }
 }
 
@@ -44,8 +50,8 @@ pub fn index(name: &Name) -> Option<IndexDef> {
 }
 
 /// The query of a `SELECT`.
-pub fn query(alloc: Global, line: &str) -> Result<Query, Refusal> {
-    match command(alloc, line)? {
+pub fn selected(command: &Command) -> Result<&Query, Refusal> {
+    match command {
         Command::Select(query) => Ok(query),
         _other => Err(Refusal::Syntax),
     }
@@ -55,14 +61,17 @@ pub fn query(alloc: Global, line: &str) -> Result<Query, Refusal> {
 pub fn change(alloc: Global, line: &str) -> Result<Mutation, Refusal> {
     match command(alloc, line)? {
         Command::Change(mutation) => Ok(mutation),
-        _other => Err(Refusal::Syntax),
+        other => {
+            drop(other);
+            Err(Refusal::Syntax)
+        }
     }
 }
 
 /// The rows of an `INSERT`.
-pub fn rows(alloc: Global, line: &str) -> Result<RowList, Refusal> {
-    match change(alloc, line)? {
-        Mutation::Insert { tuples, .. } => Ok(tuples),
+pub fn inserted(command: &Command) -> Result<&RowList, Refusal> {
+    match command {
+        Command::Change(Mutation::Insert { tuples, .. }) => Ok(tuples),
         _other => Err(Refusal::Syntax),
     }
 }
@@ -70,10 +79,16 @@ pub fn rows(alloc: Global, line: &str) -> Result<RowList, Refusal> {
 /// The catalog of these tables.
 pub fn catalog(alloc: Global, lines: &[&str]) -> Result<Catalog, Refusal> {
     let mut catalog = Catalog::new(alloc);
+    add_tables(alloc, &mut catalog, lines)?;
+    Ok(catalog)
+}
+
+/// Adds tables to a catalog.
+fn add_tables(alloc: Global, catalog: &mut Catalog, lines: &[&str]) -> Result<(), Refusal> {
     for line in lines {
         catalog.add_table(table(alloc, line)?)?;
     }
-    Ok(catalog)
+    Ok(())
 }
 
 /// The tables of a standing query that reads one table. `NoSuchTable` where that is not there.
@@ -91,11 +106,28 @@ pub fn reading(alloc: Global, catalog: &Catalog, table: &Name) -> Result<TableNa
 /// The query of a join of a table of keys with itself, whose result holds each two keys that differ by two.
 pub fn bound_query(alloc: Global) -> Result<BoundQuery, Refusal> {
     let catalog = catalog(alloc, &["TABLE a (id INT KEY)"])?;
-    let query = query(
+    bind_line(
         alloc,
+        &catalog,
         "SELECT x.id, y.id FROM a x, a y WHERE y.id = x.id + 2",
-    )?;
-    bind_query(alloc, &catalog, &query)
+    )
+}
+
+/// Binds the query of a line.
+fn bind_line(alloc: Global, catalog: &Catalog, line: &str) -> Result<BoundQuery, Refusal> {
+    let command = command(alloc, line)?;
+    let bound = bind_selected(alloc, catalog, &command);
+    drop(command);
+    bound
+}
+
+/// Binds the query of a `SELECT`.
+fn bind_selected(
+    alloc: Global,
+    catalog: &Catalog,
+    command: &Command,
+) -> Result<BoundQuery, Refusal> {
+    bind_query(alloc, catalog, selected(command)?)
 }
 
 /// The place of the table of a change, and how many items its lists have.
@@ -122,25 +154,43 @@ pub fn text_of_rows(alloc: Global, rows: &[Row]) -> Result<Vec<u8>, Refusal> {
 
 /// The database to which these lines were given.
 pub fn database(alloc: Global, lines: &[&str]) -> Result<Db, Refusal> {
-    let mut database = Db::new(alloc);
-    give_all(alloc, &mut database, lines)?;
-    Ok(database)
+    opened(alloc, lines, &[])
 }
 
 /// The database to which lines were given, and then others.
 pub fn opened(alloc: Global, lines: &[&str], inside: &[&str]) -> Result<Db, Refusal> {
-    let mut database = database(alloc, lines)?;
-    give_all(alloc, &mut database, inside)?;
-    Ok(database)
+    let mut database = Db::new(alloc);
+    match give_both(alloc, &mut database, lines, inside) {
+        Ok(()) => Ok(database),
+        Err(refusal) => {
+            drop(database);
+            Err(refusal)
+        }
+    }
+}
+
+/// Gives lines to a database, and then others.
+fn give_both(
+    alloc: Global,
+    database: &mut Db,
+    lines: &[&str],
+    inside: &[&str],
+) -> Result<(), Refusal> {
+    give_all(alloc, database, lines)?;
+    give_all(alloc, database, inside)
 }
 
 /// Gives lines to a database.
 fn give_all(alloc: Global, database: &mut Db, lines: &[&str]) -> Result<(), Refusal> {
     for line in lines {
-        let command = command(alloc, line)?;
-        give(alloc, database, command)?;
+        give_line(alloc, database, line)?;
     }
     Ok(())
+}
+
+/// Gives a line that is no question to a database, and tells how many rows it changed.
+pub fn give_line(alloc: Global, database: &mut Db, line: &str) -> Result<usize, Refusal> {
+    give(alloc, database, command(alloc, line)?)
 }
 
 /// Gives a command that is no question to a database, and tells how many rows it changed.
@@ -185,17 +235,37 @@ fn tell(
 ) -> Result<(), Refusal> {
     let zero = Value::Int(0);
     let answer = ask(alloc, database, question, &zero)?;
-    write(&answer, told)
+    let outcome = write(&answer, told);
+    drop(answer);
+    outcome
 }
 
 /// What a database answers to these questions, one behind the other.
 pub fn told(alloc: Global, database: &Db, questions: &[&str]) -> Result<Vec<u8>, Refusal> {
     let mut told = Vec::new(alloc);
-    for question in questions {
-        let question = command(alloc, question)?;
-        tell(alloc, database, &question, &mut told)?;
-    }
+    tell_each(alloc, database, questions, &mut told)?;
     Ok(told)
+}
+
+/// Writes what a database answers to these questions behind what was told.
+fn tell_each(
+    alloc: Global,
+    database: &Db,
+    questions: &[&str],
+    told: &mut Vec<u8>,
+) -> Result<(), Refusal> {
+    for question in questions {
+        tell_line(alloc, database, question, told)?;
+    }
+    Ok(())
+}
+
+/// The same of the question of a line.
+fn tell_line(alloc: Global, database: &Db, line: &str, told: &mut Vec<u8>) -> Result<(), Refusal> {
+    let question = command(alloc, line)?;
+    let outcome = tell(alloc, database, &question, told);
+    drop(question);
+    outcome
 }
 
 /// The text of an answer. `Memory` is the only refusal.

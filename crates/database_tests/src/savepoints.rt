@@ -1,7 +1,8 @@
 //! Growths of memory that are refused in a transaction with savepoints, and to indexes that are made in one.
+use crate::assertions::assert_that;
 use crate::growths::{FILLED, FIRST_EMP, MOVED_EMP, NAMES, NO_NAME, OF_EMP};
 use crate::samples::opened;
-use crate::steps::{give_each, granted, roll_back, tell_refused};
+use crate::steps::{end_refused, give_each, roll_back, tell_refused};
 use mm_schema::Name;
 use mm_txn::Db;
 use mm_value::Refusal;
@@ -18,7 +19,8 @@ const PLAN_AND_ANSWER: [&str; 2] = [
 fn save_again(rt: &(impl Abort + Print), database: &mut Db, name: &Name) -> Result<(), Fail> {
     if let Err(refusal) = database.savepoint(name.copy()) {
         tell_refused(rt, refusal)?;
-        assert!(rt; matches!(database.rollback_to(name), Err(Refusal::NoSuchSavepoint)));
+        let gone = database.rollback_to(name);
+        assert_that(rt, matches!(gone, Err(Refusal::NoSuchSavepoint)));
         database.savepoint(name.copy())?;
     }
     database.rollback_to(name)?;
@@ -36,9 +38,13 @@ fn save_each(rt: &(impl Abort + Print), database: &mut Db) -> Result<(), Fail> {
 
 #[test]
 fn savepoint_growths(rt: HostRuntime) -> Result<(), Fail> {
-    match granted(&rt, opened(rt.alloc(), &FILLED, &["BEGIN", "DELETE emp"])) {
-        Some(mut database) => save_each(&rt, &mut database),
-        None => Ok(()),
+    match opened(rt.alloc(), &FILLED, &["BEGIN", "DELETE emp"]) {
+        Ok(mut database) => {
+            let outcome = save_each(&rt, &mut database);
+            drop(database);
+            outcome
+        }
+        Err(refusal) => end_refused(&rt, refusal),
     }
 }
 

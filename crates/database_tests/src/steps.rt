@@ -2,7 +2,10 @@
 ghost use Rattle.std.specs.Prelude.{◌≡◌, pos};
 ghost use Rattle.mm_value.specs.declared.values.Value.TheVariants.{Int};
 
-use crate::samples::{Answer, ask, command, database, give, opened, sizes, text_of, told};
+use crate::assertions::assert_same;
+use crate::samples::{
+    Answer, ask, command, database, give, give_line, opened, sizes, text_of, told,
+};
 use mm_query::Command;
 use mm_txn::Db;
 use mm_value::{Refusal, Value};
@@ -10,20 +13,26 @@ use std::io;
 use std::process::Abort;
 use std::test::Fail;
 
-/// What was granted; none where memory was refused. No other refusal is due.
-pub fn granted<T>(rt: &impl Abort, outcome: Result<T, Refusal>) -> Option<T> {
-    match outcome {
-        Ok(granted) => Some(granted),
-        Err(refusal) => {
-            assert_eq!(rt; refusal, Refusal::Memory);
-            None
-        }
-    }
+/// Tests that it was memory that was refused.
+pub fn expect_memory(rt: &impl Abort, refusal: Refusal) {
+    assert_same(rt, refusal, Refusal::Memory);
+}
+
+/// Ends a test to whose beginning memory was refused, as passed. No other refusal is due.
+pub fn end_refused(rt: &impl Abort, refusal: Refusal) -> Result<(), Fail> {
+    expect_memory(rt, refusal);
+    Ok(())
+}
+
+/// The same in front of one of its calls, which did not come so far.
+pub fn not_so_far(rt: &impl Abort, refusal: Refusal) -> Result<bool, Fail> {
+    expect_memory(rt, refusal);
+    Ok(false)
 }
 
 /// Tells that memory was refused to a call that is tested. No other refusal is due.
 pub fn tell_refused(rt: &(impl Abort + Print), refusal: Refusal) -> io::Result<()> {
-    assert_eq!(rt; refusal, Refusal::Memory);
+    expect_memory(rt, refusal);
     println!(rt; "refused")
 }
 
@@ -38,14 +47,22 @@ fn read_again(rt: &(impl Abort + AllocGlobal + Print), line: &str) -> Result<Com
     }
 }
 
+/// The sizes of the lists in the command of a line, which is read once more where memory is refused.
+fn sizes_in(rt: &(impl Abort + AllocGlobal + Print), line: &str) -> Result<[usize; 4], Fail> {
+    let command = read_again(rt, line)?;
+    let sizes = sizes(&command);
+    drop(command);
+    Ok(sizes)
+}
+
 /// Reads lines, each once more where memory is refused, and looks at the sizes of the lists in their commands.
 pub fn read_each(
     rt: &(impl Abort + AllocGlobal + Print),
     lines: &[(&str, [usize; 4])],
 ) -> Result<(), Fail> {
     for (line, expected) in lines {
-        let command = read_again(rt, line)?;
-        assert_eq!(rt; sizes(&command), *expected, "at {line}");
+        let found = sizes_in(rt, line)?;
+        assert_eq!(rt; found, *expected, "at {line}");
     }
     Ok(())
 }
@@ -58,26 +75,50 @@ pub fn give_again(
     line: &str,
     questions: &[&str],
 ) -> Result<bool, Fail> {
-    let alloc = rt.alloc();
-    let Some(before) = granted(rt, told(alloc, database, questions)) else {
-        return Ok(false);
+    match told(rt.alloc(), database, questions) {
+        Ok(before) => give_beside(rt, database, line, questions, &before),
+        Err(refusal) => not_so_far(rt, refusal),
+    }
+}
+
+/// The same with what the database told before.
+fn give_beside(
+    rt: &(impl Abort + AllocGlobal + Print),
+    database: &mut Db,
+    line: &str,
+    questions: &[&str],
+    before: &[u8],
+) -> Result<bool, Fail> {
+    let given = match command(rt.alloc(), line) {
+        Ok(given) => give(rt.alloc(), database, given),
+        Err(refusal) => return not_so_far(rt, refusal),
     };
-    let Some(given) = granted(rt, command(alloc, line)) else {
-        return Ok(false);
-    };
-    if let Err(refusal) = give(alloc, database, given) {
+    if let Err(refusal) = given {
         tell_refused(rt, refusal)?;
-        let still = told(alloc, database, questions)?;
-        assert!(rt; still == before, "at {line}");
-        give(alloc, database, command(alloc, line)?)?;
+        look_again(rt, database, line, questions, before)?;
+        give_line(rt.alloc(), database, line)?;
     }
     Ok(true)
 }
 
+/// Tests that a database tells the same as before a line that was refused.
+fn look_again(
+    rt: &(impl Abort + AllocGlobal),
+    database: &Db,
+    line: &str,
+    questions: &[&str],
+    before: &[u8],
+) -> Result<(), Fail> {
+    let still = told(rt.alloc(), database, questions)?;
+    assert!(rt; still.as_slice() == before, "at {line}");
+    Ok(())
+}
+
 /// Looks at what a database tells, unless memory is refused to that.
 pub fn look(rt: &(impl Abort + AllocGlobal), database: &Db, questions: &[&str], expected: &str) {
-    if let Some(told) = granted(rt, told(rt.alloc(), database, questions)) {
-        assert_eq!(rt; told.as_slice(), expected.as_bytes());
+    match told(rt.alloc(), database, questions) {
+        Ok(told) => assert_same(rt, told.as_slice(), expected.as_bytes()),
+        Err(refusal) => expect_memory(rt, refusal),
     }
 }
 
@@ -104,9 +145,13 @@ pub fn give_each(
     questions: &[&str],
     lines: &[(&str, &str)],
 ) -> Result<(), Fail> {
-    match granted(rt, database(rt.alloc(), made_by)) {
-        Some(mut database) => give_all_again(rt, &mut database, questions, lines),
-        None => Ok(()),
+    match database(rt.alloc(), made_by) {
+        Ok(mut database) => {
+            let outcome = give_all_again(rt, &mut database, questions, lines);
+            drop(database);
+            outcome
+        }
+        Err(refusal) => end_refused(rt, refusal),
     }
 }
 
@@ -117,10 +162,11 @@ fn give_once(
     database: &mut Db,
     line: &str,
 ) -> Result<bool, Fail> {
-    let Some(given) = granted(rt, command(rt.alloc(), line)) else {
-        return Ok(false);
+    let given = match command(rt.alloc(), line) {
+        Ok(given) => give(rt.alloc(), database, given),
+        Err(refusal) => return not_so_far(rt, refusal),
     };
-    if let Err(refusal) = give(rt.alloc(), database, given) {
+    if let Err(refusal) = given {
         tell_refused(rt, refusal)?;
     }
     Ok(true)
@@ -137,8 +183,7 @@ fn give_and_roll_back(
     expected: &str,
 ) -> Result<(), Fail> {
     if give_once(rt, database, line)? {
-        let back = command(rt.alloc(), back)?;
-        give(rt.alloc(), database, back)?;
+        give_line(rt.alloc(), database, back)?;
         look(rt, database, questions, expected);
     }
     Ok(())
@@ -154,11 +199,13 @@ pub fn roll_back(
     questions: &[&str],
     expected: &str,
 ) -> Result<(), Fail> {
-    match granted(rt, opened(rt.alloc(), made_by, inside)) {
-        Some(mut database) => {
-            give_and_roll_back(rt, &mut database, line, back, questions, expected)
+    match opened(rt.alloc(), made_by, inside) {
+        Ok(mut database) => {
+            let outcome = give_and_roll_back(rt, &mut database, line, back, questions, expected);
+            drop(database);
+            outcome
         }
-        None => Ok(()),
+        Err(refusal) => end_refused(rt, refusal),
     }
 }
 
@@ -180,26 +227,52 @@ fn ask_again<'s>(
     }
 }
 
-/// What a database answers to a question, which is asked once more where memory is refused; none where it is refused behind the call.
-fn answer_to(
-    rt: &(impl Abort + AllocGlobal + Print),
-    database: &Db,
-    question: &Command,
-) -> Result<Option<Vec<u8>>, Fail> {
-    let zero = Value::Int(0);
-    let answer = ask_again(rt, database, question, &zero)?;
-    Ok(granted(rt, text_of(rt.alloc(), &answer)))
-}
-
-/// The same of the question of a line; none where memory is refused in front of the call, too.
-fn answer(
+/// Asks the question of a line, once more where memory is refused to it, and looks at the answer. Whether that came so far: not where
+/// memory was refused in front of the call, or behind it.
+fn ask_line(
     rt: &(impl Abort + AllocGlobal + Print),
     database: &Db,
     line: &str,
-) -> Result<Option<Vec<u8>>, Fail> {
-    match granted(rt, command(rt.alloc(), line)) {
-        Some(question) => answer_to(rt, database, &question),
-        None => Ok(None),
+    expected: &str,
+) -> Result<bool, Fail> {
+    match command(rt.alloc(), line) {
+        Ok(question) => {
+            let outcome = ask_once_more(rt, database, &question, line, expected);
+            drop(question);
+            outcome
+        }
+        Err(refusal) => not_so_far(rt, refusal),
+    }
+}
+
+/// The same with the question that was read from the line.
+fn ask_once_more(
+    rt: &(impl Abort + AllocGlobal + Print),
+    database: &Db,
+    question: &Command,
+    line: &str,
+    expected: &str,
+) -> Result<bool, Fail> {
+    let zero = Value::Int(0);
+    let answer = ask_again(rt, database, question, &zero)?;
+    let outcome = look_at(rt, &answer, line, expected);
+    drop(answer);
+    outcome
+}
+
+/// Looks at the answer to the question of a line. Whether that came so far: not where memory was refused to its text.
+fn look_at(
+    rt: &(impl Abort + AllocGlobal),
+    answer: &Answer<'_>,
+    line: &str,
+    expected: &str,
+) -> Result<bool, Fail> {
+    match text_of(rt.alloc(), answer) {
+        Ok(told) => {
+            assert_eq!(rt; told.as_slice(), expected.as_bytes(), "at {line}");
+            Ok(true)
+        }
+        Err(refusal) => not_so_far(rt, refusal),
     }
 }
 
@@ -210,10 +283,9 @@ fn ask_all(
     questions: &[(&str, &str)],
 ) -> Result<(), Fail> {
     for (line, expected) in questions {
-        let Some(told) = answer(rt, database, line)? else {
+        if !ask_line(rt, database, line, expected)? {
             return Ok(());
-        };
-        assert_eq!(rt; told.as_slice(), expected.as_bytes(), "at {line}");
+        }
     }
     Ok(())
 }
@@ -224,8 +296,12 @@ pub fn ask_each(
     made_by: &[&str],
     questions: &[(&str, &str)],
 ) -> Result<(), Fail> {
-    match granted(rt, database(rt.alloc(), made_by)) {
-        Some(database) => ask_all(rt, &database, questions),
-        None => Ok(()),
+    match database(rt.alloc(), made_by) {
+        Ok(database) => {
+            let outcome = ask_all(rt, &database, questions);
+            drop(database);
+            outcome
+        }
+        Err(refusal) => end_refused(rt, refusal),
     }
 }

@@ -1,4 +1,5 @@
 //! Queries evaluated row by row.
+use crate::assertions::{assert_same, assert_that};
 use crate::samples::{catalog, field, number, put, query, text, with_atom};
 use mm_query::{
     BoundQuery, Comparison, FieldName, Operand, PlainRows, Query, bind_query, plain_eval,
@@ -67,13 +68,29 @@ fn number_in(row: &Row, column: usize) -> Option<i64> {
     }
 }
 
+/// Tests that a row has these whole numbers in its first two columns.
+fn expect_row(rt: &impl Abort, row: &Row, first: i64, second: Option<i64>) {
+    assert_same(rt, number_in(row, 0), Some(first));
+    assert_same(rt, number_in(row, 1), second);
+}
+
 /// Tests that the rows are these, of one or two whole numbers.
 fn expect_rows(rt: &impl Abort, rows: &[Row], expected: &[(i64, Option<i64>)]) {
-    assert_eq!(rt; rows.len(), expected.len());
+    assert_same(rt, rows.len(), expected.len());
     for (row, (first, second)) in rows.iter().zip(expected) {
-        assert_eq!(rt; number_in(row, 0), Some(*first));
-        assert_eq!(rt; number_in(row, 1), *second);
+        expect_row(rt, row, *first, *second);
     }
+}
+
+/// Tests the bag of a query over the rows of one table or of two.
+fn expect_found(
+    rt: &(impl Abort + AllocGlobal),
+    query: &Query,
+    first: &[Row],
+    second: Option<&[Row]>,
+    expected: &[(i64, Option<i64>)],
+) {
+    expect_rows(rt, &found(rt, query, first, second), expected);
 }
 
 /// The query where the field `a.k` compares so with another.
@@ -86,24 +103,25 @@ fn asked(
     with_atom(rt, query, field(rt, b"a", b"k"), comparison, right)
 }
 
-#[test]
-fn joins_a_table_with_itself(rt: HostRuntime) {
-    let rows = pairs(&rt, &[(1, 5), (2, 5)]);
-    let twice = query(
-        &rt,
+/// The query of each two rows of a table that have the same k.
+fn twice(rt: &(impl Abort + AllocGlobal)) -> Query {
+    let pairs = query(
+        rt,
         &[(b"t", b"a"), (b"t", b"b")],
         &[(b"a", b"id"), (b"b", b"id")],
     );
-    let twice = asked(
+    let other = Operand::Column(field(rt, b"b", b"k"));
+    asked(rt, pairs, Comparison::Equal, other)
+}
+
+#[test]
+fn joins_a_table_with_itself(rt: HostRuntime) {
+    let rows = pairs(&rt, &[(1, 5), (2, 5)]);
+    expect_found(
         &rt,
-        twice,
-        Comparison::Equal,
-        Operand::Column(field(&rt, b"b", b"k")),
-    );
-    let found = found(&rt, &twice, &rows, Some(rows.as_slice()));
-    expect_rows(
-        &rt,
-        &found,
+        &twice(&rt),
+        &rows,
+        Some(rows.as_slice()),
         &[(1, Some(1)), (1, Some(2)), (2, Some(1)), (2, Some(2))],
     );
 }
@@ -114,70 +132,116 @@ fn adds_shifts_without_bound(rt: HostRuntime) {
     let all = query(&rt, &[(b"t", b"a")], &[(b"a", b"id")]);
     let more = Operand::Shifted(field(&rt, b"a", b"k"), 1);
     let all = asked(&rt, all, Comparison::Less, more);
-    expect_rows(&rt, &found(&rt, &all, &rows, None), &[(1, None), (2, None)]);
+    expect_found(&rt, &all, &rows, None, &[(1, None), (2, None)]);
+}
+
+/// The query of the keys of each row of t and each of u.
+fn both(rt: &(impl Abort + AllocGlobal)) -> Query {
+    query(
+        rt,
+        &[(b"t", b"a"), (b"u", b"b")],
+        &[(b"a", b"id"), (b"b", b"id")],
+    )
+}
+
+/// The field v of u.
+fn v(rt: &impl Abort) -> Operand<FieldName> {
+    Operand::Column(field(rt, b"b", b"v"))
+}
+
+/// The keys of the rows of t and u whose k and v are 7.
+const SEVENS: [(i64, Option<i64>); 6] = [
+    (1, Some(1)),
+    (1, Some(2)),
+    (2, Some(1)),
+    (2, Some(2)),
+    (3, Some(1)),
+    (3, Some(2)),
+];
+
+fn joins_by_equal(rt: &(impl Abort + AllocGlobal), t: &[Row], u: &[Row]) {
+    let equal = asked(rt, both(rt), Comparison::Equal, v(rt));
+    expect_found(rt, &equal, t, Some(u), &SEVENS);
+    expect_found(rt, &equal, t, Some(&[]), &[]);
+}
+
+fn joins_by_bounds(rt: &(impl Abort + AllocGlobal), t: &[Row], u: &[Row]) {
+    let bounds = asked(rt, both(rt), Comparison::LessOrEqual, v(rt));
+    let bounds = asked(rt, bounds, Comparison::GreaterOrEqual, v(rt));
+    expect_found(rt, &bounds, t, Some(u), &SEVENS);
 }
 
 #[test]
 fn joins_by_equal_and_by_bounds(rt: HostRuntime) {
     let t = pairs(&rt, &[(1, 7), (2, 7), (3, 7), (4, 8)]);
     let u = pairs(&rt, &[(1, 7), (2, 7)]);
-    let expected = [
-        (1, Some(1)),
-        (1, Some(2)),
-        (2, Some(1)),
-        (2, Some(2)),
-        (3, Some(1)),
-        (3, Some(2)),
-    ];
-    let v = || Operand::Column(field(&rt, b"b", b"v"));
-    let both = || query(
-        &rt,
-        &[(b"t", b"a"), (b"u", b"b")],
-        &[(b"a", b"id"), (b"b", b"id")],
+    joins_by_equal(&rt, &t, &u);
+    joins_by_bounds(&rt, &t, &u);
+}
+
+/// The query of the rows of t whose key is greater by nine than the key 1 of u.
+fn nine_more(rt: &(impl Abort + AllocGlobal)) -> Query {
+    let both = query(rt, &[(b"u", b"b"), (b"t", b"a")], &[(b"a", b"id")]);
+    let nine_more = Operand::Shifted(field(rt, b"b", b"id"), 9);
+    let both = with_atom(
+        rt,
+        both,
+        field(rt, b"a", b"id"),
+        Comparison::Equal,
+        nine_more,
     );
-    let equal = asked(&rt, both(), Comparison::Equal, v());
-    expect_rows(&rt, &found(&rt, &equal, &t, Some(u.as_slice())), &expected);
-    let bounds = asked(&rt, both(), Comparison::LessOrEqual, v());
-    let bounds = asked(&rt, bounds, Comparison::GreaterOrEqual, v());
-    expect_rows(&rt, &found(&rt, &bounds, &t, Some(u.as_slice())), &expected);
-    expect_rows(&rt, &found(&rt, &equal, &t, Some(&[])), &[]);
+    with_atom(
+        rt,
+        both,
+        field(rt, b"b", b"id"),
+        Comparison::Equal,
+        number(1),
+    )
 }
 
 #[test]
 fn joins_by_a_shift(rt: HostRuntime) {
     let dept = pairs(&rt, &[(1, 0), (2, 0)]);
     let emp = pairs(&rt, &[(10, 2), (11, 2), (12, 1)]);
-    let both = query(&rt, &[(b"u", b"b"), (b"t", b"a")], &[(b"a", b"id")]);
-    let id = field(&rt, b"a", b"id");
-    let nine_more = Operand::Shifted(field(&rt, b"b", b"id"), 9);
-    let both = with_atom(&rt, both, id, Comparison::Equal, nine_more);
-    let one = with_atom(
+    expect_found(
         &rt,
-        both,
-        field(&rt, b"b", b"id"),
-        Comparison::Equal,
-        number(1),
-    );
-    expect_rows(
-        &rt,
-        &found(&rt, &one, &dept, Some(emp.as_slice())),
+        &nine_more(&rt),
+        &dept,
+        Some(emp.as_slice()),
         &[(10, None)],
+    );
+}
+
+/// The row of s with the key 1, of 3 and a text.
+fn row_with_text(rt: &(impl Abort + AllocGlobal)) -> Row {
+    let mut values = Vec::new(rt.alloc());
+    put(rt, &mut values, Value::Int(1));
+    put(rt, &mut values, Value::Int(3));
+    put(rt, &mut values, text(rt, b"b"));
+    Row::new(values)
+}
+
+/// The rows that the query of the texts and keys of the rows whose k is 3 finds among these.
+fn found_with_three(rt: &(impl Abort + AllocGlobal), rows: &[Row]) -> Vec<Row> {
+    let all = query(rt, &[(b"s", b"a")], &[(b"a", b"s"), (b"a", b"id")]);
+    let one = asked(rt, all, Comparison::Equal, number(3));
+    found(rt, &one, rows, None)
+}
+
+/// Tests that a row has the text and then the key 1.
+fn expect_text(rt: &impl Abort, row: &Row) {
+    assert_same(rt, number_in(row, 1), Some(1));
+    let shown = row.values().first().expect(rt, "a value");
+    assert_that(
+        rt,
+        matches!(shown, Value::Text(text) if text.bytes() == b"b".as_slice()),
     );
 }
 
 #[test]
 fn gives_texts(rt: HostRuntime) {
-    let mut values = Vec::new(rt.alloc());
-    put(&rt, &mut values, Value::Int(1));
-    put(&rt, &mut values, Value::Int(3));
-    put(&rt, &mut values, text(&rt, b"b"));
     let mut rows = Vec::new(rt.alloc());
-    put(&rt, &mut rows, Row::new(values));
-    let one = query(&rt, &[(b"s", b"a")], &[(b"a", b"s"), (b"a", b"id")]);
-    let one = asked(&rt, one, Comparison::Equal, number(3));
-    let found = found(&rt, &one, &rows, None);
-    let row = found.first().expect(&rt, "a row");
-    assert_eq!(rt; number_in(row, 1), Some(1));
-    let shown = row.values().first().expect(&rt, "a value");
-    assert!(rt; matches!(shown, Value::Text(text) if text.bytes() == b"b".as_slice()));
+    put(&rt, &mut rows, row_with_text(&rt));
+    let found = found_with_three(&rt, &rows);
+    expect_text(&rt, found.first().expect(&rt, "a row"));
 }

@@ -1,12 +1,14 @@
 //! What lines read as.
+use crate::assertions::assert_same;
 use mm_lang::parse;
 use mm_query::Command;
 use mm_schema::Name;
 use mm_value::Refusal;
+use std::process::Abort;
 use std::test::Fail;
 
 /// The name of the savepoint that a command makes or goes back to, and whether it goes back.
-fn savepoint_of(command: Command) -> Option<(Name, bool)> {
+fn savepoint_of(command: &Command) -> Option<(&Name, bool)> {
     match command {
         Command::Savepoint(name) => Some((name, false)),
         Command::RollbackTo(name) => Some((name, true)),
@@ -14,35 +16,57 @@ fn savepoint_of(command: Command) -> Option<(Name, bool)> {
     }
 }
 
-#[test]
-fn savepoints_have_names(rt: HostRuntime) -> Result<(), Fail> {
-    for (line, name, goes_back) in [
-        (b"SAVEPOINT s".as_slice(), b"s".as_slice(), false),
-        (b"\tSAVEPOINT  to ", b"to", false),
-        (b"ROLLBACK TO s", b"s", true),
-        (b" ROLLBACK\tTO  savepoint", b"savepoint", true),
-    ] {
-        let command = parse(rt.alloc(), line)?;
-        let (found, back) = savepoint_of(command).ok_or("no savepoint")?;
-        assert_eq!(rt; found.bytes(), name);
-        assert_eq!(rt; back, goes_back, "at {line:?}");
-    }
+/// Tests that the command of a line makes the savepoint of a name, or goes back to it.
+fn expect_savepoint(
+    rt: &impl Abort,
+    command: &Command,
+    line: &[u8],
+    name: &[u8],
+    goes_back: bool,
+) -> Result<(), Fail> {
+    let (found, back) = savepoint_of(command).ok_or("no savepoint")?;
+    assert_same(rt, found.bytes(), name);
+    assert_eq!(rt; back, goes_back, "at {line:?}");
     Ok(())
 }
 
+/// Tests the same of the line.
+fn expect_savepoint_of(
+    rt: &(impl Abort + AllocGlobal),
+    line: &[u8],
+    name: &[u8],
+    goes_back: bool,
+) -> Result<(), Fail> {
+    let command = parse(rt.alloc(), line)?;
+    let outcome = expect_savepoint(rt, &command, line, name, goes_back);
+    // A call lets it go, which is proved once.
+    drop(command);
+    outcome
+}
+
 #[test]
-fn savepoints_without_a_name_are_no_commands(rt: HostRuntime) -> Result<(), Fail> {
-    for line in [
-        b"SAVEPOINT".as_slice(),
-        b"SAVEPOINT S",
-        b"SAVEPOINT TO",
-        b"ROLLBACK TO",
-        b"ROLLBACK TO TO",
-        b"ROLLBACK s",
-        b"TO s",
-    ] {
-        let read = parse(rt.alloc(), line);
-        assert!(rt; matches!(read, Err(Refusal::Syntax)), "at {line:?}");
-    }
-    Ok(())
+fn savepoints_have_names(rt: HostRuntime) -> Result<(), Fail> {
+    expect_savepoint_of(&rt, b"SAVEPOINT s", b"s", false)?;
+    expect_savepoint_of(&rt, b"\tSAVEPOINT  to ", b"to", false)?;
+    expect_savepoint_of(&rt, b"ROLLBACK TO s", b"s", true)?;
+    expect_savepoint_of(&rt, b" ROLLBACK\tTO  savepoint", b"savepoint", true)
+}
+
+/// Tests that a line is no command.
+fn expect_no_command(rt: &(impl Abort + AllocGlobal), line: &[u8]) {
+    let read = parse(rt.alloc(), line);
+    let is_refused = matches!(read, Err(Refusal::Syntax));
+    drop(read);
+    assert!(rt; is_refused, "at {line:?}");
+}
+
+#[test]
+fn savepoints_without_a_name_are_no_commands(rt: HostRuntime) {
+    expect_no_command(&rt, b"SAVEPOINT");
+    expect_no_command(&rt, b"SAVEPOINT S");
+    expect_no_command(&rt, b"SAVEPOINT TO");
+    expect_no_command(&rt, b"ROLLBACK TO");
+    expect_no_command(&rt, b"ROLLBACK TO TO");
+    expect_no_command(&rt, b"ROLLBACK s");
+    expect_no_command(&rt, b"TO s");
 }

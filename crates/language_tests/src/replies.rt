@@ -1,8 +1,10 @@
 //! Replies as they are written.
+use crate::assertions::{assert_same, assert_that};
 use mm_lang::{write_reply, write_rows};
 use mm_query::{Reply, RowList};
 use mm_value::{Refusal, Row, Value, Watched};
 use std::alloc::{AllocError, Global};
+use std::process::Abort;
 use std::test::Fail;
 
 fn two_rows(alloc: Global) -> Result<RowList, AllocError> {
@@ -11,38 +13,48 @@ fn two_rows(alloc: Global) -> Result<RowList, AllocError> {
     Ok(RowList::new(vec![in alloc; first, second]?))
 }
 
+/// Tests what a reply is written as.
+fn expect_written(rt: &(impl Abort + AllocGlobal), reply: &Reply, text: &str) -> Result<(), Fail> {
+    let mut written: Vec<u8> = Vec::new(rt.alloc());
+    write_reply(reply, &mut Watched::new(&mut written))?;
+    assert_same(rt, written.as_slice(), text.as_bytes());
+    Ok(())
+}
+
+/// Tests the same of a reply that is given away.
+fn expect_text(rt: &(impl Abort + AllocGlobal), reply: Reply, text: &str) -> Result<(), Fail> {
+    let outcome = expect_written(rt, &reply, text);
+    // A call lets it go, which is proved once.
+    drop(reply);
+    outcome
+}
+
 #[test]
 fn writes_each_reply(rt: HostRuntime) -> Result<(), Fail> {
-    let alloc = rt.alloc();
-    let cases = [
-        (Reply::Done, "ok\n"),
-        (Reply::Count(2), "ok 2\n"),
-        (Reply::Rows(two_rows(alloc)?), "(1, 5)\n(2, 5)\nrows 2\n"),
-        (Reply::Rows(RowList::new(Vec::new(alloc))), "rows 0\n"),
-        (
-            Reply::Refused(Refusal::DuplicateKey),
-            "error 40 duplicate key\n",
-        ),
-        (
-            Reply::Refused(Refusal::NoSuchSavepoint),
-            "error 53 no such savepoint\n",
-        ),
-    ];
-    for (reply, text) in &cases {
-        let mut written: Vec<u8> = Vec::new(alloc);
-        write_reply(reply, &mut Watched::new(&mut written))?;
-        assert_eq!(rt; written.as_slice(), text.as_bytes());
-    }
-    Ok(())
+    expect_text(&rt, Reply::Done, "ok\n")?;
+    expect_text(&rt, Reply::Count(2), "ok 2\n")?;
+    let rows = two_rows(rt.alloc())?;
+    expect_text(&rt, Reply::Rows(rows), "(1, 5)\n(2, 5)\nrows 2\n")?;
+    let no_rows = RowList::new(Vec::new(rt.alloc()));
+    expect_text(&rt, Reply::Rows(no_rows), "rows 0\n")?;
+    let refused = Reply::Refused(Refusal::DuplicateKey);
+    expect_text(&rt, refused, "error 40 duplicate key\n")?;
+    let refused = Reply::Refused(Refusal::NoSuchSavepoint);
+    expect_text(&rt, refused, "error 53 no such savepoint\n")
+}
+
+/// Tests that rows are written up to the end of a device of four bytes.
+fn expect_stop(rt: &impl Abort, rows: &[Row]) {
+    let mut room = [0; 4];
+    let mut writer = Watched::new(&mut room[..]);
+    assert_that(rt, write_rows(rows, &mut writer).is_err());
+    assert_that(rt, writer.failed());
+    assert_same(rt, room.as_slice(), b"(1, ".as_slice());
 }
 
 #[test]
 fn stops_at_a_full_device(rt: HostRuntime) -> Result<(), Fail> {
     let rows = two_rows(rt.alloc())?;
-    let mut room = [0; 4];
-    let mut writer = Watched::new(&mut room[..]);
-    assert!(rt; write_rows(rows.as_slice(), &mut writer).is_err());
-    assert!(rt; writer.failed());
-    assert_eq!(rt; room.as_slice(), b"(1, ".as_slice());
+    expect_stop(&rt, rows.as_slice());
     Ok(())
 }

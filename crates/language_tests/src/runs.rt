@@ -1,10 +1,12 @@
 //! What no clause says: worked runs with their replies, devices that fail or take little, and that ample memory is
 //! never refused.
+use crate::assertions::{assert_same, assert_that};
 use mm_value::Watched;
 use mmdb_core::{Limits, MAX_MAX_INPUT, RunFault, Totals, exit_status, run};
 use std::alloc::Global;
 use std::io;
 use std::io::{Read, Write};
+use std::process::Abort;
 use std::test::Fail;
 
 // Gives at most `step` bytes a call, and after the last one an error where it `breaks`.
@@ -132,6 +134,14 @@ impl Ran {
             Err(_) => false,
         }
     }
+
+    fn failed_reading(&self) -> bool {
+        matches!(self.ended, Err(RunFault::Read))
+    }
+
+    fn failed_writing(&self) -> bool {
+        matches!(self.ended, Err(RunFault::Write))
+    }
 }
 
 // A run whose writer takes as many bytes a call as its reader gives.
@@ -156,47 +166,62 @@ fn run_input(alloc: Global, left: &[u8], step: usize, max_input: u64) -> Option<
     run_source(alloc, Source { left, step, breaks }, WHOLE, max_input)
 }
 
+// Inputs with their replies, how many lines each has, and how many of them are refused.
+const ANSWERED: [(&[u8], &[u8], u64, u64); 6] = [
+    (b"", b"", 0, 0),
+    (
+        b"TABLE t (id INT KEY, k INT)\nINSERT t (2, 5), (1, 5)\nSCAN t\n",
+        b"ok\nok 2\n(1, 5)\n(2, 5)\nrows 2\n",
+        3,
+        0,
+    ),
+    (
+        b"TABLE t (id INT KEY)\nINSERT t (2)\nINSERT t (1), (2)\nSCAN t\n",
+        b"ok\nok 1\nerror 40 duplicate key\n(2)\nrows 1\n",
+        4,
+        1,
+    ),
+    (
+        b"TABLE t (id INT KEY)\nTABLE u (k INT, id INT KEY)\nINSERT u (1, 9), (2, 8)\nSCAN u\nSCAN t\n",
+        b"ok\nok\nok 2\n(2, 8)\n(1, 9)\nrows 2\nrows 0\n",
+        5,
+        0,
+    ),
+    (
+        b"TABLE t (id INT KEY)\nBEGIN\nSAVEPOINT s\nINSERT t (1)\nROLLBACK TO s\nROLLBACK TO z\nSCAN t\n",
+        b"ok\nok\nok\nok 1\nok\nerror 53 no such savepoint\nrows 0\n",
+        7,
+        1,
+    ),
+    (
+        b"TABLE t (id INT KEY)\r\nSCAN t\x00\n\n-- x\nSCAN t",
+        b"ok\nerror 11 syntax\nrows 0\n",
+        5,
+        1,
+    ),
+];
+
+// Tests what a run of an input writes and counts.
+fn expect_answers(
+    rt: &(impl Abort + AllocGlobal),
+    input: &[u8],
+    step: usize,
+    replies: &[u8],
+    lines: u64,
+    refused: u64,
+) -> Result<(), Fail> {
+    let ran = run_input(rt.alloc(), input, step, MAX_MAX_INPUT).ok_or(NO_RUN)?;
+    assert!(rt; ran.wrote(replies), "at {input:?}");
+    assert!(rt; ran.counted(lines, refused), "at {input:?}");
+    assert_same(rt, exit_status(&ran.ended), 0);
+    Ok(())
+}
+
 #[test]
 fn each_line_is_answered(rt: HostRuntime) -> Result<(), Fail> {
-    for (input, replies, lines, refused) in [
-        (b"".as_slice(), b"".as_slice(), 0, 0),
-        (
-            b"TABLE t (id INT KEY, k INT)\nINSERT t (2, 5), (1, 5)\nSCAN t\n",
-            b"ok\nok 2\n(1, 5)\n(2, 5)\nrows 2\n",
-            3,
-            0,
-        ),
-        (
-            b"TABLE t (id INT KEY)\nINSERT t (2)\nINSERT t (1), (2)\nSCAN t\n",
-            b"ok\nok 1\nerror 40 duplicate key\n(2)\nrows 1\n",
-            4,
-            1,
-        ),
-        (
-            b"TABLE t (id INT KEY)\nTABLE u (k INT, id INT KEY)\nINSERT u (1, 9), (2, 8)\nSCAN u\nSCAN t\n",
-            b"ok\nok\nok 2\n(2, 8)\n(1, 9)\nrows 2\nrows 0\n",
-            5,
-            0,
-        ),
-        (
-            b"TABLE t (id INT KEY)\nBEGIN\nSAVEPOINT s\nINSERT t (1)\nROLLBACK TO s\nROLLBACK TO z\nSCAN t\n",
-            b"ok\nok\nok\nok 1\nok\nerror 53 no such savepoint\nrows 0\n",
-            7,
-            1,
-        ),
-        (
-            b"TABLE t (id INT KEY)\r\nSCAN t\x00\n\n-- x\nSCAN t",
-            b"ok\nerror 11 syntax\nrows 0\n",
-            5,
-            1,
-        ),
-    ] {
-        for step in [1, WHOLE] {
-            let ran = run_input(rt.alloc(), input, step, MAX_MAX_INPUT).ok_or(NO_RUN)?;
-            assert!(rt; ran.wrote(replies), "at {input:?}");
-            assert!(rt; ran.counted(lines, refused), "at {input:?}");
-            assert_eq!(rt; exit_status(&ran.ended), 0);
-        }
+    for (input, replies, lines, refused) in ANSWERED {
+        expect_answers(&rt, input, 1, replies, lines, refused)?;
+        expect_answers(&rt, input, WHOLE, replies, lines, refused)?;
     }
     Ok(())
 }
@@ -206,30 +231,54 @@ fn each_reply_is_flushed(rt: HostRuntime) -> Result<(), Fail> {
     let input = b"TABLE t (id INT KEY)\nINSERT t (2), (1)\n\nSCAN t\nSCAN u\n";
     for step in [1, WHOLE] {
         let ran = run_input(rt.alloc(), input, step, 1_000).ok_or(NO_RUN)?;
-        assert!(rt; ran.flushed_each_of(4));
+        assert_that(&rt, ran.flushed_each_of(4));
     }
     Ok(())
 }
 
+// Fills an input with a first line of so many blanks and an end, and a line that makes a table.
+fn fill(input: &mut Vec<u8>, blanks: usize, end: &[u8]) -> Result<(), Fail> {
+    input.resize(blanks, b' ')?;
+    input.extend_from_slice(end)?;
+    input.extend_from_slice(b"TABLE t (id INT KEY)\n")?;
+    Ok(())
+}
+
+// Tests what a run of an input with a line of so many blanks writes and counts.
+fn expect_long_line(
+    rt: &(impl Abort + AllocGlobal),
+    input: &[u8],
+    step: usize,
+    blanks: usize,
+    refused: u64,
+    replies: &[u8],
+) -> Result<(), Fail> {
+    let ran = run_input(rt.alloc(), input, step, 30_000).ok_or(NO_RUN)?;
+    assert!(rt; ran.wrote(replies), "at {blanks}");
+    assert!(rt; ran.counted(2, refused), "at {blanks}");
+    Ok(())
+}
+
+// Tests the same of a line of so many blanks and an end.
+fn expect_long_line_with(
+    rt: &(impl Abort + AllocGlobal),
+    blanks: usize,
+    end: &[u8],
+    refused: u64,
+    replies: &[u8],
+) -> Result<(), Fail> {
+    let mut input = Vec::new(rt.alloc());
+    fill(&mut input, blanks, end)?;
+    expect_long_line(rt, &input, 1, blanks, refused, replies)?;
+    expect_long_line(rt, &input, WHOLE, blanks, refused, replies)
+}
+
 #[test]
 fn long_lines_are_refused(rt: HostRuntime) -> Result<(), Fail> {
-    let alloc = rt.alloc();
-    for (blanks, end, refused, replies) in [
-        (4096, b"\r\n".as_slice(), 0, b"ok\n".as_slice()),
-        (4097, b"\n", 1, b"error 10 line too long\nok\n"),
-        (20_000, b"SCAN t\r\n", 1, b"error 10 line too long\nok\n"),
-    ] {
-        let mut input = Vec::new(alloc);
-        input.resize(blanks, b' ')?;
-        input.extend_from_slice(end)?;
-        input.extend_from_slice(b"TABLE t (id INT KEY)\n")?;
-        for step in [1, WHOLE] {
-            let ran = run_input(alloc, &input, step, 30_000).ok_or(NO_RUN)?;
-            assert!(rt; ran.wrote(replies), "at {blanks}");
-            assert!(rt; ran.counted(2, refused), "at {blanks}");
-        }
-    }
-    Ok(())
+    let refusal = b"error 10 line too long\nok\n";
+    expect_long_line_with(&rt, 4096, b"\r\n", 0, b"ok\n")?;
+    expect_long_line_with(&rt, 4097, b"\n", 1, refusal)?;
+    expect_long_line_with(&rt, 20_000, b"SCAN t\r\n", 1, refusal)
 }
 
 #[test]
@@ -241,9 +290,9 @@ fn a_failed_writer_ends_a_run(rt: HostRuntime) -> Result<(), Fail> {
             breaks: false,
         };
         let ran = run_source(rt.alloc(), source, 4, 1_000).ok_or(NO_RUN)?;
-        assert!(rt; ran.wrote(b"ok\no"));
-        assert!(rt; matches!(ran.ended, Err(RunFault::Write)));
-        assert_eq!(rt; exit_status(&ran.ended), 2);
+        assert_that(&rt, ran.wrote(b"ok\no"));
+        assert_that(&rt, ran.failed_writing());
+        assert_same(&rt, exit_status(&ran.ended), 2);
     }
     Ok(())
 }
@@ -257,11 +306,11 @@ fn a_failed_reader_ends_a_run(rt: HostRuntime) -> Result<(), Fail> {
             breaks: true,
         };
         let ran = run_source(rt.alloc(), source, WHOLE, 1_000).ok_or(NO_RUN)?;
-        assert!(rt; ran.wrote(b"error 20 no such table\nerror 11 syntax\n"));
+        assert_that(&rt, ran.wrote(b"error 20 no such table\nerror 11 syntax\n"));
         // So both were answered and flushed before the call that failed.
-        assert!(rt; ran.flushed_each_of(2));
-        assert!(rt; matches!(ran.ended, Err(RunFault::Read)));
-        assert_eq!(rt; exit_status(&ran.ended), 2);
+        assert_that(&rt, ran.flushed_each_of(2));
+        assert_that(&rt, ran.failed_reading());
+        assert_same(&rt, exit_status(&ran.ended), 2);
     }
     Ok(())
 }
@@ -271,44 +320,65 @@ const SCRIPT: &[u8] = b"TABLE t (id INT KEY)\nINSERT t (2), (1)\nSCAN t\n";
 
 const OUTPUT: &[u8] = b"ok\nok 2\n(1)\n(2)\nrows 2\n";
 
+// The replies to the whole lines in so many bytes of the script.
+fn replies_to(given: usize) -> &'static [u8] {
+    match given {
+        0..=20 => b"",
+        21..=38 => b"ok\n",
+        39..=45 => b"ok\nok 2\n",
+        _ => OUTPUT,
+    }
+}
+
+// Tests a run whose reader fails behind so many bytes of the script.
+fn expect_read_fault(
+    rt: &(impl Abort + AllocGlobal),
+    given: usize,
+    step: usize,
+) -> Result<(), Fail> {
+    let left = SCRIPT.get(..given).ok_or("too far")?;
+    let breaks = true;
+    let source = Source { left, step, breaks };
+    let ran = run_source(rt.alloc(), source, WHOLE, 1_000).ok_or(NO_RUN)?;
+    assert!(rt; ran.wrote(replies_to(given)), "at {given}");
+    assert!(rt; ran.failed_reading(), "at {given}");
+    assert_same(rt, exit_status(&ran.ended), 2);
+    Ok(())
+}
+
 #[test]
 fn a_read_fault_leaves_the_replies_of_whole_lines(rt: HostRuntime) -> Result<(), Fail> {
     for given in 0..=46 {
-        let replies = match given {
-            0..=20 => b"".as_slice(),
-            21..=38 => b"ok\n",
-            39..=45 => b"ok\nok 2\n",
-            _ => OUTPUT,
-        };
-        let left = SCRIPT.get(..given).ok_or("too far")?;
-        for step in [1, WHOLE] {
-            let breaks = true;
-            let source = Source { left, step, breaks };
-            let ran = run_source(rt.alloc(), source, WHOLE, 1_000).ok_or(NO_RUN)?;
-            assert!(rt; ran.wrote(replies), "at {given}");
-            assert!(rt; matches!(ran.ended, Err(RunFault::Read)), "at {given}");
-            assert_eq!(rt; exit_status(&ran.ended), 2);
-        }
+        expect_read_fault(&rt, given, 1)?;
+        expect_read_fault(&rt, given, WHOLE)?;
     }
+    Ok(())
+}
+
+// Tests a run whose writer fails behind so many bytes of the output.
+fn expect_write_fault(
+    rt: &(impl Abort + AllocGlobal),
+    room: usize,
+    step: usize,
+) -> Result<(), Fail> {
+    let front = OUTPUT.get(..room).ok_or("too far")?;
+    let source = Source {
+        left: SCRIPT,
+        step,
+        breaks: false,
+    };
+    let ran = run_source(rt.alloc(), source, room, 1_000).ok_or(NO_RUN)?;
+    assert!(rt; ran.wrote(front), "at {room}");
+    assert!(rt; ran.failed_writing(), "at {room}");
+    assert_same(rt, exit_status(&ran.ended), 2);
     Ok(())
 }
 
 #[test]
 fn a_write_fault_leaves_a_front_of_the_replies(rt: HostRuntime) -> Result<(), Fail> {
     for room in 0..23 {
-        let front = OUTPUT.get(..room).ok_or("too far")?;
-        for step in [1, WHOLE] {
-            let breaks = false;
-            let source = Source {
-                left: SCRIPT,
-                step,
-                breaks,
-            };
-            let ran = run_source(rt.alloc(), source, room, 1_000).ok_or(NO_RUN)?;
-            assert!(rt; ran.wrote(front), "at {room}");
-            assert!(rt; matches!(ran.ended, Err(RunFault::Write)), "at {room}");
-            assert_eq!(rt; exit_status(&ran.ended), 2);
-        }
+        expect_write_fault(&rt, room, 1)?;
+        expect_write_fault(&rt, room, WHOLE)?;
     }
     Ok(())
 }
@@ -327,8 +397,8 @@ fn a_writer_that_takes_nothing_ends_a_run(rt: HostRuntime) -> Result<(), Fail> {
     let mut reader = Watched::new(SCRIPT);
     let mut writer = Watched::new(&mut sink);
     let ended = run(rt.alloc(), &mut reader, &mut writer, limits);
-    assert!(rt; matches!(ended, Err(RunFault::Write)));
-    assert_eq!(rt; sink.taken.as_slice(), b"ok\no".as_slice());
+    assert_that(&rt, matches!(ended, Err(RunFault::Write)));
+    assert_same(&rt, sink.taken.as_slice(), b"ok\no".as_slice());
     Ok(())
 }
 
@@ -349,34 +419,71 @@ fn run_interrupted(alloc: Global, reads: u32, writes: u32, flushes: u32) -> Opti
     Some(Ran { ended, sink })
 }
 
+// Tests that sixteen interrupts in a row of each call change nothing.
+fn expect_borne(rt: &(impl Abort + AllocGlobal)) -> Result<(), Fail> {
+    let borne = run_interrupted(rt.alloc(), 16, 16, 16).ok_or(NO_RUN)?;
+    assert_that(rt, borne.wrote(OUTPUT));
+    assert_that(rt, borne.counted(3, 0));
+    Ok(())
+}
+
+// Tests that seventeen interrupts in a row of a read end a run.
+fn expect_unread(rt: &(impl Abort + AllocGlobal)) -> Result<(), Fail> {
+    let unread = run_interrupted(rt.alloc(), 17, 0, 0).ok_or(NO_RUN)?;
+    assert_that(rt, unread.wrote(b""));
+    assert_that(rt, unread.failed_reading());
+    Ok(())
+}
+
+// Tests that so many interrupts in a row of writes and of flushes end a run behind these replies.
+fn expect_unwritten(
+    rt: &(impl Abort + AllocGlobal),
+    writes: u32,
+    flushes: u32,
+    replies: &[u8],
+) -> Result<(), Fail> {
+    let unwritten = run_interrupted(rt.alloc(), 0, writes, flushes).ok_or(NO_RUN)?;
+    assert_that(rt, unwritten.wrote(replies));
+    assert_that(rt, unwritten.failed_writing());
+    Ok(())
+}
+
 #[test]
 fn interrupted_calls_are_made_again(rt: HostRuntime) -> Result<(), Fail> {
-    let borne = run_interrupted(rt.alloc(), 16, 16, 16).ok_or(NO_RUN)?;
-    assert!(rt; borne.wrote(OUTPUT));
-    assert!(rt; borne.counted(3, 0));
-    let unread = run_interrupted(rt.alloc(), 17, 0, 0).ok_or(NO_RUN)?;
-    assert!(rt; unread.wrote(b""));
-    assert!(rt; matches!(unread.ended, Err(RunFault::Read)));
-    let unwritten = run_interrupted(rt.alloc(), 0, 17, 0).ok_or(NO_RUN)?;
-    assert!(rt; unwritten.wrote(b""));
-    assert!(rt; matches!(unwritten.ended, Err(RunFault::Write)));
-    let unflushed = run_interrupted(rt.alloc(), 0, 0, 17).ok_or(NO_RUN)?;
-    assert!(rt; unflushed.wrote(b"ok\n"));
-    assert!(rt; matches!(unflushed.ended, Err(RunFault::Write)));
+    expect_borne(&rt)?;
+    expect_unread(&rt)?;
+    expect_unwritten(&rt, 17, 0, b"")?;
+    expect_unwritten(&rt, 0, 17, b"ok\n")
+}
+
+// Two lines of 7 bytes each, which are refused.
+const TWO_SCANS: &[u8] = b"SCAN t\nSCAN t\n";
+
+// Tests that a limit between two lines ends a run.
+fn expect_cut(rt: &(impl Abort + AllocGlobal), step: usize) -> Result<(), Fail> {
+    let cut = run_input(rt.alloc(), TWO_SCANS, step, 10).ok_or(NO_RUN)?;
+    assert_that(rt, cut.wrote(b"error 20 no such table\n"));
+    assert_that(rt, matches!(cut.ended, Err(RunFault::TooLong)));
+    assert_same(rt, exit_status(&cut.ended), 3);
+    Ok(())
+}
+
+// Tests that a limit at the end of an input does not end a run.
+fn expect_whole(rt: &(impl Abort + AllocGlobal), step: usize) -> Result<(), Fail> {
+    let whole = run_input(rt.alloc(), TWO_SCANS, step, 14).ok_or(NO_RUN)?;
+    assert_that(
+        rt,
+        whole.wrote(b"error 20 no such table\nerror 20 no such table\n"),
+    );
+    assert_that(rt, whole.counted(2, 2));
     Ok(())
 }
 
 #[test]
 fn a_limit_ends_a_run(rt: HostRuntime) -> Result<(), Fail> {
-    let input = b"SCAN t\nSCAN t\n";
     for step in [1, WHOLE] {
-        let cut = run_input(rt.alloc(), input, step, 10).ok_or(NO_RUN)?;
-        assert!(rt; cut.wrote(b"error 20 no such table\n"));
-        assert!(rt; matches!(cut.ended, Err(RunFault::TooLong)));
-        assert_eq!(rt; exit_status(&cut.ended), 3);
-        let whole = run_input(rt.alloc(), input, step, 14).ok_or(NO_RUN)?;
-        assert!(rt; whole.wrote(b"error 20 no such table\nerror 20 no such table\n"));
-        assert!(rt; whole.counted(2, 2));
+        expect_cut(&rt, step)?;
+        expect_whole(&rt, step)?;
     }
     Ok(())
 }
@@ -384,7 +491,7 @@ fn a_limit_ends_a_run(rt: HostRuntime) -> Result<(), Fail> {
 #[test]
 fn limits_have_a_bound(rt: HostRuntime) -> Result<(), Fail> {
     let most = Limits::new(1_099_511_627_776).ok_or(NO_RUN)?;
-    assert_eq!(rt; most.max_input(), MAX_MAX_INPUT);
-    assert!(rt; Limits::new(1_099_511_627_777).is_none());
+    assert_same(&rt, most.max_input(), MAX_MAX_INPUT);
+    assert_that(&rt, Limits::new(1_099_511_627_777).is_none());
     Ok(())
 }

@@ -1,4 +1,5 @@
 //! Tables and queries for tests.
+use crate::assertions::assert_same;
 use crate::put_again::put_again;
 use mm_query::{Atom, Comparison, FieldName, FromItem, ItemList, Operand, Query};
 use mm_schema::{Catalog, Column, Columns, Name, Role, TableDef};
@@ -39,7 +40,7 @@ fn add(
     columns: &[(&[u8], ColType)],
 ) {
     if let Err(refusal) = catalog.add_table(table(rt, bytes, columns)) {
-        assert_eq!(rt; refusal, Refusal::Memory);
+        assert_same(rt, refusal, Refusal::Memory);
         let _ = catalog
             .add_table(table(rt, bytes, columns))
             .ok()

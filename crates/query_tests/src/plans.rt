@@ -75,6 +75,11 @@ pub fn line(method: Method) -> Result<PlanLine, Fail> {
     })
 }
 
+/// The lines of a plan of two tables.
+pub fn lines(first: Method, second: Method) -> Result<[PlanLine; 2], Fail> {
+    Ok([line(first)?, line(second)?])
+}
+
 /// The atom that compares a column with a number.
 pub fn compared(column: FieldPlace, comparison: Comparison, number: i64) -> Atom<FieldPlace> {
     Atom {

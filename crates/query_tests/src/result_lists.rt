@@ -4,11 +4,13 @@ ghost use Rattle.mm_value.specs.declared.values.Value.TheVariants.{Int};
 ghost use Rattle.mm_templist.specs.Combos.{AreLive};
 ghost use Rattle.mm_templist.specs.Results.{result_rows};
 
+use crate::assertions::{assert_same, assert_that};
 use mm_query::FieldPlace;
 use mm_store::{Meter, Store};
 use mm_templist::{Descriptor, ShownRows, TempList};
-use mm_value::{RowRef, Value, compare};
+use mm_value::{Refusal, RowRef, Value, compare};
 use std::alloc::{AllocError, Global};
+use std::process::Abort;
 use std::test::Fail;
 
 /// Adds a combination, for which memory may be refused once.
@@ -49,6 +51,26 @@ fn at(slot: u8) -> RowRef
     RowRef { part: 0, slot }
 }
 
+/// Looks at both combinations of a list, and at its tables and fields.
+fn are_both(rt: &impl Abort, list: &TempList) {
+    assert_same(rt, list.len(), 2);
+    assert_same(rt, list.combo(0), [at(1), at(2)].as_slice());
+    assert_same(rt, list.combo(1), [at(3), at(4)].as_slice());
+    assert_same(rt, list.descriptor().tables, [0, 1].as_slice());
+    assert_same(rt, list.descriptor().fields.len(), 1);
+}
+
+/// Adds two combinations to a list of none, and looks at both.
+fn keeps_both(rt: &impl Abort, list: &mut TempList) -> Result<(), Fail>
+    requires { length list.old.tables ≡ 2 }
+{
+    assert_same(rt, list.len(), 0);
+    push(list, &[at(1)], at(2))?;
+    push(list, &[at(3)], at(4))?;
+    are_both(rt, list);
+    Ok(())
+}
+
 #[test]
 fn keeps_combinations_in_their_order(rt: HostRuntime) -> Result<(), Fail> {
     let descriptor = Descriptor {
@@ -59,14 +81,35 @@ fn keeps_combinations_in_their_order(rt: HostRuntime) -> Result<(), Fail> {
         }],
     };
     let mut list = TempList::new(rt.alloc(), descriptor);
-    assert_eq!(rt; list.len(), 0);
-    push(&mut list, &[at(1)], at(2))?;
-    push(&mut list, &[at(3)], at(4))?;
-    assert_eq!(rt; list.len(), 2);
-    assert_eq!(rt; list.combo(0), [at(1), at(2)].as_slice());
-    assert_eq!(rt; list.combo(1), [at(3), at(4)].as_slice());
-    assert_eq!(rt; list.descriptor().tables, [0, 1].as_slice());
-    assert_eq!(rt; list.descriptor().fields.len(), 1);
+    keeps_both(&rt, &mut list)
+}
+
+/// How many rows of the result are copied, for which memory may be refused once.
+fn copied(
+    list: &TempList,
+    alloc: Global,
+    store: &Store,
+    meter: &mut Meter,
+) -> Result<usize, Refusal>
+    requires { All (AreLive store.now list.now.tables) list.now.combos }
+{
+    let rows = match list.project_sorted(alloc, store, meter, true, &[0]) {
+        Ok(rows) => rows,
+        Err(_) => list.project_sorted(alloc, store, meter, true, &[0])?,
+    };
+    Ok(rows.len())
+}
+
+/// Copies and shows the rows of a list of no combinations, for which none is read.
+fn shows_none(rt: &impl Abort, list: &TempList, alloc: Global, store: &Store) -> Result<(), Fail>
+    requires { All (AreLive store.now list.now.tables) list.now.combos }
+{
+    let mut meter = Meter::new();
+    assert_same(rt, copied(list, alloc, store, &mut meter)?, 0);
+    let zero = Value::Int(0);
+    let shown = show(list, alloc, store, &mut meter, true, &zero)?;
+    assert_same(rt, shown.len(), 0);
+    assert_same(rt, meter.reads(), 0);
     Ok(())
 }
 
@@ -74,22 +117,25 @@ fn keeps_combinations_in_their_order(rt: HostRuntime) -> Result<(), Fail> {
 fn shows_no_rows_of_no_combinations(rt: HostRuntime) -> Result<(), Fail> {
     let alloc = rt.alloc();
     let store = Store::new(alloc);
-    let mut meter = Meter::new();
     let descriptor = Descriptor {
         tables: &[0],
         fields: &[],
     };
     let list = TempList::new(alloc, descriptor);
-    let rows = list.project_sorted(alloc, &store, &mut meter, true, &[0]);
-    let rows = match rows {
-        Ok(rows) => rows,
-        Err(_) => list.project_sorted(alloc, &store, &mut meter, true, &[0])?,
-    };
-    assert_eq!(rt; rows.len(), 0);
+    shows_none(&rt, &list, alloc, &store)
+}
+
+/// Shows the one row of a list, of which the one value is 0.
+fn shows_0(rt: &impl Abort, list: &TempList, alloc: Global, store: &Store) -> Result<(), Fail>
+    requires { All (AreLive store.now list.now.tables) list.now.combos }
+{
+    let mut meter = Meter::new();
     let zero = Value::Int(0);
-    let shown = show(&list, alloc, &store, &mut meter, true, &zero)?;
-    assert_eq!(rt; shown.len(), 0);
-    assert_eq!(rt; meter.reads(), 0);
+    let shown = show(list, alloc, store, &mut meter, false, &zero)?;
+    assert_same(rt, shown.len(), 1);
+    let row = shown.row(0);
+    assert_same(rt, row.len(), 1);
+    assert_that(rt, compare(row[0], &zero).is_eq());
     Ok(())
 }
 
@@ -97,17 +143,10 @@ fn shows_no_rows_of_no_combinations(rt: HostRuntime) -> Result<(), Fail> {
 fn shows_0_where_no_row_is_there(rt: HostRuntime) -> Result<(), Fail> {
     let alloc = rt.alloc();
     let store = Store::new(alloc);
-    let mut meter = Meter::new();
     let fields = [FieldPlace {
         place: 0,
         column: 0,
     }];
     let list = TempList::unit(alloc, &fields);
-    let zero = Value::Int(0);
-    let shown = show(&list, alloc, &store, &mut meter, false, &zero)?;
-    assert_eq!(rt; shown.len(), 1);
-    let row = shown.row(0);
-    assert_eq!(rt; row.len(), 1);
-    assert!(rt; compare(row[0], &zero).is_eq());
-    Ok(())
+    shows_0(&rt, &list, alloc, &store)
 }

@@ -1,9 +1,11 @@
 //! Cycles of worked examples.
+use crate::assertions::{assert_same, assert_that};
 use crate::samples::{atom, between, field, is_ann, lower, never, query, row, text};
-use mm_query::{BoundQuery, Comparison, Operand};
+use mm_query::{Atom, BoundQuery, Comparison, FieldPlace, Operand};
 use mm_relevance::{CycleEdge, check_cycle, irrelevant};
 use mm_value::{Refusal, Row, Value};
-use std::alloc::Global;
+use std::alloc::{AllocError, Global};
+use std::process::Abort;
 use std::test::Fail;
 
 /// Whether the cycle of a row of this value at the first place has just these edges. Of no edges, whether there is no cycle.
@@ -20,13 +22,25 @@ fn has_edges(
     }
 }
 
+/// Looks for the cycles of rows of two numbers. That of the first is to have these edges, and the second to have no cycle.
+fn first_alone_has_edges(
+    rt: &impl Abort,
+    alloc: Global,
+    query: &BoundQuery,
+    first: i64,
+    second: i64,
+    wanted: &[CycleEdge],
+) -> Result<(), Fail> {
+    assert_that(rt, has_edges(alloc, query, Value::Int(first), wanted)?);
+    assert_that(rt, has_edges(alloc, query, Value::Int(second), &[])?);
+    Ok(())
+}
+
 #[test]
 fn no_value_lies_between_4_and_5(rt: HostRuntime) -> Result<(), Fail> {
     let alloc = rt.alloc();
     let query = between(alloc)?;
-    assert!(rt; has_edges(alloc, &query, Value::Int(4), &[lower(0), lower(1)])?);
-    assert!(rt; has_edges(alloc, &query, Value::Int(3), &[])?);
-    Ok(())
+    first_alone_has_edges(&rt, alloc, &query, 4, 3, &[lower(0), lower(1)])
 }
 
 /// Whether the cycle of one row is accepted for it and for another row.
@@ -51,7 +65,7 @@ fn a_cycle_is_accepted_for_its_row_alone(rt: HostRuntime) -> Result<(), Fail> {
     let query = between(alloc)?;
     let far = row(alloc, 1, Value::Int(4))?;
     let near = row(alloc, 2, Value::Int(3))?;
-    assert_eq!(rt; is_accepted(alloc, &query, &far, &near)?, (true, false));
+    assert_same(&rt, is_accepted(alloc, &query, &far, &near)?, (true, false));
     Ok(())
 }
 
@@ -59,7 +73,10 @@ fn a_cycle_is_accepted_for_its_row_alone(rt: HostRuntime) -> Result<(), Fail> {
 fn no_row_fits_a_query_that_nothing_fits(rt: HostRuntime) -> Result<(), Fail> {
     let alloc = rt.alloc();
     let query = never(alloc)?;
-    assert!(rt; has_edges(alloc, &query, Value::Int(4), &[lower(0), lower(1)])?);
+    assert_that(
+        &rt,
+        has_edges(alloc, &query, Value::Int(4), &[lower(0), lower(1)])?,
+    );
     Ok(())
 }
 
@@ -75,29 +92,45 @@ fn below_5(alloc: Global) -> Result<BoundQuery, Refusal> {
 fn a_constant_is_compared_with_the_row(rt: HostRuntime) -> Result<(), Fail> {
     let alloc = rt.alloc();
     let query = below_5(alloc)?;
-    assert!(rt; has_edges(alloc, &query, Value::Int(7), &[lower(0)])?);
-    assert!(rt; has_edges(alloc, &query, Value::Int(4), &[])?);
-    Ok(())
+    first_alone_has_edges(&rt, alloc, &query, 7, 4, &[lower(0)])
 }
 
 #[test]
 fn a_text_is_compared_with_the_row(rt: HostRuntime) -> Result<(), Fail> {
     let alloc = rt.alloc();
     let query = is_ann(alloc)?;
-    assert!(rt; has_edges(alloc, &query, text(alloc, b"bob")?, &[lower(0)])?);
-    assert!(rt; has_edges(alloc, &query, text(alloc, b"ann")?, &[])?);
+    assert_that(
+        &rt,
+        has_edges(alloc, &query, text(alloc, b"bob")?, &[lower(0)])?,
+    );
+    assert_that(&rt, has_edges(alloc, &query, text(alloc, b"ann")?, &[])?);
     Ok(())
+}
+
+/// Adds the equality of a column and the sum of another one and a number.
+fn add_equality(
+    atoms: &mut Vec<Atom<FieldPlace>>,
+    column: usize,
+    other: usize,
+    number: i64,
+) -> Result<(), AllocError> {
+    let sum = Operand::Shifted(field(1, other), number);
+    atoms.push(atom(field(1, column), Comparison::Equal, sum))?;
+    Ok(())
+}
+
+/// Adds the equalities of a ring.
+fn add_ring(atoms: &mut Vec<Atom<FieldPlace>>, back: i64) -> Result<(), AllocError> {
+    for column in 0..15 {
+        add_equality(atoms, column, column + 1, 1)?;
+    }
+    add_equality(atoms, 15, 0, back)
 }
 
 /// `b.c0 = b.c1 + 1 AND b.c1 = b.c2 + 1 AND .. AND b.c14 = b.c15 + 1 AND b.c15 = b.c0 + back`
 fn ring(alloc: Global, back: i64) -> Result<BoundQuery, Refusal> {
     let mut atoms = Vec::new(alloc);
-    for column in 0..15 {
-        let next = Operand::Shifted(field(1, column + 1), 1);
-        atoms.push(atom(field(1, column), Comparison::Equal, next))?;
-    }
-    let first = Operand::Shifted(field(1, 0), back);
-    atoms.push(atom(field(1, 15), Comparison::Equal, first))?;
+    add_ring(&mut atoms, back)?;
     query(alloc, 2, atoms)
 }
 
@@ -116,8 +149,8 @@ fn a_ring_of_sixteen_equalities_holds_where_its_numbers_come_back(
     rt: HostRuntime,
 ) -> Result<(), Fail> {
     let alloc = rt.alloc();
-    assert_eq!(rt; edges_in_ring(alloc, -16, 4)?, Some(16));
-    assert_eq!(rt; edges_in_ring(alloc, -15, 4)?, None);
-    assert_eq!(rt; edges_in_ring(alloc, -14, 4)?, Some(16));
+    assert_same(&rt, edges_in_ring(alloc, -16, 4)?, Some(16));
+    assert_same(&rt, edges_in_ring(alloc, -15, 4)?, None);
+    assert_same(&rt, edges_in_ring(alloc, -14, 4)?, Some(16));
     Ok(())
 }

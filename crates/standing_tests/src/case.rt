@@ -1,5 +1,6 @@
 //! Two tables with the lists of standing queries over them.
-ghost use Rattle.std.specs.Prelude.{◌≡◌, ◌<◌, ◌≤◌, All, length, true, OnOk};
+ghost use Rattle.std.specs.Prelude.{◌≡◌, ◌<◌, ◌≤◌, All, [], length, true, OnOk};
+ghost use Rattle.mm_store.specs.Tables.{rows_at};
 ghost use Rattle.standing_tests.specs.Cases.{is_unshifted};
 
 use crate::samples::are_shown;
@@ -154,12 +155,9 @@ impl Case {
         query: BoundQuery,
     ) -> Result<(), Refusal> {
         let tables = vec![in alloc; 0, 1]?;
-        refuse(&query, tables.as_slice())?;
+        self.refuse_elsewhere(other, &query, tables.as_slice())?;
         self.mark = START;
         settle(&mut self.store, &mut self.undo, &mut self.standing);
-        if !is_first_empty(&self.store) || !is_first_empty(&other.store) {
-            return Err(Refusal::NotInTransaction);
-        }
         watch(
             alloc,
             &self.store,
@@ -169,6 +167,27 @@ impl Case {
             query,
             tables,
         )
+    }
+
+    /// Refuses a query that is not for the tables of a case at these places, and any unless the first table is empty in both cases.
+    fn refuse_elsewhere(
+        &self,
+        other: &Case,
+        query: &BoundQuery,
+        tables: &[usize],
+    ) -> Result<(), Refusal>
+        ensures there { OnOk result (All (λ table. table < 2) tables.now) }
+        ensures few { OnOk result (length tables.now ≤ 4) }
+        ensures whole { OnOk result (length tables.now ≡ length query.now.from) }
+        ensures unshifted { OnOk result (is_unshifted query.now ≡ true) }
+        ensures empty { OnOk result (rows_at self.now.tables 0 ≡ []) }
+        ensures empty_there { OnOk result (rows_at other.now.tables 0 ≡ []) }
+    {
+        refuse(query, tables)?;
+        if !is_first_empty(&self.store) || !is_first_empty(&other.store) {
+            return Err(Refusal::NotInTransaction);
+        }
+        Ok(())
     }
 
     /// How many rows were read when the last change was prepared.

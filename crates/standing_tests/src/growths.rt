@@ -3,19 +3,22 @@
 //!
 //! A run refuses one growth. Where that is one in front of the call or behind it a test ends, since other runs refuse those of the
 //! call.
+use crate::assertions::{assert_same, assert_that};
 use crate::case::Case;
-use crate::samples::{is_row_of, key, numbers_compare, pairs, row};
-use crate::three_lists::{is_as_sampled, sample};
+use crate::samples::{is_row_of, joined, row};
+use crate::three_lists::{is_as_sampled, sample, watch_joined};
 use mm_delta::{Counted, Signed};
-use mm_query::{BoundQuery, Comparison};
+use mm_query::BoundQuery;
 use mm_value::{Refusal, Row};
 use std::alloc::Global;
 use std::io;
 use std::process::Abort;
 use std::test::Fail;
 
-/// Tells that a call was refused memory and is given again. A run that refuses growths looks for the line.
-fn asked_again(rt: &impl Print) -> io::Result<()> {
+/// Asserts that it was memory that a call was refused, and tells that the call is given again. A run that refuses growths looks for
+/// the line.
+fn asked_again(rt: &(impl Abort + Print), refusal: Refusal) -> io::Result<()> {
+    assert_same(rt, refusal, Refusal::Memory);
     rt.println("refused")
 }
 
@@ -25,40 +28,24 @@ fn assert_unchanged(
     case: &Case,
     refusal: Refusal,
 ) -> Result<(), Fail> {
-    asked_again(rt)?;
-    assert_eq!(rt; refusal, Refusal::Memory);
-    assert!(rt; is_as_sampled(case, rt.alloc())?);
+    asked_again(rt, refusal)?;
+    assert_that(rt, is_as_sampled(case, rt.alloc())?);
     Ok(())
 }
 
 /// Asserts that a list shows just these rows, unless memory is refused.
 fn look(rt: &(impl Abort + AllocGlobal), case: &Case, place: usize, rows: &[&[i64]]) {
     if let Ok(is_shown) = case.shows(rt.alloc(), place, rows) {
-        assert!(rt; is_shown);
+        assert_that(rt, is_shown);
     }
-}
-
-/// The pairs of keys of rows with the same number, of the first table and of the second.
-fn joined(alloc: Global) -> Result<BoundQuery, Refusal> {
-    pairs(
-        alloc,
-        [key(0), key(1)],
-        [numbers_compare(Comparison::Equal)],
-    )
-}
-
-/// Keeps those pairs as a standing query.
-fn watch_joined(case: &mut Case, alloc: Global) -> Result<(), Refusal> {
-    let tables = vec![in alloc; 0, 1]?;
-    case.watch(alloc, joined(alloc)?, tables)
 }
 
 /// Keeps a standing query, again where memory is refused, and looks at its list.
 fn watch_again(rt: &(impl Abort + AllocGlobal + Print), case: &mut Case) -> Result<(), Fail> {
-    if let Err(refusal) = watch_joined(case, rt.alloc()) {
+    if let Err(refusal) = watch_joined(case, rt.alloc(), [0, 1]) {
         assert_unchanged(rt, case, refusal)?;
-        assert!(rt; case.count(3).is_err());
-        watch_joined(case, rt.alloc())?;
+        assert_that(rt, case.count(3).is_err());
+        watch_joined(case, rt.alloc(), [0, 1])?;
     }
     look(rt, case, 3, &[&[1, 1], &[2, 1]]);
     Ok(())
@@ -79,7 +66,7 @@ fn prepare_again(rt: &(impl Abort + AllocGlobal + Print), case: &mut Case) -> Re
         case.prepare_and_drop(rt.alloc(), 0, 3, 5)?;
     }
     if let Ok(is_shown) = is_as_sampled(case, rt.alloc()) {
-        assert!(rt; is_shown);
+        assert_that(rt, is_shown);
     }
     Ok(())
 }
@@ -114,11 +101,10 @@ fn change_growths(rt: HostRuntime) -> Result<(), Fail> {
 fn look_again(rt: &(impl Abort + AllocGlobal + Print), case: &Case) -> Result<(), Fail> {
     let rows: &[&[i64]] = &[&[1, 1], &[2, 1]];
     match case.shows(rt.alloc(), 0, rows) {
-        Ok(is_shown) => assert!(rt; is_shown),
+        Ok(is_shown) => assert_that(rt, is_shown),
         Err(refusal) => {
-            asked_again(rt)?;
-            assert_eq!(rt; refusal, Refusal::Memory);
-            assert!(rt; case.shows(rt.alloc(), 0, rows)?);
+            asked_again(rt, refusal)?;
+            assert_that(rt, case.shows(rt.alloc(), 0, rows)?);
         }
     }
     Ok(())
@@ -140,30 +126,34 @@ fn is_one_more(changes: &[Signed], numbers: &[i64]) -> bool {
     }
 }
 
-/// The changes that an addition makes, asked for again where memory is refused.
+/// Whether an addition changes the count of one row alone, by 1.
+fn adds_one_row(case: &Case, alloc: Global, query: &BoundQuery) -> Result<bool, Refusal> {
+    let changes = case.changes_of(alloc, query, &[0, 1], 0, 3, 5)?;
+    Ok(is_one_more(changes.as_slice(), &[3, 1]))
+}
+
+/// Asserts what an addition changes of the count of each row, asked for again where memory is refused.
 fn changes_again(
     rt: &(impl Abort + AllocGlobal + Print),
     case: &Case,
     query: &BoundQuery,
-) -> Result<Vec<Signed>, Fail> {
-    match case.changes_of(rt.alloc(), query, &[0, 1], 0, 3, 5) {
-        Ok(changes) => Ok(changes),
+) -> Result<(), Fail> {
+    match adds_one_row(case, rt.alloc(), query) {
+        Ok(is_one) => assert_that(rt, is_one),
         Err(refusal) => {
-            asked_again(rt)?;
-            assert_eq!(rt; refusal, Refusal::Memory);
-            Ok(case.changes_of(rt.alloc(), query, &[0, 1], 0, 3, 5)?)
+            asked_again(rt, refusal)?;
+            assert_that(rt, adds_one_row(case, rt.alloc(), query)?);
         }
     }
+    Ok(())
 }
 
-/// Asserts what an addition changes of the count of each row.
+/// Asserts the same of the pairs of keys of rows with the same number.
 fn find_changes(rt: &(impl Abort + AllocGlobal + Print), case: &Case) -> Result<(), Fail> {
     let Ok(query) = joined(rt.alloc()) else {
         return Ok(());
     };
-    let changes = changes_again(rt, case, &query)?;
-    assert!(rt; is_one_more(changes.as_slice(), &[3, 1]));
-    Ok(())
+    changes_again(rt, case, &query)
 }
 
 #[test]
@@ -174,46 +164,66 @@ fn delta_growths(rt: HostRuntime) -> Result<(), Fail> {
     find_changes(&rt, &case)
 }
 
+/// Counts the row of a key and a number up.
+fn count_row(bag: &mut Counted, alloc: Global, key: i64, number: i64) -> Result<(), Refusal> {
+    bag.count_up(row(alloc, key, number)?)
+}
+
+/// Counts a row of a key up once, and one of another key twice.
+fn count_rows(bag: &mut Counted, alloc: Global) -> Result<(), Refusal> {
+    count_row(bag, alloc, 1, 5)?;
+    count_row(bag, alloc, 2, 5)?;
+    count_row(bag, alloc, 2, 5)
+}
+
 /// A bag with a row of a key once and one of another key twice.
 fn bag(alloc: Global) -> Result<Counted, Refusal> {
     let mut bag = Counted::new(alloc);
-    bag.count_up(row(alloc, 1, 5)?)?;
-    bag.count_up(row(alloc, 2, 5)?)?;
-    bag.count_up(row(alloc, 2, 5)?)?;
+    count_rows(&mut bag, alloc)?;
     Ok(bag)
+}
+
+/// Counts a new row up in an empty bag, again where memory is refused.
+fn count_again(
+    rt: &(impl Abort + AllocGlobal + Print),
+    bag: &mut Counted,
+    new: Row,
+) -> Result<(), Fail> {
+    if let Err(refusal) = bag.count_up(new) {
+        asked_again(rt, refusal)?;
+        assert_same(rt, (bag.len(), bag.total()), (0, 0));
+        assert_that(rt, count_row(bag, rt.alloc(), 3, 7).is_ok());
+    }
+    assert_same(rt, (bag.len(), bag.total()), (1, 1));
+    Ok(())
 }
 
 #[test]
 fn count_up_growths(rt: HostRuntime) -> Result<(), Fail> {
-    let alloc = rt.alloc();
-    let mut bag = Counted::new(alloc);
-    let Ok(new) = row(alloc, 3, 7) else {
-        return Ok(());
-    };
-    if let Err(refusal) = bag.count_up(new) {
-        asked_again(&rt)?;
-        assert_eq!(rt; refusal, Refusal::Memory);
-        assert_eq!(rt; (bag.len(), bag.total()), (0, 0));
-        assert!(rt; bag.count_up(row(alloc, 3, 7)?).is_ok());
+    let mut bag = Counted::new(rt.alloc());
+    match row(rt.alloc(), 3, 7) {
+        Ok(new) => count_again(&rt, &mut bag, new),
+        Err(_) => Ok(()),
     }
-    assert_eq!(rt; (bag.len(), bag.total()), (1, 1));
+}
+
+/// Reserves room in a bag of two rows and three counts, again where memory is refused.
+fn reserve_again(rt: &(impl Abort + Print), bag: &mut Counted) -> Result<(), Fail> {
+    if let Err(refusal) = bag.reserve(100) {
+        asked_again(rt, refusal)?;
+        assert_same(rt, (bag.len(), bag.total()), (2, 3));
+        assert_that(rt, bag.reserve(100).is_ok());
+    }
+    assert_same(rt, (bag.len(), bag.total()), (2, 3));
     Ok(())
 }
 
 #[test]
 fn reserve_growths(rt: HostRuntime) -> Result<(), Fail> {
-    let alloc = rt.alloc();
-    let Ok(mut bag) = bag(alloc) else {
+    let Ok(mut bag) = bag(rt.alloc()) else {
         return Ok(());
     };
-    if let Err(refusal) = bag.reserve(100) {
-        asked_again(&rt)?;
-        assert_eq!(rt; refusal, Refusal::Memory);
-        assert_eq!(rt; (bag.len(), bag.total()), (2, 3));
-        assert!(rt; bag.reserve(100).is_ok());
-    }
-    assert_eq!(rt; (bag.len(), bag.total()), (2, 3));
-    Ok(())
+    reserve_again(&rt, &mut bag)
 }
 
 /// Whether these are three rows of these numbers.
@@ -226,20 +236,28 @@ fn are_rows(rows: &[Row], numbers: [[i64; 2]; 3]) -> bool {
     }
 }
 
-#[test]
-fn counted_rows_growths(rt: HostRuntime) -> Result<(), Fail> {
-    let alloc = rt.alloc();
-    let Ok(bag) = bag(alloc) else {
-        return Ok(());
-    };
-    match bag.list(alloc) {
-        Ok(rows) => assert!(rt; are_rows(rows.as_slice(), [[1, 5], [2, 5], [2, 5]])),
+/// Whether a bag lists its row of one key once and that of the other key twice.
+fn lists_rows(bag: &Counted, alloc: Global) -> Result<bool, Refusal> {
+    let rows = bag.list(alloc)?;
+    Ok(are_rows(rows.as_slice(), [[1, 5], [2, 5], [2, 5]]))
+}
+
+/// Asserts that it does, asked again where memory is refused.
+fn list_again(rt: &(impl Abort + AllocGlobal + Print), bag: &Counted) -> Result<(), Fail> {
+    match lists_rows(bag, rt.alloc()) {
+        Ok(are_listed) => assert_that(rt, are_listed),
         Err(refusal) => {
-            asked_again(&rt)?;
-            assert_eq!(rt; refusal, Refusal::Memory);
-            let rows = bag.list(alloc)?;
-            assert!(rt; are_rows(rows.as_slice(), [[1, 5], [2, 5], [2, 5]]));
+            asked_again(rt, refusal)?;
+            assert_that(rt, lists_rows(bag, rt.alloc())?);
         }
     }
     Ok(())
+}
+
+#[test]
+fn counted_rows_growths(rt: HostRuntime) -> Result<(), Fail> {
+    let Ok(bag) = bag(rt.alloc()) else {
+        return Ok(());
+    };
+    list_again(&rt, &bag)
 }

@@ -1,4 +1,5 @@
 //! The most combinations of a query and of a standing query: 1,048,576, as 1,024 rows joined with themselves have.
+use crate::assertions::assert_same;
 use crate::case::Case;
 use crate::samples::{key, query};
 use mm_value::Refusal;
@@ -23,38 +24,36 @@ fn refusals(case: &mut Case, alloc: Global) -> Result<[Option<Refusal>; 2], Refu
 }
 
 /// Fills the first table by one row too many, and asserts that it joined with itself is refused.
-fn overfill(rt: &(impl Abort + AllocGlobal), case: &mut Case) -> Result<(), Refusal> {
+fn overfill(rt: &(impl Abort + AllocGlobal), case: &mut Case) -> Result<(), Fail> {
     fill(case, rt.alloc(), 1025)?;
     let refused = [
         Some(Refusal::ResultTooLarge),
         Some(Refusal::StandingListTooLarge),
     ];
-    assert!(rt; refusals(case, rt.alloc())? == refused);
-    assert!(rt; matches!(case.count(0), Err(Refusal::NoSuchStandingQuery)));
+    assert_same(rt, refusals(case, rt.alloc())?, refused);
+    assert_same(rt, &case.count(0), &Err(Refusal::NoSuchStandingQuery));
     Ok(())
 }
 
 #[test]
 fn a_row_too_many_is_refused(rt: HostRuntime) -> Result<(), Fail> {
     let mut case = Case::new(rt.alloc(), false)?;
-    overfill(&rt, &mut case)?;
-    Ok(())
+    overfill(&rt, &mut case)
 }
 
 /// Fills the list of the first table joined with itself, and asserts that a further row is refused.
-fn fill_list(rt: &(impl Abort + AllocGlobal), case: &mut Case) -> Result<(), Refusal> {
+fn fill_list(rt: &(impl Abort + AllocGlobal), case: &mut Case) -> Result<(), Fail> {
     fill(case, rt.alloc(), 1024)?;
-    assert!(rt; refusals(case, rt.alloc())? == [None, None]);
-    assert_eq!(rt; case.count(0)?, 1_048_576);
+    assert_same(rt, refusals(case, rt.alloc())?, [None, None]);
+    assert_same(rt, case.count(0)?, 1_048_576);
     let refused = case.add(rt.alloc(), 0, 1024, 1024);
-    assert!(rt; matches!(refused, Err(Refusal::StandingListTooLarge)));
-    assert_eq!(rt; case.count(0)?, 1_048_576);
+    assert_same(rt, &refused, &Err(Refusal::StandingListTooLarge));
+    assert_same(rt, case.count(0)?, 1_048_576);
     Ok(())
 }
 
 #[test]
 fn a_full_list_takes_no_row(rt: HostRuntime) -> Result<(), Fail> {
     let mut case = Case::new(rt.alloc(), false)?;
-    fill_list(&rt, &mut case)?;
-    Ok(())
+    fill_list(&rt, &mut case)
 }

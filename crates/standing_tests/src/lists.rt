@@ -1,4 +1,5 @@
 //! What lists show, also once changes are taken back.
+use crate::assertions::{assert_same, assert_that};
 use crate::case::Case;
 use crate::three_lists::{SAMPLED, sample, show};
 use mm_value::Refusal;
@@ -6,12 +7,9 @@ use std::alloc::Global;
 use std::process::Abort;
 use std::test::Fail;
 
-/// Asserts how many rows the three lists show.
-fn assert_counts(rt: &impl Abort, case: &Case, counts: [usize; 3]) -> Result<(), Refusal> {
-    for (place, count) in counts.iter().enumerate() {
-        assert_eq!(rt; case.count(place)?, *count);
-    }
-    Ok(())
+/// How many rows the three lists show.
+fn counts(case: &Case) -> Result<[usize; 3], Refusal> {
+    Ok([case.count(0)?, case.count(1)?, case.count(2)?])
 }
 
 /// Asserts that the three lists show just these rows.
@@ -19,17 +17,21 @@ fn assert_shown(
     rt: &(impl Abort + AllocGlobal),
     case: &Case,
     lists: [&[&[i64]]; 3],
-) -> Result<(), Refusal> {
-    assert!(rt; show(case, rt.alloc(), lists)?);
+) -> Result<(), Fail> {
+    assert_that(rt, show(case, rt.alloc(), lists)?);
     Ok(())
+}
+
+/// Asserts how many rows the three lists of the sample show, and which.
+fn count_and_show(rt: &(impl Abort + AllocGlobal), case: &Case) -> Result<(), Fail> {
+    assert_same(rt, counts(case)?, [2, 2, 1]);
+    assert_shown(rt, case, SAMPLED)
 }
 
 #[test]
 fn counts_with_and_without_distinct(rt: HostRuntime) -> Result<(), Fail> {
     let case = sample(rt.alloc())?;
-    assert_counts(&rt, &case, [2, 2, 1])?;
-    assert_shown(&rt, &case, SAMPLED)?;
-    Ok(())
+    count_and_show(&rt, &case)
 }
 
 /// Adds a row to the first table, and sets a mark. Then all rows of the sample go from there, and one comes in the second table.
@@ -44,10 +46,13 @@ fn turn(case: &mut Case, alloc: Global) -> Result<(), Refusal> {
 /// What the lists show at the mark of `turn`.
 const AT_MARK: [&[&[i64]]; 3] = [&[&[1, 1], &[2, 1]], &[&[5], &[5], &[7]], &[&[5], &[7]]];
 
+/// What the lists show behind the changes of `turn`.
+const TURNED: [&[&[i64]]; 3] = [&[&[3, 2]], &[&[7]], &[&[7]]];
+
 /// Makes the changes of `turn`, behind which no row of the count 0 is shown, and takes them back.
-fn turn_and_back(rt: &(impl Abort + AllocGlobal), case: &mut Case) -> Result<(), Refusal> {
+fn turn_and_back(rt: &(impl Abort + AllocGlobal), case: &mut Case) -> Result<(), Fail> {
     turn(case, rt.alloc())?;
-    assert_shown(rt, case, [&[&[3, 2]], &[&[7]], &[&[7]]])?;
+    assert_shown(rt, case, TURNED)?;
     case.go_back();
     assert_shown(rt, case, AT_MARK)?;
     case.go_back_to_start();
@@ -57,16 +62,18 @@ fn turn_and_back(rt: &(impl Abort + AllocGlobal), case: &mut Case) -> Result<(),
 #[test]
 fn lists_go_back(rt: HostRuntime) -> Result<(), Fail> {
     let mut case = sample(rt.alloc())?;
-    turn_and_back(&rt, &mut case)?;
-    Ok(())
+    turn_and_back(&rt, &mut case)
 }
 
+/// What the lists of the sample show without its first row.
+const ONE_LEFT: [&[&[i64]]; 3] = [&[&[2, 1]], &[&[5]], &[&[5]]];
+
 /// Makes the removal of a row final, behind which nothing is taken back, and adds the row again.
-fn settle_and_add(rt: &(impl Abort + AllocGlobal), case: &mut Case) -> Result<(), Refusal> {
+fn settle_and_add(rt: &(impl Abort + AllocGlobal), case: &mut Case) -> Result<(), Fail> {
     case.remove(rt.alloc(), 0, 1)?;
     case.settle();
     case.go_back_to_start();
-    assert_shown(rt, case, [&[&[2, 1]], &[&[5]], &[&[5]]])?;
+    assert_shown(rt, case, ONE_LEFT)?;
     case.add(rt.alloc(), 0, 1, 5)?;
     assert_shown(rt, case, SAMPLED)
 }
@@ -74,24 +81,22 @@ fn settle_and_add(rt: &(impl Abort + AllocGlobal), case: &mut Case) -> Result<()
 #[test]
 fn settled_changes_stay(rt: HostRuntime) -> Result<(), Fail> {
     let mut case = sample(rt.alloc())?;
-    settle_and_add(&rt, &mut case)?;
-    Ok(())
+    settle_and_add(&rt, &mut case)
 }
 
 /// Drops a change that is ready, and makes another.
-fn drop_and_add(rt: &(impl Abort + AllocGlobal), case: &mut Case) -> Result<(), Refusal> {
+fn drop_and_add(rt: &(impl Abort + AllocGlobal), case: &mut Case) -> Result<(), Fail> {
     case.prepare_and_drop(rt.alloc(), 0, 3, 7)?;
     assert_shown(rt, case, SAMPLED)?;
     case.add(rt.alloc(), 0, 4, 9)?;
-    assert!(rt; case.shows(rt.alloc(), 1, &[&[5], &[5], &[9]])?);
+    assert_that(rt, case.shows(rt.alloc(), 1, &[&[5], &[5], &[9]])?);
     Ok(())
 }
 
 #[test]
 fn discarded_changes_are_not_made(rt: HostRuntime) -> Result<(), Fail> {
     let mut case = sample(rt.alloc())?;
-    drop_and_add(&rt, &mut case)?;
-    Ok(())
+    drop_and_add(&rt, &mut case)
 }
 
 /// Asserts that two lists show just these rows, and that there is no third.
@@ -100,15 +105,15 @@ fn assert_two(
     case: &Case,
     first: &[&[i64]],
     second: &[&[i64]],
-) -> Result<(), Refusal> {
-    assert!(rt; case.shows(rt.alloc(), 0, first)?);
-    assert!(rt; case.shows(rt.alloc(), 1, second)?);
-    assert!(rt; matches!(case.count(2), Err(Refusal::NoSuchStandingQuery)));
+) -> Result<(), Fail> {
+    assert_that(rt, case.shows(rt.alloc(), 0, first)?);
+    assert_that(rt, case.shows(rt.alloc(), 1, second)?);
+    assert_same(rt, &case.count(2), &Err(Refusal::NoSuchStandingQuery));
     Ok(())
 }
 
 /// Drops the first standing query, and adds a row.
-fn unwatch_and_add(rt: &(impl Abort + AllocGlobal), case: &mut Case) -> Result<(), Refusal> {
+fn unwatch_and_add(rt: &(impl Abort + AllocGlobal), case: &mut Case) -> Result<(), Fail> {
     case.unwatch(0);
     assert_two(rt, case, &[&[5], &[5]], &[&[5]])?;
     case.add(rt.alloc(), 0, 3, 7)?;
@@ -118,6 +123,5 @@ fn unwatch_and_add(rt: &(impl Abort + AllocGlobal), case: &mut Case) -> Result<(
 #[test]
 fn lists_move_up(rt: HostRuntime) -> Result<(), Fail> {
     let mut case = sample(rt.alloc())?;
-    unwatch_and_add(&rt, &mut case)?;
-    Ok(())
+    unwatch_and_add(&rt, &mut case)
 }

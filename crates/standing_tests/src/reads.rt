@@ -1,8 +1,9 @@
 //! How many rows a change reads.
+use crate::assertions::{assert_same, assert_that};
 use crate::case::Case;
 use crate::samples::{key, number, numbers_compare, pairs};
-use crate::three_lists::put;
-use mm_query::{Atom, Comparison, Operand};
+use crate::three_lists::{put, watch_joined};
+use mm_query::{Atom, BoundQuery, Comparison, Operand};
 use mm_value::{Refusal, Value};
 use std::alloc::Global;
 use std::process::Abort;
@@ -32,44 +33,35 @@ fn assert_reads(
     row: (i64, i64),
     at_most: u64,
     rows: &[&[i64]],
-) -> Result<(), Refusal> {
+) -> Result<(), Fail> {
     let (key, number) = row;
     case.add(rt.alloc(), 0, key, number)?;
-    assert!(rt; case.reads() <= at_most);
-    assert!(rt; case.shows(rt.alloc(), 0, rows)?);
+    assert_that(rt, case.reads() <= at_most);
+    assert_that(rt, case.shows(rt.alloc(), 0, rows)?);
     Ok(())
 }
 
-/// Keeps the pairs of rows of the first table that have the same number.
-fn watch_pairs(case: &mut Case, alloc: Global) -> Result<(), Refusal> {
-    let equal = [numbers_compare(Comparison::Equal)];
-    let query = pairs(alloc, [key(0), key(1)], equal)?;
-    case.watch(alloc, query, vec![in alloc; 0, 0]?)
-}
-
-/// Asserts how many rows the last of four changes reads at most for those pairs.
+/// Asserts how many rows the last of four changes reads at most for the pairs of rows of the first table that have the same number.
 fn join_with_itself(
     rt: &(impl Abort + AllocGlobal),
     case: &mut Case,
     at_most: u64,
-) -> Result<(), Refusal> {
+) -> Result<(), Fail> {
     put(case, rt.alloc(), &[(0, 1, 5), (0, 2, 5), (0, 4, 9)])?;
-    watch_pairs(case, rt.alloc())?;
+    watch_joined(case, rt.alloc(), [0, 0])?;
     assert_reads(rt, case, (3, 5), at_most, &ALL_PAIRS)
 }
 
 #[test]
 fn reads_are_few_along_an_index(rt: HostRuntime) -> Result<(), Fail> {
     let mut case = Case::new(rt.alloc(), true)?;
-    join_with_itself(&rt, &mut case, 6)?;
-    Ok(())
+    join_with_itself(&rt, &mut case, 6)
 }
 
 #[test]
 fn reads_are_few_without_an_index(rt: HostRuntime) -> Result<(), Fail> {
     let mut case = Case::new(rt.alloc(), false)?;
-    join_with_itself(&rt, &mut case, 8)?;
-    Ok(())
+    join_with_itself(&rt, &mut case, 8)
 }
 
 /// Adds a row of the key 1 and the number 9 to the second table, and of the number 4 elsewhere. Then it keeps a list that is found there.
@@ -85,34 +77,43 @@ fn follow_the_view(
     rt: &(impl Abort + AllocGlobal),
     case: &mut Case,
     elsewhere: &mut Case,
-) -> Result<(), Refusal> {
+) -> Result<(), Fail> {
     watch_elsewhere(case, elsewhere, rt.alloc())?;
-    assert_eq!(rt; case.count(0)?, 0);
+    assert_same(rt, case.count(0)?, 0);
     assert_reads(rt, case, (1, 9), 2, &[&[1]])
+}
+
+/// Asserts the same of a new case, whose list is found over the tables of another.
+fn follow_from(rt: &(impl Abort + AllocGlobal), elsewhere: &mut Case) -> Result<(), Fail> {
+    let mut case = Case::new(rt.alloc(), false)?;
+    follow_the_view(rt, &mut case, elsewhere)
 }
 
 #[test]
 fn lists_follow_the_view(rt: HostRuntime) -> Result<(), Fail> {
     let mut elsewhere = Case::new(rt.alloc(), false)?;
-    let mut case = Case::new(rt.alloc(), false)?;
-    follow_the_view(&rt, &mut case, &mut elsewhere)?;
-    Ok(())
+    follow_from(&rt, &mut elsewhere)
 }
 
-/// Keeps the keys of the first table whose number is less than one of the second that is less than 5.
-fn watch_below_5(case: &mut Case, alloc: Global) -> Result<(), Refusal> {
+/// The keys of the first table whose number is less than one of the second that is less than 5.
+fn below_5(alloc: Global) -> Result<BoundQuery, Refusal> {
     let below_5 = Atom {
         left: number(1),
         comparison: Comparison::Less,
         right: Operand::Literal(Value::Int(5)),
     };
     let atoms = [numbers_compare(Comparison::Less), below_5];
-    let query = pairs(alloc, [key(0)], atoms)?;
-    case.watch(alloc, query, vec![in alloc; 0, 1]?)
+    pairs(alloc, [key(0)], atoms)
+}
+
+/// Keeps those keys as a standing query.
+fn watch_below_5(case: &mut Case, alloc: Global) -> Result<(), Refusal> {
+    let tables = vec![in alloc; 0, 1]?;
+    case.watch(alloc, below_5(alloc)?, tables)
 }
 
 /// Asserts how few rows an irrelevant row reads, and how few one that goes with the only row of the second table.
-fn leave_out(rt: &(impl Abort + AllocGlobal), case: &mut Case) -> Result<(), Refusal> {
+fn leave_out(rt: &(impl Abort + AllocGlobal), case: &mut Case) -> Result<(), Fail> {
     case.add(rt.alloc(), 1, 1, 4)?;
     watch_below_5(case, rt.alloc())?;
     assert_reads(rt, case, (1, 4), READS_OF_IRRELEVANT_ROW, &[])?;
@@ -122,6 +123,5 @@ fn leave_out(rt: &(impl Abort + AllocGlobal), case: &mut Case) -> Result<(), Ref
 #[test]
 fn irrelevant_rows_are_not_combined(rt: HostRuntime) -> Result<(), Fail> {
     let mut case = Case::new(rt.alloc(), false)?;
-    leave_out(&rt, &mut case)?;
-    Ok(())
+    leave_out(&rt, &mut case)
 }

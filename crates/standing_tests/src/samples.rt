@@ -26,12 +26,8 @@ pub fn numbers_compare(comparison: Comparison) -> Atom<FieldPlace> {
     }
 }
 
-/// A query with these fields over so many tables, for all combinations of rows.
-pub fn query<const N: usize>(
-    alloc: Global,
-    tables: usize,
-    fields: [FieldPlace; N],
-) -> Result<BoundQuery, Refusal> {
+/// A FROM of so many tables of one name.
+fn from_tables(alloc: Global, tables: usize) -> Result<Vec<FromItem>, Refusal> {
     let name = Name::new(b"t").ok_or(Refusal::Syntax)?;
     let mut from = Vec::new(alloc);
     for _ in 0..tables {
@@ -40,9 +36,20 @@ pub fn query<const N: usize>(
             alias: name.copy(),
         })?;
     }
+    Ok(from)
+}
+
+/// A query with these fields over so many tables, for all combinations of rows.
+pub fn query<const N: usize>(
+    alloc: Global,
+    tables: usize,
+    fields: [FieldPlace; N],
+) -> Result<BoundQuery, Refusal> {
+    let fields = Vec::from_array(alloc, fields)?;
+    let from = from_tables(alloc, tables)?;
     Ok(BoundQuery {
         distinct: false,
-        fields: ItemList::new(Vec::from_array(alloc, fields)?),
+        fields: ItemList::new(fields),
         from: ItemList::new(from),
         atoms: ItemList::new(Vec::new(alloc)),
         order: ItemList::new(Vec::new(alloc)),
@@ -55,9 +62,19 @@ pub fn pairs<const N: usize, const M: usize>(
     fields: [FieldPlace; N],
     atoms: [Atom<FieldPlace>; M],
 ) -> Result<BoundQuery, Refusal> {
+    let atoms = Vec::from_array(alloc, atoms)?;
     let mut query = query(alloc, 2, fields)?;
-    query.atoms = ItemList::new(Vec::from_array(alloc, atoms)?);
+    query.atoms = ItemList::new(atoms);
     Ok(query)
+}
+
+/// The pairs of keys of rows with the same number, of the first table and of the second.
+pub fn joined(alloc: Global) -> Result<BoundQuery, Refusal> {
+    pairs(
+        alloc,
+        [key(0), key(1)],
+        [numbers_compare(Comparison::Equal)],
+    )
 }
 
 /// The row of a key and a number. `AllocError` where memory is refused.

@@ -207,6 +207,7 @@ pub fn settle(store: &mut Store, undo: &mut Undo, standing: &mut Standing)
     ensures start { IsMark store.new undo.new standing.new 0 0 }
     ensures undo { undo.new ≡ [] }
     ensures log { standing.new.log ≡ [] }
+    ensures rows { before_at store.new ≡ before_at store.old }
 {
     store.settle(undo);
     standing.settle();

@@ -1,7 +1,7 @@
 //! Two tables with three lists over them.
 use crate::case::Case;
-use crate::samples::{key, number, numbers_compare, pairs, query};
-use mm_query::Comparison;
+use crate::samples::{joined, number, query};
+use mm_query::BoundQuery;
 use mm_value::Refusal;
 use std::alloc::Global;
 
@@ -13,26 +13,43 @@ pub fn put(case: &mut Case, alloc: Global, rows: &[(usize, i64, i64)]) -> Result
     Ok(())
 }
 
+/// Keeps the pairs of keys of rows with the same number, of two tables.
+pub fn watch_joined(case: &mut Case, alloc: Global, tables: [usize; 2]) -> Result<(), Refusal> {
+    let tables = Vec::from_array(alloc, tables)?;
+    case.watch(alloc, joined(alloc)?, tables)
+}
+
+/// The numbers of a table, each once or each as often as it stands there.
+fn numbers(alloc: Global, distinct: bool) -> Result<BoundQuery, Refusal> {
+    let mut numbers = query(alloc, 1, [number(0)])?;
+    numbers.distinct = distinct;
+    Ok(numbers)
+}
+
+/// Keeps the numbers of the first table, each once or each as often as it stands there.
+fn watch_numbers(case: &mut Case, alloc: Global, distinct: bool) -> Result<(), Refusal> {
+    let tables = vec![in alloc; 0]?;
+    case.watch(alloc, numbers(alloc, distinct)?, tables)
+}
+
 /// Keeps three standing queries: the keys of the first table beside those of the second with their number, the numbers of the first
 /// table, each as often as it stands there, and these each once.
 fn watch_three(case: &mut Case, alloc: Global) -> Result<(), Refusal> {
-    let equal = [numbers_compare(Comparison::Equal)];
-    case.watch(
-        alloc,
-        pairs(alloc, [key(0), key(1)], equal)?,
-        vec![in alloc; 0, 1]?,
-    )?;
-    case.watch(alloc, query(alloc, 1, [number(0)])?, vec![in alloc; 0]?)?;
-    let mut distinct = query(alloc, 1, [number(0)])?;
-    distinct.distinct = true;
-    case.watch(alloc, distinct, vec![in alloc; 0]?)
+    watch_joined(case, alloc, [0, 1])?;
+    watch_numbers(case, alloc, false)?;
+    watch_numbers(case, alloc, true)
+}
+
+/// Makes the rows and the lists of the sample.
+fn fill(case: &mut Case, alloc: Global) -> Result<(), Refusal> {
+    put(case, alloc, &[(0, 1, 5), (0, 2, 5), (1, 1, 5)])?;
+    watch_three(case, alloc)
 }
 
 /// Two rows of the number 5 in the first table and one in the second, with three lists over them.
 pub fn sample(alloc: Global) -> Result<Case, Refusal> {
     let mut case = Case::new(alloc, true)?;
-    put(&mut case, alloc, &[(0, 1, 5), (0, 2, 5), (1, 1, 5)])?;
-    watch_three(&mut case, alloc)?;
+    fill(&mut case, alloc)?;
     Ok(case)
 }
 

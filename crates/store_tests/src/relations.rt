@@ -3,11 +3,13 @@ ghost use Rattle.std.specs.Prelude.{◌≡◌, ◌≤◌, List, ◌<◌, [], ◌
 ghost use Rattle.mm_value.specs.declared.row_ref.RowRef.{RowRef as Ref};
 ghost use Rattle.mm_relation.specs.declared.names.Side.TheVariants as side;
 ghost use Rattle.mm_partition.specs.Places.{slot_at};
+ghost use Rattle.mm_relation.specs.Changes.{Standing};
 ghost use Rattle.mm_relation.specs.Edits.{Among, edit_name, named, new_rows};
 ghost use Rattle.mm_relation.specs.Index.{spare_of};
-ghost use Rattle.mm_relation.specs.Kept.{Stay};
+ghost use Rattle.mm_relation.specs.Kept.{KeysStayApart, Stay};
 ghost use Rattle.store_tests.specs.SampleRelation.{IsSample};
 
+use crate::assertions::{assert_same, assert_that};
 use crate::triple::triple;
 use mm_order::OrderedRefs;
 use mm_relation::{Edit, Log, Relation};
@@ -298,6 +300,27 @@ fn edits_of(
     Ok(edits)
 }
 
+/// The edits of a command, none where a row of it is missing or two rows would have one key then.
+fn edits_apart(
+    relation: &Relation,
+    alloc: Global,
+    exchange: Exchange,
+) -> Result<Option<Vec<Edit>>, AllocError>
+    ensures standing { IfOk result (λ found. IfSome found (λ edits. Standing (slot_at relation.now.places) edits.items)) }
+    ensures apart { IfOk result (λ found. IfSome found (λ edits. KeysStayApart relation.now edits.items)) }
+    ensures wide { IfOk result (λ found. IfSome found (λ edits. All (λ row. length row ≡ 3) (new_rows edits.items))) }
+{
+    relation.is_kept();
+    let Some((one, other, gone)) = rows_of(relation, exchange) else {
+        return Ok(None);
+    };
+    let edits = edits_of(relation, alloc, exchange, one, other, gone)?;
+    if relation.has_twins_with(alloc, edits.as_slice())? {
+        return Ok(None);
+    }
+    Ok(Some(edits))
+}
+
 /// Makes the commands, each on top of the one before, looks at the table, and takes them back, the last first. None where
 /// one of them cannot be made.
 fn there_and_back(
@@ -319,13 +342,9 @@ fn there_and_back(
         return Ok(Some(look(relation, alloc)?));
     };
     relation.is_kept();
-    let Some((one, other, gone)) = rows_of(relation, *exchange) else {
+    let Some(edits) = edits_apart(relation, alloc, *exchange)? else {
         return Ok(None);
     };
-    let edits = edits_of(relation, alloc, *exchange, one, other, gone)?;
-    if relation.has_twins_with(alloc, edits.as_slice())? {
-        return Ok(None);
-    }
     let mut log = Log::new(alloc);
     relation.apply(alloc, edits, owed, &mut log)?;
     let shown = match owed.checked_add(log.owed()) {
@@ -340,8 +359,8 @@ fn there_and_back(
 fn starts_empty(rt: HostRuntime) -> Result<(), Fail> {
     let alloc = rt.alloc();
     let rows = Relation::new(alloc, 3, 0);
-    assert_eq!(rt; rows.len(), 0);
-    assert!(rt; rows.find(&Value::Int(3)).is_none());
+    assert_same(&rt, rows.len(), 0);
+    assert_that(&rt, rows.find(&Value::Int(3)).is_none());
     Ok(())
 }
 
@@ -358,15 +377,25 @@ fn sample_again(alloc: Global) -> Result<Relation, AllocError>
 /// What is told where rows that should go in do not.
 const NOT_PUT: &str = "the rows are not put in";
 
-/// The table with a row for each key, none where two would have one key.
-fn sample_with(alloc: Global, keys: &[i64]) -> Result<Option<Relation>, AllocError>
-    ensures { IfOk result (λ made. IfSome made IsSample) }
+/// Adds a row for each key, and fails where two would have one key.
+fn put_all(relation: &mut Relation, alloc: Global, keys: &[i64]) -> Result<(), Fail>
+    requires { IsSample relation.old }
+    ensures { IsSample relation.new }
+{
+    if put(relation, alloc, keys)? {
+        Ok(())
+    } else {
+        Err(Fail::from(NOT_PUT))
+    }
+}
+
+/// The table with a row for each key. Fails where two would have one key.
+fn sample_with(alloc: Global, keys: &[i64]) -> Result<Relation, Fail>
+    ensures { IfOk result IsSample }
 {
     let mut relation = sample_again(alloc)?;
-    if !put(&mut relation, alloc, keys)? {
-        return Ok(None);
-    }
-    Ok(Some(relation))
+    put_all(&mut relation, alloc, keys)?;
+    Ok(relation)
 }
 
 /// Adds rows of which two would have one key.
@@ -375,16 +404,16 @@ fn refuse_twins(rt: &(impl Abort + AllocGlobal), relation: &mut Relation) -> Res
 {
     let alloc = rt.alloc();
     // Two new rows of one key, and a new row with the key of an old one.
-    assert!(rt; !put(relation, alloc, &[5, 4, 5])?);
-    assert!(rt; !put(relation, alloc, &[6, 2])?);
-    assert_eq!(rt; relation.len(), 3);
-    assert_eq!(rt; digit_of(relation, 5), None);
+    assert_that(rt, !put(relation, alloc, &[5, 4, 5])?);
+    assert_that(rt, !put(relation, alloc, &[6, 2])?);
+    assert_same(rt, relation.len(), 3);
+    assert_same(rt, digit_of(relation, 5), None);
     Ok(())
 }
 
 #[test]
 fn refuses_twins(rt: HostRuntime) -> Result<(), Fail> {
-    let mut relation = sample_with(rt.alloc(), &[3, 1, 2])?.ok_or(NOT_PUT)?;
+    let mut relation = sample_with(rt.alloc(), &[3, 1, 2])?;
     refuse_twins(&rt, &mut relation)
 }
 
@@ -393,15 +422,15 @@ fn take_others(rt: &(impl Abort + AllocGlobal), relation: &mut Relation) -> Resu
     requires { IsSample relation.old }
 {
     let alloc = rt.alloc();
-    assert!(rt; put(relation, alloc, &[])?);
-    assert!(rt; put(relation, alloc, &[14])?);
-    assert_eq!(rt; digit_of(relation, 14), Some(4));
+    assert_that(rt, put(relation, alloc, &[])?);
+    assert_that(rt, put(relation, alloc, &[14])?);
+    assert_same(rt, digit_of(relation, 14), Some(4));
     Ok(())
 }
 
 #[test]
 fn takes_other_keys(rt: HostRuntime) -> Result<(), Fail> {
-    let mut relation = sample_with(rt.alloc(), &[3, 1, 2])?.ok_or(NOT_PUT)?;
+    let mut relation = sample_with(rt.alloc(), &[3, 1, 2])?;
     take_others(&rt, &mut relation)
 }
 
@@ -425,14 +454,14 @@ fn count_five(rt: &(impl Abort + AllocGlobal), relation: &Relation) -> Result<()
     requires { IsSample relation.now }
 {
     let alloc = rt.alloc();
-    assert_eq!(rt; counts(relation, alloc)?, [4, 3, 1, 1]);
-    assert_eq!(rt; size_by_digit(relation, alloc)?, (5, 1));
+    assert_same(rt, counts(relation, alloc)?, [4, 3, 1, 1]);
+    assert_same(rt, size_by_digit(relation, alloc)?, (5, 1));
     Ok(())
 }
 
 #[test]
 fn fills_indexes(rt: HostRuntime) -> Result<(), Fail> {
-    let relation = sample_with(rt.alloc(), &FIVE)?.ok_or(NOT_PUT)?;
+    let relation = sample_with(rt.alloc(), &FIVE)?;
     count_five(&rt, &relation)
 }
 
@@ -441,15 +470,15 @@ fn turn_two(rt: &(impl Abort + AllocGlobal), relation: &mut Relation) -> Result<
     requires { IsSample relation.old }
 {
     let alloc = rt.alloc();
-    assert!(rt; turn(relation, alloc, 11, Some(15))?);
-    assert!(rt; turn(relation, alloc, 22, None)?);
-    assert_eq!(rt; counts(relation, alloc)?, [2, 2, 0, 2]);
+    assert_that(rt, turn(relation, alloc, 11, Some(15))?);
+    assert_that(rt, turn(relation, alloc, 22, None)?);
+    assert_same(rt, counts(relation, alloc)?, [2, 2, 0, 2]);
     Ok(())
 }
 
 #[test]
 fn keeps_indexes(rt: HostRuntime) -> Result<(), Fail> {
-    let mut relation = sample_with(rt.alloc(), &FIVE)?.ok_or(NOT_PUT)?;
+    let mut relation = sample_with(rt.alloc(), &FIVE)?;
     turn_two(&rt, &mut relation)
 }
 
@@ -465,9 +494,9 @@ fn shuffled_keys(alloc: Global) -> Result<Vec<i64>, AllocError> {
     Ok(keys)
 }
 
-/// The table with a row for each of the shuffled keys, none where they cannot be put in.
-fn thousand(alloc: Global) -> Result<Option<Relation>, AllocError>
-    ensures { IfOk result (λ made. IfSome made IsSample) }
+/// The table with a row for each of the shuffled keys. Fails where they cannot be put in.
+fn thousand(alloc: Global) -> Result<Relation, Fail>
+    ensures { IfOk result IsSample }
 {
     let keys = shuffled_keys(alloc)?;
     sample_with(alloc, keys.as_slice())
@@ -477,13 +506,13 @@ fn thousand(alloc: Global) -> Result<Option<Relation>, AllocError>
 fn order_rows(rt: &(impl Abort + AllocGlobal), relation: &Relation) -> Result<(), Fail>
     requires { IsSample relation.now }
 {
-    assert_eq!(rt; size_by_digit(relation, rt.alloc())?, (1000, 6));
+    assert_same(rt, size_by_digit(relation, rt.alloc())?, (1000, 6));
     Ok(())
 }
 
 #[test]
 fn orders_rows_in_a_full_tree(rt: HostRuntime) -> Result<(), Fail> {
-    let relation = thousand(rt.alloc())?.ok_or(NOT_PUT)?;
+    let relation = thousand(rt.alloc())?;
     order_rows(&rt, &relation)
 }
 
@@ -508,16 +537,16 @@ fn add_trees(rt: &(impl Abort + AllocGlobal), relation: &mut Relation) -> Result
     requires { IsSample relation.old }
 {
     let alloc = rt.alloc();
-    assert!(rt; relation.len() <= 1000);
+    assert_that(rt, relation.len() <= 1000);
     add_tree(relation, alloc, 1)?;
     add_tree(relation, alloc, 0)?;
-    assert_eq!(rt; relation.len(), 1000);
+    assert_same(rt, relation.len(), 1000);
     Ok(())
 }
 
 #[test]
 fn builds_trees_over_rows(rt: HostRuntime) -> Result<(), Fail> {
-    let mut relation = thousand(rt.alloc())?.ok_or(NOT_PUT)?;
+    let mut relation = thousand(rt.alloc())?;
     add_trees(&rt, &mut relation)
 }
 
@@ -532,25 +561,36 @@ fn goes(relation: &mut Relation, alloc: Global, key: i64) -> Result<bool, AllocE
     Ok(turn(relation, alloc, key, None)? && digit_of(relation, key).is_none())
 }
 
+/// Finds the row of each key and takes it out, until no row is left.
+fn take_each(
+    rt: &(impl Abort + AllocGlobal),
+    relation: &mut Relation,
+    keys: &[i64],
+) -> Result<(), Fail>
+    requires { IsSample relation.old }
+{
+    for key in keys {
+        assert_that(rt, goes(relation, rt.alloc(), *key)?);
+    }
+    assert_same(rt, relation.len(), 0);
+    relation.trim_spares(1);
+    assert_same(rt, relation.len(), 0);
+    Ok(())
+}
+
 /// Finds each row by its key and takes it out.
 fn find_and_take_each(rt: &(impl Abort + AllocGlobal), relation: &mut Relation) -> Result<(), Fail>
     requires { IsSample relation.old }
 {
     let alloc = rt.alloc();
-    assert!(rt; !put(relation, alloc, &[2000, 619])?);
+    assert_that(rt, !put(relation, alloc, &[2000, 619])?);
     let keys = shuffled_keys(alloc)?;
-    for key in &keys {
-        assert!(rt; goes(relation, alloc, *key)?);
-    }
-    assert_eq!(rt; relation.len(), 0);
-    relation.trim_spares(1);
-    assert_eq!(rt; relation.len(), 0);
-    Ok(())
+    take_each(rt, relation, keys.as_slice())
 }
 
 #[test]
 fn finds_each_of_many_rows(rt: HostRuntime) -> Result<(), Fail> {
-    let mut relation = thousand(rt.alloc())?.ok_or(NOT_PUT)?;
+    let mut relation = thousand(rt.alloc())?;
     find_and_take_each(&rt, &mut relation)
 }
 
@@ -600,30 +640,51 @@ const SECOND: Exchange = Exchange {
     digit: 3,
 };
 
+/// The digits behind the first command.
+const BEHIND_FIRST: [Option<i64>; 6] = [None, Some(2), Some(1), None, Some(4), Some(1)];
+
+/// The digits behind both commands.
+const BEHIND_BOTH: [Option<i64>; 6] = [None, None, Some(1), Some(3), Some(4), Some(1)];
+
+/// The digits where no command is made.
+const UNCHANGED: [Option<i64>; 6] = [None, Some(1), Some(2), Some(3), Some(4), None];
+
+/// Makes one command, looks at the table, and takes it back.
+fn make_one(rt: &(impl Abort + AllocGlobal), relation: &mut Relation) -> Result<(), Fail>
+    requires { IsSample relation.old }
+{
+    let alloc = rt.alloc();
+    let counts = &[0, 2, 1, 0, 1];
+    assert_that(
+        rt,
+        shows_behind(relation, alloc, &[FIRST], &BEHIND_FIRST, counts)?,
+    );
+    Ok(())
+}
+
 #[test]
 fn makes_a_command(rt: HostRuntime) -> Result<(), Fail> {
+    let mut relation = sample_with(rt.alloc(), &[1, 2, 3, 4])?;
+    make_one(&rt, &mut relation)
+}
+
+/// Makes two commands, looks at the table, and takes them back.
+fn make_two(rt: &(impl Abort + AllocGlobal), relation: &mut Relation) -> Result<(), Fail>
+    requires { IsSample relation.old }
+{
     let alloc = rt.alloc();
-    let mut relation = sample_with(alloc, &[1, 2, 3, 4])?.ok_or(NOT_PUT)?;
-    let digits = [None, Some(2), Some(1), None, Some(4), Some(1)];
-    assert!(rt; shows_behind(&mut relation, alloc, &[FIRST], &digits, &[0, 2, 1, 0, 1])?);
+    let counts = &[0, 2, 0, 1, 1];
+    assert_that(
+        rt,
+        shows_behind(relation, alloc, &[FIRST, SECOND], &BEHIND_BOTH, counts)?,
+    );
     Ok(())
 }
 
 #[test]
 fn makes_a_command_on_top_of_another(rt: HostRuntime) -> Result<(), Fail> {
-    let alloc = rt.alloc();
-    let mut relation = sample_with(alloc, &[1, 2, 3, 4])?.ok_or(NOT_PUT)?;
-    let digits = [None, None, Some(1), Some(3), Some(4), Some(1)];
-    assert!(rt;
-        shows_behind(
-            &mut relation,
-            alloc,
-            &[FIRST, SECOND],
-            &digits,
-            &[0, 2, 0, 1, 1]
-        )?
-    );
-    Ok(())
+    let mut relation = sample_with(rt.alloc(), &[1, 2, 3, 4])?;
+    make_two(&rt, &mut relation)
 }
 
 /// Makes two commands, which are taken back, and looks at the table.
@@ -632,13 +693,13 @@ fn take_two_back(rt: &(impl Abort + AllocGlobal), relation: &mut Relation) -> Re
 {
     let alloc = rt.alloc();
     try_exchanges(relation, alloc, &[FIRST, SECOND])?;
-    let digits = [None, Some(1), Some(2), Some(3), Some(4), None];
-    assert!(rt; shows_behind(relation, alloc, &[], &digits, &[0, 1, 1, 1, 1])?);
+    let counts = &[0, 1, 1, 1, 1];
+    assert_that(rt, shows_behind(relation, alloc, &[], &UNCHANGED, counts)?);
     Ok(())
 }
 
 #[test]
 fn takes_commands_back(rt: HostRuntime) -> Result<(), Fail> {
-    let mut relation = sample_with(rt.alloc(), &[1, 2, 3, 4])?.ok_or(NOT_PUT)?;
+    let mut relation = sample_with(rt.alloc(), &[1, 2, 3, 4])?;
     take_two_back(&rt, &mut relation)
 }

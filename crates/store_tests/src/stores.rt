@@ -1,5 +1,5 @@
 //! What no clause says: that ample memory is never refused. And two tables with real rows, of which one may refer to the other.
-ghost use Rattle.std.specs.Prelude.{◌≡◌, ◌<◌, ◌≤◌, [], ◌∷◌, length, All, Contains, IfOk, IfSome};
+ghost use Rattle.std.specs.Prelude.{◌≡◌, ◌<◌, ◌≤◌, [], ◌∷◌, length, All, Contains, IfOk, IfSome, OnOk};
 ghost use Rattle.mm_relation.specs.Kept.{StoredRows};
 ghost use Rattle.mm_store.specs.Tables.{AreFit, AreLawful, IsAt, IsFrom};
 ghost use Rattle.mm_relation.specs.declared.names.Side.TheVariants as side;
@@ -9,6 +9,7 @@ ghost use Rattle.mm_schema.specs.declared.reference.Reference.{Reference as Link
 ghost use Rattle.store_tests.specs.SampleStore.{ArePlain};
 ghost use Rattle.mm_store.specs.Undoing.{CanUndo};
 
+use crate::assertions::{assert_same, assert_that};
 use mm_relation::Edit;
 use mm_schema::{IndexKind, Reference};
 use mm_store::{Meter, Store, Undo};
@@ -36,6 +37,24 @@ pub fn add_index(
     Ok(())
 }
 
+/// Adds two tables of two columns each to none, with a TREE and a HASH index on the second column of both, and these references
+/// from the second table.
+fn add_both(store: &mut Store, alloc: Global, references: &[Reference]) -> Result<(), AllocError>
+    requires none { store.old.tables ≡ [] }
+    requires links { store.old.links ≡ [] }
+    requires references { All (IsFrom 1 2) references.now }
+    ensures two { OnOk result (length store.new.tables ≡ 2) }
+    ensures plain { OnOk result (ArePlain store.new) }
+    ensures links { OnOk result (store.new.links ≡ references.now) }
+{
+    store.add_table(alloc, 2, 0, &[])?;
+    store.add_table(alloc, 2, 0, references)?;
+    add_index(store, alloc, 0, IndexKind::Tree)?;
+    add_index(store, alloc, 0, IndexKind::Hash)?;
+    add_index(store, alloc, 1, IndexKind::Tree)?;
+    add_index(store, alloc, 1, IndexKind::Hash)
+}
+
 /// Two tables of two columns each, with no rows, a TREE and a HASH index on the second column of both, and these references from
 /// the second table.
 fn sample(alloc: Global, references: &[Reference]) -> Result<Store, AllocError>
@@ -45,12 +64,7 @@ fn sample(alloc: Global, references: &[Reference]) -> Result<Store, AllocError>
     ensures links { IfOk result (λ store. store.links ≡ references.now) }
 {
     let mut store = Store::new(alloc);
-    store.add_table(alloc, 2, 0, &[])?;
-    store.add_table(alloc, 2, 0, references)?;
-    add_index(&mut store, alloc, 0, IndexKind::Tree)?;
-    add_index(&mut store, alloc, 0, IndexKind::Hash)?;
-    add_index(&mut store, alloc, 1, IndexKind::Tree)?;
-    add_index(&mut store, alloc, 1, IndexKind::Hash)?;
+    add_both(&mut store, alloc, references)?;
     Ok(store)
 }
 
@@ -274,7 +288,7 @@ fn has_key(store: &Store, table: usize, key: i64) -> bool
 #[test]
 fn starts_empty(rt: HostRuntime) -> Result<(), Fail> {
     let store = Store::new(rt.alloc());
-    assert_eq!(rt; store.len(), 0);
+    assert_same(&rt, store.len(), 0);
     Ok(())
 }
 
@@ -293,24 +307,31 @@ fn put_apart(store: &mut Store, alloc: Global) -> Result<[bool; 4], AllocError>
     ])
 }
 
+/// Drops the first of two tables. The second moves up, with its rows.
+fn drop_first(rt: &impl Abort, store: &mut Store)
+    requires two { length store.old.tables ≡ 2 }
+    requires none { store.old.links ≡ [] }
+{
+    store.drop_table(0);
+    assert_same(rt, [store.len(), store.table(0).len()], [1, 2]);
+    assert_same(
+        rt,
+        [has_key(store, 0, 14), has_key(store, 0, 1)],
+        [true, false],
+    );
+}
+
 /// Adds rows to two tables, and drops the first.
 fn keep_apart(rt: &(impl Abort + AllocGlobal), store: &mut Store) -> Result<(), Fail>
     requires two { length store.old.tables ≡ 2 }
     requires none { store.old.links ≡ [] }
     requires plain { ArePlain store.old }
 {
-    assert_eq!(rt; store.len(), 2);
-    assert_eq!(rt; put_apart(store, rt.alloc())?, [true, true, false, true]);
-    assert_eq!(rt; [store.table(0).len(), store.table(1).len()], [4, 2]);
-    assert!(rt; !has_key(store, 1, 5));
-
-    // The second moves up, with its rows.
-    store.drop_table(0);
-    assert_eq!(rt; [store.len(), store.table(0).len()], [1, 2]);
-    assert_eq!(rt;
-        [has_key(store, 0, 14), has_key(store, 0, 1)],
-        [true, false]
-    );
+    assert_same(rt, store.len(), 2);
+    assert_same(rt, put_apart(store, rt.alloc())?, [true, true, false, true]);
+    assert_same(rt, [store.table(0).len(), store.table(1).len()], [4, 2]);
+    assert_that(rt, !has_key(store, 1, 5));
+    drop_first(rt, store);
     Ok(())
 }
 
@@ -623,9 +644,9 @@ const LEAVING: [Trial; 5] = [
 /// Adds rows that refer to others, and takes both out.
 fn keep_targets(rt: &(impl Abort + AllocGlobal), case: &mut Case) -> Result<(), Fail> {
     let alloc = rt.alloc();
-    assert!(rt; case.goes_as(alloc, &REFERRING)?);
-    assert!(rt; case.refers(13, 3));
-    assert!(rt; case.goes_as(alloc, &LEAVING)?);
+    assert_that(rt, case.goes_as(alloc, &REFERRING)?);
+    assert_that(rt, case.refers(13, 3));
+    assert_that(rt, case.goes_as(alloc, &LEAVING)?);
     Ok(())
 }
 
@@ -635,19 +656,21 @@ fn keeps_targets_of_references(rt: HostRuntime) -> Result<(), Fail> {
     keep_targets(&rt, &mut case)
 }
 
+/// Columns, values, and how many rows have the value in the column, none where the column has no index.
+const COUNTS: [(usize, i64, Option<usize>); 4] = [
+    (0, 22, Some(1)),
+    (0, 23, Some(0)),
+    (1, 2, Some(2)),
+    (2, 2, None),
+];
+
 /// Counts the rows of the second table that have a value in a column, and those between two keys.
 fn look_up(rt: &(impl Abort + AllocGlobal), case: &Case) -> Result<(), Fail> {
     let alloc = rt.alloc();
-    let counts = [
-        (0, 22, Some(1)),
-        (0, 23, Some(0)),
-        (1, 2, Some(2)),
-        (2, 2, None),
-    ];
-    for (column, value, count) in counts {
-        assert_eq!(rt; case.count(alloc, column, value)?, count);
+    for (column, value, count) in &COUNTS {
+        assert_same(rt, case.count(alloc, *column, *value)?, *count);
     }
-    assert_eq!(rt; count_between(&case.store, alloc, 1, 13, 30)?, 2);
+    assert_same(rt, count_between(&case.store, alloc, 1, 13, 30)?, 2);
     Ok(())
 }
 
@@ -673,8 +696,11 @@ const MORE_STEPS: [Trial; 7] = [
 
 /// Makes steps and more of them, and takes all back.
 fn go_back_twice(rt: &(impl Abort + AllocGlobal), case: &mut Case) -> Result<(), Fail> {
-    assert!(rt; case.comes_back_twice(rt.alloc(), &FIRST_STEPS, &MORE_STEPS)?);
-    assert_eq!(rt; case.undo.mark(), 0);
+    assert_that(
+        rt,
+        case.comes_back_twice(rt.alloc(), &FIRST_STEPS, &MORE_STEPS)?,
+    );
+    assert_same(rt, case.undo.mark(), 0);
     Ok(())
 }
 
@@ -687,10 +713,10 @@ fn goes_back_to_marks(rt: HostRuntime) -> Result<(), Fail> {
 /// Makes steps, takes them back, makes them again for good, and looks at a target.
 fn make_again(rt: &(impl Abort + AllocGlobal), case: &mut Case) -> Result<(), Fail> {
     let alloc = rt.alloc();
-    assert!(rt; case.comes_back(alloc, &FIRST_STEPS)?);
-    assert!(rt; case.goes_as(alloc, &FIRST_STEPS)?);
+    assert_that(rt, case.comes_back(alloc, &FIRST_STEPS)?);
+    assert_that(rt, case.goes_as(alloc, &FIRST_STEPS)?);
     case.finish();
-    assert!(rt; case.refers(11, 4));
+    assert_that(rt, case.refers(11, 4));
     Ok(())
 }
 
@@ -700,18 +726,20 @@ fn makes_again_what_was_taken_back(rt: HostRuntime) -> Result<(), Fail> {
     make_again(&rt, &mut case)
 }
 
+/// A row goes, and another comes behind it.
+const REPLACING: [Trial; 2] = [(1, Step::Remove(12), true), (1, Step::Put(&[22]), true)];
+
 /// Takes a row out, adds one behind it, and one more once that is final.
 fn give_out_again(rt: &(impl Abort + AllocGlobal), case: &mut Case) -> Result<(), Fail> {
     let alloc = rt.alloc();
     let place = case.second(12);
 
     // The place of a hidden row is not given out until the command is final.
-    let trials = [(1, Step::Remove(12), true), (1, Step::Put(&[22]), true)];
-    assert!(rt; case.goes_as(alloc, &trials)?);
-    assert!(rt; case.second(22) != place);
+    assert_that(rt, case.goes_as(alloc, &REPLACING)?);
+    assert_that(rt, case.second(22) != place);
     case.finish();
-    assert!(rt; case.step(alloc, 1, Step::Put(&[13]))?);
-    assert_eq!(rt; case.second(13), place);
+    assert_that(rt, case.step(alloc, 1, Step::Put(&[13]))?);
+    assert_same(rt, case.second(13), place);
     Ok(())
 }
 
@@ -721,14 +749,14 @@ fn gives_places_out_again(rt: HostRuntime) -> Result<(), Fail> {
     give_out_again(&rt, &mut case)
 }
 
+/// No row refers to the targets any more.
+const FREED: [Trial; 2] = [(0, Step::Remove(0), true), (0, Step::Remove(1), true)];
+
 /// Makes many changes and takes them back, and takes the targets out.
 fn take_many_back(rt: &(impl Abort + AllocGlobal), case: &mut Case) -> Result<(), Fail> {
     let alloc = rt.alloc();
-    assert!(rt; case.many_come_back(alloc, 5000)?);
-
-    // No row refers to the targets any more.
-    let trials = [(0, Step::Remove(0), true), (0, Step::Remove(1), true)];
-    assert!(rt; case.goes_as(alloc, &trials)?);
+    assert_that(rt, case.many_come_back(alloc, 5000)?);
+    assert_that(rt, case.goes_as(alloc, &FREED)?);
     Ok(())
 }
 

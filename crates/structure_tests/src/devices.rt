@@ -1,8 +1,10 @@
 //! Readers and writers that fail, take little or are interrupted.
+use crate::assertions::{assert_same, assert_that};
 use mm_value::{Watched, put_all};
 use std::alloc::Global;
 use std::io;
 use std::io::{Read, Write};
+use std::process::Abort;
 use std::test::Fail;
 
 // Takes up to 3 bytes a call and 4 in all, and then answers an error, or takes 0 where it is `silent`.
@@ -37,37 +39,42 @@ fn narrow_device(alloc: Global, is_silent: bool) -> Narrow {
     }
 }
 
+/// Asserts that a device that fails has taken the front of what it was given.
+fn assert_takes_a_front(rt: &impl Abort, device: &mut Narrow) {
+    let mut writer = Watched::new(device);
+    assert_that(rt, put_all(&mut writer, b"abcdefgh").is_err());
+    assert_that(rt, writer.failed());
+}
+
 #[test]
 fn a_fault_leaves_a_front(rt: HostRuntime) {
     for is_silent in [false, true] {
         let mut device = narrow_device(rt.alloc(), is_silent);
-        let mut writer = Watched::new(&mut device);
-        assert!(rt; put_all(&mut writer, b"abcdefgh").is_err());
-        assert!(rt; writer.failed());
-        assert_eq!(rt; device.taken.as_slice(), b"abcd".as_slice());
+        assert_takes_a_front(&rt, &mut device);
+        assert_same(&rt, device.taken.as_slice(), b"abcd".as_slice());
     }
 }
 
 #[test]
 fn the_last_call_counts(rt: HostRuntime) {
     let mut writer = Watched::new(narrow_device(rt.alloc(), true));
-    assert!(rt; put_all(&mut writer, b"abcd").is_ok());
-    assert!(rt; !writer.failed());
-    assert!(rt; writer.flush().is_err());
-    assert!(rt; writer.failed());
-    assert!(rt; writer.write(b"").is_ok());
-    assert!(rt; !writer.failed());
-    assert!(rt; writer.write(b"e").is_ok());
-    assert!(rt; writer.failed());
+    assert_that(&rt, put_all(&mut writer, b"abcd").is_ok());
+    assert_that(&rt, !writer.failed());
+    assert_that(&rt, writer.flush().is_err());
+    assert_that(&rt, writer.failed());
+    assert_that(&rt, writer.write(b"").is_ok());
+    assert_that(&rt, !writer.failed());
+    assert_that(&rt, writer.write(b"e").is_ok());
+    assert_that(&rt, writer.failed());
 }
 
 #[test]
 fn readers_are_watched(rt: HostRuntime) -> Result<(), Fail> {
     let mut reader = Watched::new(b"ab".as_slice());
     let mut buf = [0u8; 4];
-    assert_eq!(rt; reader.read(&mut buf)?, 2);
-    assert_eq!(rt; buf, [b'a', b'b', 0, 0]);
-    assert!(rt; !reader.failed());
+    assert_same(&rt, reader.read(&mut buf)?, 2);
+    assert_same(&rt, buf, [b'a', b'b', 0, 0]);
+    assert_that(&rt, !reader.failed());
     Ok(())
 }
 
@@ -96,18 +103,27 @@ impl Write for Hesitant {
     }
 }
 
+fn hesitant_device(alloc: Global, times: u32) -> Hesitant {
+    Hesitant {
+        taken: Vec::new(alloc),
+        times,
+        so_far: 0,
+    }
+}
+
+/// Asserts that eight bytes are written to a device unless it is interrupted 17 times.
+fn assert_put(rt: &impl Abort, device: &mut Hesitant, times: u32) {
+    let mut writer = Watched::new(device);
+    let put = put_all(&mut writer, b"abcdefgh");
+    assert_same(rt, put.is_err(), times == 17);
+    assert_same(rt, writer.failed(), times == 17);
+}
+
 #[test]
 fn interrupted_writes_are_made_again(rt: HostRuntime) {
     for (times, taken) in [(16, b"abcdefgh".as_slice()), (17, b"")] {
-        let mut device = Hesitant {
-            taken: Vec::new(rt.alloc()),
-            times,
-            so_far: 0,
-        };
-        let mut writer = Watched::new(&mut device);
-        let put = put_all(&mut writer, b"abcdefgh");
-        assert_eq!(rt; put.is_err(), times == 17);
-        assert_eq!(rt; writer.failed(), times == 17);
-        assert_eq!(rt; device.taken.as_slice(), taken);
+        let mut device = hesitant_device(rt.alloc(), times);
+        assert_put(&rt, &mut device, times);
+        assert_same(&rt, device.taken.as_slice(), taken);
     }
 }

@@ -3,9 +3,11 @@ ghost use Rattle.std.specs.Prelude.{◌≡◌, ◌≤◌, None, length, IfOk, On
 ghost use Rattle.mm_value.specs.declared.row_ref.RowRef.{RowRef};
 ghost use Rattle.mm_foreign.specs.Ties.{target_at, KeepsTargets};
 
+use crate::assertions::{assert_same, assert_that};
 use mm_foreign::ForeignKey;
 use mm_value::RowRef;
 use std::alloc::Global;
+use std::process::Abort;
 use std::test::Fail;
 
 /// Makes a key grow, whose memory may be refused once.
@@ -31,28 +33,40 @@ fn key_of(alloc: Global, referrers: usize, targets: usize) -> Result<ForeignKey,
     Ok(key)
 }
 
-#[test]
-fn follows_a_reference(rt: HostRuntime) -> Result<(), Fail> {
-    let mut key = key_of(rt.alloc(), 1, 200)?;
+/// Ties the first row to one that lies behind, and unties it.
+fn tie_and_untie(rt: &impl Abort, key: &mut ForeignKey)
+    requires referrers { 1 ≤ length key.old.targets }
+    requires extent { 200 ≤ key.old.extent }
+    requires untied { (from : RowRef) → target_at key.old from ≡ None }
+{
     let from = RowRef { part: 0, slot: 0 };
     let to = RowRef { part: 3, slot: 7 };
-    assert_eq!(rt; key.target(from), None);
-    assert!(rt; !key.is_referred(to));
+    assert_same(rt, key.target(from), None);
+    assert_that(rt, !key.is_referred(to));
 
     key.tie(from, to);
-    assert_eq!(rt; key.target(from), Some(to));
-    assert!(rt; key.is_referred(to));
-    assert!(rt; !key.is_referred(RowRef { part: 2, slot: 7 }));
+    assert_same(rt, key.target(from), Some(to));
+    assert_that(rt, key.is_referred(to));
+    assert_that(rt, !key.is_referred(RowRef { part: 2, slot: 7 }));
 
     key.untie(from);
-    assert_eq!(rt; key.target(from), None);
-    assert!(rt; !key.is_referred(to));
-    Ok(())
+    assert_same(rt, key.target(from), None);
+    assert_that(rt, !key.is_referred(to));
 }
 
 #[test]
-fn a_row_is_referred_to_until_the_last_referrer_goes(rt: HostRuntime) -> Result<(), Fail> {
-    let mut key = key_of(rt.alloc(), 100, 2)?;
+fn follows_a_reference(rt: HostRuntime) -> Result<(), Fail> {
+    let mut key = key_of(rt.alloc(), 1, 200)?;
+    tie_and_untie(&rt, &mut key);
+    Ok(())
+}
+
+/// Ties three rows and unties them, the last to tie it to another row.
+fn untie_in_turn(rt: &impl Abort, key: &mut ForeignKey)
+    requires referrers { 100 ≤ length key.old.targets }
+    requires extent { 2 ≤ key.old.extent }
+    requires untied { (from : RowRef) → target_at key.old from ≡ None }
+{
     let one = RowRef { part: 0, slot: 5 };
     let two = RowRef { part: 1, slot: 5 };
     let three = RowRef { part: 0, slot: 6 };
@@ -63,50 +77,69 @@ fn a_row_is_referred_to_until_the_last_referrer_goes(rt: HostRuntime) -> Result<
     key.tie(three, beside);
 
     key.untie(one);
-    assert!(rt; key.is_referred(to));
+    assert_that(rt, key.is_referred(to));
     key.untie(two);
-    assert!(rt; !key.is_referred(to));
-    assert!(rt; key.is_referred(beside));
-    assert_eq!(rt; key.target(three), Some(beside));
+    assert_that(rt, !key.is_referred(to));
+    assert_that(rt, key.is_referred(beside));
+    assert_same(rt, key.target(three), Some(beside));
 
     // A row may refer to another one later, and be referred to again.
     key.untie(three);
     key.tie(three, to);
-    assert!(rt; key.is_referred(to));
-    assert!(rt; !key.is_referred(beside));
+    assert_that(rt, key.is_referred(to));
+    assert_that(rt, !key.is_referred(beside));
+}
+
+#[test]
+fn a_row_is_referred_to_until_the_last_referrer_goes(rt: HostRuntime) -> Result<(), Fail> {
+    let mut key = key_of(rt.alloc(), 100, 2)?;
+    untie_in_turn(&rt, &mut key);
+    Ok(())
+}
+
+/// Ties a row, makes the key grow, and ties a row behind.
+fn tie_and_grow(rt: &(impl Abort + AllocGlobal), key: &mut ForeignKey) -> Result<(), Fail>
+    requires referrers { 1 ≤ length key.old.targets }
+    requires extent { 1 ≤ key.old.extent }
+    requires untied { (from : RowRef) → target_at key.old from ≡ None }
+{
+    let row = RowRef { part: 0, slot: 0 };
+    key.tie(row, row);
+    grow(rt.alloc(), key, 1000, 500)?;
+    assert_same(rt, key.target(row), Some(row));
+
+    let from = RowRef { part: 15, slot: 39 };
+    let to = RowRef { part: 7, slot: 51 };
+    key.tie(from, to);
+    assert_same(rt, key.target(from), Some(to));
+    assert_same(rt, key.target(row), Some(row));
+    assert_that(rt, key.is_referred(row));
     Ok(())
 }
 
 #[test]
 fn keeps_references_when_it_grows(rt: HostRuntime) -> Result<(), Fail> {
-    let alloc = rt.alloc();
-    let mut key = key_of(alloc, 1, 1)?;
-    let row = RowRef { part: 0, slot: 0 };
-    key.tie(row, row);
-    grow(alloc, &mut key, 1000, 500)?;
-    assert_eq!(rt; key.target(row), Some(row));
-
-    let from = RowRef { part: 15, slot: 39 };
-    let to = RowRef { part: 7, slot: 51 };
-    key.tie(from, to);
-    assert_eq!(rt; key.target(from), Some(to));
-    assert_eq!(rt; key.target(row), Some(row));
-    assert!(rt; key.is_referred(row));
-    Ok(())
+    let mut key = key_of(rt.alloc(), 1, 1)?;
+    tie_and_grow(&rt, &mut key)
 }
 
-#[test]
-fn past_its_entries_no_row_refers_or_is_referred_to(rt: HostRuntime) -> Result<(), Fail> {
+/// Asserts that a key of 64 rows of either table knows none past them, and takes no more than 2^32 - 1.
+fn ask_past_its_entries(rt: &(impl Abort + AllocGlobal), key: &mut ForeignKey) {
     let alloc = rt.alloc();
-    let mut key = key_of(alloc, 64, 64)?;
     let past = RowRef {
         part: usize::MAX,
         slot: 63,
     };
-    assert_eq!(rt; key.target(past), None);
-    assert_eq!(rt; key.target(RowRef { part: 0, slot: 64 }), None);
-    assert!(rt; !key.is_referred(past));
-    assert!(rt; key.reserve(alloc, u32::MAX as usize + 1, 0).is_err());
-    assert!(rt; key.reserve(alloc, 0, u32::MAX as usize + 1).is_err());
+    assert_same(rt, key.target(past), None);
+    assert_same(rt, key.target(RowRef { part: 0, slot: 64 }), None);
+    assert_that(rt, !key.is_referred(past));
+    assert_that(rt, key.reserve(alloc, u32::MAX as usize + 1, 0).is_err());
+    assert_that(rt, key.reserve(alloc, 0, u32::MAX as usize + 1).is_err());
+}
+
+#[test]
+fn past_its_entries_no_row_refers_or_is_referred_to(rt: HostRuntime) -> Result<(), Fail> {
+    let mut key = key_of(rt.alloc(), 64, 64)?;
+    ask_past_its_entries(&rt, &mut key);
     Ok(())
 }

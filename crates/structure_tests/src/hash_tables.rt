@@ -1,4 +1,5 @@
 //! Bags of references by hash.
+use crate::assertions::{assert_same, assert_that};
 use crate::references::are;
 use mlhash::HashRefs;
 use mm_value::RowRef;
@@ -44,9 +45,9 @@ fn has(alloc: Global, refs: &HashRefs, wanted: &[RowRef]) -> Result<bool, AllocE
 /// Finds the two references of the hash 4, and all three.
 fn find_three(rt: &(impl Abort + AllocGlobal), refs: &HashRefs) -> Result<(), Fail> {
     let alloc = rt.alloc();
-    assert_eq!(rt; refs.len(), 3);
-    assert!(rt; finds(alloc, refs, 4, &[slot(1), slot(2)])?);
-    assert!(rt; has(alloc, refs, &[slot(1), slot(2), slot(3)])?);
+    assert_same(rt, refs.len(), 3);
+    assert_that(rt, finds(alloc, refs, 4, &[slot(1), slot(2)])?);
+    assert_that(rt, has(alloc, refs, &[slot(1), slot(2), slot(3)])?);
     Ok(())
 }
 
@@ -59,10 +60,10 @@ fn finds_by_hash(rt: HostRuntime) -> Result<(), Fail> {
 /// Takes one of the two references of the hash 4 out.
 fn remove_one(rt: &(impl Abort + AllocGlobal), refs: &mut HashRefs) -> Result<(), Fail> {
     let alloc = rt.alloc();
-    assert!(rt; refs.remove(4, slot(1)));
-    assert!(rt; !refs.remove(4, slot(1)));
-    assert!(rt; finds(alloc, refs, 4, &[slot(2)])?);
-    assert!(rt; has(alloc, refs, &[slot(2), slot(3)])?);
+    assert_that(rt, refs.remove(4, slot(1)));
+    assert_that(rt, !refs.remove(4, slot(1)));
+    assert_that(rt, finds(alloc, refs, 4, &[slot(2)])?);
+    assert_that(rt, has(alloc, refs, &[slot(2), slot(3)])?);
     Ok(())
 }
 
@@ -75,7 +76,7 @@ fn removes_one_of_its_hash(rt: HostRuntime) -> Result<(), Fail> {
 #[test]
 fn an_empty_bag_has_no_room(rt: HostRuntime) -> Result<(), Fail> {
     let refs = HashRefs::new(rt.alloc());
-    assert_eq!(rt; (refs.len(), refs.spare()), (0, 0));
+    assert_same(&rt, (refs.len(), refs.spare()), (0, 0));
     Ok(())
 }
 
@@ -83,7 +84,7 @@ fn an_empty_bag_has_no_room(rt: HostRuntime) -> Result<(), Fail> {
 fn fill(rt: &impl Abort, alloc: Global, refs: &mut HashRefs) -> Result<(), AllocError> {
     for hash in 0..20u8 {
         if refs.reserve(alloc, 1).is_err() {
-            assert_eq!(rt; (refs.len(), refs.spare()), (usize::from(hash), 0));
+            assert_same(rt, (refs.len(), refs.spare()), (usize::from(hash), 0));
             refs.reserve(alloc, 1)?;
         }
         insert(rt, refs, u64::from(hash % 4), slot(hash));
@@ -101,10 +102,10 @@ fn append_by_hash(
     for hash in 0..4u8 {
         let before = found.len();
         if refs.matches(alloc, u64::from(hash), found).is_err() {
-            assert_eq!(rt; found.len(), before);
+            assert_same(rt, found.len(), before);
             refs.matches(alloc, u64::from(hash), found)?;
         }
-        assert_eq!(rt; found.len(), usize::from(hash) * 5 + 5);
+        assert_same(rt, found.len(), usize::from(hash) * 5 + 5);
     }
     Ok(())
 }
@@ -118,7 +119,7 @@ fn append_all(
 ) -> Result<(), AllocError> {
     let before = found.len();
     if refs.copy_all(alloc, found).is_err() {
-        assert_eq!(rt; found.len(), before);
+        assert_same(rt, found.len(), before);
         refs.copy_all(alloc, found)?;
     }
     Ok(())
@@ -127,21 +128,28 @@ fn append_all(
 /// Takes the references of `fill` out again.
 fn drain(rt: &impl Abort, refs: &mut HashRefs) {
     for hash in 0..20u8 {
-        assert!(rt; refs.remove(u64::from(hash % 4), slot(hash)), "{hash}");
+        let held = refs.remove(u64::from(hash % 4), slot(hash));
+        assert_same(rt, (hash, held), (hash, true));
     }
-    assert_eq!(rt; refs.len(), 0);
+    assert_same(rt, refs.len(), 0);
 }
 
 /// Asserts that each reference of `fill` is found twice, and no other.
 fn assert_twice(rt: &impl Abort, found: &[RowRef]) {
-    assert_eq!(rt; found.len(), 40);
+    assert_same(rt, found.len(), 40);
     for hash in 0..20u8 {
-        assert_eq!(rt;
-            found.iter().filter(|r| **r == slot(hash)).count(),
-            2,
-            "{hash}"
-        );
+        let count = found.iter().filter(|r| **r == slot(hash)).count();
+        assert_same(rt, (hash, count), (hash, 2));
     }
+}
+
+/// Finds each reference of `fill` by its hash, and then among all.
+fn find_twice(rt: &impl Abort, alloc: Global, refs: &HashRefs) -> Result<(), AllocError> {
+    let mut found = Vec::new(alloc);
+    append_by_hash(rt, alloc, refs, &mut found)?;
+    append_all(rt, alloc, refs, &mut found)?;
+    assert_twice(rt, &found);
+    Ok(())
 }
 
 // Where the run refuses one allocation, the refused call has changed nothing, and the next one answers.
@@ -150,10 +158,7 @@ fn a_refused_call_can_be_given_again(rt: HostRuntime) -> Result<(), Fail> {
     let alloc = rt.alloc();
     let mut refs = HashRefs::new(alloc);
     fill(&rt, alloc, &mut refs)?;
-    let mut found = Vec::new(alloc);
-    append_by_hash(&rt, alloc, &refs, &mut found)?;
-    append_all(&rt, alloc, &refs, &mut found)?;
-    assert_twice(&rt, &found);
+    find_twice(&rt, alloc, &refs)?;
     drain(&rt, &mut refs);
     Ok(())
 }

@@ -1,11 +1,20 @@
 //! Literals and what they are read as.
+use crate::assertions::{assert_same, assert_that};
 use crate::samples::{is_equal, text};
 use mm_value::{Refusal, Value, literals_are_exact, read_literal};
 use std::alloc::Global;
+use std::process::Abort;
 use std::test::Fail;
 
-#[test]
-fn literals_are_read(rt: HostRuntime) -> Result<(), Fail> {
+/// Asserts that bytes are read as a number.
+fn assert_number(rt: &(impl Abort + AllocGlobal), bytes: &[u8], want: i64) -> Result<(), Refusal> {
+    let value = read_literal(rt.alloc(), bytes)?;
+    assert!(rt; is_equal(&value, &Value::Int(want)), "{want}");
+    Ok(())
+}
+
+/// Asserts that literals of numbers are read.
+fn assert_numbers(rt: &(impl Abort + AllocGlobal)) -> Result<(), Refusal> {
     for (bytes, want) in [
         (b"-00".as_slice(), 0i64),
         (b"007".as_slice(), 7),
@@ -13,16 +22,21 @@ fn literals_are_read(rt: HostRuntime) -> Result<(), Fail> {
         (b"-9223372036854775808".as_slice(), i64::MIN),
         (b"00000000000000000000000000000000000012".as_slice(), 12),
     ] {
-        let value = read_literal(rt.alloc(), bytes)?;
-        assert!(rt; is_equal(&value, &Value::Int(want)), "{want}");
+        assert_number(rt, bytes, want)?;
     }
+    Ok(())
+}
+
+#[test]
+fn literals_are_read(rt: HostRuntime) -> Result<(), Fail> {
+    assert_numbers(&rt)?;
     for (bytes, want) in [
         (b"''".as_slice(), b"".as_slice()),
         (b"''''".as_slice(), b"'".as_slice()),
         (b"'a''b'".as_slice(), b"a'b".as_slice()),
         (b"'\xff -- \x00'".as_slice(), b"\xff -- \x00".as_slice()),
     ] {
-        assert!(rt; is_text_of(rt.alloc(), bytes, want)?);
+        assert_that(&rt, is_text_of(rt.alloc(), bytes, want)?);
     }
     literals_are_exact();
     Ok(())
@@ -34,15 +48,26 @@ fn is_text_of(alloc: Global, bytes: &[u8], want: &[u8]) -> Result<bool, Refusal>
     Ok(is_equal(&value, &text(alloc, want)?))
 }
 
+/// Sixty-four letters in quotes.
+const LONGEST: &[u8] = b"'xxxxxxxxxxxxxxxxxxxxxxxxxxxxxxxxxxxxxxxxxxxxxxxxxxxxxxxxxxxxxxxx'";
+
+/// The same with one quote behind it, and with two.
+const ONE_QUOTE_BEHIND: &[u8] =
+    b"'xxxxxxxxxxxxxxxxxxxxxxxxxxxxxxxxxxxxxxxxxxxxxxxxxxxxxxxxxxxxxxxx''";
+
+const TWO_QUOTES_BEHIND: &[u8] =
+    b"'xxxxxxxxxxxxxxxxxxxxxxxxxxxxxxxxxxxxxxxxxxxxxxxxxxxxxxxxxxxxxxxx'''";
+
 #[test]
 fn texts_have_64_bytes_at_most(rt: HostRuntime) -> Result<(), Fail> {
-    let mut bytes = [b'x'; 68];
-    for quote in [0, 65, 66, 67] {
-        bytes[quote] = b'\'';
-    }
-    assert!(rt; is_text_of(rt.alloc(), &bytes[..66], &[b'x'; 64])?);
-    assert_eq!(rt; refusal(rt.alloc(), &bytes[..67]), Some(Refusal::Syntax));
-    assert_eq!(rt; refusal(rt.alloc(), &bytes), Some(Refusal::TextTooLong));
+    let alloc = rt.alloc();
+    assert_that(&rt, is_text_of(alloc, LONGEST, &[b'x'; 64])?);
+    assert_same(&rt, refusal(alloc, ONE_QUOTE_BEHIND), Some(Refusal::Syntax));
+    assert_same(
+        &rt,
+        refusal(alloc, TWO_QUOTES_BEHIND),
+        Some(Refusal::TextTooLong),
+    );
     Ok(())
 }
 
@@ -66,7 +91,7 @@ fn other_bytes_are_refused(rt: HostRuntime) {
         b"1a".as_slice(),
         b"99999999999999999999a".as_slice(),
     ] {
-        assert_eq!(rt; refusal(rt.alloc(), bytes), Some(Refusal::Syntax));
+        assert_same(&rt, refusal(rt.alloc(), bytes), Some(Refusal::Syntax));
     }
     for bytes in [
         b"9223372036854775808".as_slice(),
@@ -74,6 +99,10 @@ fn other_bytes_are_refused(rt: HostRuntime) {
         b"18446744073709551616".as_slice(),
         b"-18446744073709551617".as_slice(),
     ] {
-        assert_eq!(rt; refusal(rt.alloc(), bytes), Some(Refusal::NumberOutOfRange));
+        assert_same(
+            &rt,
+            refusal(rt.alloc(), bytes),
+            Some(Refusal::NumberOutOfRange),
+        );
     }
 }

@@ -1,6 +1,8 @@
 //! Ordered lists of references, and counted searches.
+ghost use Rattle.std.specs.Prelude.{◌≡◌, []};
 ghost use Rattle.structure_tests.specs.Orders.{IsByPlace};
 
+use crate::assertions::{assert_same, assert_that};
 use crate::references::numbered;
 use crate::samples::{Anywhere, ByPlace, InPartition, reserve};
 use mm_order::{AtReference, OrderedRefs, Probe, Seek, SortedRefs};
@@ -10,22 +12,85 @@ use std::cmp::Ordering;
 use std::process::Abort;
 use std::test::Fail;
 
+/// Appends all references of a list.
+pub fn append_all<R: OrderedRefs>(
+    alloc: Global,
+    refs: &R,
+    out: &mut Vec<RowRef>,
+) -> Result<(), AllocError>
+    requires { IsByPlace (R.refs refs.now) }
+{
+    refs.copy_range(alloc, &ByPlace, &Anywhere, &Anywhere, out)
+}
+
+/// Appends those references of a list that lie in a partition.
+pub fn append_part<R: OrderedRefs>(
+    alloc: Global,
+    refs: &R,
+    part: usize,
+    out: &mut Vec<RowRef>,
+) -> Result<(), AllocError>
+    requires { IsByPlace (R.refs refs.now) }
+{
+    let probe = InPartition(part);
+    refs.copy_range(alloc, &ByPlace, &probe, &probe, out)
+}
+
+/// Copies all references into an empty list, again where memory is refused; then the list is still empty.
+fn copy_all(
+    rt: &impl Abort,
+    alloc: Global,
+    refs: &SortedRefs,
+    all: &mut Vec<RowRef>,
+) -> Result<(), AllocError>
+    requires { IsByPlace refs.now.refs }
+{
+    if append_all(alloc, refs, all).is_err() {
+        assert_same(rt, all.len(), 0);
+        append_all(alloc, refs, all)?;
+    }
+    Ok(())
+}
+
 /// Asserts that these are the references 1 to 17, in order.
+fn assert_are_17(rt: &impl Abort, refs: &[RowRef]) {
+    assert_same(rt, refs.len(), 17);
+    for (i, held) in refs.iter().enumerate() {
+        assert_same(rt, *held, numbered(i + 1));
+    }
+}
+
+/// Asserts that a list has the references 1 to 17, in order.
 fn assert_up_to_17(rt: &impl Abort, alloc: Global, refs: &SortedRefs) -> Result<(), AllocError>
     requires { IsByPlace refs.now.refs }
 {
     let mut all = Vec::new(alloc);
-    if refs
-        .copy_range(alloc, &ByPlace, &Anywhere, &Anywhere, &mut all)
-        .is_err()
-    {
-        assert_eq!(rt; all.len(), 0);
-        refs.copy_range(alloc, &ByPlace, &Anywhere, &Anywhere, &mut all)?;
+    copy_all(rt, alloc, refs, &mut all)?;
+    assert_are_17(rt, &all);
+    Ok(())
+}
+
+/// Puts the references 1 to 17 into an empty list.
+fn put_17(rt: &impl Abort, alloc: Global, refs: &mut SortedRefs) -> Result<(), AllocError>
+    requires { refs.old.refs ≡ [] }
+    ensures { IsByPlace refs.new.refs }
+{
+    reserve(rt, refs, alloc, 17)?;
+    for n in 1..18 {
+        refs.insert(&ByPlace, numbered(n));
     }
-    assert_eq!(rt; all.len(), 17);
-    for (i, held) in all.iter().enumerate() {
-        assert_eq!(rt; *held, numbered(i + 1));
-    }
+    Ok(())
+}
+
+/// Asserts that a list has the references 1 to 17 in order, and takes the last out.
+fn take_last(rt: &impl Abort, alloc: Global, refs: &mut SortedRefs) -> Result<(), AllocError>
+    requires { IsByPlace refs.old.refs }
+{
+    assert_same(rt, refs.len(), 17);
+    assert_up_to_17(rt, alloc, refs)?;
+    assert_that(rt, refs.remove(&ByPlace, numbered(17)));
+    assert_that(rt, !refs.remove(&ByPlace, numbered(17)));
+    assert_that(rt, 1 <= refs.spare());
     Ok(())
 }
 
@@ -33,16 +98,8 @@ fn assert_up_to_17(rt: &impl Abort, alloc: Global, refs: &SortedRefs) -> Result<
 fn holds_references_in_order(rt: HostRuntime) -> Result<(), Fail> {
     let alloc = rt.alloc();
     let mut refs = SortedRefs::new(alloc);
-    reserve(&rt, &mut refs, alloc, 17)?;
-    for n in 1..18 {
-        refs.insert(&ByPlace, numbered(n));
-    }
-    assert_eq!(rt; refs.len(), 17);
-
-    assert_up_to_17(&rt, alloc, &refs)?;
-    assert!(rt; refs.remove(&ByPlace, numbered(17)));
-    assert!(rt; !refs.remove(&ByPlace, numbered(17)));
-    assert!(rt; 1 <= refs.spare());
+    put_17(&rt, alloc, &mut refs)?;
+    take_last(&rt, alloc, &mut refs)?;
     Ok(())
 }
 
@@ -56,14 +113,38 @@ fn copy_part(
 ) -> Result<(), AllocError>
     requires { IsByPlace refs.now.refs }
 {
-    let (probe, before) = (InPartition(part), out.len());
-    if refs
-        .copy_range(alloc, &ByPlace, &probe, &probe, out)
-        .is_err()
-    {
-        assert_eq!(rt; out.len(), before);
-        refs.copy_range(alloc, &ByPlace, &probe, &probe, out)?;
+    let before = out.len();
+    if append_part(alloc, refs, part, out).is_err() {
+        assert_same(rt, out.len(), before);
+        append_part(alloc, refs, part, out)?;
     }
+    Ok(())
+}
+
+/// Copies the references of the first three partitions into an empty list, which are the references 3 and 7.
+fn copy_parts(
+    rt: &impl Abort,
+    alloc: Global,
+    refs: &SortedRefs,
+    out: &mut Vec<RowRef>,
+) -> Result<(), AllocError>
+    requires { IsByPlace refs.now.refs }
+{
+    for part in 0..3 {
+        copy_part(rt, alloc, refs, part, out)?;
+    }
+    assert_same(rt, out.as_slice(), &[numbered(3), numbered(7)]);
+    Ok(())
+}
+
+/// Puts the references 3 and 7 into an empty list.
+fn put_two(rt: &impl Abort, alloc: Global, refs: &mut SortedRefs) -> Result<(), AllocError>
+    requires { refs.old.refs ≡ [] }
+    ensures { IsByPlace refs.new.refs }
+{
+    reserve(rt, refs, alloc, 2)?;
+    refs.insert(&ByPlace, numbered(7));
+    refs.insert(&ByPlace, numbered(3));
     Ok(())
 }
 
@@ -71,14 +152,9 @@ fn copy_part(
 fn copies_a_range(rt: HostRuntime) -> Result<(), Fail> {
     let alloc = rt.alloc();
     let mut refs = SortedRefs::new(alloc);
-    reserve(&rt, &mut refs, alloc, 2)?;
-    refs.insert(&ByPlace, numbered(7));
-    refs.insert(&ByPlace, numbered(3));
+    put_two(&rt, alloc, &mut refs)?;
     let mut out = Vec::new(alloc);
-    for part in 0..3 {
-        copy_part(&rt, alloc, &refs, part, &mut out)?;
-    }
-    assert_eq!(rt; out.as_slice(), [numbered(3), numbered(7)].as_slice());
+    copy_parts(&rt, alloc, &refs, &mut out)?;
     Ok(())
 }
 
@@ -86,11 +162,11 @@ fn copies_a_range(rt: HostRuntime) -> Result<(), Fail> {
 fn counts_each_question(rt: HostRuntime) {
     let probe = InPartition(1);
     let mut seek = Seek::new(&probe);
-    assert_eq!(rt; seek.count(), 0);
-    assert_eq!(rt; seek.place(numbered(3)), Ordering::Less);
-    assert_eq!(rt; seek.place(numbered(4)), Ordering::Equal);
-    assert_eq!(rt; seek.place(numbered(8)), Ordering::Greater);
-    assert_eq!(rt; seek.count(), 3);
+    assert_same(&rt, seek.count(), 0);
+    assert_same(&rt, seek.place(numbered(3)), Ordering::Less);
+    assert_same(&rt, seek.place(numbered(4)), Ordering::Equal);
+    assert_same(&rt, seek.place(numbered(8)), Ordering::Greater);
+    assert_same(&rt, seek.count(), 3);
 }
 
 #[test]
@@ -99,7 +175,7 @@ fn tells_where_a_reference_lies(rt: HostRuntime) {
         order: &ByPlace,
         sought: numbered(6),
     };
-    assert_eq!(rt; probe.place(numbered(5)), Ordering::Less);
-    assert_eq!(rt; probe.place(numbered(6)), Ordering::Equal);
-    assert_eq!(rt; probe.place(numbered(8)), Ordering::Greater);
+    assert_same(&rt, probe.place(numbered(5)), Ordering::Less);
+    assert_same(&rt, probe.place(numbered(6)), Ordering::Equal);
+    assert_same(&rt, probe.place(numbered(8)), Ordering::Greater);
 }

@@ -1,7 +1,9 @@
 //! Rows in partitions, and the prefixes of their columns.
 ghost use Rattle.std.specs.Prelude.{◌≡◌, ◌≢◌, ◌≤◌, ◌+◌, IfOk, OnOk};
-ghost use Rattle.mm_partition.specs.Places.{Free, IsLive, IsUnchanged, ChangesOnly};
+ghost use Rattle.mm_value.specs.declared.row_ref.RowRef.{RowRef};
+ghost use Rattle.mm_partition.specs.Places.{Free, slot_at, IsLive, IsUnchanged, ChangesOnly};
 
+use crate::assertions::{assert_same, assert_that};
 use mm_partition::Partitions;
 use mm_value::{Row, RowRef, Text, Value};
 use std::alloc::Global;
@@ -29,6 +31,17 @@ fn reserve(alloc: Global, rows: &mut Partitions, n: usize) -> Result<(), Fail>
     Ok(())
 }
 
+/// Places the row of this number.
+fn place_row(alloc: Global, rows: &mut Partitions, number: i64) -> Result<RowRef, Fail>
+    requires { 1 ≤ rows.old.room }
+    ensures fresh { IfOk result (λ at. slot_at rows.old at ≡ Free) }
+    ensures live { IfOk result (IsLive rows.new) }
+    ensures others { IfOk result (λ at. (other : RowRef) → other ≢ at → slot_at rows.new other ≡ slot_at rows.old other) }
+    ensures room { OnOk result (rows.new.room + 1 ≡ rows.old.room) }
+{
+    Ok(rows.place(row_of(alloc, number)?))
+}
+
 /// The number in a row of one number.
 fn number_in(row: &Row) -> Option<i64> {
     if row.len() != 1 {
@@ -46,22 +59,22 @@ fn hide_and_show(rt: &impl Abort, rows: &mut Partitions, at: RowRef)
 {
     rows.hide(at);
     rows.unhide(at);
-    assert_eq!(rt; number_in(rows.get(at)), Some(2));
+    assert_same(rt, number_in(rows.get(at)), Some(2));
 
     rows.hide(at);
     let gone = rows.release(at);
-    assert_eq!(rt; number_in(&gone), Some(2));
+    assert_same(rt, number_in(&gone), Some(2));
 }
 
 /// Places a row, replaces it, hides and shows it, and releases it.
 fn keep_a_row(rt: &(impl Abort + AllocGlobal), rows: &mut Partitions) -> Result<(), Fail> {
     let alloc = rt.alloc();
     reserve(alloc, rows, 1)?;
-    let at = rows.place(row_of(alloc, 1)?);
-    assert_eq!(rt; number_in(rows.get(at)), Some(1));
+    let at = place_row(alloc, rows, 1)?;
+    assert_same(rt, number_in(rows.get(at)), Some(1));
 
     let was = rows.replace(at, row_of(alloc, 2)?);
-    assert_eq!(rt; number_in(&was), Some(1));
+    assert_same(rt, number_in(&was), Some(1));
 
     hide_and_show(rt, rows, at);
     Ok(())
@@ -84,9 +97,9 @@ fn place_two(
 {
     let alloc = rt.alloc();
     reserve(alloc, rows, 2)?;
-    let one = rows.place(row_of(alloc, 1)?);
-    let two = rows.place(row_of(alloc, 2)?);
-    assert_ne!(rt; one, two);
+    let one = place_row(alloc, rows, 1)?;
+    let two = place_row(alloc, rows, 2)?;
+    assert_that(rt, one != two);
     Ok((one, two))
 }
 
@@ -96,7 +109,7 @@ fn assert_two(rt: &impl Abort, rows: &Partitions, one: RowRef, two: RowRef)
     requires two { IsLive rows.now two }
 {
     let numbers = [number_in(rows.get(one)), number_in(rows.get(two))];
-    assert_eq!(rt; numbers, [Some(1), Some(2)]);
+    assert_same(rt, numbers, [Some(1), Some(2)]);
 }
 
 /// Places 200 rows behind those of 1 and 2, past the end of the first partition.
@@ -111,11 +124,11 @@ fn place_behind(
 {
     let alloc = rt.alloc();
     reserve(alloc, rows, 200)?;
-    assert_eq!(rt; number_in(rows.get(one)), Some(1));
+    assert_same(rt, number_in(rows.get(one)), Some(1));
     for _ in 0..200usize {
-        rows.place(row_of(alloc, 3)?);
+        place_row(alloc, rows, 3)?;
     }
-    assert_eq!(rt; number_in(rows.get(two)), Some(2));
+    assert_same(rt, number_in(rows.get(two)), Some(2));
     Ok(())
 }
 
@@ -145,8 +158,8 @@ fn free_two(rt: &(impl Abort + AllocGlobal), rows: &mut Partitions) -> Result<()
     free(rows, two);
 
     // The last one freed comes first.
-    assert_eq!(rt; rows.place(row_of(alloc, 3)?), two);
-    assert_eq!(rt; rows.place(row_of(alloc, 4)?), one);
+    assert_same(rt, place_row(alloc, rows, 3)?, two);
+    assert_same(rt, place_row(alloc, rows, 4)?, one);
     Ok(())
 }
 
@@ -160,17 +173,17 @@ fn gives_freed_slots_again_before_new_ones(rt: HostRuntime) -> Result<(), Fail> 
 fn hide_one(rt: &(impl Abort + AllocGlobal), rows: &mut Partitions) -> Result<(), Fail> {
     let alloc = rt.alloc();
     reserve(alloc, rows, 2)?;
-    let one = rows.place(row_of(alloc, 1)?);
+    let one = place_row(alloc, rows, 1)?;
     rows.hide(one);
-    let two = rows.place(row_of(alloc, 2)?);
-    assert_ne!(rt; one, two);
+    let two = place_row(alloc, rows, 2)?;
+    assert_that(rt, one != two);
 
     rows.unhide(one);
     assert_two(rt, rows, one, two);
 
     // Once it is released it is the next.
     free(rows, one);
-    assert_eq!(rt; rows.place(row_of(alloc, 3)?), one);
+    assert_same(rt, place_row(alloc, rows, 3)?, one);
     Ok(())
 }
 
@@ -184,13 +197,13 @@ fn leaves_a_hidden_slot_alone(rt: HostRuntime) -> Result<(), Fail> {
 fn fill_partitions(rt: &(impl Abort + AllocGlobal), rows: &mut Partitions) -> Result<(), Fail> {
     let alloc = rt.alloc();
     reserve(alloc, rows, 130)?;
-    let first = rows.place(row_of(alloc, 0)?);
+    let first = place_row(alloc, rows, 0)?;
     for k in 1..130usize {
-        let at = rows.place(row_of(alloc, k as i64)?);
-        assert_ne!(rt; at, first);
-        assert_eq!(rt; number_in(rows.get(at)), Some(k as i64));
+        let at = place_row(alloc, rows, k as i64)?;
+        assert_that(rt, at != first);
+        assert_same(rt, number_in(rows.get(at)), Some(k as i64));
     }
-    assert_eq!(rt; number_in(rows.get(first)), Some(0));
+    assert_same(rt, number_in(rows.get(first)), Some(0));
     Ok(())
 }
 
@@ -221,18 +234,36 @@ fn track(alloc: Global, rows: &mut Partitions, column: usize) -> Result<(), Fail
     Ok(())
 }
 
+/// Places the row of this number and this text.
+fn place_with_text(
+    alloc: Global,
+    rows: &mut Partitions,
+    number: i64,
+    text: &[u8],
+) -> Result<RowRef, Fail>
+    requires { 1 ≤ rows.old.room }
+    ensures live { IfOk result (IsLive rows.new) }
+    ensures room { OnOk result (rows.new.room + 1 ≡ rows.old.room) }
+{
+    Ok(rows.place(row_with_text(alloc, number, text)?))
+}
+
 /// Tracks two columns, one row before and one behind.
 fn track_two(rt: &(impl Abort + AllocGlobal), rows: &mut Partitions) -> Result<(), Fail> {
     let alloc = rt.alloc();
     reserve(alloc, rows, 2)?;
-    rows.place(row_with_text(alloc, 5, b"abcdefgh")?);
-    assert!(rt; rows.prefixes(0).is_none());
+    place_with_text(alloc, rows, 5, b"abcdefgh")?;
+    assert_that(rt, rows.prefixes(0).is_none());
     track(alloc, rows, 1)?;
     track(alloc, rows, 0)?;
-    rows.place(row_of(alloc, i64::MAX)?);
-    assert!(rt; rows.prefixes(0) == Some(&[0x4000000000000005u64, 0x7fffffffffffffff]));
+    place_row(alloc, rows, i64::MAX)?;
+    assert_same(
+        rt,
+        rows.prefixes(0),
+        Some(&[0x4000000000000005u64, 0x7fffffffffffffff]),
+    );
     // The second row has no second value.
-    assert!(rt; rows.prefixes(1) == Some(&[0xb0b131b232b333b4u64, 0]));
+    assert_same(rt, rows.prefixes(1), Some(&[0xb0b131b232b333b4u64, 0]));
     Ok(())
 }
 
@@ -246,15 +277,15 @@ fn keeps_the_prefixes_of_tracked_columns(rt: HostRuntime) -> Result<(), Fail> {
 fn overwrite(rt: &(impl Abort + AllocGlobal), rows: &mut Partitions) -> Result<(), Fail> {
     let alloc = rt.alloc();
     reserve(alloc, rows, 1)?;
-    let one = rows.place(row_with_text(alloc, 5, b"a")?);
+    let one = place_with_text(alloc, rows, 5, b"a")?;
     track(alloc, rows, 1)?;
     rows.replace(one, row_with_text(alloc, 6, b"b")?);
-    assert!(rt; rows.prefixes(1) == Some(&[0xb100000000000000u64]));
+    assert_same(rt, rows.prefixes(1), Some(&[0xb100000000000000u64]));
 
     // The freed slot is given out again.
     free(rows, one);
-    rows.place(row_with_text(alloc, 7, b"")?);
-    assert!(rt; rows.prefixes(1) == Some(&[0x8000000000000000u64]));
+    place_with_text(alloc, rows, 7, b"")?;
+    assert_same(rt, rows.prefixes(1), Some(&[0x8000000000000000u64]));
     Ok(())
 }
 
@@ -271,8 +302,8 @@ fn track_and_untrack(rt: &(impl Abort + AllocGlobal), rows: &mut Partitions) -> 
     track(alloc, rows, 1)?;
     track(alloc, rows, 1)?;
     rows.untrack(1);
-    assert!(rt; rows.prefixes(1).is_none());
-    assert!(rt; rows.prefixes(0).is_some());
+    assert_that(rt, rows.prefixes(1).is_none());
+    assert_that(rt, rows.prefixes(0).is_some());
     Ok(())
 }
 
@@ -288,12 +319,12 @@ fn track_and_fill(rt: &(impl Abort + AllocGlobal), rows: &mut Partitions) -> Res
     track(alloc, rows, 0)?;
     for k in 0..130usize {
         reserve(alloc, rows, 1)?;
-        rows.place(row_of(alloc, k as i64)?);
+        place_row(alloc, rows, k as i64)?;
     }
     let prefixes = rows.prefixes(0).unwrap_or(&[]);
-    assert_eq!(rt; prefixes.len(), 130);
+    assert_same(rt, prefixes.len(), 130);
     for (k, prefix) in prefixes.iter().enumerate() {
-        assert_eq!(rt; *prefix, 0x4000000000000000 + k as u64);
+        assert_same(rt, *prefix, 0x4000000000000000 + k as u64);
     }
     Ok(())
 }

@@ -1,44 +1,71 @@
 //! The text of rows.
+use crate::assertions::{assert_same, assert_that};
 use crate::samples::text;
-use mm_value::{Row, Value, Watched, write_row, write_tuple};
+use mm_value::{Refusal, Row, Value, Watched, write_row, write_tuple};
+use std::alloc::Global;
+use std::process::Abort;
 use std::test::Fail;
+
+/// Appends two numbers and two texts with quotes.
+fn push_four(alloc: Global, values: &mut Vec<Value>) -> Result<(), Refusal> {
+    values.push(Value::Int(1))?;
+    values.push(Value::Int(i64::MIN))?;
+    values.push(text(alloc, b"'")?)?;
+    values.push(text(alloc, b"it's '\xc3\xa9\xff'")?)?;
+    Ok(())
+}
+
+/// The row of two numbers and two texts with quotes.
+fn row_of_four(alloc: Global) -> Result<Row, Refusal> {
+    let mut values = Vec::new(alloc);
+    push_four(alloc, &mut values)?;
+    Ok(Row::new(values))
+}
+
+/// Asserts that a row is written as these bytes.
+fn assert_written(rt: &(impl Abort + AllocGlobal), row: &Row, want: &[u8]) {
+    let mut out = Vec::new(rt.alloc());
+    let mut writer = Watched::new(&mut out);
+    assert_that(rt, write_row(row, &mut writer).is_ok());
+    assert_that(rt, !writer.failed());
+    assert_same(rt, out.as_slice(), want);
+}
 
 #[test]
 fn rows_are_written(rt: HostRuntime) -> Result<(), Fail> {
-    let mut values = Vec::new(rt.alloc());
-    values.push(Value::Int(1))?;
-    values.push(Value::Int(i64::MIN))?;
-    values.push(text(rt.alloc(), b"'")?)?;
-    values.push(text(rt.alloc(), b"it's '\xc3\xa9\xff'")?)?;
-    let row = Row::new(values);
+    let row = row_of_four(rt.alloc())?;
+    assert_written(
+        &rt,
+        &row,
+        b"(1, -9223372036854775808, '''', 'it''s ''\xc3\xa9\xff''')",
+    );
+    Ok(())
+}
+
+/// Asserts that a name and a number are written from references to them, and that none are written as no values.
+fn assert_written_from_references(
+    rt: &(impl Abort + AllocGlobal),
+    name: &Value,
+    number: &Value,
+    want: &[u8],
+) {
     let mut out = Vec::new(rt.alloc());
     let mut writer = Watched::new(&mut out);
-    assert!(rt; write_row(&row, &mut writer).is_ok());
-    assert!(rt; !writer.failed());
-    let want = b"(1, -9223372036854775808, '''', 'it''s ''\xc3\xa9\xff''')";
-    assert_eq!(rt; out.as_slice(), want.as_slice());
-    Ok(())
+    assert_that(rt, write_tuple(&[name, number, name], &mut writer).is_ok());
+    assert_that(rt, write_tuple(&[], &mut writer).is_ok());
+    assert_that(rt, !writer.failed());
+    assert_same(rt, out.as_slice(), want);
 }
 
 #[test]
 fn a_row_is_written_from_references(rt: HostRuntime) -> Result<(), Fail> {
     let name = text(rt.alloc(), b"it's")?;
-    let number = Value::Int(-7);
-    let mut out = Vec::new(rt.alloc());
-    let mut writer = Watched::new(&mut out);
-    assert!(rt; write_tuple(&[&name, &number, &name], &mut writer).is_ok());
-    assert!(rt; write_tuple(&[], &mut writer).is_ok());
-    assert!(rt; !writer.failed());
-    let want = b"('it''s', -7, 'it''s')()";
-    assert_eq!(rt; out.as_slice(), want.as_slice());
+    assert_written_from_references(&rt, &name, &Value::Int(-7), b"('it''s', -7, 'it''s')()");
     Ok(())
 }
 
 #[test]
 fn an_empty_row_is_written(rt: HostRuntime) {
     let row = Row::new(Vec::new(rt.alloc()));
-    let mut out = Vec::new(rt.alloc());
-    let mut writer = Watched::new(&mut out);
-    assert!(rt; write_row(&row, &mut writer).is_ok());
-    assert_eq!(rt; out.as_slice(), b"()".as_slice());
+    assert_written(&rt, &row, b"()");
 }

@@ -2,6 +2,7 @@
 ghost use Rattle.std.specs.Prelude.{◌≡◌, ◌<◌, length, max, OnOk};
 ghost use Rattle.ttree_node.specs.Slide.{IsLeaf, child};
 
+use crate::assertions::{assert_same, assert_that};
 use crate::references::first_of;
 use std::alloc::{AllocError, Global};
 use std::process::Abort;
@@ -14,8 +15,8 @@ fn reserve(rt: &impl Abort, alloc: Global, spares: &mut Spares, n: usize) -> Res
 {
     let before = spares.len();
     if spares.reserve(alloc, n).is_err() {
-        assert!(rt; spares.len() >= before);
-        assert!(rt; spares.len() < n);
+        assert_that(rt, spares.len() >= before);
+        assert_that(rt, spares.len() < n);
         spares.reserve(alloc, n)?;
     }
     Ok(())
@@ -27,8 +28,8 @@ fn fill(rt: &impl Abort, node: &mut Subtree)
     ensures right { node.new.right ≡ node.old.right }
 {
     for part in 0..15 {
-        assert!(rt; node.entries().len() < 16);
-        assert!(rt; part < node.entries().len());
+        assert_that(rt, node.entries().len() < 16);
+        assert_that(rt, part < node.entries().len());
         node.put_entry(part, first_of(part));
     }
 }
@@ -54,7 +55,7 @@ fn assert_parts(
 ) -> Result<(), AllocError> {
     let mut parts = Vec::new(alloc);
     write_parts(tree, &mut parts)?;
-    assert_eq!(rt; parts.as_slice(), want);
+    assert_same(rt, parts.as_slice(), want);
     Ok(())
 }
 
@@ -67,8 +68,27 @@ fn assert_four(
 ) -> Result<(), AllocError>
     requires { 0 < length tree.now.entries }
 {
-    assert_eq!(rt; (tree.height(), tree.entries().get(0).part), (3, root));
+    assert_same(rt, (tree.height(), tree.entries().get(0).part), (3, root));
     assert_parts(rt, alloc, Some(tree), &[1, 2, 3, 4])
+}
+
+/// Turns a tree of four of the free nodes to the left and back. It owns none of them where it may end early.
+fn turn_four(rt: &impl Abort, alloc: Global, spares: &mut Spares) -> Result<(), AllocError>
+    requires { spares.old ≡ 4 }
+{
+    let mut first = Subtree::leaf(spares, first_of(1));
+    let mut second = Subtree::leaf(spares, first_of(3));
+    second.set_left(Some(Subtree::leaf(spares, first_of(2))));
+    second.set_right(Some(Subtree::leaf(spares, first_of(4))));
+    first.set_right(Some(second));
+    let before = assert_four(rt, alloc, &first, 1);
+    let turned = first.rotate_left();
+    let between = assert_four(rt, alloc, &turned, 3);
+    let back = turned.rotate_right();
+    let after = assert_four(rt, alloc, &back, 1);
+    back.free_into(spares);
+    assert_same(rt, spares.len(), 4);
+    before.and(between).and(after)
 }
 
 #[test]
@@ -76,18 +96,7 @@ fn rotations_keep_the_order(rt: HostRuntime) -> Result<(), Fail> {
     let alloc = rt.alloc();
     let mut spares = Spares::new(alloc);
     reserve(&rt, alloc, &mut spares, 4)?;
-    let mut first = Subtree::leaf(&mut spares, first_of(1));
-    let mut second = Subtree::leaf(&mut spares, first_of(3));
-    second.set_left(Some(Subtree::leaf(&mut spares, first_of(2))));
-    second.set_right(Some(Subtree::leaf(&mut spares, first_of(4))));
-    first.set_right(Some(second));
-    assert_four(&rt, alloc, &first, 1)?;
-    let turned = first.rotate_left();
-    assert_four(&rt, alloc, &turned, 3)?;
-    let back = turned.rotate_right();
-    assert_four(&rt, alloc, &back, 1)?;
-    back.free_into(&mut spares);
-    assert_eq!(rt; spares.len(), 4);
+    turn_four(&rt, alloc, &mut spares)?;
     Ok(())
 }
 
@@ -97,7 +106,7 @@ fn slide(rt: &impl Abort, alloc: Global, node: &mut Subtree, side: Side) -> Resu
 {
     fill(rt, node);
     node.slide(side);
-    assert_eq!(rt; node.entries().len(), 3);
+    assert_same(rt, node.entries().len(), 3);
     match side {
         Side::Left => {
             let want = [100, 0, 1, 2, 3, 4, 5, 6, 7, 8, 9, 10, 11, 12];
@@ -135,7 +144,7 @@ fn entries_shift(rt: HostRuntime) -> Result<(), Fail> {
     let mut node = Subtree::leaf(&mut spares, first_of(2));
     node.put_entry(0, first_of(1));
     node.put_entry(2, first_of(3));
-    assert_eq!(rt; node.take_entry(1).part, 2);
+    assert_same(&rt, node.take_entry(1).part, 2);
     assert_parts(&rt, alloc, Some(&node), &[1, 3])?;
     Ok(())
 }
@@ -146,6 +155,6 @@ fn long_pools_are_dropped(rt: HostRuntime) -> Result<(), Fail> {
     let mut spares = Spares::new(alloc);
     spares.reserve(alloc, 200_000)?;
     spares.trim(100_000);
-    assert_eq!(rt; spares.len(), 100_000);
+    assert_same(&rt, spares.len(), 100_000);
     Ok(())
 }

@@ -3,8 +3,10 @@ ghost use Rattle.std.specs.Prelude.{◌≡◌, [], IfOk};
 ghost use Rattle.std.specs.Ordering.{nat_cmp};
 ghost use Rattle.structure_tests.specs.Orders.{IsByPlace};
 
+use crate::assertions::{assert_same, assert_that};
+use crate::orders::append_all;
 use crate::references::{ascending, first_of};
-use crate::samples::{Anywhere, ByPlace, InPartition, reserve};
+use crate::samples::{ByPlace, InPartition, reserve};
 use mm_order::{OrderedRefs, Probe, Seek, SortedRefs};
 use mm_value::RowRef;
 use std::alloc::{AllocError, Global};
@@ -50,6 +52,18 @@ fn counting_at(part: usize) -> Counting
     }
 }
 
+/// Takes the reference into partition 16 out of a tree of 17, in which it stands alone in a second node.
+fn empty_second_node(rt: &impl Abort, tree: &mut TTree)
+    requires { IsByPlace tree.old.refs }
+{
+    assert_same(rt, tree.height(), 2);
+    assert_that(rt, tree.remove(&ByPlace, first_of(16)));
+    assert_that(rt, !tree.remove(&ByPlace, first_of(16)));
+    assert_same(rt, (tree.height(), tree.len()), (1, 16));
+    tree.trim_spares(1);
+    assert_same(rt, tree.spare(), 1);
+}
+
 /// Puts 17 references into an empty tree, and takes the last out again.
 fn fill_first_node(rt: &(impl Abort + AllocGlobal), tree: &mut TTree) -> Result<(), Fail>
     requires { tree.old.refs ≡ [] }
@@ -58,15 +72,9 @@ fn fill_first_node(rt: &(impl Abort + AllocGlobal), tree: &mut TTree) -> Result<
     for part in 0..16 {
         tree.insert(&ByPlace, first_of(part));
     }
-    assert_eq!(rt; tree.height(), 1);
+    assert_same(rt, tree.height(), 1);
     tree.insert(&ByPlace, first_of(16));
-    assert_eq!(rt; tree.height(), 2);
-    assert!(rt; tree.remove(&ByPlace, first_of(16)));
-    assert!(rt; !tree.remove(&ByPlace, first_of(16)));
-    assert_eq!(rt; tree.height(), 1);
-    assert_eq!(rt; tree.len(), 16);
-    tree.trim_spares(1);
-    assert_eq!(rt; tree.spare(), 1);
+    empty_second_node(rt, tree);
     Ok(())
 }
 
@@ -92,6 +100,14 @@ fn grown(rt: &impl Abort, alloc: Global) -> Result<TTree, AllocError>
     Ok(tree)
 }
 
+/// Asserts that these are references into so many partitions, in order from the first on.
+fn assert_from(rt: &impl Abort, refs: &[RowRef], first: usize, count: usize) {
+    assert_same(rt, refs.len(), count);
+    for (i, held) in refs.iter().enumerate() {
+        assert_same(rt, held.part.wrapping_sub(first), i);
+    }
+}
+
 /// Asserts that a tree has so many of the partitions up to the last, and that they are those from the first on.
 fn assert_up_to(
     rt: &impl Abort,
@@ -111,10 +127,7 @@ fn assert_up_to(
         &InPartition(last),
         &mut out,
     )?;
-    assert_eq!(rt; out.len(), count);
-    for (i, held) in out.iter().enumerate() {
-        assert_eq!(rt; held.part.wrapping_sub(first), i);
-    }
+    assert_from(rt, &out, first, count);
     Ok(())
 }
 
@@ -131,10 +144,22 @@ fn found(tree: &TTree, part: usize) -> (Option<RowRef>, u64)
 #[test]
 fn grows(rt: HostRuntime) -> Result<(), Fail> {
     let tree = grown(&rt, rt.alloc())?;
-    assert_eq!(rt; tree.len(), 2000);
-    assert!(rt; tree.height() <= 9);
+    assert_same(&rt, tree.len(), 2000);
+    assert_that(&rt, tree.height() <= 9);
     assert_up_to(&rt, rt.alloc(), &tree, 1999, 0, 2000)?;
     Ok(())
+}
+
+/// Asserts that a tree is low enough for its 100 references, and finds them in few questions.
+fn assert_shrunk(rt: &impl Abort, tree: &TTree)
+    requires { IsByPlace tree.now.refs }
+{
+    assert_same(rt, tree.len(), 100);
+    assert_that(rt, tree.height() <= 4);
+    let (at, questions) = found(tree, 1925);
+    assert_same(rt, at, Some(first_of(1925)));
+    assert_that(rt, questions <= 9);
+    assert_same(rt, found(tree, 5).0, None);
 }
 
 /// Takes 1,900 of 2,000 references out.
@@ -142,14 +167,9 @@ fn shrink(rt: &(impl Abort + AllocGlobal), tree: &mut TTree) -> Result<(), Fail>
     requires { IsByPlace tree.old.refs }
 {
     for part in 0..1900 {
-        assert!(rt; tree.remove(&ByPlace, first_of(part)));
+        assert_that(rt, tree.remove(&ByPlace, first_of(part)));
     }
-    assert_eq!(rt; tree.len(), 100);
-    assert!(rt; tree.height() <= 4);
-    let (at, questions) = found(tree, 1925);
-    assert_eq!(rt; at, Some(first_of(1925)));
-    assert!(rt; questions <= 9);
-    assert_eq!(rt; found(tree, 5).0, None);
+    assert_shrunk(rt, tree);
     assert_up_to(rt, rt.alloc(), tree, 1949, 1900, 50)?;
     Ok(())
 }
@@ -173,6 +193,20 @@ fn toggle<R: OrderedRefs>(refs: &mut R, alloc: Global, toggled: RowRef) -> Resul
     Ok(())
 }
 
+/// How many references a range of a tree has.
+fn count_between(
+    alloc: Global,
+    tree: &TTree,
+    low: &Counting,
+    high: &Counting,
+) -> Result<usize, AllocError>
+    requires { IsByPlace tree.now.refs }
+{
+    let mut out = Vec::new(alloc);
+    tree.copy_range(alloc, &ByPlace, low, high, &mut out)?;
+    Ok(out.len())
+}
+
 /// Asserts that a tree has three nodes, of which these are the partitions of the first and the last entry: those of the root, of
 /// its left side and of its right. A range over all asks about the ends of the root to see that it meets it, and then about those
 /// of each node to see that it lies in it.
@@ -186,14 +220,30 @@ fn assert_ends(
 {
     let low = counting_at(0);
     let high = counting_at(usize::MAX);
-    let mut all = Vec::new(alloc);
-    tree.copy_range(alloc, &ByPlace, &low, &high, &mut all)?;
-    assert_eq!(rt; all.len(), tree.len());
-    assert_eq!(rt; (low.asked.get(), high.asked.get()), (4, 4));
+    let held = count_between(alloc, tree, &low, &high)?;
+    assert_same(rt, held, tree.len());
+    assert_same(rt, (low.asked.get(), high.asked.get()), (4, 4));
     let [root, left, right] = ends;
-    assert_eq!(rt; low.about.get(), [root.1, root.0, left.0, right.0]);
-    assert_eq!(rt; high.about.get(), [root.0, root.1, left.1, right.1]);
+    assert_same(rt, low.about.get(), [root.1, root.0, left.0, right.0]);
+    assert_same(rt, high.about.get(), [root.0, root.1, left.1, right.1]);
     Ok(())
+}
+
+/// All references of a list, in order.
+fn all_of<R: OrderedRefs>(alloc: Global, refs: &R) -> Result<Vec<RowRef>, AllocError>
+    requires { IsByPlace (R.refs refs.now) }
+{
+    let mut all = Vec::new(alloc);
+    append_all(alloc, refs, &mut all)?;
+    Ok(all)
+}
+
+/// Asserts that references are of these partitions.
+fn assert_each_part(rt: &impl Abort, refs: &[RowRef], want: &[usize]) {
+    assert_same(rt, refs.len(), want.len());
+    for (held, part) in refs.iter().zip(want) {
+        assert_same(rt, held.part, *part);
+    }
 }
 
 /// Asserts that the references of a tree are of these partitions.
@@ -205,26 +255,37 @@ fn assert_parts(
 ) -> Result<(), AllocError>
     requires { IsByPlace tree.now.refs }
 {
-    let mut held = Vec::new(alloc);
-    tree.copy_range(alloc, &ByPlace, &Anywhere, &Anywhere, &mut held)?;
-    assert_eq!(rt; held.len(), want.len());
-    for (held, part) in held.iter().zip(want) {
-        assert_eq!(rt; held.part, *part);
-    }
+    let held = all_of(alloc, tree)?;
+    assert_each_part(rt, &held, want);
     Ok(())
 }
 
 /// Asserts that a tree goes over these references, and no others.
-fn assert_goes_over(rt: &impl Abort, tree: &TTree, want: &[RowRef]) {
-    assert!(rt; tree.len() <= 1_048_576);
-    assert_eq!(rt; [tree.len(), tree.iter().count()], [want.len(); 2]);
+pub fn assert_goes_over(rt: &impl Abort, tree: &TTree, want: &[RowRef]) {
+    assert_that(rt, tree.len() <= 1_048_576);
+    assert_same(rt, [tree.len(), tree.iter().count()], [want.len(); 2]);
     for (held, want) in tree.iter().zip(want.iter()) {
-        assert_eq!(rt; held, *want);
+        assert_same(rt, held, *want);
     }
 }
 
+/// Asserts that a tree holds these references in the same order, and goes over them.
+fn assert_holds(
+    rt: &impl Abort,
+    alloc: Global,
+    tree: &TTree,
+    want: &[RowRef],
+) -> Result<(), AllocError>
+    requires { IsByPlace tree.now.refs }
+{
+    let held = all_of(alloc, tree)?;
+    assert_same(rt, held.as_slice(), want);
+    assert_goes_over(rt, tree, want);
+    Ok(())
+}
+
 /// Asserts that both hold the same references in the same order.
-fn assert_same(
+fn assert_alike(
     rt: &impl Abort,
     alloc: Global,
     tree: &TTree,
@@ -233,12 +294,34 @@ fn assert_same(
     requires tree { IsByPlace tree.now.refs }
     requires sorted { IsByPlace sorted.now.refs }
 {
-    let mut held = Vec::new(alloc);
-    tree.copy_range(alloc, &ByPlace, &Anywhere, &Anywhere, &mut held)?;
-    let mut want = Vec::new(alloc);
-    sorted.copy_range(alloc, &ByPlace, &Anywhere, &Anywhere, &mut want)?;
-    assert_eq!(rt; held.as_slice(), want.as_slice());
-    assert_goes_over(rt, tree, &want);
+    let want = all_of(alloc, sorted)?;
+    assert_holds(rt, alloc, tree, &want)
+}
+
+/// Asserts that a tree that was filled in order has a third level from 49 references on.
+fn assert_low(rt: &impl Abort, tree: &TTree) {
+    match tree.len() {
+        33 | 48 => assert_same(rt, tree.height(), 2),
+        49 => assert_same(rt, tree.height(), 3),
+        _ => {}
+    }
+}
+
+/// Puts references into so many partitions into an empty tree, in order.
+fn fill_in_order(
+    rt: &impl Abort,
+    alloc: Global,
+    tree: &mut TTree,
+    count: usize,
+) -> Result<(), AllocError>
+    requires { tree.old.refs ≡ [] }
+    ensures { IsByPlace tree.new.refs }
+{
+    for part in 0..count {
+        reserve(rt, tree, alloc, 1)?;
+        tree.insert(&ByPlace, first_of(part));
+        assert_low(rt, tree);
+    }
     Ok(())
 }
 
@@ -246,17 +329,23 @@ fn assert_same(
 fn ascending_references_fill_the_nodes(rt: HostRuntime) -> Result<(), Fail> {
     let alloc = rt.alloc();
     let mut tree = TTree::new(alloc);
-    for part in 0..1_048_576 {
-        reserve(&rt, &mut tree, alloc, 1)?;
-        tree.insert(&ByPlace, first_of(part));
-        match tree.len() {
-            33 | 48 => assert_eq!(rt; tree.height(), 2),
-            49 => assert_eq!(rt; tree.height(), 3),
-            _ => {}
-        }
-    }
-    assert_eq!(rt; tree.len(), 1_048_576);
-    assert!(rt; tree.height() <= 28);
+    fill_in_order(&rt, alloc, &mut tree, 1_048_576)?;
+    assert_same(&rt, tree.len(), 1_048_576);
+    assert_that(&rt, tree.height() <= 28);
+    Ok(())
+}
+
+/// Asserts that a range over the partitions from 100 to 1,899 asks about few of the references of a tree.
+fn assert_asks_few(rt: &impl Abort, alloc: Global, tree: &TTree) -> Result<(), AllocError>
+    requires { IsByPlace tree.now.refs }
+{
+    let low = counting_at(100);
+    let high = counting_at(1899);
+    let held = count_between(alloc, tree, &low, &high)?;
+    assert_same(rt, held, 1800);
+    // Two questions a node of 16 are 225; the rest are of the nodes on the way to the two ends.
+    assert_that(rt, low.asked.get() <= 200);
+    assert_that(rt, high.asked.get() <= 200);
     Ok(())
 }
 
@@ -264,18 +353,8 @@ fn ascending_references_fill_the_nodes(rt: HostRuntime) -> Result<(), Fail> {
 fn a_range_asks_about_the_ends_of_a_node(rt: HostRuntime) -> Result<(), Fail> {
     let alloc = rt.alloc();
     let mut tree = TTree::new(alloc);
-    for part in 0..2000 {
-        reserve(&rt, &mut tree, alloc, 1)?;
-        tree.insert(&ByPlace, first_of(part));
-    }
-    let low = counting_at(100);
-    let high = counting_at(1899);
-    let mut out = Vec::new(alloc);
-    tree.copy_range(alloc, &ByPlace, &low, &high, &mut out)?;
-    assert_eq!(rt; out.len(), 1800);
-    // Two questions a node of 16 are 225; the rest are of the nodes on the way to the two ends.
-    assert!(rt; low.asked.get() <= 200);
-    assert!(rt; high.asked.get() <= 200);
+    fill_in_order(&rt, alloc, &mut tree, 2000)?;
+    assert_asks_few(&rt, alloc, &tree)?;
     Ok(())
 }
 
@@ -290,41 +369,52 @@ fn toggle_each(tree: &mut TTree, alloc: Global, first: usize, end: usize) -> Res
     Ok(())
 }
 
+/// The partitions 1 to 15, 50, 60 and 101 to 116.
+const ROTATED: [usize; 33] = [
+    1, 2, 3, 4, 5, 6, 7, 8, 9, 10, 11, 12, 13, 14, 15, 50, 60, 101, 102, 103, 104, 105, 106, 107,
+    108, 109, 110, 111, 112, 113, 114, 115, 116,
+];
+
 /// Asserts that a tree has the partitions 1 to 15, 50, 60 and 101 to 116, in three nodes.
 fn assert_rotated(rt: &impl Abort, alloc: Global, tree: &TTree) -> Result<(), AllocError>
     requires { IsByPlace tree.now.refs }
 {
-    assert_eq!(rt; tree.height(), 2);
+    assert_same(rt, tree.height(), 2);
     // The list in order lies in the three nodes: 1 to 3, then 4 to 15 with 50 and 60, then 101 to 116.
     assert_ends(rt, alloc, tree, [(4, 60), (1, 3), (101, 116)])?;
-    let mut want = Vec::new(alloc);
-    'left: for part in 1..16 {
-        want.push(part)?;
-    }
-    want.extend_from_slice(&[50, 60])?;
-    'right: for part in 101..117 {
-        want.push(part)?;
-    }
-    assert_parts(rt, alloc, tree, &want)
+    assert_parts(rt, alloc, tree, &ROTATED)
+}
+
+/// Puts references into an empty tree, of which the last turns two nodes.
+fn turn_twice(alloc: Global, tree: &mut TTree) -> Result<(), AllocError>
+    requires { IsByPlace tree.old.refs }
+    ensures { IsByPlace tree.new.refs }
+{
+    toggle_each(tree, alloc, 101, 117)?;
+    toggle(tree, alloc, first_of(50))?;
+    toggle_each(tree, alloc, 1, 16)?;
+    toggle(tree, alloc, first_of(60))
 }
 
 #[test]
 fn double_rotation_fills_the_new_root(rt: HostRuntime) -> Result<(), Fail> {
     let alloc = rt.alloc();
     let mut tree = TTree::new(alloc);
-    toggle_each(&mut tree, alloc, 101, 117)?;
-    toggle(&mut tree, alloc, first_of(50))?;
-    toggle_each(&mut tree, alloc, 1, 16)?;
-    toggle(&mut tree, alloc, first_of(60))?;
+    turn_twice(alloc, &mut tree)?;
     assert_rotated(&rt, alloc, &tree)?;
     Ok(())
 }
 
-#[test]
-fn holds_what_the_sorted_list_holds(rt: HostRuntime) -> Result<(), Fail> {
-    let alloc = rt.alloc();
-    let mut tree = TTree::new(alloc);
-    let mut sorted = SortedRefs::new(alloc);
+/// Toggles the same references in both, and asserts now and then that both hold the same.
+fn toggle_both(
+    rt: &impl Abort,
+    alloc: Global,
+    tree: &mut TTree,
+    sorted: &mut SortedRefs,
+) -> Result<(), AllocError>
+    requires tree { IsByPlace tree.old.refs }
+    requires sorted { IsByPlace sorted.old.refs }
+{
     let mut seed: u32 = 1;
     for step in 0..100_000 {
         seed = seed.wrapping_mul(1_664_525).wrapping_add(1_013_904_223);
@@ -332,13 +422,21 @@ fn holds_what_the_sorted_list_holds(rt: HostRuntime) -> Result<(), Fail> {
             part: (seed >> 16) as usize % 1000,
             slot: (seed >> 28) as u8,
         };
-        toggle(&mut tree, alloc, toggled)?;
-        toggle(&mut sorted, alloc, toggled)?;
+        toggle(tree, alloc, toggled)?;
+        toggle(sorted, alloc, toggled)?;
         if step % 5000 == 0 {
-            assert_same(&rt, alloc, &tree, &sorted)?;
+            assert_alike(rt, alloc, tree, sorted)?;
         }
     }
-    assert_same(&rt, alloc, &tree, &sorted)?;
+    assert_alike(rt, alloc, tree, sorted)
+}
+
+#[test]
+fn holds_what_the_sorted_list_holds(rt: HostRuntime) -> Result<(), Fail> {
+    let alloc = rt.alloc();
+    let mut tree = TTree::new(alloc);
+    let mut sorted = SortedRefs::new(alloc);
+    toggle_both(&rt, alloc, &mut tree, &mut sorted)?;
     Ok(())
 }
 
@@ -353,9 +451,10 @@ fn assert_built(
 {
     let refs = ascending(alloc, count)?;
     let tree = TTree::from_sorted(alloc, refs.as_slice())?;
-    assert_eq!(rt;
+    assert_same(
+        rt,
         (tree.len(), tree.height(), tree.spare()),
-        (count, height, 0)
+        (count, height, 0),
     );
     assert_goes_over(rt, &tree, &refs);
     Ok(tree)

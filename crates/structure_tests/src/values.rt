@@ -1,11 +1,33 @@
 //! Values: hashes and prefixes from outside, and copies.
+use crate::assertions::{assert_same, assert_that};
 use crate::samples::{is_equal, text};
 use mm_value::{
     ColType, MAX_TEXT_BYTES, Refusal, Row, Text, Value, hash64, order_prefix, orders_are_total,
     prefixes_keep_order,
 };
 use std::alloc::Global;
+use std::process::Abort;
 use std::test::Fail;
+
+/// Asserts the hash of the text of these bytes.
+fn assert_hash(rt: &(impl Abort + AllocGlobal), bytes: &[u8], want: u64) -> Result<(), Fail> {
+    let value = text(rt.alloc(), bytes)?;
+    assert_same(rt, hash64(&value), want);
+    Ok(())
+}
+
+/// Asserts the hashes of numbers.
+fn assert_hashes_of_numbers(rt: &impl Abort) {
+    for (number, want) in [
+        (1i64, 0xa8c7f732281a3812u64),
+        (0, 0xa8c7f832281a39c5),
+        (-1, 0x8cf51a8bfca3883d),
+        (i64::MIN, 0x262b7cb79fbf4a45),
+        (i64::MAX, 0x2338a5f81f5ba4bd),
+    ] {
+        assert_same(rt, hash64(&Value::Int(number)), want);
+    }
+}
 
 #[test]
 fn hashes_are_fnv_1a(rt: HostRuntime) -> Result<(), Fail> {
@@ -14,18 +36,9 @@ fn hashes_are_fnv_1a(rt: HostRuntime) -> Result<(), Fail> {
         (b"a".as_slice(), 0xaf63dc4c8601ec8c),
         (b"foobar".as_slice(), 0x85944171f73967e8),
     ] {
-        let value = text(rt.alloc(), bytes)?;
-        assert_eq!(rt; hash64(&value), want);
+        assert_hash(&rt, bytes, want)?;
     }
-    for (number, want) in [
-        (1i64, 0xa8c7f732281a3812u64),
-        (0, 0xa8c7f832281a39c5),
-        (-1, 0x8cf51a8bfca3883d),
-        (i64::MIN, 0x262b7cb79fbf4a45),
-        (i64::MAX, 0x2338a5f81f5ba4bd),
-    ] {
-        assert_eq!(rt; hash64(&Value::Int(number)), want);
-    }
+    assert_hashes_of_numbers(&rt);
     Ok(())
 }
 
@@ -42,8 +55,15 @@ fn prefixes_of_numbers_are_clipped(rt: HostRuntime) -> Result<(), Fail> {
         (0x4000000000000000, 0x7fffffffffffffff),
         (i64::MAX, 0x7fffffffffffffff),
     ] {
-        assert_eq!(rt; order_prefix(&Value::Int(number)), want);
+        assert_same(&rt, order_prefix(&Value::Int(number)), want);
     }
+    Ok(())
+}
+
+/// Asserts the prefix of the text of these bytes.
+fn assert_prefix(rt: &(impl Abort + AllocGlobal), bytes: &[u8], want: u64) -> Result<(), Fail> {
+    let value = text(rt.alloc(), bytes)?;
+    assert_same(rt, order_prefix(&value), want);
     Ok(())
 }
 
@@ -60,7 +80,7 @@ fn prefixes_of_texts_have_eight_bytes(rt: HostRuntime) -> Result<(), Fail> {
         (b"abcdefghijkl", 0xb0b131b232b333b4),
         (b"\xff\xff\xff\xff\xff\xff\xff\xff", 0xffffffffffffffff),
     ] {
-        assert_eq!(rt; order_prefix(&text(rt.alloc(), bytes)?), want);
+        assert_prefix(&rt, bytes, want)?;
     }
     prefixes_keep_order();
     Ok(())
@@ -72,22 +92,32 @@ fn longest(alloc: Global) -> Result<Text, Refusal> {
     Text::new(alloc, &bytes)
 }
 
+/// Asserts that a text has 64 bytes, and a copy of it the same.
+fn assert_text_copied(rt: &(impl Abort + AllocGlobal), text: &Text) -> Result<(), Fail> {
+    assert_same(rt, text.bytes().len(), 64);
+    let copy = text.copy(rt.alloc())?;
+    assert_same(rt, copy.bytes(), text.bytes());
+    Ok(())
+}
+
 #[test]
 fn a_copy_of_a_text_is_equal(rt: HostRuntime) -> Result<(), Fail> {
     let text = longest(rt.alloc())?;
-    assert_eq!(rt; text.bytes().len(), 64);
-    let copy = text.copy(rt.alloc())?;
-    assert_eq!(rt; copy.bytes(), text.bytes());
+    assert_text_copied(&rt, &text)
+}
+
+/// Asserts that a value is a text, and a copy of it equal.
+fn assert_value_copied(rt: &(impl Abort + AllocGlobal), value: &Value) -> Result<(), Fail> {
+    assert_that(rt, value.col_type() == ColType::Text);
+    let copy = value.copy(rt.alloc())?;
+    assert_that(rt, is_equal(&copy, value));
     Ok(())
 }
 
 #[test]
 fn a_copy_of_a_value_is_equal(rt: HostRuntime) -> Result<(), Fail> {
     let value = Value::Text(longest(rt.alloc())?);
-    assert!(rt; value.col_type() == ColType::Text);
-    let copy = value.copy(rt.alloc())?;
-    assert!(rt; is_equal(&copy, &value));
-    Ok(())
+    assert_value_copied(&rt, &value)
 }
 
 /// The row of a number and the longest text.
@@ -98,15 +128,25 @@ fn row_of_two(alloc: Global) -> Result<Row, Refusal> {
     Ok(Row::new(values))
 }
 
+/// Asserts that two rows have the same two values.
+fn assert_same_rows(rt: &impl Abort, row: &Row, copy: &Row) {
+    assert_same(rt, copy.len(), 2);
+    for (a, b) in row.values().iter().zip(copy.values()) {
+        assert_that(rt, is_equal(a, b));
+    }
+}
+
+/// Asserts that a copy of a row of two values has the same.
+fn assert_row_copied(rt: &(impl Abort + AllocGlobal), row: &Row) -> Result<(), Fail> {
+    let copy = row.copy(rt.alloc())?;
+    assert_same_rows(rt, row, &copy);
+    Ok(())
+}
+
 #[test]
 fn a_copy_of_a_row_is_equal(rt: HostRuntime) -> Result<(), Fail> {
     let row = row_of_two(rt.alloc())?;
-    let copy = row.copy(rt.alloc())?;
-    assert_eq!(rt; copy.len(), 2);
-    for (a, b) in row.values().iter().zip(copy.values()) {
-        assert!(rt; is_equal(a, b));
-    }
-    Ok(())
+    assert_row_copied(&rt, &row)
 }
 
 #[test]

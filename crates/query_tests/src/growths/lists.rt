@@ -4,6 +4,7 @@ ghost use Rattle.mm_value.specs.declared.values.Value.TheVariants.{Int};
 ghost use Rattle.mm_templist.specs.Combos.{AreLive};
 
 use super::{are_pairs, asked_again, is_number};
+use crate::assertions::{assert_same, assert_that};
 use crate::plans::{OUTER_KEY, OUTER_VALUE};
 use crate::samples::{Values, sample};
 use mm_query::FieldPlace;
@@ -11,7 +12,7 @@ use mm_schema::IndexKind;
 use mm_select::by_scan;
 use mm_store::{Meter, Store};
 use mm_templist::{Descriptor, ShownRows, TempList};
-use mm_value::{Refusal, RowRef, Value};
+use mm_value::{Refusal, Row, RowRef, Value};
 use std::alloc::{AllocError, Global};
 use std::process::Abort;
 use std::test::Fail;
@@ -31,8 +32,27 @@ fn adds(rt: &(impl Abort + Print), list: &mut TempList, slot: u8) -> Result<(), 
         return Ok(());
     }
     asked_again(rt)?;
-    assert_eq!(rt; list.len(), len);
+    assert_same(rt, list.len(), len);
     list.push(&[at(slot)], at(9))?;
+    Ok(())
+}
+
+/// Looks at the three combinations of a list.
+fn are_three(rt: &impl Abort, list: &TempList) {
+    assert_same(rt, list.len(), 3);
+    assert_same(rt, list.combo(0), [at(1), at(9)].as_slice());
+    assert_same(rt, list.combo(1), [at(2), at(9)].as_slice());
+    assert_same(rt, list.combo(2), [at(3), at(9)].as_slice());
+}
+
+/// Adds three combinations to a list, of which they are to be all.
+fn adds_three(rt: &(impl Abort + Print), list: &mut TempList) -> Result<(), Fail>
+    requires { length list.old.tables ≡ 2 }
+{
+    adds(rt, list, 1)?;
+    adds(rt, list, 2)?;
+    adds(rt, list, 3)?;
+    are_three(rt, list);
     Ok(())
 }
 
@@ -43,14 +63,7 @@ fn push_growths(rt: HostRuntime) -> Result<(), Fail> {
         fields: &[],
     };
     let mut list = TempList::new(rt.alloc(), descriptor);
-    adds(&rt, &mut list, 1)?;
-    adds(&rt, &mut list, 2)?;
-    adds(&rt, &mut list, 3)?;
-    assert_eq!(rt; list.len(), 3);
-    assert_eq!(rt; list.combo(0), [at(1), at(9)].as_slice());
-    assert_eq!(rt; list.combo(1), [at(2), at(9)].as_slice());
-    assert_eq!(rt; list.combo(2), [at(3), at(9)].as_slice());
-    Ok(())
+    adds_three(&rt, &mut list)
 }
 
 /// The key and the value.
@@ -69,26 +82,45 @@ fn all_rows(alloc: Global, store: &Store) -> Result<TempList<'_>, AllocError>
     by_scan(alloc, store, &mut meter, descriptor, &[])
 }
 
+/// Copies of the rows of a list in the order of the second field, made again where memory is refused.
+fn project_again(
+    rt: &(impl Abort + Print),
+    alloc: Global,
+    list: &TempList,
+    store: &Store,
+) -> Result<Vec<Row>, Fail>
+    requires { All (AreLive store.now list.now.tables) list.now.combos }
+{
+    let mut meter = Meter::new();
+    match list.project_sorted(alloc, store, &mut meter, true, &[1]) {
+        Ok(rows) => Ok(rows),
+        Err(refusal) => {
+            asked_again(rt)?;
+            assert_same(rt, refusal, Refusal::Memory);
+            Ok(list.project_sorted(alloc, store, &mut meter, true, &[1])?)
+        }
+    }
+}
+
+/// Copies the rows of the first table in the order of their values.
+fn projects(rt: &(impl Abort + Print), alloc: Global, store: &Store) -> Result<(), Fail>
+    requires { length store.now.tables ≡ 2 }
+{
+    let Ok(list) = all_rows(alloc, store) else {
+        return Ok(());
+    };
+    let rows = project_again(rt, alloc, &list, store)?;
+    assert_that(rt, are_pairs(rows.as_slice(), &[(3, 1), (2, 2), (1, 3)]));
+    Ok(())
+}
+
 #[test]
 fn project_sorted_growths(rt: HostRuntime) -> Result<(), Fail> {
     let alloc = rt.alloc();
-    let Ok(store) = sample(alloc, IndexKind::Hash, [3, 0], Values::Falling) else {
-        return Ok(());
-    };
-    let Ok(list) = all_rows(alloc, &store) else {
-        return Ok(());
-    };
-    let mut meter = Meter::new();
-    let rows = match list.project_sorted(alloc, &store, &mut meter, true, &[1]) {
-        Ok(rows) => rows,
-        Err(refusal) => {
-            asked_again(&rt)?;
-            assert_eq!(rt; refusal, Refusal::Memory);
-            list.project_sorted(alloc, &store, &mut meter, true, &[1])?
-        }
-    };
-    assert!(rt; are_pairs(rows.as_slice(), &[(3, 1), (2, 2), (1, 3)]));
-    Ok(())
+    match sample(alloc, IndexKind::Hash, [3, 0], Values::Falling) {
+        Ok(store) => projects(&rt, alloc, &store),
+        Err(_) => Ok(()),
+    }
 }
 
 /// Whether the rows that are shown are these pairs of whole numbers, in this order.
@@ -127,17 +159,24 @@ fn show_again<'s>(
     }
 }
 
-#[test]
-fn shown_growths(rt: HostRuntime) -> Result<(), Fail> {
-    let alloc = rt.alloc();
-    let Ok(store) = sample(alloc, IndexKind::Hash, [3, 0], Values::Falling) else {
-        return Ok(());
-    };
-    let Ok(list) = all_rows(alloc, &store) else {
+/// Shows the rows of the first table in the order of their values.
+fn shows(rt: &(impl Abort + Print), alloc: Global, store: &Store) -> Result<(), Fail>
+    requires { length store.now.tables ≡ 2 }
+{
+    let Ok(list) = all_rows(alloc, store) else {
         return Ok(());
     };
     let zero = Value::Int(0);
-    let rows = show_again(&rt, alloc, &list, &store, &zero)?;
-    assert!(rt; are_shown(&rows, &[(3, 1), (2, 2), (1, 3)]));
+    let rows = show_again(rt, alloc, &list, store, &zero)?;
+    assert_that(rt, are_shown(&rows, &[(3, 1), (2, 2), (1, 3)]));
     Ok(())
+}
+
+#[test]
+fn shown_growths(rt: HostRuntime) -> Result<(), Fail> {
+    let alloc = rt.alloc();
+    match sample(alloc, IndexKind::Hash, [3, 0], Values::Falling) {
+        Ok(store) => shows(&rt, alloc, &store),
+        Err(_) => Ok(()),
+    }
 }

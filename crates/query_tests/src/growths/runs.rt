@@ -4,7 +4,10 @@ ghost use Rattle.mm_templist.specs.Combos.{AreLive};
 ghost use Rattle.query_tests.specs.Sample.{IsSample};
 
 use super::{are_pairs, asked_again};
-use crate::plans::{INNER_KEY, INNER_VALUE, Method, OUTER_KEY, OUTER_VALUE, compared, equal, line};
+use crate::assertions::{assert_same, assert_that};
+use crate::plans::{
+    INNER_KEY, INNER_VALUE, Method, OUTER_KEY, OUTER_VALUE, compared, equal, line, lines,
+};
 use crate::samples::{Values, sample};
 use mm_plan::run_plan;
 use mm_query::{Atom, BoundQuery, Comparison, FieldPlace, ItemList, PlanLine};
@@ -51,7 +54,7 @@ fn run_again<'a>(
         Ok(list) => Ok(list),
         Err(refusal) => {
             asked_again(rt)?;
-            assert_eq!(rt; refusal, Refusal::Memory);
+            assert_same(rt, refusal, Refusal::Memory);
             let list = run_plan(alloc, store, &mut meter, query, tables, plan)?;
             Ok(list)
         }
@@ -76,7 +79,7 @@ fn runs(
     let Ok(rows) = list.project_sorted(alloc, store, &mut meter, false, &[0]) else {
         return Ok(());
     };
-    assert!(rt; are_pairs(rows.as_slice(), pairs));
+    assert_that(rt, are_pairs(rows.as_slice(), pairs));
     Ok(())
 }
 
@@ -91,44 +94,65 @@ fn selects(
 ) -> Result<(), Fail>
     requires { IsSample store.now }
 {
-    let Ok(query) = query_of(alloc, [OUTER_KEY, OUTER_VALUE], atom) else {
-        return Ok(());
-    };
     let plan = [line(method)?];
-    runs(rt, alloc, store, &[0], &query, &plan, pairs)
+    match query_of(alloc, [OUTER_KEY, OUTER_VALUE], atom) {
+        Ok(query) => runs(rt, alloc, store, &[0], &query, &plan, pairs),
+        Err(_) => Ok(()),
+    }
 }
 
 #[test]
 fn by_scan_growths(rt: HostRuntime) -> Result<(), Fail> {
     let alloc = rt.alloc();
-    let Ok(store) = sample(alloc, IndexKind::Hash, [6, 0], Values::Falling) else {
-        return Ok(());
-    };
     let atom = compared(OUTER_VALUE, Comparison::GreaterOrEqual, 2);
     let pairs = [(1, 6), (2, 5), (3, 4), (4, 3), (5, 2)];
-    selects(&rt, alloc, &store, Method::Scan, atom, &pairs)
+    match sample(alloc, IndexKind::Hash, [6, 0], Values::Falling) {
+        Ok(store) => selects(&rt, alloc, &store, Method::Scan, atom, &pairs),
+        Err(_) => Ok(()),
+    }
 }
 
 #[test]
 fn by_hash_growths(rt: HostRuntime) -> Result<(), Fail> {
     let alloc = rt.alloc();
-    let Ok(store) = sample(alloc, IndexKind::Hash, [6, 0], Values::Ones) else {
-        return Ok(());
-    };
     let atom = compared(OUTER_VALUE, Comparison::Equal, 1);
     let pairs = [(1, 1), (2, 1), (3, 1), (4, 1), (5, 1), (6, 1)];
-    selects(&rt, alloc, &store, Method::Hash, atom, &pairs)
+    match sample(alloc, IndexKind::Hash, [6, 0], Values::Ones) {
+        Ok(store) => selects(&rt, alloc, &store, Method::Hash, atom, &pairs),
+        Err(_) => Ok(()),
+    }
 }
 
 #[test]
 fn by_tree_growths(rt: HostRuntime) -> Result<(), Fail> {
     let alloc = rt.alloc();
-    let Ok(store) = sample(alloc, IndexKind::Tree, [6, 0], Values::Falling) else {
-        return Ok(());
-    };
     let atom = compared(OUTER_VALUE, Comparison::GreaterOrEqual, 2);
     let pairs = [(1, 6), (2, 5), (3, 4), (4, 3), (5, 2)];
-    selects(&rt, alloc, &store, Method::TreeRange, atom, &pairs)
+    match sample(alloc, IndexKind::Tree, [6, 0], Values::Falling) {
+        Ok(store) => selects(&rt, alloc, &store, Method::TreeRange, atom, &pairs),
+        Err(_) => Ok(()),
+    }
+}
+
+/// Joins the rows of two tables by a method where a column of the second is the value of the first. Their keys are to be these.
+fn joins_on(
+    rt: &(impl Abort + Print),
+    alloc: Global,
+    store: &Store,
+    tables: &[usize],
+    method: Method,
+    column: FieldPlace,
+    pairs: &[(i64, i64)],
+) -> Result<(), Fail>
+    requires there { All (λ table. table < length store.now.tables) tables.now }
+    requires few { length tables.now ≤ 4 }
+{
+    let plan = lines(Method::Scan, method)?;
+    let atom = equal(column, OUTER_VALUE, None);
+    match query_of(alloc, [OUTER_KEY, INNER_KEY], atom) {
+        Ok(query) => runs(rt, alloc, store, tables, &query, &plan, pairs),
+        Err(_) => Ok(()),
+    }
 }
 
 /// Joins the rows of two tables that have one value by a method. Of the keys of the first table those from 2 on have a partner, of
@@ -139,16 +163,11 @@ fn joins(
     kind: IndexKind,
     method: Method,
 ) -> Result<(), Fail> {
-    let Ok(store) = sample(alloc, kind, [6, 5], Values::Falling) else {
-        return Ok(());
-    };
-    let atom = equal(INNER_VALUE, OUTER_VALUE, None);
-    let Ok(query) = query_of(alloc, [OUTER_KEY, INNER_KEY], atom) else {
-        return Ok(());
-    };
-    let plan = [line(Method::Scan)?, line(method)?];
     let pairs = [(2, 1), (3, 2), (4, 3), (5, 4), (6, 5)];
-    runs(rt, alloc, &store, &[0, 1], &query, &plan, &pairs)
+    match sample(alloc, kind, [6, 5], Values::Falling) {
+        Ok(store) => joins_on(rt, alloc, &store, &[0, 1], method, INNER_VALUE, &pairs),
+        Err(_) => Ok(()),
+    }
 }
 
 #[test]
@@ -179,15 +198,11 @@ fn tree_merge_growths(rt: HostRuntime) -> Result<(), Fail> {
 #[test]
 fn precomputed_growths(rt: HostRuntime) -> Result<(), Fail> {
     let alloc = rt.alloc();
-    let Ok(store) = sample(alloc, IndexKind::Hash, [6, 5], Values::Falling) else {
-        return Ok(());
-    };
-    // The values of the first table of the query are keys of the second one.
-    let atom = equal(INNER_KEY, OUTER_VALUE, None);
-    let Ok(query) = query_of(alloc, [OUTER_KEY, INNER_KEY], atom) else {
-        return Ok(());
-    };
-    let plan = [line(Method::Scan)?, line(Method::Precomputed)?];
+    let method = Method::Precomputed;
     let pairs = [(1, 5), (2, 4), (3, 3), (4, 2), (5, 1)];
-    runs(&rt, alloc, &store, &[1, 0], &query, &plan, &pairs)
+    match sample(alloc, IndexKind::Hash, [6, 5], Values::Falling) {
+        // The values of the first table of the query are keys of the second one.
+        Ok(store) => joins_on(&rt, alloc, &store, &[1, 0], method, INNER_KEY, &pairs),
+        Err(_) => Ok(()),
+    }
 }

@@ -1,6 +1,7 @@
 //! Changes of a table: checked, and made.
 use super::asked_again;
 use super::shows::{Shows, table_shows};
+use crate::assertions::{assert_same, assert_that};
 use crate::stores::{Case, Step, edits_of, make_edits};
 use mm_value::Refusal;
 use std::alloc::{AllocError, Global};
@@ -46,12 +47,28 @@ fn comes_back(
     let Ok(is_made) = case.second_shows(alloc, after) else {
         return Ok(());
     };
-    assert!(rt; is_made);
-    assert!(rt; case.go_back(mark));
+    assert_that(rt, is_made);
+    assert_that(rt, case.go_back(mark));
     let Ok(is_back) = case.second_shows(alloc, before) else {
         return Ok(());
     };
-    assert!(rt; is_back);
+    assert_that(rt, is_back);
+    Ok(())
+}
+
+/// Makes a step of the second table that was refused memory: till then all is as it was.
+fn makes_again(
+    rt: &(impl Abort + Print),
+    alloc: Global,
+    case: &mut Case,
+    step: Step,
+    mark: usize,
+    before: Shows,
+) -> Result<(), Fail> {
+    asked_again(rt)?;
+    assert_same(rt, case.undo.mark(), mark);
+    assert_that(rt, case.second_shows(alloc, before)?);
+    assert_same(rt, &case.make(alloc, step), &Some(Ok(())));
     Ok(())
 }
 
@@ -68,10 +85,7 @@ fn goes_and_comes(
         return Ok(());
     };
     if answer.is_err() {
-        asked_again(rt)?;
-        assert_eq!(rt; case.undo.mark(), mark);
-        assert!(rt; case.second_shows(alloc, tables[0])?);
-        assert_eq!(rt; case.make(alloc, step), Some(Ok(())));
+        makes_again(rt, alloc, case, step, mark, tables[0])?;
     }
     comes_back(rt, alloc, case, mark, tables)
 }
@@ -143,17 +157,29 @@ const CHECKS: [(Step, Result<(), Refusal>); 3] = [
     (Step::Put(&[41, 34]), Err(Refusal::NoTargetRow)),
 ];
 
+/// Checks a step of the second table.
+fn check_step(
+    rt: &(impl Abort + Print),
+    alloc: Global,
+    case: &Case,
+    step: Step,
+    due: Result<(), Refusal>,
+) -> Result<(), Fail> {
+    let Some(mut answer) = case.check(alloc, step) else {
+        return Ok(());
+    };
+    if answer == Err(Refusal::Memory) {
+        asked_again(rt)?;
+        answer = case.check(alloc, step).ok_or("no edits")?;
+    }
+    assert_same(rt, &answer, &due);
+    Ok(())
+}
+
 /// Checks steps of the second table.
 fn checks(rt: &(impl Abort + Print), alloc: Global, case: &Case) -> Result<(), Fail> {
     for (step, due) in &CHECKS {
-        let Some(mut answer) = case.check(alloc, *step) else {
-            return Ok(());
-        };
-        if answer == Err(Refusal::Memory) {
-            asked_again(rt)?;
-            answer = case.check(alloc, *step).ok_or("no edits")?;
-        }
-        assert_eq!(rt; answer, *due);
+        check_step(rt, alloc, case, *step, *due)?;
     }
     Ok(())
 }

@@ -1,9 +1,10 @@
 //! Tables and indexes, added.
-ghost use Rattle.std.specs.Prelude.{◌≡◌, length, IfOk};
+ghost use Rattle.std.specs.Prelude.{◌≡◌, [], length, IfOk, OnOk};
 ghost use Rattle.store_tests.specs.SampleStore.{ArePlain};
 
 use super::asked_again;
 use super::shows::{Shows, table_shows};
+use crate::assertions::{assert_same, assert_that};
 use crate::stores::{add_index, put};
 use mm_schema::{IndexKind, Reference};
 use mm_store::Store;
@@ -11,17 +12,27 @@ use std::alloc::{AllocError, Global};
 use std::process::Abort;
 use std::test::Fail;
 
+/// Adds four tables of two columns each to none, and rows to the first.
+fn add_four(store: &mut Store, alloc: Global) -> Result<(), AllocError>
+    requires { store.old.tables ≡ [] }
+    ensures four { OnOk result (length store.new.tables ≡ 4) }
+    ensures plain { OnOk result (ArePlain store.new) }
+{
+    store.add_table(alloc, 2, 0, &[])?;
+    store.add_table(alloc, 2, 0, &[])?;
+    store.add_table(alloc, 2, 0, &[])?;
+    store.add_table(alloc, 2, 0, &[])?;
+    put(store, alloc, 0, &KEYS)?;
+    Ok(())
+}
+
 /// Four tables of two columns each and no index but those on the keys. The first has rows.
 fn four_tables(alloc: Global) -> Result<Store, AllocError>
     ensures four { IfOk result (λ store. length store.tables ≡ 4) }
     ensures plain { IfOk result ArePlain }
 {
     let mut store = Store::new(alloc);
-    store.add_table(alloc, 2, 0, &[])?;
-    store.add_table(alloc, 2, 0, &[])?;
-    store.add_table(alloc, 2, 0, &[])?;
-    store.add_table(alloc, 2, 0, &[])?;
-    put(&mut store, alloc, 0, &KEYS)?;
+    add_four(&mut store, alloc)?;
     Ok(store)
 }
 
@@ -63,23 +74,31 @@ const TO_FIRST: Reference = Reference {
     to: 0,
 };
 
+/// Adds the table again, which was refused memory: till then all is as it was.
+fn adds_table_again(rt: &(impl Abort + Print), alloc: Global, store: &mut Store) -> Result<(), Fail>
+    requires { length store.old.tables ≡ 4 }
+{
+    asked_again(rt)?;
+    assert_same(rt, store.len(), 4);
+    assert_that(rt, !store.refers_only_to(4, 1, 0));
+    store.add_table(alloc, 2, 0, &[TO_FIRST])?;
+    Ok(())
+}
+
 /// Adds a table to four, which refers to the first of them.
 fn adds_table(rt: &(impl Abort + Print), alloc: Global, store: &mut Store) -> Result<(), Fail>
     requires { length store.old.tables ≡ 4 }
 {
     if store.add_table(alloc, 2, 0, &[TO_FIRST]).is_err() {
-        asked_again(rt)?;
-        assert_eq!(rt; store.len(), 4);
-        assert!(rt; !store.refers_only_to(4, 1, 0));
-        store.add_table(alloc, 2, 0, &[TO_FIRST])?;
+        adds_table_again(rt, alloc, store)?;
     }
-    assert_eq!(rt; store.len(), 5);
-    assert!(rt; store.refers_only_to(4, 1, 0));
-    assert_eq!(rt; store.table(4).len(), 0);
+    assert_same(rt, store.len(), 5);
+    assert_that(rt, store.refers_only_to(4, 1, 0));
+    assert_same(rt, store.table(4).len(), 0);
     let Ok(is_kept) = table_shows(store.table(0), alloc, BARE) else {
         return Ok(());
     };
-    assert!(rt; is_kept);
+    assert_that(rt, is_kept);
     Ok(())
 }
 
@@ -90,6 +109,23 @@ fn add_table_growths(rt: HostRuntime) -> Result<(), Fail> {
         return Ok(());
     };
     adds_table(&rt, alloc, &mut store)
+}
+
+/// Adds the index again, which was refused memory: till then all is as it was.
+fn adds_index_again(
+    rt: &(impl Abort + Print),
+    alloc: Global,
+    store: &mut Store,
+    kind: IndexKind,
+) -> Result<(), Fail>
+    requires four { length store.old.tables ≡ 4 }
+    requires plain { ArePlain store.old }
+{
+    asked_again(rt)?;
+    assert_that(rt, store.table(0).index_of(1, kind).is_none());
+    assert_that(rt, table_shows(store.table(0), alloc, BARE)?);
+    add_index(store, alloc, 0, kind)?;
+    Ok(())
 }
 
 /// Adds an index of a kind to the first of four tables, which then is to show this.
@@ -104,16 +140,13 @@ fn adds_index(
     requires plain { ArePlain store.old }
 {
     if add_index(store, alloc, 0, kind).is_err() {
-        asked_again(rt)?;
-        assert!(rt; store.table(0).index_of(1, kind).is_none());
-        assert!(rt; table_shows(store.table(0), alloc, BARE)?);
-        add_index(store, alloc, 0, kind)?;
+        adds_index_again(rt, alloc, store, kind)?;
     }
-    assert_eq!(rt; store.len(), 4);
+    assert_same(rt, store.len(), 4);
     let Ok(is_made) = table_shows(store.table(0), alloc, after) else {
         return Ok(());
     };
-    assert!(rt; is_made);
+    assert_that(rt, is_made);
     Ok(())
 }
 

@@ -3,6 +3,7 @@ ghost use Rattle.std.specs.Prelude.{◌<◌, length};
 
 use super::asked_again;
 use super::shows::goes_along;
+use crate::assertions::{assert_same, assert_that};
 use crate::stores::Case;
 use mm_schema::IndexKind;
 use mm_store::{Meter, Store};
@@ -123,15 +124,18 @@ fn by_first(
     view.matches(alloc, 1, index, &Value::Int(value), found)
 }
 
+/// Whether a row is that of a key and a value.
+fn is_row(row: &Row, key: i64, value: i64) -> bool {
+    let [first, second] = row.values() else {
+        return false;
+    };
+    compare(first, &Value::Int(key)).is_eq() && compare(second, &Value::Int(value)).is_eq()
+}
+
 /// Whether rows are those of these keys and values, in this order.
 fn are_rows(rows: &[Row], pairs: &[(i64, i64)]) -> bool {
     for (row, (key, value)) in rows.iter().zip(pairs) {
-        let [first, second] = row.values() else {
-            return false;
-        };
-        if compare(first, &Value::Int(*key)).is_ne()
-            || compare(second, &Value::Int(*value)).is_ne()
-        {
+        if !is_row(row, *key, *value) {
             return false;
         }
     }
@@ -150,14 +154,29 @@ fn appends_to(
 ) -> Result<(), Fail> {
     if append_found(&case.store, alloc, sought, found).is_err() {
         asked_again(rt)?;
-        assert_eq!(rt; found.as_slice(), [at].as_slice());
+        assert_same(rt, found.as_slice(), [at].as_slice());
         append_found(&case.store, alloc, sought, found)?;
     }
-    assert!(rt; case.are_of(found.as_slice(), keys));
+    assert_that(rt, case.are_of(found.as_slice(), keys));
     Ok(())
 }
 
-/// The same behind the reference of the row of key 41, in a case made for it.
+/// The same behind the reference of the row of key 41.
+fn appends_behind(
+    rt: &(impl Abort + Print),
+    alloc: Global,
+    case: &Case,
+    sought: Search,
+    keys: &[i64],
+) -> Result<(), Fail> {
+    let at = case.second(41).ok_or("no row")?;
+    let Ok(mut found) = vec![in alloc; at] else {
+        return Ok(());
+    };
+    appends_to(rt, alloc, case, sought, at, &mut found, keys)
+}
+
+/// The same in a case made for it.
 fn appends(
     rt: &(impl Abort + Print),
     alloc: Global,
@@ -167,11 +186,7 @@ fn appends(
     let Ok(case) = Case::with_rows(alloc) else {
         return Ok(());
     };
-    let at = case.second(41).ok_or("no row")?;
-    let Ok(mut found) = vec![in alloc; at] else {
-        return Ok(());
-    };
-    appends_to(rt, alloc, &case, sought, at, &mut found, keys)
+    appends_behind(rt, alloc, &case, sought, keys)
 }
 
 #[test]
@@ -194,18 +209,20 @@ fn matches_growths(rt: HostRuntime) -> Result<(), Fail> {
     appends(&rt, rt.alloc(), Search::First(1), &[41, 21, 41, 51])
 }
 
+/// The keys and values of the second table.
+const ROWS: [(i64, i64); 5] = [(13, 3), (21, 1), (32, 2), (41, 1), (51, 1)];
+
 /// Reads the rows of the second table.
 fn reads_rows(rt: &(impl Abort + Print), alloc: Global, case: &Case) -> Result<(), Fail> {
     let rows = match case.store.rows_of(alloc, 1) {
         Ok(rows) => rows,
         Err(refusal) => {
             asked_again(rt)?;
-            assert_eq!(rt; refusal, Refusal::Memory);
+            assert_same(rt, refusal, Refusal::Memory);
             case.store.rows_of(alloc, 1)?
         }
     };
-    let pairs = [(13, 3), (21, 1), (32, 2), (41, 1), (51, 1)];
-    assert!(rt; are_rows(rows.as_slice(), &pairs));
+    assert_that(rt, are_rows(rows.as_slice(), &ROWS));
     Ok(())
 }
 
@@ -227,7 +244,7 @@ fn scans_keys(rt: &(impl Abort + Print), alloc: Global, case: &Case) -> Result<(
             case.store.key_scan(alloc, 1)?
         }
     };
-    assert!(rt; case.are_of(refs.as_slice(), &[13, 21, 32, 41, 51]));
+    assert_that(rt, case.are_of(refs.as_slice(), &[13, 21, 32, 41, 51]));
     Ok(())
 }
 
@@ -250,7 +267,10 @@ fn orders_values(rt: &(impl Abort + Print), alloc: Global, case: &Case) -> Resul
             relation.ordered_by(alloc, 1)?
         }
     };
-    assert!(rt; goes_along(relation, ordered.iter(), &[21, 41, 51, 32, 13]));
+    assert_that(
+        rt,
+        goes_along(relation, ordered.iter(), &[21, 41, 51, 32, 13]),
+    );
     Ok(())
 }
 

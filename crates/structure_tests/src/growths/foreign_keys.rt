@@ -2,6 +2,7 @@
 ghost use Rattle.std.specs.Prelude.{◌≤◌, length, OnOk};
 ghost use Rattle.mm_foreign.specs.Ties.{KeepsTargets};
 
+use crate::assertions::{assert_same, assert_that};
 use crate::growths::asked_again;
 use mm_foreign::ForeignKey;
 use mm_value::RowRef;
@@ -22,8 +23,8 @@ fn reserve_again(rt: &(impl Abort + AllocGlobal + Print), key: &mut ForeignKey) 
     // For the entries of the referring rows, and for the counts of their targets.
     if key.reserve(rt.alloc(), 500, 500).is_err() {
         asked_again(rt)?;
-        assert_eq!(rt; key.target(ROW), Some(ROW));
-        assert!(rt; key.is_referred(ROW));
+        assert_same(rt, key.target(ROW), Some(ROW));
+        assert_that(rt, key.is_referred(ROW));
         key.reserve(rt.alloc(), 500, 500)?;
     }
     Ok(())
@@ -34,13 +35,17 @@ fn tie_both(rt: &(impl Abort + AllocGlobal + Print), key: &mut ForeignKey) -> Re
     if key.reserve(rt.alloc(), 1, 1).is_err() {
         return Ok(());
     }
-    assert_eq!(rt; key.target(ROW), None);
+    assert_same(rt, key.target(ROW), None);
     key.tie(ROW, ROW);
     reserve_again(rt, key)?;
-    assert_eq!(rt; key.target(FAR), None);
+    assert_same(rt, key.target(FAR), None);
     key.tie(FAR, FAR);
-    assert_eq!(rt; (key.target(FAR), key.target(ROW)), (Some(FAR), Some(ROW)));
-    assert!(rt; key.is_referred(FAR));
+    assert_same(
+        rt,
+        (key.target(FAR), key.target(ROW)),
+        (Some(FAR), Some(ROW)),
+    );
+    assert_that(rt, key.is_referred(FAR));
     Ok(())
 }
 

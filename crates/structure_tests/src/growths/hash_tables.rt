@@ -1,4 +1,7 @@
 //! Bags of references by hash.
+ghost use Rattle.std.specs.Prelude.{◌<◌};
+
+use crate::assertions::{assert_same, assert_that};
 use crate::growths::asked_again;
 use crate::references::{are, first_of};
 use mlhash::HashRefs;
@@ -16,15 +19,35 @@ fn put_three(alloc: Global, refs: &mut HashRefs) -> Result<(), AllocError> {
     Ok(())
 }
 
+/// Finds all references of `put_three` into an empty list, and then those of the hash 4.
+fn find_three(
+    rt: &impl Abort,
+    alloc: Global,
+    refs: &HashRefs,
+    found: &mut Vec<RowRef>,
+) -> Result<(), AllocError> {
+    refs.copy_all(alloc, found)?;
+    assert_that(rt, are(found, &[first_of(1), first_of(2), first_of(3)]));
+    found.clear();
+    refs.matches(alloc, 4, found)?;
+    assert_that(rt, are(found, &[first_of(1), first_of(3)]));
+    Ok(())
+}
+
 /// Asserts that the three references of `put_three` are in a bag, and no more.
 fn assert_three(rt: &impl Abort, alloc: Global, refs: &HashRefs) -> Result<(), AllocError> {
     let mut found = Vec::new(alloc);
-    refs.copy_all(alloc, &mut found)?;
-    assert!(rt; are(&found, &[first_of(1), first_of(2), first_of(3)]));
-    found.clear();
-    refs.matches(alloc, 4, &mut found)?;
-    assert!(rt; are(&found, &[first_of(1), first_of(3)]));
-    Ok(())
+    find_three(rt, alloc, refs, &mut found)
+}
+
+/// Puts a reference into a bag that has room for it, and takes it out again. Then there is room for 40 beside those of `put_three`.
+fn use_room(rt: &impl Abort, alloc: Global, refs: &mut HashRefs)
+    requires { 0 < refs.old.spare }
+{
+    refs.insert(9, first_of(4));
+    assert_that(rt, refs.remove(9, first_of(4)));
+    assert_that(rt, refs.spare() >= 40);
+    let _ = assert_three(rt, alloc, refs);
 }
 
 /// Makes room, again where memory is refused, and uses it. The bag does without bucket heads and places of its directory where memory
@@ -36,14 +59,11 @@ fn reserve_again(rt: &(impl Abort + AllocGlobal + Print), refs: &mut HashRefs) -
     let spare = refs.spare();
     if refs.reserve(rt.alloc(), 40).is_err() {
         asked_again(rt)?;
-        assert_eq!(rt; (refs.len(), refs.spare()), (3, spare));
+        assert_same(rt, (refs.len(), refs.spare()), (3, spare));
         assert_three(rt, rt.alloc(), refs)?;
         refs.reserve(rt.alloc(), 40)?;
     }
-    refs.insert(9, first_of(4));
-    assert!(rt; refs.remove(9, first_of(4)));
-    assert!(rt; refs.spare() >= 40);
-    let _ = assert_three(rt, rt.alloc(), refs);
+    use_room(rt, rt.alloc(), refs);
     Ok(())
 }
 
@@ -64,11 +84,11 @@ fn match_again(
     }
     if refs.matches(rt.alloc(), 4, found).is_err() {
         asked_again(rt)?;
-        assert!(rt; found.is_empty());
+        assert_that(rt, found.is_empty());
         assert_three(rt, rt.alloc(), refs)?;
         refs.matches(rt.alloc(), 4, found)?;
     }
-    assert!(rt; are(found, &[first_of(1), first_of(3)]));
+    assert_that(rt, are(found, &[first_of(1), first_of(3)]));
     Ok(())
 }
 
@@ -94,23 +114,28 @@ fn copy_again(
 ) -> Result<(), Fail> {
     if refs.copy_all(rt.alloc(), found).is_err() {
         asked_again(rt)?;
-        assert!(rt; are(found, &[first_of(0)]));
+        assert_that(rt, are(found, &[first_of(0)]));
         assert_three(rt, rt.alloc(), refs)?;
         refs.copy_all(rt.alloc(), found)?;
     }
     let wanted = [first_of(0), first_of(1), first_of(2), first_of(3)];
-    assert!(rt; are(found, &wanted));
+    assert_that(rt, are(found, &wanted));
     Ok(())
 }
 
-#[test]
-fn hash_copy_growths(rt: HostRuntime) -> Result<(), Fail> {
-    let mut refs = HashRefs::new(rt.alloc());
-    if put_three(rt.alloc(), &mut refs).is_err() {
+/// Fills an empty bag, and copies its references.
+fn copy_three(rt: &(impl Abort + AllocGlobal + Print), refs: &mut HashRefs) -> Result<(), Fail> {
+    if put_three(rt.alloc(), refs).is_err() {
         return Ok(());
     }
     let Ok(mut found) = full_list(rt.alloc()) else {
         return Ok(());
     };
-    copy_again(&rt, &refs, &mut found)
+    copy_again(rt, refs, &mut found)
+}
+
+#[test]
+fn hash_copy_growths(rt: HostRuntime) -> Result<(), Fail> {
+    let mut refs = HashRefs::new(rt.alloc());
+    copy_three(&rt, &mut refs)
 }

@@ -2,9 +2,11 @@
 ghost use Rattle.std.specs.Prelude.{◌≡◌, []};
 ghost use Rattle.structure_tests.specs.Orders.{IsByPlace};
 
+use crate::assertions::{assert_same, assert_that};
 use crate::growths::asked_again;
+use crate::orders::{append_all, append_part};
 use crate::references::numbered;
-use crate::samples::{Anywhere, ByPlace, InPartition};
+use crate::samples::ByPlace;
 use mm_order::{OrderedRefs, SortedRefs};
 use mm_value::RowRef;
 use std::alloc::{AllocError, Global};
@@ -23,18 +25,13 @@ fn put_two<R: OrderedRefs>(alloc: Global, refs: &mut R) -> Result<(), AllocError
     Ok(())
 }
 
-/// Asserts that these are the references of a list, in order.
-fn assert_held<R: OrderedRefs>(
-    rt: &impl Abort,
-    alloc: Global,
-    refs: &R,
-    want: &[RowRef],
-) -> Result<(), AllocError>
+/// Asserts that a list has the references of `put_two`, in order.
+fn assert_two<R: OrderedRefs>(rt: &impl Abort, alloc: Global, refs: &R) -> Result<(), AllocError>
     requires { IsByPlace (R.refs refs.now) }
 {
     let mut held = Vec::new(alloc);
-    refs.copy_range(alloc, &ByPlace, &Anywhere, &Anywhere, &mut held)?;
-    assert_eq!(rt; held.as_slice(), want);
+    append_all(alloc, refs, &mut held)?;
+    assert_same(rt, held.as_slice(), &[numbered(3), numbered(7)]);
     Ok(())
 }
 
@@ -49,16 +46,23 @@ fn assert_reserves<R: OrderedRefs>(
     let spare = refs.spare();
     if refs.reserve(alloc, 20).is_err() {
         asked_again(rt)?;
-        assert!(rt; refs.len() == 2 && spare <= refs.spare() && refs.spare() < 20);
-        assert_held(rt, alloc, refs, &[numbered(3), numbered(7)])?;
+        assert_same(rt, refs.len(), 2);
+        assert_that(rt, spare <= refs.spare());
+        assert_that(rt, refs.spare() < 20);
+        assert_two(rt, alloc, refs)?;
         refs.reserve(alloc, 20)?;
     }
-    assert!(rt; refs.spare() >= 20);
-    let _ = assert_held(rt, alloc, refs, &[numbered(3), numbered(7)]);
+    assert_that(rt, refs.spare() >= 20);
+    let _ = assert_two(rt, alloc, refs);
     Ok(())
 }
 
-/// Copies those references of `put_two` that lie in the partition of 7, behind the references 1, 0, 1 and 0.
+/// The references that others are copied behind.
+fn front() -> [RowRef; 4] {
+    [numbered(1), numbered(0), numbered(1), numbered(0)]
+}
+
+/// Copies those references of `put_two` that lie in the partition of 7, behind those of `front`.
 fn copy_behind<R: OrderedRefs>(
     rt: &(impl Abort + Print),
     alloc: Global,
@@ -67,18 +71,15 @@ fn copy_behind<R: OrderedRefs>(
 ) -> Result<(), Fail>
     requires { IsByPlace (R.refs refs.now) }
 {
-    let (zero, one) = (numbered(0), numbered(1));
-    let part = InPartition(1);
-    if refs.copy_range(alloc, &ByPlace, &part, &part, out).is_err() {
+    let front = front();
+    if append_part(alloc, refs, 1, out).is_err() {
         asked_again(rt)?;
-        assert_eq!(rt; out.as_slice(), [one, zero, one, zero].as_slice());
-        assert_held(rt, alloc, refs, &[numbered(3), numbered(7)])?;
-        refs.copy_range(alloc, &ByPlace, &part, &part, out)?;
+        assert_same(rt, out.as_slice(), &front);
+        assert_two(rt, alloc, refs)?;
+        append_part(alloc, refs, 1, out)?;
     }
-    assert_eq!(rt;
-        out.as_slice(),
-        [one, zero, one, zero, numbered(7)].as_slice()
-    );
+    let [a, b, c, d] = front;
+    assert_same(rt, out.as_slice(), &[a, b, c, d, numbered(7)]);
     Ok(())
 }
 
@@ -91,10 +92,7 @@ fn assert_copies<R: OrderedRefs>(
     requires { IsByPlace (R.refs refs.now) }
 {
     let mut out = Vec::new(alloc);
-    if out
-        .extend_from_slice(&[numbered(1), numbered(0), numbered(1), numbered(0)])
-        .is_err()
-    {
+    if out.extend_from_slice(&front()).is_err() {
         return Ok(());
     }
     copy_behind(rt, alloc, refs, &mut out)

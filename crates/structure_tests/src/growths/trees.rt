@@ -1,7 +1,11 @@
 //! T-trees of several nodes, and their pool of nodes.
+ghost use Rattle.structure_tests.specs.Orders.{IsByPlace};
+
+use crate::assertions::{assert_same, assert_that};
 use crate::growths::asked_again;
-use crate::references::{ascending, first_of};
-use crate::samples::{Anywhere, ByPlace};
+use crate::orders::append_all;
+use crate::references::ascending;
+use crate::trees::assert_goes_over;
 use mm_order::OrderedRefs;
 use mm_value::RowRef;
 use std::process::Abort;
@@ -22,10 +26,8 @@ fn build_again(rt: &(impl Abort + AllocGlobal + Print), refs: &[RowRef]) -> Resu
 
 /// Asserts that a tree of 40 references is as low as it can be, and that they are these.
 fn assert_built(rt: &impl Abort, tree: &TTree, refs: &[RowRef]) {
-    assert_eq!(rt; (tree.len(), tree.height(), tree.spare()), (40, 2, 0));
-    for (held, want) in tree.iter().zip(refs.iter()) {
-        assert_eq!(rt; held, *want);
-    }
+    assert_same(rt, (tree.len(), tree.height(), tree.spare()), (40, 2, 0));
+    assert_goes_over(rt, tree, refs);
 }
 
 #[test]
@@ -38,27 +40,42 @@ fn from_sorted_growths(rt: HostRuntime) -> Result<(), Fail> {
     Ok(())
 }
 
+/// Copies all references of a tree into an empty list, again where memory is refused. They are these.
+fn copy_again(
+    rt: &(impl Abort + AllocGlobal + Print),
+    tree: &TTree,
+    refs: &[RowRef],
+    out: &mut Vec<RowRef>,
+) -> Result<(), Fail>
+    requires { IsByPlace tree.now.refs }
+{
+    if append_all(rt.alloc(), tree, out).is_err() {
+        asked_again(rt)?;
+        assert_that(rt, out.is_empty());
+        append_all(rt.alloc(), tree, out)?;
+    }
+    assert_same(rt, out.as_slice(), refs);
+    Ok(())
+}
+
+/// Copies the nodes of a tree over references in order.
+fn copy_nodes(rt: &(impl Abort + AllocGlobal + Print), refs: &[RowRef]) -> Result<(), Fail>
+    requires { IsByPlace refs.now }
+{
+    let Ok(tree) = TTree::from_sorted(rt.alloc(), refs) else {
+        return Ok(());
+    };
+    let mut out = Vec::new(rt.alloc());
+    copy_again(rt, &tree, refs, &mut out)
+}
+
 // The range runs over three nodes, whose entries are appended one node after the other.
 #[test]
 fn nodes_copy_growths(rt: HostRuntime) -> Result<(), Fail> {
-    let alloc = rt.alloc();
-    let Ok(refs) = ascending(alloc, 40) else {
+    let Ok(refs) = ascending(rt.alloc(), 40) else {
         return Ok(());
     };
-    let Ok(tree) = TTree::from_sorted(alloc, &refs) else {
-        return Ok(());
-    };
-    let mut out = Vec::new(alloc);
-    if tree
-        .copy_range(alloc, &ByPlace, &Anywhere, &Anywhere, &mut out)
-        .is_err()
-    {
-        asked_again(&rt)?;
-        assert!(rt; out.is_empty());
-        tree.copy_range(alloc, &ByPlace, &Anywhere, &Anywhere, &mut out)?;
-    }
-    assert_eq!(rt; out.as_slice(), refs.as_slice());
-    Ok(())
+    copy_nodes(&rt, &refs)
 }
 
 // A refused pool keeps the nodes that it got.
@@ -71,9 +88,9 @@ fn spares_growths(rt: HostRuntime) -> Result<(), Fail> {
     }
     if spares.reserve(alloc, 5).is_err() {
         asked_again(&rt)?;
-        assert!(rt; (2..5).contains(&spares.len()));
+        assert_that(&rt, (2..5).contains(&spares.len()));
         spares.reserve(alloc, 5)?;
     }
-    assert_eq!(rt; spares.len(), 5);
+    assert_same(&rt, spares.len(), 5);
     Ok(())
 }

@@ -1,4 +1,5 @@
 //! Values and rows. Their texts have more than the 16 bytes that take no memory.
+use crate::assertions::{assert_same, assert_that};
 use crate::growths::asked_again;
 use crate::samples::{is_equal, text};
 use mm_value::{Refusal, Row, Text, Value, read_literal};
@@ -6,18 +7,28 @@ use std::alloc::Global;
 use std::process::Abort;
 use std::test::Fail;
 
+/// Tells that a call was refused, for which there must have been no memory.
+fn assert_no_memory(rt: &(impl Abort + Print), refusal: Refusal) -> Result<(), Fail> {
+    asked_again(rt)?;
+    assert_same(rt, refusal, Refusal::Memory);
+    Ok(())
+}
+
+/// The text of these bytes, asked for again where memory is refused.
+fn text_again(rt: &(impl Abort + AllocGlobal + Print), bytes: &[u8]) -> Result<Text, Fail> {
+    match Text::new(rt.alloc(), bytes) {
+        Ok(made) => Ok(made),
+        Err(refusal) => {
+            assert_no_memory(rt, refusal)?;
+            Ok(Text::new(rt.alloc(), bytes)?)
+        }
+    }
+}
+
 #[test]
 fn text_growths(rt: HostRuntime) -> Result<(), Fail> {
-    let alloc = rt.alloc();
-    let made = match Text::new(alloc, b"seventeen letters") {
-        Ok(made) => made,
-        Err(refusal) => {
-            asked_again(&rt)?;
-            assert_eq!(rt; refusal, Refusal::Memory);
-            Text::new(alloc, b"seventeen letters")?
-        }
-    };
-    assert_eq!(rt; made.bytes(), b"seventeen letters".as_slice());
+    let made = text_again(&rt, b"seventeen letters")?;
+    assert_same(&rt, made.bytes(), b"seventeen letters".as_slice());
     Ok(())
 }
 
@@ -26,42 +37,52 @@ fn copy_again(rt: &(impl Abort + AllocGlobal + Print), text: &Text) -> Result<Te
     match text.copy(rt.alloc()) {
         Ok(copy) => Ok(copy),
         Err(refusal) => {
-            asked_again(rt)?;
-            assert_eq!(rt; refusal, Refusal::Memory);
+            assert_no_memory(rt, refusal)?;
             Ok(text.copy(rt.alloc())?)
         }
     }
 }
 
+/// Asserts that a copy of a text has the text's bytes.
+fn assert_text_copied(rt: &(impl Abort + AllocGlobal + Print), first: &Text) -> Result<(), Fail> {
+    let copy = copy_again(rt, first)?;
+    assert_same(rt, copy.bytes(), b"seventeen letters".as_slice());
+    assert_same(rt, first.bytes(), b"seventeen letters".as_slice());
+    Ok(())
+}
+
 #[test]
 fn text_copy_growths(rt: HostRuntime) -> Result<(), Fail> {
-    let Ok(first) = Text::new(rt.alloc(), b"seventeen letters") else {
-        return Ok(());
-    };
-    let copy = copy_again(&rt, &first)?;
-    assert_eq!(rt;
-        [copy.bytes(), first.bytes()],
-        [b"seventeen letters".as_slice(); 2]
-    );
+    match Text::new(rt.alloc(), b"seventeen letters") {
+        Ok(first) => assert_text_copied(&rt, &first),
+        Err(_) => Ok(()),
+    }
+}
+
+/// A copy of a value, asked for again where memory is refused.
+fn copy_value_again(rt: &(impl Abort + AllocGlobal + Print), value: &Value) -> Result<Value, Fail> {
+    match value.copy(rt.alloc()) {
+        Ok(copy) => Ok(copy),
+        Err(refusal) => {
+            assert_no_memory(rt, refusal)?;
+            Ok(value.copy(rt.alloc())?)
+        }
+    }
+}
+
+/// Asserts that a copy of a value is equal to it.
+fn assert_value_copied(rt: &(impl Abort + AllocGlobal + Print), first: &Value) -> Result<(), Fail> {
+    let copy = copy_value_again(rt, first)?;
+    assert_that(rt, is_equal(&copy, first));
     Ok(())
 }
 
 #[test]
 fn value_copy_growths(rt: HostRuntime) -> Result<(), Fail> {
-    let alloc = rt.alloc();
-    let Ok(first) = text(alloc, b"seventeen letters") else {
-        return Ok(());
-    };
-    let copy = match first.copy(alloc) {
-        Ok(copy) => copy,
-        Err(refusal) => {
-            asked_again(&rt)?;
-            assert_eq!(rt; refusal, Refusal::Memory);
-            first.copy(alloc)?
-        }
-    };
-    assert!(rt; is_equal(&copy, &first));
-    Ok(())
+    match text(rt.alloc(), b"seventeen letters") {
+        Ok(first) => assert_value_copied(&rt, &first),
+        Err(_) => Ok(()),
+    }
 }
 
 /// A row of 7 and two long texts.
@@ -82,42 +103,67 @@ fn is_same(a: &Row, b: &Row) -> bool {
             .all(|(a, b)| is_equal(a, b))
 }
 
+/// A copy of a row, asked for again where memory is refused. Then the row is the same as another still.
+fn copy_row_again(
+    rt: &(impl Abort + AllocGlobal + Print),
+    row: &Row,
+    same: &Row,
+) -> Result<Row, Fail> {
+    match row.copy(rt.alloc()) {
+        Ok(copy) => Ok(copy),
+        Err(refusal) => {
+            assert_no_memory(rt, refusal)?;
+            assert_that(rt, is_same(row, same));
+            Ok(row.copy(rt.alloc())?)
+        }
+    }
+}
+
+/// Asserts that a copy of a row is the same as another that is the same as the row.
+fn assert_row_copied(
+    rt: &(impl Abort + AllocGlobal + Print),
+    first: &Row,
+    same: &Row,
+) -> Result<(), Fail> {
+    let copy = copy_row_again(rt, first, same)?;
+    assert_that(rt, is_same(&copy, same));
+    Ok(())
+}
+
 #[test]
 fn row_copy_growths(rt: HostRuntime) -> Result<(), Fail> {
-    let alloc = rt.alloc();
-    let Ok(first) = row(alloc) else {
-        return Ok(());
-    };
-    let Ok(same) = row(alloc) else {
-        return Ok(());
-    };
-    let copy = match first.copy(alloc) {
-        Ok(copy) => copy,
+    match (row(rt.alloc()), row(rt.alloc())) {
+        (Ok(first), Ok(same)) => assert_row_copied(&rt, &first, &same),
+        _ => Ok(()),
+    }
+}
+
+/// What a literal is read as, again where memory is refused.
+fn read_again(rt: &(impl Abort + AllocGlobal + Print), bytes: &[u8]) -> Result<Value, Fail> {
+    match read_literal(rt.alloc(), bytes) {
+        Ok(read) => Ok(read),
         Err(refusal) => {
-            asked_again(&rt)?;
-            assert_eq!(rt; refusal, Refusal::Memory);
-            assert!(rt; is_same(&first, &same));
-            first.copy(alloc)?
+            assert_no_memory(rt, refusal)?;
+            Ok(read_literal(rt.alloc(), bytes)?)
         }
-    };
-    assert!(rt; is_same(&copy, &same));
+    }
+}
+
+/// Asserts that a literal is read as a value.
+fn assert_read(
+    rt: &(impl Abort + AllocGlobal + Print),
+    bytes: &[u8],
+    want: &Value,
+) -> Result<(), Fail> {
+    let read = read_again(rt, bytes)?;
+    assert_that(rt, is_equal(&read, want));
     Ok(())
 }
 
 #[test]
 fn literal_growths(rt: HostRuntime) -> Result<(), Fail> {
-    let alloc = rt.alloc();
-    let Ok(want) = text(alloc, b"it's 17 bytes' of") else {
-        return Ok(());
-    };
-    let read = match read_literal(alloc, b"'it''s 17 bytes'' of'") {
-        Ok(read) => read,
-        Err(refusal) => {
-            asked_again(&rt)?;
-            assert_eq!(rt; refusal, Refusal::Memory);
-            read_literal(alloc, b"'it''s 17 bytes'' of'")?
-        }
-    };
-    assert!(rt; is_equal(&read, &want));
-    Ok(())
+    match text(rt.alloc(), b"it's 17 bytes' of") {
+        Ok(want) => assert_read(&rt, b"'it''s 17 bytes'' of'", &want),
+        Err(_) => Ok(()),
+    }
 }

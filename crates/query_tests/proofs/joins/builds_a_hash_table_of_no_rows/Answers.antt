@@ -14,22 +14,12 @@ use Rattle.query_tests.proofs.joins.builds_a_hash_table_of_no_rows.Goals as goal
 abbrev atom : Atom FieldPlace
 atom = record { left = record { place = 0; column = 1 }; comparison = Equal; right = Shifted (record { place = 1; column = 0 }) (pos 3) }
 
-pub hash_build-requires-clause-tables : goal.hash_build-requires-clause-tables
-hash_build-requires-clause-tables g c =
+pub builds_for_none-requires-clause-tables : goal.builds_for_none-requires-clause-tables
+builds_for_none-requires-clause-tables g c =
     (1, (ap (λ (list : Combos). list.tables ++ 1 ∷ []) (sym c.new-outer.ensures), omega (arith, c.in_ok-store.ensures)))
 
-pub hash_build-requires-clause-asked : goal.hash_build-requires-clause-asked
-hash_build-requires-clause-asked g c = λ table stored next here.
-    subst (λ o. IfSome o (λ key. (atoms : List (Atom FieldPlace)) (outers : List ℕ) → Contains atoms atom → length outers ≡ 1 → IsJoin atoms outers key))
-    c.expect-key.ensures c.join_key.ensures.key (atom ∷ []) c.new-outer.result.tables (Contains-push [] atom)
-    (ap (λ (list : Combos). length list.tables) c.new-outer.ensures)
-
-pub hash_build-requires-in-Err-clause-tables : goal.hash_build-requires-in-Err-clause-tables
-hash_build-requires-in-Err-clause-tables g c =
-    (1, (ap (λ (list : Combos). list.tables ++ 1 ∷ []) (sym c.new-outer.ensures), omega (arith, c.in_ok-store.ensures)))
-
-pub hash_build-requires-in-Err-clause-asked : goal.hash_build-requires-in-Err-clause-asked
-hash_build-requires-in-Err-clause-asked g c = λ table stored next here.
+pub builds_for_none-requires-clause-asked : goal.builds_for_none-requires-clause-asked
+builds_for_none-requires-clause-asked g c = λ table stored next here.
     subst (λ o. IfSome o (λ key. (atoms : List (Atom FieldPlace)) (outers : List ℕ) → Contains atoms atom → length outers ≡ 1 → IsJoin atoms outers key))
     c.expect-key.ensures c.join_key.ensures.key (atom ∷ []) c.new-outer.result.tables (Contains-push [] atom)
     (ap (λ (list : Combos). length list.tables) c.new-outer.ensures)

@@ -25,3 +25,6 @@ pub returns-clause-start : goal.returns-clause-start
 returns-clause-start c =
     mark_now c.settle.new.self c.settle.new.undo c.settle-2.new.self (returns-clause-case c) c.rows_stand.ensures 0 0
     (sym (ap (λ (ns : List Noted). length ns) c.settle.ensures.undo)) (sym (ap (λ (l : Lists). length l.log) c.settle-2.ensures.rest))
+
+pub returns-clause-rows : goal.returns-clause-rows
+returns-clause-rows c = before_same c.args.store.now c.settle.new.self c.settle.ensures.rows

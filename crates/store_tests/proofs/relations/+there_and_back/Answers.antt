@@ -1,37 +1,16 @@
 use Rattle.std.proofs.Common.{◌≡◌, ℕ, List, sym, ap, ◌∙◌, subst}
 use Rattle.mm_partition.specs.Places.{slot_at}
-use Rattle.mm_relation.specs.Changes.{Standing}
 use Rattle.mm_relation.specs.Before.{before}
 use Rattle.mm_relation.specs.Differs.{Differs}
-use Rattle.mm_relation.specs.Edits.{Among, named, entry_name}
+use Rattle.mm_relation.specs.Edits.{named, entry_name}
 use Rattle.mm_relation.specs.Kept.{StoredRows}
 use Rattle.mm_relation.specs.Lawful.{IsLawful}
 use Rattle.mm_relation.specs.Refs.{Slots}
 use Rattle.mm_relation.specs.declared.log.Entry.{Entry}
 use Rattle.mm_relation.specs.declared.names.Side.TheVariants.{Old, New}
-use Rattle.mm_relation.proofs.Changed.{olds}
 use Rattle.mm_relation.proofs.Lawful.{IsLawful-kept}
-use Rattle.mm_relation.proofs.TwinsAfter.{Standing-of_refs}
 use Rattle.store_tests.proofs.relations.+there_and_back.Goals as goal
 use Rattle.store_tests.proofs.relations.+there_and_back.Goals.{in-Some-checked_add, in-None}
-
-pub has_twins_with-requires : goal.has_twins_with-requires
-has_twins_with-requires t c =
-    let v = c.args.relation.now in
-    let stay : Among v.refs (olds c.in_ok-edits.edits.items) = subst (Among v.refs) (sym c.in_ok-edits.ensures.old) c.in-Some-rows_of.ensures in
-    subst (Standing (slot_at v.places)) (sym c.as_slice.ensures.value)
-    (Standing-of_refs v.width v.key (slot_at v.places) v.refs v.indexes c.is_kept.ensures c.in_ok-edits.edits.items stay.0 stay.1)
-
-pub apply-requires-clause-standing : goal.apply-requires-clause-standing
-apply-requires-clause-standing t c =
-    let v = c.args.relation.now in
-    let stay : Among v.refs (olds c.in_ok-edits.edits.items) = subst (Among v.refs) (sym c.in_ok-edits.ensures.old) c.in-Some-rows_of.ensures in
-    Standing-of_refs v.width v.key (slot_at v.places) v.refs v.indexes c.is_kept.ensures c.in_ok-edits.edits.items stay.0 stay.1
-
-pub apply-requires-clause-keys : goal.apply-requires-clause-keys
-apply-requires-clause-keys t c =
-    let told = rw c.as_slice.ensures.value at c.in_ok-has_twins_with.ensures.apart in
-    told c.if-branch.false
 
 pub revert-requires-clause-differs : goal.revert-requires-clause-differs
 revert-requires-clause-differs t c =

@@ -1,6 +1,6 @@
 use Rattle.std.proofs.Common.{◌+◌, ◌*◌, ◌<◌, ◌≤◌, All}
 use Rattle.structure_tests.specs.Orders.{IsByPlace}
-use Rattle.structure_tests.proofs.orders.holds_references_in_order.Given as goal
+use Rattle.structure_tests.proofs.orders.put_17.Given as goal
 
 -- the references below n are in, in order, and there is room for the others
 abbrev pub invariant-loop-n : goal.invariant-loop-n

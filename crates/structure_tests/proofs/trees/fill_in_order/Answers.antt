@@ -1,7 +1,7 @@
 use Rattle.std.proofs.Common.{◌+◌, ◌<◌, All, List, sym, subst, arith}
 use Rattle.mm_value.specs.declared.row_ref.RowRef.{RowRef}
 use Rattle.mm_order.proofs.Ordered.{All-added}
-use Rattle.structure_tests.proofs.trees.a_range_asks_about_the_ends_of_a_node.Goals as goal
+use Rattle.structure_tests.proofs.trees.fill_in_order.Goals as goal
 
 pub loop-part-preserved : goal.loop-part-preserved
 loop-part-preserved g c =

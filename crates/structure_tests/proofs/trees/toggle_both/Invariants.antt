@@ -1,5 +1,5 @@
 use Rattle.structure_tests.specs.Orders.{IsByPlace}
-use Rattle.structure_tests.proofs.trees.holds_what_the_sorted_list_holds.Given as goal
+use Rattle.structure_tests.proofs.trees.toggle_both.Given as goal
 
 -- the references of both are in order
 abbrev pub invariant-loop-step : goal.invariant-loop-step

@@ -1,6 +1,6 @@
 use Rattle.std.proofs.Common.{◌<◌, All}
 use Rattle.structure_tests.specs.Orders.{IsByPlace}
-use Rattle.structure_tests.proofs.trees.ascending_references_fill_the_nodes.Given as goal
+use Rattle.structure_tests.proofs.trees.fill_in_order.Given as goal
 
 -- the references below the next are in, in order
 abbrev pub invariant-loop-part : goal.invariant-loop-part

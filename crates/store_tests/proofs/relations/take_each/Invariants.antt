@@ -1,5 +1,5 @@
 use Rattle.store_tests.specs.SampleRelation.{IsSample}
-use Rattle.store_tests.proofs.relations.find_and_take_each.Given as goal
+use Rattle.store_tests.proofs.relations.take_each.Given as goal
 
 -- the table keeps its columns and indexes
 abbrev pub invariant-loop-key : goal.invariant-loop-key

@@ -1,6 +1,6 @@
 use Rattle.std.proofs.Common.{◌+◌, ◌*◌, ◌<◌, arith}
 use Rattle.mm_order.proofs.Ordered.{All-added}
-use Rattle.structure_tests.proofs.orders.holds_references_in_order.Goals as goal
+use Rattle.structure_tests.proofs.orders.put_17.Goals as goal
 
 pub loop-n-preserved : goal.loop-n-preserved
 loop-n-preserved g c = record {

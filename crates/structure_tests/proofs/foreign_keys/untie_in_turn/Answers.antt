@@ -1,20 +1,20 @@
 use Rattle.std.proofs.Common.{arith}
 use Rattle.mm_value.specs.declared.row_ref.RowRef.{RowRef}
 use Rattle.structure_tests.proofs.Targets.{stays}
-use Rattle.structure_tests.proofs.foreign_keys.a_row_is_referred_to_until_the_last_referrer_goes.Goals as goal
+use Rattle.structure_tests.proofs.foreign_keys.untie_in_turn.Goals as goal
 
 pub tie-requires-clause-untied : goal.tie-requires-clause-untied
-tie-requires-clause-untied g c = c.in_ok-key.ensures.untied (record { part = 0; slot = 5 })
+tie-requires-clause-untied g c = c.requires.untied (record { part = 0; slot = 5 })
 
 pub tie-requires-2-clause-untied : goal.tie-requires-2-clause-untied
 tie-requires-2-clause-untied g c =
     let two : RowRef = record { part = 1; slot = 5 } in
-    stays c.tie.ensures.tied two (omega arith) (c.in_ok-key.ensures.untied two)
+    stays c.tie.ensures.tied two (omega arith) (c.requires.untied two)
 
 pub tie-requires-3-clause-untied : goal.tie-requires-3-clause-untied
 tie-requires-3-clause-untied g c =
     let three : RowRef = record { part = 0; slot = 6 } in
-    stays c.tie-2.ensures.tied three (omega arith) (stays c.tie.ensures.tied three (omega arith) (c.in_ok-key.ensures.untied three))
+    stays c.tie-2.ensures.tied three (omega arith) (stays c.tie.ensures.tied three (omega arith) (c.requires.untied three))
 
 pub untie-requires : goal.untie-requires
 untie-requires g c =
