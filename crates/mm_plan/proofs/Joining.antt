@@ -1,6 +1,5 @@
 -- Joining the tables of a query, one after another.
 use Rattle.std.proofs.Common.{◌≡◌, ◌≢◌, ◌⊎◌, inl, inr, IfErr, IfOk, IsPermutation, Result, Ok, Err, ℕ, suc, ◌+◌, ◌*◌, ◌<◌, ◌≤◌, Bool, true, false, cond, nat_lt, List, [], ◌∷◌, ◌++◌, Some, None, All, drop, length, map, get_or, take, append_assoc, refl, sym, ap, ◌∙◌, subst, arith}
-use Rattle.std.proofs.lemmas.Bool.{cases_eq}
 use Rattle.std.proofs.lemmas.Bool.Decides.{nat_tests}
 use Rattle.std.proofs.lemmas.Nat.{mul-le}
 use Rattle.std.specs.List.{list_all}
@@ -13,7 +12,7 @@ use Rattle.mm_join.proofs.JoinSteps.{joined_fitting}
 use Rattle.mm_plan.proofs.Bounds.{few_of_three, length-joined}
 use Rattle.mm_plan.proofs.Growing.{no_fewer_of}
 use Rattle.mm_plan.specs.Begun.{IsBegun, most_combinations}
-use Rattle.mm_plan.specs.Growing.{HaveRows, IsCap, names_first}
+use Rattle.mm_plan.specs.Growing.{HaveRows, IsCap, NoneLost, names_first}
 use Rattle.mm_query.specs.Queries.{bag_of, none_fails, projected, size_conditions}
 use Rattle.mm_query.specs.declared.atom.Atom.{Atom}
 use Rattle.mm_query.specs.declared.bound_query.BoundQuery.{BoundQuery}
@@ -234,19 +233,33 @@ module _ (store : Tables) (query : BoundQuery) (tables : List ℕ) (list : Combo
       inl (due_at_last (sym split.behind ∙ none) ∙ (ap (λ n. first_refusal (cap_conditions n given)) (sym is) ∙ due))
   refused cap (inl (is, inr (named, rows))) (Err refusal) (inl due) =
       inl (due_before named (subst (HaveRows store) split.behind rows) refusal (ap (λ n. first_refusal (cap_conditions n given)) (sym is) ∙ due))
-  refused cap (inr (is, more)) (Err refusal) (inl due) =
+  refused cap (inr (is, lost)) (Err refusal) (inl due) =
+      let more : length list.tables + 1 ≢ length tables = λ same. lost (inl (drop_all (length list.tables + 1) tables (omega (arith, same)))) in
       absurd (none_is_some refusal (sym (none_before more) ∙ (ap (λ n. first_refusal (cap_conditions n given)) (sym is) ∙ due)))
 
+  -- So many a list may have where each goes on.
+  abbrev pub IsWithin : Type 0
+  IsWithin = NoneLost store query.atoms (length list.tables + 1) split.later → length given ≤ 1048576
+
+  -- A join that is not refused keeps to that.
+  pub within : (cap : ℕ) → IsCap store query.atoms tables (length list.tables + 1) cap → (result : Result Combos Refusal)
+      → AnswersDue (first_refusal (cap_conditions cap given)) result → IfOk result (λ next. IsWithin)
+  within cap is (Err refusal) due = tt
+  within cap (inl (is, goes)) (Ok next) due = λ none. not_refused (length given) (ap (λ n. first_refusal (cap_conditions n given)) (sym is) ∙ due)
+  within cap (inr (is, lost)) (Ok next) due =
+      λ none. absurd (lost (subst (NoneLost store query.atoms (length list.tables + 1)) (sym split.behind) none))
+
   -- What it gives has the combinations of one table more.
-  pub goes_on : (cap : ℕ) → IsCap store query.atoms tables (length list.tables + 1) cap → (result : Result Combos Refusal) → AnswersDue (first_refusal (cap_conditions cap given)) result
+  pub goes_on : (result : Result Combos Refusal) → IfOk result (λ next. IsWithin)
       → IfOk result (λ next. IsPermutation (combo_rows store next) given) → IfOk result (λ next. All (AreLive store next.tables) next.combos)
       → IfOk result (λ next. next.tables ≡ list.tables ++ split.next ∷ []) → IfOk result (λ next. next.fields ≡ query.fields)
       → IfOk result (λ next. IsBegun store query tables next)
-  goes_on cap is (Err refusal) due same live at fields = tt
-  goes_on cap is (Ok next) due same live at fields =
+  goes_on (Err refusal) few same live at fields = tt
+  goes_on (Ok next) few same live at fields =
       let count : length next.combos ≡ length given =
       sym (length_permutation (combo_rows store next) given same ∙ length-map next.combos (rows_of_combo store next.tables)) in
-      let one_more : length next.tables ≡ suc (length list.tables) = (let one = ap length at ∙ length_one_more in omega (arith, one)) in
+      let one = ap length at ∙ length_one_more in
+      let one_more : length next.tables ≡ suc (length list.tables) = omega (arith, one) in
       record {
         rest = split.later;
         first = split.is ∙ (sym (append_assoc list.tables (split.next ∷ []) split.later) ∙ ap (λ ts. ts ++ split.later) (sym at));
@@ -257,14 +270,8 @@ module _ (store : Tables) (query : BoundQuery) (tables : List ℕ) (list : Combo
         live = live;
         bounded = subst (λ n. length next.combos ≤ most_combinations n) (sym one_more) (subst (λ n. n ≤ most_combinations (length list.tables) * 1048576)
             (sym count) (bounded_behind store query list begun.fitting split.next few_next begun.bounded));
-        capped = λ whole. within is (sym one_more ∙ ap length whole) count due;
+        capped = λ none. subst (λ n. n ≤ 1048576) (sym count) (few (subst (λ n. NoneLost store query.atoms n split.later) one none));
       }
-    where
-      within : IsCap store query.atoms tables (length list.tables + 1) cap → suc (length list.tables) ≡ length tables → length next.combos ≡ length given
-          → first_refusal (cap_conditions cap given) ≡ None → length next.combos ≤ 1048576
-      within (inl (is, none)) whole count due =
-          subst (λ n. n ≤ 1048576) (sym count) (not_refused (length given) (ap (λ n. first_refusal (cap_conditions n given)) (sym is) ∙ due))
-      within (inr (is, more)) whole count due = absurd (more (omega (arith, whole)))
 
 -- What holds of a list for each further table holds of it for this one.
 pub of_next : (P : ℕ → Type 0) (Q : ℕ → Combos → Type 0) (table : ℕ) → P table → (result : Result Combos Refusal)
@@ -284,37 +291,30 @@ begins store query tables = record {
   fitting = fitting-none store query.atoms query.fields;
   live = All-cons (AreLive store []) [] [] tt (All-nil (AreLive store []));
   bounded = omega (arith);
-  capped = λ whole. omega (arith);
+  capped = λ none. omega (arith);
 }
 
 -- .. and where no table is left, the query is not refused.
 pub none_left : (store : Tables) (query : BoundQuery) (tables : List ℕ) (list : Combos) → IsBegun store query tables list
     → length tables ≤ length list.tables → first_refusal (size_conditions (bag_of query (map (rows_at store.tables) tables))) ≡ None
-none_left store query tables list begun none = by begun.rest begun.first
+none_left store query tables list begun none = by begun.rest refl begun.first
   where
-    by : (rest : List ℕ) → tables ≡ list.tables ++ rest → first_refusal (size_conditions (bag_of query (map (rows_at store.tables) tables))) ≡ None
-    by [] is =
+    by : (rest : List ℕ) → begun.rest ≡ rest → tables ≡ list.tables ++ rest
+        → first_refusal (size_conditions (bag_of query (map (rows_at store.tables) tables))) ≡ None
+    by [] last is =
         let whole : list.tables ≡ tables = sym (is ∙ append-nil list.tables) in
-        let few = begun.capped whole in
+        let few = begun.capped (inl last) in
         let count : length (bag_of query (map (rows_at store.tables) tables)) ≡ length list.combos =
         ap (λ ts. length (bag_of query (map (rows_at store.tables) ts))) (sym whole) ∙ as_many store query list begun.fitting in
         let not_more : nat_lt 1048576 (length (bag_of query (map (rows_at store.tables) tables))) ≡ false = grind (arith, nat_tests, count, few) in
         ap (λ b. cond b (Some ResultTooLarge) None) not_more
-    by (t ∷ rest) is = absurd (shorter list.tables (omega (arith, none, ap length is)))
+    by (t ∷ rest) more is = absurd (shorter list.tables (omega (arith, none, ap length is)))
       where
         shorter : (first : List ℕ) → length (first ++ t ∷ rest) ≤ length first → ⊥
         shorter [] less = omega (arith, less)
         shorter (f ∷ first) less = shorter first (omega (arith, less))
 
 -- ---- the first table
-
-none_behind : (tables : List ℕ) → 1 ≡ length tables → drop 1 tables ≡ []
-none_behind tables one = drop_all 1 tables (omega (arith, one))
-
-within_cap : (cap n : ℕ) → n ≤ cap → cond (nat_lt cap n) (Some ResultTooLarge) None ≡ None
-within_cap cap n few =
-    let not_more : nat_lt cap n ≡ false = grind (arith, nat_tests, few) in
-    ap (λ b. cond b (Some ResultTooLarge) None) not_more
 
 module _ (store : Tables) (query : BoundQuery) (tables : List ℕ) (all : All (λ t. t < length store.tables) tables) (short : length tables ≤ 4)
     (some : 0 < length tables) (few_rows : length (rows_at store.tables (get_or tables 0 0)) ≤ 1048576) where
@@ -336,20 +336,14 @@ module _ (store : Tables) (query : BoundQuery) (tables : List ℕ) (all : All (�
       (few_next store query tables unit none_yet all short some few_rows) none_yet.bounded in
       omega (arith, most)
 
-  cap_of : (1 ≡ length tables) ⊎ (1 ≡ length tables → ⊥) → (cap : ℕ) × IsCap store query.atoms tables 1 cap × (1048576 ≤ cap)
-  cap_of (inl one) = (1048576, inl (refl, inl (none_behind tables one)), omega (arith))
-  cap_of (inr more) = (18446744073709551615, inr (refl, more), omega (arith))
-
   -- A list of the rows of the first table that fit is what joins go on from.
   pub first_begun : (list : Combos) → AreFitting store query.atoms list → All (AreLive store list.tables) list.combos → list.tables ≡ take 1 tables
       → list.fields ≡ query.fields → IsBegun store query tables list
   first_begun list fits live at fields =
-      let cap = cap_of (cases_eq 1 (length tables)) in
       let is : list.tables ≡ first.next ∷ [] = at ∙ first.front in
       let behind = fits_behind store query unit none_yet.fitting first.next in
       let same : IsPermutation (combo_rows store list) alone =
       IsPermutation-trans (combo_rows store list) (fitting query.atoms (map (rows_at store.tables) (first.next ∷ []))) alone
       (subst (λ ts. IsPermutation (combo_rows store list) (fitting query.atoms (map (rows_at store.tables) ts))) is fits)
       (IsPermutation-sym alone (fitting query.atoms (map (rows_at store.tables) (first.next ∷ []))) behind) in
-      goes_on store query tables unit none_yet all short some few_rows cap.0 cap.1 (Ok list)
-      (within_cap cap.0 (length alone) (omega (arith, few_alone, cap.2))) same live is fields
+      goes_on store query tables unit none_yet all short some few_rows (Ok list) (λ none. few_alone) same live is fields

@@ -1,5 +1,6 @@
 -- Lists of the combinations of the first tables of a query.
 use Rattle.std.specs.Prelude.{◌≡◌, ℕ, zero, suc, ◌*◌, ◌≤◌, ◌++◌, List, All, length}
+use Rattle.mm_plan.specs.Growing.{NoneLost}
 use Rattle.mm_query.specs.declared.bound_query.BoundQuery.{BoundQuery}
 use Rattle.mm_select.specs.Fitting.{AreFitting}
 use Rattle.mm_store.specs.Tables.{Tables}
@@ -10,8 +11,8 @@ abbrev pub most_combinations : ℕ → ℕ
 most_combinations zero = 1
 most_combinations (suc tables) = most_combinations tables * 1048576
 
--- The list has the fitting combinations of the first of these tables; it may be joined to the rest, and where none are left
--- it is not too large.
+-- The list has the fitting combinations of the first of these tables; it may be joined to the rest, and where each of them is part
+-- of one that fits the query it is not larger than that may be.
 pub record IsBegun (store : Tables) (query : BoundQuery) (tables : List ℕ) (list : Combos) : Type 0 where
   pub rest : List ℕ
   pub first : tables ≡ list.tables ++ rest
@@ -19,4 +20,4 @@ pub record IsBegun (store : Tables) (query : BoundQuery) (tables : List ℕ) (li
   pub fitting : AreFitting store query.atoms list
   pub live : All (AreLive store list.tables) list.combos
   pub bounded : length list.combos ≤ most_combinations (length list.tables)
-  pub capped : list.tables ≡ tables → length list.combos ≤ 1048576
+  pub capped : NoneLost store query.atoms (length list.tables) rest → length list.combos ≤ 1048576

@@ -1,5 +1,5 @@
 -- Joins of further tables that leave out no combination.
-use Rattle.std.specs.Prelude.{◌≡◌, ◌≢◌, ◌⊎◌, ℕ, ◌<◌, ◌&&◌, Bool, true, List, [], All, drop, length, nat_lt}
+use Rattle.std.specs.Prelude.{◌≡◌, ◌⊎◌, ℕ, ◌<◌, ◌&&◌, Bool, true, List, [], All, drop, length, nat_lt}
 use Rattle.std.specs.List.{list_all}
 use Rattle.std.specs.Option.{option_map_or}
 use Rattle.mm_query.specs.Resolving.{column_of}
@@ -21,7 +21,9 @@ HaveRows store tables = All (λ table. 0 < length (rows_at store.tables table)) 
 abbrev pub NoneLost : Tables → List (Atom FieldPlace) → ℕ → List ℕ → Type 0
 NoneLost store atoms tables later = (later ≡ []) ⊎ ((list_all (names_first tables) atoms ≡ true) × HaveRows store later)
 
--- So many combinations the first so many tables of a query may have: as many as the query where each goes on, and else as many as may be.
+-- So many combinations the first so many tables of a query may have: as many as the query where each goes on, and just where some may not
+-- go on as many as may be.
 abbrev pub IsCap : Tables → List (Atom FieldPlace) → List ℕ → ℕ → ℕ → Type 0
 IsCap store atoms tables first cap =
-    ((cap ≡ 1048576) × NoneLost store atoms first (drop first tables)) ⊎ ((cap ≡ 18446744073709551615) × (first ≢ length tables))
+    ((cap ≡ 1048576) × NoneLost store atoms first (drop first tables))
+    ⊎ ((cap ≡ 18446744073709551615) × (NoneLost store atoms first (drop first tables) → ⊥))

@@ -1,5 +1,5 @@
 //! How large the list of a query's first tables may grow before the query is refused.
-ghost use Rattle.std.specs.Prelude.{◌≡◌, ℕ, ◌<◌, ◌≤◌, All, IsTrue, drop, length};
+ghost use Rattle.std.specs.Prelude.{◌≡◌, ℕ, ◌<◌, ◌≤◌, ◌↔◌, All, IsTrue, drop, length};
 ghost use Rattle.std.specs.List.{list_all};
 ghost use Rattle.mm_plan.specs.Growing.{HaveRows, IsCap, names_first};
 
@@ -27,7 +27,7 @@ fn all_name_first(atoms: &[Atom<FieldPlace>], tables: usize) -> bool
 /// Whether each of some tables has a row.
 fn have_rows(store: &Store, tables: &[usize]) -> bool
     requires { All (λ table. table < length store.now.tables) tables.now }
-    ensures { IsTrue result → HaveRows store.now tables.now }
+    ensures { IsTrue result ↔ HaveRows store.now tables.now }
 {
     for &table in tables {
         if store.len_of(table) == 0 {

@@ -2,7 +2,7 @@ use Rattle.std.proofs.Common.{◌≡◌, ◌+◌, ◌<◌, ◌≤◌, ◌++◌, 
 use Rattle.std.specs.List.{All}
 use Rattle.mm_join.specs.Caps.{cap_conditions}
 use Rattle.mm_join.specs.Joined.{joined}
-use Rattle.mm_plan.proofs.Joining.{few_at, goes_on, next_is, outers_there, refused, split}
+use Rattle.mm_plan.proofs.Joining.{few_at, goes_on, next_is, outers_there, refused, split, within}
 use Rattle.mm_plan.proofs.run.join_next.Goals as goal
 use Rattle.mm_plan.specs.Growing.{IsCap}
 use Rattle.mm_schema.specs.Refused.{AnswersDue, first_refusal}
@@ -85,7 +85,8 @@ returns-clause-begun c =
     (subst (λ atoms. IfOk c.join.result (λ (l : Combos). IsPermutation (combo_rows store l)
     (joined atoms (combo_rows store list) (rows_at store.tables (get_or tables (length c.descriptor.result.tables.now) 0)))))
     c.as_slice-atoms.ensures c.join.ensures.joined) in
-    goes_on store query tables list c.requires.begun c.requires.there c.requires.few c.requires.left few c.cap_of-cap.result cap c.join.result due same
+    goes_on store query tables list c.requires.begun c.requires.there c.requires.few c.requires.left few c.join.result
+    (within store query tables list c.requires.begun c.requires.there c.requires.few c.requires.left few c.cap_of-cap.result cap c.join.result due) same
     c.join.ensures.live
     (subst (λ ts. IfOk c.join.result (λ (l : Combos). l.tables ≡ ts)) front c.join.ensures.tables)
     (subst (λ fs. IfOk c.join.result (λ (l : Combos). l.fields ≡ fs)) c.as_slice.ensures c.join.ensures.fields)
