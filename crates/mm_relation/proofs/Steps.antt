@@ -1,12 +1,13 @@
 -- One step of each loop over the references that a list names, and bags of references.
 use Rattle.std.proofs.Common.{◌≡◌, ◌≢◌, ℕ, suc, ◌+◌, ◌<◌, ◌⊎◌, inl, inr, List, [], ◌∷◌, ◌++◌, length, get_or, drop, refl, sym, ap}
-use Rattle.std.proofs.Common.{◌∙◌, subst, arith, ⊎_elim, Some, None, add-one}
+use Rattle.std.proofs.Common.{◌∙◌, ◌-◌, subst, arith, ⊎_elim, Some, None, add-one, append_assoc, length-drop, take}
+use Rattle.std.proofs.lemmas.List.{take-append-drop, take_all}
 use Rattle.std.specs.Prelude.{Option, IsPermutation}
 use Rattle.std.specs.List.{All, AllPairs, Contains, swap}
 use Rattle.std.proofs.Math.Seq.{drop-cons}
 use Rattle.std.proofs.lemmas.List.Edits.{swapped_from_swap}
 use Rattle.std.proofs.lemmas.List.Elements.{Contains-append_left, Contains-push, All-head, All-append}
-use Rattle.std.proofs.lemmas.List.Sorted.{IsPermutation-trans, IsPermutation-sym, IsPermutation-append_right}
+use Rattle.std.proofs.lemmas.List.Sorted.{IsPermutation-trans, IsPermutation-sym, IsPermutation-append_comm, IsPermutation-append_left, IsPermutation-append_right}
 use Rattle.std.proofs.lemmas.List.Sorted.{IsPermutation-middle, IsPermutation-keeps, IsPermutation-swap, length_permutation, Contains-permutation}
 use Rattle.std.proofs.lemmas.List.Sorted.{All-permutation}
 use Rattle.std.proofs.lemmas.Bool.{cases_order}
@@ -29,6 +30,7 @@ use Rattle.mm_relation.specs.Edits.{named}
 use Rattle.mm_relation.specs.declared.names.Side.{Side}
 use Rattle.mm_relation.proofs.RefTests.{same_pair, pair_from_test, pair_itself}
 use Rattle.mm_relation.proofs.Bags.{IsPermutation-uncons}
+use Rattle.ttree.specs.Run.{LosesRun}
 use Rattle.mm_relation.proofs.RefTests.{same_from_test, test_from_same}
 
 -- the list from i on, where the item there names a reference, or none
@@ -59,6 +61,34 @@ pub taken_step : (cmp : RowRef → RowRef → Ordering) (refs less rest : List R
 taken_step cmp refs less rest at adds moved =
     refs_uncons at less rest (IsPermutation-trans (at ∷ less) refs (at ∷ rest)
     (IsPermutation-sym refs (at ∷ less) (IsPermutation-added cmp less at refs adds)) moved)
+
+-- .. and so does a run of them
+pub run_taken : (refs run less rest : List RowRef) → LosesRun refs run less → IsPermutation refs (run ++ rest) → IsPermutation less rest
+run_taken refs run less rest loses moved =
+    let front : IsPermutation (loses.front ++ run ++ loses.back) (run ++ loses.front ++ loses.back) =
+    IsPermutation-append_left loses.back (loses.front ++ run) (run ++ loses.front) (IsPermutation-append_comm loses.front run) in
+    let whole : IsPermutation refs (run ++ less) = subst (λ xs. IsPermutation xs (run ++ less)) (sym loses.refs_are)
+    (subst (IsPermutation (loses.front ++ run ++ loses.back)) (append_assoc run loses.front loses.back ∙ ap (λ xs. run ++ xs) (sym loses.fewer_are)) front) in
+    refs_cancel run less rest (IsPermutation-trans (run ++ less) refs (run ++ rest) (IsPermutation-sym refs (run ++ less) whole) moved)
+
+-- a reference that is held stands in the list
+pub front_held : (refs rest : List RowRef) (at : RowRef) → IsPermutation refs (at ∷ rest) → Contains refs at
+front_held refs rest at moved = Contains-permutation (at ∷ rest) refs at (IsPermutation-sym refs (at ∷ rest) moved)
+    (Contains-append_left (at ∷ []) rest at (Contains-push [] at))
+
+-- the first of those to come is held, ..
+pub next_held : (refs rest behind kept : List RowRef) (first : RowRef) → rest ≡ first ∷ behind → IsPermutation refs (rest ++ kept) → Contains refs first
+next_held refs rest behind kept first is moved = front_held refs (behind ++ kept) first (subst (λ xs. IsPermutation refs (xs ++ kept)) is moved)
+
+-- .. and behind a run of them come the others
+pub past_run : (rest behind kept : List RowRef) (first : RowRef) (along : ℕ) → rest ≡ first ∷ behind
+    → rest ++ kept ≡ (first ∷ take along behind) ++ (take (length behind - along) (drop along behind) ++ kept)
+past_run rest behind kept first along is =
+    let all : take (length behind - along) (drop along behind) ≡ drop along behind =
+    take_all (length behind - along) (drop along behind) (omega (arith, length-drop along behind)) in
+    let parts : behind ≡ take along behind ++ drop along behind = sym (take-append-drop along behind) in
+    ap (λ xs. xs ++ kept) (is ∙ ap (λ xs. first ∷ xs) (parts ∙ ap (λ xs. take along behind ++ xs) (sym all)))
+    ∙ append_assoc (first ∷ take along behind) (take (length behind - along) (drop along behind)) kept
 
 -- a reference that is put in moves from those to come to those that are there
 pub put_step : (cmp : RowRef → RowRef → Ordering) (refs more rest whole : List RowRef) (at : RowRef) → AddsInOrder cmp refs at more
@@ -133,11 +163,6 @@ module _ {X : Type 0} (R : X → X → Type 0) (turns : (a b : X) → R a b → 
   pub AllPairs-permutation : (xs ys : List X) → IsPermutation xs ys → AllPairs R xs → AllPairs R ys
   AllPairs-permutation xs ys moved all = IsPermutation-keeps xs (AllPairs R) all (λ l i j below_i below_j here. AllPairs-swap l i j below_i below_j here) ys
       moved
-
--- a reference that is held stands in the list
-pub front_held : (refs rest : List RowRef) (at : RowRef) → IsPermutation refs (at ∷ rest) → Contains refs at
-front_held refs rest at moved = Contains-permutation (at ∷ rest) refs at (IsPermutation-sym refs (at ∷ rest) moved)
-    (Contains-append_left (at ∷ []) rest at (Contains-push [] at))
 
 -- the reference that comes in next has both columns
 pub first_wide : (column key : ℕ) (now : Slots) (names before left refs : List RowRef) (at : RowRef) → All (IsWide column key now) names

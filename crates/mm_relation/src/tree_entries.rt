@@ -1,5 +1,5 @@
 //! The references of many rows, out of a tree and into it.
-ghost use Rattle.std.specs.Prelude.{◌≡◌, ◌≢◌, ◌+◌, ◌≤◌, ◌++◌, List, length, All, Contains, IsPermutation};
+ghost use Rattle.std.specs.Prelude.{◌≡◌, ◌≢◌, ◌+◌, ◌≤◌, ◌++◌, ◌∷◌, [], List, length, All, IsPermutation};
 ghost use Rattle.std.specs.declared.cmp.Ordering.TheVariants.{Equal};
 ghost use Rattle.mm_value.specs.declared.row_ref.RowRef.{RowRef};
 ghost use Rattle.mm_order.specs.Refs.{AddsInOrder};
@@ -12,9 +12,11 @@ ghost use Rattle.mm_relation.specs.Moves.{stayed};
 use crate::by_column::ByColumn;
 use crate::moves::moved_name;
 use crate::names::{Names, Side};
+use arrayvec::ArrayVec;
 use mm_order::OrderedRefs;
 use mm_partition::Partitions;
 use mm_value::RowRef;
+use ttree::TTree;
 
 /// Puts a reference into a tree that orders rows by a column.
 fn put<L: OrderedRefs>(rows: &Partitions, column: usize, key: usize, tree: &mut L, at: RowRef)
@@ -35,14 +37,17 @@ fn put<L: OrderedRefs>(rows: &Partitions, column: usize, key: usize, tree: &mut 
     tree.insert(&order, at);
 }
 
-/// Takes a reference out of a tree that orders rows by a column and has it.
-fn take<L: OrderedRefs>(rows: &Partitions, column: usize, key: usize, tree: &mut L, at: RowRef)
-    requires ordered { InOrder column key (slot_at rows.now) (L.refs tree.old) }
-    requires wide { IsWide column key (slot_at rows.now) at }
-    requires held { Contains (L.refs tree.old) at }
-    ensures refs { AddsInOrder (refs_by column key (slot_at rows.now)) (L.refs tree.new) at (L.refs tree.old) }
-    ensures ordered { InOrder column key (slot_at rows.now) (L.refs tree.new) }
-    ensures spare { L.spare tree.old ≤ L.spare tree.new }
+/// The most references that go out of a tree together.
+const TOGETHER: usize = 32;
+
+/// Takes references out of a tree that orders rows by a column and has them all. Those that follow each other as they stand in a node
+/// go out of it by one search.
+fn take_all(rows: &Partitions, column: usize, key: usize, tree: &mut TTree, refs: &[RowRef])
+    requires ordered { InOrder column key (slot_at rows.now) tree.old.refs }
+    requires held { Among tree.old.refs refs.now }
+    ensures refs { (kept : List RowRef) → IsPermutation tree.old.refs (refs.now ++ kept) → IsPermutation tree.new.refs kept }
+    ensures ordered { InOrder column key (slot_at rows.now) tree.new.refs }
+    ensures spare { tree.old.spare ≤ tree.new.spare }
 {
     let order = ByColumn {
         rows,
@@ -50,31 +55,62 @@ fn take<L: OrderedRefs>(rows: &Partitions, column: usize, key: usize, tree: &mut
         key,
         prefixes: rows.prefixes(column),
     };
-    tree.remove(&order, at);
+    let mut rest = refs;
+    while let Some((first, behind)) = rest.split_first() {
+        let Some(along) = tree.remove_run(&order, *first, behind) else {
+            unreachable!()
+        };
+        rest = &behind[along..];
+    }
+}
+
+/// Puts a reference behind those that are to go out of a tree together. Where these are as many as may be, they go first.
+fn take_later(
+    rows: &Partitions,
+    column: usize,
+    key: usize,
+    tree: &mut TTree,
+    together: &mut ArrayVec<RowRef, TOGETHER>,
+    at: RowRef,
+)
+    requires ordered { InOrder column key (slot_at rows.now) tree.old.refs }
+    requires held { Among tree.old.refs (together.old.items ++ at ∷ []) }
+    ensures refs { (kept : List RowRef) → IsPermutation tree.old.refs (together.old.items ++ at ∷ kept)
+        → IsPermutation tree.new.refs (together.new.items ++ kept) }
+    ensures ordered { InOrder column key (slot_at rows.now) tree.new.refs }
+    ensures spare { tree.old.spare ≤ tree.new.spare }
+{
+    if together.is_full() {
+        take_all(rows, column, key, tree, together.as_slice());
+        together.clear();
+    }
+    together.push(at);
 }
 
 /// Takes the references out that the items name, each of which the tree has, but for those of rows that keep their
 /// values in the column and the key.
-pub fn take_each<L: OrderedRefs, T: Names>(
+pub fn take_each<T: Names>(
     rows: &Partitions,
     column: usize,
     key: usize,
-    tree: &mut L,
+    tree: &mut TTree,
     items: &[T],
     side: Side,
 )
-    requires ordered { InOrder column key (slot_at rows.now) (L.refs tree.old) }
-    requires held { Among (L.refs tree.old) (named T.name side items.now) }
-    ensures refs { (kept : List RowRef) → IsPermutation (L.refs tree.old) (named T.name side items.now ++ kept)
-        → IsPermutation (L.refs tree.new) (named (stayed T.name T.other column key (slot_at rows.now)) side items.now ++ kept) }
-    ensures ordered { InOrder column key (slot_at rows.now) (L.refs tree.new) }
-    ensures spare { L.spare tree.old ≤ L.spare tree.new }
+    requires ordered { InOrder column key (slot_at rows.now) tree.old.refs }
+    requires held { Among tree.old.refs (named T.name side items.now) }
+    ensures refs { (kept : List RowRef) → IsPermutation tree.old.refs (named T.name side items.now ++ kept)
+        → IsPermutation tree.new.refs (named (stayed T.name T.other column key (slot_at rows.now)) side items.now ++ kept) }
+    ensures ordered { InOrder column key (slot_at rows.now) tree.new.refs }
+    ensures spare { tree.old.spare ≤ tree.new.spare }
 {
+    let mut together = ArrayVec::new();
     for item in items {
         if let Some(at) = moved_name(rows, column, key, item, side) {
-            take(rows, column, key, tree, at);
+            take_later(rows, column, key, tree, &mut together, at);
         }
     }
+    take_all(rows, column, key, tree, together.as_slice());
 }
 
 /// Puts the references in that the items name, but for those of rows that keep their values in the column and the key,

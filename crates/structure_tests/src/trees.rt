@@ -180,6 +180,44 @@ fn shrinks(rt: HostRuntime) -> Result<(), Fail> {
     shrink(&rt, &mut tree)
 }
 
+/// Takes references out of a tree run by run, and counts the runs; none where the tree has not all of them.
+fn take_runs(tree: &mut TTree, refs: &[RowRef]) -> Option<usize>
+    requires { IsByPlace tree.old.refs }
+    ensures { IsByPlace tree.new.refs }
+{
+    let mut rest = refs;
+    let mut runs = 0usize;
+    while let Some((first, behind)) = rest.split_first() {
+        let along = tree.remove_run(&ByPlace, *first, behind)?;
+        rest = &behind[along..];
+        runs = runs.saturating_add(1);
+    }
+    Some(runs)
+}
+
+/// Takes 1,900 of 2,000 references out in runs, of which most have the references of a whole node, and one that is not there.
+fn shrink_by_runs(
+    rt: &(impl Abort + AllocGlobal),
+    tree: &mut TTree,
+    refs: &[RowRef],
+) -> Result<(), Fail>
+    requires { IsByPlace tree.old.refs }
+{
+    let runs = take_runs(tree, refs);
+    assert_that(rt, runs.unwrap_or(usize::MAX) <= 300);
+    assert_shrunk(rt, tree);
+    assert_up_to(rt, rt.alloc(), tree, 1949, 1900, 50)?;
+    assert_same(rt, tree.remove_run(&ByPlace, first_of(5), refs), None);
+    Ok(())
+}
+
+#[test]
+fn shrinks_by_runs(rt: HostRuntime) -> Result<(), Fail> {
+    let mut tree = grown(&rt, rt.alloc())?;
+    let refs = ascending(rt.alloc(), 1900)?;
+    shrink_by_runs(&rt, &mut tree, refs.as_slice())
+}
+
 /// Takes a reference out where it is in, and puts it in where it is not.
 fn toggle<R: OrderedRefs>(refs: &mut R, alloc: Global, toggled: RowRef) -> Result<(), AllocError>
     requires { IsByPlace (R.refs refs.old) }

@@ -11,3 +11,4 @@ pub mod Sought
 pub mod Decides
 pub mod Path
 pub mod Reached
+pub mod Runs

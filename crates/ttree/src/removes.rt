@@ -1,11 +1,10 @@
 //! Removal from a T-tree.
-ghost use Rattle.std.specs.Prelude.{◌≡◌, ◌+◌, ◌-◌, ◌^◌, ◌<◌, ◌≤◌, ◌↔◌, ◌⊎◌, max, [], ◌∷◌, ◌++◌, length, Contains, IsTrue, IfSome, IfNone, Some, slice_get};
-ghost use Rattle.std.specs.Bool.{OnTrue, OnFalse};
+ghost use Rattle.std.specs.Prelude.{◌≡◌, ◌+◌, ◌-◌, ◌^◌, ◌<◌, ◌≤◌, ◌↔◌, ◌⊎◌, max, [], ◌∷◌, ◌++◌, length, take, drop, Contains, IsSome, IfSome, IfNone, Some, slice_get};
 ghost use Rattle.ttree_node.specs.Tree.{Empty, fork, tree_of, in_order, height_of, node_count};
 ghost use Rattle.ttree_node.specs.Slide.{IsLeaf};
 ghost use Rattle.mm_order.specs.Order.{IsOrdered};
-ghost use Rattle.mm_order.specs.Refs.{AddsInOrder};
 ghost use Rattle.ttree.specs.Balanced.{IsTTree, IsRootOver, IsMended};
+ghost use Rattle.ttree.specs.Run.{LosesRun};
 
 use crate::balance::{balance, is_leaf};
 use crate::search::{is_before, search};
@@ -191,22 +190,53 @@ fn find_held<O: RefOrder>(entries: &Entries, order: &O, gone: RowRef) -> Option<
     }
 }
 
-/// Takes a reference out of a root's entries, and says whether it was there.
+/// How many of some references stand among entries from a place on, in their order and next to each other.
+fn run_from(entries: &Entries, start: usize, refs: &[RowRef]) -> usize
+    requires { start ≤ length entries.now }
+    ensures in_entries { start + result ≤ length entries.now }
+    ensures in_refs { result ≤ length refs.now }
+    ensures same { take result (drop start entries.now) ≡ take result refs.now }
+{
+    let len = entries.len();
+    let mut count = 0;
+    for at in refs {
+        if start + count == len || entries.get(start + count) != *at {
+            return count;
+        }
+        count += 1;
+    }
+    count
+}
+
+/// Takes entries that stand next to each other out of a root.
+fn take_run(node: &mut Subtree, start: usize, count: usize)
+    requires { start + count ≤ length node.old.entries }
+    ensures { node.new ≡ record node.old { entries = take start node.old.entries ++ drop (start + count) node.old.entries } }
+{
+    for _ in 0..count {
+        node.take_entry(start);
+    }
+}
+
+/// Takes a reference out of a root's entries, and with it those of some others that stand behind it there, and says how many of these;
+/// none where it was not there.
 fn remove_among<O: RefOrder>(
     mut node: Subtree,
     order: &O,
     gone: RowRef,
+    behind: &[RowRef],
     spares: &mut Spares,
-) -> (Option<Subtree>, bool)
+) -> (Option<Subtree>, Option<usize>)
     requires tree { IsTTree (fork node) }
     requires ordered { IsOrdered (O.covers order.now) (O.cmp order.now) (in_order (fork node)) }
     requires covered { O.covers order.now gone }
     requires height_fits { height_of (fork node) + 1 < 2 ^ 64 }
     requires pool_fits { node_count (fork node) + spares.old < 2 ^ 64 }
     ensures tree { IsTTree (tree_of result.0) }
-    ensures held { IsTrue result.1 ↔ Contains node.entries gone }
-    ensures taken { OnTrue result.1 (AddsInOrder (O.cmp order.now) (in_order (tree_of result.0)) gone (in_order (fork node))) }
-    ensures absent { OnFalse result.1 (tree_of result.0 ≡ fork node) }
+    ensures held { IsSome result.1 ↔ Contains node.entries gone }
+    ensures few { IfSome result.1 (λ along. along ≤ length behind.now) }
+    ensures taken { IfSome result.1 (λ along. LosesRun (in_order (fork node)) (gone ∷ take along behind.now) (in_order (tree_of result.0))) }
+    ensures absent { IfNone result.1 (tree_of result.0 ≡ fork node) }
     ensures nodes { node_count (tree_of result.0) + spares.new ≡ node_count (fork node) + spares.old }
     ensures spares { spares.old ≤ spares.new }
     ensures not_higher { height_of (tree_of result.0) ≤ height_of (fork node) }
@@ -214,53 +244,57 @@ fn remove_among<O: RefOrder>(
 {
     match find_held(node.entries(), order, gone) {
         Some(i) => {
-            node.take_entry(i);
-            (refill(node, spares), true)
+            let along = run_from(node.entries(), i + 1, behind);
+            take_run(&mut node, i, along + 1);
+            (refill(node, spares), Some(along))
         }
-        None => (Some(node), false),
+        None => (Some(node), None),
     }
 }
 
-/// Takes a reference out of a tree, and says whether it was there. It asks one question a node on the way down, whether the
-/// reference lies before the node's least entry, and searches the nodes where it does not on the way back, until it is found
-/// (Lu, Ng and Tian, ADC 2000).
+/// Takes a reference out of a tree, and with it those of some others that stand behind it in its node, next to each other and in their
+/// order, and says how many of these; none where it was not there. It asks one question a node on the way down, whether the reference
+/// lies before the node's least entry, and searches the nodes where it does not on the way back, until it is found (Lu, Ng and Tian,
+/// ADC 2000).
 pub(crate) fn remove_from<O: RefOrder>(
     tree: Option<Subtree>,
     order: &O,
     gone: RowRef,
+    behind: &[RowRef],
     spares: &mut Spares,
-) -> (Option<Subtree>, bool)
+) -> (Option<Subtree>, Option<usize>)
     requires tree { IsTTree (tree_of tree) }
     requires ordered { IsOrdered (O.covers order.now) (O.cmp order.now) (in_order (tree_of tree)) }
     requires covered { O.covers order.now gone }
     requires height_fits { height_of (tree_of tree) + 1 < 2 ^ 64 }
     requires pool_fits { node_count (tree_of tree) + spares.old < 2 ^ 64 }
     ensures tree { IsTTree (tree_of result.0) }
-    ensures held { IsTrue result.1 ↔ Contains (in_order (tree_of tree)) gone }
-    ensures taken { OnTrue result.1 (AddsInOrder (O.cmp order.now) (in_order (tree_of result.0)) gone (in_order (tree_of tree))) }
-    ensures absent { OnFalse result.1 (tree_of result.0 ≡ tree_of tree) }
+    ensures held { IsSome result.1 ↔ Contains (in_order (tree_of tree)) gone }
+    ensures few { IfSome result.1 (λ along. along ≤ length behind.now) }
+    ensures taken { IfSome result.1 (λ along. LosesRun (in_order (tree_of tree)) (gone ∷ take along behind.now) (in_order (tree_of result.0))) }
+    ensures absent { IfNone result.1 (tree_of result.0 ≡ tree_of tree) }
     ensures nodes { node_count (tree_of result.0) + spares.new ≡ node_count (tree_of tree) + spares.old }
     ensures spares { spares.old ≤ spares.new }
     ensures not_higher { height_of (tree_of result.0) ≤ height_of (tree_of tree) }
     ensures at_most_one_lower { height_of (tree_of tree) ≤ height_of (tree_of result.0) + 1 }
 {
     let Some(mut node) = tree else {
-        return (None, false);
+        return (None, None);
     };
     if is_before(&node, order, gone) {
         let left = node.take_left();
-        let (left, found) = remove_from(left, order, gone, spares);
+        let (left, along) = remove_from(left, order, gone, behind, spares);
         node.set_left(left);
-        if !found {
-            return (Some(node), false);
+        if along.is_none() {
+            return (Some(node), None);
         }
-        return (Some(mend(node, spares)), true);
+        return (Some(mend(node, spares)), along);
     }
     let right = node.take_right();
-    let (right, found) = remove_from(right, order, gone, spares);
+    let (right, along) = remove_from(right, order, gone, behind, spares);
     node.set_right(right);
-    if !found {
-        return remove_among(node, order, gone, spares);
+    if along.is_none() {
+        return remove_among(node, order, gone, behind, spares);
     }
-    (Some(mend(node, spares)), true)
+    (Some(mend(node, spares)), along)
 }

@@ -1,10 +1,11 @@
 //! The T-tree.
-ghost use Rattle.std.specs.Prelude.{◌≡◌, ◌≢◌, ◌+◌, ◌≤◌, min, [], length, All, Contains, IfSome, IfNone, IfOk};
+ghost use Rattle.std.specs.Prelude.{◌≡◌, ◌≢◌, ◌+◌, ◌≤◌, ◌↔◌, ◌∷◌, min, [], length, take, All, Contains, IsSome, IfSome, IfNone, IfOk};
 ghost use Rattle.std.specs.Int.{div_ceil};
 ghost use Rattle.std.specs.declared.cmp.Ordering.TheVariants.{Equal};
 ghost use Rattle.mm_order.specs.Order.{IsOrdered};
 ghost use Rattle.mm_order.specs.Probe.{IsMonotone};
 ghost use Rattle.ttree.specs.Lowest.{IsLowest};
+ghost use Rattle.ttree.specs.Run.{LosesRun};
 
 use crate::builds::{FULL, build};
 use crate::inserts::insert_into;
@@ -112,6 +113,33 @@ impl TTree {
         Iter::new(self.root.as_ref())
     }
 
+    /// Takes a reference out, and with it the first of some others, as many as stand behind it in its node, next to each other and in
+    /// their order. Says how many of these went along; none where the reference was not there. So references that are handed in
+    /// the order of the tree go with a search for each node that they stand in, not for each of them.
+    #[tactic(auto, using(crate::proofs::Sizes::height_at_most_nodes))]
+    pub fn remove_run<O: RefOrder>(
+        &mut self,
+        order: &O,
+        gone: RowRef,
+        behind: &[RowRef],
+    ) -> Option<usize>
+        requires ordered { IsOrdered (O.covers order.now) (O.cmp order.now) self.old.refs }
+        requires covered { O.covers order.now gone }
+        ensures held { IsSome result ↔ Contains self.old.refs gone }
+        ensures few { IfSome result (λ along. along ≤ length behind.now) }
+        ensures taken { IfSome result (λ along. LosesRun self.old.refs (gone ∷ take along behind.now) self.new.refs) }
+        ensures absent { IfNone result (self.new.refs ≡ self.old.refs) }
+        ensures ordered { IsOrdered (O.covers order.now) (O.cmp order.now) self.new.refs }
+        ensures spare { self.old.spare ≤ self.new.spare }
+    {
+        let (root, along) = remove_from(self.root.take(), order, gone, behind, &mut self.spares);
+        self.root = root;
+        if let Some(along) = along {
+            self.len -= along + 1;
+        }
+        along
+    }
+
     /// Frees spare nodes until there are at most `n`.
     pub fn trim_spares(&mut self, n: usize)
         ensures { self.new ≡ record self.old { spare = min self.old.spare n } }
@@ -153,14 +181,8 @@ impl OrderedRefs for TTree {
         self.len += 1;
     }
 
-    #[tactic(auto, using(crate::proofs::Sizes::height_at_most_nodes))]
     fn remove<O: RefOrder>(&mut self, order: &O, gone: RowRef) -> bool {
-        let (root, found) = remove_from(self.root.take(), order, gone, &mut self.spares);
-        self.root = root;
-        if found {
-            self.len -= 1;
-        }
-        found
+        self.remove_run(order, gone, &[]).is_some()
     }
 
     fn copy_range<O: RefOrder, L: Probe, H: Probe>(

@@ -7,13 +7,13 @@ use Rattle.mm_relation.proofs.Staying.{moving, staying}
 use Rattle.mm_relation.specs.Index.{InOrder}
 use Rattle.mm_relation.proofs.tree_entries.take_each.Given as goal
 
--- the tree holds the references that are still to come, and those that stay
+-- the tree holds the references that go together next, those that are still to come, and those that stay
 abbrev pub invariant-loop-item : goal.invariant-loop-item
 invariant-loop-item g l = record {
-  ordered : InOrder l.column l.key (slot_at l.rows) (g.L.OrderedRefs.refs l.tree);
-  rest : (kept : List RowRef) → IsPermutation (g.L.OrderedRefs.refs l.fn.tree) (named g.T.Names.name l.side l.items ++ kept)
-      → IsPermutation (g.L.OrderedRefs.refs l.tree)
-      (moving g.T.Names.name g.T.Names.other l.column l.key (slot_at l.rows) l.side (drop l.item-index l.items)
-      ++ (staying g.T.Names.name g.T.Names.other l.column l.key (slot_at l.rows) l.side l.items ++ kept));
-  spare : g.L.OrderedRefs.spare l.fn.tree ≤ g.L.OrderedRefs.spare l.tree;
+  ordered : InOrder l.column l.key (slot_at l.rows) l.tree.refs;
+  rest : (kept : List RowRef) → IsPermutation l.fn.tree.refs (named g.T.Names.name l.side l.items ++ kept)
+      → IsPermutation l.tree.refs
+      (l.together.items ++ (moving g.T.Names.name g.T.Names.other l.column l.key (slot_at l.rows) l.side (drop l.item-index l.items)
+      ++ (staying g.T.Names.name g.T.Names.other l.column l.key (slot_at l.rows) l.side l.items ++ kept)));
+  spare : l.fn.tree.spare ≤ l.tree.spare;
 }

@@ -1,15 +1,16 @@
-use Rattle.std.proofs.Common.{◌≡◌, ◌≢◌, ◌++◌, List, get_or, refl, sym, ◌∙◌, subst, ⊎_elim, rules}
-use Rattle.std.specs.Prelude.{Contains, IsTrue}
+use Rattle.std.proofs.Common.{◌≡◌, ◌≢◌, ◌∷◌, ◌++◌, List, ℕ, get_or, take, sym, ◌∙◌, subst, ⊎_elim, rules}
+use Rattle.std.specs.Prelude.{Contains}
 use Rattle.std.proofs.lemmas.List.Elements.{Contains-append_left, Contains-append_right}
 use Rattle.std.specs.declared.cmp.Ordering.{Ordering}
 use Rattle.std.specs.declared.cmp.Ordering.TheVariants.{Less}
 use Rattle.mm_value.specs.declared.row_ref.RowRef.{RowRef}
 use Rattle.mm_order.specs.Order.{IsOrdered}
-use Rattle.mm_order.specs.Refs.{AddsInOrder}
 use Rattle.ttree_node.specs.Tree.{fork, tree_of, in_order}
 use Rattle.ttree.specs.Balanced.{IsTTree}
-use Rattle.ttree.proofs.Parts.{IsOrdered-front, IsOrdered-middle, IsOrdered-back, rest_ordered, adds_before, adds_after}
-use Rattle.ttree.proofs.Taken.{contains_left, contains_from, after_middle, on_true}
+use Rattle.ttree.specs.Run.{LosesRun}
+use Rattle.ttree.proofs.Parts.{IsOrdered-front, IsOrdered-middle, IsOrdered-back}
+use Rattle.ttree.proofs.Runs.{if_some, loses_right}
+use Rattle.ttree.proofs.Taken.{contains_left, contains_from}
 use Rattle.ttree.proofs.removes.+remove_from.Goals as goal
 
 pub is_before-requires-clause-covered_entries : goal.is_before-requires-clause-covered_entries
@@ -37,8 +38,8 @@ remove_from-left-requires g t c κs within =
       ),
     )
 
-pub returns-then-not-found-clause-held : goal.returns-then-not-found-clause-held
-returns-then-not-found-clause-held g t c =
+pub returns-then-is_none-clause-held : goal.returns-then-is_none-clause-held
+returns-then-is_none-clause-held g t c =
     let n = c.in-Some.node in
     let cmp : RowRef → RowRef → Ordering = g.O.RefOrder.cmp c.args.order.now in
     let whole : in_order (tree_of c.args.tree) ≡ in_order n.left ++ n.entries ++ in_order n.right = search rules in
@@ -47,39 +48,10 @@ returns-then-not-found-clause-held g t c =
     let is : in_order (tree_of c.take_left-left.result) ≡ in_order n.left = search rules in
     let before : cmp c.args.gone (get_or n.entries 0 c.args.gone) ≡ Less = c.is_before.ensures.0 c.if-is_before.true in (
       λ no. absurd (search rules),
-      λ held. subst IsTrue c.if-not-found.true (c.remove_from-left.ensures.held.1 (subst (λ xs. Contains xs c.args.gone) (sym is)
+      λ held. sym c.if-is_none.ensures ∙ c.remove_from-left.ensures.held.1 (subst (λ xs. Contains xs c.args.gone) (sym is)
           (contains_left _ _ (g.met.O.RefOrder.total c.args.order.now) c.args.gone c.requires.covered (in_order n.left) n.entries
-          (in_order n.right) was tree.2.filled before (subst (λ xs. Contains xs c.args.gone) whole held)))),
+          (in_order n.right) was tree.2.filled before (subst (λ xs. Contains xs c.args.gone) whole held))),
     )
-
-pub returns-then-is_before-clause-held : goal.returns-then-is_before-clause-held
-returns-then-is_before-clause-held g t c =
-    let n = c.in-Some.node in
-    let whole : in_order (tree_of c.args.tree) ≡ in_order n.left ++ n.entries ++ in_order n.right = search rules in
-    let is : in_order (tree_of c.take_left-left.result) ≡ in_order n.left = search rules in (
-      λ _. subst (λ xs. Contains xs c.args.gone) (sym whole) (Contains-append_left (in_order n.left ++ n.entries) (in_order n.right) c.args.gone
-          (Contains-append_left (in_order n.left) n.entries c.args.gone
-          (subst (λ xs. Contains xs c.args.gone) is (c.remove_from-left.ensures.held.0 c.if-not-found.false)))),
-      λ _. refl,
-    )
-
-pub returns-then-is_before-clause-taken : goal.returns-then-is_before-clause-taken
-returns-then-is_before-clause-taken g t c =
-    let n = c.in-Some.node in
-    let cmp : RowRef → RowRef → Ordering = g.O.RefOrder.cmp c.args.order.now in
-    let whole : in_order (tree_of c.args.tree) ≡ in_order n.left ++ n.entries ++ in_order n.right = search rules in
-    let was : IsOrdered (g.O.RefOrder.covers c.args.order.now) cmp (in_order n.left ++ n.entries ++ in_order n.right) = rw c.in-Some.is at c.requires.ordered in
-    let tree : IsTTree (fork n) = rw c.in-Some.is at c.requires.tree in
-    let is : in_order (tree_of c.take_left-left.result) ≡ in_order n.left = search rules in
-    let before : cmp c.args.gone (get_or n.entries 0 c.args.gone) ≡ Less = c.is_before.ensures.0 c.if-is_before.true in
-    let left : List RowRef = in_order (tree_of c.remove_from-left.result.0) in
-    let made : in_order (fork c.mend.result) ≡ left ++ n.entries ++ in_order n.right = search rules in
-    let below : AddsInOrder cmp left c.args.gone (in_order n.left) = subst (AddsInOrder cmp left c.args.gone) is
-    (on_true c.remove_from-left.result.1 _ c.if-not-found.false c.remove_from-left.ensures.taken) in
-    let adds = adds_before _ _ (g.met.O.RefOrder.total c.args.order.now) left n.entries (in_order n.right)
-    (rest_ordered _ _ (in_order n.left) n.entries (in_order n.right) was) tree.2.filled c.args.gone c.requires.covered (in_order n.left) before below in
-    subst (λ xs. AddsInOrder cmp xs c.args.gone (in_order (tree_of c.args.tree))) (sym made)
-    (subst (AddsInOrder cmp (left ++ n.entries ++ in_order n.right) c.args.gone) (sym whole) adds)
 
 pub remove_from-right-requires : goal.remove_from-right-requires
 remove_from-right-requires g t c κs within =
@@ -101,8 +73,8 @@ remove_from-right-requires g t c κs within =
       ),
     )
 
-pub returns-then-not-found-2-clause-held : goal.returns-then-not-found-2-clause-held
-returns-then-not-found-2-clause-held g t c =
+pub returns-then-is_none-2-clause-held : goal.returns-then-is_none-2-clause-held
+returns-then-is_none-2-clause-held g t c =
     let n = c.in-Some.node in
     let cmp : RowRef → RowRef → Ordering = g.O.RefOrder.cmp c.args.order.now in
     let whole : in_order (tree_of c.args.tree) ≡ in_order n.left ++ n.entries ++ in_order n.right = search rules in
@@ -119,7 +91,8 @@ returns-then-not-found-2-clause-held g t c =
           (λ (here : Contains n.entries c.args.gone).
           c.remove_among.ensures.held.1 (subst (λ xs. Contains xs c.args.gone) (sym entries) here))
           (λ (there : Contains (in_order n.right) c.args.gone).
-          let e = sym (c.remove_from-right.ensures.held.1 (subst (λ xs. Contains xs c.args.gone) (sym is) there)) ∙ c.if-not-found-2.true in absurd (cc))
+          let e = sym c.if-is_none-2.ensures
+          ∙ c.remove_from-right.ensures.held.1 (subst (λ xs. Contains xs c.args.gone) (sym is) there) in absurd (cc))
           (contains_from _ _ (g.met.O.RefOrder.total c.args.order.now) c.args.gone c.requires.covered (in_order n.left) n.entries
           (in_order n.right) was tree.2.filled not_before (subst (λ xs. Contains xs c.args.gone) whole held)),
     )
@@ -129,27 +102,23 @@ returns-clause-held g t c =
     let n = c.in-Some.node in
     let whole : in_order (tree_of c.args.tree) ≡ in_order n.left ++ n.entries ++ in_order n.right = search rules in
     let is : in_order (tree_of c.take_right-right.result) ≡ in_order n.right = search rules in (
-      λ _. subst (λ xs. Contains xs c.args.gone) (sym whole) (Contains-append_right (in_order n.left ++ n.entries) (in_order n.right) c.args.gone
-          (subst (λ xs. Contains xs c.args.gone) is (c.remove_from-right.ensures.held.0 c.if-not-found-2.false))),
-      λ _. refl,
+      λ some. subst (λ xs. Contains xs c.args.gone) (sym whole) (Contains-append_right (in_order n.left ++ n.entries) (in_order n.right) c.args.gone
+          (subst (λ xs. Contains xs c.args.gone) is (c.remove_from-right.ensures.held.0 some))),
+      λ _. search rules,
     )
 
 pub returns-clause-taken : goal.returns-clause-taken
 returns-clause-taken g t c =
     let n = c.in-Some.node in
-    let cmp : RowRef → RowRef → Ordering = g.O.RefOrder.cmp c.args.order.now in
     let whole : in_order (tree_of c.args.tree) ≡ in_order n.left ++ n.entries ++ in_order n.right = search rules in
-    let was : IsOrdered (g.O.RefOrder.covers c.args.order.now) cmp (in_order n.left ++ n.entries ++ in_order n.right) = rw c.in-Some.is at c.requires.ordered in
-    let tree : IsTTree (fork n) = rw c.in-Some.is at c.requires.tree in
     let is : in_order (tree_of c.take_right-right.result) ≡ in_order n.right = search rules in
     let right : List RowRef = in_order (tree_of c.remove_from-right.result.0) in
     let made : in_order (fork c.mend-2.result) ≡ in_order n.left ++ n.entries ++ right = search rules in
-    let held : Contains (in_order n.right) c.args.gone = subst (λ xs. Contains xs c.args.gone) is (c.remove_from-right.ensures.held.0 c.if-not-found-2.false) in
-    let below : AddsInOrder cmp right c.args.gone (in_order n.right) = subst (AddsInOrder cmp right c.args.gone) is
-    (on_true c.remove_from-right.result.1 _ c.if-not-found-2.false c.remove_from-right.ensures.taken) in
-    let after = after_middle _ _ (g.met.O.RefOrder.total c.args.order.now) c.args.gone c.requires.covered (in_order n.left) n.entries (in_order n.right) was
-    tree.2.filled held in
-    let adds = adds_after _ _ (g.met.O.RefOrder.total c.args.order.now) (in_order n.left) n.entries right
-    (IsOrdered-front _ _ (in_order n.left ++ n.entries) (in_order n.right) was) tree.2.filled c.args.gone c.requires.covered (in_order n.right) after below in
-    subst (λ xs. AddsInOrder cmp xs c.args.gone (in_order (tree_of c.args.tree))) (sym made)
-    (subst (AddsInOrder cmp (in_order n.left ++ n.entries ++ right) c.args.gone) (sym whole) adds)
+    if_some (λ (along : ℕ). LosesRun (in_order (tree_of c.take_right-right.result)) (c.args.gone ∷ take along c.args.behind.now) right)
+    (λ (along : ℕ). LosesRun (in_order (tree_of c.args.tree)) (c.args.gone ∷ take along c.args.behind.now) (in_order (fork c.mend-2.result)))
+    c.remove_from-right.result.1
+    (λ along loses. let run : List RowRef = c.args.gone ∷ take along c.args.behind.now in
+    subst (LosesRun (in_order (tree_of c.args.tree)) run) (sym made)
+    (subst (λ xs. LosesRun xs run (in_order n.left ++ n.entries ++ right)) (sym whole)
+    (loses_right run (in_order n.left) n.entries (in_order n.right) right (subst (λ xs. LosesRun xs run right) is loses))))
+    c.remove_from-right.ensures.taken

@@ -1,14 +1,11 @@
-use Rattle.std.proofs.Common.{◌≡◌, ◌<◌, ◌++◌, length, sym, ap, subst, arith, rules}
+use Rattle.std.proofs.Common.{◌≡◌, ◌+◌, ◌<◌, ◌++◌, drop, length, take, sym, ap, subst, arith, rules}
 use Rattle.std.specs.Prelude.{Some, Contains, slice_get}
 use Rattle.std.proofs.lemmas.Option.{get_or_from_slice_get}
-use Rattle.std.specs.List.{remove}
-use Rattle.std.specs.declared.cmp.Ordering.{Ordering}
-use Rattle.mm_value.specs.declared.row_ref.RowRef.{RowRef}
-use Rattle.mm_order.specs.Refs.{AddsInOrder}
 use Rattle.ttree_node.specs.Tree.{tree_of, in_order}
 use Rattle.ttree.proofs.Parts.{IsOrdered-middle}
-use Rattle.ttree.proofs.Taken.{adds_taken}
+use Rattle.ttree.proofs.Runs.{loses_middle}
 use Rattle.ttree.proofs.removes.remove_among.Goals as goal
+use Rattle.ttree.specs.Run.{LosesRun}
 
 pub find_held-requires-clause-ordered : goal.find_held-requires-clause-ordered
 find_held-requires-clause-ordered g c =
@@ -29,9 +26,10 @@ pub returns-in-Some-clause-taken : goal.returns-in-Some-clause-taken
 returns-in-Some-clause-taken g c =
     let n = c.args.node in
     let i = c.in-Some.i in
-    let cmp : RowRef → RowRef → Ordering = g.O.RefOrder.cmp c.args.order.now in
-    let made : in_order (tree_of c.refill.result) ≡ in_order n.left ++ remove n.entries i ++ in_order n.right = search rules in
+    let along = c.run_from-along.result in
     let inside : i < length n.entries = omega (arith, ap length c.entries.ensures.value, c.in-Some.ensures.in_bounds) in
     let found : slice_get n.entries i ≡ Some c.args.gone = rw c.entries.ensures.value at c.in-Some.ensures.found in
-    let adds = adds_taken (g.O.RefOrder.covers c.args.order.now) cmp (in_order n.left) n.entries (in_order n.right) i c.args.gone c.requires.ordered inside found in
-    subst (λ xs. AddsInOrder cmp xs c.args.gone (in_order n.left ++ n.entries ++ in_order n.right)) (sym made) adds
+    let same : take along (drop (i + 1) n.entries) ≡ take along c.args.behind.now = search rules in
+    let made : in_order (tree_of c.refill.result) ≡ in_order n.left ++ (take i n.entries ++ drop (i + (along + 1)) n.entries) ++ in_order n.right = search rules in
+    subst (LosesRun (in_order n.left ++ n.entries ++ in_order n.right) _) (sym made)
+    (loses_middle (in_order n.left) n.entries (in_order n.right) i along c.args.gone c.args.behind.now inside found same)

@@ -1,11 +1,15 @@
-use Rattle.std.proofs.Common.{rules}
+use Rattle.std.proofs.Common.{◌∷◌, [], ℕ, take, sym, subst, rules}
+use Rattle.std.specs.Prelude.{IfSome}
+use Rattle.std.specs.Bool.{OnTrue}
 use Rattle.mm_order.specs.Refs.{AddsInOrder}
-use Rattle.mm_order.proofs.Ordered.{IsOrdered-removed}
-use Rattle.ttree_node.specs.Tree.{tree_of, in_order}
+use Rattle.ttree.proofs.Runs.{adds_found}
 use Rattle.ttree.proofs.tree.TTreeOrderedRefs.remove.Goals as goal
+use Rattle.ttree.specs.Run.{LosesRun}
 
-pub returns-then-found-clause-ordered : goal.returns-then-found-clause-ordered
-returns-then-found-clause-ordered g c =
-    let adds : AddsInOrder (g.O.RefOrder.cmp c.args.order.now) (in_order (tree_of c.remove_from-root.result.0)) c.args.gone c.args.self.now.refs =
+pub returns-clause-taken : goal.returns-clause-taken
+returns-clause-taken g c =
+    let loses : IfSome c.remove_run.result (λ (along : ℕ). LosesRun c.args.self.now.refs (c.args.gone ∷ take along []) c.remove_run.new.self.refs) =
     search rules in
-    IsOrdered-removed _ _ (in_order (tree_of c.remove_from-root.result.0)) c.args.gone c.args.self.now.refs c.requires.ordered adds
+    subst (λ b. OnTrue b (AddsInOrder (g.O.RefOrder.cmp c.args.order.now) c.remove_run.new.self.refs c.args.gone c.args.self.now.refs)) (sym c.is_some.ensures)
+    (adds_found (g.O.RefOrder.covers c.args.order.now) (g.O.RefOrder.cmp c.args.order.now) c.args.self.now.refs c.args.gone c.remove_run.new.self.refs
+    c.requires.ordered c.remove_run.result loses)
