@@ -16,3 +16,4 @@ pub mod Placed
 pub mod Extending
 pub mod Reordering
 pub mod Under
+pub mod UnseenEdits

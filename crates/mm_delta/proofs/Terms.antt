@@ -28,6 +28,7 @@ use Rattle.mm_delta.proofs.ByRows.{count_by_rows}
 use Rattle.mm_delta.proofs.SumOfTerms.{half, half_all, one_place}
 use Rattle.mm_delta.proofs.Goes.{edits_balance}
 use Rattle.mm_delta.proofs.Sums.{Balance, sum_by-map}
+use Rattle.mm_delta.proofs.UnseenEdits.{same_count, seen_balance, seen_come, seen_gone}
 
 -- ---- the edited rows
 
@@ -82,13 +83,34 @@ others_there tables store k all = tables_from tables store k 0 (length tables) (
 
 -- What some edited rows add, where the store is another name of the one before.
 pub term_count : (q : BoundQuery) (store now : Tables) (changes : List TableEdits) (tables : List ℕ) (k : ℕ) (row : List Value)
-    (edited : ℕ → List (List Value)) (rows : List (List Value)) (old new : ℕ) → now ≡ store → rows ≡ edited (get_or tables k 0)
+    (edited rows : List (List Value)) (old new : ℕ) → now ≡ store → rows ≡ edited
     → new ≡ old + sum_by (λ x. count_of row (bag_of q (lists_around 0 (after_at now changes) (λ _. x ∷ []) (before_at now) tables k))) rows
-    → new ≡ old + count_of row (bag_of q (lists_around 0 (after_at store changes) edited (before_at store) tables k))
+    → new ≡ old + sum_by (λ x. count_of row (bag_of q (lists_around 0 (after_at store changes) (λ _. x ∷ []) (before_at store) tables k))) edited
 term_count q store now changes tables k row edited rows old new same is h =
     h
     ∙ (λ i. old + sum_by (λ x. count_of row (bag_of q (lists_around 0 (after_at (same i) changes) (λ _. x ∷ []) (before_at (same i)) tables k))) (is i))
-    ∙ ap (λ n. old + n) (sym (count_by_rows q (after_at store changes) edited (before_at store) tables k row))
+
+-- What the rows that the query sees add, less what those take away that it sees, is what all edited rows do.
+pub net_count : (q : BoundQuery) (store : Tables) (changes : List TableEdits) (tables : List ℕ) (k : ℕ) (stored : StoredRows) → k < length tables
+    → IsAt store (get_or tables k 0) stored → (row : List Value) (comes comes' goes goes' : ℕ)
+    → goes' ≡ goes + sum_by (λ x. count_of row (bag_of q (lists_around 0 (after_at store changes) (λ _. x ∷ []) (before_at store) tables k)))
+    (seen_gone q k (slot_at stored.places) (edits_at changes (get_or tables k 0)))
+    → comes' ≡ comes + sum_by (λ x. count_of row (bag_of q (lists_around 0 (after_at store changes) (λ _. x ∷ []) (before_at store) tables k)))
+    (seen_come q k (slot_at stored.places) (edits_at changes (get_or tables k 0)))
+    → comes' + goes + count_of row (bag_of q (lists_around 0 (after_at store changes) (gone_at store changes) (before_at store) tables k))
+    ≡ goes' + comes + count_of row (bag_of q (lists_around 0 (after_at store changes) (come_at changes) (before_at store) tables k))
+net_count q store changes tables k stored within at row comes comes' goes goes' g c =
+    let adds : List Value → ℕ = λ x. count_of row (bag_of q (lists_around 0 (after_at store changes) (λ _. x ∷ []) (before_at store) tables k)) in
+    omega (
+      arith,
+      g,
+      c,
+      seen_balance q k (slot_at stored.places) adds
+          (λ x y alike. same_count q (after_at store changes) (before_at store) tables k row x y within alike) (edits_at changes (get_or tables k 0)),
+      count_by_rows q (after_at store changes) (gone_at store changes) (before_at store) tables k row,
+      count_by_rows q (after_at store changes) (come_at changes) (before_at store) tables k row,
+      ap (sum_by adds) (gone_is store changes (get_or tables k 0) stored at),
+    )
 
 -- What they read, likewise.
 pub reads_same : (q : BoundQuery) (store now : Tables) (changes : List TableEdits) (tables : List ℕ) (skipped : ℕ → List Value → Bool) (k : ℕ) (rows edited : List (List Value))
@@ -147,14 +169,13 @@ module _ (q : BoundQuery) (store : Tables) (changes : List TableEdits) (tables :
   -- One place more.
   pub counts_more : (k : ℕ) (stored : StoredRows) (first comes comes' goes goes' : ℕ) → k < length tables → IsAt store (get_or tables k 0) stored
       → IsKept stored.width stored.key (slot_at stored.places) stored.refs stored.indexes → EachFit store changes
-      → comes + first ≡ goes + halfway k → comes' ≡ comes + added (come_at changes) k → goes' ≡ goes + added (gone_at store changes) k
+      → comes + first ≡ goes + halfway k → comes' + goes + added (gone_at store changes) k ≡ goes' + comes + added (come_at changes) k
       → comes' + first ≡ goes' + halfway (k + 1)
-  counts_more k stored first comes comes' goes goes' within at was fit so_far c g =
+  counts_more k stored first comes comes' goes goes' within at was fit so_far net =
       omega (
         arith,
         so_far,
-        c,
-        g,
+        net,
         one_place 0 q (before_at store) (after_at store changes) (gone_at store changes) (come_at changes) tables row k within
             (table_balance store changes (get_or tables k 0) stored at was fit),
         ap halfway (next k),

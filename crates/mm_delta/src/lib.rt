@@ -16,6 +16,7 @@ mod look_up;
 mod rows;
 mod skipped;
 mod term;
+mod unseen;
 mod walk;
 
 pub use bag_change::delta;

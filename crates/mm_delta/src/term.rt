@@ -1,12 +1,6 @@
 //! What the edited rows at one place of FROM add.
-ghost use Rattle.std.specs.Prelude.{◌≡◌, ℕ, ◌+◌, ◌<◌, ◌≤◌, ◌++◌, Bool, [], ◌∷◌, List, get_or, length, map, All, IfErr, IfOk, OnOk};
-ghost use Rattle.std.specs.List.{cons_option, sum_by};
-ghost use Rattle.mm_partition.specs.Places.{slot_at};
-ghost use Rattle.mm_relation.specs.Edits.{edit_name, named, new_rows};
-ghost use Rattle.mm_relation.specs.Kept.{StoredRows};
-ghost use Rattle.mm_relation.specs.Refs.{row_at};
-ghost use Rattle.mm_relation.specs.declared.names.Side.TheVariants.{Old};
-ghost use Rattle.mm_store.specs.Tables.{AreFit, IsAt};
+ghost use Rattle.std.specs.Prelude.{◌≡◌, ℕ, ◌+◌, ◌<◌, ◌≤◌, Bool, [], ◌∷◌, List, get_or, length, map, All, IfErr, OnOk};
+ghost use Rattle.std.specs.List.{sum_by};
 ghost use Rattle.mm_value.specs.declared.refusal.Refusal.TheVariants.{Memory};
 ghost use Rattle.mm_value.specs.declared.values.Value.{Value as AnyValue};
 ghost use Rattle.mm_query.specs.Queries.{bag_of};
@@ -17,13 +11,11 @@ ghost use Rattle.mm_delta.specs.Steps.{EachFit, HasTables, row_reads, term_reads
 ghost use Rattle.mm_delta.specs.Terms.{lists_around};
 ghost use Rattle.mm_delta.specs.Walk.{other_places};
 
-use crate::edited::row_gone;
-use crate::rows::{add_coming, read_all};
+use crate::unseen::Sight;
 use crate::walk::Walk;
 use mm_bag::Tally;
-use mm_relation::Edit;
 use mm_store::View;
-use mm_value::{Refusal, Row, RowRef};
+use mm_value::{Refusal, Row};
 use std::alloc::Global;
 
 impl<'c> Walk<'_, 'c> {
@@ -59,7 +51,8 @@ impl<'c> Walk<'_, 'c> {
     }
 
     /// Counts the projected row of each fitting combination that has an edited row at the place of one: those with a row that
-    /// comes into the one bag, those with a row that goes into the other. `Memory` is the only refusal.
+    /// comes into the one bag, those with a row that goes into the other. Where a row comes in the place of one of which the query
+    /// makes the same, neither is counted, since they would be counted alike. `Memory` is the only refusal.
     pub(crate) fn add_term<'a: 'c>(
         &self,
         alloc: Global,
@@ -72,11 +65,11 @@ impl<'c> Walk<'_, 'c> {
         requires there { All (λ table. table < length view.old.store.tables) self.now.tables.now }
         requires fit { EachFit view.old.store self.now.changes.now }
         requires typed { IsTypeTested self.now.query.now view.old.store self.now.changes.now self.now.tables.now }
-        ensures comes { OnOk result ((row : List AnyValue) → count_in row comes.new.entries ≡ count_in row comes.old.entries
+        ensures net { OnOk result ((row : List AnyValue) → count_in row comes.new.entries + count_in row goes.old.entries
+            + count_of row (bag_of self.now.query.now (lists_around 0 (after_at view.old.store self.now.changes.now)
+            (gone_at view.old.store self.now.changes.now) (before_at view.old.store) self.now.tables.now self.now.place))
+            ≡ count_in row goes.new.entries + count_in row comes.old.entries
             + count_of row (bag_of self.now.query.now (lists_around 0 (after_at view.old.store self.now.changes.now) (come_at self.now.changes.now)
-            (before_at view.old.store) self.now.tables.now self.now.place))) }
-        ensures goes { OnOk result ((row : List AnyValue) → count_in row goes.new.entries ≡ count_in row goes.old.entries
-            + count_of row (bag_of self.now.query.now (lists_around 0 (after_at view.old.store self.now.changes.now) (gone_at view.old.store self.now.changes.now)
             (before_at view.old.store) self.now.tables.now self.now.place))) }
         ensures reads { (skipped : ℕ → List AnyValue → Bool) → IsOfCyclicRows self.now.query.now skipped → view.new.reads ≤ view.old.reads
             + term_reads self.now.query.now view.old.store self.now.changes.now self.now.tables.now skipped self.now.place }
@@ -85,62 +78,13 @@ impl<'c> Walk<'_, 'c> {
     {
         let table = self.tables[self.place];
         view.is_kept(table);
+        let sight = Sight {
+            query: self.query,
+            place: self.place,
+        };
         let edits = self.changes.edits_of(table);
-        let gone = rows_gone(alloc, view, table, edits)?;
-        let come = rows_come(alloc, edits)?;
-        self.from_rows(alloc, view, &gone, goes)?;
-        self.from_rows(alloc, view, &come, comes)
+        let seen = sight.seen_rows(alloc, view, table, edits)?;
+        self.from_rows(alloc, view, &seen.gone, goes)?;
+        self.from_rows(alloc, view, &seen.come, comes)
     }
-}
-
-/// The rows that edits of a table take away. Each is read once. `Memory` is the only refusal.
-fn rows_gone<'c, 'a: 'c>(
-    alloc: Global,
-    view: &mut View<'a>,
-    table: usize,
-    edits: &[Edit],
-) -> Result<Vec<&'c Row>, Refusal>
-    requires there { table < length view.old.store.tables }
-    requires fit { (stored : StoredRows) → IsAt view.old.store table stored → AreFit stored edits.now }
-    ensures rows { IfOk result (λ rows. (stored : StoredRows) → IsAt view.old.store table stored
-        → map (λ row. row.now) rows.items ≡ map (row_at (slot_at stored.places)) (named edit_name Old edits.now)) }
-    ensures reads { view.new.reads ≤ view.old.reads + length (named edit_name Old edits.now) }
-    ensures same { view.new.store ≡ view.old.store }
-    ensures memory { IfErr result (λ refusal. refusal ≡ Memory) }
-{
-    let refs = references_gone(alloc, edits)?;
-    read_all(alloc, view, table, &refs)
-}
-
-/// The references of the rows that edits take away. `Memory` is the only refusal.
-fn references_gone(alloc: Global, edits: &[Edit]) -> Result<Vec<RowRef>, Refusal>
-    ensures ok { IfOk result (λ refs. refs.items ≡ named edit_name Old edits.now) }
-    ensures memory { IfErr result (λ refusal. refusal ≡ Memory) }
-{
-    let mut refs = Vec::new(alloc);
-    for edit in edits {
-        push_reference(&mut refs, row_gone(edit))?;
-    }
-    Ok(refs)
-}
-
-/// Adds a reference, if there is one. `Memory` is the only refusal.
-fn push_reference(refs: &mut Vec<RowRef>, at: Option<RowRef>) -> Result<(), Refusal>
-    ensures added { OnOk result (refs.new.items ≡ refs.old.items ++ cons_option at []) }
-    ensures memory { IfErr result (λ refusal. refusal ≡ Memory) }
-{
-    if let Some(at) = at {
-        refs.push(at)?;
-    }
-    Ok(())
-}
-
-/// The rows that edits bring. `Memory` is the only refusal.
-fn rows_come<'c>(alloc: Global, edits: &'c [Edit]) -> Result<Vec<&'c Row>, Refusal>
-    ensures ok { IfOk result (λ rows. map (λ row. row.now) rows.items ≡ new_rows edits.now) }
-    ensures memory { IfErr result (λ refusal. refusal ≡ Memory) }
-{
-    let mut rows = Vec::new(alloc);
-    add_coming(&mut rows, edits, &None)?;
-    Ok(rows)
 }

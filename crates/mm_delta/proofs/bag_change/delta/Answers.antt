@@ -1,4 +1,4 @@
-use Rattle.std.proofs.Common.{◌≡◌, ◌+◌, ◌-◌, ◌<◌, ◌∙◌, All, length, map, get_or, refl, ap, subst, sym, arith}
+use Rattle.std.proofs.Common.{◌≡◌, ◌+◌, ◌-◌, ◌<◌, ◌∙◌, All, List, length, map, get_or, refl, ap, subst, sym, arith}
 use Rattle.std.specs.List.{range_with_len, sum_by}
 use Rattle.std.proofs.lemmas.Result.{IfOk-weaker}
 use Rattle.mm_query.specs.Queries.{bag_of}
@@ -6,6 +6,7 @@ use Rattle.mm_store.proofs.Joining.{some_at}
 use Rattle.mm_store.specs.Tables.{IsAt, Tables}
 use Rattle.mm_bag.specs.Counts.{count_in, count_of, signed_count}
 use Rattle.mm_delta.specs.Edited.{after_at, before_at, come_at, gone_at}
+use Rattle.mm_delta.specs.declared.edited.TableEdits.{TableEdits}
 use Rattle.mm_delta.specs.Skipping.{IsTypeTested}
 use Rattle.mm_delta.specs.Steps.{EachFit, term_reads}
 use Rattle.mm_delta.specs.Terms.{lists_around}
@@ -49,10 +50,16 @@ loop-place-preserved c = record {
       counts_more c.args.query.now c.args.view.now.store c.args.changes.now c.args.tables.now row k at.0 (count_of row (bag_of c.args.query.now (map (before_at c.args.view.now.store) c.args.tables.now))) (count_in row c.loop-place.comes.entries) (count_in row c.add_term.new.comes.entries)
       (count_in row c.loop-place.goes.entries) (count_in row c.add_term.new.goes.entries) c.loop-place-test.true at.1 was c.requires.fit
       (c.loop-place.invariant.counts row)
-      (c.in_ok-add_term.ensures.comes row
-      ∙ (λ i. count_in row c.loop-place.comes.entries + count_of row (bag_of c.args.query.now (lists_around 0 (after_at (same i) (changes i)) (come_at (changes i)) (before_at (same i)) c.args.tables.now k))))
-      (c.in_ok-add_term.ensures.goes row
-      ∙ (λ i. count_in row c.loop-place.goes.entries + count_of row (bag_of c.args.query.now (lists_around 0 (after_at (same i) (changes i)) (gone_at (same i) (changes i)) (before_at (same i)) c.args.tables.now k))));
+      (subst (λ (s : Tables). count_in row c.add_term.new.comes.entries + count_in row c.loop-place.goes.entries
+      + count_of row (bag_of c.args.query.now (lists_around 0 (after_at s c.args.changes.now) (gone_at s c.args.changes.now) (before_at s) c.args.tables.now k))
+      ≡ count_in row c.add_term.new.goes.entries + count_in row c.loop-place.comes.entries
+      + count_of row (bag_of c.args.query.now (lists_around 0 (after_at s c.args.changes.now) (come_at c.args.changes.now) (before_at s) c.args.tables.now k)))
+      same
+      (subst (λ (es : List TableEdits). count_in row c.add_term.new.comes.entries + count_in row c.loop-place.goes.entries
+      + count_of row (bag_of c.args.query.now (lists_around 0 (after_at c.loop-place.view.store es) (gone_at c.loop-place.view.store es) (before_at c.loop-place.view.store) c.args.tables.now k))
+      ≡ count_in row c.add_term.new.goes.entries + count_in row c.loop-place.comes.entries
+      + count_of row (bag_of c.args.query.now (lists_around 0 (after_at c.loop-place.view.store es) (come_at es) (before_at c.loop-place.view.store) c.args.tables.now k)))
+      changes (c.in_ok-add_term.ensures.net row)));
   reads = λ skipped only.
       let k = c.loop-place.place in
       let moved : term_reads c.args.query.now c.loop-place.view.store c.in_ok-indexed.indexed c.args.tables.now skipped k ≡ term_reads c.args.query.now c.args.view.now.store c.args.changes.now c.args.tables.now skipped k =

@@ -1,0 +1,238 @@
+-- Edits that a query does not see change nothing of its bag.
+use Rattle.std.proofs.Common.{◌≡◌, ℕ, zero, suc, ◌+◌, ◌<◌, ◌≤◌, ◌==◌, ◌&&◌, ◌||◌, Bool, true, false, cond, not, pos, Option, Some, None, List, [], ◌∷◌, ◌++◌, drop, get_or, length, map, take, inl, inr, refl, sym, ap, ◌∙◌, arith, length-take}
+use Rattle.std.specs.List.{All, cons_option, filter_map, list_all, sum_by}
+use Rattle.std.specs.Option.{option_map, option_map_or, unwrap_or}
+use Rattle.std.proofs.lemmas.Bool.{and_parts, cases_Bool, eq-eqb, eqb-true}
+use Rattle.std.proofs.lemmas.List.{length-append, length-map, take-append-drop, take_more}
+use Rattle.std.proofs.lemmas.List.Elements.{All-cons, All-head, All-nil, All-tail, filter_map-append}
+use Rattle.std.proofs.lemmas.List.Sums.{sum_by-cons}
+use Rattle.mm_value.proofs.SameRows.{values_exact}
+use Rattle.mm_value.specs.Equality.{same_value}
+use Rattle.mm_value.specs.declared.values.Value.{Value}
+use Rattle.mm_value.specs.declared.values.Value.TheVariants.{Int}
+use Rattle.mm_query.specs.Atoms.{holds, holds_of, operand_of, shifted, value_in}
+use Rattle.mm_query.specs.Queries.{Partial, bag_of, combinations, fits, none_fails, projected, same_row, value_at, values_of}
+use Rattle.mm_query.specs.Resolving.{column_of}
+use Rattle.mm_query.specs.declared.atom.Atom.{Atom}
+use Rattle.mm_query.specs.declared.atom.Operand.{Operand}
+use Rattle.mm_query.specs.declared.atom.Operand.TheVariants.{Literal, Column, Shifted}
+use Rattle.mm_query.specs.declared.bound_query.BoundQuery.{BoundQuery}
+use Rattle.mm_query.specs.declared.bound_query.FieldPlace.{FieldPlace}
+use Rattle.mm_bag.specs.Counts.{count_of}
+use Rattle.mm_relation.specs.Edits.{edit_name, named, new_rows}
+use Rattle.mm_relation.specs.Refs.{Slots, row_at}
+use Rattle.mm_relation.specs.declared.edits.Edit.{Edit}
+use Rattle.mm_relation.specs.declared.edits.Edit.TheVariants.{Add, Swap, Gone}
+use Rattle.mm_relation.specs.declared.names.Side.TheVariants.{Old}
+use Rattle.mm_delta.specs.Terms.{lists_around}
+use Rattle.mm_delta.specs.Unseen.{agree_for, agree_in, come_seen, gone_seen, looks_alike}
+use Rattle.mm_delta.proofs.Found.{Row, Rows}
+use Rattle.mm_delta.proofs.SumOfTerms.{count_as_sum, weight}
+use Rattle.mm_delta.proofs.Sums.{sum_by-combinations, sum_by_same}
+
+-- ---- two combinations that differ in the row of one place
+
+row_here : (p : List Row) (x : Row) (s : List Row) → get_or (map Some (p ++ x ∷ s)) (length p) None ≡ Some x
+row_here [] x s = refl
+row_here (z ∷ p) x s = row_here p x s
+
+row_elsewhere : (p : List Row) (x y : Row) (s : List Row) (n : ℕ) → (n ≡ length p → ⊥)
+    → get_or (map Some (p ++ x ∷ s)) n None ≡ get_or (map Some (p ++ y ∷ s)) n None
+row_elsewhere [] x y s zero e = absurd (e refl)
+row_elsewhere [] x y s (suc n) e = refl
+row_elsewhere (z ∷ p) x y s zero e = refl
+row_elsewhere (z ∷ p) x y s (suc n) e = row_elsewhere p x y s n (λ same. e (ap (λ m. suc m) same))
+
+same_if_agreed : (b : Bool) (a c : Value) → b ≡ true → (not b || same_value a c) ≡ true → a ≡ c
+same_if_agreed true a c here e = (values_exact a c).0 e
+same_if_agreed false a c here e = cc
+
+module _ (p : List Row) (x y : Row) (s : List Row) where
+  abbrev one : Partial
+  one = map Some (p ++ x ∷ s)
+
+  abbrev other : Partial
+  other = map Some (p ++ y ∷ s)
+
+  same_value_at : (field : FieldPlace) → agree_in (length p) x y field ≡ true → value_at one field ≡ value_at other field
+  same_value_at field agree =
+      elim (cases_Bool (field.place == length p)) [
+        | inl here ↦
+            let is = eqb-true field.place (length p) here in
+            let values = same_if_agreed (field.place == length p) (value_in field.column x) (value_in field.column y) here agree in
+            ap (λ n. option_map (value_in field.column) (get_or one n None)) is
+            ∙ ap (option_map (value_in field.column)) (row_here p x s)
+            ∙ ap (λ (v : Value). Some v) values
+            ∙ sym (ap (option_map (value_in field.column)) (row_here p y s))
+            ∙ sym (ap (λ n. option_map (value_in field.column) (get_or other n None)) is)
+        | inr away ↦
+            ap (option_map (value_in field.column)) (row_elsewhere p x y s field.place (λ same. let here = eq-eqb field.place (length p) same in cc))
+      ]
+
+  same_operand : (right : Operand FieldPlace) → option_map_or (agree_in (length p) x y) (column_of right) true ≡ true
+      → operand_of (value_at one) right ≡ operand_of (value_at other) right
+  same_operand (Literal value) agree = refl
+  same_operand (Column field) agree = same_value_at field agree
+  same_operand (Shifted field by) agree = ap (option_map (shifted by)) (same_value_at field agree)
+
+  same_holds : (atom : Atom FieldPlace) → agree_for (length p) x y atom ≡ true → holds (value_at one) atom ≡ holds (value_at other) atom
+  same_holds atom agree =
+      let parts = and_parts (agree_in (length p) x y atom.left) (option_map_or (agree_in (length p) x y) (column_of atom.right) true) agree in
+      λ i. holds_of atom.comparison (same_value_at atom.left parts.0 i) (same_operand atom.right parts.1 i)
+
+  same_fits : (atoms : List (Atom FieldPlace)) → list_all (agree_for (length p) x y) atoms ≡ true → none_fails atoms one ≡ none_fails atoms other
+  same_fits [] agree = refl
+  same_fits (atom ∷ atoms) agree =
+      let parts = and_parts (agree_for (length p) x y atom) (list_all (agree_for (length p) x y) atoms) agree in
+      λ i. same_holds atom parts.0 i && same_fits atoms parts.1 i
+
+  same_values : (fields : List FieldPlace) → list_all (agree_in (length p) x y) fields ≡ true → values_of fields one ≡ values_of fields other
+  same_values [] agree = refl
+  same_values (field ∷ fields) agree =
+      let parts = and_parts (agree_in (length p) x y field) (list_all (agree_in (length p) x y) fields) agree in
+      λ i. unwrap_or (same_value_at field parts.0 i) (Int (pos 0)) ∷ same_values fields parts.1 i
+
+  -- They weigh the same.
+  same_weight : (q : BoundQuery) (row : Row) → looks_alike q (length p) x y ≡ true → weight q row (p ++ x ∷ s) ≡ weight q row (p ++ y ∷ s)
+  same_weight q row alike =
+      let parts = and_parts (list_all (agree_for (length p) x y) q.atoms) (list_all (agree_in (length p) x y) q.fields) alike in
+      λ i. cond (same_fits q.atoms parts.0 i) (cond (same_row row (same_values q.fields parts.1 i)) 1 0) 0
+
+-- ---- two products that differ in the row of one place
+
+same_product : (front : List Rows) (x y : Row) (rest : List Rows) (g : List Row → ℕ)
+    → ((p s : List Row) → length p ≡ length front → g (p ++ x ∷ s) ≡ g (p ++ y ∷ s))
+    → sum_by g (combinations (front ++ (x ∷ []) ∷ rest)) ≡ sum_by g (combinations (front ++ (y ∷ []) ∷ rest))
+same_product [] x y rest g same =
+    sum_by-combinations g (x ∷ []) rest
+    ∙ ap (λ n. 0 + n) (sum_by_same (λ c. g (x ∷ c)) (λ c. g (y ∷ c)) (combinations rest) (λ c. same [] c refl))
+    ∙ sym (sum_by-combinations g (y ∷ []) rest)
+same_product (xs ∷ front) x y rest g same =
+    sum_by-combinations g xs (front ++ (x ∷ []) ∷ rest)
+    ∙ sum_by_same _ _ xs (λ z. same_product front x y rest (λ c. g (z ∷ c)) (λ p s is. same (z ∷ p) s (ap (λ n. suc n) is)))
+    ∙ sym (sum_by-combinations g xs (front ++ (y ∷ []) ∷ rest))
+
+-- Rows of which the query makes the same add the same to the count of a row.
+pub same_count : (q : BoundQuery) (after before : ℕ → Rows) (tables : List ℕ) (k : ℕ) (row x y : Row) → k < length tables → looks_alike q k x y ≡ true
+    → count_of row (bag_of q (lists_around 0 after (λ _. x ∷ []) before tables k))
+    ≡ count_of row (bag_of q (lists_around 0 after (λ _. y ∷ []) before tables k))
+same_count q after before tables k row x y within alike =
+    let front : List Rows = map after (take k tables) in
+    let long : length front ≡ k = omega (arith, length-map (take k tables) after, length-take k tables, within) in
+    count_as_sum q row (lists_around 0 after (λ _. x ∷ []) before tables k)
+    ∙ same_product front x y (map before (drop (suc k) tables)) (weight q row)
+    (λ p s is. same_weight p x y s q row (ap (λ n. looks_alike q n x y) (is ∙ long) ∙ alike))
+    ∙ sym (count_as_sum q row (lists_around 0 after (λ _. y ∷ []) before tables k))
+
+-- ---- the edits that it sees
+
+module _ (q : BoundQuery) (k : ℕ) (now : Slots) where
+  abbrev pub gone : List Edit → Rows
+  gone edits = map (row_at now) (named edit_name Old edits)
+
+  abbrev pub seen_gone : List Edit → Rows
+  seen_gone edits = filter_map (gone_seen q k now) edits
+
+  abbrev pub seen_come : List Edit → Rows
+  seen_come edits = filter_map (come_seen q k now) edits
+
+  -- Whatever is the same of rows of which it makes the same has in sum the same difference over them as over all edits, ..
+  pub seen_balance : (f : Row → ℕ) → ((x y : Row) → looks_alike q k x y ≡ true → f x ≡ f y) → (edits : List Edit)
+      → sum_by f (seen_gone edits) + sum_by f (new_rows edits) ≡ sum_by f (seen_come edits) + sum_by f (gone edits)
+  seen_balance f same [] = refl
+  seen_balance f same (Add row ∷ edits) =
+      omega (arith, seen_balance f same edits, sum_by-cons f row (new_rows edits), sum_by-cons f row (seen_come edits))
+  seen_balance f same (Gone at ∷ edits) =
+      omega (arith, seen_balance f same edits, sum_by-cons f (row_at now at) (seen_gone edits), sum_by-cons f (row_at now at) (gone edits))
+  seen_balance f same (Swap at row ∷ edits) = by (looks_alike q k (row_at now at) row) refl (seen_balance f same edits)
+    where
+      by : (b : Bool) → looks_alike q k (row_at now at) row ≡ b
+          → sum_by f (seen_gone edits) + sum_by f (new_rows edits) ≡ sum_by f (seen_come edits) + sum_by f (gone edits)
+          → sum_by f (cons_option (cond b None (Some (row_at now at))) (seen_gone edits)) + sum_by f (row ∷ new_rows edits)
+          ≡ sum_by f (cons_option (cond b None (Some row)) (seen_come edits)) + sum_by f (row_at now at ∷ gone edits)
+      by true alike rest =
+          omega (
+            arith,
+            rest,
+            same (row_at now at) row alike,
+            sum_by-cons f row (new_rows edits),
+            sum_by-cons f (row_at now at) (gone edits),
+          )
+      by false differ rest =
+          omega (
+            arith,
+            rest,
+            sum_by-cons f row (new_rows edits),
+            sum_by-cons f (row_at now at) (gone edits),
+            sum_by-cons f row (seen_come edits),
+            sum_by-cons f (row_at now at) (seen_gone edits),
+          )
+
+  -- .. and none of them is another than theirs.
+  pub fewer_gone : (f : Row → ℕ) (edits : List Edit) → sum_by f (seen_gone edits) ≤ sum_by f (gone edits)
+  fewer_gone f [] = omega arith
+  fewer_gone f (Add row ∷ edits) = fewer_gone f edits
+  fewer_gone f (Gone at ∷ edits) =
+      omega (arith, fewer_gone f edits, sum_by-cons f (row_at now at) (seen_gone edits), sum_by-cons f (row_at now at) (gone edits))
+  fewer_gone f (Swap at row ∷ edits) = by (looks_alike q k (row_at now at) row) (fewer_gone f edits)
+    where
+      by : (b : Bool) → sum_by f (seen_gone edits) ≤ sum_by f (gone edits)
+          → sum_by f (cons_option (cond b None (Some (row_at now at))) (seen_gone edits)) ≤ sum_by f (row_at now at ∷ gone edits)
+      by true rest = omega (arith, rest, sum_by-cons f (row_at now at) (gone edits))
+      by false rest = omega (arith, rest, sum_by-cons f (row_at now at) (gone edits), sum_by-cons f (row_at now at) (seen_gone edits))
+
+  pub fewer_come : (f : Row → ℕ) (edits : List Edit) → sum_by f (seen_come edits) ≤ sum_by f (new_rows edits)
+  fewer_come f [] = omega arith
+  fewer_come f (Add row ∷ edits) =
+      omega (arith, fewer_come f edits, sum_by-cons f row (seen_come edits), sum_by-cons f row (new_rows edits))
+  fewer_come f (Gone at ∷ edits) = fewer_come f edits
+  fewer_come f (Swap at row ∷ edits) = by (looks_alike q k (row_at now at) row) (fewer_come f edits)
+    where
+      by : (b : Bool) → sum_by f (seen_come edits) ≤ sum_by f (new_rows edits)
+          → sum_by f (cons_option (cond b None (Some row)) (seen_come edits)) ≤ sum_by f (row ∷ new_rows edits)
+      by true rest = omega (arith, rest, sum_by-cons f row (new_rows edits))
+      by false rest = omega (arith, rest, sum_by-cons f row (new_rows edits), sum_by-cons f row (seen_come edits))
+
+  module _ (P : Row → Type 0) where
+    one_of : (b : Bool) (row : Row) (rows : Rows) → P row → All P rows → All P (cons_option (cond b None (Some row)) rows)
+    one_of true row rows here rest = rest
+    one_of false row rows here rest = All-cons P row rows here rest
+
+    pub among_gone : (edits : List Edit) → All P (gone edits) → All P (seen_gone edits)
+    among_gone [] all = All-nil P
+    among_gone (Add row ∷ edits) all = among_gone edits all
+    among_gone (Gone at ∷ edits) all =
+        All-cons P (row_at now at) (seen_gone edits) (All-head P (row_at now at) (gone edits) all)
+        (among_gone edits (All-tail P (row_at now at) (gone edits) all))
+    among_gone (Swap at row ∷ edits) all =
+        one_of (looks_alike q k (row_at now at) row) (row_at now at) (seen_gone edits) (All-head P (row_at now at) (gone edits) all)
+        (among_gone edits (All-tail P (row_at now at) (gone edits) all))
+
+    pub among_come : (edits : List Edit) → All P (new_rows edits) → All P (seen_come edits)
+    among_come [] all = All-nil P
+    among_come (Add row ∷ edits) all =
+        All-cons P row (seen_come edits) (All-head P row (new_rows edits) all) (among_come edits (All-tail P row (new_rows edits) all))
+    among_come (Gone at ∷ edits) all = among_come edits all
+    among_come (Swap at row ∷ edits) all =
+        one_of (looks_alike q k (row_at now at) row) row (seen_come edits) (All-head P row (new_rows edits) all)
+        (among_come edits (All-tail P row (new_rows edits) all))
+
+-- ---- the edits so far
+
+-- One edit more names as many more references as it names itself, ..
+pub one_named : (edits : List Edit) (i : ℕ) (edit : Edit) → i < length edits → edit ≡ get_or edits i edit
+    → length (named edit_name Old (take (i + 1) edits)) ≡ length (named edit_name Old (take i edits)) + length (named edit_name Old (edit ∷ []))
+one_named edits i edit inside is =
+    ap (λ es. length (named edit_name Old es)) (take_more edits i edit inside ∙ ap (λ e. take i edits ++ e ∷ []) (sym is))
+    ∙ ap length (filter_map-append (λ e. edit_name e Old) (take i edits) (edit ∷ []))
+    ∙ length-append (named edit_name Old (take i edits)) (named edit_name Old (edit ∷ []))
+
+-- .. and the first ones name no more than all.
+pub first_named : (edits : List Edit) (n : ℕ) → length (named edit_name Old (take n edits)) ≤ length (named edit_name Old edits)
+first_named edits n =
+    omega (
+      arith,
+      ap (λ es. length (named edit_name Old es)) (take-append-drop n edits),
+      ap length (filter_map-append (λ e. edit_name e Old) (take n edits) (drop n edits)),
+      length-append (named edit_name Old (take n edits)) (named edit_name Old (drop n edits)),
+    )

@@ -1,0 +1,39 @@
+-- What a query sees of edits: nothing of a row that changes in other columns than the query reads (the readily ignorable updates of
+-- Buneman and Clemons, ACM TODS 1979).
+use Rattle.std.specs.Prelude.{ℕ, ◌==◌, ◌&&◌, ◌||◌, Bool, true, not, if◌then◌else◌, List, Option, Some, None}
+use Rattle.std.specs.List.{list_all}
+use Rattle.std.specs.Option.{option_map_or}
+use Rattle.mm_value.specs.Equality.{same_value}
+use Rattle.mm_value.specs.declared.values.Value.{Value}
+use Rattle.mm_query.specs.Atoms.{value_in}
+use Rattle.mm_query.specs.Resolving.{column_of}
+use Rattle.mm_query.specs.declared.atom.Atom.{Atom}
+use Rattle.mm_query.specs.declared.bound_query.BoundQuery.{BoundQuery}
+use Rattle.mm_query.specs.declared.bound_query.FieldPlace.{FieldPlace}
+use Rattle.mm_relation.specs.Refs.{Slots, row_at}
+use Rattle.mm_relation.specs.declared.edits.Edit.{Edit}
+use Rattle.mm_relation.specs.declared.edits.Edit.TheVariants.{Add, Swap, Gone}
+
+-- Two rows have the same value in the column of a field, if it is a field of this place of FROM.
+abbrev pub agree_in : ℕ → List Value → List Value → FieldPlace → Bool
+agree_in place a b field = not (field.place == place) || same_value (value_in field.column a) (value_in field.column b)
+
+-- They do so in the columns that an atom compares.
+abbrev pub agree_for : ℕ → List Value → List Value → Atom FieldPlace → Bool
+agree_for place a b atom = agree_in place a b atom.left && option_map_or (agree_in place a b) (column_of atom.right) true
+
+-- A query makes the same of the one row at a place of FROM as of the other: they have the same values in all columns that it reads there.
+abbrev pub looks_alike : BoundQuery → ℕ → List Value → List Value → Bool
+looks_alike query place a b = list_all (agree_for place a b) query.atoms && list_all (agree_in place a b) query.fields
+
+-- The row that goes by an edit, unless one comes in its place of which the query makes the same.
+abbrev pub gone_seen : BoundQuery → ℕ → Slots → Edit → Option (List Value)
+gone_seen query place now (Add row) = None
+gone_seen query place now (Swap at row) = if looks_alike query place (row_at now at) row then None else Some (row_at now at)
+gone_seen query place now (Gone at) = Some (row_at now at)
+
+-- The row that comes by an edit, unless it comes in the place of one of which the query makes the same.
+abbrev pub come_seen : BoundQuery → ℕ → Slots → Edit → Option (List Value)
+come_seen query place now (Add row) = Some row
+come_seen query place now (Swap at row) = if looks_alike query place (row_at now at) row then None else Some row
+come_seen query place now (Gone at) = None

@@ -1,0 +1,139 @@
+//! What a query sees of edits: nothing of a row that changes in other columns than it reads.
+ghost use Rattle.std.specs.Prelude.{◌≡◌, ◌+◌, ◌++◌, ◌∷◌, ◌<◌, ◌≤◌, [], filter_map, length, map, All, IfErr, IfOk, OnOk};
+ghost use Rattle.std.specs.List.{cons_option, list_all};
+ghost use Rattle.mm_partition.specs.Places.{IsLive, slot_at};
+ghost use Rattle.mm_relation.specs.Edits.{edit_name, named};
+ghost use Rattle.mm_relation.specs.Kept.{StoredRows};
+ghost use Rattle.mm_relation.specs.declared.names.Side.TheVariants.{Old};
+ghost use Rattle.mm_store.specs.Tables.{AreFit, IsAt};
+ghost use Rattle.mm_value.specs.declared.refusal.Refusal.TheVariants.{Memory};
+ghost use Rattle.mm_delta.specs.Unseen.{agree_for, agree_in, come_seen, gone_seen, looks_alike};
+
+use crate::known::value_in;
+use mm_query::{Atom, BoundQuery, FieldPlace};
+use mm_relation::Edit;
+use mm_store::View;
+use mm_value::{Refusal, Row, Value};
+use std::alloc::Global;
+
+/// The rows by which edits of a table change what a query makes of it at a place of FROM.
+#[derive(Drop)]
+pub(crate) struct SeenRows<'c> {
+    /// Those that go.
+    pub(crate) gone: Vec<&'c Row>,
+    /// Those that come.
+    pub(crate) come: Vec<&'c Row>,
+}
+
+/// A query, and one of its places of FROM.
+#[derive(Clone, Copy)]
+pub(crate) struct Sight<'c> {
+    pub(crate) query: &'c BoundQuery,
+    pub(crate) place: usize,
+}
+
+impl<'c> Sight<'c> {
+    /// Whether two rows have the same value in the column of a field, if it is a field of the place.
+    fn agree_in(&self, a: &Row, b: &Row, field: FieldPlace) -> bool
+        ensures { result ≡ agree_in self.now.place a.now b.now field }
+    {
+        let zero = Value::Int(0);
+        field.place != self.place
+            || value_in(a, field.column, &zero) == value_in(b, field.column, &zero)
+    }
+
+    /// Whether two rows have the same values in the columns of the place that an atom compares.
+    fn agree_for(&self, a: &Row, b: &Row, atom: &Atom<FieldPlace>) -> bool
+        ensures { result ≡ agree_for self.now.place a.now b.now atom.now }
+    {
+        let agree_right = match atom.right.column() {
+            Some(field) => self.agree_in(a, b, *field),
+            None => true,
+        };
+        self.agree_in(a, b, atom.left) && agree_right
+    }
+
+    /// Whether two rows have the same values in the columns of the place that atoms compare.
+    fn agree_for_all(&self, a: &Row, b: &Row, atoms: &[Atom<FieldPlace>]) -> bool
+        ensures { result ≡ list_all (agree_for self.now.place a.now b.now) atoms.now }
+    {
+        atoms.iter().all(|atom| self.agree_for(a, b, atom))
+    }
+
+    /// Whether two rows have the same values in the columns of fields, if these are fields of the place.
+    fn agree_in_all(&self, a: &Row, b: &Row, fields: &[FieldPlace]) -> bool
+        ensures { result ≡ list_all (agree_in self.now.place a.now b.now) fields.now }
+    {
+        fields.iter().all(|field| self.agree_in(a, b, *field))
+    }
+
+    /// Whether the query makes the same of two rows at the place: they have the same values in all columns that it reads there.
+    fn looks_alike(&self, a: &Row, b: &Row) -> bool
+        ensures { result ≡ looks_alike self.now.query.now self.now.place a.now b.now }
+    {
+        self.agree_for_all(a, b, self.query.atoms.as_slice())
+            && self.agree_in_all(a, b, self.query.fields.as_slice())
+    }
+
+    /// Adds the rows that go and come by an edit of a table, unless the query makes the same of both. A row that goes is read once.
+    /// `Memory` is the only refusal.
+    fn add_seen<'a: 'c>(
+        &self,
+        view: &mut View<'a>,
+        table: usize,
+        edit: &'c Edit,
+        seen: &mut SeenRows<'c>,
+    ) -> Result<(), Refusal>
+        requires there { table < length view.old.store.tables }
+        requires live { (stored : StoredRows) → IsAt view.old.store table stored → All (IsLive stored.places) (named edit_name Old (edit.now ∷ [])) }
+        ensures gone { OnOk result ((stored : StoredRows) → IsAt view.old.store table stored → map (λ row. row.now) seen.new.gone.items
+            ≡ map (λ row. row.now) seen.old.gone.items ++ cons_option (gone_seen self.now.query.now self.now.place (slot_at stored.places) edit.entry.now) []) }
+        ensures come { OnOk result ((stored : StoredRows) → IsAt view.old.store table stored → map (λ row. row.now) seen.new.come.items
+            ≡ map (λ row. row.now) seen.old.come.items ++ cons_option (come_seen self.now.query.now self.now.place (slot_at stored.places) edit.entry.now) []) }
+        ensures reads { view.new.reads ≤ view.old.reads + length (named edit_name Old (edit.entry.now ∷ [])) }
+        ensures same { view.new.store ≡ view.old.store }
+        ensures memory { IfErr result (λ refusal. refusal ≡ Memory) }
+    {
+        match edit {
+            Edit::Add(row) => seen.come.push(row)?,
+            Edit::Gone(at) => seen.gone.push(view.row(table, *at))?,
+            Edit::Swap(at, row) => {
+                let old = view.row(table, *at);
+                if !self.looks_alike(old, row) {
+                    seen.gone.push(old)?;
+                    seen.come.push(row)?;
+                }
+            }
+        }
+        Ok(())
+    }
+
+    /// The rows that go and come by edits of a table, but for those that change in columns that the query does not read. Each row
+    /// that goes or changes is read once. `Memory` is the only refusal.
+    pub(crate) fn seen_rows<'a: 'c>(
+        &self,
+        alloc: Global,
+        view: &mut View<'a>,
+        table: usize,
+        edits: &'c [Edit],
+    ) -> Result<SeenRows<'c>, Refusal>
+        requires there { table < length view.old.store.tables }
+        requires fit { (stored : StoredRows) → IsAt view.old.store table stored → AreFit stored edits.now }
+        ensures gone { IfOk result (λ seen. (stored : StoredRows) → IsAt view.old.store table stored
+            → map (λ row. row.now) seen.gone.items ≡ filter_map (gone_seen self.now.query.now self.now.place (slot_at stored.places)) edits.now) }
+        ensures come { IfOk result (λ seen. (stored : StoredRows) → IsAt view.old.store table stored
+            → map (λ row. row.now) seen.come.items ≡ filter_map (come_seen self.now.query.now self.now.place (slot_at stored.places)) edits.now) }
+        ensures reads { view.new.reads ≤ view.old.reads + length (named edit_name Old edits.now) }
+        ensures same { view.new.store ≡ view.old.store }
+        ensures memory { IfErr result (λ refusal. refusal ≡ Memory) }
+    {
+        let mut seen = SeenRows {
+            gone: Vec::new(alloc),
+            come: Vec::new(alloc),
+        };
+        for edit in edits {
+            self.add_seen(view, table, edit, &mut seen)?;
+        }
+        Ok(seen)
+    }
+}
