@@ -6,7 +6,7 @@ ghost use Rattle.standing_tests.specs.Cases.{is_unshifted};
 use crate::samples::are_shown;
 use crate::steps::{
     addition, are_there, changes_of, go_back, is_first_empty, is_unshifted, make_edits,
-    prepare_and_drop, removal, settle, tables, watch,
+    prepare_and_drop, removal, replacement, settle, tables, watch,
 };
 use mm_delta::Signed;
 use mm_plan::run_plan;
@@ -236,6 +236,29 @@ impl Case {
         if place < self.standing.len() {
             self.standing.unwatch(place);
         }
+    }
+
+    /// Puts another number into the row of a key. `NoSuchTable` where no table stands at the place; `NoTargetRow` where no row of it has
+    /// the key; what else refuses a change.
+    pub fn renumber(
+        &mut self,
+        alloc: Global,
+        table: usize,
+        key: i64,
+        number: i64,
+    ) -> Result<(), Refusal> {
+        if table >= 2 {
+            return Err(Refusal::NoSuchTable);
+        }
+        let edits = replacement(alloc, &self.store, table, key, number)?;
+        make_edits(
+            alloc,
+            &mut self.store,
+            &mut self.undo,
+            &mut self.standing,
+            table,
+            edits,
+        )
     }
 
     /// How many rows the list at a place shows. `NoSuchStandingQuery` where there is none.

@@ -125,3 +125,31 @@ fn irrelevant_rows_are_not_combined(rt: HostRuntime) -> Result<(), Fail> {
     let mut case = Case::new(rt.alloc(), false)?;
     leave_out(&rt, &mut case)
 }
+
+/// Keeps the pairs of rows with the same key as a standing query, which reads no number.
+fn watch_keys(case: &mut Case, alloc: Global) -> Result<(), Refusal> {
+    let same_key = Atom {
+        left: key(0),
+        comparison: Comparison::Equal,
+        right: Operand::Column(key(1)),
+    };
+    let query = pairs(alloc, [key(0), key(1)], [same_key])?;
+    let tables = vec![in alloc; 0, 1]?;
+    case.watch(alloc, query, tables)
+}
+
+/// Asserts that a row whose number changes is read itself, and none that it is combined with.
+fn renumber_unread(rt: &(impl Abort + AllocGlobal), case: &mut Case) -> Result<(), Fail> {
+    put(case, rt.alloc(), &[(0, 1, 5), (1, 1, 6)])?;
+    watch_keys(case, rt.alloc())?;
+    case.renumber(rt.alloc(), 0, 1, 7)?;
+    assert_same(rt, case.reads(), 1);
+    assert_that(rt, case.shows(rt.alloc(), 0, &[&[1, 1]])?);
+    Ok(())
+}
+
+#[test]
+fn a_change_of_columns_that_no_list_reads_is_not_combined(rt: HostRuntime) -> Result<(), Fail> {
+    let mut case = Case::new(rt.alloc(), false)?;
+    renumber_unread(&rt, &mut case)
+}

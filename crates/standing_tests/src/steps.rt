@@ -68,6 +68,24 @@ pub fn removal(alloc: Global, store: &Store, table: usize, key: i64) -> Result<V
     Ok(vec![in alloc; Edit::Gone(at)]?)
 }
 
+/// The edit that puts another number into the row of a key. `NoTargetRow` where no row of the table has it.
+pub fn replacement(
+    alloc: Global,
+    store: &Store,
+    table: usize,
+    key: i64,
+    number: i64,
+) -> Result<Vec<Edit>, Refusal>
+    requires there { table < length store.now.tables }
+    requires plain { ArePlain store.now }
+    ensures fit { IfOk result (λ edits. (stored : StoredRows) → IsAt store.now table stored → AreFit stored edits.items) }
+{
+    let Some(at) = at_key(store, table, key) else {
+        return Err(Refusal::NoTargetRow);
+    };
+    Ok(vec![in alloc; Edit::Swap(at, row(alloc, key, number)?)]?)
+}
+
 /// The reference of the row of a key.
 fn at_key(store: &Store, table: usize, key: i64) -> Option<RowRef>
     requires { table < length store.now.tables }
