@@ -7,7 +7,7 @@ use Rattle.std.specs.List.{All, AllPairs, Contains, swap}
 use Rattle.std.proofs.Math.Seq.{drop-cons}
 use Rattle.std.proofs.lemmas.List.Edits.{swapped_from_swap}
 use Rattle.std.proofs.lemmas.List.Elements.{Contains-append_left, Contains-push, All-head, All-append}
-use Rattle.std.proofs.lemmas.List.Sorted.{IsPermutation-trans, IsPermutation-sym, IsPermutation-append_comm, IsPermutation-append_left, IsPermutation-append_right}
+use Rattle.std.proofs.lemmas.List.Sorted.{IsPermutation-trans, IsPermutation-sym, IsPermutation-append_right}
 use Rattle.std.proofs.lemmas.List.Sorted.{IsPermutation-middle, IsPermutation-keeps, IsPermutation-swap, length_permutation, Contains-permutation}
 use Rattle.std.proofs.lemmas.List.Sorted.{All-permutation}
 use Rattle.std.proofs.lemmas.Bool.{cases_order}
@@ -30,7 +30,8 @@ use Rattle.mm_relation.specs.Edits.{named}
 use Rattle.mm_relation.specs.declared.names.Side.{Side}
 use Rattle.mm_relation.proofs.RefTests.{same_pair, pair_from_test, pair_itself}
 use Rattle.mm_relation.proofs.Bags.{IsPermutation-uncons}
-use Rattle.ttree.specs.Run.{LosesRun}
+use Rattle.ttree.proofs.Shuffles.{shuffle_permutation}
+use Rattle.ttree.specs.Shuffle.{IsShuffle}
 use Rattle.mm_relation.proofs.RefTests.{same_from_test, test_from_same}
 
 -- the list from i on, where the item there names a reference, or none
@@ -62,14 +63,11 @@ taken_step cmp refs less rest at adds moved =
     refs_uncons at less rest (IsPermutation-trans (at ∷ less) refs (at ∷ rest)
     (IsPermutation-sym refs (at ∷ less) (IsPermutation-added cmp less at refs adds)) moved)
 
--- .. and so does a run of them
-pub run_taken : (refs run less rest : List RowRef) → LosesRun refs run less → IsPermutation refs (run ++ rest) → IsPermutation less rest
+-- .. and so do several
+pub run_taken : (refs run less rest : List RowRef) → IsShuffle refs run less → IsPermutation refs (run ++ rest) → IsPermutation less rest
 run_taken refs run less rest loses moved =
-    let front : IsPermutation (loses.front ++ run ++ loses.back) (run ++ loses.front ++ loses.back) =
-    IsPermutation-append_left loses.back (loses.front ++ run) (run ++ loses.front) (IsPermutation-append_comm loses.front run) in
-    let whole : IsPermutation refs (run ++ less) = subst (λ xs. IsPermutation xs (run ++ less)) (sym loses.refs_are)
-    (subst (IsPermutation (loses.front ++ run ++ loses.back)) (append_assoc run loses.front loses.back ∙ ap (λ xs. run ++ xs) (sym loses.fewer_are)) front) in
-    refs_cancel run less rest (IsPermutation-trans (run ++ less) refs (run ++ rest) (IsPermutation-sym refs (run ++ less) whole) moved)
+    refs_cancel run less rest
+    (IsPermutation-trans (run ++ less) refs (run ++ rest) (IsPermutation-sym refs (run ++ less) (shuffle_permutation refs run less loses)) moved)
 
 -- a reference that is held stands in the list
 pub front_held : (refs rest : List RowRef) (at : RowRef) → IsPermutation refs (at ∷ rest) → Contains refs at

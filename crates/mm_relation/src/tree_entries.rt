@@ -40,8 +40,8 @@ fn put<L: OrderedRefs>(rows: &Partitions, column: usize, key: usize, tree: &mut 
 /// The most references that go out of a tree together.
 const TOGETHER: usize = 32;
 
-/// Takes references out of a tree that orders rows by a column and has them all. Those that follow each other as they stand in a node
-/// go out of it by one search.
+/// Takes references out of a tree that orders rows by a column and has them all. Those that stand in one node in their order go out of
+/// it by one search.
 fn take_all(rows: &Partitions, column: usize, key: usize, tree: &mut TTree, refs: &[RowRef])
     requires ordered { InOrder column key (slot_at rows.now) tree.old.refs }
     requires held { Among tree.old.refs refs.now }
@@ -57,7 +57,7 @@ fn take_all(rows: &Partitions, column: usize, key: usize, tree: &mut TTree, refs
     };
     let mut rest = refs;
     while let Some((first, behind)) = rest.split_first() {
-        let Some(along) = tree.remove_run(&order, *first, behind) else {
+        let Some(along) = tree.remove_along(&order, *first, behind) else {
             unreachable!()
         };
         rest = &behind[along..];

@@ -1,5 +1,5 @@
 pub mod Combos
 pub mod Pieces
 pub mod Results
-pub mod Runs
+pub mod Shuffles
 pub mod Shown

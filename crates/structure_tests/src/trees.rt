@@ -180,42 +180,42 @@ fn shrinks(rt: HostRuntime) -> Result<(), Fail> {
     shrink(&rt, &mut tree)
 }
 
-/// Takes references out of a tree run by run, and counts the runs; none where the tree has not all of them.
-fn take_runs(tree: &mut TTree, refs: &[RowRef]) -> Option<usize>
+/// Takes references out of a tree, several at once, and counts how often; none where the tree has not all of them.
+fn take_together(tree: &mut TTree, refs: &[RowRef]) -> Option<usize>
     requires { IsByPlace tree.old.refs }
     ensures { IsByPlace tree.new.refs }
 {
     let mut rest = refs;
-    let mut runs = 0usize;
+    let mut times = 0usize;
     while let Some((first, behind)) = rest.split_first() {
-        let along = tree.remove_run(&ByPlace, *first, behind)?;
+        let along = tree.remove_along(&ByPlace, *first, behind)?;
         rest = &behind[along..];
-        runs = runs.saturating_add(1);
+        times = times.saturating_add(1);
     }
-    Some(runs)
+    Some(times)
 }
 
-/// Takes 1,900 of 2,000 references out in runs, of which most have the references of a whole node, and one that is not there.
-fn shrink_by_runs(
+/// Takes 1,900 of 2,000 references out, mostly those of a whole node at once, and one that is not there.
+fn shrink_together(
     rt: &(impl Abort + AllocGlobal),
     tree: &mut TTree,
     refs: &[RowRef],
 ) -> Result<(), Fail>
     requires { IsByPlace tree.old.refs }
 {
-    let runs = take_runs(tree, refs);
-    assert_that(rt, runs.unwrap_or(usize::MAX) <= 300);
+    let times = take_together(tree, refs);
+    assert_that(rt, times.unwrap_or(usize::MAX) <= 300);
     assert_shrunk(rt, tree);
     assert_up_to(rt, rt.alloc(), tree, 1949, 1900, 50)?;
-    assert_same(rt, tree.remove_run(&ByPlace, first_of(5), refs), None);
+    assert_same(rt, tree.remove_along(&ByPlace, first_of(5), refs), None);
     Ok(())
 }
 
 #[test]
-fn shrinks_by_runs(rt: HostRuntime) -> Result<(), Fail> {
+fn shrinks_by_many_at_once(rt: HostRuntime) -> Result<(), Fail> {
     let mut tree = grown(&rt, rt.alloc())?;
     let refs = ascending(rt.alloc(), 1900)?;
-    shrink_by_runs(&rt, &mut tree, refs.as_slice())
+    shrink_together(&rt, &mut tree, refs.as_slice())
 }
 
 /// Takes a reference out where it is in, and puts it in where it is not.

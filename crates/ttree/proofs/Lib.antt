@@ -11,4 +11,5 @@ pub mod Sought
 pub mod Decides
 pub mod Path
 pub mod Reached
-pub mod Runs
+pub mod Shuffles
+pub mod Along

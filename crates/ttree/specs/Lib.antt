@@ -4,6 +4,6 @@ pub mod Decides
 pub mod Held
 pub mod Lowest
 pub mod Path
-pub mod Run
 pub mod Searchable
+pub mod Shuffle
 pub mod Whole

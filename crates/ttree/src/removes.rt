@@ -1,10 +1,11 @@
 //! Removal from a T-tree.
-ghost use Rattle.std.specs.Prelude.{◌≡◌, ◌+◌, ◌-◌, ◌^◌, ◌<◌, ◌≤◌, ◌↔◌, ◌⊎◌, max, [], ◌∷◌, ◌++◌, length, take, drop, Contains, IsSome, IfSome, IfNone, Some, slice_get};
+ghost use Rattle.std.specs.Prelude.{◌≡◌, ◌+◌, ◌-◌, ◌^◌, ◌<◌, ◌≤◌, ◌↔◌, ◌⊎◌, max, [], ◌∷◌, ◌++◌, List, length, take, drop, Contains, IsSome, IfSome, IfNone, Some, slice_get};
+ghost use Rattle.mm_value.specs.declared.row_ref.RowRef.{RowRef as Reference};
 ghost use Rattle.ttree_node.specs.Tree.{Empty, fork, tree_of, in_order, height_of, node_count};
 ghost use Rattle.ttree_node.specs.Slide.{IsLeaf};
 ghost use Rattle.mm_order.specs.Order.{IsOrdered};
 ghost use Rattle.ttree.specs.Balanced.{IsTTree, IsRootOver, IsMended};
-ghost use Rattle.ttree.specs.Run.{LosesRun};
+ghost use Rattle.ttree.specs.Shuffle.{IsShuffle};
 
 use crate::balance::{balance, is_leaf};
 use crate::search::{is_before, search};
@@ -190,36 +191,30 @@ fn find_held<O: RefOrder>(entries: &Entries, order: &O, gone: RowRef) -> Option<
     }
 }
 
-/// How many of some references stand among entries from a place on, in their order and next to each other.
-fn run_from(entries: &Entries, start: usize, refs: &[RowRef]) -> usize
-    requires { start ≤ length entries.now }
-    ensures in_entries { start + result ≤ length entries.now }
-    ensures in_refs { result ≤ length refs.now }
-    ensures same { take result (drop start entries.now) ≡ take result refs.now }
+/// Takes the first of some references out of a root's entries, as many as stand there from a place on in their order, with others
+/// between them or not, and says how many.
+fn take_along(node: &mut Subtree, start: usize, refs: &[RowRef]) -> usize
+    requires { start ≤ length node.old.entries }
+    ensures few { result ≤ length refs.now }
+    ensures fewer { length node.new.entries ≤ length node.old.entries }
+    ensures taken { (tail : List Reference) × (node.new ≡ record node.old { entries = take start node.old.entries ++ tail })
+        × IsShuffle (drop start node.old.entries) (take result refs.now) tail }
 {
-    let len = entries.len();
+    let mut kept = 0;
     let mut count = 0;
-    for at in refs {
-        if start + count == len || entries.get(start + count) != *at {
-            return count;
+    while kept < node.entries().len() - start && count < refs.len() {
+        if node.entries().get(start + kept) == refs[count] {
+            node.take_entry(start + kept);
+            count += 1;
+        } else {
+            kept += 1;
         }
-        count += 1;
     }
     count
 }
 
-/// Takes entries that stand next to each other out of a root.
-fn take_run(node: &mut Subtree, start: usize, count: usize)
-    requires { start + count ≤ length node.old.entries }
-    ensures { node.new ≡ record node.old { entries = take start node.old.entries ++ drop (start + count) node.old.entries } }
-{
-    for _ in 0..count {
-        node.take_entry(start);
-    }
-}
-
-/// Takes a reference out of a root's entries, and with it those of some others that stand behind it there, and says how many of these;
-/// none where it was not there.
+/// Takes a reference out of a root's entries, and with it the first of some others, as many as stand behind it there in their order, and
+/// says how many of these; none where it was not there.
 fn remove_among<O: RefOrder>(
     mut node: Subtree,
     order: &O,
@@ -235,7 +230,7 @@ fn remove_among<O: RefOrder>(
     ensures tree { IsTTree (tree_of result.0) }
     ensures held { IsSome result.1 ↔ Contains node.entries gone }
     ensures few { IfSome result.1 (λ along. along ≤ length behind.now) }
-    ensures taken { IfSome result.1 (λ along. LosesRun (in_order (fork node)) (gone ∷ take along behind.now) (in_order (tree_of result.0))) }
+    ensures taken { IfSome result.1 (λ along. IsShuffle (in_order (fork node)) (gone ∷ take along behind.now) (in_order (tree_of result.0))) }
     ensures absent { IfNone result.1 (tree_of result.0 ≡ fork node) }
     ensures nodes { node_count (tree_of result.0) + spares.new ≡ node_count (fork node) + spares.old }
     ensures spares { spares.old ≤ spares.new }
@@ -244,18 +239,17 @@ fn remove_among<O: RefOrder>(
 {
     match find_held(node.entries(), order, gone) {
         Some(i) => {
-            let along = run_from(node.entries(), i + 1, behind);
-            take_run(&mut node, i, along + 1);
+            node.take_entry(i);
+            let along = take_along(&mut node, i, behind);
             (refill(node, spares), Some(along))
         }
         None => (Some(node), None),
     }
 }
 
-/// Takes a reference out of a tree, and with it those of some others that stand behind it in its node, next to each other and in their
-/// order, and says how many of these; none where it was not there. It asks one question a node on the way down, whether the reference
-/// lies before the node's least entry, and searches the nodes where it does not on the way back, until it is found (Lu, Ng and Tian,
-/// ADC 2000).
+/// Takes a reference out of a tree, and with it the first of some others, as many as stand behind it in its node in their order, and says
+/// how many of these; none where it was not there. It asks one question a node on the way down, whether the reference lies before the
+/// node's least entry, and searches the nodes where it does not on the way back, until it is found (Lu, Ng and Tian, ADC 2000).
 pub(crate) fn remove_from<O: RefOrder>(
     tree: Option<Subtree>,
     order: &O,
@@ -271,7 +265,7 @@ pub(crate) fn remove_from<O: RefOrder>(
     ensures tree { IsTTree (tree_of result.0) }
     ensures held { IsSome result.1 ↔ Contains (in_order (tree_of tree)) gone }
     ensures few { IfSome result.1 (λ along. along ≤ length behind.now) }
-    ensures taken { IfSome result.1 (λ along. LosesRun (in_order (tree_of tree)) (gone ∷ take along behind.now) (in_order (tree_of result.0))) }
+    ensures taken { IfSome result.1 (λ along. IsShuffle (in_order (tree_of tree)) (gone ∷ take along behind.now) (in_order (tree_of result.0))) }
     ensures absent { IfNone result.1 (tree_of result.0 ≡ tree_of tree) }
     ensures nodes { node_count (tree_of result.0) + spares.new ≡ node_count (tree_of tree) + spares.old }
     ensures spares { spares.old ≤ spares.new }

@@ -5,7 +5,7 @@ ghost use Rattle.std.specs.declared.cmp.Ordering.TheVariants.{Equal};
 ghost use Rattle.mm_order.specs.Order.{IsOrdered};
 ghost use Rattle.mm_order.specs.Probe.{IsMonotone};
 ghost use Rattle.ttree.specs.Lowest.{IsLowest};
-ghost use Rattle.ttree.specs.Run.{LosesRun};
+ghost use Rattle.ttree.specs.Shuffle.{IsShuffle};
 
 use crate::builds::{FULL, build};
 use crate::inserts::insert_into;
@@ -113,11 +113,11 @@ impl TTree {
         Iter::new(self.root.as_ref())
     }
 
-    /// Takes a reference out, and with it the first of some others, as many as stand behind it in its node, next to each other and in
-    /// their order. Says how many of these went along; none where the reference was not there. So references that are handed in
-    /// the order of the tree go with a search for each node that they stand in, not for each of them.
+    /// Takes a reference out, and with it the first of some others, as many as stand behind it in its node in their order, with others
+    /// between them or not. Says how many of these went along; none where the reference was not there. So references that are handed
+    /// in the order of the tree go with a search for each node that they stand in, not for each of them.
     #[tactic(auto, using(crate::proofs::Sizes::height_at_most_nodes))]
-    pub fn remove_run<O: RefOrder>(
+    pub fn remove_along<O: RefOrder>(
         &mut self,
         order: &O,
         gone: RowRef,
@@ -127,7 +127,7 @@ impl TTree {
         requires covered { O.covers order.now gone }
         ensures held { IsSome result ↔ Contains self.old.refs gone }
         ensures few { IfSome result (λ along. along ≤ length behind.now) }
-        ensures taken { IfSome result (λ along. LosesRun self.old.refs (gone ∷ take along behind.now) self.new.refs) }
+        ensures taken { IfSome result (λ along. IsShuffle self.old.refs (gone ∷ take along behind.now) self.new.refs) }
         ensures absent { IfNone result (self.new.refs ≡ self.old.refs) }
         ensures ordered { IsOrdered (O.covers order.now) (O.cmp order.now) self.new.refs }
         ensures spare { self.old.spare ≤ self.new.spare }
@@ -182,7 +182,7 @@ impl OrderedRefs for TTree {
     }
 
     fn remove<O: RefOrder>(&mut self, order: &O, gone: RowRef) -> bool {
-        self.remove_run(order, gone, &[]).is_some()
+        self.remove_along(order, gone, &[]).is_some()
     }
 
     fn copy_range<O: RefOrder, L: Probe, H: Probe>(

@@ -7,9 +7,9 @@ use Rattle.mm_value.specs.declared.row_ref.RowRef.{RowRef}
 use Rattle.mm_order.specs.Order.{IsOrdered}
 use Rattle.ttree_node.specs.Tree.{fork, tree_of, in_order}
 use Rattle.ttree.specs.Balanced.{IsTTree}
-use Rattle.ttree.specs.Run.{LosesRun}
+use Rattle.ttree.specs.Shuffle.{IsShuffle}
 use Rattle.ttree.proofs.Parts.{IsOrdered-front, IsOrdered-middle, IsOrdered-back}
-use Rattle.ttree.proofs.Runs.{if_some, loses_right}
+use Rattle.ttree.proofs.Shuffles.{if_some, loses_left, loses_right}
 use Rattle.ttree.proofs.Taken.{contains_left, contains_from}
 use Rattle.ttree.proofs.removes.+remove_from.Goals as goal
 
@@ -52,6 +52,22 @@ returns-then-is_none-clause-held g t c =
           (contains_left _ _ (g.met.O.RefOrder.total c.args.order.now) c.args.gone c.requires.covered (in_order n.left) n.entries
           (in_order n.right) was tree.2.filled before (subst (λ xs. Contains xs c.args.gone) whole held))),
     )
+
+pub returns-then-is_before-clause-taken : goal.returns-then-is_before-clause-taken
+returns-then-is_before-clause-taken g t c =
+    let n = c.in-Some.node in
+    let whole : in_order (tree_of c.args.tree) ≡ in_order n.left ++ n.entries ++ in_order n.right = search rules in
+    let is : in_order (tree_of c.take_left-left.result) ≡ in_order n.left = search rules in
+    let left : List RowRef = in_order (tree_of c.remove_from-left.result.0) in
+    let made : in_order (fork c.mend.result) ≡ left ++ n.entries ++ in_order n.right = search rules in
+    if_some (λ (along : ℕ). IsShuffle (in_order (tree_of c.take_left-left.result)) (c.args.gone ∷ take along c.args.behind.now) left)
+    (λ (along : ℕ). IsShuffle (in_order (tree_of c.args.tree)) (c.args.gone ∷ take along c.args.behind.now) (in_order (fork c.mend.result)))
+    c.remove_from-left.result.1
+    (λ along loses. let run : List RowRef = c.args.gone ∷ take along c.args.behind.now in
+    subst (IsShuffle (in_order (tree_of c.args.tree)) run) (sym made)
+    (subst (λ xs. IsShuffle xs run (left ++ n.entries ++ in_order n.right)) (sym whole)
+    (loses_left run (in_order n.left) n.entries (in_order n.right) left (subst (λ xs. IsShuffle xs run left) is loses))))
+    c.remove_from-left.ensures.taken
 
 pub remove_from-right-requires : goal.remove_from-right-requires
 remove_from-right-requires g t c κs within =
@@ -114,11 +130,11 @@ returns-clause-taken g t c =
     let is : in_order (tree_of c.take_right-right.result) ≡ in_order n.right = search rules in
     let right : List RowRef = in_order (tree_of c.remove_from-right.result.0) in
     let made : in_order (fork c.mend-2.result) ≡ in_order n.left ++ n.entries ++ right = search rules in
-    if_some (λ (along : ℕ). LosesRun (in_order (tree_of c.take_right-right.result)) (c.args.gone ∷ take along c.args.behind.now) right)
-    (λ (along : ℕ). LosesRun (in_order (tree_of c.args.tree)) (c.args.gone ∷ take along c.args.behind.now) (in_order (fork c.mend-2.result)))
+    if_some (λ (along : ℕ). IsShuffle (in_order (tree_of c.take_right-right.result)) (c.args.gone ∷ take along c.args.behind.now) right)
+    (λ (along : ℕ). IsShuffle (in_order (tree_of c.args.tree)) (c.args.gone ∷ take along c.args.behind.now) (in_order (fork c.mend-2.result)))
     c.remove_from-right.result.1
     (λ along loses. let run : List RowRef = c.args.gone ∷ take along c.args.behind.now in
-    subst (LosesRun (in_order (tree_of c.args.tree)) run) (sym made)
-    (subst (λ xs. LosesRun xs run (in_order n.left ++ n.entries ++ right)) (sym whole)
-    (loses_right run (in_order n.left) n.entries (in_order n.right) right (subst (λ xs. LosesRun xs run right) is loses))))
+    subst (IsShuffle (in_order (tree_of c.args.tree)) run) (sym made)
+    (subst (λ xs. IsShuffle xs run (in_order n.left ++ n.entries ++ right)) (sym whole)
+    (loses_right run (in_order n.left) n.entries (in_order n.right) right (subst (λ xs. IsShuffle xs run right) is loses))))
     c.remove_from-right.ensures.taken

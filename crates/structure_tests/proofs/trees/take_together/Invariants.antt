@@ -1,6 +1,6 @@
 use Rattle.std.proofs.Common.{length}
 use Rattle.structure_tests.specs.Orders.{IsByPlace}
-use Rattle.structure_tests.proofs.trees.take_runs.Given as goal
+use Rattle.structure_tests.proofs.trees.take_together.Given as goal
 
 -- those that are left become fewer
 abbrev pub decreases-loop-first : goal.decreases-loop-first
