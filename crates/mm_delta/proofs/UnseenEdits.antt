@@ -1,5 +1,5 @@
 -- Edits that a query does not see change nothing of its bag.
-use Rattle.std.proofs.Common.{◌≡◌, ℕ, zero, suc, ◌+◌, ◌<◌, ◌≤◌, ◌==◌, ◌&&◌, ◌||◌, Bool, true, false, cond, not, pos, Option, Some, None, List, [], ◌∷◌, ◌++◌, drop, get_or, length, map, take, inl, inr, refl, sym, ap, ◌∙◌, arith, length-take}
+use Rattle.std.proofs.Common.{◌≡◌, ℕ, zero, suc, ◌+◌, ◌<◌, ◌≤◌, ◌==◌, ◌&&◌, ◌||◌, Bool, true, false, cond, not, pos, Some, None, List, [], ◌∷◌, ◌++◌, drop, get_or, length, map, take, inl, inr, refl, sym, ap, ◌∙◌, arith, length-take}
 use Rattle.std.specs.List.{All, cons_option, filter_map, list_all, sum_by}
 use Rattle.std.specs.Option.{option_map, option_map_or, unwrap_or}
 use Rattle.std.proofs.lemmas.Bool.{and_parts, cases_Bool, eq-eqb, eqb-true}
@@ -11,7 +11,7 @@ use Rattle.mm_value.specs.Equality.{same_value}
 use Rattle.mm_value.specs.declared.values.Value.{Value}
 use Rattle.mm_value.specs.declared.values.Value.TheVariants.{Int}
 use Rattle.mm_query.specs.Atoms.{holds, holds_of, operand_of, shifted, value_in}
-use Rattle.mm_query.specs.Queries.{Partial, bag_of, combinations, fits, none_fails, projected, same_row, value_at, values_of}
+use Rattle.mm_query.specs.Queries.{Partial, bag_of, combinations, none_fails, same_row, value_at, values_of}
 use Rattle.mm_query.specs.Resolving.{column_of}
 use Rattle.mm_query.specs.declared.atom.Atom.{Atom}
 use Rattle.mm_query.specs.declared.atom.Operand.{Operand}
