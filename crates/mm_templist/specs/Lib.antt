@@ -1,5 +1,5 @@
 pub mod Combos
 pub mod Pieces
 pub mod Results
-pub mod Shuffles
+pub mod Runs
 pub mod Shown

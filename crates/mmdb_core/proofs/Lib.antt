@@ -3,7 +3,7 @@ pub mod FeedLemmas
 pub mod Inputs
 pub mod LawLemmas
 pub mod LongLines
-pub mod Shuffles
+pub mod Runs
 pub mod Scanning
 pub mod Selects
 pub mod Walks

@@ -5,7 +5,7 @@ use Rattle.mmdb_core.specs.steps.Respond.{GoesOn}
 use Rattle.mmdb_core.specs.Run.{BrokeOff}
 use Rattle.mmdb_core.specs.declared.fault.RunFault.{RunFault}
 use Rattle.mmdb_core.proofs.Inputs.{at-fault}
-use Rattle.mmdb_core.proofs.Shuffles.{answers_at_end, broke_off, none_answered, passed_nearer, read_at_fault, running_first, running_more, taken_at_end, taken_at_fault, write_at_end, write_at_fault}
+use Rattle.mmdb_core.proofs.Runs.{answers_at_end, broke_off, none_answered, passed_nearer, read_at_fault, running_first, running_more, taken_at_end, taken_at_fault, write_at_end, write_at_fault}
 use Rattle.mmdb_core.proofs.run_script.run.Goals as goal
 
 pub loop-database-init : goal.loop-database-init

@@ -1,5 +1,5 @@
 use Rattle.mmdb_core.specs.steps.Input.{bytes_to_come}
-use Rattle.mmdb_core.proofs.Shuffles.{Running}
+use Rattle.mmdb_core.proofs.Runs.{Running}
 use Rattle.mmdb_core.proofs.run_script.run.Given as goal
 
 abbrev pub invariant-loop-database : goal.invariant-loop-database
