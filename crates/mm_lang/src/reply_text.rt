@@ -82,6 +82,10 @@ pub fn write_row_line<W: Write>(row: &Row, writer: &mut Watched<W>) -> Result<()
     requires { has_failed writer.old ≡ false }
     ensures { Writes W.contents writer.old writer.new result (row_text row.now ++ 10 ∷ []) }
 {
+    let mut line = ShortLine::new();
+    if short_line(&mut line, row.values()).is_some() {
+        return put_all(writer, line.as_slice());
+    }
     write_row(row, writer)?;
     put_all(writer, b"\n")
 }

@@ -2,6 +2,7 @@
 ghost use Rattle.std.specs.Prelude.{◌≡◌, [], ◌∷◌, ◌++◌, OnSome, map};
 ghost use Rattle.mm_value.specs.Literal.{quoted};
 ghost use Rattle.mm_value.specs.Written.{row_text, value_text};
+ghost use Rattle.mm_value.specs.declared.values.Value.{Value as AnyValue};
 
 use arrayvec::ArrayVec;
 use bstr::ByteSlice;
@@ -14,17 +15,44 @@ const MAX_SHORT_LINE_BYTES: usize = 128;
 /// A line, or the front of one.
 pub(crate) type ShortLine = ArrayVec<u8, MAX_SHORT_LINE_BYTES>;
 
+/// What a value can be read from.
+pub(crate) trait AsValue {
+    ghost value: { Self → AnyValue };
+
+    /// The value.
+    fn as_value(&self) -> &Value
+        ensures { result.now ≡ value self.now };
+}
+
+impl AsValue for Value {
+    ghost value = { λ v. v };
+
+    #[inline(always)]
+    fn as_value(&self) -> &Value {
+        self
+    }
+}
+
+impl<'v> AsValue for &'v Value {
+    ghost value = { λ v. v.now };
+
+    #[inline(always)]
+    fn as_value(&self) -> &Value {
+        *self
+    }
+}
+
 /// Puts the line of a row behind the line, with its line feed. `None` where there is no room for it, where a text has a
 /// quote in it, which is written twice, and of no values.
-pub(crate) fn short_line(line: &mut ShortLine, values: &[&Value]) -> Option<()>
-    ensures { OnSome result (line.new.items ≡ line.old.items ++ (row_text (map (λ v. v.now) values.now) ++ 10 ∷ [])) }
+pub(crate) fn short_line<V: AsValue>(line: &mut ShortLine, values: &[V]) -> Option<()>
+    ensures { OnSome result (line.new.items ≡ line.old.items ++ (row_text (map V.value values.now) ++ 10 ∷ [])) }
 {
     let (first, others) = values.split_first()?;
     put(line, b"(")?;
-    put_value(line, first)?;
+    put_value(line, first.as_value())?;
     for value in others {
         put(line, b", ")?;
-        put_value(line, value)?;
+        put_value(line, value.as_value())?;
     }
     put(line, b")\n")
 }
