@@ -2,6 +2,7 @@ pub mod Caps
 pub mod Chosen
 pub mod Columns
 pub mod Cursors
+pub mod GapLemmas
 pub mod JoinKeys
 pub mod JoinSteps
 pub mod Prefixed

@@ -24,10 +24,10 @@ use Rattle.mm_join.specs.Cursor.{stands_to}
 
 -- ---- numbers
 
-less_is : (m n : ℕ) → m < n → nat_cmp m n ≡ Less
+pub less_is : (m n : ℕ) → m < n → nat_cmp m n ≡ Less
 less_is m n below = sym (nat_cmp_is m n Less below)
 
-greater_is : (m n : ℕ) → n < m → nat_cmp m n ≡ Greater
+pub greater_is : (m n : ℕ) → n < m → nat_cmp m n ≡ Greater
 greater_is m n above = sym (nat_cmp_is m n Greater above)
 
 -- A number lies to a further one no later than a number that is not less.

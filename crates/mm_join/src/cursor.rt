@@ -1,19 +1,20 @@
 //! A place in a walk along a tree, for values that are looked up in ascending order.
-ghost use Rattle.std.specs.Prelude.{◌≡◌, ◌≢◌, ℕ, ◌<◌, ◌≤◌, true, [], All, IfOk, OnOk, drop, filter, length, take};
-ghost use Rattle.std.specs.Option.{ForSome};
+ghost use Rattle.std.specs.Prelude.{◌≡◌, ◌≢◌, ℕ, ◌<◌, ◌≤◌, All, IfOk, IfSome, None, OnOk, drop, filter, length, slice_get, take};
+ghost use Rattle.std.specs.Option.{ForSome, option_and_then, option_map};
 ghost use Rattle.std.specs.Ordering.{is_eq};
-ghost use Rattle.mm_join.specs.Column.{HasItsColumn};
+ghost use Rattle.mm_join.specs.Column.{HasItsColumn, value_there};
 ghost use Rattle.mm_join.specs.Cursor.{IsAlong, lies_to};
 ghost use Rattle.mm_join.specs.Equated.{HaveMatches};
+ghost use Rattle.mm_join.specs.Gaps.{IsGap, LiesIn};
 ghost use Rattle.mm_partition.specs.Places.{slot_at};
 ghost use Rattle.mm_relation.specs.Kept.{StoredRows};
 ghost use Rattle.mm_relation.specs.Reads.{IsWalk, has_value};
 ghost use Rattle.mm_select.specs.Asked.{IsTreeOn};
 ghost use Rattle.mm_store.specs.Tables.{IsAt};
 ghost use Rattle.mm_value.specs.Prefix.{order_prefix};
-ghost use Rattle.mm_value.specs.declared.values.Value.{Value as AnyValue};
 
 use crate::column::ColumnOf;
+use crate::gap::Gap;
 use mm_store::{Meter, Store};
 use mm_value::{RowRef, Value, compare, order_prefix};
 use std::alloc::{AllocError, Global};
@@ -96,14 +97,15 @@ impl Cursor {
         copied
     }
 
-    /// Whether the prefixes tell that no row has a value with this prefix in the tree's column. Then the next look-up begins
-    /// where such a row would stand. The meter counts only rows whose prefixes are not kept.
-    pub fn has_none(&mut self, meter: &mut Meter, of: ColumnOf<'_>, prefix: u64) -> bool
+    /// The prefixes from this one on, up to that of the next row, where no row has this one in the tree's column: no row has any of
+    /// them. Then the next look-up begins where such a row would stand. None where a row has it. The meter counts only rows whose
+    /// prefixes are not kept.
+    pub fn find_gap(&mut self, meter: &mut Meter, of: ColumnOf<'_>, prefix: u64) -> Option<Gap>
         requires there { of.table < length of.store.now.tables }
         requires walk { (stored : StoredRows) → IsAt of.store.now of.table stored → IsWalk of.column stored self.old }
         ensures walk { self.new ≡ self.old }
-        ensures none { result ≡ true → (stored : StoredRows) (value : AnyValue) → IsAt of.entry.store.now of.entry.table stored → order_prefix value ≡ prefix
-            → HaveMatches of.entry.column (slot_at stored.places) value stored.refs [] }
+        ensures within { IfSome result (λ gap. LiesIn gap prefix) }
+        ensures gap { IfSome result (λ gap. (stored : StoredRows) → IsAt of.entry.store.now of.entry.table stored → IsGap of.entry.column stored gap) }
     {
         let sought = Sought {
             of,
@@ -113,11 +115,11 @@ impl Cursor {
         let refs = self.refs.as_slice();
         // A row with the prefix stands just before: its value tells, and the place is kept for the look-up.
         if self.at > 0 && sought.place(meter, refs[self.at - 1]).is_eq() {
-            return false;
+            return None;
         }
         let first = sought.first(meter, refs, self.at);
         self.at = first;
-        first == refs.len() || sought.place(meter, refs[first]).is_gt()
+        sought.gap_before(meter, refs, first)
     }
 }
 
@@ -221,5 +223,30 @@ impl Sought<'_> {
             found.push(*at)?;
         }
         Ok(())
+    }
+
+    /// The prefixes from the one that is sought on, up to that of the row at `first`, where all rows before that are less; none where that
+    /// row has it.
+    fn gap_before(&self, meter: &mut Meter, refs: &[RowRef], first: usize) -> Option<Gap>
+        requires along { IsAlong self.now refs.now }
+        requires before { All (λ at. lies_to self.now at ≡ Ordering.Less) (take first refs.now) }
+        requires bound { first ≤ length refs.now }
+        ensures low { IfSome result (λ gap. gap.low ≡ self.now.prefix) }
+        ensures within { IfSome result (λ gap. ForSome gap.end (λ end. self.now.prefix < end)) }
+        ensures end { IfSome result (λ gap. gap.end ≡ option_and_then (λ at. option_map order_prefix (value_there self.now.of at)) (slice_get refs.now first)) }
+        ensures none { IfSome result (λ gap. gap.end ≡ None → length refs.now ≤ first) }
+    {
+        let low = self.prefix;
+        let Some(at) = refs.get(first) else {
+            return Some(Gap { low, end: None });
+        };
+        let end = self.of.prefix(meter, *at);
+        if end <= low {
+            return None;
+        }
+        Some(Gap {
+            low,
+            end: Some(end),
+        })
     }
 }

@@ -5,6 +5,7 @@ mod built;
 mod column;
 mod cursor;
 mod followed;
+mod gap;
 mod inner;
 mod key;
 mod laws;

@@ -13,7 +13,7 @@ ghost use Rattle.mm_templist.specs.Combos.{AreLive, combo_rows};
 use crate::cursor::Cursor;
 use crate::key::JoinKey;
 use crate::probes::probe;
-use crate::ways::Way;
+use crate::ways::{MergeWalk, Way};
 use mm_query::{Atom, FieldPlace};
 use mm_store::{Meter, Store};
 use mm_templist::{Descriptor, TempList};
@@ -50,7 +50,7 @@ pub fn tree_merge<'a>(
     ensures fields { IfOk result (λ list. list.fields ≡ descriptor.entry.fields.now) }
 {
     let table = descriptor.tables[outer.descriptor().tables.len()];
-    let mut way = Way::Walk(Cursor::new(alloc, store, table, index)?);
+    let mut way = Way::Walk(MergeWalk::new(Cursor::new(alloc, store, table, index)?));
     probe(
         alloc, store, meter, outer, descriptor, atoms, cap, &mut way, key,
     )

@@ -1,12 +1,11 @@
 //! Ways to the rows of the inner table that have a value.
-ghost use Rattle.std.specs.Prelude.{◌≡◌, ℕ, ◌+ℤ◌, ◌<◌, true, [], IfSome, OnOk, Some, length, map, pos};
+ghost use Rattle.std.specs.Prelude.{◌≡◌, ℕ, ◌+ℤ◌, ◌<◌, true, [], IfSome, None, OnOk, Some, length, map, pos};
 ghost use Rattle.std.specs.Option.{option_copied, option_map, unwrap_or};
 ghost use Rattle.mm_join.specs.Equated.{HaveMatches, added, sought};
-ghost use Rattle.mm_join.specs.Ways.{IsLookup, IsWay};
+ghost use Rattle.mm_join.specs.Ways.{IsLookup, IsMerge, IsWay};
 ghost use Rattle.mm_partition.specs.Places.{slot_at};
 ghost use Rattle.mm_query.specs.Queries.{value_at};
 ghost use Rattle.mm_relation.specs.Kept.{StoredRows};
-ghost use Rattle.mm_relation.specs.Reads.{IsWalk};
 ghost use Rattle.mm_store.specs.Tables.{IsAt};
 ghost use Rattle.mm_templist.specs.Combos.{AreLive, rows_of_combo};
 ghost use Rattle.mm_value.specs.Prefix.{order_prefix};
@@ -15,6 +14,7 @@ ghost use Rattle.mm_value.specs.declared.values.Value.TheVariants.{Int};
 
 use crate::column::ColumnOf;
 use crate::cursor::Cursor;
+use crate::gap::Gap;
 use crate::key::{JoinKey, Shift};
 use mlhash::HashRefs;
 use mm_query::FieldPlace;
@@ -42,7 +42,43 @@ pub(crate) enum Way<'w> {
     /// By a look-up for each value.
     Lookup(Lookup<'w>),
     /// Along a walk, where values come in ascending order.
-    Walk(Cursor),
+    Walk(MergeWalk),
+}
+
+/// A walk along a tree beside an outer list.
+#[derive(Drop)]
+pub(crate) struct MergeWalk {
+    cursor: Cursor,
+    /// Prefixes that no row has, where the last look-up found none. As long as they are asked for, the walk need not be looked at.
+    gap: Option<Gap>,
+}
+
+impl MergeWalk {
+    /// A walk of which nothing is known yet.
+    pub fn new(cursor: Cursor) -> MergeWalk
+        ensures cursor { result.cursor ≡ cursor }
+        ensures gap { result.gap ≡ None }
+    {
+        MergeWalk { cursor, gap: None }
+    }
+
+    /// Whether the prefixes tell that no row has a value with this prefix in the tree's column. The meter counts only rows whose
+    /// prefixes are not kept.
+    fn has_none(&mut self, meter: &mut Meter, of: ColumnOf<'_>, prefix: u64) -> bool
+        requires there { of.table < length of.store.now.tables }
+        requires walk { (stored : StoredRows) → IsAt of.store.now of.table stored → IsMerge of.column stored self.old }
+        ensures walk { (stored : StoredRows) → IsAt of.entry.store.now of.entry.table stored → IsMerge of.entry.column stored self.new }
+        ensures none { result ≡ true → (stored : StoredRows) (value : AnyValue) → IsAt of.entry.store.now of.entry.table stored → order_prefix value ≡ prefix
+            → HaveMatches of.entry.column (slot_at stored.places) value stored.refs [] }
+    {
+        if let Some(gap) = self.gap
+            && gap.has(prefix)
+        {
+            return true;
+        }
+        self.gap = self.cursor.find_gap(meter, of, prefix);
+        self.gap.is_some()
+    }
 }
 
 /// The value of a field in the rows of a combination; none reads as 0.
@@ -109,7 +145,7 @@ fn find_matches(
 {
     match way {
         Way::Lookup(lookup) => look_up(alloc, of.store.table(of.table), *lookup, value, found),
-        Way::Walk(cursor) => cursor.find(meter, of, value, found),
+        Way::Walk(walk) => walk.cursor.find(meter, of, value, found),
     }
 }
 
@@ -203,17 +239,17 @@ fn lacks_along(
     store: &Store,
     meter: &mut Meter,
     table: usize,
-    cursor: &mut Cursor,
+    walk: &mut MergeWalk,
     tables: &[usize],
     front: &[RowRef],
     key: JoinKey,
 ) -> bool
     requires there { table < length store.now.tables }
     requires live { AreLive store.now tables.now front.now }
-    requires walk { (stored : StoredRows) → IsAt store.now table stored → IsWalk key.column stored cursor.old }
+    requires walk { (stored : StoredRows) → IsAt store.now table stored → IsMerge key.column stored walk.old }
     ensures none { result ≡ true → (stored : StoredRows) → IsAt store.now table stored → HaveMatches key.column (slot_at stored.places)
         (sought key (map Some (rows_of_combo store.now tables.now front.now))) stored.refs [] }
-    ensures walk { cursor.new ≡ cursor.old }
+    ensures walk { (stored : StoredRows) → IsAt store.now table stored → IsMerge key.column stored walk.new }
 {
     if !key.shift.adds_nothing() {
         return false;
@@ -225,7 +261,7 @@ fn lacks_along(
         column,
     };
     match prefix_of_field(store, tables, front, key.field) {
-        Some(prefix) => cursor.has_none(meter, of, prefix),
+        Some(prefix) => walk.has_none(meter, of, prefix),
         None => false,
     }
 }
@@ -250,6 +286,6 @@ pub(crate) fn lacks_partners(
 {
     match way {
         Way::Lookup(_) => false,
-        Way::Walk(cursor) => lacks_along(store, meter, table, cursor, tables, front, key),
+        Way::Walk(walk) => lacks_along(store, meter, table, walk, tables, front, key),
     }
 }

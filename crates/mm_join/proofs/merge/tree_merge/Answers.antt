@@ -1,4 +1,5 @@
-use Rattle.std.proofs.Common.{◌≡◌, get_or, length, sym, subst}
+use Rattle.std.proofs.Common.{◌≡◌, None, Some, get_or, length, sym, ◌∙◌, subst}
+use Rattle.mm_relation.specs.Reads.{IsWalk}
 use Rattle.mm_join.proofs.Progress.{next_table}
 use Rattle.mm_join.specs.Joined.{IsNext}
 use Rattle.mm_store.specs.Tables.{IsAt}
@@ -21,4 +22,7 @@ probe-requires-clause-asked c = λ table stored next here.
     let t = get_or c.args.descriptor.tables.now (length c.descriptor.result.tables.now) 0 in
     let same : t ≡ table = next_table c.descriptor.result.tables.now outer.tables c.args.descriptor.tables.now table c.descriptor.ensures.tables next.0 in
     let asked = c.requires.asked table stored next here in
-    (c.in_ok-new.ensures stored c.args.key.column (subst (λ n. IsAt store n stored) (sym same) here) asked.0, asked.1)
+    let walk = c.in_ok-new.ensures stored c.args.key.column (subst (λ n. IsAt store n stored) (sym same) here) asked.0 in (
+      (subst (IsWalk c.args.key.column stored) (sym c.new-2.ensures.cursor) walk, λ gap is. let no : None ≡ Some gap = sym c.new-2.ensures.gap ∙ is in cc),
+      asked.1,
+    )

@@ -14,7 +14,7 @@ look_up-requires c =
     (c.args.of.column, subst (λ w. IsWay stored w c.args.of.column) c.in-Lookup.is (c.requires.way stored c.table.ensures.at))
 
 pub find-requires-clause-walk : goal.find-requires-clause-walk
-find-requires-clause-walk c = λ stored here. subst (λ w. IsWay stored w c.args.of.column) c.in-Walk.is (c.requires.way stored here)
+find-requires-clause-walk c = λ stored here. (subst (λ w. IsWay stored w c.args.of.column) c.in-Walk.is (c.requires.way stored here)).0
 
 pub returns-in-Lookup-clause-found : goal.returns-in-Lookup-clause-found
 returns-in-Lookup-clause-found c =
@@ -26,5 +26,5 @@ returns-in-Lookup-clause-found c =
 
 pub returns-in-Walk-clause-way : goal.returns-in-Walk-clause-way
 returns-in-Walk-clause-way c = λ stored here.
-    subst (IsWalk c.args.of.column stored) (sym c.find.ensures.walk)
-    (subst (λ w. IsWay stored w c.args.of.column) c.in-Walk.is (c.requires.way stored here))
+    let was = subst (λ w. IsWay stored w c.args.of.column) c.in-Walk.is (c.requires.way stored here) in
+    (subst (IsWalk c.args.of.column stored) (sym c.find.ensures.walk) was.0, was.1)

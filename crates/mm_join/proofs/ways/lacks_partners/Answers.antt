@@ -1,5 +1,4 @@
-use Rattle.std.proofs.Common.{sym, subst}
-use Rattle.mm_relation.specs.Reads.{IsWalk}
+use Rattle.std.proofs.Common.{subst}
 use Rattle.mm_join.specs.Ways.{IsWay}
 use Rattle.mm_join.proofs.ways.lacks_partners.Goals as goal
 
@@ -7,6 +6,4 @@ pub lacks_along-requires-clause-walk : goal.lacks_along-requires-clause-walk
 lacks_along-requires-clause-walk c = λ stored here. subst (λ w. IsWay stored w c.args.key.column) c.in-Walk.is (c.requires.way stored here)
 
 pub returns-in-Walk-clause-way : goal.returns-in-Walk-clause-way
-returns-in-Walk-clause-way c = λ stored here.
-    subst (IsWalk c.args.key.column stored) (sym c.lacks_along.ensures.walk)
-    (subst (λ w. IsWay stored w c.args.key.column) c.in-Walk.is (c.requires.way stored here))
+returns-in-Walk-clause-way c = λ stored here. c.lacks_along.ensures.walk stored here
