@@ -2,6 +2,7 @@ mod CommandReadings
 pub mod Commands
 mod Exactness
 mod Fronts
+pub mod LateLines
 mod Lexing
 mod ListingTexts
 mod Lists
@@ -11,7 +12,7 @@ mod Operands
 pub mod Pieces
 mod Readings
 pub mod ReplyLemmas
-mod RowLines
+mod ShortLines
 mod SelectReadings
 mod SpelledAtoms
 mod SpelledCommands

@@ -23,4 +23,5 @@ pub use reply_text::{
     definitions_are_told_as_written, replies_are_told_apart, write_reply, write_row_count,
     write_row_line, write_rows, write_tuple_line,
 };
+pub use row_line::RowLines;
 pub use token::Symbol;

@@ -18,7 +18,7 @@ ghost use Rattle.mm_lang.specs.ReplyText.{HasIndexNames, HasNames, HasTableNames
 ghost use Rattle.mm_lang.specs.Tokens.{tokens};
 
 use crate::listing_text::write_listing;
-use crate::row_line::{ShortLine, short_line};
+use crate::row_line::RowLines;
 use itoa::Buffer;
 use mm_query::{PlanLine, Reply};
 use mm_schema::IndexId;
@@ -49,10 +49,11 @@ pub fn write_rows<W: Write>(rows: &[Row], writer: &mut Watched<W>) -> Result<(),
     requires { has_failed writer.old ≡ false }
     ensures { Writes W.contents writer.old writer.new result (rows_text rows.now) }
 {
+    let mut lines = RowLines::new();
     for row in rows {
-        write_row_line(row, writer)?;
+        lines.add_row(row, writer)?;
     }
-    write_row_count(rows.len(), writer)
+    lines.finish(rows.len(), writer)
 }
 
 /// A reader of replies can tell lines and refusals: each reply ends with a line feed, and just the refusals begin
@@ -82,10 +83,6 @@ pub fn write_row_line<W: Write>(row: &Row, writer: &mut Watched<W>) -> Result<()
     requires { has_failed writer.old ≡ false }
     ensures { Writes W.contents writer.old writer.new result (row_text row.now ++ 10 ∷ []) }
 {
-    let mut line = ShortLine::new();
-    if short_line(&mut line, row.values()).is_some() {
-        return put_all(writer, line.as_slice());
-    }
     write_row(row, writer)?;
     put_all(writer, b"\n")
 }
@@ -99,10 +96,6 @@ pub fn write_tuple_line<W: Write>(
     requires { has_failed writer.old ≡ false }
     ensures { Writes W.contents writer.old writer.new result (row_text (map (λ v. v.now) values.now) ++ 10 ∷ []) }
 {
-    let mut line = ShortLine::new();
-    if short_line(&mut line, values).is_some() {
-        return put_all(writer, line.as_slice());
-    }
     write_tuple(values, writer)?;
     put_all(writer, b"\n")
 }

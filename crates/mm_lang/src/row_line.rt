@@ -1,19 +1,24 @@
-//! Short lines of rows, put together before they are written.
-ghost use Rattle.std.specs.Prelude.{◌≡◌, [], ◌∷◌, ◌++◌, OnSome, map};
+//! Lines of rows that are put together before they are written.
+ghost use Rattle.std.specs.Prelude.{◌≡◌, [], ◌∷◌, ◌++◌, OnOk, OnSome, codes, decimal, false, map, true};
+ghost use Rattle.mm_lang.specs.Late.{KeepsFront, WritesLate};
+ghost use Rattle.mm_value.specs.Device.{Writes};
 ghost use Rattle.mm_value.specs.Literal.{quoted};
+ghost use Rattle.mm_value.specs.Watched.{has_failed};
 ghost use Rattle.mm_value.specs.Written.{row_text, value_text};
 ghost use Rattle.mm_value.specs.declared.values.Value.{Value as AnyValue};
 
+use crate::reply_text::{write_row_count, write_row_line, write_tuple_line};
 use arrayvec::ArrayVec;
 use bstr::ByteSlice;
 use itoa::Buffer;
-use mm_value::Value;
+use mm_value::{Row, Value, Watched, WriteFault, put_all};
+use std::io::Write;
+use std::marker::Model;
 
-/// The most bytes of a line that is put together before it is written.
-const MAX_SHORT_LINE_BYTES: usize = 128;
+/// The most bytes that wait to be written.
+const MAX_WAITING_BYTES: usize = 512;
 
-/// A line, or the front of one.
-pub(crate) type ShortLine = ArrayVec<u8, MAX_SHORT_LINE_BYTES>;
+type Waiting = ArrayVec<u8, MAX_WAITING_BYTES>;
 
 /// What a value can be read from.
 pub(crate) trait AsValue {
@@ -42,50 +47,158 @@ impl<'v> AsValue for &'v Value {
     }
 }
 
-/// Puts the line of a row behind the line, with its line feed. `None` where there is no room for it, where a text has a
-/// quote in it, which is written twice, and of no values.
-pub(crate) fn short_line<V: AsValue>(line: &mut ShortLine, values: &[V]) -> Option<()>
-    ensures { OnSome result (line.new.items ≡ line.old.items ++ (row_text (map V.value values.now) ++ 10 ∷ [])) }
-{
-    let (first, others) = values.split_first()?;
-    put(line, b"(")?;
-    put_value(line, first.as_value())?;
-    for value in others {
-        put(line, b", ")?;
-        put_value(line, value.as_value())?;
-    }
-    put(line, b")\n")
+/// Lines of rows that wait to be written, up to 512 bytes of them, so that a writer is called once for many rows. Seen as their bytes.
+#[derive(Drop)]
+pub struct RowLines {
+    waiting: Waiting,
 }
 
-/// Puts a value behind the line. `None` where there is no room for it, and where it is a text with a quote in it.
-fn put_value(line: &mut ShortLine, value: &Value) -> Option<()>
-    ensures { OnSome result (line.new.items ≡ line.old.items ++ value_text value.now) }
+impl Model for RowLines {
+    ghost use Rattle.std.specs.Prelude.{List, ℕ};
+
+    ghost Value = { List ℕ };
+
+    ghost view = { λ lines. lines.waiting.items };
+}
+
+impl RowLines {
+    /// No lines.
+    pub fn new() -> RowLines
+        ensures { result ≡ [] }
+    {
+        RowLines {
+            waiting: ArrayVec::new(),
+        }
+    }
+
+    /// Adds the line of a row. Lines that wait are written first where it has no room beside them. Takes no memory.
+    /// After `WriteFault` the writer has failed, and a front of those and of the new line was written.
+    pub fn add_row<W: Write>(
+        &mut self,
+        row: &Row,
+        writer: &mut Watched<W>,
+    ) -> Result<(), WriteFault>
+        requires { has_failed writer.old ≡ false }
+        ensures { WritesLate W.contents writer.old self.old writer.new self.new result (row_text row.now ++ 10 ∷ []) }
+    {
+        if self.has_added(row.values()) {
+            return Ok(());
+        }
+        self.write_out(writer)?;
+        if self.has_added(row.values()) {
+            return Ok(());
+        }
+        write_row_line(row, writer)
+    }
+
+    /// Adds the line of a row as [`RowLines::add_row`] does, from references to its values.
+    pub fn add_tuple<W: Write>(
+        &mut self,
+        values: &[&Value],
+        writer: &mut Watched<W>,
+    ) -> Result<(), WriteFault>
+        requires { has_failed writer.old ≡ false }
+        ensures { WritesLate W.contents writer.old self.old writer.new self.new result (row_text (map (λ v. v.now) values.now) ++ 10 ∷ []) }
+    {
+        if self.has_added(values) {
+            return Ok(());
+        }
+        self.write_out(writer)?;
+        if self.has_added(values) {
+            return Ok(());
+        }
+        write_tuple_line(values, writer)
+    }
+
+    /// Writes the lines that wait, and behind them the line that tells how many rows there are. Takes no memory. After `WriteFault` the
+    /// writer has failed, and a front of these lines was written.
+    pub fn finish<W: Write>(
+        &mut self,
+        count: usize,
+        writer: &mut Watched<W>,
+    ) -> Result<(), WriteFault>
+        requires { has_failed writer.old ≡ false }
+        ensures { Writes W.contents writer.old writer.new result (self.old ++ (codes "rows " ++ decimal count ++ 10 ∷ [])) }
+    {
+        self.write_out(writer)?;
+        write_row_count(count, writer)
+    }
+
+    /// Writes the lines that wait.
+    fn write_out<W: Write>(&mut self, writer: &mut Watched<W>) -> Result<(), WriteFault>
+        requires { has_failed writer.old ≡ false }
+        ensures written { Writes W.contents writer.old writer.new result self.old }
+        ensures empty { OnOk result (self.new ≡ []) }
+    {
+        put_all(writer, self.waiting.as_slice())?;
+        self.waiting.clear();
+        Ok(())
+    }
+
+    /// Adds the line of a row, if it is short: where there is room for it, and no text has a quote in it, which is written twice.
+    fn has_added<V: AsValue>(&mut self, values: &[V]) -> bool
+        ensures added { result ≡ true → self.new ≡ self.old ++ (row_text (map V.value values.now) ++ 10 ∷ []) }
+        ensures same { result ≡ false → self.new ≡ self.old }
+    {
+        let len = self.waiting.len();
+        if put_line(&mut self.waiting, values).is_some() {
+            return true;
+        }
+        self.waiting.truncate(len);
+        false
+    }
+}
+
+/// Puts the line of a row behind what waits, with its line feed. `None` where there is no room for it, where a text has a quote in it,
+/// and of no values; then a part of it may stand there.
+fn put_line<V: AsValue>(waiting: &mut Waiting, values: &[V]) -> Option<()>
+    ensures some { OnSome result (waiting.new.items ≡ waiting.old.items ++ (row_text (map V.value values.now) ++ 10 ∷ [])) }
+    ensures front { KeepsFront waiting.old.items waiting.new.items }
+{
+    let (first, others) = values.split_first()?;
+    put(waiting, b"(")?;
+    put_value(waiting, first.as_value())?;
+    for value in others {
+        put(waiting, b", ")?;
+        put_value(waiting, value.as_value())?;
+    }
+    put(waiting, b")\n")
+}
+
+/// Puts a value behind what waits. `None` where there is no room for it, and where it is a text with a quote in it; then a part of it
+/// may stand there.
+fn put_value(waiting: &mut Waiting, value: &Value) -> Option<()>
+    ensures some { OnSome result (waiting.new.items ≡ waiting.old.items ++ value_text value.now) }
+    ensures front { KeepsFront waiting.old.items waiting.new.items }
 {
     match value {
         Value::Int(number) => {
             let mut buffer = Buffer::new();
-            put(line, buffer.format(*number).as_bytes())
+            put(waiting, buffer.format(*number).as_bytes())
         }
-        Value::Text(text) => put_quoted(line, text.bytes()),
+        Value::Text(text) => put_quoted(waiting, text.bytes()),
     }
 }
 
-/// Puts a text between quotes behind the line. `None` where there is no room for it, and where a quote is in it.
-fn put_quoted(line: &mut ShortLine, text: &[u8]) -> Option<()>
-    ensures { OnSome result (line.new.items ≡ line.old.items ++ quoted text.now) }
+/// Puts a text between quotes behind what waits. `None` where there is no room for it, and where a quote is in it; then a part of it may
+/// stand there.
+fn put_quoted(waiting: &mut Waiting, text: &[u8]) -> Option<()>
+    ensures some { OnSome result (waiting.new.items ≡ waiting.old.items ++ quoted text.now) }
+    ensures front { KeepsFront waiting.old.items waiting.new.items }
 {
     if text.find_byte(b'\'').is_some() {
         return None;
     }
-    put(line, b"'")?;
-    put(line, text)?;
-    put(line, b"'")
+    put(waiting, b"'")?;
+    put(waiting, text)?;
+    put(waiting, b"'")
 }
 
-/// Puts bytes behind the line. `None` where there is no room for them.
+/// Puts bytes behind what waits. `None` where there is no room for them.
 #[inline(always)]
-fn put(line: &mut ShortLine, bytes: &[u8]) -> Option<()>
-    ensures { OnSome result (line.new.items ≡ line.old.items ++ bytes.now) }
+fn put(waiting: &mut Waiting, bytes: &[u8]) -> Option<()>
+    ensures some { OnSome result (waiting.new.items ≡ waiting.old.items ++ bytes.now) }
+    ensures front { KeepsFront waiting.old.items waiting.new.items }
 {
-    line.try_extend_from_slice(bytes).ok()
+    waiting.try_extend_from_slice(bytes).ok()
 }

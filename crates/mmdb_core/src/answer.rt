@@ -13,9 +13,7 @@ ghost use Rattle.mm_query.specs.declared.reply.Reply.TheVariants.{Done, Refused,
 ghost use Rattle.mmdb_core.specs.steps.Respond.{RepliesToLine, IsStep, RepliesToReading};
 ghost use Rattle.mmdb_core.specs.Run.{is_error};
 
-use mm_lang::{
-    Command, Reply, parse, write_reply, write_row_count, write_row_line, write_tuple_line,
-};
+use mm_lang::{Command, Reply, RowLines, parse, write_reply};
 use mm_query::{Definition, Mutation, Query};
 use mm_relation::Relation;
 use mm_schema::{IndexKind, Name};
@@ -284,10 +282,11 @@ fn write_shown<W: Write>(rows: &ShownRows<'_>, writer: &mut Watched<W>) -> Resul
     requires { has_failed writer.old ≡ false }
     ensures { Writes W.contents writer.old writer.new result (rows_text rows.now) }
 {
+    let mut lines = RowLines::new();
     for i in 0..rows.len() {
-        write_tuple_line(rows.row(i), writer)?;
+        lines.add_tuple(rows.row(i), writer)?;
     }
-    write_row_count(rows.len(), writer)
+    lines.finish(rows.len(), writer)
 }
 
 /// Writes the lines of the rows that a walk meets, and how many they are.
@@ -301,12 +300,13 @@ fn write_walk<W: Write>(
     requires few { length walk ≤ 1048576 }
     ensures { Writes W.contents writer.old writer.new result (rows_text (map (row_at (slot_at relation.now.places)) walk.entry)) }
 {
+    let mut lines = RowLines::new();
     let mut count = 0usize;
     for at in walk {
-        write_row_line(relation.row(at), writer)?;
+        lines.add_row(relation.row(at), writer)?;
         count += 1;
     }
-    write_row_count(count, writer)
+    lines.finish(count, writer)
 }
 
 /// Flushes what was written.

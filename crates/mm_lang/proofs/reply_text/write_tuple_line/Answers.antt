@@ -1,9 +1,6 @@
-use Rattle.std.proofs.Common.{◌≡◌, [], ◌∷◌, ◌++◌, map, refl, ap, subst, ◌∙◌}
+use Rattle.std.proofs.Common.{[], ◌∷◌, refl}
 use Rattle.std.proofs.lemmas.Result.{err_from_is_err_and}
-use Rattle.mm_value.specs.Device.{Writes}
 use Rattle.mm_value.proofs.Writing.{Writes-then, Writes-stops}
-use Rattle.mm_lang.proofs.ReplyLemmas.{row_line}
-use Rattle.mm_lang.proofs.RowLines.{on_some_given}
 use Rattle.mm_lang.proofs.reply_text.write_tuple_line.Goals as goal
 
 pub returns-in_err-write_tuple : goal.returns-in_err-write_tuple
@@ -12,12 +9,4 @@ returns-in_err-write_tuple g c =
     Writes-stops (10 ∷ []) refl p.1 c.in_err-write_tuple.ensures
 
 pub returns : goal.returns
-returns g c = Writes-then refl c.in_ok-write_tuple.ensures c.put_all-2.ensures
-
--- the line that was put together
-pub returns-then-is_some : goal.returns-then-is_some
-returns-then-is_some g c =
-    let row = row_line (map (λ v. v.now) c.args.values.now) in
-    let whole : c.as_slice.result.now ≡ row =
-    c.as_slice.ensures.value ∙ on_some_given c.short_line.result c.if-is_some.ensures c.short_line.ensures ∙ ap (λ l. l ++ row) c.new-line.ensures in
-    subst (Writes g.W.Write.contents c.args.writer.now c.put_all.new.writer c.put_all.result) whole c.put_all.ensures
+returns g c = Writes-then refl c.in_ok-write_tuple.ensures c.put_all.ensures

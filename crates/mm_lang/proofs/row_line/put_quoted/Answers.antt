@@ -1,9 +1,14 @@
-use Rattle.mm_lang.proofs.RowLines.{on_some_weaker, doubled_where_none, quoted_behind}
+use Rattle.mm_lang.proofs.ShortLines.{on_some_weaker, doubled_where_none, keeps_trans, quoted_behind}
 use Rattle.mm_lang.proofs.row_line.put_quoted.Goals as goal
 
-pub returns : goal.returns
-returns c =
+pub returns-clause-some : goal.returns-clause-some
+returns-clause-some c =
     on_some_weaker c.put-3.result
-    (quoted_behind c.args.line.now.items c.put.new.line.items c.put-2.new.line.items c.put-3.new.line.items c.args.text.now
-    (doubled_where_none c.args.text.now c.find_byte.result c.if-is_some.ensures c.find_byte.ensures) c.in_ok-put.ensures c.in_ok-put-2.ensures)
-    c.put-3.ensures
+    (quoted_behind c.args.waiting.now.items c.put.new.waiting.items c.put-2.new.waiting.items c.put-3.new.waiting.items c.args.text.now
+    (doubled_where_none c.args.text.now c.find_byte.result c.if-is_some.ensures c.find_byte.ensures) c.in_ok-put.ensures.some c.in_ok-put-2.ensures.some)
+    c.put-3.ensures.some
+
+pub returns-clause-front : goal.returns-clause-front
+returns-clause-front c =
+    keeps_trans c.args.waiting.now.items c.put-2.new.waiting.items c.put-3.new.waiting.items
+    (keeps_trans c.args.waiting.now.items c.put.new.waiting.items c.put-2.new.waiting.items c.put.ensures.front c.put-2.ensures.front) c.put-3.ensures.front

@@ -1,23 +1,29 @@
-use Rattle.std.proofs.Common.{◌≡◌, Err, List, ◌+◌, ◌<◌, ◌≤◌, ◌++◌, get_or, map, take, refl, sym, ap, subst, ◌∙◌}
+use Rattle.std.proofs.Common.{◌≡◌, Err, List, [], ◌+◌, ◌<◌, ◌≤◌, ◌++◌, get_or, map, take, refl, sym, ap, subst, ◌∙◌}
 use Rattle.std.specs.List.{flat_map}
 use Rattle.std.proofs.lemmas.Option.{get_or_from_slice_get}
 use Rattle.std.proofs.lemmas.Result.{err_from_is_err_and}
+use Rattle.mm_lang.proofs.LateLines.{late_end, late_front, late_more}
 use Rattle.mm_lang.proofs.ReplyLemmas.{count_line, row_line, row_lines_more, rows_text_all, rows_text_at, text_behind}
-use Rattle.mm_value.proofs.Writing.{Writes-then, Writes-stops}
+use Rattle.mm_value.proofs.Writing.{Writes-nil, Writes-then, Writes-stops}
 use Rattle.mm_value.specs.declared.values.Value.{Value}
 use Rattle.mmdb_core.proofs.answer.write_shown.Goals as goal
 
-pub returns-in_err-write_tuple_line : goal.returns-in_err-write_tuple_line
-returns-in_err-write_tuple_line g c =
+pub loop-i-init : goal.loop-i-init
+loop-i-init g c = ([], Writes-nil tt c.requires, c.new-lines.ensures)
+
+pub returns-in_err-add_tuple : goal.returns-in_err-add_tuple
+returns-in_err-add_tuple g c =
     let p = err_from_is_err_and c.from_residual.result c.from_residual.ensures.1 in
     let rows = c.args.rows.now in
     let i = c.loop-i.i in
     let row : List Value = map (λ value. value.now) c.row.result.now in
     let within = subst (λ n. i < n) c.len-i-end.ensures c.loop-i-test.true in
     let at : row ≡ get_or rows i row = sym (get_or_from_slice_get rows i row row c.row.ensures) in
-    let e = rows_text_at rows (i + 1) ∙ ap (λ l. l ++ text_behind (i + 1) rows) (row_lines_more rows i row within at) in
-    Writes-stops (text_behind (i + 1) rows) e p.1
-    (Writes-then {result = Err c.in_err-write_tuple_line.field-0.0} refl c.loop-i.invariant c.in_err-write_tuple_line.ensures)
+    let was = c.loop-i.invariant in
+    let late = c.in_err-add_tuple.ensures in
+    let lines = row_lines_more rows i row within at ∙ sym (late_front was.0 c.loop-i.lines late.0 (row_line row) (flat_map row_line (take i rows)) was.2 late.2) in
+    Writes-stops (text_behind (i + 1) rows) (rows_text_at rows (i + 1) ∙ ap (λ l. l ++ text_behind (i + 1) rows) lines) p.1
+    (Writes-then {result = Err c.in_err-add_tuple.field-0.0} refl was.1 late.1)
 
 pub loop-i-preserved : goal.loop-i-preserved
 loop-i-preserved g c =
@@ -26,12 +32,20 @@ loop-i-preserved g c =
     let row : List Value = map (λ value. value.now) c.row.result.now in
     let within = subst (λ n. i < n) c.len-i-end.ensures c.loop-i-test.true in
     let at : row ≡ get_or rows i row = sym (get_or_from_slice_get rows i row row c.row.ensures) in
-    Writes-then (row_lines_more rows i row within at) c.loop-i.invariant c.in_ok-write_tuple_line.ensures
+    let was = c.loop-i.invariant in
+    let late = c.in_ok-add_tuple.ensures in (
+      was.0 ++ late.0,
+      Writes-then refl was.1 late.1,
+      late_more was.0 c.loop-i.lines late.0 c.add_tuple.new.self (row_line row) (flat_map row_line (take i rows)) was.2 late.2
+          ∙ sym (row_lines_more rows i row within at),
+    )
 
 pub returns : goal.returns
 returns g c =
     let rows = c.args.rows.now in
     let i = c.loop-i.i in
     let past = subst (λ n. n ≤ i) c.len-i-end.ensures c.loop-i-test.false in
-    Writes-then (rows_text_all rows i past ∙ ap (λ n. flat_map row_line (take i rows) ++ count_line n) (sym c.len.ensures)) c.loop-i.invariant
-    c.write_row_count.ensures
+    let was = c.loop-i.invariant in
+    Writes-then
+    (rows_text_all rows i past ∙ ap (λ n. flat_map row_line (take i rows) ++ count_line n) (sym c.len.ensures)
+    ∙ late_end was.0 c.loop-i.lines (count_line c.len.result) (flat_map row_line (take i rows)) was.2) was.1 c.finish.ensures

@@ -5,11 +5,13 @@ use Rattle.std.specs.Option.{OnSome, is_some}
 use Rattle.std.proofs.lemmas.List.{take_all, take_more}
 use Rattle.std.proofs.lemmas.List.Concat.{flat_map-append}
 use Rattle.bstr.specs.Find.{IsFirstByte, is_byte}
+use Rattle.std.proofs.Math.Seq.{take-append_seam}
 use Rattle.mm_value.specs.declared.values.Value.{Value}
 use Rattle.mm_value.specs.Literal.{doubled, quoted}
 use Rattle.mm_value.specs.Written.{value_text, values_text, row_text}
 use Rattle.mm_value.proofs.Quotes.{doubled_unfound}
 use Rattle.mm_value.proofs.RowTexts.{next_text, values_text-cons}
+use Rattle.mm_lang.specs.Late.{KeepsFront}
 
 pub on_some_weaker : {T P Q : Type 0} (r : Option T) → (P → Q) → OnSome r P → OnSome r Q
 on_some_weaker None f h = h
@@ -89,3 +91,18 @@ line_of_all value front opened begun line ended values first others i parts end 
 pub values_themselves : (values : List Value) → map (λ (v : Value). v) values ≡ values
 values_themselves [] = refl
 values_themselves (v ∷ vs) = ap (λ l. v ∷ l) (values_themselves vs)
+
+-- ---- bytes that begin with those before
+
+pub keeps_itself : (xs : List ℕ) → KeepsFront xs xs
+keeps_itself xs = ([], sym (append-nil xs))
+
+pub keeps_behind : (xs ys more : List ℕ) → ys ≡ xs ++ more → KeepsFront xs ys
+keeps_behind xs ys more e = (more, e)
+
+pub keeps_trans : (xs ys zs : List ℕ) → KeepsFront xs ys → KeepsFront ys zs → KeepsFront xs zs
+keeps_trans xs ys zs (more, e) (further, f) = (more ++ further, f ∙ ap (λ l. l ++ further) e ∙ append_assoc xs more further)
+
+-- what was put behind them is cut off again
+pub cut_front : (xs ys : List ℕ) (n : ℕ) → n ≡ length xs → KeepsFront xs ys → take n ys ≡ xs
+cut_front xs ys n is (more, e) = ap (λ k. take k ys) is ∙ ap (take (length xs)) e ∙ take-append_seam xs more

@@ -1,8 +1,0 @@
-use Rattle.std.proofs.Common.{◌≡◌, ◌++◌, take}
-use Rattle.std.specs.List.{flat_map}
-use Rattle.mm_lang.proofs.RowLines.{next_text_of}
-use Rattle.mm_lang.proofs.row_line.short_line.Given as goal
-
--- the values so far stand behind the first one
-abbrev pub invariant-loop-value : goal.invariant-loop-value
-invariant-loop-value g l = l.line.items ≡ l.initial.line.items ++ flat_map (next_text_of g.V.AsValue.value) (take l.value-index l.others)
