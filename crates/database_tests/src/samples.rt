@@ -6,7 +6,7 @@ ghost use Rattle.std.specs.Prelude.{◌≡◌, false, IfOk, pos};
 ghost use Rattle.mm_schema.specs.Standing.{lacks_some_table};
 ghost use Rattle.mm_value.specs.declared.values.Value.TheVariants.{Int};
 
-use mm_lang::{Reply, parse, write_reply, write_row_count, write_rows, write_tuple_line};
+use mm_lang::{Reply, RowLines, parse, write_reply};
 use mm_query::{
     BoundChange, BoundQuery, Command, Definition, Mutation, Query, RowList, bind_query,
 };
@@ -146,10 +146,19 @@ pub fn sizes_of_bound(bound: &BoundChange) -> [usize; 3] {
 /// The lines of rows, and how many they are. `Memory` is the only refusal.
 pub fn text_of_rows(alloc: Global, rows: &[Row]) -> Result<Vec<u8>, Refusal> {
     let mut text = Vec::new(alloc);
-    match write_rows(rows, &mut Watched::new(&mut text)) {
+    match write_rows(rows, &mut text) {
         Ok(()) => Ok(text),
         Err(WriteFault) => Err(Refusal::Memory),
     }
+}
+
+/// Writes the lines of rows, and how many they are.
+fn write_rows(rows: &[Row], told: &mut Vec<u8>) -> Result<(), WriteFault> {
+    let mut lines = RowLines::new();
+    for row in rows {
+        lines.add_row(row, &mut Watched::new(&mut *told))?;
+    }
+    lines.finish(rows.len(), &mut Watched::new(told))
 }
 
 /// The database to which these lines were given.
@@ -289,10 +298,11 @@ fn write(answer: &Answer<'_>, told: &mut Vec<u8>) -> Result<(), Refusal> {
 
 /// Writes the rows of a query, and how many they are.
 fn write_shown(rows: &ShownRows<'_>, told: &mut Vec<u8>) -> Result<(), WriteFault> {
+    let mut lines = RowLines::new();
     for i in 0..rows.len() {
-        write_tuple_line(rows.row(i), &mut Watched::new(&mut *told))?;
+        lines.add_tuple(rows.row(i), &mut Watched::new(&mut *told))?;
     }
-    write_row_count(rows.len(), &mut Watched::new(told))
+    lines.finish(rows.len(), &mut Watched::new(told))
 }
 
 /// How many items the lists of a command have, from left to right.

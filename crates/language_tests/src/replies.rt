@@ -1,6 +1,6 @@
 //! Replies as they are written.
 use crate::assertions::{assert_same, assert_that};
-use mm_lang::{write_reply, write_rows};
+use mm_lang::write_reply;
 use mm_query::{Reply, RowList};
 use mm_value::{Refusal, Row, Value, Watched};
 use std::alloc::{AllocError, Global};
@@ -44,17 +44,16 @@ fn writes_each_reply(rt: HostRuntime) -> Result<(), Fail> {
 }
 
 /// Tests that rows are written up to the end of a device of four bytes.
-fn expect_stop(rt: &impl Abort, rows: &[Row]) {
+fn expect_stop(rt: &impl Abort, rows: RowList) {
     let mut room = [0; 4];
     let mut writer = Watched::new(&mut room[..]);
-    assert_that(rt, write_rows(rows, &mut writer).is_err());
+    assert_that(rt, write_reply(&Reply::Rows(rows), &mut writer).is_err());
     assert_that(rt, writer.failed());
     assert_same(rt, room.as_slice(), b"(1, ".as_slice());
 }
 
 #[test]
 fn stops_at_a_full_device(rt: HostRuntime) -> Result<(), Fail> {
-    let rows = two_rows(rt.alloc())?;
-    expect_stop(&rt, rows.as_slice());
+    expect_stop(&rt, two_rows(rt.alloc())?);
     Ok(())
 }

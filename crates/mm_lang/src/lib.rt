@@ -19,9 +19,6 @@ pub use grammar::{grammar_is_exact, literals_are_in_written_order};
 pub use keyword::Keyword;
 pub use mm_query::{Command, Reply};
 pub use reading::{MAX_LINE_BYTES, parse};
-pub use reply_text::{
-    definitions_are_told_as_written, replies_are_told_apart, write_reply, write_row_count,
-    write_row_line, write_rows, write_tuple_line,
-};
+pub use reply_text::{definitions_are_told_as_written, replies_are_told_apart, write_reply};
 pub use row_line::RowLines;
 pub use token::Symbol;

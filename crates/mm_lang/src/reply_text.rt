@@ -43,9 +43,8 @@ pub fn write_reply<W: Write>(reply: &Reply, writer: &mut Watched<W>) -> Result<(
     }
 }
 
-/// Writes the reply of these rows, as `write_reply` does, without a copy of one: a line for each row, and then their
-/// number. Takes no memory. After `WriteFault` the writer has failed, and a front of the reply's text was written.
-pub fn write_rows<W: Write>(rows: &[Row], writer: &mut Watched<W>) -> Result<(), WriteFault>
+/// Writes the reply of rows: a line for each, and then their number. Takes no memory. After `WriteFault` the writer has failed, and a front of the reply's text was written.
+fn write_rows<W: Write>(rows: &[Row], writer: &mut Watched<W>) -> Result<(), WriteFault>
     requires { has_failed writer.old ≡ false }
     ensures { Writes W.contents writer.old writer.new result (rows_text rows.now) }
 {
@@ -79,7 +78,7 @@ pub fn definitions_are_told_as_written()
 
 /// Writes the line of a row in a reply of rows. Takes no memory. After `WriteFault` the writer has failed, and a front of
 /// the line was written.
-pub fn write_row_line<W: Write>(row: &Row, writer: &mut Watched<W>) -> Result<(), WriteFault>
+pub(crate) fn write_row_line<W: Write>(row: &Row, writer: &mut Watched<W>) -> Result<(), WriteFault>
     requires { has_failed writer.old ≡ false }
     ensures { Writes W.contents writer.old writer.new result (row_text row.now ++ 10 ∷ []) }
 {
@@ -89,7 +88,7 @@ pub fn write_row_line<W: Write>(row: &Row, writer: &mut Watched<W>) -> Result<()
 
 /// Writes the line of a row in a reply of rows, as [`write_row_line`] does, from references to its values. Takes no memory.
 /// After `WriteFault` the writer has failed, and a front of the line was written.
-pub fn write_tuple_line<W: Write>(
+pub(crate) fn write_tuple_line<W: Write>(
     values: &[&Value],
     writer: &mut Watched<W>,
 ) -> Result<(), WriteFault>
@@ -102,7 +101,7 @@ pub fn write_tuple_line<W: Write>(
 
 /// Writes the line that stands behind the rows of a reply: how many there are. Takes no memory. After `WriteFault` the
 /// writer has failed, and a front of the line was written.
-pub fn write_row_count<W: Write>(count: usize, writer: &mut Watched<W>) -> Result<(), WriteFault>
+pub(crate) fn write_row_count<W: Write>(count: usize, writer: &mut Watched<W>) -> Result<(), WriteFault>
     requires { has_failed writer.old ≡ false }
     ensures { Writes W.contents writer.old writer.new result (codes "rows " ++ decimal count ++ 10 ∷ []) }
 {

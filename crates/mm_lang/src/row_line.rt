@@ -113,12 +113,12 @@ impl RowLines {
     /// Writes the lines that wait, and behind them the line that tells how many rows there are. Takes no memory. After `WriteFault` the
     /// writer has failed, and a front of these lines was written.
     pub fn finish<W: Write>(
-        &mut self,
+        mut self,
         count: usize,
         writer: &mut Watched<W>,
     ) -> Result<(), WriteFault>
         requires { has_failed writer.old ≡ false }
-        ensures { Writes W.contents writer.old writer.new result (self.old ++ (codes "rows " ++ decimal count ++ 10 ∷ [])) }
+        ensures { Writes W.contents writer.old writer.new result (self ++ (codes "rows " ++ decimal count ++ 10 ∷ [])) }
     {
         self.write_out(writer)?;
         write_row_count(count, writer)
