@@ -101,7 +101,10 @@ pub(crate) fn write_tuple_line<W: Write>(
 
 /// Writes the line that stands behind the rows of a reply: how many there are. Takes no memory. After `WriteFault` the
 /// writer has failed, and a front of the line was written.
-pub(crate) fn write_row_count<W: Write>(count: usize, writer: &mut Watched<W>) -> Result<(), WriteFault>
+pub(crate) fn write_row_count<W: Write>(
+    count: usize,
+    writer: &mut Watched<W>,
+) -> Result<(), WriteFault>
     requires { has_failed writer.old ≡ false }
     ensures { Writes W.contents writer.old writer.new result (codes "rows " ++ decimal count ++ 10 ∷ []) }
 {
