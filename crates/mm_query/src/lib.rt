@@ -24,7 +24,7 @@ pub use combination::{none_fails, values_of};
 pub use command::{Command, Definition, Mutation, NamedQuery};
 pub use item_list::ItemList;
 pub use listing::{ListedQuery, ListedTable, Listing};
-pub use place::{MAX_TESTS, column_named, column_refusal, place_assignments, place_tests};
+pub use place::{MAX_TESTS, column_named};
 pub use plain::{MAX_COMBINATIONS, PlainRows, plain_eval};
 pub use plan_line::{JoinEquality, PlanLine};
 pub use query::{FieldName, FromItem, Query};

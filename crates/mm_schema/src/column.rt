@@ -48,7 +48,7 @@ pub struct Column {
 
 impl OnDelete {
     /// Whether the rows that refer to a row are deleted with it.
-    pub fn is_cascade(self) -> bool
+    pub(crate) fn is_cascade(self) -> bool
         ensures { result ≡ is_cascade self }
     {
         match self {
@@ -180,7 +180,7 @@ impl Columns {
     }
 
     /// Whether some name stands twice among them.
-    pub fn has_twin_names(&self) -> bool
+    pub(crate) fn has_twin_names(&self) -> bool
         ensures { result ≡ has_twin_names self.now }
     {
         let columns = self.items.as_slice();
