@@ -35,10 +35,10 @@ pub IsHidden-refers : (places : Places) (slots : List Slot) (at : RowRef) (i : �
 IsHidden-refers places slots at i view place (row, is) = refers places slots at i view place (λ free. let both : Hidden row ≡ Free = sym is ∙ free in cc)
 
 -- where the slot number of a reference is one, its index among the slots is read
-at_small : (places : Places) (at : RowRef) → at.slot < 64 → slot_at places at ≡ get_or places.slots (64 * at.part + at.slot) Free
+pub at_small : (places : Places) (at : RowRef) → at.slot < 64 → slot_at places at ≡ get_or places.slots (64 * at.part + at.slot) Free
 at_small places at small = cond-true _ _ _ (lt-ltb at.slot 64 small)
 
-at_large : (places : Places) (at : RowRef) → 64 ≤ at.slot → slot_at places at ≡ Free
+pub at_large : (places : Places) (at : RowRef) → 64 ≤ at.slot → slot_at places at ≡ Free
 at_large places at large = cond-false _ _ _ (le-ltb at.slot 64 large)
 
 -- what stands at a reference is what its slot holds

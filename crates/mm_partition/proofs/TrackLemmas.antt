@@ -1,5 +1,5 @@
 -- Tracked columns, after a slot is appended or written.
-use Rattle.std.proofs.Common.{◌≡◌, ◌≢◌, ℕ, ◌+◌, ◌<◌, ◌≤◌, List, [], ◌∷◌, ◌++◌, length, map, get_or, set, take, Vec, Global, refl, sym, ap, ◌∙◌, subst, ⊎_elim, arith, length-append, length-set}
+use Rattle.std.proofs.Common.{◌≡◌, ◌≢◌, ℕ, ◌+◌, ◌<◌, ◌≤◌, List, [], ◌∷◌, ◌++◌, length, get_or, set, take, Vec, Global, refl, sym, ap, ◌∙◌, subst, ⊎_elim, arith, length-append, length-set}
 use Rattle.std.specs.Prelude.{All}
 use Rattle.std.specs.Vec.{vec_capacity, with_item}
 use Rattle.std.proofs.Math.Seq.{take-append_seam}

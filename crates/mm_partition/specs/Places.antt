@@ -1,5 +1,6 @@
 -- What the slots of the partitions hold, reference by reference.
 use Rattle.std.specs.Prelude.{◌≡◌, ◌≢◌, ℕ, ◌+◌, ◌*◌, List, length, slice_index_or, nat_lt, if◌then◌else◌}
+use Rattle.mm_value.specs.Storable.{AreStorable}
 use Rattle.mm_value.specs.declared.row_ref.RowRef.{RowRef}
 use Rattle.mm_value.specs.declared.values.Value.{Value}
 
@@ -42,3 +43,13 @@ IsUnchanged old new = (at : RowRef) → slot_at new at ≡ slot_at old at
 pub record ChangesOnly (old new : Places) (at : RowRef) (slot : Content) : Type 0 where
   pub changed : slot_at new at ≡ slot
   pub others : (other : RowRef) → other ≢ at → slot_at new other ≡ slot_at old other
+
+-- the row in a slot, if there is one, has values that a program can have: whole numbers of 64 bits, and texts of at most 64 bytes
+abbrev pub IsStorableIn : Content → Type 0
+IsStorableIn Free = Unit {0}
+IsStorableIn (Live row) = AreStorable row
+IsStorableIn (Hidden row) = AreStorable row
+
+-- so has each row, in use or hidden
+abbrev pub AreRowsStorable : Places → Type 0
+AreRowsStorable places = (at : RowRef) → IsStorableIn (slot_at places at)

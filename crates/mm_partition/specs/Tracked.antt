@@ -2,7 +2,7 @@
 use Rattle.std.specs.Prelude.{◌≡◌, ℕ, ◌+◌, ◌≤◌, List, length, map, slice_index, slice_index_or, All, Option}
 use Rattle.std.specs.Vec.{vec_capacity}
 use Rattle.mm_partition.specs.Links.{content_of, LinksFree}
-use Rattle.mm_partition.specs.Places.{Content, Free, Live, Hidden}
+use Rattle.mm_partition.specs.Places.{Content, Free, Live, Hidden, IsStorableIn}
 use Rattle.mm_partition.specs.Prefixes.{row_prefix}
 use Rattle.mm_partition.specs.declared.slots.Slot.{Slot}
 use Rattle.mm_partition.specs.declared.tracked.Tracked.{Tracked}
@@ -19,8 +19,9 @@ pub record Tracks (contents : List Content) (spare : ℕ) (tracked : Tracked) : 
   pub room : length contents + spare ≤ vec_capacity tracked.prefixes
   pub each : (i : ℕ) → IsPrefixIn tracked.column (slice_index_or contents i Free) (slice_index tracked.prefixes.items i)
 
--- The free slots are linked, and the slots and each column have room for so many more.
+-- The free slots are linked, the slots and each column have room for so many more, and each row has values that a program can have.
 pub record IsStored (slots : List Slot) (first_free : Option ℕ) (free_count capacity spare : ℕ) (columns : List Tracked) : Type 0 where
   pub free : LinksFree slots first_free free_count
   pub room : length slots + spare ≤ capacity
   pub tracked : All (Tracks (map content_of slots) spare) columns
+  pub storable : All (λ slot. IsStorableIn (content_of slot)) slots

@@ -3,7 +3,7 @@ ghost use Rattle.std.specs.Prelude.{◌≡◌, ◌+◌, ◌<◌, ◌≤◌, max,
 ghost use Rattle.std.specs.Option.{ForSome};
 ghost use Rattle.mm_value.specs.declared.values.Value.{Value};
 ghost use Rattle.mm_partition.specs.Prefixes.{ArePrefixes};
-ghost use Rattle.mm_partition.specs.Places.{Free, Live, Hidden, slot_index_of, extent_of, slot_at, IsLive, IsHidden, IsUnchanged, ChangesOnly};
+ghost use Rattle.mm_partition.specs.Places.{Free, Live, Hidden, slot_index_of, extent_of, slot_at, AreRowsStorable, IsLive, IsHidden, IsUnchanged, ChangesOnly};
 
 use crate::slots::{SLOTS, Slot, index_of, reference_to};
 use crate::tracked::{
@@ -83,6 +83,14 @@ impl Partitions {
         self.slots.as_slice().len()
     }
 
+    /// A law of the rows that are kept: their whole numbers have 64 bits, and their texts at most 64 bytes without a line feed.
+    /// It does nothing.
+    pub fn are_storable(&self)
+        ensures { AreRowsStorable self.now }
+    {
+        let _slots = &self.slots;
+    }
+
     /// The row of a reference.
     pub fn get(&self, at: RowRef) -> &Row
         requires { IsLive self.now at }
@@ -155,6 +163,7 @@ impl Partitions {
         ensures within { slot_index_of result ≤ extent_of self.old }
         ensures extent { extent_of self.new ≡ max (extent_of self.old) (slot_index_of result + 1) }
     {
+        row.is_storable();
         let Some(index) = self.first_free else {
             let index = self.slots.len();
             push_each(&mut self.tracked, &row);
@@ -179,6 +188,7 @@ impl Partitions {
         ensures room { self.new.room ≡ self.old.room }
         ensures extent { extent_of self.new ≡ extent_of self.old }
     {
+        row.is_storable();
         set_each(&mut self.tracked, index_of(at), &row);
         match mem::replace(&mut self.slots[index_of(at)], Slot::Live(row)) {
             Slot::Live(old) => old,

@@ -23,6 +23,7 @@ mod Served
 pub mod SortedRows
 pub mod Staying
 pub mod Steps
+pub mod Storables
 pub mod TakenBack
 pub mod Turning
 pub mod Twins

@@ -1,7 +1,7 @@
 //! Rows by their references, in the order of their keys and along indexes.
 ghost use Rattle.std.specs.Prelude.{◌≡◌, ℕ, ◌+◌, ◌<◌, ◌≤◌, length, map, min, All, IfOk, IfSome, OnOk, OnErr, Some, slice_get};
 ghost use Rattle.std.specs.Option.{option_copied, option_map};
-ghost use Rattle.mm_partition.specs.Places.{IsLive, Live, slot_at};
+ghost use Rattle.mm_partition.specs.Places.{AreRowsStorable, IsLive, Live, slot_at};
 ghost use Rattle.mm_relation.specs.Kept.{IsKept, StoredRows};
 ghost use Rattle.mm_relation.specs.Reads.{Appends, AreMatches, HasIndex, IsRange};
 ghost use Rattle.mm_relation.specs.Refs.{row_at};
@@ -31,14 +31,18 @@ impl Store {
     }
 
     /// The references of a table's relation are those of its live rows, in key order and no two of one key; there are at most
-    /// 1,048,576, each live row has the relation's width, and each index keeps the references. The call does nothing.
+    /// 1,048,576, each live row has the relation's width, and each index keeps the references. The whole numbers in its rows have
+    /// 64 bits, and the texts at most 64 bytes without a line feed. The call does nothing.
     pub fn is_kept(&self, table: usize)
         requires { table < length self.now.tables }
         ensures kept { (stored : StoredRows) → IsAt self.now table stored
             → IsKept stored.width stored.key (slot_at stored.places) stored.refs stored.indexes }
         ensures few { (stored : StoredRows) → IsAt self.now table stored → length stored.refs ≤ 1048576 }
+        ensures storable { (stored : StoredRows) → IsAt self.now table stored → AreRowsStorable stored.places }
     {
-        self.table(table).is_kept();
+        let relation = self.table(table);
+        relation.is_kept();
+        relation.are_storable();
     }
 
     /// The row of a live reference of a table. The meter counts it.

@@ -1,7 +1,7 @@
 //! What a query sees of a store.
 ghost use Rattle.std.specs.Prelude.{◌≡◌, ℕ, ◌+◌, ◌<◌, ◌≤◌, length, map, min, All, OnOk, OnErr, Contains};
 ghost use Rattle.std.specs.Option.{option_copied};
-ghost use Rattle.mm_partition.specs.Places.{IsLive, Live, slot_at};
+ghost use Rattle.mm_partition.specs.Places.{AreRowsStorable, IsLive, Live, slot_at};
 ghost use Rattle.mm_relation.specs.Kept.{IsKept, StoredRows};
 ghost use Rattle.mm_relation.specs.Reads.{Appends, AreMatches, HasIndex, IsRange};
 ghost use Rattle.mm_relation.specs.Refs.{row_at};
@@ -74,12 +74,14 @@ impl<'a> View<'a> {
     }
 
     /// The references of a table's relation are those of its live rows, in key order and no two of one key; there are at most
-    /// 1,048,576, each live row has the relation's width, and each index keeps the references. The call does nothing.
+    /// 1,048,576, each live row has the relation's width, and each index keeps the references. The whole numbers in its rows have
+    /// 64 bits, and the texts at most 64 bytes without a line feed. The call does nothing.
     pub fn is_kept(&self, table: usize)
         requires { table < length self.now.store.tables }
         ensures kept { (stored : StoredRows) → IsAt self.now.store table stored
             → IsKept stored.width stored.key (slot_at stored.places) stored.refs stored.indexes }
         ensures few { (stored : StoredRows) → IsAt self.now.store table stored → length stored.refs ≤ 1048576 }
+        ensures storable { (stored : StoredRows) → IsAt self.now.store table stored → AreRowsStorable stored.places }
     {
         self.store.is_kept(table);
     }

@@ -1,5 +1,5 @@
 -- What every value of the program meets.
-use Rattle.std.specs.Prelude.{◌≤◌, FitsSigned, length}
+use Rattle.std.specs.Prelude.{◌≤◌, All, FitsSigned, List, length}
 use Rattle.std.specs.Int.{w64}
 use Rattle.mm_value.specs.declared.values.Value.{Value}
 use Rattle.mm_value.specs.declared.values.Value.TheVariants.{Int, Text}
@@ -9,6 +9,10 @@ use Rattle.mm_value.specs.Text.{IsText}
 abbrev pub IsStorable : Value → Type 0
 IsStorable (Int z) = FitsSigned w64 z
 IsStorable (Text text) = IsText text
+
+-- So is each of the values.
+abbrev pub AreStorable : List Value → Type 0
+AreStorable values = All IsStorable values
 
 -- The value needs no memory of its own: a whole number, or a text of at most 16 bytes.
 abbrev pub LiesInline : Value → Type 0

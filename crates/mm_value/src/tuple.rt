@@ -1,5 +1,6 @@
 //! Rows.
 ghost use Rattle.std.specs.Prelude.{◌≡◌, ◌<◌, length, slice_get, Some, IfOk, IfErr};
+ghost use Rattle.mm_value.specs.Storable.{AreStorable};
 ghost use Rattle.mm_value.specs.declared.refusal.Refusal.TheVariants.{Memory};
 
 use crate::refusal::Refusal;
@@ -15,11 +16,14 @@ pub struct Row {
 
 impl Model for Row {
     ghost use Rattle.std.specs.Prelude.{List};
+    ghost use Rattle.mm_value.specs.Storable.{AreStorable};
     ghost use Rattle.mm_value.specs.declared.values.Value.{Value as Val};
 
     ghost Value = { List Val };
 
     ghost view = { λ r. r.values.items };
+
+    ghost invariant = { λ r. AreStorable r.values.items };
 }
 
 impl Row {
@@ -27,7 +31,17 @@ impl Row {
     pub fn new(values: Vec<Value>) -> Row
         ensures { result ≡ values.items }
     {
+        for value in &values {
+            value.is_storable();
+        }
         Self { values }
+    }
+
+    /// A law of each row: its whole numbers have 64 bits, and its texts at most 64 bytes without a line feed. It does nothing.
+    pub fn is_storable(&self)
+        ensures { AreStorable self.now }
+    {
+        let _values = &self.values;
     }
 
     /// How many values it has.

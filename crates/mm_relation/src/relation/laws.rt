@@ -1,5 +1,5 @@
 //! What always holds of a relation.
-ghost use Rattle.mm_partition.specs.Places.{slot_at};
+ghost use Rattle.mm_partition.specs.Places.{AreRowsStorable, slot_at};
 ghost use Rattle.mm_relation.specs.Kept.{IsKept};
 
 use super::Relation;
@@ -11,5 +11,13 @@ impl Relation {
         ensures { IsKept self.now.width self.now.key (slot_at self.now.places) self.now.refs self.now.indexes }
     {
         let _rows = &self.rows;
+    }
+
+    /// The whole numbers in the rows of a relation have 64 bits, and the texts at most 64 bytes without a line feed. The call does
+    /// nothing.
+    pub fn are_storable(&self)
+        ensures { AreRowsStorable self.now.places }
+    {
+        self.rows.are_storable();
     }
 }

@@ -1,11 +1,9 @@
-use Rattle.std.proofs.Common.{◌≡◌, ◌+◌, ◌-◌, ◌≤◌, ◌∙◌, List, ℕ, [], ◌∷◌, ◌++◌, set, length, Some, None, sym, ap, subst, arith, length-set}
+use Rattle.std.proofs.Common.{◌≡◌, ◌+◌, ◌-◌, ◌∙◌, List, ℕ, set, length, Some, None, sym, ap, subst, arith, length-set}
 use Rattle.std.specs.Prelude.{All, map}
 use Rattle.std.proofs.lemmas.List.{length-map}
 use Rattle.mm_partition.specs.declared.slots.Slot.{Slot}
-use Rattle.mm_partition.specs.declared.slots.Slot.TheVariants.{Live}
 use Rattle.mm_partition.specs.Links.{content_of, LinksFree}
 use Rattle.mm_partition.specs.Places.{Places}
-use Rattle.mm_partition.specs.Places.{Live as Alive}
 use Rattle.mm_partition.specs.Tracked.{Tracks, IsStored}
 use Rattle.mm_partition.proofs.LinkLemmas.{first_within, LinksFree-given}
 use Rattle.mm_partition.proofs.PlaceLemmas.{ChangesOnly-set}
@@ -30,7 +28,7 @@ invariant_of-self c =
     let some : c.self.inside.spare ≡ (c.self.inside.spare - 1) + 1 = omega (arith, none, room, c.requires) in
     let tracked = subst (λ n. All (Tracks (map content_of slots) n) c.self.inside.tracked.items) some c.self.invariant.tracked in
     let pushed = IsStored-pushed slots c.self.inside.free_count c.self.inside.slots.cap c.self.inside.spare c.args.row c.self.inside.tracked.items
-    c.push_each.new.columns.items (c.push_each.ensures (map content_of slots) (c.self.inside.spare - 1) tracked) (omega (arith, some)) old in
+    c.push_each.new.columns.items c.is_storable.ensures (c.push_each.ensures (map content_of slots) (c.self.inside.spare - 1) tracked) (omega (arith, some)) old in
     subst (λ h. IsStored c.push_reserved.new.self.items h c.self.inside.free_count c.push_reserved.new.self.cap (c.self.inside.spare - 1) c.push_each.new.columns.items)
     (sym c.in_default.is)
     (subst (λ n. IsStored c.push_reserved.new.self.items None c.self.inside.free_count n (c.self.inside.spare - 1) c.push_each.new.columns.items)
@@ -70,7 +68,7 @@ invariant_of-self-2 c =
     c.self.invariant.tracked in
     subst (λ x. IsStored (set slots i x) c.in-Free.next (c.self.inside.free_count - 1) c.self.inside.slots.cap c.self.inside.spare c.set_each.new.columns.items)
     (sym c.replace.ensures.after)
-    (IsStored-set slots _ _ _ _ _ _ i c.args.row _ _
+    (IsStored-set slots _ _ _ _ _ _ i c.args.row _ _ c.is_storable.ensures
     (LinksFree-given slots _ i _ _ c.args.row c.index_mut.ensures.value c.in-Free.ensures.value free) set_row c.self.invariant)
 
 pub returns-clause-placed : goal.returns-clause-placed

@@ -16,7 +16,7 @@ invariant_of-self c =
     let free = LinksFree-freed slots _ _ _ _ here.within c.index_mut.ensures.value (ap is_taken (sym c.in-Hidden.ensures.value)) c.self.invariant.free in
     subst (λ x. IsStored (set slots c.index_of-index.result x) (Some c.index_of-index.result) (c.self.inside.free_count + 1) c.self.inside.slots.cap
     c.self.inside.spare c.self.inside.tracked.items) (sym c.replace.ensures.after)
-    (IsStored-kept slots _ _ _ _ _ _ _ _ _ _ here.within c.index_mut.ensures.value (λ column n any. tt) free c.self.invariant)
+    (IsStored-kept slots _ _ _ _ _ _ _ _ _ _ here.within c.index_mut.ensures.value (λ column n any. tt) (λ stored. tt) free c.self.invariant)
 
 pub returns-clause-freed : goal.returns-clause-freed
 returns-clause-freed c =

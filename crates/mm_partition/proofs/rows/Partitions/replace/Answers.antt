@@ -33,7 +33,7 @@ invariant_of-self c =
     let same : c.index_of.result ≡ c.index_of-2.result = c.index_of.ensures ∙ sym c.index_of-2.ensures in
     subst (λ x. IsStored (set slots c.index_of-2.result x) c.self.inside.first_free c.self.inside.free_count c.self.inside.slots.cap
     c.self.inside.spare c.set_each.new.columns.items) (sym c.replace.ensures.after)
-    (IsStored-set slots _ _ _ _ _ _ c.index_of-2.result c.args.row _ _ free
+    (IsStored-set slots _ _ _ _ _ _ c.index_of-2.result c.args.row _ _ c.is_storable.ensures free
     (subst (λ i. All (Tracks (set (map content_of slots) i (Alive c.args.row)) c.self.inside.spare) c.set_each.new.columns.items) same tracked) c.self.invariant)
 
 pub returns-clause-replaced : goal.returns-clause-replaced

@@ -2,6 +2,7 @@ use Rattle.std.proofs.Common.{List, length, sym, ap, subst, arith}
 use Rattle.std.specs.Prelude.{All, map}
 use Rattle.mm_partition.specs.declared.slots.Slot.{Slot}
 use Rattle.mm_partition.specs.Links.{content_of, LinksFree}
+use Rattle.mm_partition.specs.Places.{IsStorableIn}
 use Rattle.mm_partition.specs.Tracked.{Tracks}
 use Rattle.mm_partition.proofs.rows.Partitions.reserve.Goals as goal
 
@@ -12,6 +13,7 @@ invariant_of-self-in_err-reserve_each c =
       room = omega (arith, c.self.invariant.room, c.reserve.ensures.capacity, ap {A = List Slot} length c.reserve.ensures.items);
       tracked = subst (λ (xs : List Slot). All (Tracks (map content_of xs) c.self.inside.spare) c.reserve_each.new.columns.items) (sym c.reserve.ensures.items)
           (c.reserve_each.ensures.stays (map content_of slots) c.self.inside.spare c.self.invariant.tracked);
+      storable = subst (λ (xs : List Slot). All (λ slot. IsStorableIn (content_of slot)) xs) (sym c.reserve.ensures.items) c.self.invariant.storable;
     }
 
 pub invariant_of-self-2 : goal.invariant_of-self-2
@@ -21,4 +23,5 @@ invariant_of-self-2 c =
       room = omega (arith, c.in_ok-reserve.ensures.ok, c.reserve.new.self.ok.0);
       tracked = subst (λ (xs : List Slot). All (Tracks (map content_of xs) c.in_ok-spare.spare) c.reserve_each.new.columns.items) (sym c.reserve.ensures.items)
           (c.in_ok-reserve_each.ensures.room (map content_of slots) c.self.inside.spare c.self.invariant.tracked);
+      storable = subst (λ (xs : List Slot). All (λ slot. IsStorableIn (content_of slot)) xs) (sym c.reserve.ensures.items) c.self.invariant.storable;
     }

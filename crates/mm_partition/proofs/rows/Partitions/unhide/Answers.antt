@@ -2,7 +2,7 @@ use Rattle.std.proofs.Common.{◌≡◌, List, refl, sym, ap, ◌∙◌, subst}
 use Rattle.std.specs.Prelude.{map}
 use Rattle.mm_partition.specs.declared.slots.Slot.{Slot}
 use Rattle.mm_partition.specs.Links.{content_of, is_taken}
-use Rattle.mm_partition.specs.Places.{Live, Hidden}
+use Rattle.mm_partition.specs.Places.{Live, Hidden, IsStorableIn}
 use Rattle.mm_partition.specs.Tracked.{IsPrefixIn}
 use Rattle.mm_partition.proofs.LinkLemmas.{LinksFree-kept}
 use Rattle.mm_partition.proofs.PlaceLemmas.{Refers, IsHidden-refers, slot_at-is, ChangesOnly-set}
@@ -15,7 +15,8 @@ invariant_of-self c =
     (ap (λ p. p.slots) c.self.view_is) c.index_of.ensures c.requires in
     let free = LinksFree-kept _ _ _ _ _ _ here.within c.index_mut-slot.ensures.value (ap is_taken (sym c.in-Hidden.ensures.value)) refl c.self.invariant.free in
     IsStored-kept _ _ _ _ _ _ _ _ _ _ _ here.within c.index_mut-slot.ensures.value
-    (λ column n same. subst (λ x. IsPrefixIn column (content_of x) n) (sym c.in-Hidden.ensures.value) same) free c.self.invariant
+    (λ column n same. subst (λ x. IsPrefixIn column (content_of x) n) (sym c.in-Hidden.ensures.value) same)
+    (λ stored. subst (λ x. IsStorableIn (content_of x)) (sym c.in-Hidden.ensures.value) stored) free c.self.invariant
 
 pub returns-clause-back : goal.returns-clause-back
 returns-clause-back c row is =

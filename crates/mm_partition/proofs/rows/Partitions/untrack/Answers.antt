@@ -7,4 +7,5 @@ invariant_of-self c = record {
   free = c.self.invariant.free;
   room = c.self.invariant.room;
   tracked = c.untrack_column.ensures (map content_of c.self.inside.slots.items) c.self.inside.spare c.self.invariant.tracked;
+  storable = c.self.invariant.storable;
 }
