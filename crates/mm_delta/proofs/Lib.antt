@@ -15,5 +15,6 @@ pub mod EditedRows
 pub mod Placed
 pub mod Extending
 pub mod Reordering
+pub mod PastRange
 pub mod Under
 pub mod UnseenEdits

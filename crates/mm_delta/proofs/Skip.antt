@@ -14,7 +14,7 @@ use Rattle.mm_value.specs.declared.values.Value.{Value}
 use Rattle.mm_value.specs.declared.values.Value.TheVariants.{Int, Text}
 use Rattle.mm_value.proofs.Orders.{value_cmp_total}
 use Rattle.mm_schema.proofs.Orderings.{is_eq_reversed}
-use Rattle.mm_query.specs.Atoms.{holds, holds_of, is_past_range, operand_of, shifted, value_in}
+use Rattle.mm_query.specs.Atoms.{holds, holds_of, operand_of, shifted, value_in}
 use Rattle.mm_query.specs.Choosing.{first_there}
 use Rattle.mm_query.specs.Queries.{Partial, none_fails, value_at, values_of}
 use Rattle.mm_query.specs.declared.atom.Atom.{Atom}
@@ -24,7 +24,7 @@ use Rattle.mm_query.specs.declared.atom.Operand.{Operand}
 use Rattle.mm_query.specs.declared.atom.Operand.TheVariants.{Literal, Column, Shifted}
 use Rattle.mm_query.specs.declared.bound_query.BoundQuery.{BoundQuery}
 use Rattle.mm_query.specs.declared.bound_query.FieldPlace.{FieldPlace}
-use Rattle.mm_delta.specs.Candidates.{Required, asked_by, asked_of, asked_of_right, has_required, having, kept_within, known_operand, passes, required}
+use Rattle.mm_delta.specs.Candidates.{Required, asked_by, asked_of, asked_of_right, has_required, having, passes, required}
 use Rattle.mm_delta.specs.Walk.{found}
 use Rattle.mm_delta.proofs.Found.{Row, Rows, extends_set, operand_extends, value_extends}
 use Rattle.mm_delta.proofs.Lists.{flat_map-filter}
@@ -41,19 +41,6 @@ some_of_cond false p r h = cc
 some_asked : (c : ℕ) (o : Option Value) (r : Required) → option_map (λ v. (c, v)) o ≡ Some r → (v : Value) × (o ≡ Some v) × ((c, v) ≡ r)
 some_asked c None r h = cc
 some_asked c (Some v) r h = (v, refl, cc)
-
-some_within : (o : Option Value) (v : Value) → kept_within o ≡ Some v → o ≡ Some v
-some_within None v h = cc
-some_within (Some w) v h = by (is_past_range w) h
-  where
-    by : (b : Bool) → cond b None (Some w) ≡ Some v → Some w ≡ Some v
-    by true e = cc
-    by false e = e
-
-some_known : (read : FieldPlace → Option Value) (o : Operand FieldPlace) (v : Value) → known_operand read o ≡ Some v → operand_of read o ≡ Some v
-some_known read (Literal w) v h = h
-some_known read (Column f) v h = h
-some_known read (Shifted f by) v h = some_within (option_map (shifted by) (read f)) v h
 
 some_shifted : (s : ℤ) (o : Option Value) (v : Value) → option_map (shifted s) o ≡ Some v → (w : Value) × (o ≡ Some w) × (shifted s w ≡ v)
 some_shifted s None v h = cc
@@ -96,12 +83,12 @@ module _ (indexed : ℕ → Bool) (m : Partial) (j : ℕ) (x : Row) (vacant : ge
       let v = some_asked f.column o r c.1 in
       (v.0, eqb-true f.place j p.0, v.1, v.2)
 
-  left_false : (a : Atom FieldPlace) (r : Required) → asked_of indexed j a.left (known_operand (value_at m) a.right) ≡ Some r
+  left_false : (a : Atom FieldPlace) (r : Required) → asked_of indexed j a.left (operand_of (value_at m) a.right) ≡ Some r
       → has_required r x ≡ false → holds_of comparison.Equal (value_at more a.left) (operand_of (value_at more) a.right) ≡ false
   left_false a r h lacks =
       let v = asked_at a.left _ r h in
       (λ i. holds_of comparison.Equal (new_value a.left v.1 i)
-      (operand_extends m more (extends_set m j x vacant) a.right v.0 (some_known (value_at m) a.right v.0 v.2) i))
+      (operand_extends m more (extends_set m j x vacant) a.right v.0 v.2 i))
       ∙ ap (λ r. has_required r x) v.3 ∙ lacks
 
   right_false : (a : Atom FieldPlace) (o : Operand FieldPlace) (r : Required) → asked_of_right indexed j (value_at m a.left) o ≡ Some r
@@ -113,7 +100,7 @@ module _ (indexed : ℕ → Bool) (m : Partial) (j : ℕ) (x : Row) (vacant : ge
       ∙ turned v.0 (value_in f.column x) ∙ ap (λ r. has_required r x) v.3 ∙ lacks
   right_false a (Shifted f s) r h lacks =
       let v = asked_at f _ r h in
-      let w = some_shifted (pos 0 -ℤ s) (value_at m a.left) v.0 (some_within _ v.0 v.2) in
+      let w = some_shifted (pos 0 -ℤ s) (value_at m a.left) v.0 v.2 in
       (λ i. holds_of comparison.Equal (value_extends m more (extends_set m j x vacant) a.left w.0 w.1 i) (option_map (shifted s) (new_value f v.1 i)))
       ∙ shift_false s w.0 (value_in f.column x)
       (ap (λ y. is_eq (value_cmp (value_in f.column x) y)) w.2 ∙ ap (λ r. has_required r x) v.3 ∙ lacks)

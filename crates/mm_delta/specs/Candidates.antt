@@ -5,7 +5,7 @@ use Rattle.std.specs.Option.{option_map}
 use Rattle.std.specs.Ordering.{is_eq}
 use Rattle.mm_value.specs.Order.{value_cmp}
 use Rattle.mm_value.specs.declared.values.Value.{Value}
-use Rattle.mm_query.specs.Atoms.{is_past_range, shifted, value_in}
+use Rattle.mm_query.specs.Atoms.{operand_of, shifted, value_in}
 use Rattle.mm_query.specs.Choosing.{first_given, first_there}
 use Rattle.mm_query.specs.Queries.{Partial, none_fails, value_at}
 use Rattle.mm_query.specs.declared.atom.Atom.{Atom}
@@ -32,17 +32,6 @@ passes (Some required) row = has_required required row
 abbrev pub having : Option Required → List (List Value) → List (List Value)
 having required rows = filter (passes required) rows
 
--- The value, unless it is a whole number past 64 bits, which no row has.
-abbrev pub kept_within : Option Value → Option Value
-kept_within None = None
-kept_within (Some value) = if is_past_range value then None else Some value
-
--- The value of an operand, where it is known and a row may have it.
-abbrev pub known_operand : (FieldPlace → Option Value) → Operand FieldPlace → Option Value
-known_operand read (Literal value) = Some value
-known_operand read (Column field) = read field
-known_operand read (Shifted field by) = kept_within (option_map (shifted by) (read field))
-
 -- The value is required of the column of a field, where the field is of a place and that column has an index.
 abbrev pub asked_of : (ℕ → Bool) → ℕ → FieldPlace → Option Value → Option Required
 asked_of indexed place field value =
@@ -53,17 +42,17 @@ abbrev pub asked_of_right : (ℕ → Bool) → ℕ → Option Value → Operand 
 asked_of_right indexed place left (Literal value) = None
 asked_of_right indexed place left (Column field) = asked_of indexed place field left
 asked_of_right indexed place left (Shifted field by) =
-    asked_of indexed place field (kept_within (option_map (shifted (pos 0 -ℤ by)) left))
+    asked_of indexed place field (option_map (shifted (pos 0 -ℤ by)) left)
 
 -- What an atom that compares so requires of a row at a place, on its left side or else on its right side: only an equality does.
 abbrev pub asked_by : (ℕ → Bool) → ℕ → Partial → Atom FieldPlace → Comparison → Option Required
 asked_by indexed place rows atom Equal =
-    first_there (asked_of indexed place atom.left (known_operand (value_at rows) atom.right)
+    first_there (asked_of indexed place atom.left (operand_of (value_at rows) atom.right)
     ∷ asked_of_right indexed place (value_at rows atom.left) atom.right ∷ [])
 asked_by indexed place rows atom _ = None
 
 -- What the first atom that does requires of a row at a place: an equality between a column with an index and a literal or a
--- column of a row that is there, shifted or not.
+-- column of a row that is there, shifted or not. A number that a shift takes past 64 bits is required like any other; no row has it.
 abbrev pub required : (ℕ → Bool) → List (Atom FieldPlace) → Partial → ℕ → Option Required
 required indexed atoms rows place = first_given (λ (atom : Atom FieldPlace). asked_by indexed place rows atom atom.comparison) atoms
 

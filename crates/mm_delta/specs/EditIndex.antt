@@ -1,6 +1,7 @@
 -- What is found by hash among the edits of a table.
-use Rattle.std.specs.Prelude.{◌≡◌, ℕ, ◌&&◌, eqb, Bool, List, [], Some, filter_map, map}
+use Rattle.std.specs.Prelude.{◌≡◌, ℕ, ℤ, ◌&&◌, FitsSigned, eqb, Bool, List, [], Some, filter_map, map}
 use Rattle.std.specs.Borrow.{Bor}
+use Rattle.std.specs.Int.{w64}
 use Rattle.std.specs.List.{list_any}
 use Rattle.std.specs.Map.{lookup}
 use Rattle.std.specs.Option.{option_map_or}
@@ -8,6 +9,7 @@ use Rattle.std.specs.Prelude.{Vec}
 use Rattle.mm_value.specs.Equality.{same_value}
 use Rattle.mm_value.specs.declared.row_ref.RowRef.{RowRef}
 use Rattle.mm_value.specs.declared.values.Value.{Value}
+use Rattle.mm_value.specs.declared.values.Value.TheVariants.{Int}
 use Rattle.mm_delta.specs.Steps.{coming, takes}
 use Rattle.mm_relation.specs.declared.edits.Edit.{Edit}
 
@@ -26,3 +28,7 @@ rows_under value entries = map (λ row. row.now) (option_map_or (λ rows. rows.i
 -- Under each value stand the rows that the edits bring with it in a column, in the order of the edits.
 abbrev pub AreUnder : {Z : Type 0} → ℕ → List Edit → List (Value × Vec (Bor (List Value)) Z) → Type 0
 AreUnder column edits entries = (value : Value) → rows_under value entries ≡ filter_map (coming (Some (column, value))) edits
+
+-- No row stands under a number past 64 bits.
+abbrev pub HasNonePast : {Z : Type 0} → List (Value × Vec (Bor (List Value)) Z) → Type 0
+HasNonePast entries = (number : ℤ) → ¬ FitsSigned w64 number → rows_under (Int number) entries ≡ []

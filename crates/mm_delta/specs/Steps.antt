@@ -18,6 +18,7 @@ use Rattle.mm_query.specs.declared.bound_query.BoundQuery.{BoundQuery}
 use Rattle.mm_delta.specs.Candidates.{Required, candidates, passes}
 use Rattle.mm_delta.specs.Edited.{before_at, come_at, edits_at, gone_at, has_index, walked}
 use Rattle.mm_delta.specs.Walk.{one_row, other_places}
+use Rattle.mm_delta.specs.Wanted.{value_wanted}
 use Rattle.mm_delta.specs.declared.edited.TableEdits.{TableEdits}
 use Rattle.mm_delta.specs.declared.look_up.LookUp.{LookUp}
 
@@ -33,7 +34,7 @@ stays edits at = not (list_any (takes at) edits)
 
 -- What a look-up requires of a row.
 abbrev pub asked : Option LookUp → Option Required
-asked look_up = option_map (λ (l : LookUp). (l.column, l.value)) look_up
+asked look_up = option_map (λ (l : LookUp). (l.column, value_wanted l.wanted)) look_up
 
 -- The table has the index of the look-up, and it is on its column.
 abbrev pub IsServed : Tables → ℕ → LookUp → Type 0

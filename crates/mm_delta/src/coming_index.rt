@@ -4,11 +4,13 @@ ghost use Rattle.std.specs.List.{cons_option};
 ghost use Rattle.mm_value.specs.Equality.{same_value};
 ghost use Rattle.mm_value.specs.declared.refusal.Refusal.TheVariants.{Memory};
 ghost use Rattle.mm_value.specs.declared.values.Value.{Value as AnyValue};
-ghost use Rattle.mm_delta.specs.EditIndex.{AreUnder, rows_under};
+ghost use Rattle.mm_delta.specs.EditIndex.{AreUnder, HasNonePast, rows_under};
 ghost use Rattle.mm_delta.specs.Steps.{coming};
+ghost use Rattle.mm_delta.specs.Wanted.{value_wanted};
 
 use crate::edited::row_come;
 use crate::known::value_in;
+use crate::wanted::{Wanted, number_value};
 use indexmap::IndexMap;
 use mm_relation::Edit;
 use mm_value::{Refusal, Row, Value};
@@ -32,6 +34,7 @@ impl<'c> ComingIndex<'c> {
     ) -> Result<ComingIndex<'c>, Refusal>
         ensures column { IfOk result (λ index. index.column ≡ column) }
         ensures rows { IfOk result (λ index. AreUnder column edits.now index.rows.entries) }
+        ensures past { IfOk result (λ index. HasNonePast index.rows.entries) }
         ensures memory { IfErr result (λ refusal. refusal ≡ Memory) }
     {
         let mut rows = IndexMap::new(alloc);
@@ -51,6 +54,21 @@ impl<'c> ComingIndex<'c> {
         }
         Ok(())
     }
+
+    /// Adds the rows that have a wanted value in the column. `Memory` is the only refusal.
+    pub(crate) fn add_wanted(&self, wanted: &Wanted, rows: &mut Vec<&'c Row>) -> Result<(), Refusal>
+        requires { HasNonePast self.now.rows.entries }
+        ensures added { OnOk result (map (λ row. row.now) rows.new.items ≡ map (λ row. row.now) rows.old.items ++ rows_under (value_wanted wanted.now) self.now.rows.entries) }
+        ensures memory { IfErr result (λ refusal. refusal ≡ Memory) }
+    {
+        match wanted {
+            Wanted::Value(value) => self.add_rows(value, rows),
+            Wanted::Sum(sum) => match number_value(*sum) {
+                Some(value) => self.add_rows(&value, rows),
+                None => Ok(()),
+            },
+        }
+    }
 }
 
 /// Puts the row that an edit brings, if it does, behind those under its value in a column. `Memory` is the only refusal.
@@ -62,11 +80,15 @@ fn add_edit<'c>(
 ) -> Result<(), Refusal>
     ensures added { OnOk result ((value : AnyValue) → rows_under value rows.new.entries
         ≡ rows_under value rows.old.entries ++ cons_option (coming (Some (column, value)) edit.now) []) }
+    ensures past { OnOk result (HasNonePast rows.old.entries → HasNonePast rows.new.entries) }
     ensures memory { IfErr result (λ refusal. refusal ≡ Memory) }
 {
     let zero = Value::Int(0);
     match row_come(edit) {
-        Some(row) => add_row(alloc, rows, value_in(row, column, &zero), row),
+        Some(row) => {
+            row.is_storable();
+            add_row(alloc, rows, value_in(row, column, &zero), row)
+        }
         None => Ok(()),
     }
 }

@@ -3,7 +3,7 @@ ghost use Rattle.std.specs.Prelude.{◌≡◌, ◌++◌, ◌||◌, filter, filte
 ghost use Rattle.std.specs.List.{list_any};
 ghost use Rattle.mm_value.specs.declared.refusal.Refusal.TheVariants.{Memory};
 ghost use Rattle.mm_value.specs.declared.row_ref.RowRef.{RowRef as Reference};
-ghost use Rattle.mm_delta.specs.EditIndex.{AreGone, AreUnder, is_key_of};
+ghost use Rattle.mm_delta.specs.EditIndex.{AreGone, AreUnder, HasNonePast, is_key_of};
 ghost use Rattle.mm_delta.specs.Steps.{asked, coming, stays, takes};
 
 use crate::coming_index::ComingIndex;
@@ -27,13 +27,14 @@ pub(crate) struct EditIndex<'c> {
 impl<'c> Model for EditIndex<'c> {
     ghost use Rattle.std.specs.Prelude.{List, All};
     ghost use Rattle.mm_relation.specs.declared.edits.Edit.{Edit as AnyEdit};
-    ghost use Rattle.mm_delta.specs.EditIndex.{AreGone, AreUnder};
+    ghost use Rattle.mm_delta.specs.EditIndex.{AreGone, AreUnder, HasNonePast};
 
     ghost Value = { List AnyEdit };
 
     ghost view = { λ e. e.edits.now };
 
-    ghost invariant = { λ e. AreGone e.edits.now e.gone.keys × All (λ index. AreUnder index.column e.edits.now index.rows.entries) e.coming.items };
+    ghost invariant = { λ e. AreGone e.edits.now e.gone.keys × All (λ index. AreUnder index.column e.edits.now index.rows.entries) e.coming.items
+        × All (λ index. HasNonePast index.rows.entries) e.coming.items };
 }
 
 impl<'c> EditIndex<'c> {
@@ -71,6 +72,7 @@ impl<'c> EditIndex<'c> {
     fn coming_on(&self, column: usize) -> Option<&ComingIndex<'c>>
         ensures column { IfSome result (λ index. index.now.column ≡ column) }
         ensures rows { IfSome result (λ index. AreUnder column self.now index.now.rows.entries) }
+        ensures past { IfSome result (λ index. HasNonePast index.now.rows.entries) }
     {
         for index in &self.coming {
             if index.column == column {
@@ -92,7 +94,7 @@ impl<'c> EditIndex<'c> {
     {
         if let Some(look_up) = look_up {
             if let Some(index) = self.coming_on(look_up.column) {
-                return index.add_rows(&look_up.value, rows);
+                return index.add_wanted(&look_up.wanted, rows);
             }
         }
         add_coming(rows, self.edits, look_up)
@@ -129,6 +131,7 @@ fn coming_by<'c>(
     columns: &[usize],
 ) -> Result<Vec<ComingIndex<'c>>, Refusal>
     ensures ok { IfOk result (λ indexes. All (λ index. AreUnder index.column edits.now index.rows.entries) indexes.items) }
+    ensures past { IfOk result (λ indexes. All (λ index. HasNonePast index.rows.entries) indexes.items) }
     ensures memory { IfErr result (λ refusal. refusal ≡ Memory) }
 {
     let mut indexes = Vec::new(alloc);

@@ -3,10 +3,11 @@ ghost use Rattle.std.specs.Prelude.{◌≡◌, ◌-ℤ◌, pos, map, IfErr, IfOk
 ghost use Rattle.std.specs.Option.{option_copied, option_map};
 ghost use Rattle.mm_value.specs.declared.refusal.Refusal.TheVariants.{Memory};
 ghost use Rattle.mm_value.specs.declared.values.Value.TheVariants.{Int};
-ghost use Rattle.mm_query.specs.Atoms.{shifted, value_in};
+ghost use Rattle.mm_query.specs.Atoms.{operand_of, shifted, value_in};
 ghost use Rattle.mm_query.specs.Queries.{value_at};
-ghost use Rattle.mm_delta.specs.Candidates.{kept_within, known_operand};
+ghost use Rattle.mm_delta.specs.Wanted.{value_wanted};
 
+use crate::wanted::Wanted;
 use mm_query::{FieldPlace, Operand};
 use mm_value::{Refusal, Row, Value};
 use std::alloc::Global;
@@ -38,61 +39,60 @@ pub(crate) fn value_of<'v>(
 }
 
 /// A copy of a value, if there is one. `Memory` is the only refusal.
-pub(crate) fn copied(alloc: Global, value: Option<&Value>) -> Result<Option<Value>, Refusal>
-    ensures ok { IfOk result (λ copy. copy ≡ option_copied value.entry) }
+pub(crate) fn copied(alloc: Global, value: Option<&Value>) -> Result<Option<Wanted>, Refusal>
+    ensures ok { IfOk result (λ copy. option_map value_wanted copy ≡ option_copied value.entry) }
     ensures memory { IfErr result (λ refusal. refusal ≡ Memory) }
 {
     match value {
-        Some(value) => Ok(Some(value.copy(alloc)?)),
+        Some(value) => Ok(Some(Wanted::Value(value.copy(alloc)?))),
         None => Ok(None),
     }
 }
 
-/// A value with a number added, if there is one and the sum is one of 64 bits. A text stays. `Memory` is the only refusal.
+/// A value with a number added, without bound, if there is one. A text stays. `Memory` is the only refusal.
 pub(crate) fn raised(
     alloc: Global,
     value: Option<&Value>,
     by: i64,
-) -> Result<Option<Value>, Refusal>
-    ensures ok { IfOk result (λ raised. raised ≡ kept_within (option_map (shifted by) (option_copied value.entry))) }
+) -> Result<Option<Wanted>, Refusal>
+    ensures ok { IfOk result (λ raised. option_map value_wanted raised ≡ option_map (shifted by) (option_copied value.entry)) }
     ensures memory { IfErr result (λ refusal. refusal ≡ Memory) }
 {
     match value {
-        Some(Value::Int(number)) => Ok(number.checked_add(by).map(Value::Int)),
-        Some(Value::Text(text)) => Ok(Some(Value::Text(text.copy(alloc)?))),
+        Some(Value::Int(number)) => Ok(Some(Wanted::Sum(i128::from(*number) + i128::from(by)))),
+        Some(Value::Text(text)) => Ok(Some(Wanted::Value(Value::Text(text.copy(alloc)?)))),
         None => Ok(None),
     }
 }
 
-/// A value with a number taken away, if there is one and the rest is a number of 64 bits. A text stays. `Memory` is the only
-/// refusal.
+/// A value with a number taken away, without bound, if there is one. A text stays. `Memory` is the only refusal.
 pub(crate) fn lowered(
     alloc: Global,
     value: Option<&Value>,
     by: i64,
-) -> Result<Option<Value>, Refusal>
-    ensures ok { IfOk result (λ lowered. lowered ≡ kept_within (option_map (shifted (pos 0 -ℤ by)) (option_copied value.entry))) }
+) -> Result<Option<Wanted>, Refusal>
+    ensures ok { IfOk result (λ lowered. option_map value_wanted lowered ≡ option_map (shifted (pos 0 -ℤ by)) (option_copied value.entry)) }
     ensures memory { IfErr result (λ refusal. refusal ≡ Memory) }
 {
     match value {
-        Some(Value::Int(number)) => Ok(number.checked_sub(by).map(Value::Int)),
-        Some(Value::Text(text)) => Ok(Some(Value::Text(text.copy(alloc)?))),
+        Some(Value::Int(number)) => Ok(Some(Wanted::Sum(i128::from(*number) - i128::from(by)))),
+        Some(Value::Text(text)) => Ok(Some(Wanted::Value(Value::Text(text.copy(alloc)?)))),
         None => Ok(None),
     }
 }
 
-/// The value of an operand, where it is known and a row may have it. `Memory` is the only refusal.
+/// The value of an operand, where it is known. `Memory` is the only refusal.
 pub(crate) fn known_operand(
     alloc: Global,
     operand: &Operand<FieldPlace>,
     rows: &[Option<&Row>],
-) -> Result<Option<Value>, Refusal>
-    ensures ok { IfOk result (λ value. value ≡ known_operand (value_at (map option_copied rows.now)) operand.now) }
+) -> Result<Option<Wanted>, Refusal>
+    ensures ok { IfOk result (λ value. option_map value_wanted value ≡ operand_of (value_at (map option_copied rows.now)) operand.now) }
     ensures memory { IfErr result (λ refusal. refusal ≡ Memory) }
 {
     let zero = Value::Int(0);
     match operand {
-        Operand::Literal(value) => Ok(Some(value.copy(alloc)?)),
+        Operand::Literal(value) => Ok(Some(Wanted::Value(value.copy(alloc)?))),
         Operand::Column(field) => copied(alloc, value_of(rows, *field, &zero)),
         Operand::Shifted(field, by) => raised(alloc, value_of(rows, *field, &zero), *by),
     }

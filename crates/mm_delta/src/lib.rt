@@ -18,6 +18,7 @@ mod skipped;
 mod term;
 mod unseen;
 mod walk;
+mod wanted;
 
 pub use bag_change::delta;
 pub use edit_index::references_of_gone;

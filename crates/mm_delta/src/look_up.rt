@@ -6,11 +6,13 @@ ghost use Rattle.mm_store.specs.Looked.{IsIndexOn};
 ghost use Rattle.mm_store.specs.Tables.{IsAt};
 ghost use Rattle.mm_value.specs.declared.refusal.Refusal.TheVariants.{Memory};
 ghost use Rattle.mm_query.specs.Queries.{value_at};
-ghost use Rattle.mm_delta.specs.Candidates.{asked_by, asked_of, asked_of_right, known_operand as known_operand_lem, required};
+ghost use Rattle.mm_query.specs.Atoms.{operand_of};
+ghost use Rattle.mm_delta.specs.Candidates.{asked_by, asked_of, asked_of_right, required};
 ghost use Rattle.mm_delta.specs.Edited.{has_index};
 ghost use Rattle.mm_delta.specs.Steps.{IsServed, asked};
 
 use crate::known::{copied, known_operand, lowered, value_of};
+use crate::wanted::Wanted;
 use mm_query::{Atom, Comparison, FieldPlace, Operand};
 use mm_store::{ColumnIndex, View};
 use mm_value::{Refusal, Row, Value};
@@ -24,7 +26,7 @@ pub(crate) struct LookUp {
     /// The index.
     pub(crate) index: ColumnIndex,
     /// The value that a row must have there.
-    pub(crate) value: Value,
+    pub(crate) wanted: Wanted,
 }
 
 /// What is known where rows are looked for.
@@ -54,7 +56,7 @@ impl Site<'_, '_> {
     fn by_left(&self, alloc: Global, atom: &Atom<FieldPlace>) -> Result<Option<LookUp>, Refusal>
         requires { self.now.table < length self.now.view.now.store.tables }
         ensures ok { IfOk result (λ found. asked found ≡ asked_of (has_index self.now.view.now.store self.now.table) self.now.place atom.now.left
-            (known_operand_lem (value_at (map option_copied self.now.rows.now)) atom.now.right)) }
+            (operand_of (value_at (map option_copied self.now.rows.now)) atom.now.right)) }
         ensures served { IfOk result (λ found. IfSome found (IsServed self.now.view.now.store self.now.table)) }
         ensures memory { IfErr result (λ refusal. refusal ≡ Memory) }
     {
@@ -65,13 +67,13 @@ impl Site<'_, '_> {
         let Some(index) = self.index_of(column) else {
             return Ok(None);
         };
-        let Some(value) = known_operand(alloc, &atom.right, self.rows)? else {
+        let Some(wanted) = known_operand(alloc, &atom.right, self.rows)? else {
             return Ok(None);
         };
         Ok(Some(LookUp {
             column,
             index,
-            value,
+            wanted,
         }))
     }
 
@@ -97,14 +99,14 @@ impl Site<'_, '_> {
         };
         let zero = Value::Int(0);
         let left = value_of(self.rows, atom.left, &zero);
-        let value = match by {
+        let wanted = match by {
             None => copied(alloc, left)?,
             Some(by) => lowered(alloc, left, by)?,
         };
-        Ok(value.map(|value| LookUp {
+        Ok(wanted.map(|wanted| LookUp {
             column,
             index,
-            value,
+            wanted,
         }))
     }
 

@@ -1,6 +1,7 @@
 //! The rows that are gone over at a place of FROM.
-ghost use Rattle.std.specs.Prelude.{◌≡◌, ◌+◌, ◌++◌, ◌<◌, ◌≤◌, [], filter, filter_map, length, map, All, IfErr, IfOk, IfSome, None, OnOk, Some};
+ghost use Rattle.std.specs.Prelude.{◌≡◌, ◌+◌, ◌++◌, ◌<◌, ◌≤◌, [], filter, filter_map, length, map, All, FitsSigned, IfErr, IfOk, IfSome, None, OnOk, Some};
 ghost use Rattle.mm_partition.specs.Places.{IsLive, slot_at};
+ghost use Rattle.std.specs.Int.{w64};
 ghost use Rattle.std.specs.List.{cons_option};
 ghost use Rattle.std.specs.Option.{option_copied};
 ghost use Rattle.mm_relation.specs.Kept.{StoredRows};
@@ -10,14 +11,53 @@ ghost use Rattle.mm_value.specs.declared.refusal.Refusal.TheVariants.{Memory};
 ghost use Rattle.mm_value.specs.declared.values.Value.TheVariants.{Int};
 ghost use Rattle.mm_delta.specs.Candidates.{passes};
 ghost use Rattle.mm_delta.specs.Steps.{IsFoundOf, IsServed, asked, coming, stays};
+ghost use Rattle.mm_delta.specs.Wanted.{value_wanted};
 
 use crate::edited::{row_come, stays};
 use crate::known::value_in;
 use crate::look_up::LookUp;
+use crate::wanted::{Wanted, number_value};
 use mm_relation::Edit;
 use mm_store::View;
-use mm_value::{Refusal, Row, RowRef, Value, compare};
+use mm_value::{Refusal, Row, RowRef, Value};
 use std::alloc::Global;
+
+/// The references of the rows of a table that have a value in the column of an index, each once and in no promised order. No row
+/// is read. `Memory` is the only refusal.
+fn having_value(
+    alloc: Global,
+    view: &View<'_>,
+    table: usize,
+    look_up: &LookUp,
+    value: &Value,
+) -> Result<Vec<RowRef>, Refusal>
+    requires there { table < length view.now.store.tables }
+    requires served { IsServed view.now.store table look_up.now }
+    ensures found { IfOk result (λ found. (stored : StoredRows) → IsAt view.now.store table stored
+        → IsFoundOf (Some (look_up.now.column, value.now)) stored found.items) }
+    ensures memory { IfErr result (λ refusal. refusal ≡ Memory) }
+{
+    view.is_kept(table);
+    let mut found = Vec::new(alloc);
+    view.matches(alloc, table, look_up.index, value, &mut found)?;
+    Ok(found)
+}
+
+/// The references of the rows of a table that have a number past 64 bits in a column: there are none.
+fn having_number_past(
+    alloc: Global,
+    view: &View<'_>,
+    table: usize,
+    _column: usize,
+    _number: i128,
+) -> Vec<RowRef>
+    requires there { table < length view.now.store.tables }
+    requires past { ¬ FitsSigned w64 _number }
+    ensures { (stored : StoredRows) → IsAt view.now.store table stored → IsFoundOf (Some (_column, Int _number)) stored result.items }
+{
+    view.is_kept(table);
+    Vec::new(alloc)
+}
 
 /// The references of the rows of a table that have the value of a look-up, each once and in no promised order. No row is read.
 /// `Memory` is the only refusal.
@@ -30,13 +70,16 @@ fn matching(
     requires there { table < length view.now.store.tables }
     requires served { IsServed view.now.store table look_up.now }
     ensures found { IfOk result (λ found. (stored : StoredRows) → IsAt view.now.store table stored
-        → IsFoundOf (Some (look_up.now.column, look_up.now.value)) stored found.items) }
+        → IsFoundOf (Some (look_up.now.column, value_wanted look_up.now.wanted)) stored found.items) }
     ensures memory { IfErr result (λ refusal. refusal ≡ Memory) }
 {
-    view.is_kept(table);
-    let mut found = Vec::new(alloc);
-    view.matches(alloc, table, look_up.index, &look_up.value, &mut found)?;
-    Ok(found)
+    match &look_up.wanted {
+        Wanted::Value(value) => having_value(alloc, view, table, look_up, value),
+        Wanted::Sum(sum) => match number_value(*sum) {
+            Some(value) => having_value(alloc, view, table, look_up, &value),
+            None => Ok(having_number_past(alloc, view, table, look_up.column, *sum)),
+        },
+    }
 }
 
 /// The references of all rows of a table, each once and in no promised order. No row is read. `Memory` is the only refusal.
@@ -107,7 +150,7 @@ fn fits(look_up: &Option<LookUp>, row: &Row) -> bool
 {
     let zero = Value::Int(0);
     match look_up {
-        Some(look_up) => compare(value_in(row, look_up.column, &zero), &look_up.value).is_eq(),
+        Some(look_up) => look_up.wanted.is(value_in(row, look_up.column, &zero)),
         None => true,
     }
 }

@@ -5,6 +5,7 @@ pub mod Cursors
 pub mod GapLemmas
 pub mod JoinKeys
 pub mod JoinSteps
+pub mod PastRange
 pub mod Prefixed
 pub mod Probed
 pub mod Progress

@@ -1,5 +1,6 @@
 //! Ways to the rows of the inner table that have a value.
-ghost use Rattle.std.specs.Prelude.{◌≡◌, ℕ, ◌+ℤ◌, ◌<◌, true, [], IfSome, None, OnOk, Some, length, map, pos};
+ghost use Rattle.std.specs.Prelude.{◌≡◌, ℕ, ◌+ℤ◌, ◌<◌, true, [], FitsSigned, IfSome, None, OnOk, Some, length, map, pos};
+ghost use Rattle.std.specs.Int.{w64};
 ghost use Rattle.std.specs.Option.{option_copied, option_map, unwrap_or};
 ghost use Rattle.mm_join.specs.Equated.{HaveMatches, added, sought};
 ghost use Rattle.mm_join.specs.Ways.{IsLookup, IsMerge, IsWay};
@@ -93,7 +94,8 @@ fn value_of<'v>(rows: &[Option<&'v Row>], field: FieldPlace) -> Option<&'v Value
 
 /// A number with a shift added, if that is a number of 64 bits.
 fn shifted_number(number: i64, shift: Shift) -> Option<i64>
-    ensures { IfSome result (λ sum. sum ≡ number +ℤ added shift) }
+    ensures sum { IfSome result (λ sum. sum ≡ number +ℤ added shift) }
+    ensures past { result ≡ None → ¬ FitsSigned w64 (number +ℤ added shift) }
 {
     match shift {
         Shift::Plus(by) => number.checked_add(by),
@@ -149,16 +151,6 @@ fn find_matches(
     }
 }
 
-/// Puts the references of all rows of a table in the place of those that `found` has. `AllocError` where memory is refused.
-fn find_all(alloc: Global, relation: &Relation, found: &mut Vec<RowRef>) -> Result<(), AllocError>
-    ensures { OnOk result ((column : ℕ) (value : AnyValue)
-        → HaveMatches column (slot_at relation.now.places) value relation.now.refs found.new.items) }
-{
-    found.clear();
-    relation.key_range(alloc, None, None, found)?;
-    Ok(())
-}
-
 /// Puts the references of rows of a table, among them all that have this number with a shift added in a column, in no promised
 /// order, in the place of those that `found` has. `AllocError` where memory is refused.
 fn find_number(
@@ -178,8 +170,12 @@ fn find_number(
 {
     match shifted_number(number, shift) {
         Some(sum) => find_matches(alloc, meter, of, way, &Value::Int(sum), found),
-        // No row has a number past 64 bits; where all rows are taken, nothing has to rest on that.
-        None => find_all(alloc, of.store.table(of.table), found),
+        // No row has a number past 64 bits.
+        None => {
+            of.store.is_kept(of.table);
+            found.clear();
+            Ok(())
+        }
     }
 }
 

@@ -1,6 +1,9 @@
 use Rattle.std.proofs.Common.{All}
-use Rattle.mm_delta.specs.EditIndex.{AreUnder}
+use Rattle.mm_delta.specs.EditIndex.{AreUnder, HasNonePast}
 use Rattle.mm_delta.proofs.edit_index.coming_by.Given as goal
 
 abbrev pub invariant-loop-column : goal.invariant-loop-column
-invariant-loop-column l = All (λ index. AreUnder index.column l.edits index.rows.entries) l.indexes.items
+invariant-loop-column l = record {
+  under : All (λ index. AreUnder index.column l.edits index.rows.entries) l.indexes.items;
+  past : All (λ index. HasNonePast index.rows.entries) l.indexes.items;
+}

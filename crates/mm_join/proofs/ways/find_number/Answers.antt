@@ -1,17 +1,14 @@
-use Rattle.std.proofs.Common.{sym, ◌∙◌, subst}
-use Rattle.std.specs.Prelude.{◌+ℤ◌}
-use Rattle.mm_partition.specs.Places.{slot_at}
-use Rattle.mm_relation.specs.Kept.{StoredRows}
-use Rattle.mm_value.specs.declared.values.Value.TheVariants.{Int}
-use Rattle.mm_join.specs.Equated.{HaveMatches, added}
-use Rattle.mm_join.proofs.Success.{on_success}
-use Rattle.mm_store.proofs.Joining.{one_relation}
+use Rattle.std.proofs.Common.{subst}
+use Rattle.std.proofs.lemmas.Int.{to_z-of_z}
+use Rattle.std.specs.Prelude.{◌+ℤ◌, FitsSigned}
+use Rattle.std.specs.Int.{w64}
+use Rattle.mm_join.specs.Equated.{added}
+use Rattle.mm_join.proofs.PastRange.{none_match}
 use Rattle.mm_join.proofs.ways.find_number.Goals as goal
 
 pub returns-in-None-clause-found : goal.returns-in-None-clause-found
-returns-in-None-clause-found c =
-    let relation = c.table.result.now in
-    let sum = Int (c.args.number +ℤ added c.args.shift) in
-    on_success _ _ c.find_all.result c.find_all.ensures (λ found. λ stored here.
-    subst (λ (s : StoredRows). HaveMatches c.args.of.column (slot_at s.places) sum s.refs c.find_all.new.found.items)
-    (one_relation relation stored (sym c.table.ensures.at ∙ here)) (found c.args.of.column sum))
+returns-in-None-clause-found c = λ stored here.
+    let past = subst (λ n. ¬ FitsSigned w64 (n +ℤ added c.args.shift)) (to_z-of_z w64 c.args.number c.ranges.number)
+    (c.shifted_number.ensures.past c.in-None.is) in
+    none_match stored c.args.of.column (c.args.number +ℤ added c.args.shift) c.clear.new.self.items (c.is_kept.ensures.storable stored here)
+    past c.clear.ensures.items

@@ -1,11 +1,11 @@
 use Rattle.mm_delta.proofs.Refs.{found_by_value}
-use Rattle.mm_delta.proofs.rows.matching.Goals as goal
+use Rattle.mm_delta.proofs.rows.having_value.Goals as goal
 
 pub matches-requires-clause-index : goal.matches-requires-clause-index
 matches-requires-clause-index c = λ stored at. (c.args.look_up.now.column, c.requires.served stored at)
 
 pub returns-clause-found : goal.returns-clause-found
 returns-clause-found c = λ stored at.
-    found_by_value stored (c.is_kept.ensures.kept stored at) c.args.look_up.now.column c.args.look_up.now.index c.args.look_up.now.value
+    found_by_value stored (c.is_kept.ensures.kept stored at) c.args.look_up.now.column c.args.look_up.now.index c.args.value.now
     c.new-found.result.items c.matches.new.out.items (c.requires.served stored at) c.new-found.ensures.items
     (c.in_ok-matches.ensures.ok stored c.args.look_up.now.column at (c.requires.served stored at))

@@ -1,0 +1,43 @@
+//! The value that a row must have in a column.
+ghost use Rattle.std.specs.Prelude.{◌≡◌, MatchOption, FitsSigned};
+ghost use Rattle.std.specs.Int.{w64};
+ghost use Rattle.std.specs.Ordering.{is_eq};
+ghost use Rattle.mm_value.specs.Order.{value_cmp};
+ghost use Rattle.mm_value.specs.declared.values.Value.TheVariants.{Int};
+ghost use Rattle.mm_delta.specs.Wanted.{value_wanted};
+
+use mm_value::{Value, compare};
+
+/// The value that a row must have in a column.
+#[derive(Drop)]
+pub(crate) enum Wanted {
+    /// A value of a row or of the query.
+    Value(Value),
+    /// A whole number to which a shift was added. Where it is past 64 bits, no row has it.
+    Sum(i128),
+}
+
+impl Wanted {
+    /// Whether a value is the wanted one.
+    pub(crate) fn is(&self, value: &Value) -> bool
+        ensures { result ≡ is_eq (value_cmp value.now (value_wanted self.now)) }
+    {
+        match self {
+            Wanted::Value(wanted) => compare(value, wanted).is_eq(),
+            Wanted::Sum(sum) => match value {
+                Value::Int(number) => i128::from(*number).cmp(sum).is_eq(),
+                Value::Text(_) => false,
+            },
+        }
+    }
+}
+
+/// A whole number as a value, which it is only where it has 64 bits.
+pub(crate) fn number_value(number: i128) -> Option<Value>
+    ensures { MatchOption result (¬ FitsSigned w64 number) (λ value. value ≡ Int number) }
+{
+    match i64::try_from(number) {
+        Ok(number) => Some(Value::Int(number)),
+        Err(_) => None,
+    }
+}
