@@ -18,3 +18,5 @@ pub mod Reordering
 pub mod PastRange
 pub mod Under
 pub mod UnseenEdits
+pub mod Asked
+pub mod ReadLaws

@@ -13,6 +13,7 @@ mod indexed_changes;
 mod known;
 mod law;
 mod look_up;
+mod read_laws;
 mod rows;
 mod skipped;
 mod term;
@@ -25,3 +26,8 @@ pub use edit_index::references_of_gone;
 pub use edited::{TableEdits, row_gone};
 pub use law::change_is_the_sum_of_its_terms;
 pub use mm_bag::{Counted, Signed};
+pub use read_laws::{
+    each_edited_row_is_read_once, left_out_rows_are_not_combined, no_row_has_a_number_past_64_bits,
+    rows_that_fail_have_no_candidates, rows_with_what_is_required_meet_the_atom,
+    the_first_atom_that_requires_decides,
+};

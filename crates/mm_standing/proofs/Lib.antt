@@ -6,6 +6,7 @@ pub mod Net
 pub mod Others
 pub mod Preparing
 pub mod Pushing
+pub mod ReadExamples
 pub mod Ready
 pub mod Rest
 pub mod Segments
