@@ -1,11 +1,13 @@
 mod Along
 mod ClosedCascades
+mod Commands
 mod KeptTargets
 mod KeyOrder
 pub mod NamedRows
 pub mod OlderTables
 mod PlanLines
 pub mod QueryLaws
+mod Ranks
 mod ReachedCascades
 pub mod Removals
 pub mod SortedRows
