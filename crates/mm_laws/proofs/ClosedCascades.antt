@@ -1,6 +1,6 @@
 -- No row that stays has in a CASCADE column the key of a row that went.
 use Rattle.std.proofs.Common.{◌≡◌, ℕ, ◌+◌, Bool, true, false, cond, ◌||◌, ◌⊎◌, List, [], ◌∷◌, ◌++◌, Option, Some, None, inl, inr, filter, map, refl, sym, ap, subst, ◌∙◌, append_assoc}
-use Rattle.std.specs.List.{AllByRecursion, Contains, IsDistinct, filter_map, flat_map, list_any}
+use Rattle.std.specs.List.{AllByRecursion, IsDistinct, filter_map, flat_map, list_any}
 use Rattle.std.specs.Option.{option_map_or}
 use Rattle.std.specs.Prelude.{find}
 use Rattle.std.specs.Ordering.{ordering_reverse}
@@ -26,7 +26,7 @@ use Rattle.mm_schema.proofs.Twins.{Row, column_cmp_total}
 use Rattle.mm_query.specs.Edits.{also, goes_along, old_rows, removals_of, with_cascades}
 use Rattle.mm_query.specs.Machine.{after_edits}
 use Rattle.mm_query.proofs.FoundTargets.{some_among}
-use Rattle.mm_laws.proofs.NamedRows.{has, rows_changed, rows_of_others}
+use Rattle.mm_laws.proofs.NamedRows.{has, rows_changed}
 use Rattle.mm_laws.proofs.Removals.{AreRemovals, EachRemoves, cascades_remove}
 use Rattle.mm_laws.proofs.StillFound.{adds_none, beside_still, no_rows_lacking, were_there}
 

@@ -1,25 +1,25 @@
 -- In every state that commands lead to, each value of a foreign key is the key of a row of the table that it refers to.
-use Rattle.std.proofs.Common.{◌≡◌, ℕ, ◌+◌, Bool, true, false, cond, not, ◌&&◌, List, [], ◌∷◌, ◌++◌, Option, Some, None, filter, find, map, inl, inr, refl, sym, ap, subst, ◌∙◌}
+use Rattle.std.proofs.Common.{◌≡◌, ℕ, Bool, true, false, cond, not, ◌&&◌, List, [], ◌∷◌, ◌++◌, Option, Some, None, filter, find, map, inl, inr, refl, sym, ap, subst, ◌∙◌}
 use Rattle.std.specs.List.{AllByRecursion, list_any}
 use Rattle.std.specs.Option.{option_map_or}
 use Rattle.std.specs.Prelude.{IfSome}
 use Rattle.std.proofs.lemmas.Bool.{cases_Bool, or_parts}
-use Rattle.std.proofs.lemmas.List.Elements.{All-nil, recursion_from_All}
-use Rattle.mm_schema.specs.Columns.{key_place, target_of}
+use Rattle.std.proofs.lemmas.List.Elements.{All-nil}
+use Rattle.mm_schema.specs.Columns.{key_place}
 use Rattle.mm_schema.specs.Indexes.{table_with_index, table_without_index}
 use Rattle.mm_schema.specs.Instance.{Instance}
 use Rattle.mm_schema.specs.Name.{same_name}
-use Rattle.mm_schema.specs.References.{HasTargets, in_front, lacks_target_row, lose_targets, references_from, references_of, refers}
+use Rattle.mm_schema.specs.References.{HasTargets}
 use Rattle.mm_schema.specs.Refused.{Condition, first_refusal}
-use Rattle.mm_schema.specs.Rows.{Pair, has_twin_keys, table_rows_conditions}
-use Rattle.mm_schema.specs.Schema.{Schema, columns_named, drop_table_conditions, is_other_referring_to, key_named, lacks_table, lacks_target, reads_table}
+use Rattle.mm_schema.specs.Rows.{has_twin_keys, table_rows_conditions}
+use Rattle.mm_schema.specs.Schema.{Schema, drop_table_conditions, is_other_referring_to, key_named, lacks_table, reads_table}
 use Rattle.mm_schema.specs.declared.column.Column.{Column}
 use Rattle.mm_schema.specs.declared.table.Table.{Table}
 use Rattle.mm_schema.specs.declared.table.TableDef.{TableDef}
 use Rattle.mm_schema.proofs.Instances.{AreBeside, beside_from_order, name_of}
-use Rattle.mm_schema.proofs.NameLemmas.{differs_back, same_bytes}
+use Rattle.mm_schema.proofs.NameLemmas.{same_bytes}
 use Rattle.mm_schema.proofs.References.{same_with, same_without, second_none, targets_added, targets_indexed, targets_left, targets_unindexed}
-use Rattle.mm_schema.proofs.StrictOrder.{AllByRecursion-IsIn, IsIn}
+use Rattle.mm_schema.proofs.StrictOrder.{IsIn}
 use Rattle.mm_schema.proofs.Twins.{Row}
 use Rattle.mm_value.specs.declared.refusal.Refusal.{Refusal}
 use Rattle.mm_query.specs.Binding.{tests_for}

@@ -1,24 +1,20 @@
 -- Each column refers to an older table, in every catalog that commands lead to.
-use Rattle.std.proofs.Common.{◌≡◌, ℕ, ◌+◌, Bool, true, false, cond, not, ◌&&◌, ◌||◌, List, [], ◌∷◌, ◌++◌, Option, Some, None, inl, inr, filter, find, is_none, map, refl, sym, ap, subst, ◌∙◌, append_assoc}
+use Rattle.std.proofs.Common.{◌≡◌, ℕ, Bool, true, false, cond, not, ◌&&◌, ◌||◌, List, [], ◌∷◌, ◌++◌, Some, None, inl, inr, filter, find, is_none, map, refl, sym, ap, subst, ◌∙◌, append_assoc}
 use Rattle.std.specs.List.{AllByRecursion, list_any}
-use Rattle.std.specs.Option.{option_map_or}
-use Rattle.std.proofs.lemmas.Bool.{cases_Bool, false≢true, or_parts}
+use Rattle.std.proofs.lemmas.Bool.{false≢true, or_parts}
 use Rattle.std.proofs.lemmas.List.{append-nil}
 use Rattle.std.proofs.lemmas.List.Folds.{list_any-append}
-use Rattle.mm_schema.specs.Columns.{refers_to, target_of}
-use Rattle.mm_schema.specs.Instance.{Instance}
+use Rattle.mm_schema.specs.Columns.{refers_to}
 use Rattle.mm_schema.specs.Name.{same_name}
-use Rattle.mm_schema.specs.References.{RefersBack, references_from, references_of}
+use Rattle.mm_schema.specs.References.{RefersBack, references_of}
 use Rattle.mm_schema.specs.Refused.{first_refusal}
-use Rattle.mm_schema.specs.Schema.{Schema, drop_table_conditions, is_other_referring_to, lacks_table, lacks_target, reads_table, table_conditions, with_table}
-use Rattle.mm_schema.specs.declared.column.Column.{Column}
+use Rattle.mm_schema.specs.Schema.{Schema, drop_table_conditions, is_other_referring_to, lacks_table, reads_table, table_conditions, with_table}
 use Rattle.mm_schema.specs.declared.table.Table.{Table}
 use Rattle.mm_schema.specs.declared.table.TableDef.{TableDef}
 use Rattle.mm_schema.proofs.Instances.{name_of}
 use Rattle.mm_schema.proofs.NameLemmas.{same_bytes}
-use Rattle.mm_schema.proofs.References.{first_none, lacks, same_with, same_without, second_none}
+use Rattle.mm_schema.proofs.References.{first_none, lacks, second_none}
 use Rattle.mm_schema.proofs.StrictOrder.{IsIn}
-use Rattle.mm_query.proofs.FoundTargets.{some_among, some_by_one}
 use Rattle.mm_laws.proofs.NamedRows.{has}
 use Rattle.mm_laws.proofs.StillFound.{fails_of_each}
 

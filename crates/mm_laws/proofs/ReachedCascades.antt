@@ -1,8 +1,8 @@
 -- What a DELETE takes with it, in every state that commands lead to.
-use Rattle.std.proofs.Common.{◌≡◌, ℕ, Bool, true, false, List, [], ◌∷◌, None, filter, inl}
-use Rattle.std.specs.List.{AllByRecursion, Contains}
+use Rattle.std.proofs.Common.{◌≡◌, ℕ, Bool, true, false, List, [], ◌∷◌, None, filter}
+use Rattle.std.specs.List.{Contains}
 use Rattle.mm_schema.specs.Indexes.{table_with_index, table_without_index}
-use Rattle.mm_schema.specs.Instance.{Instance, TableEdits}
+use Rattle.mm_schema.specs.Instance.{Instance}
 use Rattle.mm_schema.specs.References.{RefersBack, cascading_of, refers}
 use Rattle.mm_schema.specs.Refused.{first_refusal}
 use Rattle.mm_schema.specs.Schema.{Schema, key_named}
@@ -21,7 +21,7 @@ use Rattle.mm_query.specs.declared.command.Definition.{Definition}
 use Rattle.mm_query.specs.declared.command.Definition.TheVariants as define
 use Rattle.mm_query.specs.declared.command.Mutation.{Mutation}
 use Rattle.mm_query.specs.declared.command.Mutation.TheVariants.{Delete}
-use Rattle.mm_laws.proofs.Along.{EachHolds, cascades_hold, each_old, filter_holds}
+use Rattle.mm_laws.proofs.Along.{cascades_hold, each_old, filter_holds}
 use Rattle.mm_laws.proofs.ClosedCascades.{none_goes_along}
 use Rattle.mm_laws.proofs.KeyOrder.{IsKept, kept_at_first, kept_by_change, kept_by_definition}
 use Rattle.mm_laws.proofs.OlderTables.{older_with_definitions, older_with_table, older_without_table}

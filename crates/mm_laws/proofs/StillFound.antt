@@ -1,6 +1,6 @@
 -- Where no row that stays refers to a key that a change takes away, each row has its targets still.
-use Rattle.std.proofs.Common.{◌≡◌, ℕ, ◌+◌, Bool, true, false, cond, not, ◌&&◌, ◌⊎◌, List, [], ◌∷◌, ◌++◌, Option, Some, None, is_none, inl, inr, filter, find, map, refl, sym, ap, subst, ◌∙◌}
-use Rattle.std.specs.List.{AllByRecursion, Contains, list_any}
+use Rattle.std.proofs.Common.{◌≡◌, ℕ, ◌+◌, Bool, true, false, cond, not, ◌&&◌, ◌⊎◌, List, [], ◌∷◌, Option, Some, None, is_none, inl, inr, find, refl, sym, ap, subst, ◌∙◌}
+use Rattle.std.specs.List.{AllByRecursion, list_any}
 use Rattle.std.specs.Option.{option_map_or}
 use Rattle.std.proofs.lemmas.Bool.{cases_Bool, false≢true, or_parts}
 use Rattle.std.proofs.lemmas.List.Elements.{recursion_from_All}
@@ -18,10 +18,8 @@ use Rattle.mm_schema.proofs.NameLemmas.{differs_back, same_bytes}
 use Rattle.mm_schema.proofs.References.{lacks}
 use Rattle.mm_schema.proofs.StrictOrder.{AllByRecursion-IsIn, Contains-from_IsIn, IsIn, IsIn-from_Contains}
 use Rattle.mm_schema.proofs.Twins.{Row}
-use Rattle.mm_query.specs.Edits.{changed_table, edits, own_pairs}
-use Rattle.mm_query.specs.Machine.{after_change, after_edits, is_referred_to, some_is_referred, some_lacks_target}
+use Rattle.mm_query.specs.Machine.{after_edits, is_referred_to, some_is_referred, some_lacks_target}
 use Rattle.mm_query.specs.State.{State, rows_in}
-use Rattle.mm_query.specs.declared.command.Mutation.{Mutation}
 use Rattle.mm_query.proofs.FoundTargets.{found_among, none_among, none_by_each, refers_still}
 use Rattle.mm_laws.proofs.NamedRows.{has, rows_changed, rows_of_others}
 use Rattle.mm_laws.proofs.Removals.{AreRemovals, EachRemoves}

@@ -10,8 +10,8 @@ use Rattle.mm_schema.specs.Schema.{Schema}
 use Rattle.std.proofs.lemmas.Bool.{false≢true}
 use Rattle.mm_value.specs.declared.refusal.Refusal.{Refusal}
 use Rattle.mm_value.specs.declared.refusal.Refusal.TheVariants.{NotInTransaction}
-use Rattle.mm_query.specs.Machine.{Outcome, after_all, after_change, after_definition, after_rollback_to, after_savepoint, back_to, change_conditions, conditions, definition_conditions, is_of_index, reply_to, rows_at_latest, state_after, step, unless_refused}
-use Rattle.mm_query.specs.State.{AreSavedRows, Saved, Savepoint, State, has_transaction, savepoints_of}
+use Rattle.mm_query.specs.Machine.{Outcome, after_all, after_change, after_definition, back_to, change_conditions, conditions, definition_conditions, is_of_index, reply_to, rows_at_latest, state_after, step, unless_refused}
+use Rattle.mm_query.specs.State.{AreSavedRows, Saved, Savepoint, State, has_transaction}
 use Rattle.mm_query.specs.declared.command.Command.{Command}
 use Rattle.mm_query.specs.declared.command.Command.TheVariants.{Nothing, Define, Change, Scan, ScanIndex, Select, Explain, Show, Tables, Begin, Commit, Rollback, Savepoint as SetSavepoint, RollbackTo}
 use Rattle.mm_query.specs.declared.command.Definition.{Definition}

@@ -17,7 +17,6 @@ use Rattle.mm_value.specs.declared.refusal.Refusal.TheVariants.{NoSuchSavepoint,
 use Rattle.mm_query.specs.Machine.{Outcome, after_all, after_definition, back_to, after_rollback_to, after_savepoint, conditions, definition_conditions, is_of_index, lacks_savepoint, max_savepoints, reply_to, rows_at_latest, state_after, step, unless_refused}
 use Rattle.mm_query.specs.State.{Saved, Savepoint, State, has_transaction, savepoints_of}
 use Rattle.mm_query.specs.Transactions.{AreAlike, is_done_alike, is_transaction_control, leaves_savepoint}
-use Rattle.mm_query.specs.declared.bound_query.BoundQuery.{BoundQuery}
 use Rattle.mm_query.specs.declared.command.Command.{Command}
 use Rattle.mm_query.specs.declared.command.Command.TheVariants.{Nothing, Define, Change, Scan, ScanIndex, Select, Explain, Show, Tables, Begin, Commit, Rollback, Savepoint as SetSavepoint, RollbackTo}
 use Rattle.mm_query.specs.declared.command.Definition.{Definition}
