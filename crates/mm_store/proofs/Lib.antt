@@ -19,6 +19,7 @@ pub mod Reversible
 pub mod Reverting
 pub mod Settling
 pub mod StandingRows
+pub mod Trimming
 pub mod Telling
 pub mod UndoLaws
 pub mod Worlds

@@ -5,6 +5,7 @@ pub mod Links
 pub mod Looked
 pub mod Marks
 pub mod Seen
+pub mod Spares
 pub mod Tables
 pub mod Tally
 pub mod Undoing

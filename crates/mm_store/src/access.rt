@@ -6,8 +6,6 @@ ghost use Rattle.mm_relation.specs.Kept.{IsKept, StoredRows};
 ghost use Rattle.mm_relation.specs.Reads.{Appends, AreMatches, HasIndex, IsRange};
 ghost use Rattle.mm_relation.specs.Refs.{row_at};
 ghost use Rattle.mm_relation.specs.RowLists.{rows_of};
-ghost use Rattle.mm_schema.specs.Rows.{rows_by};
-ghost use Rattle.mm_schema.specs.Sorting.{in_order};
 ghost use Rattle.mm_schema.specs.declared.index.IndexKind.TheVariants as kind;
 ghost use Rattle.mm_store.specs.Looked.{IsFirstOn, IsIndexOn};
 ghost use Rattle.mm_store.specs.Tables.{IsAt};
@@ -92,18 +90,6 @@ impl Store {
         ensures live { (stored : StoredRows) → IsAt self.now table stored → All (IsLive stored.places) result }
     {
         self.table(table).by_key()
-    }
-
-    /// The references of all rows along the TREE index at a place of a table's, counted from 0: in the order of its column, those
-    /// of one value in the order of the key. Without a copy.
-    pub fn walk(&self, table: usize, index: usize) -> Iter<'_>
-        requires there { table < length self.now.tables }
-        requires tree { (stored : StoredRows) → IsAt self.now table stored → (column : ℕ) × HasIndex stored.indexes index column kind.Tree }
-        ensures rows { (stored : StoredRows) (column : ℕ) → IsAt self.now table stored → HasIndex stored.indexes index column kind.Tree
-            → map (row_at (slot_at stored.places)) result ≡ in_order (rows_by column stored.key) (rows_of stored) }
-        ensures live { (stored : StoredRows) → IsAt self.now table stored → All (IsLive stored.places) result }
-    {
-        self.table(table).tree_walk(index)
     }
 
     /// The index in which values of a column of a table are looked up: of those on the column the one that was created first,

@@ -6,8 +6,6 @@ ghost use Rattle.mm_relation.specs.Kept.{IsKept, StoredRows};
 ghost use Rattle.mm_relation.specs.Reads.{Appends, AreMatches, HasIndex, IsRange};
 ghost use Rattle.mm_relation.specs.Refs.{row_at};
 ghost use Rattle.mm_relation.specs.RowLists.{rows_of};
-ghost use Rattle.mm_schema.specs.Rows.{rows_by};
-ghost use Rattle.mm_schema.specs.Sorting.{in_order};
 ghost use Rattle.mm_schema.specs.declared.index.IndexKind.TheVariants as kind;
 ghost use Rattle.mm_store.specs.Links.{RefersTo};
 ghost use Rattle.mm_store.specs.Looked.{IsFirstOn, IsIndexOn};
@@ -183,18 +181,6 @@ impl<'a> View<'a> {
         ensures live { (stored : StoredRows) → IsAt self.now.store table stored → All (IsLive stored.places) result }
     {
         self.store.key_walk(table)
-    }
-
-    /// The references of all rows along the TREE index at a place of a table's, counted from 0: in the order of its column, those
-    /// of one value in the order of the key. Without a copy, and no row is counted.
-    pub fn walk(&self, table: usize, index: usize) -> Iter<'a>
-        requires there { table < length self.now.store.tables }
-        requires tree { (stored : StoredRows) → IsAt self.now.store table stored → (column : ℕ) × HasIndex stored.indexes index column kind.Tree }
-        ensures rows { (stored : StoredRows) (column : ℕ) → IsAt self.now.store table stored → HasIndex stored.indexes index column kind.Tree
-            → map (row_at (slot_at stored.places)) result ≡ in_order (rows_by column stored.key) (rows_of stored) }
-        ensures live { (stored : StoredRows) → IsAt self.now.store table stored → All (IsLive stored.places) result }
-    {
-        self.store.walk(table, index)
     }
 
     /// The row that a row refers to by a column, without a search and without a look at either.

@@ -1,5 +1,5 @@
 //! The end of commands that are not to be taken back any more.
-ghost use Rattle.std.specs.Prelude.{◌≡◌, ◌<◌, [], length, map};
+ghost use Rattle.std.specs.Prelude.{◌≡◌, ◌<◌, [], length, map, All};
 ghost use Rattle.mm_partition.specs.Places.{slot_at};
 ghost use Rattle.mm_relation.specs.Changes.{AreHidden};
 ghost use Rattle.mm_relation.specs.Edits.{removed};
@@ -7,6 +7,7 @@ ghost use Rattle.mm_relation.specs.Index.{EachTurns};
 ghost use Rattle.mm_relation.specs.Kept.{StoredRows};
 ghost use Rattle.mm_relation.specs.RowLists.{rows_of};
 ghost use Rattle.mm_store.specs.Commands.{IsSettled};
+ghost use Rattle.mm_store.specs.Spares.{HasFewSparesAt};
 ghost use Rattle.mm_store.specs.Tables.{IsAt, SameForm, Turns};
 ghost use Rattle.mm_store.specs.Undoing.{CanUndo};
 
@@ -28,6 +29,7 @@ impl Store {
         ensures links { self.new.links ≡ self.old.links }
         ensures undo { undo.new ≡ [] }
         ensures fits { CanUndo self.new undo.new }
+        ensures spares { All (λ command. HasFewSparesAt 64 self.new command.table) undo.old }
     {
         while let Some(mut command) = undo.pop() {
             let entries = command.log.entries().len();
@@ -36,7 +38,8 @@ impl Store {
         }
     }
 
-    /// Frees the rows of a table that the command of a log removed, and empties the log.
+    /// Frees the rows of a table that the command of a log removed, and empties the log. Each tree of the table keeps at most 64
+    /// spare nodes.
     fn finish(&mut self, table: usize, log: &mut Log)
         requires there { table < length self.old.tables }
         requires hidden { (stored : StoredRows) → IsAt self.old table stored → AreHidden (slot_at stored.places) (removed log.old.entries) }
@@ -44,6 +47,7 @@ impl Store {
             → (new : StoredRows) × Turns self.old table new self.new × IsSettled stored (removed log.old.entries) new }
         ensures log { log.new.entries ≡ [] }
         ensures links { self.new.links ≡ self.old.links }
+        ensures spares { HasFewSparesAt 64 self.new table }
     {
         self.tables[table].settle(log);
         self.tables[table].trim_spares(MAX_SPARES);

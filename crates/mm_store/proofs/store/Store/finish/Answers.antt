@@ -14,12 +14,14 @@ use Rattle.mm_schema.specs.declared.reference.Reference.{Reference}
 use Rattle.mm_value.specs.declared.row_ref.RowRef.{RowRef}
 use Rattle.mm_store.specs.Commands.{IsSettled}
 use Rattle.mm_store.specs.Joined.{IsSound, IsTable}
+use Rattle.mm_store.specs.Spares.{HasFewSpares}
 use Rattle.mm_store.specs.Tables.{Tables}
 use Rattle.mm_store.specs.declared.link.Link.{Link}
 use Rattle.mm_store.proofs.Applied.{set_twice, table_at}
 use Rattle.mm_store.proofs.Applying.{only, there_inside, told_of}
 use Rattle.mm_store.proofs.Joining.{at_index, get_set_same, one_relation}
 use Rattle.mm_store.proofs.Settling.{IsSound-freed, SameIndex-trimmed}
+use Rattle.mm_store.proofs.Trimming.{few_trimmed}
 use Rattle.mm_store.proofs.store.Store.finish.Goals as goal
 use Rattle.mm_store.proofs.store.Store.finish.Goals.{After-is_kept}
 
@@ -140,3 +142,15 @@ returns-clause-settled c =
           c.index_mut.ensures.value stored there_then))
           (settled at),
     )
+
+pub returns-clause-spares : goal.returns-clause-spares
+returns-clause-spares c =
+    let at = (goal.at.returns-clause-spares c).After-is_kept in
+    λ stored there_then.
+    let is_new : stored ≡ new at =
+    one_relation stored (new at)
+    (sym there_then
+    ∙ (ap (λ (ts : List StoredRows). slice_get ts (place at)) (set_twice (items at) (place at) (mid at) (new at))
+    ∙ get_set_same (items at) (place at) (new at) (within at))) in
+    subst (HasFewSpares 64) (sym is_new)
+    (few_trimmed 64 c.index_mut-2.result.now (new at) (ap (λ (s : StoredRows). s.spare) c.trim_spares.ensures.rest) c.trim_spares.ensures.indexes)

@@ -1,13 +1,15 @@
-use Rattle.std.proofs.Common.{◌≡◌, [], ◌∷◌, ◌++◌, ◌<◌, List, length, refl, sym, ap, ◌∙◌, subst, arith}
+use Rattle.std.proofs.Common.{◌≡◌, [], ◌∷◌, ◌++◌, ◌<◌, List, length, refl, sym, ap, ◌∙◌, subst, append_assoc, arith}
 use Rattle.std.specs.List.{All}
-use Rattle.std.proofs.lemmas.List.{length-set}
-use Rattle.std.proofs.lemmas.List.Elements.{All-weaker}
+use Rattle.std.proofs.lemmas.List.{append-nil, length-set}
+use Rattle.std.proofs.lemmas.List.Elements.{All-cons, All-nil, All-weaker}
 use Rattle.mm_relation.specs.Kept.{StoredRows}
+use Rattle.mm_store.specs.Spares.{HasFewSparesAt}
 use Rattle.mm_store.specs.Tally.{noted_of}
 use Rattle.mm_store.specs.Worlds.{Noted}
 use Rattle.mm_store.proofs.Forms.{forms_same, forms_turned, forms_twice}
 use Rattle.mm_store.proofs.HiddenRows.{AllHidden, AllHidden-less, AllHidden-start, All_left, map_rows_turned, newest_hidden, tables_there}
 use Rattle.mm_store.proofs.Joining.{some_at}
+use Rattle.mm_store.proofs.Trimming.{few_turned}
 use Rattle.mm_store.proofs.store.Store.settle.Goals as goal
 
 pub loop-command-init : goal.loop-command-init
@@ -17,6 +19,7 @@ loop-command-init c = record {
   rows = refl;
   form = forms_same c.args.self.now.tables;
   links = refl;
+  trimmed = ([], sym (append-nil c.args.undo.now), All-nil (λ (x : Noted). HasFewSparesAt 64 c.args.self.now x.table));
 }
 
 pub finish-requires-clause-hidden : goal.finish-requires-clause-hidden
@@ -53,4 +56,20 @@ loop-command-preserved c =
           forms_twice c.args.self.now.tables store.tables new.tables before_it.form
           (forms_turned store new command.table was.0 done.0 was.1 done.1 done.2.form);
       links = c.finish.ensures.links ∙ before_it.links;
+      trimmed =
+          let done_before = before_it.trimmed.0 in (
+            command ∷ done_before,
+            before_it.trimmed.1 ∙ ap (λ (l : List Noted). l ++ done_before) c.in-Some.ensures ∙ append_assoc older (command ∷ []) done_before
+                ∙ ap (λ (l : List Noted). l ++ command ∷ done_before) (sym c.keep.ensures),
+            All-cons (λ (x : Noted). HasFewSparesAt 64 new x.table) command done_before c.finish.ensures.spares
+                (All-weaker (λ (x : Noted). HasFewSparesAt 64 store x.table) (λ (x : Noted). HasFewSparesAt 64 new x.table)
+                (λ x few. few_turned 64 store new command.table done.0 done.1 c.finish.ensures.spares x.table few) done_before before_it.trimmed.2),
+          );
     }
+
+pub returns-clause-spares : goal.returns-clause-spares
+returns-clause-spares c =
+    let store = c.loop-command.self in
+    let trimmed = c.loop-command.invariant.trimmed in
+    subst (All (λ (x : Noted). HasFewSparesAt 64 store x.table))
+    (sym (trimmed.1 ∙ ap (λ (l : List Noted). l ++ trimmed.0) c.in_default.ensures.0)) trimmed.2
