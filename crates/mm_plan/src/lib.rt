@@ -10,11 +10,17 @@ mod first;
 mod from;
 mod further;
 mod joins;
+mod laws;
 mod planner;
 mod planning;
 mod run;
 mod ways;
 
 pub use from::places_of;
+pub use laws::{
+    first_lines_are_served_by_their_indexes, join_equalities_are_not_passed_over,
+    join_equalities_ask_for_earlier_values, join_lines_go_by_their_indexes,
+    keys_and_indexed_columns_have_trees,
+};
 pub use planning::plan;
 pub use run::run_plan;
