@@ -7,6 +7,7 @@ pub mod Others
 pub mod Preparing
 pub mod Pushing
 pub mod ReadExamples
+pub mod ReadSamples
 pub mod Ready
 pub mod Rest
 pub mod Segments

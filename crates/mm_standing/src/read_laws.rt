@@ -1,7 +1,8 @@
 //! Laws of how many rows a change may read for a standing query. The clauses of the code bound the reads from above, so a definition
 //! that counts a row too many would leave them proved. These laws refuse it. No code calls them.
-ghost use Rattle.std.specs.Prelude.{◌≡◌, true, false, All, List};
+ghost use Rattle.std.specs.Prelude.{◌≡◌, Bool, true, false, All, List};
 ghost use Rattle.mm_store.specs.Tables.{Tables};
+ghost use Rattle.mm_value.specs.declared.values.Value.{Value};
 ghost use Rattle.mm_relevance.specs.Relevance.{IsCyclic};
 ghost use Rattle.mm_delta.specs.Edited.{has_index};
 ghost use Rattle.mm_delta.specs.declared.edited.TableEdits.{TableEdits};
@@ -17,12 +18,13 @@ pub fn unedited_tables_are_not_read()
 
 /// A worked example. `SELECT a.id, b.id FROM t a, t b WHERE a.k = b.k` reads 6 rows at most when the row (3, 5) is added to the rows
 /// (1, 5), (2, 5) and (4, 9) of a table with an index on `k`: at each place of FROM the new row and the two with its number. Without
-/// the index it reads 8: at each place the new row and all three.
+/// the index it reads 8: at each place the new row and all three. There are such tables, with the index and without it.
 pub fn pairs_of_equal_numbers_read_6_or_8()
     ensures along_index { (store : Tables) (changes : List TableEdits) (skipped : RowTests) → AreOfCyclicRows skipped → AddsThirdFive store changes
         → has_index store 0 1 ≡ true → query_reads store changes skipped equal_pairs ≡ 6 }
     ensures without_index { (store : Tables) (changes : List TableEdits) (skipped : RowTests) → AreOfCyclicRows skipped → AddsThirdFive store changes
         → has_index store 0 1 ≡ false → query_reads store changes skipped equal_pairs ≡ 8 }
+    ensures there_are { (indexed : Bool) → (store : Tables) × (changes : List TableEdits) × AddsThirdFive store changes × (has_index store 0 1 ≡ indexed) }
 {}
 
 /// A worked example of three places. `SELECT a.id, b.id, c.id FROM t a, t b, t c WHERE a.k = b.k AND b.k = c.k` reads 27 rows at most for
@@ -37,11 +39,12 @@ pub fn triples_of_equal_numbers_read_27()
 
 /// A worked example. `SELECT a.id FROM t a, u b WHERE a.k < b.k AND b.k < 5` reads 1 row when the row (1, 4) is added to `t`, where
 /// (1, 4) is the only row of `u`: the new one, which has a cycle, since no whole number lies between 4 and 5, and is left out. When (2, 3)
-/// is added, it reads 2 rows: the new one and that of `u`.
+/// is added, it reads 2 rows: the new one and that of `u`. There are such tables.
 pub fn irrelevant_rows_read_1_and_others_2()
     ensures cyclic { IsCyclic below_some_below_5.query 0 (row_of 1 4) }
     ensures irrelevant { (store : Tables) (changes : List TableEdits) (skipped : RowTests) → AddsBesideFour store changes (row_of 1 4)
         → skipped below_some_below_5.query 0 (row_of 1 4) ≡ true → query_reads store changes skipped below_some_below_5 ≡ 1 }
     ensures relevant { (store : Tables) (changes : List TableEdits) (skipped : RowTests) → AreOfCyclicRows skipped
         → AddsBesideFour store changes (row_of 2 3) → query_reads store changes skipped below_some_below_5 ≡ 2 }
+    ensures there_are { (row : List Value) → (store : Tables) × (changes : List TableEdits) × AddsBesideFour store changes row }
 {}

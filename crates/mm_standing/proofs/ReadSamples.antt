@@ -1,0 +1,59 @@
+-- Stores and changes that look like those of the worked examples.
+use Rattle.std.proofs.Common.{◌≡◌, ℕ, Bool, true, false, List, [], ◌∷◌, length, map, refl}
+use Rattle.std.specs.List.{range_with_len}
+use Rattle.mm_partition.specs.Places.{Live}
+use Rattle.mm_relation.specs.Kept.{StoredRows}
+use Rattle.mm_relation.specs.declared.edits.Edit.TheVariants.{Add}
+use Rattle.mm_relation.specs.declared.index.Index.{Index}
+use Rattle.mm_relation.specs.declared.index.Index.TheVariants.{Tree}
+use Rattle.mm_store.specs.Tables.{Tables}
+use Rattle.mm_value.specs.declared.row_ref.RowRef.{RowRef}
+use Rattle.mm_value.specs.declared.values.Value.{Value}
+use Rattle.mm_delta.specs.Edited.{has_index}
+use Rattle.mm_delta.specs.declared.edited.TableEdits.{TableEdits}
+use Rattle.mm_standing.specs.ReadExamples.{AddsBesideFour, AddsThirdFive, row_of}
+
+abbrev refs_to : ℕ → List RowRef
+refs_to rows = map (λ slot. record { part = 0; slot = slot }) (range_with_len 0 rows)
+
+-- A table of two columns with these rows, which stand in the order of their keys.
+abbrev table_of : List (List Value) → List Index → StoredRows
+table_of rows indexes = record {
+  width = 2;
+  key = 0;
+  places = record { slots = map Live rows; room = 0 };
+  refs = refs_to (length rows);
+  spare = 0;
+  indexes = indexes;
+}
+
+-- A row is added to the table at place 0.
+abbrev addition_of : List Value → List TableEdits
+addition_of row = record { table = 0; edits = record { ref_ptr = (0, 0); now = Add row ∷ [] } } ∷ []
+
+abbrev three : List (List Value)
+three = row_of 1 5 ∷ row_of 2 5 ∷ row_of 4 9 ∷ []
+
+-- The index on the numbers, if there is one.
+abbrev indexes_if : Bool → List Index
+indexes_if true = Tree 1 (record { refs = refs_to 3; height = 1; spare = 0 }) ∷ []
+indexes_if false = []
+
+pub third_five_added : (b : Bool) → (store : Tables) × (changes : List TableEdits) × AddsThirdFive store changes × (has_index store 0 1 ≡ b)
+third_five_added b = (
+  record { tables = table_of three (indexes_if b) ∷ []; links = [] },
+  addition_of (row_of 3 5),
+  record { before = refl; after = refl; added = record { gone = refl; come = refl } },
+  by b,
+)
+  where
+    by : (b : Bool) → has_index (record { tables = table_of three (indexes_if b) ∷ []; links = [] }) 0 1 ≡ b
+    by true = refl
+    by false = refl
+
+pub added_beside_four : (row : List Value) → (store : Tables) × (changes : List TableEdits) × AddsBesideFour store changes row
+added_beside_four row = (
+  record { tables = table_of [] [] ∷ table_of (row_of 1 4 ∷ []) [] ∷ []; links = [] },
+  addition_of row,
+  record { before = refl; added = record { gone = refl; come = refl }; left = record { gone = refl; come = refl } },
+)
