@@ -1,21 +1,18 @@
 -- What is counted of reads, case by case.
-use Rattle.std.proofs.Common.{◌≡◌, ℕ, ◌+◌, ℤ, Bool, true, false, cond, Some, List, [], ◌∷◌, ◌++◌, length, set, refl, ap, subst, ◌∙◌, arith, length-append}
+use Rattle.std.proofs.Common.{◌≡◌, ℕ, ◌+◌, ℤ, Bool, true, false, cond, Some, List, [], ◌∷◌, ◌++◌, length, set, refl, ap, ◌∙◌, arith, length-append}
 use Rattle.std.specs.Prelude.{FitsSigned}
 use Rattle.std.specs.Int.{w64}
 use Rattle.std.specs.List.{All, sum_by}
 use Rattle.std.proofs.lemmas.List.Elements.{All-head, All-tail, All-weaker}
 use Rattle.std.proofs.lemmas.List.Sums.{sum_by-cons}
-use Rattle.mm_value.specs.Equality.{same_value}
-use Rattle.mm_value.specs.Storable.{AreStorable, IsStorable}
+use Rattle.mm_value.specs.Storable.{AreStorable}
 use Rattle.mm_value.specs.declared.values.Value.TheVariants.{Int}
-use Rattle.mm_value.proofs.SameRows.{values_exact}
-use Rattle.mm_query.specs.Atoms.{value_in}
 use Rattle.mm_query.specs.Queries.{Partial, none_fails}
 use Rattle.mm_query.specs.declared.atom.Atom.{Atom}
 use Rattle.mm_query.specs.declared.bound_query.FieldPlace.{FieldPlace}
-use Rattle.mm_query.proofs.Storables.{value_in_storable}
 use Rattle.mm_delta.specs.Candidates.{candidates, having, required}
 use Rattle.mm_delta.proofs.Found.{Row, Rows}
+use Rattle.mm_delta.proofs.PastRange.{apart}
 
 -- ---- sums
 
@@ -64,13 +61,6 @@ module _ (indexed : ℕ → ℕ → Bool) (atoms : List (Atom FieldPlace)) (befo
       omega (arith, none))
 
 -- ---- numbers past 64 bits
-
-apart : (column : ℕ) (row : Row) (number : ℤ) → AreStorable row → ¬ FitsSigned w64 number → same_value (value_in column row) (Int number) ≡ false
-apart column row number all past = by (same_value (value_in column row) (Int number)) refl
-  where
-    by : (b : Bool) → same_value (value_in column row) (Int number) ≡ b → b ≡ false
-    by true e = absurd (past (subst IsStorable ((values_exact (value_in column row) (Int number)).0 e) (value_in_storable column row all)))
-    by false e = refl
 
 pub none_past : (column : ℕ) (number : ℤ) (rows : Rows) → ¬ FitsSigned w64 number → All AreStorable rows → having (Some (column, Int number)) rows ≡ []
 none_past column number [] past all = refl
