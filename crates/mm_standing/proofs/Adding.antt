@@ -181,7 +181,7 @@ eq_itself n = eq-eqb n n refl
 least : (n x d : ℤ) → x ≡ d → pos 0 ≤ℤ (n +ℤ (x +ℤ pos 0)) → pos 0 ≤ℤ (n +ℤ d)
 least n x d e h = omega (arith, ints)
 
-most : (n x d : ℤ) → x ≡ d → (n +ℤ (x +ℤ pos 0)) <ℤ pos (2 ^ 64) → (n +ℤ d) <ℤ pos (2 ^ 64)
+most : (n x d : ℤ) → x ≡ d → (n +ℤ (x +ℤ pos 0)) ≤ℤ pos 1048576 → (n +ℤ d) <ℤ pos (2 ^ 64)
 most n x d e h = omega (arith, ints)
 
 no_more : (d : ℤ) → d +ℤ pos 0 ≡ d

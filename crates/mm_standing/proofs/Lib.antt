@@ -1,6 +1,7 @@
 pub mod Adding
 pub mod Counting
 pub mod Found
+pub mod Gains
 pub mod InPlace
 pub mod Net
 pub mod Others

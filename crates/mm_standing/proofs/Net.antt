@@ -1,8 +1,7 @@
 -- What changes add up to, of which each row has at most one.
-use Rattle.std.proofs.Common.{◌≡◌, ℕ, zero, suc, ℤ, pos, ◌+◌, ◌+ℤ◌, ◌-ℤ◌, neg_ℤ, ◌≤◌, ◌≤ℤ◌, ◌<ℤ◌, ◌^◌, ◌⊎◌, inl, inr, Bool, true, false, cond, List, [], ◌∷◌, drop, length, map, refl, sym, ap, ◌∙◌, subst, arith}
-use Rattle.std.specs.List.{All, AllByRecursion, IsDistinct}
+use Rattle.std.proofs.Common.{◌≡◌, ℕ, zero, suc, ℤ, pos, ◌+◌, ◌+ℤ◌, ◌-ℤ◌, ◌≤ℤ◌, ◌⊎◌, inl, inr, Bool, true, false, cond, List, [], ◌∷◌, drop, length, map, refl, sym, ap, ◌∙◌, subst, arith}
+use Rattle.std.specs.List.{AllByRecursion, IsDistinct}
 use Rattle.std.proofs.lemmas.Int.{ints}
-use Rattle.std.proofs.lemmas.List.Elements.{All-weaker}
 use Rattle.std.proofs.lemmas.List.Sorted.{length_permutation}
 use Rattle.std.proofs.lemmas.Map.Keys.{IsDistinct-head, IsDistinct-tail}
 use Rattle.mm_value.specs.Equality.{same_row}
@@ -12,7 +11,7 @@ use Rattle.mm_value.proofs.SameRows.{rows_exact}
 use Rattle.mm_bag.specs.Counts.{Entries, IsOnce, count_in, count_of, signed_count, total_of}
 use Rattle.mm_bag.specs.declared.signed.Signed.{Signed}
 use Rattle.mm_delta.proofs.Reordering.{permutation_from_counts}
-use Rattle.mm_standing.specs.Bags.{Brings, sum_over}
+use Rattle.mm_standing.specs.Bags.{sum_over}
 use Rattle.mm_standing.specs.Queries.{IsBagOf}
 use Rattle.mm_standing.proofs.Others.{Rows, count_in_others, length_others, none_in_others, others}
 use Rattle.mm_standing.proofs.Totals.{total_is_length}
@@ -28,7 +27,7 @@ IsOnceEach changes = IsDistinct same_row (rows_in changes)
 abbrev pub sum_of : List Signed → ℤ
 sum_of changes = sum_over (λ (change : Signed). change.count) changes
 
-abbrev pick : Bool → ℤ → ℤ
+abbrev pub pick : Bool → ℤ → ℤ
 pick b n = cond b n (pos 0)
 
 -- A row that has none of the changes.
@@ -62,11 +61,6 @@ module _ (c : Signed) (cs : List Signed) (once : IsOnceEach (c ∷ cs)) where
     where
       rest : (a b : ℤ) → a ≡ pos 0 → b ≡ a +ℤ b
       rest a b p = omega (arith, ints)
-
-pub once_dropped : (k : ℕ) (changes : List Signed) → IsOnceEach changes → IsOnceEach (drop k changes)
-once_dropped zero changes once = once
-once_dropped (suc k) [] once = once
-once_dropped (suc k) (c ∷ cs) once = once_dropped k cs (once_tail c cs once)
 
 -- Behind some of the changes a row has the same change or none.
 pub count_dropped : (row : List Value) (k : ℕ) (changes : List Signed) → IsOnceEach changes
@@ -120,37 +114,6 @@ sum_is_difference (c ∷ cs) after before once h =
             others_in_rest c cs once row e ∙ h row
             ∙ (λ i. pos (sym (count_in_others c.row row after e) i) -ℤ pos (sym (count_in_others c.row row before e) i))
 
--- Changes that are for each row at most its count are in sum at most the length.
-pub sum_at_most : (changes : List Signed) (after : Rows) → IsOnceEach changes
-    → ((row : List Value) → signed_count row changes ≤ℤ pos (count_of row after)) → sum_of changes ≤ℤ pos (length after)
-sum_at_most [] after once h = least (length after)
-  where
-    least : (n : ℕ) → pos 0 ≤ℤ pos n
-    least n = omega (arith, ints)
-sum_at_most (c ∷ cs) after once h =
-    both c.count (sum_of cs) (length after) (count_of c.row after) (length (others c.row after))
-    (subst (λ z. z ≤ℤ pos (count_of c.row after)) (first_is c cs once) (h c.row))
-    (sum_at_most cs (others c.row after) (once_tail c cs once) left)
-    (length_others c.row after)
-  where
-    both : (n s : ℤ) (la ca ra : ℕ) → n ≤ℤ pos ca → s ≤ℤ pos ra → la ≡ ca + ra → (n +ℤ s) ≤ℤ pos la
-    both n s la ca ra p q r = omega (arith, ints)
-
-    none : (z : ℤ) (a : ℕ) → z ≡ pos 0 → a ≡ 0 → z ≤ℤ pos a
-    none z a p q = omega (arith, ints)
-
-    left : (row : List Value) → signed_count row cs ≤ℤ pos (count_of row (others c.row after))
-    left row = by (same_row c.row row) refl
-      where
-        by : (b : Bool) → same_row c.row row ≡ b → signed_count row cs ≤ℤ pos (count_of row (others c.row after))
-        by true e =
-            let same : c.row ≡ row = (rows_exact c.row row).0 e in
-            none (signed_count row cs) (count_of row (others c.row after)) (same_alone c cs once row e)
-            (subst (λ r. count_of r (others c.row after) ≡ 0) same (none_in_others c.row after))
-        by false e =
-            subst (λ z. z ≤ℤ pos (count_of row (others c.row after))) (sym (others_in_rest c cs once row e))
-            (subst (λ n. signed_count row (c ∷ cs) ≤ℤ pos n) (sym (count_in_others c.row row after e)) (h row))
-
 -- ---- the changes of one list
 
 module _ (entries : Entries) (changes : List Signed) (after before : Rows) (once : IsOnceEach changes)
@@ -171,7 +134,7 @@ module _ (entries : Entries) (changes : List Signed) (after before : Rows) (once
       new : (n b a : ℕ) (z : ℤ) → n ≡ b → z ≡ pos a -ℤ pos b → pos n +ℤ z ≡ pos a
       new n b a z p q = omega (arith, ints)
 
-  -- Behind some of the changes no count falls below 0 ...
+  -- Behind some of the changes no count falls below 0.
   pub counts_behind : (k : ℕ) (row : List Value) → pos 0 ≤ℤ (pos (count_in row entries) +ℤ signed_count row (drop k changes))
   counts_behind k row = by (count_dropped row k changes once)
     where
@@ -185,43 +148,3 @@ module _ (entries : Entries) (changes : List Signed) (after before : Rows) (once
           → pos 0 ≤ℤ (pos (count_in row entries) +ℤ signed_count row (drop k changes))
       by (inl e) = old (count_in row entries) (signed_count row (drop k changes)) e
       by (inr e) = new (count_in row entries) (count_of row after) (signed_count row (drop k changes)) (signed_count row changes) e (counts_after row)
-
-  at_most : (k : ℕ) (row : List Value) → signed_count row (drop k changes) ≤ℤ pos (count_of row after)
-  at_most k row = by (count_dropped row k changes once)
-    where
-      none : (a : ℕ) (z : ℤ) → z ≡ pos 0 → z ≤ℤ pos a
-      none a z p = omega (arith, ints)
-
-      some : (a b : ℕ) (z y : ℤ) → z ≡ y → y ≡ pos a -ℤ pos b → z ≤ℤ pos a
-      some a b z y p q = omega (arith, ints)
-
-      by : ((signed_count row (drop k changes) ≡ pos 0) ⊎ (signed_count row (drop k changes) ≡ signed_count row changes))
-          → signed_count row (drop k changes) ≤ℤ pos (count_of row after)
-      by (inl e) = none (count_of row after) (signed_count row (drop k changes)) e
-      by (inr e) = some (count_of row after) (count_of row before) (signed_count row (drop k changes)) (signed_count row changes) e (change row)
-
-  -- ... and there are no more rows than before and after together.
-  pub total_behind : (k : ℕ) → (pos (total_of entries) +ℤ sum_of (drop k changes)) ≤ℤ pos (length before + length after)
-  total_behind k =
-      within (total_of entries) (length before) (length after) (sum_of (drop k changes)) (total_is_length entries before keys bag)
-      (sum_at_most (drop k changes) after (once_dropped k changes once) (at_most k))
-    where
-      within : (n b a : ℕ) (z : ℤ) → n ≡ b → z ≤ℤ pos a → (pos n +ℤ z) ≤ℤ pos (b + a)
-      within n b a z p q = omega (arith, ints)
-
-  -- The changes bring the bag to the rows after, where there are few of them.
-  pub brings : length before ≤ 1048576 → length after ≤ 1048576
-      → All (λ (c : Signed). (neg_ℤ (pos (2 ^ 64)) <ℤ c.count) × (c.count <ℤ pos (2 ^ 64))) changes → Brings changes entries after
-  brings few still small = record {
-    counts = counts_after;
-    stages = counts_behind;
-    totals = λ k. within (length before) (length after) (pos (total_of entries) +ℤ sum_of (drop k changes)) few still (total_behind k);
-    small = All-weaker (λ (c : Signed). (neg_ℤ (pos (2 ^ 64)) <ℤ c.count) × (c.count <ℤ pos (2 ^ 64))) (λ (c : Signed). pos 0 ≤ℤ (c.count +ℤ pos (2 ^ 64)))
-        (λ c h. least c.count h.0) changes small;
-  }
-    where
-      within : (b a : ℕ) (z : ℤ) → b ≤ 1048576 → a ≤ 1048576 → z ≤ℤ pos (b + a) → z <ℤ pos (2 ^ 64)
-      within b a z p q r = omega (arith, ints)
-
-      least : (z : ℤ) → neg_ℤ (pos (2 ^ 64)) <ℤ z → pos 0 ≤ℤ (z +ℤ pos (2 ^ 64))
-      least z p = omega (arith, ints)

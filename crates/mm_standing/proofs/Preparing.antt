@@ -1,5 +1,5 @@
 -- What is sound with more room, and with changes that are ready.
-use Rattle.std.proofs.Common.{◌≡◌, ◌≢◌, Bool, false, set, slice_index, ℕ, pos, ◌+◌, ◌+ℤ◌, ◌≤◌, ◌<◌, ◌≤ℤ◌, ◌<ℤ◌, ◌^◌, true, List, [], length, map, get_or, refl, sym, ap, ◌∙◌, subst, arith}
+use Rattle.std.proofs.Common.{◌≡◌, ◌≢◌, Bool, false, set, slice_index, ℕ, pos, ◌+◌, ◌+ℤ◌, ◌≤◌, ◌<◌, ◌≤ℤ◌, true, List, [], length, map, get_or, refl, sym, ap, ◌∙◌, subst, arith}
 use Rattle.std.specs.List.{All}
 use Rattle.std.specs.Prelude.{◌==◌}
 use Rattle.std.proofs.lemmas.Bool.{eqb-true}
@@ -21,7 +21,7 @@ module _ (old new : List Counts) (same : map (λ (b : Counts). b.entries) new �
   pub within_roomier : (cs : List ListChange) → IsWithin old cs → IsWithin new cs
   within_roomier cs w = record {
     counts = λ list row. subst (λ (es : Entries). pos 0 ≤ℤ (pos (count_in row es) +ℤ sum_over (row_change list row) cs)) (sym (at list)) (w.counts list row);
-    totals = λ list. subst (λ (es : Entries). (pos (total_of es) +ℤ sum_over (list_change list) cs) <ℤ pos (2 ^ 64)) (sym (at list)) (w.totals list);
+    totals = λ list. subst (λ (es : Entries). (pos (total_of es) +ℤ sum_over (list_change list) cs) ≤ℤ pos 1048576) (sym (at list)) (w.totals list);
   }
 
   pub sound_roomier : (prepared : List Prepared) (log : List ListChange) → ((list : ℕ) → room_at old list ≤ room_at new list)

@@ -1,5 +1,5 @@
 -- What stays sound where a bag goes, or what is ready.
-use Rattle.std.proofs.Common.{◌≡◌, ℕ, zero, suc, pos, ◌+ℤ◌, ◌<ℤ◌, ◌≤ℤ◌, ◌≤◌, ◌<◌, ◌^◌, ◌⊎◌, inl, inr, ⊎_elim, List, [], ◌∷◌, ◌++◌, length, map, get_or, refl, sym, ap, ◌∙◌, subst, arith}
+use Rattle.std.proofs.Common.{◌≡◌, ℕ, zero, suc, pos, ◌+ℤ◌, ◌≤ℤ◌, ◌≤◌, ◌<◌, ◌⊎◌, inl, inr, ⊎_elim, List, [], ◌∷◌, ◌++◌, length, map, get_or, refl, sym, ap, ◌∙◌, subst, arith}
 use Rattle.std.specs.List.{All, remove}
 use Rattle.std.proofs.lemmas.Int.{ints}
 use Rattle.mm_bag.specs.Counts.{Counts, Entries, count_in, has_entry, total_of}
@@ -42,7 +42,7 @@ sound_less bags place sound =
       counts = λ list row. positive (count_in row (entries_at left list));
       totals = λ list.
           let r = removed_at (λ (b : Counts). b.entries) bags place list [] in
-          subst (λ (es : Entries). (pos (total_of es) +ℤ pos 0) <ℤ pos (2 ^ 64)) (sym r.1) (old.totals r.0);
+          subst (λ (es : Entries). (pos (total_of es) +ℤ pos 0) ≤ℤ pos 1048576) (sym r.1) (old.totals r.0);
     } in
     record {
       within = nothing_to_add left now;
@@ -67,11 +67,11 @@ pushed_at f [] x (suc k) e = inl refl
 pushed_at f (y ∷ ys) x zero e = inl refl
 pushed_at f (y ∷ ys) x (suc k) e = pushed_at f ys x k e
 
-few : (n : ℕ) → n < 2 ^ 64 → (pos n +ℤ pos 0) <ℤ pos (2 ^ 64)
+few : (n : ℕ) → n ≤ 1048576 → (pos n +ℤ pos 0) ≤ℤ pos 1048576
 few n h = omega (arith, ints)
 
--- A bag of fewer than 2^64 rows can come where nothing is ready and the log is empty.
-pub sound_more : (bags : List Counts) (bag : Counts) → total_of bag.entries < 2 ^ 64 → IsSound bags [] [] → IsSound (bags ++ bag ∷ []) [] []
+-- A bag of at most 1,048,576 rows can come where nothing is ready and the log is empty.
+pub sound_more : (bags : List Counts) (bag : Counts) → total_of bag.entries ≤ 1048576 → IsSound bags [] [] → IsSound (bags ++ bag ∷ []) [] []
 sound_more bags bag fits sound =
     let old : IsWithin bags [] = nothing_left bags [] sound.undo in
     let all : List Counts = bags ++ bag ∷ [] in
@@ -79,8 +79,8 @@ sound_more bags bag fits sound =
       counts = λ list row. positive (count_in row (entries_at all list));
       totals = λ list.
           ⊎_elim
-          (λ same. subst (λ (es : Entries). (pos (total_of es) +ℤ pos 0) <ℤ pos (2 ^ 64)) (sym same) (old.totals list))
-          (λ here. subst (λ (es : Entries). (pos (total_of es) +ℤ pos 0) <ℤ pos (2 ^ 64)) (sym here) (few (total_of bag.entries) fits))
+          (λ same. subst (λ (es : Entries). (pos (total_of es) +ℤ pos 0) ≤ℤ pos 1048576) (sym same) (old.totals list))
+          (λ here. subst (λ (es : Entries). (pos (total_of es) +ℤ pos 0) ≤ℤ pos 1048576) (sym here) (few (total_of bag.entries) fits))
           (pushed_at (λ (b : Counts). b.entries) bags bag list []);
     } in
     record {

@@ -1,5 +1,5 @@
 -- The changes of one list behind those of the lists before it.
-use Rattle.std.proofs.Common.{◌≡◌, ◌≢◌, ℕ, zero, suc, ℤ, pos, ◌+◌, ◌+ℤ◌, ◌<◌, ◌≤ℤ◌, ◌<ℤ◌, ◌^◌, ◌⊎◌, inl, inr, Bool, true, false, cond, List, [], ◌∷◌, ◌++◌, Some, drop, get_or, length, map, refl, sym, take, ap, ◌∙◌, subst, arith}
+use Rattle.std.proofs.Common.{◌≡◌, ◌≢◌, ℕ, zero, suc, ℤ, pos, ◌+◌, ◌+ℤ◌, ◌<◌, ◌≤ℤ◌, ◌⊎◌, inl, inr, Bool, true, false, cond, List, [], ◌∷◌, ◌++◌, Some, drop, get_or, length, map, refl, sym, take, ap, ◌∙◌, subst, arith}
 use Rattle.std.specs.Prelude.{◌==◌, slice_get}
 use Rattle.std.specs.List.{All}
 use Rattle.std.specs.Option.{unwrap_or}
@@ -165,7 +165,7 @@ module _ (bags : List Counts) (n : ℕ) (bag : Counts) (there : n < length bags)
         join a s r t p q = omega (arith, ints)
 
     within_joined : IsWithin bags rest → ((row : List Value) → pos 0 ≤ℤ (pos (count_in row bag.entries) +ℤ signed_count row changes))
-        → (pos (total_of bag.entries) +ℤ sum_of changes) <ℤ pos (2 ^ 64) → IsWithin bags (rest ++ changes_in n changes)
+        → (pos (total_of bag.entries) +ℤ sum_of changes) ≤ℤ pos 1048576 → IsWithin bags (rest ++ changes_in n changes)
     within_joined w counts total = record {
       counts = λ list row. count_at list row (n == list) refl;
       totals = λ list. total_at list (n == list) refl;
@@ -175,9 +175,9 @@ module _ (bags : List Counts) (n : ℕ) (bag : Counts) (there : n < length bags)
         count_at list row true e = subst (λ z. pos 0 ≤ℤ z) (sym (count_here list row e)) (counts row)
         count_at list row false e = subst (λ z. pos 0 ≤ℤ z) (sym (count_elsewhere list row e)) (w.counts list row)
 
-        total_at : (list : ℕ) (b : Bool) → (n == list) ≡ b → total_with bags (rest ++ changes_in n changes) list <ℤ pos (2 ^ 64)
-        total_at list true e = subst (λ z. z <ℤ pos (2 ^ 64)) (sym (total_here list e)) total
-        total_at list false e = subst (λ z. z <ℤ pos (2 ^ 64)) (sym (total_elsewhere list e)) (w.totals list)
+        total_at : (list : ℕ) (b : Bool) → (n == list) ≡ b → total_with bags (rest ++ changes_in n changes) list ≤ℤ pos 1048576
+        total_at list true e = subst (λ z. z ≤ℤ pos 1048576) (sym (total_here list e)) total
+        total_at list false e = subst (λ z. z ≤ℤ pos 1048576) (sym (total_elsewhere list e)) (w.totals list)
 
 -- ---- so many lists
 

@@ -1,5 +1,5 @@
 -- The stages through which changes are added, from the last to the first.
-use Rattle.std.proofs.Common.{◌≡◌, ℕ, zero, suc, ℤ, pos, ◌+ℤ◌, neg_ℤ, ◌≤ℤ◌, ◌<ℤ◌, ◌^◌, ◌⊎◌, inl, inr, Bool, true, false, cond, List, [], ◌∷◌, ◌++◌, length, drop, refl, sym, ap, ◌∙◌, subst, arith}
+use Rattle.std.proofs.Common.{◌≡◌, ℕ, zero, suc, ℤ, pos, ◌+ℤ◌, neg_ℤ, ◌≤ℤ◌, ◌⊎◌, inl, inr, Bool, true, false, cond, List, [], ◌∷◌, ◌++◌, length, drop, refl, sym, ap, ◌∙◌, subst, arith}
 use Rattle.std.specs.Prelude.{◌==◌}
 use Rattle.std.proofs.lemmas.Int.{ints}
 use Rattle.std.proofs.Math.Seq.{drop-length, drop-nil}
@@ -76,7 +76,7 @@ module _ (c : ListChange) (old new : List Counts) (adds : AddedTo c old new) whe
   within_moved : (rest : List ListChange) → IsWithin old (rest ++ c ∷ []) → IsWithin new rest
   within_moved rest w = record {
     counts = λ list row. subst (λ z. pos 0 ≤ℤ z) (sym (count_moved rest list row)) (w.counts list row);
-    totals = λ list. subst (λ z. z <ℤ pos (2 ^ 64)) (sym (total_moved rest list)) (w.totals list);
+    totals = λ list. subst (λ z. z ≤ℤ pos 1048576) (sym (total_moved rest list)) (w.totals list);
   }
 
   pub can_still : (cs : List ListChange) → CanAdd old (cs ++ c ∷ []) → CanAdd new cs
@@ -100,7 +100,7 @@ module _ (c : ListChange) (old new : List Counts) (adds : AddedTo c old new) whe
   within_back : (rest : List ListChange) → IsWithin old rest → IsWithin new (rest ++ opposite c ∷ [])
   within_back rest w = record {
     counts = λ list row. subst (λ z. pos 0 ≤ℤ z) (sym (count_back rest list row)) (w.counts list row);
-    totals = λ list. subst (λ z. z <ℤ pos (2 ^ 64)) (sym (total_back rest list)) (w.totals list);
+    totals = λ list. subst (λ z. z ≤ℤ pos 1048576) (sym (total_back rest list)) (w.totals list);
   }
 
   pub can_undo : (log : List ListChange) → IsWithin new [] → CanAdd old log → CanAdd new (log ++ opposite c ∷ [])

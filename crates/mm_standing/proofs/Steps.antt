@@ -1,5 +1,5 @@
 -- What stays sound where a change is made or undone.
-use Rattle.std.proofs.Common.{◌≡◌, ℕ, pos, ◌+◌, ◌+ℤ◌, ◌≤ℤ◌, ◌<ℤ◌, ◌^◌, ◌≤◌, ◌<◌, cond, List, [], ◌∷◌, ◌++◌, Some, length, drop, refl, sym, ap, ◌∙◌, subst, arith}
+use Rattle.std.proofs.Common.{◌≡◌, ℕ, pos, ◌+◌, ◌+ℤ◌, ◌≤ℤ◌, ◌≤◌, ◌<◌, cond, List, [], ◌∷◌, ◌++◌, Some, length, drop, refl, sym, ap, ◌∙◌, subst, arith}
 use Rattle.std.specs.Prelude.{◌==◌}
 use Rattle.std.specs.List.{All}
 use Rattle.std.proofs.lemmas.Int.{ints}
@@ -131,7 +131,7 @@ pub sound_emptied : (old new : List Counts) → IsWithin old [] → ((list : ℕ
 sound_emptied old new w same =
     let now : IsWithin new [] = record {
       counts = λ list row. positive (count_in row (entries_at new list));
-      totals = λ list. subst (λ n. (pos n +ℤ pos 0) <ℤ pos (2 ^ 64)) (sym (same list)) (w.totals list);
+      totals = λ list. subst (λ n. (pos n +ℤ pos 0) ≤ℤ pos 1048576) (sym (same list)) (w.totals list);
     } in
     record {
       within = nothing_to_add new now;

@@ -1,5 +1,5 @@
 -- What the log tells of entries whose count is 0, where a change is made, undone or forgotten.
-use Rattle.std.proofs.Common.{◌≡◌, ℕ, zero, suc, ℤ, pos, ◌+ℤ◌, ◌≤ℤ◌, ◌<ℤ◌, ◌^◌, ◌<◌, ◌≤◌, ◌⊎◌, inl, inr, ⊎_elim, Bool, true, false, true≢false, not, cond, ◌||◌, List, [], ◌∷◌, ◌++◌, length, get_or, take, drop, refl, sym, ap, ◌∙◌, subst, arith}
+use Rattle.std.proofs.Common.{◌≡◌, ℕ, zero, suc, ℤ, pos, ◌+ℤ◌, ◌≤ℤ◌, ◌<◌, ◌≤◌, ◌⊎◌, inl, inr, ⊎_elim, Bool, true, false, true≢false, not, cond, ◌||◌, List, [], ◌∷◌, ◌++◌, length, get_or, take, drop, refl, sym, ap, ◌∙◌, subst, arith}
 use Rattle.std.specs.Prelude.{◌==◌}
 use Rattle.std.specs.List.{All}
 use Rattle.std.proofs.lemmas.Bool.{eq-eqb, eqb-true}
@@ -294,7 +294,7 @@ module _ (rest : List Logged) (made : Logged) (bags added new : List Counts) (to
       still : (cs : List ListChange) → IsWithin added cs → IsWithin new cs
       still cs w = record {
         counts = λ list row. subst (λ n. pos 0 ≤ℤ (pos n +ℤ sum_over (row_change list row) cs)) (sym (purges.counts list row)) (w.counts list row);
-        totals = λ list. subst (λ n. (pos n +ℤ sum_over (list_change list) cs) <ℤ pos (2 ^ 64)) (sym (purges.totals list)) (w.totals list);
+        totals = λ list. subst (λ n. (pos n +ℤ sum_over (list_change list) cs) ≤ℤ pos 1048576) (sym (purges.totals list)) (w.totals list);
       }
 
       by : (b : Bool) → made.is_new ≡ b → All (HasEntry new) (undos rest)

@@ -1,9 +1,10 @@
 -- A bag as counts has as many rows as the rows that it stands for, and shows the same.
-use Rattle.std.proofs.Common.{◌≡◌, ℕ, zero, suc, pos, ◌+◌, ◌<◌, min, Bool, true, false, cond, List, [], ◌∷◌, get_or, length, map, replicate, Some, refl, sym, ap, ◌∙◌, arith}
+use Rattle.std.proofs.Common.{◌≡◌, ℕ, zero, suc, pos, ◌+◌, ◌<◌, ◌≤◌, min, Bool, true, false, true≢false, cond, is_some, List, [], ◌∷◌, get_or, length, map, replicate, Some, None, refl, sym, ap, ◌∙◌, arith}
 use Rattle.std.specs.List.{All, filter, sum_by}
 use Rattle.std.specs.List.Sorted.{IsPermutation}
 use Rattle.std.specs.Map.{keys_of, lookup, values_of}
 use Rattle.std.specs.Option.{unwrap_or}
+use Rattle.std.proofs.lemmas.Bool.{ltb-false}
 use Rattle.std.proofs.lemmas.List.{length-append, length-map, length-replicate}
 use Rattle.std.proofs.lemmas.List.Sums.{sum_by-cons, sum_by-append}
 use Rattle.std.proofs.lemmas.List.Sorted.{length_permutation}
@@ -12,16 +13,18 @@ use Rattle.std.proofs.lemmas.Map.Entries.{none_past_head}
 use Rattle.std.proofs.lemmas.Map.Keys.{IsDistinct-tail}
 use Rattle.mm_value.specs.Equality.{same_row}
 use Rattle.mm_value.specs.EqualityLaws.{same_row_equiv}
+use Rattle.mm_value.specs.declared.refusal.Refusal.TheVariants.{StandingListTooLarge}
 use Rattle.mm_value.specs.declared.values.Value.{Value}
 use Rattle.mm_value.specs.declared.values.Value.TheVariants.{Int}
 use Rattle.mm_value.proofs.SameRows.{rows_exact}
+use Rattle.mm_schema.specs.Refused.{first_refusal}
 use Rattle.mm_schema.specs.Sorting.{in_order}
 use Rattle.mm_query.specs.Queries.{bag_of, combinations, fits, one_of_each, projected, rows_by_columns, value_at}
 use Rattle.mm_query.specs.declared.bound_query.BoundQuery.{BoundQuery}
 use Rattle.mm_laws.proofs.QueryLaws.{one_counted, shown_permutation}
 use Rattle.mm_laws.proofs.SortedRows.{shown_of_permutation}
 use Rattle.mm_bag.specs.Counts.{Entries, IsOnce, count_in, count_of, total_of}
-use Rattle.mm_standing.specs.Queries.{IsBagOf, shown_of}
+use Rattle.mm_standing.specs.Queries.{IsBagOf, is_too_large, list_conditions, shown_of}
 use Rattle.mm_standing.specs.Showing.{rows_shown, times_shown}
 use Rattle.mm_standing.proofs.Counting.{counted_at, counted_once, find_counted, permutation_from_counts}
 
@@ -111,6 +114,14 @@ module _ (es : Entries) (rows : List (List Value)) (once : IsOnce es) (bag : IsB
 pub total_is_length : (entries : Entries) (rows : List (List Value)) → IsOnce entries → IsBagOf entries rows → total_of entries ≡ length rows
 total_is_length entries rows once bag =
     sym (total_shown entries) ∙ sym (length_permutation (rows_shown false entries) rows (permutation_shown entries rows once bag false))
+
+-- Where nothing refuses a list by the number of its rows, it has at most 1,048,576.
+pub few_rows : (rows : List (List Value)) → first_refusal (list_conditions rows) ≡ None → length rows ≤ 1048576
+few_rows rows none = by (is_too_large rows) refl none
+  where
+    by : (b : Bool) → is_too_large rows ≡ b → cond b (Some StandingListTooLarge) None ≡ None → length rows ≤ 1048576
+    by true e h = absurd (true≢false (ap is_some h))
+    by false e h = ltb-false 1048576 (length rows) e
 
 -- ---- how many values a row has
 

@@ -1,5 +1,5 @@
 -- The bags of standing queries, and changes of the counts of their rows.
-use Rattle.std.specs.Prelude.{◌≡◌, ◌==◌, ℕ, ℤ, pos, ◌+◌, ◌≤◌, ◌<◌, ◌⊎◌, ◌^◌, ◌+ℤ◌, ◌≤ℤ◌, ◌<ℤ◌, neg_ℤ, Bool, true, false, if◌then◌else◌, All, length, List, [], ◌∷◌, count_by, drop, map, slice_index_or, take}
+use Rattle.std.specs.Prelude.{◌≡◌, ◌==◌, ℕ, ℤ, pos, ◌+◌, ◌≤◌, ◌<◌, ◌⊎◌, ◌^◌, ◌+ℤ◌, ◌≤ℤ◌, neg_ℤ, Bool, true, false, if◌then◌else◌, All, length, List, [], ◌∷◌, count_by, drop, map, slice_index_or, take}
 use Rattle.std.specs.List.{list_any}
 use Rattle.mm_value.specs.Equality.{same_row}
 use Rattle.mm_value.specs.declared.values.Value.{Value}
@@ -38,22 +38,28 @@ count_with bags changes list row = pos (count_in row (entries_at bags list)) +�
 abbrev pub total_with : List Counts → List ListChange → ℕ → ℤ
 total_with bags changes list = pos (total_of (entries_at bags list)) +ℤ sum_over (list_change list) changes
 
--- With changes added no count is below 0, and no list has 2^64 rows or more.
+-- With changes added no count is below 0, and no list has more than 1,048,576 rows.
 pub record IsWithin (bags : List Counts) (changes : List ListChange) : Type 0 where
   pub counts : (list : ℕ) (row : List Value) → pos 0 ≤ℤ count_with bags changes list row
-  pub totals : (list : ℕ) → total_with bags changes list <ℤ pos (2 ^ 64)
+  pub totals : (list : ℕ) → total_with bags changes list ≤ℤ pos 1048576
 
 -- Changes can be added one after another, from the last to the first.
 abbrev pub CanAdd : List Counts → List ListChange → Type 0
 CanAdd bags changes = (k : ℕ) → IsWithin bags (drop k changes)
 
 -- Changes bring the count of each row of a bag to what it is in a list of rows. On the way, from the last to the first, no count
--- falls below 0 and the bag has fewer than 2^64 rows; each has an opposite that fits.
+-- falls below 0 and the bag has at most 1,048,576 rows; each has an opposite that fits.
 pub record Brings (changes : List Signed) (entries : Entries) (rows : List (List Value)) : Type 0 where
   pub counts : (row : List Value) → pos (count_in row entries) +ℤ signed_count row changes ≡ pos (count_of row rows)
   pub stages : (k : ℕ) (row : List Value) → pos 0 ≤ℤ (pos (count_in row entries) +ℤ signed_count row (drop k changes))
-  pub totals : (k : ℕ) → (pos (total_of entries) +ℤ sum_over (λ (change : Signed). change.count) (drop k changes)) <ℤ pos (2 ^ 64)
+  pub totals : (k : ℕ) → (pos (total_of entries) +ℤ sum_over (λ (change : Signed). change.count) (drop k changes)) ≤ℤ pos 1048576
   pub small : All (λ (change : Signed). pos 0 ≤ℤ (change.count +ℤ pos (2 ^ 64))) changes
+
+-- The changes that bring rows stand before those that take rows away.
+abbrev pub HasGainsFirst : List Signed → Type 0
+HasGainsFirst changes =
+    (gains : ℕ) × All (λ (change : Signed). pos 0 ≤ℤ change.count) (take gains changes)
+    × All (λ (change : Signed). change.count ≤ℤ pos 0) (drop gains changes)
 
 -- How many of the changes are of one list.
 abbrev pub number_for : ℕ → List ListChange → ℕ

@@ -1,10 +1,10 @@
 -- The standing queries with their lists.
-use Rattle.std.specs.Prelude.{ℕ, ℤ, pos, ◌≤◌, All, List, drop, length}
+use Rattle.std.specs.Prelude.{ℕ, ℤ, pos, All, List, drop}
 use Rattle.mm_store.specs.Tables.{Tables}
 use Rattle.mm_value.specs.declared.values.Value.{Value}
 use Rattle.mm_bag.specs.Counts.{Counts, count_in}
 use Rattle.mm_standing.specs.Bags.{count_with, done_of, entries_at}
-use Rattle.mm_standing.specs.Queries.{AreCounts, IsServed, RowsByPlace, StandingQuery, bag_over}
+use Rattle.mm_standing.specs.Queries.{AreCounts, IsServed, RowsByPlace, StandingQuery}
 use Rattle.mm_standing.specs.declared.change.ListChange.{ListChange}
 use Rattle.mm_standing.specs.declared.change.Prepared.{Prepared}
 
@@ -36,10 +36,6 @@ FitAt mark rows lists = AreCounts (λ list row. count_at mark list row lists) ro
 -- They will have once what is prepared is made.
 abbrev pub FitPrepared : RowsByPlace → Lists → Type 0
 FitPrepared rows lists = AreCounts (λ list row. count_with lists.bags (done_of lists.prepared) list row) rows lists.queries
-
--- Over the rows of the tables no more than 1,048,576 combinations fit any of the queries.
-abbrev pub AreFew : RowsByPlace → List StandingQuery → Type 0
-AreFew rows queries = All (λ standing. length (bag_over rows standing) ≤ 1048576) queries
 
 -- All tables of the standing queries are there.
 abbrev pub AreServed : Tables → List StandingQuery → Type 0

@@ -1,16 +1,16 @@
 //! Changes that are made ready, with all memory that they ask for.
-ghost use Rattle.std.specs.Prelude.{◌≡◌, ◌++◌, ◌+◌, ◌≤◌, ◌<◌, ◌^◌, ℕ, [], All, length, map, neg_ℤ, pos, slice_index, ◌+ℤ◌, ◌≤ℤ◌, ◌<ℤ◌, IfErr, IfOk, OnOk};
+ghost use Rattle.std.specs.Prelude.{◌≡◌, ◌++◌, ◌+◌, ◌≤◌, ◌<◌, ◌^◌, ℕ, [], All, length, map, neg_ℤ, pos, slice_index, ◌+ℤ◌, ◌≤ℤ◌, ◌<ℤ◌, IfErr, IfOk, IsPermutation, OnOk};
 ghost use Rattle.std.specs.List.{sum_by};
-ghost use Rattle.mm_bag.specs.Counts.{Counts as BagCounts, count_in};
+ghost use Rattle.mm_bag.specs.Counts.{Counts as BagCounts, count_in, total_of};
 ghost use Rattle.mm_delta.specs.Edited.{after_at, before_at};
 ghost use Rattle.mm_delta.specs.Skipping.{IsTypeTested};
 ghost use Rattle.mm_delta.specs.Steps.{EachFit};
 ghost use Rattle.mm_bag.specs.declared.signed.Signed.{Signed as Change};
 ghost use Rattle.mm_schema.specs.Refused.{AnswersDue, first_refusal};
-ghost use Rattle.mm_standing.specs.Bags.{Brings, CanAdd, IsSmall, count_with, done_of, entries_at, number_for, opposite, room_at, sum_over};
+ghost use Rattle.mm_standing.specs.Bags.{Brings, CanAdd, HasGainsFirst, IsSmall, count_with, done_of, entries_at, number_for, opposite, room_at, sum_over};
 ghost use Rattle.mm_standing.specs.Queries.{AreCounts, IsBagOf, IsServed, bag_over, change_conditions, list_conditions};
 ghost use Rattle.mm_standing.specs.Reads.{AreOfCyclicRows, AreTypeTested, RowTests, query_reads};
-ghost use Rattle.mm_standing.specs.State.{AreFew, AreServed};
+ghost use Rattle.mm_standing.specs.State.{AreServed};
 ghost use Rattle.mm_standing.specs.declared.change.ListChange.{ListChange as AnyChange};
 ghost use Rattle.mm_standing.specs.declared.change.Prepared.{Prepared as AnyPrepared};
 ghost use Rattle.mm_value.specs.declared.refusal.Refusal.TheVariants.{Memory};
@@ -97,7 +97,6 @@ pub(crate) fn changes_of_lists<'a>(
     requires edits { EachFit view.old.store changes.now }
     requires typed { AreTypeTested view.old.store changes.now queries.now }
     requires fits { AreCounts (λ list row. pos (count_in row (entries_at bags.now list))) (before_at view.old.store) queries.now }
-    requires few { AreFew (before_at view.old.store) queries.now }
     requires within { CanAdd bags.now [] }
     ensures due { AnswersDue (first_refusal (change_conditions (after_at view.old.store changes.now) queries.now)) result }
     ensures there { IfOk result (λ found. All (λ (c : AnyChange). c.list < length bags.now) found.items) }
@@ -129,14 +128,14 @@ fn changes_of_list<'a>(
     requires edits { EachFit view.old.store changes.now }
     requires typed { IsTypeTested watched.now.query view.old.store changes.now watched.now.tables }
     requires fits { IsBagOf bag.now.entries (bag_over (before_at view.old.store) watched.now) }
-    requires few { length (bag_over (before_at view.old.store) watched.now) ≤ 1048576 }
+    requires few { total_of bag.now.entries ≤ 1048576 }
     ensures due { AnswersDue (first_refusal (list_conditions (bag_over (after_at view.old.store changes.now) watched.now))) result }
     ensures brings { IfOk result (λ changed. Brings changed.items bag.now.entries (bag_over (after_at view.old.store changes.now) watched.now)) }
     ensures reads { (skipped : RowTests) → AreOfCyclicRows skipped
         → view.new.reads ≤ view.old.reads + query_reads view.old.store changes.now skipped watched.now }
     ensures same { view.new.store ≡ view.old.store }
 {
-    let changed = delta(
+    let mut changed = delta(
         alloc,
         view,
         &watched.query,
@@ -147,7 +146,23 @@ fn changes_of_list<'a>(
     if new_total(bag.total(), changed.as_slice()) > MAX_COMBINATIONS as i128 {
         return Err(Refusal::StandingListTooLarge);
     }
+    put_gains_first(&mut changed);
     Ok(changed)
+}
+
+/// Puts the changes that bring rows before those that take rows away. As the last is made first, the list loses rows before it
+/// gains any, and never has more on the way than it had or will have. It takes no memory.
+fn put_gains_first(changes: &mut Vec<Signed>)
+    ensures order { HasGainsFirst changes.new.items }
+    ensures permutation { IsPermutation changes.old.items changes.new.items }
+{
+    let mut gains = 0;
+    for i in 0..changes.len() {
+        if changes[i].count > 0 {
+            changes.swap(gains, i);
+            gains += 1;
+        }
+    }
 }
 
 /// How many rows a list of so many has with changes made.

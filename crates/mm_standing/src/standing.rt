@@ -11,7 +11,7 @@ ghost use Rattle.mm_store.specs.Tables.{rows_at};
 ghost use Rattle.mm_standing.specs.Bags.{CanAdd, IsLean, IsSmall, Made, done_of, entries_at};
 ghost use Rattle.mm_standing.specs.Queries.{IsBagOf, StandingQuery, bag_over, change_conditions, list_conditions, shown_of};
 ghost use Rattle.mm_standing.specs.Reads.{AreOfCyclicRows, AreTypeTested, RowTests, query_reads};
-ghost use Rattle.mm_standing.specs.State.{AreFew, AreServed, FitNow, FitPrepared, count_at};
+ghost use Rattle.mm_standing.specs.State.{AreServed, FitNow, FitPrepared, count_at};
 ghost use Rattle.mm_value.specs.declared.values.Value.TheVariants.{Int};
 ghost use Rattle.mm_standing.specs.declared.change.ListChange.{ListChange as AnyChange};
 ghost use Rattle.mm_value.specs.declared.refusal.Refusal.TheVariants.{Memory};
@@ -225,10 +225,11 @@ impl Standing {
     }
 
     /// Makes ready what edits of tables change of the lists, with all memory that the change and its undoing ask for. The edits
-    /// fit the view's rows and are not made yet. It asks for nothing prepared, for lists that fit the view's rows and have at most
-    /// 1,048,576 rows each, for queries that add no number to a text of a row before or after the edits, and for a view that has
-    /// read none. The change of each list is the sum of the terms of Blakeley, Larson and Tompa's expansion: only rows that the
-    /// edits concern are read, and none is combined with an edited row that a cycle shows to be irrelevant.
+    /// fit the view's rows and are not made yet. It asks for nothing prepared, and for a view that has read no row. Of the view's
+    /// rows it asks that the table of each place of a FROM list is there, that the lists fit the rows, and that no query adds a
+    /// number to a text, neither of a row before the edits nor of one after them. The change of each list is the sum of the terms
+    /// of Blakeley, Larson and Tompa's expansion: only rows that the edits concern are read, and none is combined with an edited
+    /// row that a cycle shows to be irrelevant.
     ///
     /// `StandingListTooLarge` where over the rows after the edits more than 1,048,576 combinations fit some standing query;
     /// `Memory` may come in its place and in that of success. Then nothing is prepared.
@@ -243,7 +244,6 @@ impl Standing {
         requires edits { EachFit view.old.store changes.now }
         requires typed { AreTypeTested view.old.store changes.now self.old.queries }
         requires fits { FitNow (before_at view.old.store) self.old }
-        requires few { AreFew (before_at view.old.store) self.old.queries }
         requires start { view.old.reads ≡ 0 }
         ensures due { AnswersDue (first_refusal (change_conditions (after_at view.old.store changes.now) self.old.queries)) result }
         ensures ok { OnOk result (FitPrepared (after_at view.old.store changes.now) self.new) }

@@ -1,6 +1,6 @@
 //! The bag of a query when it begins to stand.
-ghost use Rattle.std.specs.Prelude.{◌≡◌, ◌≢◌, ◌<◌, ◌≤◌, ◌^◌, All, length, map, IfErr, IfOk};
-ghost use Rattle.mm_bag.specs.Counts.{total_of};
+ghost use Rattle.std.specs.Prelude.{◌≡◌, ◌≢◌, ◌<◌, ◌≤◌, All, length, map, IfErr, IfOk};
+ghost use Rattle.mm_bag.specs.Counts.{IsOnce};
 ghost use Rattle.mm_query.specs.Queries.{bag_of};
 ghost use Rattle.mm_schema.specs.Refused.{AnswersDue, first_refusal};
 ghost use Rattle.mm_standing.specs.Bags.{ArePositive};
@@ -28,7 +28,7 @@ pub(crate) fn bag_now(
     requires few { length tables.now ≤ 4 }
     ensures due { AnswersDue (first_refusal (list_conditions (bag_of query.now (map (rows_at store.now.tables) tables.now)))) result }
     ensures ok { IfOk result (λ bag. IsBagOf bag.entries (bag_of query.now (map (rows_at store.now.tables) tables.now))) }
-    ensures total { IfOk result (λ bag. total_of bag.entries < 2 ^ 64) }
+    ensures once { IfOk result (λ bag. IsOnce bag.entries) }
     ensures positive { IfOk result (λ bag. ArePositive bag.entries) }
 {
     let mut meter = Meter::new();
@@ -54,7 +54,7 @@ fn as_list(refusal: Refusal) -> Refusal
 /// The bag of some rows. `Memory` is the only refusal.
 fn counted(alloc: Global, rows: Vec<Row>) -> Result<Counted, Refusal>
     ensures ok { IfOk result (λ bag. IsBagOf bag.entries rows.items) }
-    ensures total { IfOk result (λ bag. total_of bag.entries < 2 ^ 64) }
+    ensures once { IfOk result (λ bag. IsOnce bag.entries) }
     ensures positive { IfOk result (λ bag. ArePositive bag.entries) }
     ensures memory { IfErr result (λ refusal. refusal ≡ Memory) }
 {
@@ -62,7 +62,6 @@ fn counted(alloc: Global, rows: Vec<Row>) -> Result<Counted, Refusal>
     for row in rows {
         bag.count_up(row)?;
     }
-    // it is a usize
-    let _total = bag.total();
+    let _ = bag.len();
     Ok(bag)
 }

@@ -10,7 +10,8 @@ use Rattle.mm_bag.specs.Counts.{count_of, signed_count}
 use Rattle.mm_delta.specs.Edited.{after_at, before_at}
 use Rattle.mm_bag.specs.declared.signed.Signed.{Signed}
 use Rattle.mm_standing.specs.Queries.{RowsByPlace, StandingQuery, bag_over}
-use Rattle.mm_standing.proofs.Net.{brings, sum_of, total_after}
+use Rattle.mm_standing.proofs.Gains.{brings}
+use Rattle.mm_standing.proofs.Net.{sum_of, total_after}
 use Rattle.mm_standing.proofs.prepare.changes_of_list.Goals as goal
 use Rattle.mm_standing.proofs.prepare.changes_of_list.Goals.{After-new_total}
 
@@ -60,6 +61,7 @@ pub returns-clause-brings : goal.returns-clause-brings
 returns-clause-brings c =
     let is = rows (goal.at.returns-clause-brings c).After-new_total in
     let few = c.if-new_total.false in
-    brings c.args.bag.now.entries c.in_ok-changed.changed.items (bag_over (after_at c.args.view.now.store c.args.changes.now) c.args.watched.now)
-    (bag_over (before_at c.args.view.now.store) c.args.watched.now) c.in_ok-changed.ensures.once c.len.ensures.once c.requires.fits
-    (change (goal.at.returns-clause-brings c).After-new_total) c.requires.few (omega (arith, ints, is, few)) c.in_ok-changed.ensures.small
+    brings c.args.bag.now.entries c.in_ok-changed.changed.items c.put_gains_first.new.changes.items
+    (bag_over (after_at c.args.view.now.store c.args.changes.now) c.args.watched.now) (bag_over (before_at c.args.view.now.store) c.args.watched.now)
+    c.in_ok-changed.ensures.once c.len.ensures.once c.requires.fits (change (goal.at.returns-clause-brings c).After-new_total)
+    c.put_gains_first.ensures.permutation c.put_gains_first.ensures.order c.requires.few (omega (arith, ints, is, few)) c.in_ok-changed.ensures.small

@@ -1,5 +1,5 @@
 -- One list more has its changes, or is too large.
-use Rattle.std.proofs.Common.{◌≡◌, ◌+◌, ◌<◌, ◌≤◌, ◌⊎◌, inl, inr, ℕ, Bool, true, false, cond, true≢false, add-one, is_some, List, Some, None, get_or, length, pos, take, refl, sym, ap, ◌∙◌, subst, arith}
+use Rattle.std.proofs.Common.{◌≡◌, ◌+◌, ◌+ℤ◌, ◌<◌, ◌≤◌, ◌≤ℤ◌, ◌⊎◌, inl, inr, ℕ, Bool, true, false, cond, true≢false, add-one, is_some, List, Some, None, get_or, length, pos, take, refl, sym, ap, ◌∙◌, subst, arith}
 use Rattle.std.specs.List.{All, list_any, sum_by}
 use Rattle.std.proofs.lemmas.Int.{ints}
 use Rattle.std.proofs.lemmas.List.{take_all}
@@ -11,10 +11,10 @@ use Rattle.mm_value.specs.declared.refusal.Refusal.{Refusal}
 use Rattle.mm_value.specs.declared.refusal.Refusal.TheVariants.{Memory, StandingListTooLarge}
 use Rattle.mm_value.specs.declared.values.Value.{Value}
 use Rattle.mm_store.specs.Tables.{IsAt, Tables}
-use Rattle.mm_bag.specs.Counts.{count_in, count_of}
+use Rattle.mm_bag.specs.Counts.{Entries, count_in, count_of, total_of}
 use Rattle.mm_delta.specs.Edited.{after_at, before_at}
 use Rattle.mm_delta.specs.Skipping.{IsTypeTested}
-use Rattle.mm_standing.specs.Bags.{Brings}
+use Rattle.mm_standing.specs.Bags.{Brings, entries_at}
 use Rattle.mm_standing.specs.Queries.{StandingQuery, bag_over, is_too_large}
 use Rattle.mm_standing.specs.Reads.{query_reads}
 use Rattle.mm_standing.proofs.Adding.{entries_here}
@@ -39,6 +39,20 @@ changes_of_list-requires-clause-fits c =
     ap (count_in row) (sym here)
     ∙ same_number _ _ (c.requires.fits list query at row)
     ∙ ap (λ (s : Tables). count_of row (bag_over (before_at s) query)) (sym c.loop-list.invariant.same)
+
+few_now : (n : ℕ) → (pos n +ℤ pos 0) ≤ℤ pos 1048576 → n ≤ 1048576
+few_now n h = omega (arith, ints)
+
+pub changes_of_list-requires-clause-few : goal.changes_of_list-requires-clause-few
+changes_of_list-requires-clause-few c =
+    let bags = c.args.bags.now in
+    let list = c.loop-list.list in
+    let bag = c.index-bags-list.result in
+    let inside = c.loop-list-test.true in
+    let sizes = c.requires.size in
+    let there : list < length bags = omega (arith, inside, sizes) in
+    subst (λ (es : Entries). total_of es ≤ 1048576) (entries_here bags list bag bag there c.index-bags-list.is)
+    (few_now (total_of (entries_at bags list)) ((c.requires.within 0).totals list))
 
 -- What is read for one list more.
 reads_within : (f : StandingQuery → ℕ) (queries : List StandingQuery) (list : ℕ) (query : StandingQuery) (now was first one : ℕ)

@@ -1,13 +1,16 @@
 -- The query and its bag come; with an empty log all is sound.
-use Rattle.std.proofs.Common.{◌≡◌, ◌++◌, ◌∷◌, [], List, length, sym, ap, ◌∙◌, subst, arith}
+use Rattle.std.proofs.Common.{◌≡◌, ◌++◌, ◌∷◌, [], List, length, map, sym, ap, ◌∙◌, subst, arith}
 use Rattle.std.proofs.lemmas.List.{length_push}
 use Rattle.mm_bag.specs.Counts.{Counts}
+use Rattle.mm_query.specs.Queries.{bag_of}
+use Rattle.mm_store.specs.Tables.{rows_at}
 use Rattle.mm_standing.specs.Bags.{IsLean, IsSound, IsTold, undos}
 use Rattle.mm_standing.specs.Queries.{StandingQuery}
 use Rattle.mm_standing.specs.State.{Lists}
 use Rattle.mm_standing.specs.declared.change.Prepared.{Prepared}
 use Rattle.mm_standing.proofs.Rest.{lean_more, sound_more}
 use Rattle.mm_standing.proofs.Told.{told_none}
+use Rattle.mm_standing.proofs.Totals.{few_rows, total_is_length}
 use Rattle.mm_standing.proofs.standing.Standing.watch.Goals as goal
 
 pub invariant_of-self-2 : goal.invariant_of-self-2
@@ -19,7 +22,10 @@ invariant_of-self-2 c =
     let sound : IsSound old.bags.items [] [] =
     subst (IsSound old.bags.items []) log (subst (λ (ps : List Prepared). IsSound old.bags.items ps (undos old.log.items)) prepared c.self.invariant.0) in
     let lean : IsLean old.bags.items [] = subst (IsLean old.bags.items) log c.self.invariant.3.lean in
-    let more : IsSound (old.bags.items ++ bag ∷ []) [] [] = sound_more old.bags.items bag c.in_ok-bag.ensures.total sound in
+    let rows = bag_of c.args.query (map (rows_at c.args.store.now.tables) c.as_slice.result.now) in
+    let total = total_is_length bag.entries rows c.in_ok-bag.ensures.once c.in_ok-bag.ensures.ok in
+    let few = few_rows rows c.in_ok-bag.ensures.due in
+    let more : IsSound (old.bags.items ++ bag ∷ []) [] [] = sound_more old.bags.items bag (omega (arith, total, few)) sound in
     let bags : c.push_reserved-2.new.self.items ≡ old.bags.items ++ bag ∷ [] =
     c.push_reserved-2.ensures.items ∙ ap (λ (bs : List Counts). bs ++ bag ∷ []) c.in_ok-reserve-2.ensures.items in
     let same = c.self.invariant.2 in
