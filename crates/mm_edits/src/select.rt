@@ -1,11 +1,13 @@
 //! Rows selected by tests.
-ghost use Rattle.std.specs.Prelude.{◌≡◌, ◌≤◌, Contains, filter, length, IfOk};
+ghost use Rattle.std.specs.Prelude.{◌≡◌, ℕ, ◌≤◌, Contains, filter, length, IfOk};
 ghost use Rattle.mm_partition.specs.Places.{slot_at};
 ghost use Rattle.mm_query.specs.Binding.{TestsWithin};
 ghost use Rattle.mm_query.specs.Edits.{meets};
 ghost use Rattle.mm_relation.specs.Refs.{row_at};
 ghost use Rattle.mm_edits.specs.Asked.{asks_for};
-ghost use Rattle.mm_edits.specs.Paths.{Leads};
+ghost use Rattle.mm_edits.specs.Paths.{IsServed, Leads};
+ghost use Rattle.mm_edits.specs.declared.paths.Rule.{Rule};
+ghost use Rattle.mm_query.specs.declared.atom.Atom.{Atom as Test};
 
 use crate::found::{candidates, meeting, refs_of, sort_by_key};
 use crate::paths::{Bound, Path, end_of, path_for};
@@ -89,8 +91,8 @@ fn by_path(
     refs_of(alloc, found.as_slice())
 }
 
-/// The references of the rows that meet all tests, of which there are at most 1,048,576, in key order. It looks at every row.
-/// `AllocError` where memory is refused.
+/// The references of the rows that meet all tests, of which there are at most 1,048,576, in key order, where no index serves any of
+/// the tests. It looks at every row. `AllocError` where memory is refused.
 fn by_scan(
     alloc: Global,
     relation: &Relation,
@@ -98,6 +100,7 @@ fn by_scan(
 ) -> Result<Vec<RowRef>, AllocError>
     requires few { length relation.now.refs ≤ 1048576 }
     requires within { TestsWithin relation.now.width tests.now }
+    requires unserved { (rule : Rule) (test : Test ℕ) → Contains tests.now test → IsServed rule relation.now test → ⊥ }
     ensures { IfOk result (λ found. found.items
         ≡ filter (λ at. meets tests.now (row_at (slot_at relation.now.places) at)) relation.now.refs) }
 {
