@@ -1,8 +1,10 @@
 -- What the definitions of a run come to.
-use Rattle.std.proofs.Common.{◌≡◌, ℕ, ◌+◌, ◌<◌, ◌≤◌, Bool, true, false, cond, ltb, not, List, [], length, Option, Some, None, is_some, Ok, Err, refl, sym, ap, ◌∙◌, arith, length-append}
+use Rattle.std.proofs.Common.{◌≡◌, ℕ, ◌+◌, ◌<◌, ◌≤◌, Bool, true, false, cond, ltb, not, List, [], ◌++◌, length, Option, Some, None, is_some, Ok, Err, refl, sym, ap, subst, ◌∙◌, arith, length-append}
+use Rattle.std.proofs.lemmas.List.{append-nil}
 use Rattle.std.specs.List.{list_any}
 use Rattle.std.specs.Option.{option_map, option_map_or}
-use Rattle.std.specs.Io.KnownBytes.{Consumes}
+use Rattle.std.specs.Prelude.{IfSome}
+use Rattle.std.specs.Io.KnownBytes.{Consumes, IsAtEnd}
 use Rattle.mm_lang.proofs.Commands.{control_takes_none, reads_long}
 use Rattle.mm_lang.specs.Grammar.{command_of}
 use Rattle.mm_lang.specs.Reading.{is_nothing, read_as, reading, reading_takes_memory, takes_memory}
@@ -104,3 +106,25 @@ taken_within (Some xs) (Some ys) input left taken limit p q consumed within =
     let same_xs : xs ≡ input = cc in
     let same_ys : ys ≡ left = cc in
     omega (arith, ap length same_xs, ap length same_ys, ap length consumed, length-append taken ys, within)
+
+-- of what was known nothing is left
+pub nothing_left : (before after : Option (List ℕ)) (input taken : List ℕ) → before ≡ Some input → Consumes before after taken → IsAtEnd after
+    → after ≡ Some []
+nothing_left None after input taken is consumed at_end = absurd (let clash : ◌≡◌ {A = Option (List ℕ)} None (Some input) = is in cc)
+nothing_left (Some xs) None input taken is consumed at_end = absurd consumed
+nothing_left (Some xs) (Some ys) input taken is consumed at_end = ap (λ (l : List ℕ). Some l) at_end
+
+pub within_known : (before after : Option (List ℕ)) (input taken : List ℕ) (limit : ℕ) → before ≡ Some input → Consumes before after taken → IsAtEnd after
+    → length taken ≤ limit → length input ≤ limit
+within_known None after input taken limit is consumed at_end within = absurd (let clash : ◌≡◌ {A = Option (List ℕ)} None (Some input) = is in cc)
+within_known (Some xs) None input taken limit is consumed at_end within = absurd consumed
+within_known (Some xs) (Some ys) input taken limit is consumed at_end within =
+    let same : xs ≡ input = cc in
+    omega (arith, ap length same, ap length consumed, length-append taken ys, ap length at_end, within)
+
+-- so what was taken is all that was known
+pub all_taken : (before after : Option (List ℕ)) (taken : List ℕ) → Consumes before after taken → IsAtEnd after → (P : List ℕ → Type 0) → P taken
+    → IfSome before P
+all_taken None after taken consumed at_end P p = tt
+all_taken (Some xs) None taken consumed at_end P p = absurd consumed
+all_taken (Some xs) (Some ys) taken consumed at_end P p = subst P (sym (consumed ∙ (ap (λ l. taken ++ l) at_end ∙ append-nil taken))) p

@@ -3,8 +3,8 @@ use Rattle.std.proofs.Common.{◌≡◌, ℕ, ◌+◌, ◌-◌, ◌^◌, ◌<◌
 use Rattle.std.proofs.KnownBytes.{Appends-nil, Appends-trans, Consumes-nil, Consumes-trans}
 use Rattle.std.proofs.Math.Seq.{take-nil}
 use Rattle.std.proofs.lemmas.List.{append-nil, take_all}
-use Rattle.std.specs.Prelude.{IfSome, IsErrOf, if◌then◌else◌}
-use Rattle.std.specs.Io.KnownBytes.{Appends, Consumes, IsAtEnd}
+use Rattle.std.specs.Prelude.{IsErrOf, if◌then◌else◌}
+use Rattle.std.specs.Io.KnownBytes.{Appends, Consumes}
 use mir.Val.{bool_byte}
 use Rattle.mm_lang.specs.Lines.{lines_of, whole_lines_of, without_return, HasNoFeed}
 use Rattle.mm_lang.proofs.Pieces.{lines_of-last, lines_of-line, lines_of-nil, whole_lines_of-line, whole_lines_of-rest}
@@ -15,7 +15,7 @@ use Rattle.mm_value.specs.declared.device.Watched.{Watched}
 use Rattle.mm_query.specs.State.{State, first_state}
 use Rattle.mmdb_core.specs.steps.Input.{Advances, IsLine, KnowsEnd, StopsInLine, bytes_to_come}
 use Rattle.mmdb_core.specs.steps.Respond.{GoesOn, PassesReplied, WritesNothing}
-use Rattle.mmdb_core.specs.Run.{Answers, AnswersFront, AnswersLines, BrokeOff, TakesWithin, Transcript, answer, is_error, text_of, transcript}
+use Rattle.mmdb_core.specs.Run.{Answers, AnswersFront, AnswersLines, BrokeOff, ReachedEnd, TakesWithin, Transcript, answer, is_error, text_of, transcript}
 use Rattle.mmdb_core.specs.declared.fault.RunFault.{RunFault}
 use Rattle.mmdb_core.specs.declared.fault.RunFault.TheVariants.{Read, Write, TooLong}
 use Rattle.mmdb_core.specs.declared.input.Input.{Input}
@@ -387,22 +387,16 @@ module _ {R W : Type 0} {remaining : R → Option (List ℕ)} {contents : W → 
         }
 
     -- a run ends with its input
-    pub answers_at_end : GoesOn remaining contents now later input next state after written more (Ok None)
-        → IfSome (remaining (inner_of reader)) (λ all. Answers all (contents (inner_of writer)) (contents (inner_of more)) totals)
-    answers_at_end h =
+    pub reached_end : GoesOn remaining contents now later input next state after written more (Ok None)
+        → ReachedEnd remaining reader later limit (contents (inner_of writer)) (contents (inner_of more)) totals
+    reached_end h =
         let known = h.0.at_end so_far.at_end h.1.1 in
         let all = so_far.given ++ h.0.given in
         let short : length all ≤ limit = omega (arith, counted_more h.0, known.0) in
         let lines : lines_of all ≡ so_far.answered =
         ap lines_of (sym (take_all limit all short)) ∙ (ap lines_of (kept_all h.0) ∙ cut_end so_far.cut h.0 refl h.1.0) in
-        all_known (λ xs. Answers xs (contents (inner_of writer)) (contents (inner_of more)) totals) (remaining (inner_of reader)) (remaining (inner_of later))
-        all (consumed_more h.0) known.1 (answers_all all lines)
+        record { input = all; consumed = consumed_more h.0; at_end = known.1; within = short; answers = answers_all all lines }
       where
-        all_known : (P : List ℕ → Type 0) (old new : Option (List ℕ)) (all : List ℕ) → Consumes old new all → IsAtEnd new → P all → IfSome old P
-        all_known P None new all consumed at_end p = tt
-        all_known P (Some xs) None all consumed at_end p = absurd consumed
-        all_known P (Some xs) (Some ys) all consumed at_end p = subst P (sym (consumed ∙ (ap (λ l. all ++ l) at_end ∙ append-nil all))) p
-
         answers_all : (all : List ℕ) → lines_of all ≡ so_far.answered → Answers all (contents (inner_of writer)) (contents (inner_of more)) totals
         answers_all all lines =
             let run = so_far.transcribed.each [] [] in

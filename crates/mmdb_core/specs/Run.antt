@@ -1,6 +1,6 @@
 -- A run of the machine of row lists over the lines of an input.
 use Rattle.std.specs.Prelude.{◌≡◌, ◌↔◌, ℕ, ◌+◌, ◌<◌, ◌≤◌, Bool, true, false, ◌&&◌, if◌then◌else◌, List, [], ◌∷◌, ◌++◌, length, take, Option, Some, None, Result, Ok, Err}
-use Rattle.std.specs.Io.KnownBytes.{Appends, Consumes}
+use Rattle.std.specs.Io.KnownBytes.{Appends, Consumes, IsAtEnd}
 use Rattle.mm_lang.specs.Lines.{lines_of, whole_lines_of}
 use Rattle.mm_lang.specs.Reading.{reading, takes_memory}
 use Rattle.mm_lang.specs.ReplyText.{reply_text}
@@ -72,6 +72,16 @@ pub record Answers (input : List ℕ) (old new : Option (List ℕ)) (totals : To
   pub written : Appends old new (transcript choices first_state (lines_of input)).text
   pub lines : totals.lines ≡ length (lines_of input)
   pub refused : totals.refused ≡ (transcript choices first_state (lines_of input)).refused
+
+-- How a run came to the end of its input: its reader gave this input and has nothing left, and the replies to its lines
+-- were written.
+pub record ReachedEnd {R : Type 0} (remaining : R → Option (List ℕ)) (reader after : Watched R) (limit : ℕ) (old new : Option (List ℕ))
+    (totals : Totals) : Type 0 where
+  pub input : List ℕ
+  pub consumed : Consumes (remaining (inner_of reader)) (remaining (inner_of after)) input
+  pub at_end : IsAtEnd (remaining (inner_of after))
+  pub within : length input ≤ limit
+  pub answers : Answers input old new totals
 
 -- At most one byte more than the limit was taken, and the input was too long exactly where more than the limit was taken
 -- and the writer did not fail.

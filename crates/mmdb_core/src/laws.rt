@@ -1,5 +1,5 @@
 //! Laws of the definitions that the contract of a run speaks of.
-ghost use Rattle.std.specs.Prelude.{◌≡◌, ◌+◌, ◌<◌, ◌≤◌, ℕ, Bool, true, false, List, length, Some, None, Ok, Result, IsErrOf};
+ghost use Rattle.std.specs.Prelude.{◌≡◌, ◌+◌, ◌<◌, ◌≤◌, ℕ, Bool, true, false, List, [], length, Option, Some, None, Ok, Result, IfSome, IsErrOf};
 ghost use Rattle.mm_lang.specs.Reading.{is_nothing, reading, takes_memory};
 ghost use Rattle.mm_query.specs.Machine.{back_to, rows_at_latest};
 ghost use Rattle.mm_query.specs.State.{Saved, Savepoint, State};
@@ -10,8 +10,10 @@ ghost use Rattle.mm_query.specs.declared.reply.Reply.TheVariants.{Done, Refused}
 ghost use Rattle.std.specs.List.{list_any};
 ghost use Rattle.mm_schema.specs.Name.{same_name};
 ghost use Rattle.mm_value.specs.Watched.{inner_of, has_failed};
+ghost use Rattle.mm_value.specs.declared.device.Watched.{Watched};
 ghost use Rattle.mm_value.specs.declared.refusal.Refusal.TheVariants.{Memory, NoTransaction};
-ghost use Rattle.mmdb_core.specs.Run.{answer, outcome_of, TakesWithin};
+ghost use Rattle.mmdb_core.specs.Run.{answer, outcome_of, Answers, ReachedEnd, TakesWithin};
+ghost use Rattle.mmdb_core.specs.declared.limits.Totals.{Totals};
 
 use crate::fault::RunFault;
 use crate::limits::{Limits, Totals};
@@ -77,4 +79,18 @@ pub fn runs_take_within_their_limit<R: Read, W: Write>(
     ensures { (input left : List ℕ) → R.remaining (inner_of _before.now) ≡ Some input → R.remaining (inner_of _after.now) ≡ Some left
         → TakesWithin R.remaining _before.now _after.now _limits (IsErrOf _ended.now RunFault.TooLong) (has_failed _writer.now ≡ false)
         → length input ≤ length left + (_limits + 1) }
+{}
+
+/// Where it is known what the reader of a run had left, a run that reached the end of its input took all of that, it was no
+/// more than the limit, and the replies written are those to all of its lines.
+pub fn runs_answer_the_whole_input<R: Read>()
+    ensures taken { (before after : Watched R) (limit : ℕ) (old new : Option (List ℕ)) (totals : Totals) (input : List ℕ)
+        → R.remaining (inner_of before) ≡ Some input → ReachedEnd R.remaining before after limit old new totals
+        → R.remaining (inner_of after) ≡ Some [] }
+    ensures within { (before after : Watched R) (limit : ℕ) (old new : Option (List ℕ)) (totals : Totals) (input : List ℕ)
+        → R.remaining (inner_of before) ≡ Some input → ReachedEnd R.remaining before after limit old new totals
+        → length input ≤ limit }
+    ensures answered { (before after : Watched R) (limit : ℕ) (old new : Option (List ℕ)) (totals : Totals)
+        → ReachedEnd R.remaining before after limit old new totals
+        → IfSome (R.remaining (inner_of before)) (λ input. Answers input old new totals) }
 {}

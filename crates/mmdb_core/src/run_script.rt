@@ -1,8 +1,8 @@
 //! A run of the database over an input.
-ghost use Rattle.std.specs.Prelude.{◌≡◌, ◌↔◌, false, true, IfOk, IfErr, IfSome, IsErrOf};
+ghost use Rattle.std.specs.Prelude.{◌≡◌, ◌↔◌, false, true, IfOk, IfErr, IsErrOf};
 ghost use Rattle.mm_value.specs.Watched.{inner_of, has_failed};
 ghost use Rattle.mmdb_core.specs.steps.Respond.{GoesOn};
-ghost use Rattle.mmdb_core.specs.Run.{Answers, BrokeOff, TakesWithin};
+ghost use Rattle.mmdb_core.specs.Run.{BrokeOff, ReachedEnd, TakesWithin};
 
 use crate::answer::{answer_line, send, without_return};
 use crate::fault::RunFault;
@@ -16,9 +16,12 @@ use std::io::{Read, Write};
 
 /// Reads commands from the reader, one a line, and writes their replies, each flushed as soon as it is written.
 ///
-/// What is written are the replies of the machine that keeps only lists of rows, whatever the input is, where
-/// a line that takes memory may be answered `error 90 memory` instead and then changes nothing. `ROLLBACK` takes none, so in
-/// a transaction it is never refused. At most one byte more than the limit is taken.
+/// `Ok` where the reader gave no more bytes. What was written then are the replies of the machine that keeps only lists of
+/// rows to the lines of an input, in order, and nothing else, where a line that takes memory may be answered
+/// `error 90 memory` instead and then changes nothing; `ROLLBACK` takes none, so in a transaction it is never refused. The
+/// totals count the lines of this input and the `error` replies. It has no more bytes than the limit, and it is all that the
+/// reader had left, where that is known. Of a reader that does not tell its bytes, as standard input, it is not said that
+/// it gave this input. At most one byte more than the limit is taken.
 ///
 /// `Read` where the reader answered an error, `Write` where the writer answered one or took 0 of some bytes, `TooLong`
 /// where the reader gave more bytes than the limit.
@@ -35,8 +38,8 @@ pub fn run<R: Read, W: Write>(
     requires writer { has_failed writer.old ≡ false }
 
     // The row-list theorem.
-    ensures answers { IfOk result (λ totals. IfSome (R.remaining (inner_of reader.old)) (λ input.
-        Answers input (W.contents (inner_of writer.old)) (W.contents (inner_of writer.new)) totals)) }
+    ensures answers { IfOk result (ReachedEnd R.remaining reader.old reader.new limits
+        (W.contents (inner_of writer.old)) (W.contents (inner_of writer.new))) }
 
     // What was taken, and when that was too much.
     ensures taken { TakesWithin R.remaining reader.old reader.new limits

@@ -5,7 +5,7 @@ use Rattle.mmdb_core.specs.steps.Respond.{GoesOn}
 use Rattle.mmdb_core.specs.Run.{BrokeOff}
 use Rattle.mmdb_core.specs.declared.fault.RunFault.{RunFault}
 use Rattle.mmdb_core.proofs.Inputs.{at-fault}
-use Rattle.mmdb_core.proofs.Runs.{answers_at_end, broke_off, none_answered, passed_nearer, read_at_fault, running_first, running_more, taken_at_end, taken_at_fault, write_at_end, write_at_fault}
+use Rattle.mmdb_core.proofs.Runs.{broke_off, none_answered, passed_nearer, reached_end, read_at_fault, running_first, running_more, taken_at_end, taken_at_fault, write_at_end, write_at_fault}
 use Rattle.mmdb_core.proofs.run_script.run.Goals as goal
 
 pub loop-database-init : goal.loop-database-init
@@ -67,7 +67,7 @@ returns-clause-answers g c =
     c.loop-database.database c.answer_next.new.database c.loop-database.writer
     c.answer_next.new.writer in
     let ended = none_answered c.in_ok-is_refused.field-0 c.in_default.not-Some in
-    answers_at_end c.loop-database.invariant c.answer_next.new.reader c.answer_next.new.input c.answer_next.new.database c.answer_next.new.writer
+    reached_end c.loop-database.invariant c.answer_next.new.reader c.answer_next.new.input c.answer_next.new.database c.answer_next.new.writer
     (subst (λ answered. goes_on (Ok answered)) ended c.in_ok-is_refused.ensures)
 
 pub returns-clause-taken : goal.returns-clause-taken
