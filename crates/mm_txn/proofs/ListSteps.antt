@@ -7,7 +7,7 @@ use Rattle.mm_schema.specs.Schema.{Schema}
 use Rattle.mm_schema.proofs.Dues.{due_behind, due_in_front}
 use Rattle.mm_standing.specs.Bags.{Made, count_with, entries_at, row_change, sum_over}
 use Rattle.mm_standing.specs.Queries.{RowsByPlace, StandingQuery}
-use Rattle.mm_standing.specs.State.{AreFew, FitPrepared, Lists, count_at, count_now}
+use Rattle.mm_standing.specs.State.{FitPrepared, Lists, count_at, count_now}
 use Rattle.mm_value.specs.declared.refusal.Refusal.{Refusal}
 use Rattle.mm_value.specs.declared.values.Value.{Value}
 use Rattle.mm_txn.specs.Saved.{AreSaved}
@@ -35,16 +35,12 @@ same_at mark old new same log list row =
 -- ---- lists that keep their counts
 
 module _ (rows : Instance) (old new : Lists) (queries : new.queries ≡ old.queries) where
-  few_still : AreFew (rows_by_place rows) old.queries → AreFew (rows_by_place rows) new.queries
-  few_still few = subst (AreFew (rows_by_place rows)) (sym queries) few
-
   -- Lists that keep their counts have the same rows.
   pub listed_still : AreListed rows old → ((list : ℕ) (row : List Value) → count_now new list row ≡ count_now old list row) → new.prepared ≡ []
       → AreListed rows new
   listed_still listed counts ready = record {
     fits = λ list standing there row. counts list row
         ∙ listed.fits list standing (subst (λ qs. slice_get qs list ≡ Some standing) queries there) row;
-    few = few_still listed.few;
     ready = ready;
   }
 
@@ -54,7 +50,6 @@ module _ (rows : Instance) (old new : Lists) (queries : new.queries ≡ old.quer
   saved_still mark saved counts = record {
     fits = λ list standing there row. counts list row
         ∙ saved.fits list standing (subst (λ qs. slice_get qs list ≡ Some standing) queries there) row;
-    few = few_still saved.few;
   }
 
   -- Lists that are as they were at a mark, with nothing to take back behind it, have the saved rows.
@@ -66,7 +61,6 @@ module _ (rows : Instance) (old new : Lists) (queries : new.queries ≡ old.quer
         ∙ ap (λ cs. count_with new.bags cs list row) (sym log)
         ∙ counts list row
         ∙ saved.fits list standing (subst (λ qs. slice_get qs list ≡ Some standing) queries there) row;
-    few = few_still saved.few;
     ready = ready;
   }
 
@@ -81,7 +75,6 @@ pub saved_now : (mark : ℕ) (rows : Instance) (lists : Lists) → drop mark lis
 saved_now mark rows lists log listed = record {
   fits = λ list standing there row.
       ap (λ cs. count_with lists.bags cs list row) log ∙ count_plain lists.bags list row ∙ listed.fits list standing there row;
-  few = listed.few;
 }
 
 -- Beside each standing query stands its list, as long as neither changes.
@@ -93,13 +86,12 @@ placed_still schema old new same placed = subst (ArePlaced schema) (sym same) pl
 module _ (old mid new : Lists) (entries : entries_of mid.bags ≡ entries_of old.bags) (made : Made mid.bags mid.prepared mid.log new.bags [] new.log) where
   -- What was prepared for the rows after a change has these rows once it is made.
   pub listed_made : (rows : Instance) (after : RowsByPlace) → after ≡ rows_by_place rows → FitPrepared after mid → new.queries ≡ mid.queries
-      → AreFew after mid.queries → new.prepared ≡ [] → AreListed rows new
-  listed_made rows after is fits queries few ready = record {
+      → new.prepared ≡ [] → AreListed rows new
+  listed_made rows after is fits queries ready = record {
     fits = λ list standing there row.
         sym (count_plain new.bags list row)
         ∙ made.counts list row
         ∙ subst (λ (r : RowsByPlace). FitPrepared r mid) is fits list standing (subst (λ qs. slice_get qs list ≡ Some standing) queries there) row;
-    few = subst (AreFew (rows_by_place rows)) (sym queries) (subst (λ (r : RowsByPlace). AreFew r mid.queries) is few);
     ready = ready;
   }
 

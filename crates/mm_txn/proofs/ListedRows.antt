@@ -18,7 +18,7 @@ use Rattle.mm_schema.specs.Instance.{Instance}
 use Rattle.mm_schema.specs.Refused.{first_refusal}
 use Rattle.mm_schema.specs.Schema.{Schema}
 use Rattle.mm_standing.specs.Queries.{IsServed, RowsByPlace, StandingQuery, bag_over, change_conditions, is_too_large}
-use Rattle.mm_standing.specs.State.{AreFew, AreServed}
+use Rattle.mm_standing.specs.State.{AreServed}
 use Rattle.mm_store.specs.Tables.{AreFit, HasRows, IsAt, SameForm, Tables, Turns, rows_with}
 use Rattle.mm_store.proofs.Forms.{forms_same}
 use Rattle.mm_store.proofs.Joining.{one_relation, some_at}
@@ -57,21 +57,6 @@ served schema store are queries placed =
       there = subst (All (λ table. table < length store.tables)) (sym p.places) (all_there schema store are standing.query.from p.within.tables);
       few = p.few;
     }) queries placed
-
--- Where the standing queries refuse no change, none of them has too many rows after it.
-pub few_after : (rows : RowsByPlace) (queries : List StandingQuery) → first_refusal (change_conditions rows queries) ≡ None → AreFew rows queries
-few_after rows queries none = each queries (none_holds _ none)
-  where
-    none_holds : (b : Bool) → cond b (Some StandingListTooLarge) None ≡ None → b ≡ false
-    none_holds true e = cc
-    none_holds false e = refl
-
-    each : (qs : List StandingQuery) → list_any (λ standing. is_too_large (bag_over rows standing)) qs ≡ false → AreFew rows qs
-    each [] small = All-nil (λ (standing : StandingQuery). length (bag_over rows standing) ≤ 1048576)
-    each (q ∷ qs) small =
-        let parts = or_parts (is_too_large (bag_over rows q)) (list_any (λ standing. is_too_large (bag_over rows standing)) qs) small in
-        All-cons (λ (standing : StandingQuery). length (bag_over rows standing) ≤ 1048576) q qs
-        (ltb-false 1048576 (length (bag_over rows q)) parts.0) (each qs parts.1)
 
 -- ---- rows at places
 

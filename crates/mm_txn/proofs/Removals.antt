@@ -283,11 +283,3 @@ module _ (removed prepared : Result Unit Refusal) (u : Unit {0}) where
       by (Ok v) (Ok w) is made = made
       by (Ok v) (Err refusal) is made = absurd (let b : ⊥ = cc in b)
       by (Err refusal) s is made = absurd (let b : ⊥ = cc in b)
-
-  pub second_due : (due : Option Refusal) → result_and removed prepared ≡ Ok u → AnswersDue due prepared → due ≡ None
-  second_due due = by removed prepared
-    where
-      by : (r s : Result Unit Refusal) → result_and r s ≡ Ok u → AnswersDue due s → due ≡ None
-      by (Ok v) (Ok w) is none = none
-      by (Ok v) (Err refusal) is none = absurd (let b : ⊥ = cc in b)
-      by (Err refusal) s is none = absurd (let b : ⊥ = cc in b)

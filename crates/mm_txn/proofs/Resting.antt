@@ -39,7 +39,7 @@ use Rattle.mm_query.proofs.Due.{step-done}
 use Rattle.mm_laws.proofs.StandingQueries.{watched_by_step}
 use Rattle.mm_plan.specs.From.{places_in}
 use Rattle.mm_standing.specs.Queries.{RowsByPlace, StandingQuery, bag_over}
-use Rattle.mm_standing.specs.State.{AreFew, FitNow, Lists}
+use Rattle.mm_standing.specs.State.{FitNow, Lists}
 use Rattle.mm_txn.specs.Kept.{AreKept, instance_of, state_of}
 use Rattle.mm_txn.specs.Rest.{AreAtRest, state_at_rest}
 use Rattle.mm_txn.specs.Watched.{AreListed, ArePlaced, IsPlaced, queries_of, rows_by_place}
@@ -123,7 +123,6 @@ listed_behind rows lists are =
     let same : rows_by_place rows ≡ rows_by_place (rows ++ [] ∷ []) = λ i place. no_rows_behind rows place i in
     record {
       fits = subst (λ r. FitNow r lists) same are.fits;
-      few = subst (λ r. AreFew r lists.queries) same are.few;
       ready = are.ready;
     }
 
@@ -343,12 +342,6 @@ at_place P [] k x all at = cc
 
 -- Lists whose queries turn into others of the same bags fit still.
 module _ (rows rows' : RowsByPlace) (f : StandingQuery → StandingQuery) where
-  few_turned : (standing : List StandingQuery) → AllByRecursion (λ s. bag_over rows' (f s) ≡ bag_over rows s) standing
-      → AllByRecursion (λ s. length (bag_over rows s) ≤ 1048576) standing
-      → AllByRecursion (λ s. length (bag_over rows' s) ≤ 1048576) (map f standing)
-  few_turned [] same few = tt
-  few_turned (s ∷ ss) same few = (subst (λ (b : List (List Value)). length b ≤ 1048576) (sym same.0) few.0, few_turned ss same.1 few.1)
-
   bag_at : (standing : List StandingQuery) → AllByRecursion (λ s. bag_over rows' (f s) ≡ bag_over rows s) standing → (list : ℕ) (s : StandingQuery)
       → slice_get (map f standing) list ≡ Some s → (old : StandingQuery) × (slice_get standing list ≡ Some old) × (bag_over rows' s ≡ bag_over rows old)
   bag_at (x ∷ xs) same zero s at = let turned : f x ≡ s = cc in (x, refl, ap (bag_over rows') (sym turned) ∙ same.0)
@@ -362,9 +355,6 @@ listed_turned rows rows' f lists same are = record {
   fits = λ list s at row.
       let old = bag_at (rows_by_place rows) (rows_by_place rows') f lists.queries same list s at in
       are.fits list old.0 old.1 row ∙ ap (λ b. pos (count_of row b)) (sym old.2);
-  few = All-from_recursion (λ s. length (bag_over (rows_by_place rows') s) ≤ 1048576) (map f lists.queries)
-      (few_turned (rows_by_place rows) (rows_by_place rows') f lists.queries same
-      (recursion_from_All (λ s. length (bag_over (rows_by_place rows) s) ≤ 1048576) lists.queries are.few));
   ready = are.ready;
 }
 

@@ -205,11 +205,6 @@ module _ (schema : Schema) (store : Tables) (lists : Lists) (rest : AreAtRest sc
         saved = None;
       }
 
-      few_rows : first_refusal (watch_conditions name query state) ≡ None → length (bag_over (rows_by_place state.rows) new) ≤ 1048576
-      few_rows due =
-          let small = first_none _ _ _ (watch_due ∙ due) in
-          subst (λ ls. length (bag_of bound ls) ≤ 1048576) lists_are (not_more (length (bag_of bound (map (rows_at store.tables) tables))) 1048576 small)
-
       later_rest : length lists.queries ≡ length lists.bags → first_refusal (watch_conditions name query state) ≡ None → IsQueryWithin schema bound
           → AreAtRest later_schema store later_lists
       later_rest many due within =
@@ -227,7 +222,6 @@ module _ (schema : Schema) (store : Tables) (lists : Lists) (rest : AreAtRest sc
             listed = record {
               fits = fit_behind (rows_by_place state.rows) lists.queries lists.bags new bag many rest.listed.fits
                   (subst (λ ls. IsBagOf bag.entries (bag_of bound ls)) lists_are is_bag);
-              few = All-push (λ s. length (bag_over (rows_by_place state.rows) s) ≤ 1048576) lists.queries new rest.listed.few (few_rows due);
               ready = rest.listed.ready;
             };
           }
@@ -326,7 +320,6 @@ listed_left rows lists place are = record {
   fits = λ list s at row.
       ap (λ (e : Entries). pos (count_in row e)) (entries_removed lists.bags place list)
       ∙ are.fits (skip place list) s (sym (get_removed lists.queries place list) ∙ at) row;
-  few = all_removed (λ s. length (bag_over (rows_by_place rows) s) ≤ 1048576) lists.queries place are.few;
   ready = are.ready;
 }
 

@@ -2,7 +2,7 @@
 use Rattle.std.specs.Prelude.{◌≡◌, ℕ, Bool, true, false, cond, All, List, [], Option, Some, None, length, map, reverse}
 use Rattle.mm_schema.specs.Instance.{Instance}
 use Rattle.mm_schema.specs.Schema.{Schema}
-use Rattle.mm_standing.specs.State.{AreFew, FitAt, Lists}
+use Rattle.mm_standing.specs.State.{FitAt, Lists}
 use Rattle.mm_store.specs.Marks.{rows_at_mark}
 use Rattle.mm_store.specs.Tables.{Tables}
 use Rattle.mm_store.specs.Undoing.{CanUndo}
@@ -43,7 +43,6 @@ pub record IsSettled (undo : List Noted) (lists : Lists) : Type 0 where
 -- Once the log of the lists is taken back to a length, each list has just the rows of its query over the saved rows.
 pub record AreSaved (length : ℕ) (saved : Instance) (lists : Lists) : Type 0 where
   pub fits : FitAt length (rows_by_place saved) lists
-  pub few : AreFew (rows_by_place saved) lists.queries
 
 -- The lists can go back to the rows at a mark.
 abbrev pub IsSaved : List Noted → Tables → Lists → Mark → Type 0

@@ -8,7 +8,7 @@ use Rattle.mm_query.specs.declared.bound_query.BoundQuery.{BoundQuery}
 use Rattle.mm_plan.specs.From.{places_in}
 use Rattle.mm_relevance.specs.Relevance.{AddsToNumbers}
 use Rattle.mm_standing.specs.Queries.{RowsByPlace, StandingQuery}
-use Rattle.mm_standing.specs.State.{AreFew, FitNow, Lists}
+use Rattle.mm_standing.specs.State.{FitNow, Lists}
 
 -- The bound queries of the lists.
 abbrev pub queries_of : List StandingQuery → List BoundQuery
@@ -36,8 +36,7 @@ pub record IsTested (old new : RowsByPlace) (standing : StandingQuery) : Type 0 
   pub before : AddsToNumbers standing.query (λ j. old (get_or standing.tables j 0))
   pub after : AddsToNumbers standing.query (λ j. new (get_or standing.tables j 0))
 
--- Each list has just the rows of its query over these rows of the tables, at most 1,048,576, and nothing is prepared.
+-- Each list has just the rows of its query over these rows of the tables, and nothing is prepared.
 pub record AreListed (rows : Instance) (lists : Lists) : Type 0 where
   pub fits : FitNow (rows_by_place rows) lists
-  pub few : AreFew (rows_by_place rows) lists.queries
   pub ready : lists.prepared ≡ []

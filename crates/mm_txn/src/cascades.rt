@@ -1,12 +1,12 @@
 //! The rows that go along with the rows of a DELETE (the CASCADE of SQL's referential actions).
-ghost use Rattle.std.specs.Prelude.{◌≡◌, ◌<◌, ◌∷◌, [], All, filter, length, map, slice_get, IfErr, IfOk, OnOk, Some};
+ghost use Rattle.std.specs.Prelude.{◌≡◌, ◌<◌, ◌∷◌, [], All, filter, length, map, slice_get, IfErr, IfOk, OnOk, None, Some};
 ghost use Rattle.std.specs.Option.{option_copied, option_map};
 ghost use Rattle.mm_relation.specs.Edits.{new_rows};
 ghost use Rattle.mm_relation.specs.Kept.{StoredRows};
 ghost use Rattle.mm_schema.specs.Columns.{cascading_target};
 ghost use Rattle.mm_schema.specs.Schema.{HasDistinctNames};
 ghost use Rattle.mm_schema.specs.declared.table.Table.{Table};
-ghost use Rattle.mm_store.specs.Looked.{IsIndexOn};
+ghost use Rattle.mm_store.specs.Looked.{IsFirstOn, IsIndexOn};
 ghost use Rattle.mm_store.specs.Tables.{IsAt, rows_at};
 ghost use Rattle.mm_query.specs.Edits.{goes_along, removals_of, with_cascades};
 ghost use Rattle.mm_value.specs.declared.refusal.Refusal.TheVariants.{Memory};
@@ -214,7 +214,8 @@ fn add_by_index(
     Ok(())
 }
 
-/// The same without one: each row of the table is asked once whether the row that it refers to goes. `Memory` is the only refusal.
+/// The same where the column has none: each row of the table is asked once whether the row that it refers to goes. `Memory` is the
+/// only refusal.
 fn add_by_scan(
     alloc: Global,
     store: &Store,
@@ -224,6 +225,7 @@ fn add_by_scan(
 ) -> Result<(), Refusal>
     requires there { table < length store.now.tables }
     requires cascade { IsCascade store.now table cascade.now.column (cascade.now.to, cascade.now.gone.now) }
+    requires unindexed { (stored : StoredRows) → IsAt store.now table stored → IsFirstOn stored cascade.now.column None }
     ensures found { OnOk result ((stored : StoredRows) → IsAt store.now table stored
         → AddsReferrers stored (goes_by store.now.tables cascade.now.column (cascade.now.to, cascade.now.gone.now)) found.old.items found.new.items) }
     ensures memory { IfErr result (λ refusal. refusal ≡ Memory) }

@@ -1,1 +1,2 @@
+mod OneRow
 mod StillSample

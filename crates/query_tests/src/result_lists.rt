@@ -1,11 +1,14 @@
 //! Temporary lists and the rows of results.
-ghost use Rattle.std.specs.Prelude.{◌≡◌, ◌+◌, ◌++◌, ◌∷◌, [], length, pos, All, IfOk, OnErr, OnOk};
+ghost use Rattle.std.specs.Prelude.{◌≡◌, ◌+◌, ◌++◌, ◌∷◌, ◌<◌, [], length, pos, All, IfOk, OnErr, OnOk};
 ghost use Rattle.mm_value.specs.declared.values.Value.TheVariants.{Int};
 ghost use Rattle.mm_templist.specs.Combos.{AreLive};
-ghost use Rattle.mm_templist.specs.Results.{result_rows};
+ghost use Rattle.mm_templist.specs.Results.{HasValue, result_rows};
+ghost use Rattle.query_tests.specs.Sample.{IsSample};
 
 use crate::assertions::{assert_same, assert_that};
+use crate::samples::{Values, sample};
 use mm_query::FieldPlace;
+use mm_schema::IndexKind;
 use mm_store::{Meter, Store};
 use mm_templist::{Descriptor, ShownRows, TempList};
 use mm_value::{Refusal, RowRef, Value, compare};
@@ -149,4 +152,50 @@ fn shows_0_where_no_row_is_there(rt: HostRuntime) -> Result<(), Fail> {
     }];
     let list = TempList::unit(alloc, &fields);
     shows_0(&rt, &list, alloc, &store)
+}
+
+/// The whole number in the first field of the first combination of a list, and how many rows are read for it.
+fn first_value(store: &Store, list: &TempList) -> (Option<i64>, u64)
+    requires combo { 0 < length list.now.combos }
+    requires field { 0 < length list.now.fields }
+    requires there { HasValue store.now list.now 0 0 }
+{
+    let mut meter = Meter::new();
+    let number = match list.value(store, &mut meter, 0, 0) {
+        Value::Int(number) => Some(*number),
+        Value::Text(_) => None,
+    };
+    (number, meter.reads())
+}
+
+/// What is told where a row that should be there is not.
+const NO_ROW: &str = "no row has the key";
+
+/// Adds the row of key 3 of the second table to a list of none, and reads what stands beside the key.
+fn reads_a_value(rt: &impl Abort, store: &Store, list: &mut TempList) -> Result<(), Fail>
+    requires sample { IsSample store.now }
+    requires none { list.old ≡ record { tables = 1 ∷ []; fields = record { place = 0; column = 1 } ∷ []; combos = [] } }
+{
+    store.is_kept(1);
+    let Some(at) = store.table(1).find(&Value::Int(3)) else {
+        return Err(Fail::from(NO_ROW));
+    };
+    push(list, &[], at)?;
+    assert_same(rt, first_value(store, list), (Some(1), 1));
+    Ok(())
+}
+
+#[test]
+fn reads_one_row_for_a_value(rt: HostRuntime) -> Result<(), Fail> {
+    let alloc = rt.alloc();
+    let store = sample(alloc, IndexKind::Tree, [3, 3], Values::Falling)?;
+    let descriptor = Descriptor {
+        tables: &[1],
+        fields: &[FieldPlace {
+            place: 0,
+            column: 1,
+        }],
+    };
+    let mut list = TempList::new(alloc, descriptor);
+    reads_a_value(&rt, &store, &mut list)
 }

@@ -9,7 +9,7 @@ use Rattle.mm_relation.specs.Kept.{StoredRows}
 use Rattle.mm_relation.specs.RowLists.{rows_of}
 use Rattle.mm_standing.specs.Bags.{entries_at}
 use Rattle.mm_standing.specs.Queries.{IsBagOf, IsServed, RowsByPlace, StandingQuery, bag_over}
-use Rattle.mm_standing.specs.State.{AreFew, AreServed, FitAt, FitNow, Lists, count_at, count_now}
+use Rattle.mm_standing.specs.State.{AreServed, FitAt, FitNow, Lists, count_at, count_now}
 use Rattle.mm_standing.specs.declared.change.ListChange.{ListChange}
 use Rattle.mm_store.specs.Marks.{rows_at_mark, rows_now}
 use Rattle.mm_store.specs.Tables.{SameForm, Tables}
@@ -27,16 +27,15 @@ use Rattle.standing_tests.proofs.TableRows.{before_listed}
 module _ (store new : Tables) (undo later : List Noted) (lists left : Lists) (queries : left.queries ≡ lists.queries) where
   -- Tables of the same form with lists that have the rows of the same queries are a case.
   pub case_still : IsCase store undo lists → length new.tables ≡ length store.tables → ArePlain new → CanUndo new later
-      → (rows : RowsByPlace) → before_at new ≡ rows → FitNow rows left → AreFew rows lists.queries → left.prepared ≡ []
+      → (rows : RowsByPlace) → before_at new ≡ rows → FitNow rows left → left.prepared ≡ []
       → IsCase new later left
-  case_still was many plain undoable rows are fits few ready = record {
+  case_still was many plain undoable rows are fits ready = record {
     two = many ∙ was.two;
     plain = plain;
     undoable = undoable;
     served = served_still store new lists.queries left.queries many queries was.served;
     whole = subst (All IsWhole) (sym queries) was.whole;
     fits = subst (λ (r : RowsByPlace). FitNow r left) (sym are) fits;
-    few = subst (λ (r : RowsByPlace). AreFew r left.queries) (sym are) (subst (AreFew rows) (sym queries) few);
     ready = ready;
   }
 
@@ -51,8 +50,6 @@ module _ (store new : Tables) (undo later : List Noted) (lists left : Lists) (qu
     fits = counts_still (λ list row. count_at changes list row lists) (λ list row. count_at changes list row left) (rows_then commands later new)
         lists.queries left.queries queries counts
         (subst (λ (r : List (List (List Value))). FitAt changes (λ place. slice_index_or r place []) lists) (sym rows) was.fits);
-    few = subst (AreFew (rows_then commands later new)) (sym queries)
-        (subst (λ (r : List (List (List Value))). AreFew (λ place. slice_index_or r place []) lists.queries) (sym rows) was.few);
   }
 
 -- Lists that keep their counts and their queries leave a case.
@@ -60,7 +57,7 @@ pub case_listed : (store : Tables) (undo : List Noted) (lists left : Lists) → 
     → ((list : ℕ) (row : List Value) → count_now left list row ≡ count_now lists list row) → left.prepared ≡ [] → IsCase store undo lists → IsCase store undo left
 case_listed store undo lists left queries counts ready was =
     case_still store store undo undo lists left queries was refl was.plain was.undoable (before_at store) refl
-    (counts_still (count_now lists) (count_now left) (before_at store) lists.queries left.queries queries counts was.fits) was.few ready
+    (counts_still (count_now lists) (count_now left) (before_at store) lists.queries left.queries queries counts was.fits) ready
 
 -- ---- steps back
 
@@ -79,7 +76,7 @@ module _ (store new : Tables) (undo later : List Noted) (lists left : Lists) (qu
       (before_listed new (rows_at_mark commands undo store) rows)
       (counts_still (λ list row. count_at changes list row lists) (count_now left) (rows_then commands undo store) lists.queries left.queries queries
       (λ list row. sym (count_last left changes done list row) ∙ counts changes (omega arith) list row) mark.fits)
-      mark.few ready
+      ready
 
   -- The older marks are still there.
   pub mark_back : IsMark store undo lists commands changes → later ≡ take commands undo
@@ -108,7 +105,6 @@ mark_now store undo lists was rows commands changes commands_are changes_are =
       changes_there = omega arith;
       fits = counts_still (count_now lists) (λ list row. count_at changes list row lists) (rows_then commands undo store) lists.queries lists.queries refl
           (count_last lists changes done) (subst (λ (r : RowsByPlace). FitNow r lists) then was.fits);
-      few = subst (λ (r : RowsByPlace). AreFew r lists.queries) then was.few;
     }
 
 -- With no standing query each mark that is there is one.
@@ -118,7 +114,6 @@ mark_none store undo lists none = record {
   changes_there = omega arith;
   fits = λ list standing there.
       let at : slice_get {X = StandingQuery} [] list ≡ Some standing = subst (λ (qs : List StandingQuery). slice_get qs list ≡ Some standing) none there in cc;
-  few = subst (AreFew (rows_then 0 undo store)) (sym none) (All-nil (λ (s : StandingQuery). length (bag_over (rows_then 0 undo store) s) ≤ 1048576));
 }
 
 pub case_none : (store : Tables) (undo : List Noted) (lists : Lists) → length store.tables ≡ 2 → ArePlain store → CanUndo store undo
@@ -131,7 +126,6 @@ case_none store undo lists two plain undoable none ready = record {
   whole = subst (All IsWhole) (sym none) (All-nil IsWhole);
   fits = λ list standing there.
       let at : slice_get {X = StandingQuery} [] list ≡ Some standing = subst (λ (qs : List StandingQuery). slice_get qs list ≡ Some standing) none there in cc;
-  few = subst (AreFew (before_at store)) (sym none) (All-nil (λ (s : StandingQuery). length (bag_over (before_at store) s) ≤ 1048576));
   ready = ready;
 }
 
@@ -139,16 +133,15 @@ case_none store undo lists two plain undoable none ready = record {
 
 -- One more standing query, with the rows that it gives, leaves a case.
 pub case_watched : (store : Tables) (undo : List Noted) (lists : Lists) (new : StandingQuery) (bag : Counts) → length lists.queries ≡ length lists.bags
-    → IsServed store new → IsWhole new → IsBagOf bag.entries (bag_over (before_at store) new) → length (bag_over (before_at store) new) ≤ 1048576
+    → IsServed store new → IsWhole new → IsBagOf bag.entries (bag_over (before_at store) new)
     → IsCase store undo lists → IsCase store undo (record lists { queries = lists.queries ++ new ∷ []; bags = lists.bags ++ bag ∷ [] })
-case_watched store undo lists new bag many served whole is few was = record {
+case_watched store undo lists new bag many served whole is was = record {
   two = was.two;
   plain = was.plain;
   undoable = was.undoable;
   served = All-push (IsServed store) lists.queries new was.served served;
   whole = All-push IsWhole lists.queries new was.whole whole;
   fits = fit_behind (before_at store) lists.queries lists.bags new bag many was.fits is;
-  few = All-push (λ s. length (bag_over (before_at store) s) ≤ 1048576) lists.queries new was.few few;
   ready = was.ready;
 }
 
@@ -162,7 +155,6 @@ case_left store undo lists place was = record {
   served = all_removed (IsServed store) lists.queries place was.served;
   whole = all_removed IsWhole lists.queries place was.whole;
   fits = fit_left (before_at store) lists.queries lists.bags place was.fits;
-  few = all_removed (λ s. length (bag_over (before_at store) s) ≤ 1048576) lists.queries place was.few;
   ready = was.ready;
 }
 

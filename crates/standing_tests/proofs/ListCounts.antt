@@ -8,7 +8,7 @@ use Rattle.mm_bag.specs.Counts.{Counts, Entries, count_in, count_of}
 use Rattle.mm_schema.specs.Refused.{AnswersDue, first_refusal}
 use Rattle.mm_standing.specs.Bags.{Made, count_with, entries_at, row_change, sum_over}
 use Rattle.mm_standing.specs.Queries.{AreCounts, IsBagOf, IsServed, RowsByPlace, StandingQuery, bag_over, change_conditions, is_too_large, list_conditions}
-use Rattle.mm_standing.specs.State.{AreFew, AreServed, FitNow, FitPrepared, Lists, count_at, count_now}
+use Rattle.mm_standing.specs.State.{AreServed, FitNow, FitPrepared, Lists, count_at, count_now}
 use Rattle.mm_standing.specs.declared.change.ListChange.{ListChange}
 use Rattle.mm_store.specs.Tables.{Tables}
 use Rattle.mm_value.specs.declared.refusal.Refusal.{Refusal}
@@ -82,36 +82,6 @@ module _ (old mid new : Lists) (made : Made mid.bags mid.prepared mid.log new.ba
       sym (count_plain new.bags list row) ∙ made.counts list row
       ∙ ap (λ ps. count_with mid.bags (map (λ p. p.done) ps) list row) none
       ∙ count_plain mid.bags list row ∙ same_now old mid entries list row
-
--- ---- lists that are few
-
-not_more : (n m : ℕ) → nat_lt m n ≡ false → n ≤ m
-not_more n m h = grind (arith, nat_tests)
-
-none_holds : (b : Bool) → cond b (Some StandingListTooLarge) None ≡ None → b ≡ false
-none_holds true e = cc
-none_holds false e = refl
-
--- Where nothing refuses a change of tables, no list has too many rows after it.
-pub few_after : (rows : RowsByPlace) (queries : List StandingQuery) → first_refusal (change_conditions rows queries) ≡ None → AreFew rows queries
-few_after rows queries none = each queries (none_holds _ none)
-  where
-    each : (qs : List StandingQuery) → list_any (λ standing. is_too_large (bag_over rows standing)) qs ≡ false → AreFew rows qs
-    each [] small = All-nil (λ (standing : StandingQuery). length (bag_over rows standing) ≤ 1048576)
-    each (q ∷ qs) small =
-        let parts = or_parts (is_too_large (bag_over rows q)) (list_any (λ standing. is_too_large (bag_over rows standing)) qs) small in
-        All-cons (λ (standing : StandingQuery). length (bag_over rows standing) ≤ 1048576) q qs
-        (ltb-false 1048576 (length (bag_over rows q)) parts.0) (each qs parts.1)
-
--- So where a change of tables is answered Ok.
-pub few_on_ok : {T : Type 0} (rows : RowsByPlace) (queries : List StandingQuery) (result : Result T Refusal)
-    → AnswersDue (first_refusal (change_conditions rows queries)) result → OnOk result (AreFew rows queries)
-few_on_ok rows queries (Ok value) due = few_after rows queries due
-few_on_ok rows queries (Err refusal) due = tt
-
--- Where nothing refuses a list, it has not too many.
-pub few_listed : (rows : List (List Value)) → first_refusal (list_conditions rows) ≡ None → length rows ≤ 1048576
-few_listed rows none = not_more (length rows) 1048576 (none_holds _ none)
 
 -- ---- tables that are as many
 

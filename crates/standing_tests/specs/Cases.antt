@@ -11,7 +11,7 @@ use Rattle.mm_query.specs.declared.bound_query.FieldPlace.{FieldPlace}
 use Rattle.mm_relation.specs.Kept.{StoredRows}
 use Rattle.mm_relation.specs.declared.edits.Edit.{Edit}
 use Rattle.mm_standing.specs.Queries.{RowsByPlace, StandingQuery}
-use Rattle.mm_standing.specs.State.{AreFew, AreServed, FitAt, FitNow, Lists}
+use Rattle.mm_standing.specs.State.{AreServed, FitAt, FitNow, Lists}
 use Rattle.mm_store.specs.Marks.{rows_at_mark}
 use Rattle.mm_store.specs.Tables.{Tables, rows_at, rows_with}
 use Rattle.mm_store.specs.Undoing.{CanUndo}
@@ -56,7 +56,6 @@ pub record IsCase (store : Tables) (undo : List Noted) (lists : Lists) : Type 0 
   pub served : AreServed store lists.queries
   pub whole : All IsWhole lists.queries
   pub fits : FitNow (before_at store) lists
-  pub few : AreFew (before_at store) lists.queries
   pub ready : lists.prepared ≡ []
 
 -- When the tables had so many commands, and the lists so many changes, the lists had the rows of their queries.
@@ -64,7 +63,6 @@ pub record IsMark (store : Tables) (undo : List Noted) (lists : Lists) (commands
   pub commands_there : commands ≤ length undo
   pub changes_there : changes ≤ length lists.log
   pub fits : FitAt changes (rows_then commands undo store) lists
-  pub few : AreFew (rows_then commands undo store) lists.queries
 
 -- A case that can go back to its start and to a mark.
 pub record IsMarked (store : Tables) (undo : List Noted) (lists : Lists) (commands changes : ℕ) : Type 0 where

@@ -7,7 +7,7 @@ ghost use Rattle.mm_relation.specs.Edits.{edit_name, named, new_rows};
 ghost use Rattle.mm_relation.specs.Kept.{StoredRows};
 ghost use Rattle.mm_relation.specs.declared.names.Side.TheVariants as side;
 ghost use Rattle.mm_partition.specs.Places.{IsLive};
-ghost use Rattle.mm_standing.specs.State.{AreFew, AreServed, FitNow, FitPrepared, count_at, count_now};
+ghost use Rattle.mm_standing.specs.State.{AreServed, FitNow, FitPrepared, count_at, count_now};
 ghost use Rattle.mm_store.specs.Tables.{AreFit, IsAt, rows_at};
 ghost use Rattle.standing_tests.specs.Cases.{IsCase, IsMark, IsWhole, adds_none, is_unshifted, rows_edited};
 ghost use Rattle.mm_value.specs.declared.values.Value.{Value as Val};
@@ -135,7 +135,6 @@ pub fn prepare_and_drop(
     requires served { AreServed store.now standing.old.queries }
     requires whole { All IsWhole standing.old.queries }
     requires fits { FitNow (before_at store.now) standing.old }
-    requires few { AreFew (before_at store.now) standing.old.queries }
     requires ready { standing.old.prepared ≡ [] }
     ensures ready { standing.new.prepared ≡ [] }
     ensures queries { standing.new.queries ≡ standing.old.queries }
@@ -164,10 +163,8 @@ fn prepare(
     requires served { AreServed store.now standing.old.queries }
     requires whole { All IsWhole standing.old.queries }
     requires fits { FitNow (before_at store.now) standing.old }
-    requires few { AreFew (before_at store.now) standing.old.queries }
     requires ready { standing.old.prepared ≡ [] }
     ensures ok { OnOk result (FitPrepared (rows_edited store.now table edits.now) standing.new) }
-    ensures few { OnOk result (AreFew (rows_edited store.now table edits.now) standing.old.queries) }
     ensures err { OnErr result (standing.new.prepared ≡ []) }
     ensures entries { map (λ (bag : Counts). bag.entries) standing.new.bags ≡ map (λ (bag : Counts). bag.entries) standing.old.bags }
     ensures queries { standing.new.queries ≡ standing.old.queries }

@@ -532,15 +532,16 @@ fn add_tree(relation: &mut Relation, alloc: Global, column: usize) -> Result<(),
     Ok(())
 }
 
-/// Adds TREE indexes over a thousand rows.
+/// Adds TREE indexes on the second column and on the key, over at most a thousand rows.
 fn add_trees(rt: &(impl Abort + AllocGlobal), relation: &mut Relation) -> Result<(), Fail>
     requires { IsSample relation.old }
 {
     let alloc = rt.alloc();
-    assert_that(rt, relation.len() <= 1000);
+    let count = relation.len();
+    assert_that(rt, count <= 1000);
     add_tree(relation, alloc, 1)?;
     add_tree(relation, alloc, 0)?;
-    assert_same(rt, relation.len(), 1000);
+    assert_same(rt, relation.len(), count);
     Ok(())
 }
 
@@ -548,6 +549,43 @@ fn add_trees(rt: &(impl Abort + AllocGlobal), relation: &mut Relation) -> Result
 fn builds_trees_over_rows(rt: HostRuntime) -> Result<(), Fail> {
     let mut relation = thousand(rt.alloc())?;
     add_trees(&rt, &mut relation)
+}
+
+/// Whether the prefix is kept that the row of a key has in a column, which it is where the column's prefixes are.
+fn has_prefix(relation: &Relation, column: usize, key: i64) -> bool {
+    relation.is_kept();
+    at_key(relation, key).is_some_and(|at| relation.prefix_of(column, at).is_some())
+}
+
+/// Of which of the three columns the prefixes are kept, as the row of key 1 tells.
+fn with_prefixes(relation: &Relation) -> [bool; 3] {
+    [0, 1, 2].map(|column| has_prefix(relation, column, 1))
+}
+
+/// Drops the first TREE index on a column, and says whether there was one.
+fn drop_tree(relation: &mut Relation, column: usize) -> bool {
+    let Some(index) = relation.index_of(column, IndexKind::Tree) else {
+        return false;
+    };
+    relation.drop_index(index);
+    true
+}
+
+/// Drops TREE indexes on the key and on another column, which has two of them and a HASH index.
+fn drop_trees(rt: &impl Abort, relation: &mut Relation) {
+    assert_same(rt, with_prefixes(relation), [true, true, false]);
+    assert_that(rt, drop_tree(relation, 0) && drop_tree(relation, 1));
+    assert_same(rt, with_prefixes(relation), [true, true, false]);
+    assert_that(rt, drop_tree(relation, 1) && !drop_tree(relation, 1));
+    assert_same(rt, with_prefixes(relation), [true, false, false]);
+}
+
+#[test]
+fn keeps_prefixes_of_the_key_and_of_trees(rt: HostRuntime) -> Result<(), Fail> {
+    let mut relation = sample_with(rt.alloc(), &FIVE)?;
+    add_trees(&rt, &mut relation)?;
+    drop_trees(&rt, &mut relation);
+    Ok(())
 }
 
 /// Whether the row of a key has the key's digit and can be taken out.

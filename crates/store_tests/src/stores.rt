@@ -365,7 +365,8 @@ fn target_of(store: &Store, key: i64) -> Option<RowRef>
     requires link { Contains store.now.links (record { from = 1; column = 1; to = 0 }) }
 {
     let at = at_key(store, 1, key)?;
-    Some(store.follow(1, 1, at))
+    let mut meter = Meter::new();
+    Some(store.view(&mut meter).follow(1, 1, at))
 }
 
 /// How many rows of a table have a value in the second column, by its TREE index.
@@ -440,6 +441,16 @@ fn count_between(
     let mut found = Vec::new(alloc);
     view.key_range(alloc, table, Some(&low), Some(&high), &mut found)?;
     Ok(found.len())
+}
+
+/// How many rows a table has, and the one that a walk along its keys meets first.
+fn count_and_first(store: &Store, table: usize) -> (usize, Option<RowRef>)
+    requires { table < length store.now.tables }
+{
+    let mut meter = Meter::new();
+    let view = store.view(&mut meter);
+    let mut walk = view.key_walk(table);
+    (view.len_of(table), walk.next())
 }
 
 /// The rows of a key in two tables, what stands beside the key, and the row to which that of the second table refers.
@@ -664,13 +675,14 @@ const COUNTS: [(usize, i64, Option<usize>); 4] = [
     (2, 2, None),
 ];
 
-/// Counts the rows of the second table that have a value in a column, and those between two keys.
+/// Counts the rows of the second table that have a value in a column, those between two keys, and all, and finds the first.
 fn look_up(rt: &(impl Abort + AllocGlobal), case: &Case) -> Result<(), Fail> {
     let alloc = rt.alloc();
     for (column, value, count) in &COUNTS {
         assert_same(rt, case.count(alloc, *column, *value)?, *count);
     }
     assert_same(rt, count_between(&case.store, alloc, 1, 13, 30)?, 2);
+    assert_same(rt, count_and_first(&case.store, 1), (3, case.second(12)));
     Ok(())
 }
 

@@ -517,3 +517,22 @@ fn a_list_in_order_fills_the_nodes(rt: HostRuntime) -> Result<(), Fail> {
     assert_ends(&rt, alloc, &tree, [(16, 31), (0, 15), (32, 39)])?;
     Ok(())
 }
+
+/// Takes 14 references out of the root of a tree of three full nodes. From the third on it borrows the greatest of its left side for
+/// each, so that it keeps 14.
+fn drain_root(rt: &impl Abort, alloc: Global, tree: &mut TTree) -> Result<(), AllocError>
+    requires { IsByPlace tree.old.refs }
+{
+    for part in 18..32 {
+        assert_that(rt, tree.remove(&ByPlace, first_of(part)));
+    }
+    assert_ends(rt, alloc, tree, [(4, 17), (0, 3), (32, 47)])
+}
+
+#[test]
+fn an_internal_node_keeps_14_entries(rt: HostRuntime) -> Result<(), Fail> {
+    let alloc = rt.alloc();
+    let mut tree = assert_built(&rt, alloc, 48, 2)?;
+    drain_root(&rt, alloc, &mut tree)?;
+    Ok(())
+}

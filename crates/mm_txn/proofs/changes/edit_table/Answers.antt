@@ -7,13 +7,13 @@ use Rattle.mm_schema.specs.Instance.{Instance}
 use Rattle.mm_schema.specs.Refused.{AnswersDue, Condition, first_refusal}
 use Rattle.mm_schema.proofs.Dues.{due_behind}
 use Rattle.mm_standing.specs.Queries.{change_conditions as list_conditions}
-use Rattle.mm_standing.specs.State.{AreFew, FitPrepared, Lists, count_now}
+use Rattle.mm_standing.specs.State.{FitPrepared, Lists, count_now}
 use Rattle.mm_store.specs.Tables.{AreFit, edit_conditions}
 use Rattle.mm_txn.specs.Kept.{instance_of}
 use Rattle.mm_txn.specs.TableEdits.{FitsAt, PlacedEdits, edits_conditions, placed, rows_edited}
 use Rattle.mm_txn.specs.Watched.{AreListed, IsTested, rows_by_place}
 use Rattle.mm_txn.proofs.ListSteps.{behind_due, front_due, listed_made, listed_still, longer_made, same_counts, undone_made}
-use Rattle.mm_txn.proofs.ListedRows.{few_after, rows_as_they_were, rows_kept, rows_made, rows_put_back}
+use Rattle.mm_txn.proofs.ListedRows.{rows_as_they_were, rows_kept, rows_made, rows_put_back}
 use Rattle.mm_txn.proofs.PlacedRows.{one_fits, one_made, one_refused, one_there}
 use Rattle.mm_txn.proofs.changes.edit_table.Goals as goal
 
@@ -105,15 +105,12 @@ returns-clause-listed c =
     let store = c.args.store.now in
     let own : PlacedEdits = placed c.args.own in
     let after = rows_edited store (own ∷ []) in
-    let due = subst (λ (p : PlacedEdits). first_refusal (list_conditions (rows_edited store (p ∷ [])) c.args.standing.now.queries) ≡ None)
-    c.as_change.ensures c.in_ok-prepare_lists.ensures.due in
     listed_made c.args.standing.now c.prepare_lists.new.standing c.apply_prepared.new.self c.prepare_lists.ensures.entries c.apply_prepared.ensures.made
     (instance_of c.apply.new.self.tables) after
     (rows_made store c.apply.new.self (own ∷ [])
     (one_made store own c.requires.are c.apply.new.self c.in_default.ensures.ok c.apply.ensures.links))
     (subst (λ (p : PlacedEdits). FitPrepared (rows_edited store (p ∷ [])) c.prepare_lists.new.standing) c.as_change.ensures c.in_ok-prepare_lists.ensures.ok)
     c.apply_prepared.ensures.queries
-    (subst (AreFew after) (sym c.prepare_lists.ensures.queries) (few_after after c.args.standing.now.queries due))
     c.apply_prepared.ensures.prepared
 
 pub returns-clause-undone : goal.returns-clause-undone

@@ -5,7 +5,7 @@ use Rattle.std.specs.List.{All}
 use Rattle.mm_schema.specs.Instance.{Instance}
 use Rattle.mm_schema.specs.Refused.{AnswersDue, first_refusal}
 use Rattle.mm_standing.specs.Queries.{change_conditions as list_conditions}
-use Rattle.mm_standing.specs.State.{AreFew, FitPrepared, Lists, count_at, count_now}
+use Rattle.mm_standing.specs.State.{FitPrepared, Lists, count_at, count_now}
 use Rattle.mm_store.proofs.Forms.{forms_twice}
 use Rattle.mm_value.specs.declared.refusal.Refusal.{Refusal}
 use Rattle.mm_txn.specs.Kept.{instance_of}
@@ -13,8 +13,8 @@ use Rattle.mm_txn.specs.TableEdits.{FitsAt, edits_conditions, leaves_orphans, pl
 use Rattle.mm_txn.specs.Watched.{AreListed}
 use Rattle.mm_txn.specs.declared.edits.TableEdits.{TableEdits}
 use Rattle.mm_txn.proofs.ListSteps.{listed_made, listed_still, same_at, same_counts}
-use Rattle.mm_txn.proofs.ListedRows.{few_after, rows_as_they_were, rows_formed, rows_made}
-use Rattle.mm_txn.proofs.Removals.{both_due, first_ok, own_fit, own_removals, referred_due, rows_reverted, second_due, second_ok}
+use Rattle.mm_txn.proofs.ListedRows.{rows_as_they_were, rows_formed, rows_made}
+use Rattle.mm_txn.proofs.Removals.{both_due, first_ok, own_fit, own_removals, referred_due, rows_reverted, second_ok}
 use Rattle.mm_txn.proofs.changes.remove_rows.Goals as goal
 
 pub prepare_removals-prepared-requires-clause-fit : goal.prepare_removals-prepared-requires-clause-fit
@@ -90,7 +90,6 @@ returns-clause-due c =
 pub returns-clause-listed : goal.returns-clause-listed
 returns-clause-listed c =
     let store = c.args.store.now in
-    let queries = c.args.standing.now.queries in
     let all = placed c.args.own ∷ map placed c.args.along.items in
     let after = rows_edited store all in
     let removed = c.remove_each.result in
@@ -98,10 +97,6 @@ returns-clause-listed c =
     let lists = c.prepare_removals-prepared.new.standing in
     let u = c.in_default-and.field-0 in
     let both = sym c.in_default-and.ensures in
-    let due : first_refusal (list_conditions after queries) ≡ None =
-    second_due removed prepared u (first_refusal (list_conditions after queries)) both
-    (subst (λ (es : List TableEdits). AnswersDue {T = Unit {0}} (first_refusal (list_conditions (rows_edited store (placed c.args.own ∷ map placed es)) queries))
-    prepared) c.as_slice.ensures.value c.prepare_removals-prepared.ensures.due) in
     listed_made c.args.standing.now lists c.apply_prepared.new.self c.prepare_removals-prepared.ensures.entries c.apply_prepared.ensures.made
     (instance_of c.remove_each.new.store.tables) after
     (rows_made store c.remove_each.new.store all (first_ok removed prepared u both c.remove_each.ensures.ok))
@@ -109,5 +104,4 @@ returns-clause-listed c =
     (subst (λ (es : List TableEdits). OnOk prepared (FitPrepared (rows_edited store (placed c.args.own ∷ map placed es)) lists)) c.as_slice.ensures.value
     c.prepare_removals-prepared.ensures.ok))
     c.apply_prepared.ensures.queries
-    (subst (AreFew after) (sym c.prepare_removals-prepared.ensures.queries) (few_after after queries due))
     c.apply_prepared.ensures.prepared

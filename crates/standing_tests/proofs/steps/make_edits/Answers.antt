@@ -5,7 +5,7 @@ use Rattle.mm_delta.specs.Edited.{before_at}
 use Rattle.mm_relation.specs.Kept.{StoredRows}
 use Rattle.mm_relation.specs.RowLists.{rows_of}
 use Rattle.mm_relation.specs.declared.edits.Edit.{Edit}
-use Rattle.mm_standing.specs.State.{AreFew, FitPrepared, Lists, count_at, count_now}
+use Rattle.mm_standing.specs.State.{FitPrepared, Lists, count_at, count_now}
 use Rattle.mm_standing.specs.declared.change.ListChange.{ListChange}
 use Rattle.mm_store.specs.Tables.{rows_with}
 use Rattle.mm_store.specs.Worlds.{Noted}
@@ -40,7 +40,7 @@ returns-in-Err-clause-case c =
     (counts_still (count_now lists) (count_now left) (before_at store) lists.queries left.queries queries
     (λ list row. ap (λ (l : Lists). count_now l list row) c.discard.ensures ∙ same_now lists c.prepare.new.standing c.prepare.ensures.entries list row)
     c.requires.case.fits)
-    c.requires.case.few (ap (λ (l : Lists). l.prepared) c.discard.ensures)
+    (ap (λ (l : Lists). l.prepared) c.discard.ensures)
 
 pub returns-in-Err-clause-marks : goal.returns-in-Err-clause-marks
 returns-in-Err-clause-marks c = λ commands changes mark.
@@ -70,7 +70,6 @@ returns-clause-case c =
     (fit_made lists mid left c.apply_prepared.ensures.made rows
     (subst (λ (es : List Edit). FitPrepared (rows_edited store c.args.table es) mid) c.as_slice-2.ensures.value c.in_ok-prepare.ensures.ok)
     c.apply_prepared.ensures.queries)
-    (subst (λ (es : List Edit). AreFew (rows_edited store c.args.table es) lists.queries) c.as_slice-2.ensures.value c.in_ok-prepare.ensures.few)
     c.apply_prepared.ensures.prepared
 
 pub returns-clause-marks : goal.returns-clause-marks

@@ -7,7 +7,6 @@ use Rattle.mm_standing.specs.Queries.{RowsByPlace, change_conditions}
 use Rattle.mm_standing.specs.State.{FitPrepared}
 use Rattle.mm_store.specs.Tables.{Tables}
 use Rattle.standing_tests.specs.Cases.{rows_edited}
-use Rattle.standing_tests.proofs.ListCounts.{few_on_ok}
 use Rattle.standing_tests.proofs.TableRows.{after_is, fit_each, type_tested}
 use Rattle.standing_tests.proofs.steps.prepare.Goals as goal
 
@@ -24,10 +23,3 @@ returns-clause-ok c =
     subst (λ (r : RowsByPlace). OnOk c.prepare.result (FitPrepared r c.prepare.new.self))
     (ap (λ (s : Tables). after_at s (record { table = c.args.table; edits = c.args.edits } ∷ [])) c.view-view.ensures.store
     ∙ after_is c.args.store.now (record { table = c.args.table; edits = c.args.edits })) c.prepare.ensures.ok
-
-pub returns-clause-few : goal.returns-clause-few
-returns-clause-few c =
-    few_on_ok (rows_edited c.args.store.now c.args.table c.args.edits.now) c.args.standing.now.queries c.prepare.result
-    (subst (λ (r : RowsByPlace). AnswersDue (first_refusal (change_conditions r c.args.standing.now.queries)) c.prepare.result)
-    (ap (λ (s : Tables). after_at s (record { table = c.args.table; edits = c.args.edits } ∷ [])) c.view-view.ensures.store
-    ∙ after_is c.args.store.now (record { table = c.args.table; edits = c.args.edits })) c.prepare.ensures.due)

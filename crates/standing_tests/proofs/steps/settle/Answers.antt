@@ -19,7 +19,7 @@ returns-clause-case c =
     (before_at c.args.store.now) (before_same c.args.store.now c.settle.new.self c.settle.ensures.rows)
     (counts_still (count_now lists) (count_now left) (before_at c.args.store.now) lists.queries left.queries
     (ap (λ (l : Lists). l.queries) c.settle-2.ensures.rest) (λ list row. ap (λ n. pos n) (c.settle-2.ensures.counts list row)) c.requires.case.fits)
-    c.requires.case.few (ap (λ (l : Lists). l.prepared) c.settle-2.ensures.rest ∙ c.requires.case.ready)
+    (ap (λ (l : Lists). l.prepared) c.settle-2.ensures.rest ∙ c.requires.case.ready)
 
 pub returns-clause-start : goal.returns-clause-start
 returns-clause-start c =

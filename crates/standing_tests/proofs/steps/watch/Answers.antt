@@ -9,7 +9,6 @@ use Rattle.mm_store.specs.Worlds.{Noted}
 use Rattle.mm_value.specs.declared.values.Value.{Value}
 use Rattle.standing_tests.specs.Cases.{IsCase}
 use Rattle.standing_tests.proofs.CaseSteps.{case_watched, mark_now}
-use Rattle.standing_tests.proofs.ListCounts.{few_listed}
 use Rattle.standing_tests.proofs.steps.watch.Goals as goal
 
 pub returns-in_err-watch-clause-case : goal.returns-in_err-watch-clause-case
@@ -32,10 +31,7 @@ returns-clause-case c =
     (case_watched store c.args.undo.now lists (record { query = query; tables = tables }) new.0 (sym c.len-lists.ensures.queries ∙ c.len-lists.ensures.bags)
     (record { there = subst (λ (n : ℕ). All (λ table. table < n) tables) (sym c.requires.case.two) c.requires.there; few = c.requires.few })
     (record { whole = c.requires.whole; unshifted = c.requires.unshifted })
-    (subst (IsBagOf new.0.entries) c.requires.rows new.1)
-    (subst (λ (rows : List (List Value)). length rows ≤ 1048576) c.requires.rows
-    (few_listed (bag_of query (map (rows_at c.args.source.now.tables) tables)) c.in_ok-watch.ensures.due))
-    c.requires.case)
+    (subst (IsBagOf new.0.entries) c.requires.rows new.1) c.requires.case)
 
 pub returns-clause-start : goal.returns-clause-start
 returns-clause-start c =

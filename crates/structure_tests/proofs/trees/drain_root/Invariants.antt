@@ -1,0 +1,6 @@
+use Rattle.structure_tests.specs.Orders.{IsByPlace}
+use Rattle.structure_tests.proofs.trees.drain_root.Given as goal
+
+-- what is left is in order
+abbrev pub invariant-loop-part : goal.invariant-loop-part
+invariant-loop-part g l = IsByPlace l.tree.refs
