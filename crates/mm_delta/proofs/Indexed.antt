@@ -14,8 +14,8 @@ use Rattle.mm_schema.specs.declared.index.IndexKind.{IndexKind}
 use Rattle.mm_schema.specs.declared.index.IndexKind.TheVariants as kind
 use Rattle.mm_store.specs.Looked.{IsFirstOn, IsIndexOn}
 use Rattle.mm_store.specs.Tables.{IsAt, Tables}
-use Rattle.mm_store.specs.declared.column_index.ColumnIndex.{ColumnIndex}
-use Rattle.mm_store.specs.declared.column_index.ColumnIndex.TheVariants.{Key, Tree, Hash}
+use Rattle.mm_store.specs.declared.index_ref.IndexRef.{IndexRef}
+use Rattle.mm_store.specs.declared.index_ref.IndexRef.TheVariants.{Key, Tree, Hash}
 use Rattle.mm_store.proofs.Joining.{some_at}
 use Rattle.mm_delta.specs.Edited.{has_index, is_indexed}
 
@@ -41,7 +41,7 @@ module _ (stored : StoredRows) (column : ℕ) where
       either (column == stored.key) (list_any on stored.indexes)
       (list_any_at on stored.indexes place d has.0 (eq-eqb (column_of (get_or stored.indexes place d)) column (has.1 d).0))
 
-  there : (index : ColumnIndex) → IsIndexOn stored column index → is_indexed stored column ≡ true
+  there : (index : IndexRef) → IsIndexOn stored column index → is_indexed stored column ≡ true
   there Key is = ap (λ b. b || list_any on stored.indexes) (eq-eqb column stored.key is)
   there (Tree place) has = placed place kind.Tree has
   there (Hash place) has = placed place kind.Hash has
@@ -51,12 +51,12 @@ module _ (stored : StoredRows) (column : ℕ) where
   of_kind place within d is k e =
       (within, λ other. subst (IsOn column k) (get_or_default stored.indexes place d other within) (is, e))
 
-  absent : ((index : ColumnIndex) → IsIndexOn stored column index → ⊥) → (place : ℕ) → place < length stored.indexes → (d : Index)
+  absent : ((index : IndexRef) → IsIndexOn stored column index → ⊥) → (place : ℕ) → place < length stored.indexes → (d : Index)
       → column_of (get_or stored.indexes place d) ≡ column → (k : IndexKind) → kind_of (get_or stored.indexes place d) ≡ k → ⊥
   absent none place within d is kind.Tree e = none (Tree place) (of_kind place within d is kind.Tree e)
   absent none place within d is kind.Hash e = none (Hash place) (of_kind place within d is kind.Hash e)
 
-  not_there : ((index : ColumnIndex) → IsIndexOn stored column index → ⊥) → is_indexed stored column ≡ false
+  not_there : ((index : IndexRef) → IsIndexOn stored column index → ⊥) → is_indexed stored column ≡ false
   not_there none =
       neither (column == stored.key) (list_any on stored.indexes)
       (elim (cases_Bool (column == stored.key)) [
@@ -70,11 +70,11 @@ module _ (stored : StoredRows) (column : ℕ) where
       ]))
 
   -- There is a first index just where there is one.
-  pub first_indexed : (o : Option ColumnIndex) → IsFirstOn stored column o → is_some o ≡ is_indexed stored column
+  pub first_indexed : (o : Option IndexRef) → IsFirstOn stored column o → is_some o ≡ is_indexed stored column
   first_indexed None none = sym (not_there none)
   first_indexed (Some index) first = sym (there index first.0)
 
-pub first_at : (store : Tables) (table column : ℕ) (o : Option ColumnIndex) → table < length store.tables
+pub first_at : (store : Tables) (table column : ℕ) (o : Option IndexRef) → table < length store.tables
     → ((stored : StoredRows) → IsAt store table stored → IsFirstOn stored column o) → is_some o ≡ has_index store table column
 first_at store table column o within first =
     let at = some_at store.tables table within in

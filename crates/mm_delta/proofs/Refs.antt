@@ -14,8 +14,8 @@ use Rattle.mm_relation.specs.Reads.{Appends, AreMatches, IsRange, has_value}
 use Rattle.mm_relation.specs.Refs.{Slots, row_at, row_in}
 use Rattle.mm_relation.specs.declared.index.Index.{Index}
 use Rattle.mm_store.specs.Looked.{IsIndexOn}
-use Rattle.mm_store.specs.declared.column_index.ColumnIndex.{ColumnIndex}
-use Rattle.mm_store.specs.declared.column_index.ColumnIndex.TheVariants.{Key, Tree, Hash}
+use Rattle.mm_store.specs.declared.index_ref.IndexRef.{IndexRef}
+use Rattle.mm_store.specs.declared.index_ref.IndexRef.TheVariants.{Key, Tree, Hash}
 use Rattle.mm_value.specs.Order.{value_cmp}
 use Rattle.mm_value.specs.declared.row_ref.RowRef.{RowRef}
 use Rattle.mm_value.specs.declared.values.Value.{Value}
@@ -43,7 +43,7 @@ module _ (stored : StoredRows) (was : IsKept stored.width stored.key (slot_at st
   abbrev pub Finds : Option Required → List RowRef → Type 0
   Finds required found = IsPermutation found (filter (λ at. passes required (row_at now at)) stored.refs)
 
-  column_in : (column : ℕ) (index : ColumnIndex) → IsIndexOn stored column index → column < stored.width
+  column_in : (column : ℕ) (index : IndexRef) → IsIndexOn stored column index → column < stored.width
   column_in column Key is = subst (λ n. n < stored.width) (sym is) was.key_in
   column_in column (Tree place) has =
       let d : Index = any_of stored.indexes place has.0 in subst (λ n. n < stored.width) (has.1 d).0 (was.columns place d has.0)
@@ -61,7 +61,7 @@ module _ (stored : StoredRows) (was : IsKept stored.width stored.key (slot_at st
       ap (λ o. is_eq (option_cmp value_cmp o (Some value))) (slice_get-get_or (row_at now at) column (Int (pos 0)) (omega (arith, within, wide)))
 
   -- What a look-up appends to nothing is all that has the value.
-  pub found_by_value : (column : ℕ) (index : ColumnIndex) (value : Value) (old new : List RowRef) → IsIndexOn stored column index → old ≡ []
+  pub found_by_value : (column : ℕ) (index : IndexRef) (value : Value) (old new : List RowRef) → IsIndexOn stored column index → old ≡ []
       → Appends (AreMatches column now value stored.refs) old new → Finds (Some (column, value)) new
   found_by_value column index value old new on empty (found, is, same) =
       subst (IsPermutation new) (filter_same (has_value column now value) (λ at. passes (Some (column, value)) (row_at now at)) stored.refs

@@ -14,7 +14,7 @@ ghost use Rattle.mm_delta.specs.Steps.{IsServed, asked};
 use crate::known::{copied, known_operand, lowered, value_of};
 use crate::wanted::Wanted;
 use mm_query::{Atom, Comparison, FieldPlace, Operand};
-use mm_store::{ColumnIndex, View};
+use mm_store::{IndexRef, View};
 use mm_value::{Refusal, Row, Value};
 use std::alloc::Global;
 
@@ -24,7 +24,7 @@ pub(crate) struct LookUp {
     /// The column of the index, counted from 0.
     pub(crate) column: usize,
     /// The index.
-    pub(crate) index: ColumnIndex,
+    pub(crate) index: IndexRef,
     /// The value that a row must have there.
     pub(crate) wanted: Wanted,
 }
@@ -44,7 +44,7 @@ pub(crate) struct Site<'s, 'a> {
 
 impl Site<'_, '_> {
     /// The index on a column, if there is one.
-    fn index_of(&self, column: usize) -> Option<ColumnIndex>
+    fn index_of(&self, column: usize) -> Option<IndexRef>
         requires { self.now.table < length self.now.view.now.store.tables }
         ensures there { is_some result ≡ has_index self.now.view.now.store self.now.table column }
         ensures served { IfSome result (λ index. (stored : StoredRows) → IsAt self.now.view.now.store self.now.table stored → IsIndexOn stored column index) }

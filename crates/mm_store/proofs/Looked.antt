@@ -26,8 +26,8 @@ use Rattle.mm_schema.specs.declared.index.IndexKind.TheVariants as kind
 use Rattle.mm_value.specs.declared.row_ref.RowRef.{RowRef}
 use Rattle.mm_value.specs.declared.values.Value.{Value}
 use Rattle.mm_store.specs.Looked.{IsFirstOn, IsIndexOn, created_before}
-use Rattle.mm_store.specs.declared.column_index.ColumnIndex.{ColumnIndex}
-use Rattle.mm_store.specs.declared.column_index.ColumnIndex.TheVariants.{Key, Tree, Hash}
+use Rattle.mm_store.specs.declared.index_ref.IndexRef.{IndexRef}
+use Rattle.mm_store.specs.declared.index_ref.IndexRef.TheVariants.{Key, Tree, Hash}
 
 -- ---- the first place of a list that passes
 
@@ -82,7 +82,7 @@ module _ (stored : StoredRows) (column : ℕ) (apart : column ≢ stored.key) wh
       → ((hash : ℕ) → HasIndex stored.indexes hash column kind.Hash → tree ≤ hash) → IsFirstOn stored column (Some (Tree tree))
   first_tree tree sought before = (sought.found, least)
     where
-      least : (other : ColumnIndex) → IsIndexOn stored column other → tree + 1 ≤ created_before other
+      least : (other : IndexRef) → IsIndexOn stored column other → tree + 1 ≤ created_before other
       least Key is = absurd (apart is)
       least (Tree place) has = omega (arith, least_on column kind.Tree stored.indexes tree place sought.first has)
       least (Hash place) has = omega (arith, before place has)
@@ -91,7 +91,7 @@ module _ (stored : StoredRows) (column : ℕ) (apart : column ≢ stored.key) wh
       → ((tree : ℕ) → HasIndex stored.indexes tree column kind.Tree → hash ≤ tree) → IsFirstOn stored column (Some (Hash hash))
   first_hash hash sought before = (sought.found, least)
     where
-      least : (other : ColumnIndex) → IsIndexOn stored column other → hash + 1 ≤ created_before other
+      least : (other : IndexRef) → IsIndexOn stored column other → hash + 1 ≤ created_before other
       least Key is = absurd (apart is)
       least (Tree place) has = omega (arith, before place has)
       least (Hash place) has = omega (arith, least_on column kind.Hash stored.indexes hash place sought.first has)
@@ -115,7 +115,7 @@ module _ (stored : StoredRows) (column : ℕ) (apart : column ≢ stored.key) wh
   hash_alone hash trees hashes = first_hash hash hashes (λ place has. absurd (trees.none place has))
 
   pub none_there : Sought stored column kind.Tree None → Sought stored column kind.Hash None
-      → (index : ColumnIndex) → IsIndexOn stored column index → ⊥
+      → (index : IndexRef) → IsIndexOn stored column index → ⊥
   none_there trees hashes Key is = apart is
   none_there trees hashes (Tree place) has = trees.none place has
   none_there trees hashes (Hash place) has = hashes.none place has

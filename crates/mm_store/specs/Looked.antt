@@ -3,23 +3,23 @@ use Rattle.std.specs.Prelude.{◌≡◌, ℕ, ◌+◌, ◌≤◌, Option, Some, 
 use Rattle.mm_relation.specs.Kept.{StoredRows}
 use Rattle.mm_relation.specs.Reads.{HasIndex}
 use Rattle.mm_schema.specs.declared.index.IndexKind.TheVariants as kind
-use Rattle.mm_store.specs.declared.column_index.ColumnIndex.{ColumnIndex}
-use Rattle.mm_store.specs.declared.column_index.ColumnIndex.TheVariants.{Key, Tree, Hash}
+use Rattle.mm_store.specs.declared.index_ref.IndexRef.{IndexRef}
+use Rattle.mm_store.specs.declared.index_ref.IndexRef.TheVariants.{Key, Tree, Hash}
 
 -- The relation has the index, and it is on the column.
-abbrev pub IsIndexOn : StoredRows → ℕ → ColumnIndex → Type 0
+abbrev pub IsIndexOn : StoredRows → ℕ → IndexRef → Type 0
 IsIndexOn stored column Key = column ≡ stored.key
 IsIndexOn stored column (Tree place) = HasIndex stored.indexes place column kind.Tree
 IsIndexOn stored column (Hash place) = HasIndex stored.indexes place column kind.Hash
 
 -- How many indexes of its relation were created before it. The key's comes before all.
-abbrev pub created_before : ColumnIndex → ℕ
+abbrev pub created_before : IndexRef → ℕ
 created_before Key = 0
 created_before (Tree place) = place + 1
 created_before (Hash place) = place + 1
 
 -- Of the indexes on the column it was created first. There is none exactly where the column has no index.
-abbrev pub IsFirstOn : StoredRows → ℕ → Option ColumnIndex → Type 0
+abbrev pub IsFirstOn : StoredRows → ℕ → Option IndexRef → Type 0
 IsFirstOn stored column (Some index) =
-    IsIndexOn stored column index × ((other : ColumnIndex) → IsIndexOn stored column other → created_before index ≤ created_before other)
-IsFirstOn stored column None = (index : ColumnIndex) → ¬ IsIndexOn stored column index
+    IsIndexOn stored column index × ((other : IndexRef) → IsIndexOn stored column other → created_before index ≤ created_before other)
+IsFirstOn stored column None = (index : IndexRef) → ¬ IsIndexOn stored column index

@@ -11,7 +11,7 @@ ghost use Rattle.mm_store.specs.Looked.{IsFirstOn, IsIndexOn};
 ghost use Rattle.mm_store.specs.Tables.{IsAt};
 ghost use Rattle.mm_value.specs.Prefix.{order_prefix};
 
-use crate::column_index::{ColumnIndex, append_matches, first_index};
+use crate::index_ref::{IndexRef, append_matches, first_index};
 use crate::meter::Meter;
 use crate::store::Store;
 use mm_relation::Relation;
@@ -94,7 +94,7 @@ impl Store {
 
     /// The index in which values of a column of a table are looked up: of those on the column the one that was created first,
     /// where the key's own comes before all others. None exactly where the column has no index.
-    pub fn index_on(&self, table: usize, column: usize) -> Option<ColumnIndex>
+    pub fn index_on(&self, table: usize, column: usize) -> Option<IndexRef>
         requires { table < length self.now.tables }
         ensures { (stored : StoredRows) → IsAt self.now table stored → IsFirstOn stored column result }
     {
@@ -107,7 +107,7 @@ impl Store {
         &self,
         alloc: Global,
         table: usize,
-        index: ColumnIndex,
+        index: IndexRef,
         value: &Value,
         out: &mut Vec<RowRef>,
     ) -> Result<(), AllocError>

@@ -4,7 +4,7 @@
 #![tactic(auto)]
 
 mod access;
-mod column_index;
+mod index_ref;
 mod link;
 mod links;
 mod meter;
@@ -12,7 +12,7 @@ mod store;
 mod undo;
 mod view;
 
-pub use column_index::ColumnIndex;
+pub use index_ref::IndexRef;
 pub use meter::Meter;
 pub use store::Store;
 pub use undo::Undo;

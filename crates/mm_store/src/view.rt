@@ -11,7 +11,7 @@ ghost use Rattle.mm_store.specs.Links.{RefersTo};
 ghost use Rattle.mm_store.specs.Looked.{IsFirstOn, IsIndexOn};
 ghost use Rattle.mm_store.specs.Tables.{IsAt};
 
-use crate::column_index::ColumnIndex;
+use crate::index_ref::IndexRef;
 use crate::meter::Meter;
 use crate::store::Store;
 use mm_value::{Row, RowRef, Value};
@@ -86,7 +86,7 @@ impl<'a> View<'a> {
 
     /// The index in which values of a column of a table are looked up: of those on the column the one that was created first,
     /// where the key's own comes before all others. None exactly where the column has no index.
-    pub fn index_on(&self, table: usize, column: usize) -> Option<ColumnIndex>
+    pub fn index_on(&self, table: usize, column: usize) -> Option<IndexRef>
         requires { table < length self.now.store.tables }
         ensures { (stored : StoredRows) → IsAt self.now.store table stored → IsFirstOn stored column result }
     {
@@ -99,7 +99,7 @@ impl<'a> View<'a> {
         &self,
         alloc: Global,
         table: usize,
-        index: ColumnIndex,
+        index: IndexRef,
         value: &Value,
         out: &mut Vec<RowRef>,
     ) -> Result<(), AllocError>

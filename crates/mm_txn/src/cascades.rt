@@ -19,7 +19,7 @@ use mm_delta::{references_of_gone, row_gone};
 use mm_edits::removals_at;
 use mm_relation::Edit;
 use mm_schema::{Catalog, Column, Name};
-use mm_store::{ColumnIndex, Store};
+use mm_store::{IndexRef, Store};
 use mm_value::{Refusal, RowRef};
 use std::alloc::Global;
 
@@ -191,7 +191,7 @@ fn add_by_index(
     alloc: Global,
     store: &Store,
     table: usize,
-    index: ColumnIndex,
+    index: IndexRef,
     cascade: &Cascade,
     found: &mut Vec<RowRef>,
 ) -> Result<(), Refusal>

@@ -11,7 +11,7 @@ use std::alloc::{AllocError, Global};
 
 /// An index of a table.
 #[derive(Clone, Copy, Debug, PartialEq, Eq)]
-pub enum ColumnIndex {
+pub enum IndexRef {
     /// The index on the key, which is a tree.
     Key,
     /// The TREE index at this place of the table's, counted from 0.
@@ -21,19 +21,19 @@ pub enum ColumnIndex {
 }
 
 /// The index of a relation on a column that was created first, if it has one there.
-pub(crate) fn first_index(relation: &Relation, column: usize) -> Option<ColumnIndex>
+pub(crate) fn first_index(relation: &Relation, column: usize) -> Option<IndexRef>
     ensures { IsFirstOn relation.now column result }
 {
     if column == relation.key() {
-        return Some(ColumnIndex::Key);
+        return Some(IndexRef::Key);
     }
     let tree = relation.index_of(column, IndexKind::Tree);
     let hash = relation.index_of(column, IndexKind::Hash);
     match (tree, hash) {
-        (Some(tree), Some(hash)) if tree < hash => Some(ColumnIndex::Tree(tree)),
-        (Some(_), Some(hash)) => Some(ColumnIndex::Hash(hash)),
-        (Some(tree), None) => Some(ColumnIndex::Tree(tree)),
-        (None, Some(hash)) => Some(ColumnIndex::Hash(hash)),
+        (Some(tree), Some(hash)) if tree < hash => Some(IndexRef::Tree(tree)),
+        (Some(_), Some(hash)) => Some(IndexRef::Hash(hash)),
+        (Some(tree), None) => Some(IndexRef::Tree(tree)),
+        (None, Some(hash)) => Some(IndexRef::Hash(hash)),
         (None, None) => None,
     }
 }
@@ -43,7 +43,7 @@ pub(crate) fn first_index(relation: &Relation, column: usize) -> Option<ColumnIn
 pub(crate) fn append_matches(
     alloc: Global,
     relation: &Relation,
-    index: ColumnIndex,
+    index: IndexRef,
     value: &Value,
     out: &mut Vec<RowRef>,
 ) -> Result<(), AllocError>
@@ -54,10 +54,10 @@ pub(crate) fn append_matches(
 {
     relation.is_kept();
     match index {
-        ColumnIndex::Key => relation.key_range(alloc, Some(value), Some(value), out),
-        ColumnIndex::Tree(place) => {
+        IndexRef::Key => relation.key_range(alloc, Some(value), Some(value), out),
+        IndexRef::Tree(place) => {
             relation.tree_range(alloc, place, Some(value), Some(value), out)
         }
-        ColumnIndex::Hash(place) => relation.hash_matches(alloc, place, value, out),
+        IndexRef::Hash(place) => relation.hash_matches(alloc, place, value, out),
     }
 }

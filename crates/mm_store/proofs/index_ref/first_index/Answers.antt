@@ -1,7 +1,7 @@
 use Rattle.std.proofs.Common.{sym, ◌∙◌, subst}
 use Rattle.mm_schema.specs.declared.index.IndexKind.TheVariants as kind
 use Rattle.mm_store.proofs.Looked.{Sought, hash_alone, hash_before_tree, none_there, tree_alone, tree_before_hash}
-use Rattle.mm_store.proofs.column_index.first_index.Goals as goal
+use Rattle.mm_store.proofs.index_ref.first_index.Goals as goal
 
 pub returns-in-Some-Some : goal.returns-in-Some-Some
 returns-in-Some-Some c =

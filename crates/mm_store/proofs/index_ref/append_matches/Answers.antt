@@ -2,7 +2,7 @@ use Rattle.std.proofs.Common.{subst}
 use Rattle.std.proofs.lemmas.Result.{on_ok_weaker}
 use Rattle.mm_store.specs.Looked.{IsIndexOn}
 use Rattle.mm_store.proofs.Looked.{appends_matches}
-use Rattle.mm_store.proofs.column_index.append_matches.Goals as goal
+use Rattle.mm_store.proofs.index_ref.append_matches.Goals as goal
 
 pub returns-in-Tree-clause-ok : goal.returns-in-Tree-clause-ok
 returns-in-Tree-clause-ok c =
