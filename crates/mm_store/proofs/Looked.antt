@@ -17,7 +17,7 @@ use Rattle.mm_relation.proofs.RefTests.{same_from_test, test_from_same}
 use Rattle.mm_relation.specs.Before.{same_ref}
 use Rattle.mm_relation.specs.Index.{column_of, kind_of}
 use Rattle.mm_relation.specs.Kept.{IsKept, StoredRows}
-use Rattle.mm_relation.specs.Reads.{Appends, AreMatches, HasIndex, IsOn, IsRange, end_place, has_value}
+use Rattle.mm_relation.specs.Reads.{Appends, AreMatches, HasIndex, IsOn, IsRange, IsWalk, end_place, has_value}
 use Rattle.mm_relation.specs.Refs.{Slots, place_by}
 use Rattle.mm_relation.specs.Served.{is_on, same_kind}
 use Rattle.mm_relation.specs.declared.index.Index.{Index}
@@ -25,7 +25,7 @@ use Rattle.mm_schema.specs.declared.index.IndexKind.{IndexKind}
 use Rattle.mm_schema.specs.declared.index.IndexKind.TheVariants as kind
 use Rattle.mm_value.specs.declared.row_ref.RowRef.{RowRef}
 use Rattle.mm_value.specs.declared.values.Value.{Value}
-use Rattle.mm_store.specs.Looked.{IsFirstOn, IsIndexOn, created_before}
+use Rattle.mm_store.specs.Looked.{IsFirstOn, IsFirstSuch, IsHash, IsIndexOn, IsTree, created_before}
 use Rattle.mm_store.specs.declared.index_ref.IndexRef.{IndexRef}
 use Rattle.mm_store.specs.declared.index_ref.IndexRef.TheVariants.{Key, Tree, Hash}
 
@@ -120,6 +120,46 @@ module _ (stored : StoredRows) (column : ℕ) (apart : column ≢ stored.key) wh
   none_there trees hashes (Tree place) has = trees.none place has
   none_there trees hashes (Hash place) has = hashes.none place has
 
+-- ---- the first index of a kind on a column
+
+module _ (stored : StoredRows) (column : ℕ) where
+  pub key_is_first_tree : column ≡ stored.key → IsFirstSuch IsTree stored column (Some Key)
+  key_is_first_tree is = (is, tt, λ other on tree. omega arith)
+
+  pub is_first_tree : column ≢ stored.key → (found : ℕ) → Sought stored column kind.Tree (Some found)
+      → IsFirstSuch IsTree stored column (Some (Tree found))
+  is_first_tree apart found sought = (sought.found, tt, least)
+    where
+      least : (other : IndexRef) → IsIndexOn stored column other → IsTree other → found + 1 ≤ created_before other
+      least Key is tree = absurd (apart is)
+      least (Tree place) has tree = omega (arith, least_on column kind.Tree stored.indexes found place sought.first has)
+      least (Hash place) has tree = absurd tree
+
+  pub no_tree : column ≢ stored.key → Sought stored column kind.Tree None → (index : IndexRef) → IsTree index → IsIndexOn stored column index → ⊥
+  no_tree apart sought Key tree is = apart is
+  no_tree apart sought (Tree place) tree has = sought.none place has
+  no_tree apart sought (Hash place) tree has = tree
+
+  pub is_first_hash : (found : ℕ) → Sought stored column kind.Hash (Some found) → IsFirstSuch IsHash stored column (Some (Hash found))
+  is_first_hash found sought = (sought.found, tt, least)
+    where
+      least : (other : IndexRef) → IsIndexOn stored column other → IsHash other → found + 1 ≤ created_before other
+      least Key is hash = absurd hash
+      least (Tree place) has hash = absurd hash
+      least (Hash place) has hash = omega (arith, least_on column kind.Hash stored.indexes found place sought.first has)
+
+  pub no_hash : Sought stored column kind.Hash None → (index : IndexRef) → IsHash index → IsIndexOn stored column index → ⊥
+  no_hash sought Key hash is = hash
+  no_hash sought (Tree place) hash has = hash
+  no_hash sought (Hash place) hash has = sought.none place has
+
+-- ---- along a tree
+
+-- The references in key order are a walk along the key.
+pub walk_of_keys : (stored : StoredRows) → IsKept stored.width stored.key (slot_at stored.places) stored.refs stored.indexes
+    → IsWalk stored.key stored stored.refs
+walk_of_keys stored kept = record { ordered = kept.by_key; same = IsPermutation-refl stored.refs }
+
 -- ---- rows of one value
 
 not_apart : (o : Ordering) → (is_ge o && is_le o) ≡ is_eq o
@@ -146,7 +186,7 @@ pub range_of_keys : (stored : StoredRows) → IsKept stored.width stored.key (sl
 range_of_keys stored kept low high old new is = (
   entries_between (end_place stored.key (slot_at stored.places) low) (end_place stored.key (slot_at stored.places) high) stored.refs,
   is,
-  (stored.refs, record { ordered = kept.by_key; same = IsPermutation-refl stored.refs }, refl),
+  (stored.refs, walk_of_keys stored kept, refl),
 )
 
 pub appends_matches : (column : ℕ) (stored : StoredRows) (value : Value) (old new : List RowRef)

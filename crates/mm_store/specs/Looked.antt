@@ -23,3 +23,22 @@ abbrev pub IsFirstOn : StoredRows → ℕ → Option IndexRef → Type 0
 IsFirstOn stored column (Some index) =
     IsIndexOn stored column index × ((other : IndexRef) → IsIndexOn stored column other → created_before index ≤ created_before other)
 IsFirstOn stored column None = (index : IndexRef) → ¬ IsIndexOn stored column index
+
+-- The index is a tree. That on the key is one.
+abbrev pub IsTree : IndexRef → Type 0
+IsTree Key = Unit {0}
+IsTree (Tree place) = Unit {0}
+IsTree (Hash place) = ⊥
+
+-- The index is a HASH index.
+abbrev pub IsHash : IndexRef → Type 0
+IsHash Key = ⊥
+IsHash (Tree place) = ⊥
+IsHash (Hash place) = Unit {0}
+
+-- Of the indexes on the column of which this holds it was created first. There is none exactly where it holds of no index on the column.
+abbrev pub IsFirstSuch : (IndexRef → Type 0) → StoredRows → ℕ → Option IndexRef → Type 0
+IsFirstSuch Holds stored column (Some index) =
+    IsIndexOn stored column index × Holds index
+    × ((other : IndexRef) → IsIndexOn stored column other → Holds other → created_before index ≤ created_before other)
+IsFirstSuch Holds stored column None = (index : IndexRef) → Holds index → ¬ IsIndexOn stored column index

@@ -1,13 +1,15 @@
 //! The index in which values of a column are looked up.
-ghost use Rattle.std.specs.Prelude.{◌≡◌, ℕ, OnOk, OnErr};
-ghost use Rattle.mm_partition.specs.Places.{slot_at};
-ghost use Rattle.mm_relation.specs.Reads.{Appends, AreMatches};
-ghost use Rattle.mm_store.specs.Looked.{IsFirstOn, IsIndexOn};
+ghost use Rattle.std.specs.Prelude.{◌≡◌, ℕ, ◌≤◌, length, All, OnOk, OnErr};
+ghost use Rattle.std.specs.Option.{option_copied};
+ghost use Rattle.mm_partition.specs.Places.{IsLive, slot_at};
+ghost use Rattle.mm_relation.specs.Reads.{Appends, AreMatches, IsRange, IsWalk};
+ghost use Rattle.mm_store.specs.Looked.{IsFirstOn, IsFirstSuch, IsHash, IsIndexOn, IsTree};
 
 use mm_relation::Relation;
 use mm_schema::IndexKind;
 use mm_value::{RowRef, Value};
 use std::alloc::{AllocError, Global};
+use ttree::Iter;
 
 /// An index of a table.
 #[derive(Clone, Copy, Debug, PartialEq, Eq)]
@@ -38,6 +40,25 @@ pub(crate) fn first_index(relation: &Relation, column: usize) -> Option<IndexRef
     }
 }
 
+/// The tree of a relation on a column that was created first, if it has one there. That on the key comes before all others.
+pub(crate) fn first_tree(relation: &Relation, column: usize) -> Option<IndexRef>
+    ensures { IsFirstSuch IsTree relation.now column result }
+{
+    if column == relation.key() {
+        return Some(IndexRef::Key);
+    }
+    let place = relation.index_of(column, IndexKind::Tree)?;
+    Some(IndexRef::Tree(place))
+}
+
+/// The HASH index of a relation on a column that was created first, if it has one there.
+pub(crate) fn first_hash(relation: &Relation, column: usize) -> Option<IndexRef>
+    ensures { IsFirstSuch IsHash relation.now column result }
+{
+    let place = relation.index_of(column, IndexKind::Hash)?;
+    Some(IndexRef::Hash(place))
+}
+
 /// Appends the references of the rows of a relation that have this value in the column of an index, in no promised order.
 /// `AllocError` where memory is refused; then `out` holds what it held.
 pub(crate) fn append_matches(
@@ -59,5 +80,44 @@ pub(crate) fn append_matches(
             relation.tree_range(alloc, place, Some(value), Some(value), out)
         }
         IndexRef::Hash(place) => relation.hash_matches(alloc, place, value, out),
+    }
+}
+
+/// The references of all rows of a relation along a tree, without a copy, where there are at most 1,048,576.
+pub(crate) fn tree_walk(relation: &Relation, index: IndexRef) -> Iter<'_>
+    requires tree { (column : ℕ) × IsIndexOn relation.now column index × IsTree index }
+    requires few { length relation.now.refs ≤ 1048576 }
+    ensures walk { (column : ℕ) → IsIndexOn relation.now column index → IsWalk column relation.now result }
+    ensures live { All (IsLive relation.now.places) result }
+{
+    relation.is_kept();
+    match index {
+        IndexRef::Key => relation.by_key(),
+        IndexRef::Tree(place) => relation.tree_walk(place),
+        IndexRef::Hash(_) => unreachable!(),
+    }
+}
+
+/// Appends the references of the rows of a relation whose values in the column of a tree are between two ends, these included,
+/// in the order of the walk along it. An end that is not given leaves its side open. `AllocError` where memory is refused; then
+/// `out` holds what it held.
+pub(crate) fn append_range(
+    alloc: Global,
+    relation: &Relation,
+    index: IndexRef,
+    low: Option<&Value>,
+    high: Option<&Value>,
+    out: &mut Vec<RowRef>,
+) -> Result<(), AllocError>
+    requires { (column : ℕ) × IsIndexOn relation.now column index × IsTree index }
+    ensures ok { OnOk result ((column : ℕ) → IsIndexOn relation.now column index
+        → Appends (IsRange column relation.now (option_copied low.entry) (option_copied high.entry)) out.old.items out.new.items) }
+    ensures err { OnErr result (out.new.items ≡ out.old.items) }
+{
+    relation.is_kept();
+    match index {
+        IndexRef::Key => relation.key_range(alloc, low, high, out),
+        IndexRef::Tree(place) => relation.tree_range(alloc, place, low, high, out),
+        IndexRef::Hash(_) => unreachable!(),
     }
 }

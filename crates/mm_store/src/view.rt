@@ -1,17 +1,18 @@
 //! What a query sees of a store.
-ghost use Rattle.std.specs.Prelude.{◌≡◌, ℕ, ◌+◌, ◌<◌, ◌≤◌, length, map, min, All, OnOk, OnErr, Contains};
-ghost use Rattle.std.specs.Option.{option_copied};
+ghost use Rattle.std.specs.Prelude.{◌≡◌, ℕ, ◌+◌, ◌<◌, ◌≤◌, ◌↔◌, length, map, min, All, IfSome, IsTrue, OnOk, OnErr, Contains, Some, slice_get};
+ghost use Rattle.std.specs.Option.{option_copied, option_map};
 ghost use Rattle.mm_partition.specs.Places.{AreRowsStorable, IsLive, Live, slot_at};
 ghost use Rattle.mm_relation.specs.Kept.{IsKept, StoredRows};
-ghost use Rattle.mm_relation.specs.Reads.{Appends, AreMatches, HasIndex, IsRange};
+ghost use Rattle.mm_relation.specs.Reads.{Appends, AreMatches, HasIndex, IsRange, IsWalk};
 ghost use Rattle.mm_relation.specs.Refs.{row_at};
 ghost use Rattle.mm_relation.specs.RowLists.{rows_of};
 ghost use Rattle.mm_schema.specs.declared.index.IndexKind.TheVariants as kind;
-ghost use Rattle.mm_store.specs.Links.{RefersTo};
-ghost use Rattle.mm_store.specs.Looked.{IsFirstOn, IsIndexOn};
+ghost use Rattle.mm_store.specs.Links.{IsReference, RefersTo};
+ghost use Rattle.mm_store.specs.Looked.{IsFirstOn, IsFirstSuch, IsHash, IsIndexOn, IsTree};
 ghost use Rattle.mm_store.specs.Tables.{IsAt};
+ghost use Rattle.mm_value.specs.Prefix.{order_prefix};
 
-use crate::index_ref::IndexRef;
+use crate::index_ref::{IndexRef, append_range, first_hash, first_tree, tree_walk};
 use crate::meter::Meter;
 use crate::store::Store;
 use mm_value::{Row, RowRef, Value};
@@ -63,12 +64,31 @@ impl<'a> View<'a> {
         store.row(self.meter, table, at)
     }
 
+    /// The `order_prefix` of what the row of a live reference of a table has in a column, without a look at the row: the meter
+    /// does not count it. None where the prefixes of the column are not kept.
+    pub fn prefix_of(&self, table: usize, column: usize, at: RowRef) -> Option<u64>
+        requires there { table < length self.now.store.tables }
+        requires live { (stored : StoredRows) → IsAt self.now.store table stored → IsLive stored.places at }
+        ensures { (stored : StoredRows) → IsAt self.now.store table stored → IfSome result (λ prefix.
+            option_map order_prefix (slice_get (row_at (slot_at stored.places) at) column) ≡ Some prefix) }
+    {
+        self.store.prefix_of(table, column, at)
+    }
+
     /// How many rows a table has.
     pub fn len_of(&self, table: usize) -> usize
         requires { table < length self.now.store.tables }
         ensures { (stored : StoredRows) → IsAt self.now.store table stored → result ≡ length (rows_of stored) }
     {
         self.store.len_of(table)
+    }
+
+    /// The place of a table's key column, counted from 0.
+    pub fn key_of(&self, table: usize) -> usize
+        requires { table < length self.now.store.tables }
+        ensures { (stored : StoredRows) → IsAt self.now.store table stored → result ≡ stored.key }
+    {
+        self.store.table(table).key()
     }
 
     /// The references of a table's relation are those of its live rows, in key order and no two of one key; there are at most
@@ -93,6 +113,24 @@ impl<'a> View<'a> {
         self.store.index_on(table, column)
     }
 
+    /// The tree on a column of a table: of those on the column the one that was created first, where the key's own comes before
+    /// all others. None exactly where the column has no tree. It takes a pass over the table's indexes.
+    pub fn tree_on(&self, table: usize, column: usize) -> Option<IndexRef>
+        requires { table < length self.now.store.tables }
+        ensures { (stored : StoredRows) → IsAt self.now.store table stored → IsFirstSuch IsTree stored column result }
+    {
+        first_tree(self.store.table(table), column)
+    }
+
+    /// The HASH index on a column of a table: of those on the column the one that was created first. None exactly where the
+    /// column has no HASH index. It takes a pass over the table's indexes.
+    pub fn hash_on(&self, table: usize, column: usize) -> Option<IndexRef>
+        requires { table < length self.now.store.tables }
+        ensures { (stored : StoredRows) → IsAt self.now.store table stored → IsFirstSuch IsHash stored column result }
+    {
+        first_hash(self.store.table(table), column)
+    }
+
     /// Appends the references of the rows of a table that have this value in the column of an index of it, each once and in no
     /// promised order. No row is counted. `AllocError` where memory is refused; then `out` holds what it held.
     pub fn matches(
@@ -110,6 +148,28 @@ impl<'a> View<'a> {
         ensures err { OnErr result (out.new.items ≡ out.old.items) }
     {
         self.store.matches(alloc, table, index, value, out)
+    }
+
+    /// Appends the references of the rows of a table whose values in the column of a tree of it are between two ends, these
+    /// included, in the order of the walk along it. An end that is not given leaves its side open. No row is counted.
+    /// `AllocError` where memory is refused; then `out` holds what it held.
+    pub fn range(
+        &self,
+        alloc: Global,
+        table: usize,
+        index: IndexRef,
+        low: Option<&Value>,
+        high: Option<&Value>,
+        out: &mut Vec<RowRef>,
+    ) -> Result<(), AllocError>
+        requires there { table < length self.now.store.tables }
+        requires tree { (stored : StoredRows) → IsAt self.now.store table stored
+            → (column : ℕ) × IsIndexOn stored column index × IsTree index }
+        ensures ok { OnOk result ((stored : StoredRows) (column : ℕ) → IsAt self.now.store table stored → IsIndexOn stored column index
+            → Appends (IsRange column stored (option_copied low.entry) (option_copied high.entry)) out.old.items out.new.items) }
+        ensures err { OnErr result (out.new.items ≡ out.old.items) }
+    {
+        append_range(alloc, self.store.table(table), index, low, high, out)
     }
 
     /// Appends the references of the rows of a table whose keys are between two ends, these included, in the order of the key.
@@ -181,6 +241,26 @@ impl<'a> View<'a> {
         ensures live { (stored : StoredRows) → IsAt self.now.store table stored → All (IsLive stored.places) result }
     {
         self.store.key_walk(table)
+    }
+
+    /// The references of all rows of a table along a tree of it, without a copy: in the order of its column, and those of one value
+    /// in the order of their keys. No row is counted.
+    pub fn walk(&self, table: usize, index: IndexRef) -> Iter<'a>
+        requires there { table < length self.now.store.tables }
+        requires tree { (stored : StoredRows) → IsAt self.now.store table stored
+            → (column : ℕ) × IsIndexOn stored column index × IsTree index }
+        ensures walk { (stored : StoredRows) (column : ℕ) → IsAt self.now.store table stored → IsIndexOn stored column index
+            → IsWalk column stored result }
+        ensures live { (stored : StoredRows) → IsAt self.now.store table stored → All (IsLive stored.places) result }
+    {
+        tree_walk(self.store.table(table), index)
+    }
+
+    /// Whether a column of a table refers to another table, and to no further one.
+    pub fn refers_only_to(&self, table: usize, column: usize, to: usize) -> bool
+        ensures { IsTrue result ↔ IsReference self.now.store.links table column to }
+    {
+        self.store.refers_only_to(table, column, to)
     }
 
     /// The row that a row refers to by a column, without a search and without a look at either.
