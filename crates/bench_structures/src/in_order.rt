@@ -14,6 +14,9 @@ use ttree::TTree;
 /// The most references that a tree gives one after the other.
 const MAX_WALKED: usize = 1_048_576;
 
+/// So many partitions have references that a list takes.
+const MAX_PARTS: usize = 67_108_864;
+
 /// Fills a T-tree with `n` references, asks for each, walks them and takes them out.
 pub(crate) fn measure_tree(rt: &HostRuntime, n: usize) -> anyhow::Result<()> {
     let alloc = rt.alloc();
@@ -195,8 +198,12 @@ fn fill<L: OrderedRefs>(
     ensures { OnOk result (IsOrdered (λ _. Unit {0}) (by_key order.now.keys.now) (L.refs list.new)) }
 {
     for number in 0..n {
+        let added = reference_of(number);
+        if added.part >= MAX_PARTS || added.slot >= 64 {
+            return Err(AllocError);
+        }
         list.reserve(alloc, 1)?;
-        list.insert(order, reference_of(number));
+        list.insert(order, added);
     }
     Ok(())
 }

@@ -1,5 +1,5 @@
 -- What stands at a reference, after its slot is written.
-use Rattle.std.proofs.Common.{◌≡◌, ◌≢◌, ℕ, ◌+◌, ◌*◌, ◌<◌, ◌≤◌, List, length, get_or, set, refl, sym, ap, ◌∙◌, ⊎_elim, arith, length-set}
+use Rattle.std.proofs.Common.{◌≡◌, ◌≢◌, ℕ, ◌+◌, ◌*◌, ◌^◌, ◌<◌, ◌≤◌, List, length, get_or, set, refl, sym, ap, ◌∙◌, ⊎_elim, arith, length-set}
 use Rattle.std.specs.Prelude.{map}
 use Rattle.std.proofs.lemmas.Bool.{cases_lt, lt-ltb, le-ltb, cond-true, cond-false}
 use Rattle.std.proofs.lemmas.Grind.{common_steps}
@@ -7,7 +7,7 @@ use Rattle.std.proofs.lemmas.List.{get_or-map, get_or-set_other, get_or-set_same
 use Rattle.mm_value.specs.declared.row_ref.RowRef.{RowRef}
 use Rattle.mm_partition.specs.declared.slots.Slot.{Slot}
 use Rattle.mm_partition.specs.Links.{content_of}
-use Rattle.mm_partition.specs.Places.{Content, Places, Free, Live, Hidden, slot_at, IsLive, IsHidden, ChangesOnly}
+use Rattle.mm_partition.specs.Places.{Content, Places, Free, Live, Hidden, slot_at, AreReferencesSmall, IsLive, IsHidden, ChangesOnly}
 
 -- the slot at this index is that of the reference
 pub record Refers (slots : List Slot) (at : RowRef) (i : ℕ) : Type 0 where
@@ -80,3 +80,10 @@ ChangesOnly-set old slots room i slot at content holds view here =
       others = others_stay old new at here.small
           (λ k apart. ap (λ xs. get_or xs k Free) items ∙ get_or-set_other old.slots i k (content_of slot) Free (λ same. apart (same ∙ here.place)));
     }
+
+-- references to live rows are small where there are few slots
+pub references_small : (places : Places) (slots : List Slot) → map content_of slots ≡ places.slots → length slots ≤ 2 ^ 32 → AreReferencesSmall places
+references_small places slots view few at live =
+    let here : Refers slots at (64 * at.part + at.slot) = IsLive-refers places slots at (64 * at.part + at.slot) view refl live in
+    let index : 64 * at.part + at.slot < 2 ^ 32 = omega (arith, here.within, few) in
+    (omega (arith, index), here.small)

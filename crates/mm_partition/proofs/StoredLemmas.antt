@@ -37,6 +37,7 @@ IsStored-kept slots first after count more capacity spare at was slot columns wi
     record {
       free = free;
       room = omega (arith, length-set slots at slot, old.room);
+      few = omega (arith, length-set slots at slot, old.few);
       tracked = λ k d h. subst (λ xs. Tracks xs spare (get_or columns k d)) (sym (map-set content_of slots at slot))
           (Tracks-kept (map content_of slots) spare at (content_of slot) (get_or columns k d)
           (λ n p. still (get_or columns k d).column n (subst (λ x. IsPrefixIn (get_or columns k d).column x n) held p))
@@ -51,6 +52,7 @@ pub IsStored-set : (slots : List Slot) (first after : Option ℕ) (count more ca
 IsStored-set slots first after count more capacity spare at row columns changed stored free tracked old = record {
   free = free;
   room = omega (arith, length-set slots at (Live row), old.room);
+  few = omega (arith, length-set slots at (Live row), old.few);
   tracked = subst (λ xs. All (Tracks xs spare) changed) (sym (map-set content_of slots at (Live row))) tracked;
   storable = All-set (λ s. IsStorableIn (content_of s)) slots at (Live row) stored old.storable;
 }
@@ -76,6 +78,7 @@ pub IsStored-pushed : (slots : List Slot) (count capacity spare : ℕ) (row : Li
 IsStored-pushed slots count capacity spare row columns pushed stored tracked some old = record {
   free = LinksFree-pushed slots count row old.free;
   room = omega (arith, old.room, length-append slots (Live row ∷ []));
+  few = omega (arith, old.few, length-append slots (Live row ∷ []));
   tracked = subst (λ xs. All (Tracks xs (spare - 1)) pushed) (sym (map-append content_of slots (Live row ∷ []))) tracked;
   storable = All-push (λ s. IsStorableIn (content_of s)) slots (Live row) old.storable stored;
 }

@@ -1,5 +1,5 @@
 -- What the slots of the partitions hold, reference by reference.
-use Rattle.std.specs.Prelude.{◌≡◌, ◌≢◌, ℕ, ◌+◌, ◌*◌, List, length, slice_index_or, nat_lt, if◌then◌else◌}
+use Rattle.std.specs.Prelude.{◌≡◌, ◌≢◌, ℕ, ◌+◌, ◌*◌, ◌^◌, ◌<◌, List, length, slice_index_or, nat_lt, if◌then◌else◌}
 use Rattle.mm_value.specs.Storable.{AreStorable}
 use Rattle.mm_value.specs.declared.row_ref.RowRef.{RowRef}
 use Rattle.mm_value.specs.declared.values.Value.{Value}
@@ -53,3 +53,7 @@ IsStorableIn (Hidden row) = AreStorable row
 -- so has each row, in use or hidden
 abbrev pub AreRowsStorable : Places → Type 0
 AreRowsStorable places = (at : RowRef) → IsStorableIn (slot_at places at)
+
+-- each reference that gives a row is to one of the first 2^26 partitions, and to one of their 64 slots
+abbrev pub AreReferencesSmall : Places → Type 0
+AreReferencesSmall places = (at : RowRef) → IsLive places at → (at.part < 2 ^ 26) × (at.slot < 64)

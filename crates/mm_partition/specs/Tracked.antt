@@ -1,5 +1,5 @@
 -- The columns whose prefixes are kept. No public clause cites this module.
-use Rattle.std.specs.Prelude.{◌≡◌, ℕ, ◌+◌, ◌≤◌, List, length, map, slice_index, slice_index_or, All, Option}
+use Rattle.std.specs.Prelude.{◌≡◌, ℕ, ◌+◌, ◌^◌, ◌≤◌, List, length, map, slice_index, slice_index_or, All, Option}
 use Rattle.std.specs.Vec.{vec_capacity}
 use Rattle.mm_partition.specs.Links.{content_of, LinksFree}
 use Rattle.mm_partition.specs.Places.{Content, Free, Live, Hidden, IsStorableIn}
@@ -19,9 +19,11 @@ pub record Tracks (contents : List Content) (spare : ℕ) (tracked : Tracked) : 
   pub room : length contents + spare ≤ vec_capacity tracked.prefixes
   pub each : (i : ℕ) → IsPrefixIn tracked.column (slice_index_or contents i Free) (slice_index tracked.prefixes.items i)
 
--- The free slots are linked, the slots and each column have room for so many more, and each row has values that a program can have.
+-- The free slots are linked, the slots and each column have room for so many more, with which there are at most 2^32 of them, and each row
+-- has values that a program can have.
 pub record IsStored (slots : List Slot) (first_free : Option ℕ) (free_count capacity spare : ℕ) (columns : List Tracked) : Type 0 where
   pub free : LinksFree slots first_free free_count
   pub room : length slots + spare ≤ capacity
+  pub few : length slots + spare ≤ 2 ^ 32
   pub tracked : All (Tracks (map content_of slots) spare) columns
   pub storable : All (λ slot. IsStorableIn (content_of slot)) slots

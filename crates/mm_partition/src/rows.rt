@@ -3,7 +3,7 @@ ghost use Rattle.std.specs.Prelude.{◌≡◌, ◌+◌, ◌<◌, ◌≤◌, max,
 ghost use Rattle.std.specs.Option.{ForSome};
 ghost use Rattle.mm_value.specs.declared.values.Value.{Value};
 ghost use Rattle.mm_partition.specs.Prefixes.{ArePrefixes};
-ghost use Rattle.mm_partition.specs.Places.{Free, Live, Hidden, slot_index_of, extent_of, slot_at, AreRowsStorable, IsLive, IsHidden, IsUnchanged, ChangesOnly};
+ghost use Rattle.mm_partition.specs.Places.{Free, Live, Hidden, slot_index_of, extent_of, slot_at, AreRowsStorable, AreReferencesSmall, IsLive, IsHidden, IsUnchanged, ChangesOnly};
 
 use crate::slots::{SLOTS, Slot, index_of, reference_to};
 use crate::tracked::{
@@ -13,6 +13,9 @@ use mm_value::{Row, RowRef};
 use std::alloc::{AllocError, Global};
 use std::marker::Model;
 use std::mem;
+
+/// The most slots that there are: those of 2^26 partitions.
+const MAX_SLOTS: usize = 4_294_967_296;
 
 /// The rows of one table, 64 to a partition (partitions and tuple pointers of Lehman and Carey,
 /// SIGMOD 1986). A row is found by its reference, which stays the same while the row lives. No
@@ -91,6 +94,14 @@ impl Partitions {
         let _slots = &self.slots;
     }
 
+    /// A law of the references: each that gives a row is to one of the first 2^26 partitions, and to one of their 64 slots.
+    /// It does nothing.
+    pub fn are_references_small(&self)
+        ensures { AreReferencesSmall self.now }
+    {
+        let _slots = &self.slots;
+    }
+
     /// The row of a reference.
     pub fn get(&self, at: RowRef) -> &Row
         requires { IsLive self.now at }
@@ -132,7 +143,8 @@ impl Partitions {
     }
 
     /// Makes room for at least `n` rows more, in whole partitions. Every row stays as it is, and so
-    /// does the room that was there; `AllocError` where memory is refused. The extent stays.
+    /// does the room that was there; `AllocError` where memory is refused, or where more than 2^32
+    /// slots would be needed. The extent stays.
     pub fn reserve(&mut self, _alloc: Global, n: usize) -> Result<(), AllocError>
         ensures ok { OnOk result (n ≤ self.new.room) }
         ensures rows { IsUnchanged self.old self.new }
@@ -146,6 +158,9 @@ impl Partitions {
         let partitions = (n - room).div_ceil(SLOTS);
         let more = partitions.checked_mul(SLOTS).ok_or(AllocError)?;
         let spare = self.spare.checked_add(more).ok_or(AllocError)?;
+        if self.slots.len().saturating_add(spare) > MAX_SLOTS {
+            return Err(AllocError);
+        }
         self.slots.reserve(spare)?;
         reserve_each(&mut self.tracked, spare)?;
         self.spare = spare;

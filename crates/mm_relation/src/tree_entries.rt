@@ -34,6 +34,7 @@ fn put<L: OrderedRefs>(rows: &Partitions, column: usize, key: usize, tree: &mut 
         key,
         prefixes: rows.prefixes(column),
     };
+    rows.are_references_small();
     tree.insert(&order, at);
 }
 

@@ -1,5 +1,6 @@
 //! References that are told apart by a number.
-ghost use Rattle.std.specs.Prelude.{◌≡◌, ◌+◌, ◌*◌, ◌<◌, length, IfOk};
+ghost use Rattle.std.specs.Prelude.{◌≡◌, ◌+◌, ◌*◌, ◌<◌, ◌≤◌, length, All, IfOk};
+ghost use Rattle.ttree_node.specs.Entries.{IsSmall};
 ghost use Rattle.structure_tests.specs.Orders.{IsByPlace};
 
 use mm_value::RowRef;
@@ -24,10 +25,12 @@ pub fn first_of(part: usize) -> RowRef
     RowRef { part, slot: 0 }
 }
 
-/// The references to the first slots of the partitions below `count`, in order. `AllocError` where memory is refused.
+/// The references to the first slots of the partitions below `count`, at most 1,048,576, in order. `AllocError` where memory is refused.
 pub fn ascending(alloc: Global, count: usize) -> Result<Vec<RowRef>, AllocError>
+    requires { count ≤ 1048576 }
     ensures count { IfOk result (λ refs. length refs.items ≡ count) }
     ensures ordered { IfOk result (λ refs. IsByPlace refs.items) }
+    ensures small { IfOk result (λ refs. All IsSmall refs.items) }
 {
     let mut refs = Vec::new(alloc);
     for part in 0..count {

@@ -1,6 +1,7 @@
 //! T-trees: which references they hold, how high they are, and where entries stand in the nodes.
-ghost use Rattle.std.specs.Prelude.{◌≡◌, [], IfOk};
+ghost use Rattle.std.specs.Prelude.{◌≡◌, ◌≤◌, [], IfOk};
 ghost use Rattle.std.specs.Ordering.{nat_cmp};
+ghost use Rattle.ttree_node.specs.Entries.{IsSmall};
 ghost use Rattle.structure_tests.specs.Orders.{IsByPlace};
 
 use crate::assertions::{assert_same, assert_that};
@@ -220,7 +221,8 @@ fn shrinks_by_many_at_once(rt: HostRuntime) -> Result<(), Fail> {
 
 /// Takes a reference out where it is in, and puts it in where it is not.
 fn toggle<R: OrderedRefs>(refs: &mut R, alloc: Global, toggled: RowRef) -> Result<(), AllocError>
-    requires { IsByPlace (R.refs refs.old) }
+    requires ordered { IsByPlace (R.refs refs.old) }
+    requires small { IsSmall toggled }
     ensures { IsByPlace (R.refs refs.new) }
 {
     if refs.remove(&ByPlace, toggled) {
@@ -352,7 +354,8 @@ fn fill_in_order(
     tree: &mut TTree,
     count: usize,
 ) -> Result<(), AllocError>
-    requires { tree.old.refs ≡ [] }
+    requires empty { tree.old.refs ≡ [] }
+    requires few { count ≤ 1048576 }
     ensures { IsByPlace tree.new.refs }
 {
     for part in 0..count {
@@ -398,7 +401,8 @@ fn a_range_asks_about_the_ends_of_a_node(rt: HostRuntime) -> Result<(), Fail> {
 
 /// Toggles a reference of each partition from `first` on, below `end`.
 fn toggle_each(tree: &mut TTree, alloc: Global, first: usize, end: usize) -> Result<(), AllocError>
-    requires { IsByPlace tree.old.refs }
+    requires ordered { IsByPlace tree.old.refs }
+    requires few { end ≤ 1048576 }
     ensures { IsByPlace tree.new.refs }
 {
     for part in first..end {
@@ -487,6 +491,7 @@ fn assert_built(
 ) -> Result<TTree, AllocError>
     ensures { IfOk result (λ tree. IsByPlace tree.refs) }
 {
+    assert_that(rt, count <= 1_048_576);
     let refs = ascending(alloc, count)?;
     let tree = TTree::from_sorted(alloc, refs.as_slice())?;
     assert_same(

@@ -13,3 +13,5 @@ pub mod Path
 pub mod Reached
 pub mod Shuffles
 pub mod Along
+pub mod Walks
+pub mod InPlace

@@ -38,6 +38,9 @@ module _ (Covers : RowRef → Type 0) (cmp : RowRef → RowRef → Ordering) (to
   equal_to_itself : cmp gone gone ≡ Equal
   equal_to_itself = self_equal (cmp gone gone) (total.antisymm gone gone covered covered)
 
+  pub itself : cmp gone gone ≡ Equal
+  itself = equal_to_itself
+
   -- between entries that lie before it and entries that lie after it a reference isn't held
   pub absent_between : (xs : List RowRef) (at : ℕ) → All (λ a. cmp a gone ≡ Less) (take at xs) → All (λ a. cmp a gone ≡ Greater) (drop at xs) → Contains xs gone
       → ⊥

@@ -1,6 +1,7 @@
 //! Insertion into a T-tree.
 ghost use Rattle.std.specs.Prelude.{◌≡◌, ◌≢◌, ◌+◌, ◌-◌, ◌^◌, ◌<◌, ◌≤◌, ◌↔◌, [], ◌∷◌, ◌++◌, length, take, drop, slice_index_or, All, IsTrue, IfOk, IfErr, IfSome, OnOk, OnErr};
 ghost use Rattle.std.specs.declared.cmp.Ordering.TheVariants.{Less, Equal, Greater};
+ghost use Rattle.ttree_node.specs.Entries.{IsSmall};
 ghost use Rattle.ttree_node.specs.Tree.{fork, tree_of, in_order, height_of, node_count};
 ghost use Rattle.mm_order.specs.Order.{IsOrdered};
 ghost use Rattle.mm_order.specs.Refs.{AddsInOrder};
@@ -8,8 +9,8 @@ ghost use Rattle.ttree.specs.Balanced.{IsTTree};
 ghost use Rattle.ttree.specs.Bound.{LiesBelow};
 
 use crate::balance::balance;
-use crate::search::{is_before, search};
-use mm_order::{AtReference, RefOrder, Seek};
+use crate::search::{HALVINGS, is_before};
+use mm_order::RefOrder;
 use mm_value::RowRef;
 use ttree_node::{Entries, Spares, Subtree};
 
@@ -17,6 +18,7 @@ use ttree_node::{Entries, Spares, Subtree};
 /// into a new right leaf under it.
 pub(crate) fn push_last(tree: Option<Subtree>, entry: RowRef, spares: &mut Spares) -> Subtree
     requires tree { IsTTree (tree_of tree) }
+    requires small { IsSmall entry }
     requires spare { 1 ≤ spares.old }
     requires height_fits { height_of (tree_of tree) + 2 < 2 ^ 64 }
     ensures tree { IsTTree (fork result) }
@@ -51,6 +53,7 @@ fn insert_between<O: RefOrder>(
     requires ordered { IsOrdered (O.covers order.now) (O.cmp order.now) (in_order (fork node)) }
     requires covered { O.covers order.now added }
     requires apart { All (λ a. O.cmp order.now a added ≢ Equal) (in_order (fork node)) }
+    requires small { IsSmall added }
     requires not_before { O.cmp order.now added (slice_index_or node.entries 0 added) ≢ Less }
     requires not_after { O.cmp order.now added (slice_index_or node.entries (length node.entries - 1) added) ≢ Greater }
     requires spare { 1 ≤ spares.old }
@@ -75,7 +78,7 @@ fn insert_between<O: RefOrder>(
 }
 
 /// Where a reference goes among entries of which it does not lie before the first.
-fn place_among<O: RefOrder>(entries: &Entries, order: &O, added: RowRef) -> usize
+pub(crate) fn place_among<O: RefOrder>(entries: &Entries, order: &O, added: RowRef) -> usize
     requires ordered { IsOrdered (O.covers order.now) (O.cmp order.now) entries.now }
     requires covered { O.covers order.now added }
     requires apart { All (λ a. O.cmp order.now a added ≢ Equal) entries.now }
@@ -87,15 +90,17 @@ fn place_among<O: RefOrder>(entries: &Entries, order: &O, added: RowRef) -> usiz
     ensures before { All (λ a. O.cmp order.now a added ≡ Less) (take result entries.now) }
     ensures after { All (λ a. O.cmp order.now a added ≡ Greater) (drop result entries.now) }
 {
-    let probe = AtReference {
-        order,
-        sought: added,
-    };
-    let mut seek = Seek::new(&probe);
-    let Err(at) = search(&mut seek, entries) else {
-        unreachable!()
-    };
-    at
+    let mut low = 0;
+    let mut size = entries.len();
+    // The number of turns is fixed, so that they are unrolled: then none has a branch to be guessed.
+    for _ in 0..HALVINGS {
+        let half = size / 2;
+        if order.compare(entries.get(low + half), added).is_lt() {
+            low += half;
+        }
+        size -= half;
+    }
+    low + 1
 }
 
 /// Whether a reference lies before a bound. Where there is none it doesn't.
@@ -129,6 +134,7 @@ pub(crate) fn insert_into<O: RefOrder>(
     requires apart { All (λ a. O.cmp order.now a added ≢ Equal) (in_order (tree_of tree)) }
     requires bound_covered { IfSome bound (O.covers order.now) }
     requires behind { IfSome bound (λ b. All (λ a. O.cmp order.now b a ≡ Less) (in_order (tree_of tree))) }
+    requires small { IsSmall added }
     requires spare { 1 ≤ spares.old }
     requires height_fits { height_of (tree_of tree) + 2 < 2 ^ 64 }
     ensures tree { IfOk result (λ made. IsTTree (fork made)) }

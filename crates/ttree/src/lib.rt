@@ -3,6 +3,7 @@
 
 mod balance;
 mod builds;
+mod in_place;
 mod inserts;
 mod iters;
 mod lookup;

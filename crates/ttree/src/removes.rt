@@ -1,6 +1,7 @@
 //! Removal from a T-tree.
 ghost use Rattle.std.specs.Prelude.{◌≡◌, ◌+◌, ◌-◌, ◌^◌, ◌<◌, ◌≤◌, ◌↔◌, ◌⊎◌, max, [], ◌∷◌, ◌++◌, List, length, take, drop, Contains, IsSome, IfSome, IfNone, Some, slice_get};
 ghost use Rattle.mm_value.specs.declared.row_ref.RowRef.{RowRef as Reference};
+ghost use Rattle.ttree_node.specs.Entries.{IsSmall};
 ghost use Rattle.ttree_node.specs.Tree.{Empty, fork, tree_of, in_order, height_of, node_count};
 ghost use Rattle.ttree_node.specs.Slide.{IsLeaf};
 ghost use Rattle.mm_order.specs.Order.{IsOrdered};
@@ -8,8 +9,8 @@ ghost use Rattle.ttree.specs.Balanced.{IsTTree, IsRootOver, IsMended};
 ghost use Rattle.ttree.specs.Shuffle.{IsShuffle};
 
 use crate::balance::{balance, is_leaf};
-use crate::search::{is_before, search};
-use mm_order::{AtReference, RefOrder, Seek};
+use crate::search::{HALVINGS, is_before};
+use mm_order::RefOrder;
 use mm_value::RowRef;
 use ttree_node::{Entries, Spares, Subtree};
 
@@ -121,6 +122,7 @@ fn take_last(mut node: Subtree, spares: &mut Spares) -> (Option<Subtree>, RowRef
     requires pool_fits { node_count (fork node) + spares.old < 2 ^ 64 }
     ensures tree { IsTTree (tree_of result.0) }
     ensures entries { in_order (tree_of result.0) ++ result.1 ∷ [] ≡ in_order (fork node) }
+    ensures small { IsSmall result.1 }
     ensures nodes { node_count (tree_of result.0) + spares.new ≡ node_count (fork node) + spares.old }
     ensures spares { spares.old ≤ spares.new }
     ensures not_higher { height_of (tree_of result.0) ≤ height_of (fork node) }
@@ -171,7 +173,7 @@ fn refill(mut node: Subtree, spares: &mut Spares) -> Option<Subtree>
 }
 
 /// The place of a reference among entries.
-fn find_held<O: RefOrder>(entries: &Entries, order: &O, gone: RowRef) -> Option<usize>
+pub(crate) fn find_held<O: RefOrder>(entries: &Entries, order: &O, gone: RowRef) -> Option<usize>
     requires ordered { IsOrdered (O.covers order.now) (O.cmp order.now) entries.now }
     requires covered { O.covers order.now gone }
     requires some { 1 ≤ length entries.now }
@@ -180,15 +182,20 @@ fn find_held<O: RefOrder>(entries: &Entries, order: &O, gone: RowRef) -> Option<
     ensures found { IfSome result (λ i. slice_get entries.now i ≡ Some gone) }
     ensures absent { IfNone result (Contains entries.now gone → ⊥) }
 {
-    let probe = AtReference {
-        order,
-        sought: gone,
-    };
-    let mut seek = Seek::new(&probe);
-    match search(&mut seek, entries) {
-        Ok(i) if entries.get(i) == gone => Some(i),
-        _ => None,
+    let mut low = 0;
+    let mut size = entries.len();
+    // The number of turns is fixed, so that they are unrolled: then none has a branch to be guessed.
+    for _ in 0..HALVINGS {
+        let half = size / 2;
+        if order.compare(entries.get(low + half), gone).is_le() {
+            low += half;
+        }
+        size -= half;
     }
+    if entries.get(low) == gone {
+        return Some(low);
+    }
+    None
 }
 
 /// Takes the first of some references out of a root's entries, as many as stand there from a place on in their order, with others

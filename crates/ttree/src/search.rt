@@ -10,7 +10,7 @@ use std::cmp::Ordering;
 use ttree_node::{Entries, Subtree};
 
 /// So many halvings leave one of the 16 entries of a full node.
-const HALVINGS: usize = 4;
+pub(crate) const HALVINGS: usize = 4;
 
 /// Where an entry fits the probe, or else where one would stand, by at most five questions.
 pub(crate) fn search<P: Probe>(seek: &mut Seek<P>, entries: &Entries) -> Result<usize, usize>

@@ -4,10 +4,12 @@ ghost use Rattle.std.specs.Int.{div_ceil};
 ghost use Rattle.std.specs.declared.cmp.Ordering.TheVariants.{Equal};
 ghost use Rattle.mm_order.specs.Order.{IsOrdered};
 ghost use Rattle.mm_order.specs.Probe.{IsMonotone};
+ghost use Rattle.ttree_node.specs.Entries.{IsSmall};
 ghost use Rattle.ttree.specs.Lowest.{IsLowest};
 ghost use Rattle.ttree.specs.Shuffle.{IsShuffle};
 
 use crate::builds::{FULL, build};
+use crate::in_place::{insert_in_place, remove_in_place};
 use crate::inserts::insert_into;
 use crate::iters::Iter;
 use crate::lookup::find_in;
@@ -59,6 +61,7 @@ impl TTree {
     /// for the last. `AllocError` where memory is refused.
     #[tactic(auto, using(crate::proofs::Sizes::height_at_most_nodes))]
     pub fn from_sorted(alloc: Global, refs: &[RowRef]) -> Result<TTree, AllocError>
+        requires small { All IsSmall refs.now }
         ensures refs { IfOk result (λ tree. tree.refs ≡ refs.now) }
         ensures lowest { IfOk result (λ tree. IsLowest (div_ceil (length refs.now) 16) tree.height) }
     {
@@ -132,6 +135,10 @@ impl TTree {
         ensures ordered { IsOrdered (O.covers order.now) (O.cmp order.now) self.new.refs }
         ensures spare { self.old.spare ≤ self.new.spare }
     {
+        if remove_in_place(&mut self.root, order, gone, behind) {
+            self.len -= 1;
+            return Some(0);
+        }
         let (root, along) = remove_from(self.root.take(), order, gone, behind, &mut self.spares);
         self.root = root;
         if let Some(along) = along {
@@ -174,6 +181,10 @@ impl OrderedRefs for TTree {
 
     #[tactic(auto, using(crate::proofs::Sizes::height_at_most_nodes, crate::proofs::Sizes::entries_at_most))]
     fn insert<O: RefOrder>(&mut self, order: &O, added: RowRef) {
+        if insert_in_place(&mut self.root, order, added) {
+            self.len += 1;
+            return;
+        }
         let Ok(root) = insert_into(self.root.take(), order, None, added, &mut self.spares) else {
             unreachable!()
         };

@@ -1,3 +1,4 @@
 pub mod OwnerSteps
+pub mod PathLemmas
 pub mod RowRefs
 pub mod SlideLemmas

@@ -2,6 +2,7 @@ pub mod Block
 pub mod BlockLent
 pub mod Entries
 pub mod Nodes
+pub mod Paths
 pub mod Slide
 pub mod Spares
 pub mod Tree

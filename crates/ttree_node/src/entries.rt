@@ -1,7 +1,7 @@
 //! The entries of a node.
-ghost use Rattle.std.specs.Prelude.{◌≡◌, ◌==◌, ◌+◌, ◌<◌, ◌≤◌, [], ◌∷◌, ◌++◌, length, take, drop, insert, remove, slice_get, Some};
+ghost use Rattle.std.specs.Prelude.{◌≡◌, ◌==◌, ◌+◌, ◌-◌, ◌<◌, ◌≤◌, [], ◌∷◌, ◌++◌, length, take, drop, insert, remove, slice_get, Some};
 ghost use Rattle.std.specs.Iterator.{YieldsFirst, item_count};
-ghost use Rattle.ttree_node.specs.Entries.{entry_at, first_entry, last_entry};
+ghost use Rattle.ttree_node.specs.Entries.{IsSmall, row_ref, entry_at, first_entry, last_entry};
 
 use arrayvec::ArrayVec;
 use mm_value::RowRef;
@@ -9,24 +9,41 @@ use std::iter::FusedIterator;
 use std::marker::Model;
 use std::mem;
 
-/// At most 16 references, seen as the list of them. Partitions and slots lie in arrays of their
-/// own, so that a reference takes nine bytes and not two words.
+/// The number of a reference: 64 slots a partition.
+fn number_of(entry: RowRef) -> u32
+    requires { IsSmall entry }
+    ensures { row_ref result ≡ entry }
+{
+    (entry.part * 64 + entry.slot as usize) as u32
+}
+
+/// The reference of a number.
+#[inline]
+fn reference_of(number: u32) -> RowRef
+    ensures value { result ≡ row_ref number }
+    ensures small { IsSmall result }
+{
+    RowRef {
+        part: (number / 64) as usize,
+        slot: (number % 64) as u8,
+    }
+}
+
+/// At most 16 references, seen as the list of them. Each is kept as its number, in four bytes and
+/// not two words.
 #[derive(Drop)]
 pub struct Entries {
-    parts: ArrayVec<usize, 16>,
-    slots: ArrayVec<u8, 16>,
+    numbers: ArrayVec<u32, 16>,
 }
 
 impl Model for Entries {
-    ghost use Rattle.std.specs.Prelude.{◌≡◌, List, length};
+    ghost use Rattle.std.specs.Prelude.{List};
     ghost use Rattle.mm_value.specs.declared.row_ref.RowRef.{RowRef as Ref};
     ghost use Rattle.ttree_node.specs.Entries.{row_refs};
 
     ghost Value = { List Ref };
 
-    ghost view = { λ e. row_refs e.parts.items e.slots.items };
-
-    ghost invariant = { λ e. length e.parts.items ≡ length e.slots.items };
+    ghost view = { λ e. row_refs e.numbers.items };
 }
 
 impl Entries {
@@ -35,8 +52,7 @@ impl Entries {
         ensures { result ≡ [] }
     {
         Entries {
-            parts: ArrayVec::new(),
-            slots: ArrayVec::new(),
+            numbers: ArrayVec::new(),
         }
     }
 
@@ -47,7 +63,7 @@ impl Entries {
         ensures value { result ≡ length self.now }
         ensures at_most_16 { result ≤ 16 }
     {
-        self.parts.len()
+        self.numbers.len()
     }
 
     /// Whether there are none.
@@ -55,7 +71,7 @@ impl Entries {
     pub fn is_empty(&self) -> bool
         ensures { result ≡ (length self.now == 0) }
     {
-        self.parts.is_empty()
+        self.numbers.is_empty()
     }
 
     /// The entry at place `i`.
@@ -65,10 +81,7 @@ impl Entries {
         requires { i < length self.now }
         ensures { result ≡ entry_at self.now i }
     {
-        RowRef {
-            part: self.parts.as_slice()[i],
-            slot: self.slots.as_slice()[i],
-        }
+        reference_of(self.numbers.as_slice()[i])
     }
 
     /// The first entry.
@@ -78,6 +91,17 @@ impl Entries {
         ensures { result ≡ first_entry self.now }
     {
         self.get(0)
+    }
+
+    /// The first entry, which is to be put elsewhere.
+    #[inline]
+    #[tactic(auto, using(crate::proofs::RowRefs::as_many_refs))]
+    pub(crate) fn least(&self) -> RowRef
+        requires { 1 ≤ length self.now }
+        ensures value { result ≡ first_entry self.now }
+        ensures small { IsSmall result }
+    {
+        reference_of(self.numbers.as_slice()[0])
     }
 
     /// The last entry.
@@ -95,8 +119,7 @@ impl Entries {
         ensures { result ≡ self.now }
     {
         EntryIter {
-            parts: self.parts.as_slice(),
-            slots: self.slots.as_slice(),
+            numbers: self.numbers.as_slice(),
             at: 0,
         }
     }
@@ -105,18 +128,17 @@ impl Entries {
     pub(crate) fn clear(&mut self)
         ensures { self.new ≡ [] }
     {
-        self.parts.clear();
-        self.slots.clear();
+        self.numbers.clear();
     }
 
     /// Puts an entry behind the others.
     #[tactic(auto, using(crate::proofs::RowRefs::as_many_refs))]
     pub(crate) fn push(&mut self, entry: RowRef)
-        requires { length self.old < 16 }
+        requires room { length self.old < 16 }
+        requires small { IsSmall entry }
         ensures { self.new ≡ self.old ++ entry ∷ [] }
     {
-        self.parts.push(entry.part);
-        self.slots.push(entry.slot);
+        self.numbers.push(number_of(entry));
     }
 
     /// Puts an entry before the one at place `i`.
@@ -124,10 +146,10 @@ impl Entries {
     pub(crate) fn insert(&mut self, i: usize, entry: RowRef)
         requires room { length self.old < 16 }
         requires in_bounds { i ≤ length self.old }
+        requires small { IsSmall entry }
         ensures { self.new ≡ insert self.old i entry }
     {
-        self.parts.insert(i, entry.part);
-        self.slots.insert(i, entry.slot);
+        self.numbers.insert(i, number_of(entry));
     }
 
     /// Takes out the entry at place `i`.
@@ -136,10 +158,21 @@ impl Entries {
         requires { i < length self.old }
         ensures taken { slice_get self.old i ≡ Some result }
         ensures rest { self.new ≡ remove self.old i }
+        ensures small { IsSmall result }
     {
-        let part = self.parts.remove(i);
-        let slot = self.slots.remove(i);
-        RowRef { part, slot }
+        reference_of(self.numbers.remove(i))
+    }
+
+    /// Takes out the last entry.
+    #[tactic(auto, using(crate::proofs::RowRefs::read_at))]
+    pub(crate) fn pop_last(&mut self) -> RowRef
+        requires { 1 ≤ length self.old }
+        ensures last { result ≡ last_entry self.old }
+        ensures rest { self.new ≡ remove self.old (length self.old - 1) }
+        ensures small { IsSmall result }
+    {
+        let last = self.len() - 1;
+        self.remove(last)
     }
 
     /// Puts entries behind those that are there.
@@ -148,11 +181,8 @@ impl Entries {
         requires { length self.old + length behind.now ≤ 16 }
         ensures { self.new ≡ self.old ++ behind.now }
     {
-        self.parts
-            .try_extend_from_slice(behind.parts.as_slice())
-            .unwrap();
-        self.slots
-            .try_extend_from_slice(behind.slots.as_slice())
+        self.numbers
+            .try_extend_from_slice(behind.numbers.as_slice())
             .unwrap();
     }
 
@@ -174,17 +204,12 @@ impl Entries {
         ensures taken { result ≡ drop at self.old }
         ensures rest { self.new ≡ take at self.old }
     {
-        let mut parts = ArrayVec::new();
-        parts
-            .try_extend_from_slice(&self.parts.as_slice()[at..])
+        let mut numbers = ArrayVec::new();
+        numbers
+            .try_extend_from_slice(&self.numbers.as_slice()[at..])
             .unwrap();
-        let mut slots = ArrayVec::new();
-        slots
-            .try_extend_from_slice(&self.slots.as_slice()[at..])
-            .unwrap();
-        self.parts.truncate(at);
-        self.slots.truncate(at);
-        Entries { parts, slots }
+        self.numbers.truncate(at);
+        Entries { numbers }
     }
 
     /// Takes out the first `n` entries.
@@ -201,21 +226,18 @@ impl Entries {
 /// The entries of a node one after the other, seen as the list of those that are left.
 #[derive(Drop)]
 pub struct EntryIter<'a> {
-    parts: &'a [usize],
-    slots: &'a [u8],
+    numbers: &'a [u32],
     at: usize,
 }
 
 impl<'a> Model for EntryIter<'a> {
-    ghost use Rattle.std.specs.Prelude.{◌≡◌, List, drop, length};
+    ghost use Rattle.std.specs.Prelude.{List, drop};
     ghost use Rattle.mm_value.specs.declared.row_ref.RowRef.{RowRef as Ref};
     ghost use Rattle.ttree_node.specs.Entries.{row_refs};
 
     ghost Value = { List Ref };
 
-    ghost view = { λ it. row_refs (drop it.at it.parts.now) (drop it.at it.slots.now) };
-
-    ghost invariant = { λ it. length it.parts.now ≡ length it.slots.now };
+    ghost view = { λ it. row_refs (drop it.at it.numbers.now) };
 }
 
 impl<'a> EntryIter<'a> {
@@ -224,8 +246,7 @@ impl<'a> EntryIter<'a> {
         ensures { result ≡ [] }
     {
         EntryIter {
-            parts: &[],
-            slots: &[],
+            numbers: &[],
             at: 0,
         }
     }
@@ -242,14 +263,11 @@ impl<'a> Iterator for EntryIter<'a> {
     #[tactic(auto, using(crate::proofs::RowRefs::next_ref, crate::proofs::RowRefs::no_ref))]
     fn next(&mut self) -> Option<RowRef> {
         let at = self.at;
-        if at >= self.parts.len() {
+        if at >= self.numbers.len() {
             return None;
         }
         self.at = at + 1;
-        Some(RowRef {
-            part: self.parts[at],
-            slot: self.slots[at],
-        })
+        Some(reference_of(self.numbers[at]))
     }
 }
 

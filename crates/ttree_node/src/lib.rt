@@ -4,6 +4,7 @@
 mod entries;
 mod nodes;
 mod owned;
+mod paths;
 mod pool;
 mod slides;
 mod turns;

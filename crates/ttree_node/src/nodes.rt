@@ -1,6 +1,7 @@
 //! Subtrees and what can be done at their root.
 ghost use Rattle.std.specs.Prelude.{◌≡◌, ◌+◌, ◌^◌, ◌<◌, ◌≤◌, [], ◌∷◌, ◌++◌, length, take, drop, insert, remove, slice_get, Some, IfOk};
 ghost use Rattle.std.specs.Option.{option_copied};
+ghost use Rattle.ttree_node.specs.Entries.{IsSmall};
 ghost use Rattle.ttree_node.specs.Tree.{Empty, fork, tree_of, height_of, node_count};
 
 use crate::entries::Entries;
@@ -15,17 +16,17 @@ use std::marker::Model;
 #[cycle(subtree)]
 #[derive(Drop)]
 pub struct Subtree {
-    root: Owned<Node, Global>,
+    pub(crate) root: Owned<Node, Global>,
 }
 
 /// One block of memory.
 #[cycle(subtree)]
 #[derive(Drop)]
-struct Node {
-    entries: Entries,
+pub(crate) struct Node {
+    pub(crate) entries: Entries,
     height: usize,
-    left: Option<Subtree>,
-    right: Option<Subtree>,
+    pub(crate) left: Option<Subtree>,
+    pub(crate) right: Option<Subtree>,
 }
 
 impl Model for Subtree {
@@ -80,7 +81,8 @@ impl Subtree {
 
     /// A node with this one entry, made from a free node.
     pub fn leaf(spares: &mut Spares, entry: RowRef) -> Subtree
-        requires { 0 < spares.old }
+        requires spare { 0 < spares.old }
+        requires small { IsSmall entry }
         ensures one_entry { result ≡ record { left = Empty; entries = entry ∷ []; right = Empty } }
         ensures one_spare { spares.new + 1 ≡ spares.old }
     {
@@ -142,6 +144,7 @@ impl Subtree {
     pub fn put_entry(&mut self, i: usize, entry: RowRef)
         requires room { length self.old.entries < 16 }
         requires in_bounds { i ≤ length self.old.entries }
+        requires small { IsSmall entry }
         ensures { self.new ≡ record self.old { entries = insert self.old.entries i entry } }
     {
         let node = self.root.as_mut();
@@ -153,6 +156,7 @@ impl Subtree {
         requires { i < length self.old.entries }
         ensures taken { slice_get self.old.entries i ≡ Some result }
         ensures rest { self.new ≡ record self.old { entries = remove self.old.entries i } }
+        ensures small { IsSmall result }
     {
         let node = self.root.as_mut();
         node.entries.remove(i)

@@ -6,9 +6,10 @@ ghost use Rattle.ttree_node.specs.Slide.{IsLeaf, child, handed_on, slid, slid_to
 use crate::nodes::Subtree;
 
 /// A side of a node.
-#[derive(Clone, Copy, Debug, PartialEq, Eq)]
+#[derive(Clone, Copy, Debug, Default, PartialEq, Eq)]
 pub enum Side {
     /// What comes before it.
+    #[default]
     Left,
     /// What comes after it.
     Right,

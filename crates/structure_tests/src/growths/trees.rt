@@ -1,4 +1,6 @@
 //! T-trees of several nodes, and their pool of nodes.
+ghost use Rattle.std.specs.Prelude.{All};
+ghost use Rattle.ttree_node.specs.Entries.{IsSmall};
 ghost use Rattle.structure_tests.specs.Orders.{IsByPlace};
 
 use crate::assertions::{assert_same, assert_that};
@@ -14,7 +16,9 @@ use ttree::TTree;
 use ttree_node::Spares;
 
 /// A tree over references in order, asked for again where memory is refused.
-fn build_again(rt: &(impl Abort + AllocGlobal + Print), refs: &[RowRef]) -> Result<TTree, Fail> {
+fn build_again(rt: &(impl Abort + AllocGlobal + Print), refs: &[RowRef]) -> Result<TTree, Fail>
+    requires { All IsSmall refs.now }
+{
     match TTree::from_sorted(rt.alloc(), refs) {
         Ok(tree) => Ok(tree),
         Err(_) => {
@@ -60,7 +64,8 @@ fn copy_again(
 
 /// Copies the nodes of a tree over references in order.
 fn copy_nodes(rt: &(impl Abort + AllocGlobal + Print), refs: &[RowRef]) -> Result<(), Fail>
-    requires { IsByPlace refs.now }
+    requires ordered { IsByPlace refs.now }
+    requires small { All IsSmall refs.now }
 {
     let Ok(tree) = TTree::from_sorted(rt.alloc(), refs) else {
         return Ok(());

@@ -1,0 +1,14 @@
+use Rattle.std.proofs.Common.{◌≡◌, ◌+◌, ◌-◌, ◌^◌, ◌≤◌, length, get_or}
+use Rattle.std.specs.List.{AllWithin}
+use Rattle.std.specs.declared.cmp.Ordering.TheVariants.{Less, Greater}
+use Rattle.ttree.proofs.inserts.place_among.Given as goal
+
+-- the first entry of the range lies before the reference, and what is behind the range lies after it
+abbrev pub invariant-loop : goal.invariant-loop
+invariant-loop g l = record {
+  some : 1 ≤ l.size;
+  within : l.low + l.size ≤ length l.entries;
+  halved : l.size ≤ 2 ^ (4 - l.counter);
+  first : g.O.RefOrder.cmp l.order (get_or l.entries l.low (record { part = 0; slot = 0 })) l.added ≡ Less;
+  after : AllWithin (λ a. g.O.RefOrder.cmp l.order a l.added ≡ Greater) l.entries (l.low + l.size) (length l.entries);
+}

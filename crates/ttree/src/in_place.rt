@@ -1,0 +1,190 @@
+//! Edits that leave the tree's shape.
+ghost use Rattle.std.specs.Prelude.{◌≡◌, ◌≢◌, ◌≤◌, [], ◌∷◌, ◌++◌, length, slice_index_or, All, Contains, IfSome};
+ghost use Rattle.std.specs.Bool.{OnTrue, OnFalse};
+ghost use Rattle.std.specs.declared.cmp.Ordering.TheVariants.{Less, Equal};
+ghost use Rattle.ttree_node.specs.Entries.{IsSmall};
+ghost use Rattle.ttree_node.specs.Tree.{fork, tree_of, in_order, node_count};
+ghost use Rattle.ttree_node.specs.Paths.{tree_at, trail};
+ghost use Rattle.mm_order.specs.Order.{IsOrdered};
+ghost use Rattle.mm_order.specs.Refs.{AddsInOrder};
+ghost use Rattle.ttree.specs.Balanced.{IsTTree};
+ghost use Rattle.ttree.specs.Shuffle.{IsShuffle};
+
+use crate::inserts::place_among;
+use crate::removes::find_held;
+use crate::search::is_before;
+use arrayvec::ArrayVec;
+use mm_order::RefOrder;
+use mm_value::RowRef;
+use ttree_node::{Side, Subtree};
+
+/// So many turns a path has at most; a tree that is deeper is not edited in place.
+const TURNS: usize = 64;
+
+/// The turns of a path.
+pub(crate) type Path = ArrayVec<Side, 64>;
+
+/// The last node on the way down whose first entry the reference does not lie before, by one question a node, and the path to it; none
+/// where the reference lies before all entries. All behind the entries of that node lies behind the reference.
+pub(crate) fn bounding_path<'a, O: RefOrder>(
+    tree: &'a Subtree,
+    order: &O,
+    sought: RowRef,
+    path: &mut Path,
+) -> Option<&'a Subtree>
+    requires tree { IsTTree (fork tree.now) }
+    requires ordered { IsOrdered (O.covers order.now) (O.cmp order.now) (in_order (fork tree.now)) }
+    requires covered { O.covers order.now sought }
+    requires empty { path.old.items ≡ [] }
+    ensures at { IfSome result (λ n. tree_at path.new.items (fork tree.now) ≡ fork n.now) }
+    ensures not_before { IfSome result (λ n. O.cmp order.now sought (slice_index_or n.now.entries 0 sought) ≢ Less) }
+    ensures behind { IfSome result (λ n. All (λ a. O.cmp order.now sought a ≡ Less) (in_order n.now.right ++ trail path.new.items (fork tree.now))) }
+{
+    let mut found = None;
+    let mut depth = 0;
+    let mut rest = Some(tree);
+    while let Some(node) = rest {
+        if path.len() == TURNS {
+            return None;
+        }
+        if is_before(node, order, sought) {
+            path.push(Side::Left);
+            rest = node.left();
+        } else {
+            found = Some(node);
+            depth = path.len();
+            path.push(Side::Right);
+            rest = node.right();
+        }
+    }
+    path.truncate(depth);
+    found
+}
+
+/// Puts a reference at its place among the entries of the node that bounds it, where that has room, or where the last node on its left
+/// has room for its least. Says whether it did.
+fn insert_into_node<O: RefOrder>(root: &mut Subtree, order: &O, added: RowRef) -> bool
+    requires tree { IsTTree (fork root.old) }
+    requires ordered { IsOrdered (O.covers order.now) (O.cmp order.now) (in_order (fork root.old)) }
+    requires covered { O.covers order.now added }
+    requires apart { All (λ a. O.cmp order.now a added ≢ Equal) (in_order (fork root.old)) }
+    requires small { IsSmall added }
+    ensures tree { IsTTree (fork root.new) }
+    ensures nodes { node_count (fork root.new) ≡ node_count (fork root.old) }
+    ensures adds { OnTrue result (AddsInOrder (O.cmp order.now) (in_order (fork root.old)) added (in_order (fork root.new))) }
+    ensures kept { OnFalse result (fork root.new ≡ fork root.old) }
+{
+    let mut path = ArrayVec::new();
+    let Some(node) = bounding_path(root, order, added, &mut path) else {
+        return false;
+    };
+    let len = node.entries().len();
+    let at = place_among(node.entries(), order, added);
+    if len < 16 {
+        root.put_entry_at(path.as_slice(), at, added);
+        return true;
+    }
+    if at == 16 {
+        return false;
+    }
+    if root.exchange_entry_at(path.as_slice(), at, added) {
+        return true;
+    }
+    false
+}
+
+/// Puts a reference at its place in a tree, where the tree's shape stays. Says whether it did.
+pub(crate) fn insert_in_place<O: RefOrder>(
+    tree: &mut Option<Subtree>,
+    order: &O,
+    added: RowRef,
+) -> bool
+    requires tree { IsTTree (tree_of tree.old) }
+    requires ordered { IsOrdered (O.covers order.now) (O.cmp order.now) (in_order (tree_of tree.old)) }
+    requires covered { O.covers order.now added }
+    requires apart { All (λ a. O.cmp order.now a added ≢ Equal) (in_order (tree_of tree.old)) }
+    requires small { IsSmall added }
+    ensures tree { IsTTree (tree_of tree.new) }
+    ensures nodes { node_count (tree_of tree.new) ≡ node_count (tree_of tree.old) }
+    ensures adds { OnTrue result (AddsInOrder (O.cmp order.now) (in_order (tree_of tree.old)) added (in_order (tree_of tree.new))) }
+    ensures kept { OnFalse result (tree_of tree.new ≡ tree_of tree.old) }
+{
+    match tree {
+        None => false,
+        Some(root) => insert_into_node(root, order, added),
+    }
+}
+
+/// Whether a node may lose an entry and be left as it is: a leaf keeps one, an internal node 14, and a half-leaf and its leaf too many
+/// for one node.
+fn has_spare(node: &Subtree) -> bool
+    requires { length node.now.entries ≤ 16 }
+    ensures { OnTrue result (2 ≤ length node.now.entries) }
+{
+    let len = node.entries().len();
+    if len < 2 {
+        return false;
+    }
+    match (node.left(), node.right()) {
+        (None, None) => true,
+        (Some(_), Some(_)) => len > 14,
+        (Some(leaf), None) => leaf.entries().len() + len > 17,
+        (None, Some(leaf)) => leaf.entries().len() + len > 17,
+    }
+}
+
+/// Takes a reference out of the node that bounds it, where the tree's shape stays. Says whether it did.
+fn remove_from_node<O: RefOrder>(root: &mut Subtree, order: &O, gone: RowRef) -> bool
+    requires tree { IsTTree (fork root.old) }
+    requires ordered { IsOrdered (O.covers order.now) (O.cmp order.now) (in_order (fork root.old)) }
+    requires covered { O.covers order.now gone }
+    ensures tree { IsTTree (fork root.new) }
+    ensures nodes { node_count (fork root.new) ≡ node_count (fork root.old) }
+    ensures taken { OnTrue result (IsShuffle (in_order (fork root.old)) (gone ∷ []) (in_order (fork root.new))) }
+    ensures held { OnTrue result (Contains (in_order (fork root.old)) gone) }
+    ensures kept { OnFalse result (fork root.new ≡ fork root.old) }
+{
+    let mut path = ArrayVec::new();
+    let Some(node) = bounding_path(root, order, gone, &mut path) else {
+        return false;
+    };
+    let Some(at) = find_held(node.entries(), order, gone) else {
+        return false;
+    };
+    if has_spare(node) {
+        root.take_entry_at(path.as_slice(), at);
+        return true;
+    }
+    if node.left().is_none() || node.right().is_none() {
+        return false;
+    }
+    if root.borrow_entry_at(path.as_slice(), at) {
+        return true;
+    }
+    false
+}
+
+/// Takes a reference out of a tree, where it is to go alone and the tree's shape stays. Says whether it did.
+pub(crate) fn remove_in_place<O: RefOrder>(
+    tree: &mut Option<Subtree>,
+    order: &O,
+    gone: RowRef,
+    behind: &[RowRef],
+) -> bool
+    requires tree { IsTTree (tree_of tree.old) }
+    requires ordered { IsOrdered (O.covers order.now) (O.cmp order.now) (in_order (tree_of tree.old)) }
+    requires covered { O.covers order.now gone }
+    ensures tree { IsTTree (tree_of tree.new) }
+    ensures nodes { node_count (tree_of tree.new) ≡ node_count (tree_of tree.old) }
+    ensures taken { OnTrue result (IsShuffle (in_order (tree_of tree.old)) (gone ∷ []) (in_order (tree_of tree.new))) }
+    ensures held { OnTrue result (Contains (in_order (tree_of tree.old)) gone) }
+    ensures kept { OnFalse result (tree_of tree.new ≡ tree_of tree.old) }
+{
+    if !behind.is_empty() {
+        return false;
+    }
+    match tree {
+        None => false,
+        Some(root) => remove_from_node(root, order, gone),
+    }
+}
