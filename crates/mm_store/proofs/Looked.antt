@@ -123,9 +123,6 @@ module _ (stored : StoredRows) (column : ℕ) (apart : column ≢ stored.key) wh
 -- ---- the first index of a kind on a column
 
 module _ (stored : StoredRows) (column : ℕ) where
-  pub key_is_first_tree : column ≡ stored.key → IsFirstSuch IsTree stored column (Some Key)
-  key_is_first_tree is = (is, tt, λ other on tree. omega arith)
-
   pub is_first_tree : column ≢ stored.key → (found : ℕ) → Sought stored column kind.Tree (Some found)
       → IsFirstSuch IsTree stored column (Some (Tree found))
   is_first_tree apart found sought = (sought.found, tt, least)
