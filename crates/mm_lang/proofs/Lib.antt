@@ -2,6 +2,7 @@ mod CommandReadings
 pub mod Commands
 mod Exactness
 mod Fronts
+mod Keywords
 pub mod LateLines
 mod Lexing
 mod ListingTexts
