@@ -23,3 +23,4 @@ mod StepTexts
 mod Texts
 mod ToldAgain
 mod TupleValues
+mod WordBytes
