@@ -1,13 +1,12 @@
 //! Reading of a line from left to right.
-ghost use Rattle.std.specs.Prelude.{◌≡◌, Some, None, MatchOption, MatchResult};
-ghost use Rattle.std.specs.Option.{option_or};
+ghost use Rattle.std.specs.Prelude.{◌≡◌, None, MatchResult};
 ghost use Rattle.mm_lang.specs.Grammar.{col_type, comparison, comparison_of, digits, index_kind, literal_of, name, numbered, position, shift};
 ghost use Rattle.mm_lang.specs.Phrases.{in_parentheses, one, one_word, the_keyword, the_separator, the_symbol, word_of};
 ghost use Rattle.mm_lang.specs.Words.{keyword_named};
-ghost use Rattle.mm_lang.specs.steps.Parsing.{AnswersOrMemory, BeginsNoMark, BeginsNoWord, BeginsNot, BeginsNotSigned, Finds, Finishes, Follows, Gives, IsMissing, ReadsPhrase, ReadsWithoutMemory, Skips, is_limit, no_literals, only_literal, shift_literals};
+ghost use Rattle.mm_lang.specs.steps.Parsing.{AnswersOrMemory, Finds, Finishes, Gives, IsMissing, ReadsPhrase, ReadsWithoutMemory, Skips, is_limit, no_literals, only_literal, shift_literals};
 ghost use Rattle.mm_lang.specs.steps.Splitting.{Shows};
 ghost use Rattle.mm_lang.specs.Reading.{checked, literal_fault, position_literals};
-ghost use Rattle.mm_lang.specs.Tokens.{Token as Tok, Word, Signed, Mark as MarkToken, tokens};
+ghost use Rattle.mm_lang.specs.Tokens.{Token as Tok};
 
 use crate::front::Front;
 use crate::keyword::Keyword;
