@@ -347,8 +347,8 @@ module _ (old mid new : Reader) (n : List ℕ) (before after : List Column) (g :
   said_is : items.given.said ≡ after
   said_is = sym (items.joined ∙ ap (λ l. l ++ items.items) none ∙ items.given.same (none_fault items.given.said))
 
-  columns_read : in_parentheses (comma_list column) (tokens mid.rest.now) ≡ Some (after, tokens new.rest.now)
-  columns_read = items.given.read ∙ ap (λ l. Some (l, tokens new.rest.now)) said_is
+  columns_read : in_parentheses (comma_list column) (tokens mid.rest) ≡ Some (after, tokens new.rest)
+  columns_read = items.given.read ∙ ap (λ l. Some (l, tokens new.rest)) said_is
 
   pub table_keys : key_count after ≢ 1 → Fails table old Syntax
   unfolding table after_name table_columns say_table

@@ -122,20 +122,20 @@ behind_takes ts us k first more = tokens_take ts (command_of ts) refl by
 abbrev command_phrase : Phrase Command
 command_phrase = one_word keyword_named >>= command_behind
 
-no_command : (old : Reader) (e : Refusal) → e ≡ Syntax → command_phrase (tokens old.rest.now) ≡ None
-    → AnswersReading (read_as (command_of (tokens old.rest.now))) (Err e)
+no_command : (old : Reader) (e : Refusal) → e ≡ Syntax → command_phrase (tokens old.rest) ≡ None
+    → AnswersReading (read_as (command_of (tokens old.rest))) (Err e)
 unfolding command_of
 no_command old e syntax none = inl (ap (λ (o : Option (Front Command)). read_as (option_and_then (λ r. alone r.0 r.1) o)) none ∙ ap Err (sym syntax))
 
-pub no_keyword : (old : Reader) (e : Refusal) → IsMissing (one_word keyword_named) old e → AnswersReading (read_as (command_of (tokens old.rest.now))) (Err e)
+pub no_keyword : (old : Reader) (e : Refusal) → IsMissing (one_word keyword_named) old e → AnswersReading (read_as (command_of (tokens old.rest))) (Err e)
 no_keyword old e h = no_command old e h.0 (ap (option_and_then (λ (r : Front Keyword). command_behind r.0 r.1)) h.1)
 
 pub nothing_behind : (old mid : Reader) (k : Keyword) (e : Refusal) → Gives (one_word keyword_named) no_literals old mid k
-    → Fails (command_behind k) mid e → (e ≡ Memory → is_control_keyword k ≡ false) → AnswersReading (read_as (command_of (tokens old.rest.now))) (Err e)
+    → Fails (command_behind k) mid e → (e ≡ Memory → is_control_keyword k ≡ false) → AnswersReading (read_as (command_of (tokens old.rest))) (Err e)
 nothing_behind old mid k e g (inl h) more =
     let t = took g in no_command old e h.0 (ap (option_and_then (λ (r : Front Keyword). command_behind r.0 r.1)) t.is ∙ h.1)
 nothing_behind old mid k e g (inr h) more =
-    let t = took g in inr (h, behind_takes (tokens old.rest.now) (tokens mid.rest.now) k t.is (more h))
+    let t = took g in inr (h, behind_takes (tokens old.rest) (tokens mid.rest) k t.is (more h))
 
 alone_some : (c : Command) (ts : List Token) → ts ≢ [] → alone c ts ≡ None
 alone_some c [] h = absurd (h refl)
@@ -143,7 +143,7 @@ alone_some c (t ∷ ts) h = refl
 
 module _ (old mid new : Reader) (k : Keyword) (c : Command) (fresh : old.fault ≡ None) (g : Gives (one_word keyword_named) no_literals old mid k)
     (h : Gives (command_behind k) literals_of mid new c) where
-  whole_is : command_of (tokens old.rest.now) ≡ alone h.said (tokens new.rest.now)
+  whole_is : command_of (tokens old.rest) ≡ alone h.said (tokens new.rest)
   unfolding command_of
   whole_is =
       let t = took g in
@@ -154,11 +154,11 @@ module _ (old mid new : Reader) (k : Keyword) (c : Command) (fresh : old.fault �
   fault_is : new.fault ≡ first_fault (literals_of h.said)
   fault_is = let t = took g in h.fault ∙ ap (λ f. option_or f (first_fault (literals_of h.said))) (t.fault ∙ fresh)
 
-  pub unfinished : (e : Refusal) → Finishes new (Err e) → AnswersReading (read_as (command_of (tokens old.rest.now))) (Err e)
-  unfinished e (inl f) = inl (ap read_as (whole_is ∙ alone_some h.said (tokens new.rest.now) f.1) ∙ ap Err (sym f.0))
+  pub unfinished : (e : Refusal) → Finishes new (Err e) → AnswersReading (read_as (command_of (tokens old.rest))) (Err e)
+  unfinished e (inl f) = inl (ap read_as (whole_is ∙ alone_some h.said (tokens new.rest) f.1) ∙ ap Err (sym f.0))
   unfinished e (inr f) = inl (ap read_as (whole_is ∙ ap (alone h.said) f.0) ∙ ap (unless h.said) (sym fault_is ∙ f.1))
 
-  pub finished : Finishes new (Ok tt) → read_as (command_of (tokens old.rest.now)) ≡ Ok c
+  pub finished : Finishes new (Ok tt) → read_as (command_of (tokens old.rest)) ≡ Ok c
   finished f =
       let none : first_fault (literals_of h.said) ≡ None = sym fault_is ∙ f.1 in
       ap read_as (whole_is ∙ ap (alone h.said) f.0) ∙ ap (unless h.said) none ∙ ap Ok (sym (h.same none))

@@ -2,6 +2,7 @@ mod CommandReadings
 pub mod Commands
 mod Exactness
 mod Fronts
+mod Keywords
 pub mod LateLines
 mod Lexing
 mod ListingTexts
@@ -22,3 +23,4 @@ mod StepTexts
 mod Texts
 mod ToldAgain
 mod TupleValues
+mod WordBytes

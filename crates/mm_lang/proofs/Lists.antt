@@ -73,7 +73,7 @@ pub record Gathered {A : Type 0} (literals : A → List Value) (old now : Reader
   pub joined : after ≡ before ++ items
   pub fault : now.fault ≡ option_or old.fault (first_fault (flat_map literals said))
   pub same : first_fault (flat_map literals said) ≡ None → items ≡ said
-  pub shorter : length now.rest.now ≤ length old.rest.now
+  pub shorter : length now.rest ≤ length old.rest
 
 -- they stand in front of the others
 abbrev pub in_front : {A : Type 0} → List A → Front (List A) → Front (List A)
@@ -83,15 +83,15 @@ in_front said r = (said ++ r.0, r.1)
 pub record InItems {A : Type 0} (separator : Separator) (item : Phrase A) (literals : A → List Value) (old now : Reader) (before after : List A) : Type 0 where
   pub said : List A
   pub so_far : Gathered literals old now said before after
-  pub goes_on : list_of (the_separator separator) item (tokens old.rest.now)
-      ≡ option_map (in_front said) (list_of (the_separator separator) item (tokens now.rest.now))
+  pub goes_on : list_of (the_separator separator) item (tokens old.rest)
+      ≡ option_map (in_front said) (list_of (the_separator separator) item (tokens now.rest))
 
 module _ {A : Type 0} (separator : Separator) (item : Phrase A) (literals : A → List Value) (old : Reader) (before : List A) where
   pub items_begin : InItems separator item literals old old before before
   items_begin = record {
     said = [];
     so_far = record { items = []; joined = sym (append-nil before); fault = sym (or_none old.fault); same = λ _. refl; shorter = omega arith };
-    goes_on = same (list_of (the_separator separator) item (tokens old.rest.now));
+    goes_on = same (list_of (the_separator separator) item (tokens old.rest));
   }
     where
       same : (o : Option (Front (List A))) → o ≡ option_map (in_front []) o
@@ -100,7 +100,7 @@ module _ {A : Type 0} (separator : Separator) (item : Phrase A) (literals : A �
 
   module _ (now : Reader) (after : List A) (h : InItems separator item literals old now before after) where
     pub items_fail : (e : Refusal) → Fails item now e → Fails (list_of (the_separator separator) item) old e
-    items_fail e (inl f) = inl (f.0, h.goes_on ∙ ap (option_map (in_front h.said)) (list_none (the_separator separator) item (tokens now.rest.now) f.1))
+    items_fail e (inl f) = inl (f.0, h.goes_on ∙ ap (option_map (in_front h.said)) (list_none (the_separator separator) item (tokens now.rest) f.1))
     items_fail e (inr f) = inr f
 
     module _ (mid : Reader) (x : A) (g : Gives item literals now mid x) (more : List A) (pushed : more ≡ after ++ x ∷ []) where
@@ -137,8 +137,8 @@ module _ {A : Type 0} (separator : Separator) (item : Phrase A) (literals : A �
               said = h.said ++ g.said ∷ [];
               read =
                   h.goes_on ∙ ap (option_map (in_front h.said))
-                  (list_last (the_separator separator) item (tokens now.rest.now) g.said (tokens mid.rest.now) g.read s.0)
-                  ∙ ap (λ (r : Reader). Some (h.said ++ g.said ∷ [], tokens r.rest.now)) end;
+                  (list_last (the_separator separator) item (tokens now.rest) g.said (tokens mid.rest) g.read s.0)
+                  ∙ ap (λ (r : Reader). Some (h.said ++ g.said ∷ [], tokens r.rest)) end;
               fault = all.fault;
               same = all.same;
               shorter = all.shorter;
@@ -160,9 +160,9 @@ module _ {A : Type 0} (separator : Separator) (item : Phrase A) (literals : A �
             goes_on =
                 h.goes_on
                 ∙ ap (option_map (in_front h.said))
-                (list_more (the_separator separator) item (separator_shorter separator) never_longer (tokens now.rest.now) g.said (tokens mid.rest.now)
-                (tokens new.rest.now) g.read t.is)
-                ∙ regroup (list_of (the_separator separator) item (tokens new.rest.now));
+                (list_more (the_separator separator) item (separator_shorter separator) never_longer (tokens now.rest) g.said (tokens mid.rest)
+                (tokens new.rest) g.read t.is)
+                ∙ regroup (list_of (the_separator separator) item (tokens new.rest));
           }
         where
           regroup : (o : Option (Front (List A)))

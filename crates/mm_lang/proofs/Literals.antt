@@ -147,7 +147,7 @@ faulty : (o : Option Value) (e : Refusal) → checked literal_fault o ≡ Err e
 faulty None e h = inl (refl, cc)
 faulty (Some v) e h = let p = fault_by v (is_within_limit v) refl e h in inr (v, refl, p.0, p.1)
 
-module _ (old : Reader) (token : Shown) (rest : Bor (List ℕ)) (e : Refusal) (s : Splits (tokens old.rest.now) (length old.rest.now) token rest.now)
+module _ (old : Reader) (token : Shown) (rest : List ℕ) (e : Refusal) (s : Splits (tokens old.rest) (length old.rest) token rest)
     (answers : AnswersOrMemory (checked literal_fault (literal_of s.first)) (Err e)) where
   pub literal_past : is_limit e ≡ true → (placeholder : Value) (fault : Option Refusal) → fault ≡ option_or old.fault (Some e)
       → Gives (one literal_of) only_literal old (record old { rest = rest; fault = fault }) placeholder
@@ -160,7 +160,7 @@ module _ (old : Reader) (token : Shown) (rest : Bor (List ℕ)) (e : Refusal) (s
       by (inl h) = absurd (false≢true (ap is_limit (sym h.1) ∙ limit))
       by (inr h) = record {
         said = h.0;
-        read = ap (one literal_of) s.in_front ∙ ap (option_map (front rest.now)) h.1;
+        read = ap (one literal_of) s.in_front ∙ ap (option_map (front rest)) h.1;
         fault = noted ∙ ap (λ f. option_or old.fault (option_or f None)) (sym h.2);
         same = λ none. absurd (cc (h.2, none));
         shorter = omega (arith, s.shorter);

@@ -36,7 +36,7 @@ module _ (is_negative : Bool) (word : List ℕ) (old : Reader) where
   abbrev number : ℤ
   number = signed_value is_negative word
 
-  numbered_is : IsNumeral word → numbered is_negative word (tokens old.rest.now) ≡ Some (Some number, tokens old.rest.now)
+  numbered_is : IsNumeral word → numbered is_negative word (tokens old.rest) ≡ Some (Some number, tokens old.rest)
   numbered_is numeral = cond-true (is_numeral word) _ _ numeral
 
   -- A number within its limit is given, ..
@@ -72,16 +72,16 @@ module _ (is_negative : Bool) (word : List ℕ) (old : Reader) where
 
 -- The tokens of a shift go on with this phrase, ..
 pub record GoesOnWith (old mid : Reader) (number : Phrase (Option ℤ)) : Type 0 where
-  pub is : shift (tokens old.rest.now) ≡ number (tokens mid.rest.now)
+  pub is : shift (tokens old.rest) ≡ number (tokens mid.rest)
   pub fault : mid.fault ≡ old.fault
-  pub shorter : length mid.rest.now ≤ length old.rest.now
+  pub shorter : length mid.rest ≤ length old.rest
 
 -- .. which it does behind a plus, ..
 pub plus_goes_on : (old mid : Reader) → Skips (the_symbol symbol.Plus) old mid true → GoesOnWith old mid (digits false)
 unfolding shift
 plus_goes_on old mid h =
     let t = took h.0 in
-    record { is = ap shift (symbol_read symbol.Plus (tokens old.rest.now) (tokens mid.rest.now) t.is); fault = t.fault; shorter = t.shorter }
+    record { is = ap shift (symbol_read symbol.Plus (tokens old.rest) (tokens mid.rest) t.is); fault = t.fault; shorter = t.shorter }
 
 module _ (old now mid : Reader) (same : ◌≡◌ {A = Reader} now old) where
   -- .. behind a minus ..
@@ -91,19 +91,19 @@ module _ (old now mid : Reader) (same : ◌≡◌ {A = Reader} now old) where
       let t = took h.0 in
       record {
         is =
-            ap (λ (r : Reader). shift (tokens r.rest.now)) (sym same)
-            ∙ ap shift (symbol_read symbol.Minus (tokens now.rest.now) (tokens mid.rest.now) t.is);
+            ap (λ (r : Reader). shift (tokens r.rest)) (sym same)
+            ∙ ap shift (symbol_read symbol.Minus (tokens now.rest) (tokens mid.rest) t.is);
         fault = t.fault ∙ ap (λ (r : Reader). r.fault) same;
-        shorter = omega (arith, t.shorter, ap (λ (r : Reader). length r.rest.now) same);
+        shorter = omega (arith, t.shorter, ap (λ (r : Reader). length r.rest) same);
       }
 
   -- .. and with a word that a minus stands directly before.
-  pub signed_goes_on : (word : List ℕ) → Follows now.rest.now (Signed word) mid.rest.now → mid.fault ≡ now.fault → GoesOnWith old mid (numbered true word)
+  pub signed_goes_on : (word : List ℕ) → Follows now.rest (Signed word) mid.rest → mid.fault ≡ now.fault → GoesOnWith old mid (numbered true word)
   unfolding shift
   signed_goes_on word f faults = record {
-    is = ap (λ (r : Reader). shift (tokens r.rest.now)) (sym same) ∙ ap shift f.in_front;
+    is = ap (λ (r : Reader). shift (tokens r.rest)) (sym same) ∙ ap shift f.in_front;
     fault = faults ∙ ap (λ (r : Reader). r.fault) same;
-    shorter = omega (arith, f.shorter, ap (λ (r : Reader). length r.rest.now) same);
+    shorter = omega (arith, f.shorter, ap (λ (r : Reader). length r.rest) same);
   }
 
 -- What reading that phrase gives is what reading the shift gives.
@@ -131,19 +131,19 @@ no_sign ts plus minus signed = refl
 
 -- Where no sign stands there is no shift.
 pub shift_none : (old now new : Reader) → Skips (the_symbol symbol.Plus) old now false → Skips (the_symbol symbol.Minus) now new false
-    → BeginsNotSigned (tokens new.rest.now) → Gives shift shift_literals old new None
+    → BeginsNotSigned (tokens new.rest) → Gives shift shift_literals old new None
 shift_none old now new plus minus signed =
     let same : ◌≡◌ {A = Reader} new old = minus.1 ∙ plus.1 in
-    let tokens_are : tokens new.rest.now ≡ tokens old.rest.now = ap (λ (r : Reader). tokens r.rest.now) same in
+    let tokens_are : tokens new.rest ≡ tokens old.rest = ap (λ (r : Reader). tokens r.rest) same in
     record {
       said = None;
       read =
-          no_sign (tokens old.rest.now) plus.0 (ap (λ (r : Reader). the_symbol symbol.Minus (tokens r.rest.now)) (sym plus.1) ∙ minus.0)
+          no_sign (tokens old.rest) plus.0 (ap (λ (r : Reader). the_symbol symbol.Minus (tokens r.rest)) (sym plus.1) ∙ minus.0)
           (subst BeginsNotSigned tokens_are signed)
           ∙ ap (λ ts. Some (None, ts)) (sym tokens_are);
       fault = ap (λ (r : Reader). r.fault) same ∙ sym (or_none old.fault);
       same = λ none. refl;
-      shorter = omega (arith, ap (λ (r : Reader). length r.rest.now) same);
+      shorter = omega (arith, ap (λ (r : Reader). length r.rest) same);
     }
 
 -- ---- operands
@@ -157,7 +157,7 @@ module _ {F : Type 0} (column : Phrase F) (old : Reader) where
   by_literal : Option (Front Value) → Option (Front (Operand F))
   by_literal found =
       option_and_then (λ (r : Front (Option Value)). operand_behind column r.0 r.1)
-      (option_or (option_and_then (λ (r : Front Value). say (Some r.0) r.1) found) (Some (None, tokens old.rest.now)))
+      (option_or (option_and_then (λ (r : Front Value). say (Some r.0) r.1) found) (Some (None, tokens old.rest)))
 
   -- A literal is an operand.
   pub operand_literal : (new : Reader) (v : Value) → Gives (one literal_of) only_literal old new v
@@ -174,7 +174,7 @@ module _ {F : Type 0} (column : Phrase F) (old : Reader) where
   behind_column : F → Phrase (Operand F)
   behind_column f = shift >>= (λ by. say (with_shift f by))
 
-  module _ (mid : Reader) (none : one literal_of (tokens old.rest.now) ≡ None) (is : ◌≡◌ {A = Reader} mid old) where
+  module _ (mid : Reader) (none : one literal_of (tokens old.rest) ≡ None) (is : ◌≡◌ {A = Reader} mid old) where
     -- Where no literal stands a column does, and a shift behind it.
     operand_goes_on : (new : Reader) (r : Result (Operand F) Refusal) → ReadsPhrase (operand_behind column None) operand_literals mid new r
         → ReadsPhrase (operand_on column) operand_literals old new r
@@ -182,10 +182,10 @@ module _ {F : Type 0} (column : Phrase F) (old : Reader) where
     operand_goes_on new r h =
         let took_none : Took (maybe (one literal_of)) old mid None = record {
           is =
-              ap (λ (o : Option (Front Value)). option_or (option_and_then (λ (r : Front Value). say (Some r.0) r.1) o) (Some (None, tokens old.rest.now))) none
-              ∙ ap (λ (r : Reader). Some (None, tokens r.rest.now)) (sym is);
+              ap (λ (o : Option (Front Value)). option_or (option_and_then (λ (r : Front Value). say (Some r.0) r.1) o) (Some (None, tokens old.rest))) none
+              ∙ ap (λ (r : Reader). Some (None, tokens r.rest)) (sym is);
           fault = ap (λ (r : Reader). r.fault) is;
-          shorter = omega (arith, ap (λ (r : Reader). length r.rest.now) is);
+          shorter = omega (arith, ap (λ (r : Reader). length r.rest) is);
         } in
         reads_behind (maybe (one literal_of)) (operand_behind column) operand_literals old mid new None r took_none h
 

@@ -39,14 +39,14 @@ or_none (Some e) = refl
 
 -- A phrase with no literals was read.
 pub record Took {A : Type 0} (phrase : Phrase A) (old new : Reader) (x : A) : Type 0 where
-  pub is : phrase (tokens old.rest.now) ≡ Some (x, tokens new.rest.now)
+  pub is : phrase (tokens old.rest) ≡ Some (x, tokens new.rest)
   pub fault : new.fault ≡ old.fault
-  pub shorter : length new.rest.now ≤ length old.rest.now
+  pub shorter : length new.rest ≤ length old.rest
 
 module _ {A : Type 0} {phrase : Phrase A} {old new : Reader} {x : A} where
   pub took : Gives phrase no_literals old new x → Took phrase old new x
   took g = record {
-    is = g.read ∙ ap (λ y. Some (y, tokens new.rest.now)) (sym (g.same refl));
+    is = g.read ∙ ap (λ y. Some (y, tokens new.rest)) (sym (g.same refl));
     fault = g.fault ∙ or_none old.fault;
     shorter = g.shorter;
   }
@@ -71,7 +71,7 @@ module _ {A B : Type 0} (first : Phrase A) (next : A → Phrase B) (old : Reader
   fails_first e (inl h) = inl (h.0, ap (option_and_then (λ (r : Front A). next r.0 r.1)) h.1)
   fails_first e (inr h) = inr h
 
-  pub fails_next : (mid : Reader) (x : A) (e : Refusal) → first (tokens old.rest.now) ≡ Some (x, tokens mid.rest.now) → Fails (next x) mid e
+  pub fails_next : (mid : Reader) (x : A) (e : Refusal) → first (tokens old.rest) ≡ Some (x, tokens mid.rest) → Fails (next x) mid e
       → Fails (first >>= next) old e
   fails_next mid x e is (inl h) = inl (h.0, ap (option_and_then (λ (r : Front A). next r.0 r.1)) is ∙ h.1)
   fails_next mid x e is (inr h) = inr h
@@ -142,7 +142,7 @@ none_fault (x ∷ xs) = none_fault xs
 pub took_list : {A : Type 0} {phrase : Phrase (List A)} {old new : Reader} {xs : List A} → Gives phrase (flat_map no_literals) old new xs
     → Took phrase old new xs
 took_list {old = old} {new = new} g = record {
-  is = g.read ∙ ap (λ l. Some (l, tokens new.rest.now)) (sym (g.same (none_fault g.said)));
+  is = g.read ∙ ap (λ l. Some (l, tokens new.rest)) (sym (g.same (none_fault g.said)));
   fault = g.fault ∙ ap (option_or old.fault) (none_fault g.said) ∙ or_none old.fault;
   shorter = g.shorter;
 }
@@ -153,16 +153,16 @@ keyword_stands k old new true h =
     let t = took h.0 in
     record {
       is = ap (λ (o : Option (Front (Unit {0}))). option_or (option_and_then (λ (r : Front (Unit {0})). say true r.1) o)
-          (Some (false, tokens old.rest.now))) t.is;
+          (Some (false, tokens old.rest))) t.is;
       fault = t.fault;
       shorter = t.shorter;
     }
 keyword_stands k old new false h = record {
   is =
-      ap (λ (o : Option (Front (Unit {0}))). option_or (option_and_then (λ (r : Front (Unit {0})). say true r.1) o) (Some (false, tokens old.rest.now))) h.0
-      ∙ ap (λ (r : Reader). Some (false, tokens r.rest.now)) (sym h.1);
+      ap (λ (o : Option (Front (Unit {0}))). option_or (option_and_then (λ (r : Front (Unit {0})). say true r.1) o) (Some (false, tokens old.rest))) h.0
+      ∙ ap (λ (r : Reader). Some (false, tokens r.rest)) (sym h.1);
   fault = ap (λ (r : Reader). r.fault) h.1;
-  shorter = omega (arith, ap (λ (r : Reader). length r.rest.now) h.1);
+  shorter = omega (arith, ap (λ (r : Reader). length r.rest) h.1);
 }
 
 -- Items behind a keyword: none where it does not stand there, ..
@@ -183,7 +183,7 @@ clause_reads wanted separator item literals old mid new r skips h =
     reads_behind (has_keyword wanted) (clause_behind separator item) (flat_map literals) old mid new true r (keyword_stands wanted old mid true skips) h
 
 -- A word was read.
-pub word_given : (old new : Reader) (word : List ℕ) → Follows old.rest.now (Word word) new.rest.now → new.fault ≡ old.fault
+pub word_given : (old new : Reader) (word : List ℕ) → Follows old.rest (Word word) new.rest → new.fault ≡ old.fault
     → Gives (one word_of) no_literals old new word
 word_given old new word f same = gives (record { is = ap (one word_of) f.in_front; fault = same; shorter = omega (arith, f.shorter) })
 
@@ -202,13 +202,13 @@ word_reads {A} says old new word g = by (says word) refl
     t = took g
 
     pair : A → Front A
-    pair x = (x, tokens new.rest.now)
+    pair x = (x, tokens new.rest)
 
     by : (o : Option A) → says word ≡ o → ReadsWithoutMemory (one_word says) no_literals old new (ok_or o Syntax)
-    by None is = (refl, word_says says (tokens old.rest.now) word (tokens new.rest.now) t.is ∙ ap (option_map pair) is)
+    by None is = (refl, word_says says (tokens old.rest) word (tokens new.rest) t.is ∙ ap (option_map pair) is)
     by (Some x) is =
         gives (record
-        { is = word_says says (tokens old.rest.now) word (tokens new.rest.now) t.is ∙ ap (option_map pair) is; fault = t.fault; shorter = t.shorter })
+        { is = word_says says (tokens old.rest) word (tokens new.rest) t.is ∙ ap (option_map pair) is; fault = t.fault; shorter = t.shorter })
 
 -- The role of a column: KEY, ..
 

@@ -90,11 +90,11 @@ module _ (old mid : Reader) (t : List ℕ) (g : Gives name no_literals old mid t
 -- ---- positions
 
 module _ (old mid : Reader) (word : List ℕ) (g : Gives (one word_of) no_literals old mid word) (numeral : IsNumeral word) where
-  position_is : position (tokens old.rest.now) ≡ Some (digits_value 10 word, tokens mid.rest.now)
+  position_is : position (tokens old.rest) ≡ Some (digits_value 10 word, tokens mid.rest)
   position_is =
       let t = took g in
-      let pair : ℕ → Front ℕ = λ n. (n, tokens mid.rest.now) in
-      word_says (λ w. cond (is_numeral w) (Some (digits_value 10 w)) None) (tokens old.rest.now) word (tokens mid.rest.now) t.is
+      let pair : ℕ → Front ℕ = λ n. (n, tokens mid.rest) in
+      word_says (λ w. cond (is_numeral w) (Some (digits_value 10 w)) None) (tokens old.rest) word (tokens mid.rest) t.is
       ∙ ap (λ b. option_map pair (cond b (Some (digits_value 10 word)) None)) numeral
 
   -- A number within its limit is given, ..

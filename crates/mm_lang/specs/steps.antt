@@ -1,3 +1,4 @@
+pub mod Letters
 pub mod Parsing
 pub mod Parts
 pub mod Shrinking

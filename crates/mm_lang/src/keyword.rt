@@ -1,6 +1,9 @@
 //! The keywords.
 ghost use Rattle.std.specs.Prelude.{◌≡◌};
+ghost use Rattle.std.specs.List.{filter, find};
 ghost use Rattle.mm_lang.specs.Words.{is_word, keyword_named, keyword_text};
+ghost use Rattle.mm_lang.specs.steps.Letters.{begins_keyword};
+ghost use Rattle.mm_lang.specs.declared.keyword.TheConstants.{KEYWORDS};
 
 /// A word in upper case that the language keeps to itself. No name is one, since names are in lower case.
 #[derive(Clone, Copy, Debug, PartialEq, Eq)]
@@ -120,10 +123,10 @@ impl Keyword {
     pub(crate) fn named(word: &[u8]) -> Option<Keyword>
         ensures { result ≡ keyword_named word.now }
     {
-        KEYWORDS
-            .iter()
-            .copied()
-            .find(|keyword| keyword.is_word(word))
+        if word.is_empty() {
+            return None;
+        }
+        written_as(beginning_with(word[0]), word)
     }
 
     /// Whether a word is this keyword.
@@ -132,4 +135,50 @@ impl Keyword {
     {
         word == self.text()
     }
+}
+
+// The keywords that begin with a letter, in the order of the alphabet.
+fn beginning_with(letter: u8) -> &'static [Keyword]
+    ensures { result.now ≡ filter (begins_keyword letter) KEYWORDS }
+{
+    match letter {
+        b'A' => &[Keyword::And],
+        b'B' => &[Keyword::Begin],
+        b'C' => &[Keyword::Cascade, Keyword::Commit],
+        b'D' => &[Keyword::Delete, Keyword::Distinct, Keyword::Drop],
+        b'E' => &[Keyword::Explain],
+        b'F' => &[Keyword::From],
+        b'H' => &[Keyword::Hash],
+        b'I' => &[Keyword::Index, Keyword::Insert, Keyword::Int],
+        b'K' => &[Keyword::Key],
+        b'O' => &[Keyword::On, Keyword::Order],
+        b'R' => &[Keyword::Ref, Keyword::Rollback],
+        b'S' => &[
+            Keyword::Savepoint,
+            Keyword::Scan,
+            Keyword::Select,
+            Keyword::Set,
+            Keyword::Show,
+        ],
+        b'T' => &[
+            Keyword::Table,
+            Keyword::Tables,
+            Keyword::Text,
+            Keyword::To,
+            Keyword::Tree,
+        ],
+        b'U' => &[Keyword::Unwatch, Keyword::Update],
+        b'W' => &[Keyword::Watch, Keyword::Where],
+        _ => &[],
+    }
+}
+
+// The first of some keywords that is written as this word.
+fn written_as(keywords: &[Keyword], word: &[u8]) -> Option<Keyword>
+    ensures { result ≡ find (λ keyword. is_word keyword word.now) keywords.now }
+{
+    keywords
+        .iter()
+        .copied()
+        .find(|keyword| keyword.is_word(word))
 }

@@ -3,6 +3,7 @@
 
 mod atoms;
 mod columns;
+mod front;
 mod grammar;
 mod keyword;
 mod listing_text;

@@ -1,17 +1,17 @@
 //! Reading of a line from left to right.
-ghost use Rattle.std.specs.Prelude.{◌≡◌, Some, None, MatchOption, MatchResult};
-ghost use Rattle.std.specs.Option.{option_or};
+ghost use Rattle.std.specs.Prelude.{◌≡◌, None, MatchResult};
 ghost use Rattle.mm_lang.specs.Grammar.{col_type, comparison, comparison_of, digits, index_kind, literal_of, name, numbered, position, shift};
 ghost use Rattle.mm_lang.specs.Phrases.{in_parentheses, one, one_word, the_keyword, the_separator, the_symbol, word_of};
 ghost use Rattle.mm_lang.specs.Words.{keyword_named};
-ghost use Rattle.mm_lang.specs.steps.Parsing.{AnswersOrMemory, BeginsNoMark, BeginsNoWord, BeginsNot, BeginsNotSigned, Finds, Finishes, Follows, Gives, IsMissing, ReadsPhrase, ReadsWithoutMemory, Skips, is_limit, no_literals, only_literal, shift_literals};
+ghost use Rattle.mm_lang.specs.steps.Parsing.{AnswersOrMemory, Finds, Finishes, Gives, IsMissing, ReadsPhrase, ReadsWithoutMemory, Skips, is_limit, no_literals, only_literal, shift_literals};
 ghost use Rattle.mm_lang.specs.steps.Splitting.{Shows};
 ghost use Rattle.mm_lang.specs.Reading.{checked, literal_fault, position_literals};
-ghost use Rattle.mm_lang.specs.Tokens.{Token as Tok, Word, Signed, Mark as MarkToken, tokens};
+ghost use Rattle.mm_lang.specs.Tokens.{Token as Tok};
 
+use crate::front::Front;
 use crate::keyword::Keyword;
 use crate::phrase::Separator;
-use crate::token::{Symbol, Token, split_token};
+use crate::token::{Symbol, Token};
 use mm_query::Comparison;
 use mm_schema::{IndexKind, Name};
 use mm_value::{ColType, Refusal, Value, read_int, read_literal};
@@ -22,19 +22,19 @@ use std::alloc::Global;
 #[derive(Drop)]
 pub(crate) struct Reader<'a> {
     alloc: Global,
-    rest: &'a [u8],
+    rest: Front<'a>,
     fault: Option<Refusal>,
 }
 
 impl<'a> Reader<'a> {
     /// A reader of all the bytes of a line, with no literal past its limit so far.
     pub(crate) fn new(alloc: Global, line: &'a [u8]) -> Reader<'a>
-        ensures rest { result.rest.now ≡ line.now }
+        ensures rest { result.rest ≡ line.now }
         ensures fault { result.fault ≡ None }
     {
         Reader {
             alloc,
-            rest: line,
+            rest: Front::new(line),
             fault: None,
         }
     }
@@ -48,9 +48,9 @@ impl<'a> Reader<'a> {
     pub(crate) fn skip(&mut self, symbol: Symbol) -> bool
         ensures { Skips (the_symbol symbol) self.old self.new result }
     {
-        match split_mark(self.rest, symbol) {
+        match self.rest.behind(symbol) {
             Some(rest) => {
-                self.rest = rest;
+                self.rest = Front::new(rest);
                 true
             }
             None => false,
@@ -61,9 +61,9 @@ impl<'a> Reader<'a> {
     pub(crate) fn skip_keyword(&mut self, keyword: Keyword) -> bool
         ensures { Skips (the_keyword keyword) self.old self.new result }
     {
-        match split_word(self.rest) {
+        match self.rest.word() {
             Some((word, rest)) if keyword.is_word(word) => {
-                self.rest = rest;
+                self.rest = Front::new(rest);
                 true
             }
             _ => false,
@@ -85,16 +85,16 @@ impl<'a> Reader<'a> {
     pub(crate) fn skip_literal(&mut self) -> Result<Option<Value>, Refusal>
         ensures { Finds (one literal_of) only_literal self.old self.new result }
     {
-        let Some((token, rest)) = split_token(self.rest) else {
+        let Some((token, rest)) = self.rest.token() else {
             return Ok(None);
         };
         match literal(self.alloc, token) {
             Ok(value) => {
-                self.rest = rest;
+                self.rest = Front::new(rest);
                 Ok(Some(value))
             }
             Err(fault) if is_limit(fault) => {
-                self.rest = rest;
+                self.rest = Front::new(rest);
                 self.fault = self.fault.or(Some(fault));
                 Ok(Some(Value::Int(0)))
             }
@@ -177,9 +177,9 @@ impl<'a> Reader<'a> {
     pub(crate) fn comparison(&mut self) -> Result<Comparison, Refusal>
         ensures { ReadsPhrase comparison no_literals self.old self.new result }
     {
-        let (symbol, rest) = split_symbol(self.rest).ok_or(Refusal::Syntax)?;
+        let (symbol, rest) = self.rest.symbol().ok_or(Refusal::Syntax)?;
         let comparison = comparison_of(symbol).ok_or(Refusal::Syntax)?;
-        self.rest = rest;
+        self.rest = Front::new(rest);
         Ok(comparison)
     }
 
@@ -195,9 +195,9 @@ impl<'a> Reader<'a> {
         if self.skip(Symbol::Minus) {
             return self.digits(true);
         }
-        match split_signed(self.rest) {
+        match self.rest.signed() {
             Some((word, rest)) => {
-                self.rest = rest;
+                self.rest = Front::new(rest);
                 self.number(true, word)
             }
             None => Ok(None),
@@ -233,7 +233,7 @@ impl<'a> Reader<'a> {
     pub(crate) fn finish(&self) -> Result<(), Refusal>
         ensures { Finishes self.now result }
     {
-        if split_token(self.rest).is_some() {
+        if self.rest.token().is_some() {
             return Err(Refusal::Syntax);
         }
         match self.fault {
@@ -269,53 +269,13 @@ impl<'a> Reader<'a> {
     fn word(&mut self) -> Result<&'a [u8], Refusal>
         ensures { MatchResult result (λ word. Gives (one word_of) no_literals self.old self.new word.now) (IsMissing (one word_of) self.old) }
     {
-        match split_word(self.rest) {
+        match self.rest.word() {
             Some((word, rest)) => {
-                self.rest = rest;
+                self.rest = Front::new(rest);
                 Ok(word)
             }
             None => Err(Refusal::Syntax),
         }
-    }
-}
-
-// The word that stands first, and the bytes behind it.
-fn split_word(bytes: &[u8]) -> Option<(&[u8], &[u8])>
-    ensures { MatchOption result (BeginsNoWord (tokens bytes.now)) (λ r. Follows bytes.now (Word r.0.now) r.1.now) }
-{
-    match split_token(bytes) {
-        Some((Token::Word(word), rest)) => Some((word, rest)),
-        _ => None,
-    }
-}
-
-// The bytes behind this symbol, where it stands first.
-fn split_mark(bytes: &[u8], symbol: Symbol) -> Option<&[u8]>
-    ensures { MatchOption result (BeginsNot symbol (tokens bytes.now)) (λ r. Follows bytes.now (MarkToken symbol) r.now) }
-{
-    match split_token(bytes) {
-        Some((Token::Mark(mark), rest)) if mark == symbol => Some(rest),
-        _ => None,
-    }
-}
-
-// The bytes behind the minus of the signed word that stands first, and the bytes behind that word.
-fn split_signed(bytes: &[u8]) -> Option<(&[u8], &[u8])>
-    ensures { MatchOption result (BeginsNotSigned (tokens bytes.now)) (λ r. Follows bytes.now (Signed r.0.now) r.1.now) }
-{
-    match split_token(bytes) {
-        Some((Token::Signed(signed), rest)) => Some((signed.get(1..)?, rest)),
-        _ => None,
-    }
-}
-
-// The symbol that stands first, and the bytes behind it.
-fn split_symbol(bytes: &[u8]) -> Option<(Symbol, &[u8])>
-    ensures { MatchOption result (BeginsNoMark (tokens bytes.now)) (λ r. Follows bytes.now (MarkToken r.0) r.1.now) }
-{
-    match split_token(bytes) {
-        Some((Token::Mark(symbol), rest)) => Some((symbol, rest)),
-        _ => None,
     }
 }
 

@@ -1,5 +1,5 @@
 //! The tokens of a line.
-ghost use Rattle.std.specs.Prelude.{◌≡◌, ◌<◌, ◌≤◌, ◌+◌, false, [], length, drop, slice_index, MatchOption};
+ghost use Rattle.std.specs.Prelude.{◌≡◌, ◌<◌, ◌≤◌, ◌+◌, false, [], length, drop, slice_index, slice_index_or, MatchOption};
 ghost use Rattle.std.specs.List.{prefix_len};
 ghost use Rattle.mm_lang.specs.steps.Splitting.{GoesOn, Splits, begins_blank};
 ghost use Rattle.mm_lang.specs.Tokens.{Inside, tokens, lexed, is_blank, is_word_byte, begins_word, begins_equal, onto_equal, onto_minus, onto_symbol};
@@ -45,6 +45,29 @@ pub(crate) enum Token<'a> {
     /// A byte or an unclosed quote that stands in no command.
     Unreadable,
 }
+
+/// Whether each byte may stand in a word: a letter, a digit or `_`.
+static WORD_BYTES: [bool; 256] = [
+    false, false, false, false, false, false, false, false, false, false, false, false, false,
+    false, false, false, false, false, false, false, false, false, false, false, false, false,
+    false, false, false, false, false, false, false, false, false, false, false, false, false,
+    false, false, false, false, false, false, false, false, false, true, true, true, true, true,
+    true, true, true, true, true, false, false, false, false, false, false, false, true, true,
+    true, true, true, true, true, true, true, true, true, true, true, true, true, true, true, true,
+    true, true, true, true, true, true, true, true, false, false, false, false, true, false, true,
+    true, true, true, true, true, true, true, true, true, true, true, true, true, true, true, true,
+    true, true, true, true, true, true, true, true, true, false, false, false, false, false, false,
+    false, false, false, false, false, false, false, false, false, false, false, false, false,
+    false, false, false, false, false, false, false, false, false, false, false, false, false,
+    false, false, false, false, false, false, false, false, false, false, false, false, false,
+    false, false, false, false, false, false, false, false, false, false, false, false, false,
+    false, false, false, false, false, false, false, false, false, false, false, false, false,
+    false, false, false, false, false, false, false, false, false, false, false, false, false,
+    false, false, false, false, false, false, false, false, false, false, false, false, false,
+    false, false, false, false, false, false, false, false, false, false, false, false, false,
+    false, false, false, false, false, false, false, false, false, false, false, false, false,
+    false, false, false, false, false, false, false, false, false, false,
+];
 
 /// The first token, and the bytes behind it; none where there are only blanks.
 /// There is nothing behind what can't be read.
@@ -193,5 +216,13 @@ pub(crate) fn is_blank(byte: u8) -> bool
 fn is_word_byte(byte: u8) -> bool
     ensures { result ≡ is_word_byte byte }
 {
-    byte.is_ascii_alphanumeric() || byte == b'_'
+    told_of(&WORD_BYTES, byte)
+}
+
+// What a table of all bytes tells of one.
+#[inline(always)]
+fn told_of(table: &[bool; 256], byte: u8) -> bool
+    ensures { result ≡ slice_index_or table.now byte false }
+{
+    table[byte as usize]
 }

@@ -79,14 +79,14 @@ is_limit _ = false
 -- one before, or else that of the first of them. Where none of them does, what was read is what stands in the line.
 pub record Gives {A : Type 0} (phrase : Phrase A) (literals : A → List Value) (old new : Reader) (x : A) : Type 0 where
   pub said : A
-  pub read : phrase (tokens old.rest.now) ≡ Some (said, tokens new.rest.now)
+  pub read : phrase (tokens old.rest) ≡ Some (said, tokens new.rest)
   pub fault : new.fault ≡ option_or old.fault (first_fault (literals said))
   pub same : first_fault (literals said) ≡ None → x ≡ said
-  pub shorter : length new.rest.now ≤ length old.rest.now
+  pub shorter : length new.rest ≤ length old.rest
 
 -- A phrase does not stand there.
 abbrev pub IsMissing : {A : Type 0} → Phrase A → Reader → Refusal → Type 0
-IsMissing phrase old e = (e ≡ Syntax) × (phrase (tokens old.rest.now) ≡ None)
+IsMissing phrase old e = (e ≡ Syntax) × (phrase (tokens old.rest) ≡ None)
 
 -- A phrase does not stand there, or memory was refused.
 abbrev pub Fails : {A : Type 0} → Phrase A → Reader → Refusal → Type 0
@@ -102,13 +102,13 @@ ReadsWithoutMemory phrase literals old new result = MatchResult result (Gives ph
 
 -- A phrase that says nothing was read, or does not stand there, and then nothing is read.
 abbrev pub Skips : Phrase (Unit {0}) → Reader → Reader → Bool → Type 0
-Skips phrase old new true = Gives phrase no_literals old new tt × (length new.rest.now < length old.rest.now)
-Skips phrase old new false = (phrase (tokens old.rest.now) ≡ None) × (new ≡ old)
+Skips phrase old new true = Gives phrase no_literals old new tt × (length new.rest < length old.rest)
+Skips phrase old new false = (phrase (tokens old.rest) ≡ None) × (new ≡ old)
 
 -- What a phrase says was found, or it does not stand there, and then nothing is read; or memory was refused.
 abbrev pub Finds : {A : Type 0} → Phrase A → (A → List Value) → Reader → Reader → Result (Option A) Refusal → Type 0
 Finds phrase literals old new result =
-    MatchResult result (λ found. MatchOption found ((phrase (tokens old.rest.now) ≡ None) × (new ≡ old)) (Gives phrase literals old new)) (λ e. e ≡ Memory)
+    MatchResult result (λ found. MatchOption found ((phrase (tokens old.rest) ≡ None) × (new ≡ old)) (Gives phrase literals old new)) (λ e. e ≡ Memory)
 
 -- Items were read, which stand behind those that were there.
 pub record GivesItems {A : Type 0} (phrase : Phrase (List A)) (literals : List A → List Value) (old new : Reader) (before after : List A) : Type 0 where
@@ -123,8 +123,8 @@ ReadsItems phrase literals old new before after result =
 
 -- Nothing stands behind what was read, and then the first fault is told.
 abbrev pub Finishes : Reader → Result (Unit {0}) Refusal → Type 0
-Finishes reader (Ok u) = (tokens reader.rest.now ≡ []) × (reader.fault ≡ None)
-Finishes reader (Err e) = ((e ≡ Syntax) × (tokens reader.rest.now ≢ [])) ⊎ ((tokens reader.rest.now ≡ []) × (reader.fault ≡ Some e))
+Finishes reader (Ok u) = (tokens reader.rest ≡ []) × (reader.fault ≡ None)
+Finishes reader (Err e) = ((e ≡ Syntax) × (tokens reader.rest ≢ [])) ⊎ ((tokens reader.rest ≡ []) × (reader.fault ≡ Some e))
 
 -- A phrase leaves no more tokens than there were.
 abbrev pub NeverLonger : {A : Type 0} → Phrase A → Type 0

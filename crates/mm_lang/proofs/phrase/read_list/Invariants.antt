@@ -6,4 +6,4 @@ abbrev pub invariant-loop-reader : goal.invariant-loop-reader
 invariant-loop-reader g l = InItems l.separator g.P.Phrase.reading g.P.Phrase.literals l.initial.reader l.reader l.initial.items.items l.items.items
 
 abbrev pub decreases-loop-reader : goal.decreases-loop-reader
-decreases-loop-reader g l = length l.reader.rest.now
+decreases-loop-reader g l = length l.reader.rest
