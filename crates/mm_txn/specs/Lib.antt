@@ -1,5 +1,6 @@
 pub mod Along
 pub mod Cascades
+pub mod Contents
 pub mod Kept
 pub mod Marks
 pub mod Rest

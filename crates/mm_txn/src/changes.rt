@@ -8,16 +8,17 @@ ghost use Rattle.mm_relation.specs.RowLists.{edit_pairs};
 ghost use Rattle.mm_schema.specs.Refused.{AnswersDue, first_refusal};
 ghost use Rattle.mm_bag.specs.Counts.{Counts};
 ghost use Rattle.mm_standing.specs.Queries.{change_conditions as list_conditions};
-ghost use Rattle.mm_standing.specs.State.{AreServed, FitPrepared, count_at, count_now};
+ghost use Rattle.mm_standing.specs.State.{AreServed, FitPrepared, count_now};
 ghost use Rattle.mm_store.specs.Marks.{rows_at_mark};
 ghost use Rattle.mm_store.specs.Tables.{AreFit, HasRows, IsAt, SameForm, Turns, makes_orphans, rows_with};
 ghost use Rattle.mm_store.specs.Undoing.{CanUndo};
 ghost use Rattle.mm_store.specs.Worlds.{Noted};
 ghost use Rattle.mm_value.specs.declared.refusal.Refusal.TheVariants.{RowIsReferenced};
 ghost use Rattle.mm_value.specs.declared.values.Value.{Value};
+ghost use Rattle.mm_txn.specs.Contents.{IsDue, Makes, MayMake};
 ghost use Rattle.mm_txn.specs.Kept.{instance_of};
 ghost use Rattle.mm_txn.specs.Saved.{IsSettled};
-ghost use Rattle.mm_txn.specs.TableEdits.{AreEdits, FitsAt, HaveRows, edits_conditions, leaves_orphans, placed, rows_edited, told};
+ghost use Rattle.mm_txn.specs.TableEdits.{AreEdits, FitsAt, HaveRows, leaves_orphans, placed, rows_edited, told};
 ghost use Rattle.mm_txn.specs.Watched.{AreListed, IsTested, rows_by_place};
 
 use crate::edits::{ChangeEdits, TableEdits};
@@ -37,30 +38,9 @@ pub(crate) fn make_edits(
     edits: ChangeEdits,
     undo: &mut Undo,
 ) -> Result<(), Refusal>
-    requires are { AreEdits store.old (placed edits.own ∷ map placed edits.along.items) }
-    requires back { All (λ reference. reference.to < reference.from) store.old.links }
-    requires fits { CanUndo store.old undo.old }
-    requires served { AreServed store.old standing.old.queries }
-    requires listed { AreListed (instance_of store.old.tables) standing.old }
-    requires typed { All (IsTested (rows_by_place (instance_of store.old.tables)) (rows_edited store.old (placed edits.own ∷ map placed edits.along.items))) standing.old.queries }
-    ensures due { (stored : StoredRows) → IsAt store.old edits.own.table stored
-        → AnswersDue (first_refusal (edits_conditions store.old stored (placed edits.own) (map placed edits.along.items)
-        ++ list_conditions (rows_edited store.old (placed edits.own ∷ map placed edits.along.items)) standing.old.queries)) result }
-    ensures ok { OnOk result (HaveRows (rows_edited store.old (placed edits.own ∷ map placed edits.along.items)) store.old store.new) }
-    ensures err { OnErr result (HaveRows (rows_by_place (instance_of store.old.tables)) store.old store.new) }
-    ensures links { store.new.links ≡ store.old.links }
-    ensures kept { OnErr result (undo.new ≡ undo.old) }
-    ensures longer { length undo.old ≤ length undo.new }
-    ensures fits { CanUndo store.new undo.new }
-    ensures listed { AreListed (instance_of store.new.tables) standing.new }
-    ensures queries { standing.new.queries ≡ standing.old.queries }
-    ensures log { OnErr result (standing.new.log ≡ standing.old.log) }
-    ensures log_longer { length standing.old.log ≤ length standing.new.log }
-
-    // Going back to an older mark gives the rows and each list as it gave them.
-    ensures saved { (mark : ℕ) → mark ≤ length undo.old → rows_at_mark mark undo.new store.new ≡ rows_at_mark mark undo.old store.old }
-    ensures undone { (mark : ℕ) → mark ≤ length standing.old.log
-        → (list : ℕ) (row : List Value) → count_at mark list row standing.new ≡ count_at mark list row standing.old }
+    requires { MayMake store.old standing.old undo.old (placed edits.own ∷ map placed edits.along.items) }
+    ensures due { IsDue store.old standing.old (placed edits.own) (map placed edits.along.items) result }
+    ensures made { Makes (rows_edited store.old (placed edits.own ∷ map placed edits.along.items)) store.old store.new standing.old standing.new undo.old undo.new result }
 {
     let ChangeEdits { own, along } = edits;
     if along.is_empty() {
@@ -78,30 +58,9 @@ fn edit_table(
     own: TableEdits,
     undo: &mut Undo,
 ) -> Result<(), Refusal>
-    requires are { AreEdits store.old (placed own ∷ []) }
-    requires back { All (λ reference. reference.to < reference.from) store.old.links }
-    requires fits { CanUndo store.old undo.old }
-    requires served { AreServed store.old standing.old.queries }
-    requires listed { AreListed (instance_of store.old.tables) standing.old }
-    requires typed { All (IsTested (rows_by_place (instance_of store.old.tables)) (rows_edited store.old (placed own ∷ []))) standing.old.queries }
-    ensures due { (stored : StoredRows) → IsAt store.old own.table stored
-        → AnswersDue (first_refusal (edits_conditions store.old stored (placed own) ([])
-        ++ list_conditions (rows_edited store.old (placed own ∷ [])) standing.old.queries)) result }
-    ensures ok { OnOk result (HaveRows (rows_edited store.old (placed own ∷ [])) store.old store.new) }
-    ensures err { OnErr result (HaveRows (rows_by_place (instance_of store.old.tables)) store.old store.new) }
-    ensures links { store.new.links ≡ store.old.links }
-    ensures kept { OnErr result (undo.new ≡ undo.old) }
-    ensures longer { length undo.old ≤ length undo.new }
-    ensures fits { CanUndo store.new undo.new }
-    ensures listed { AreListed (instance_of store.new.tables) standing.new }
-    ensures queries { standing.new.queries ≡ standing.old.queries }
-    ensures log { OnErr result (standing.new.log ≡ standing.old.log) }
-    ensures log_longer { length standing.old.log ≤ length standing.new.log }
-
-    // Going back to an older mark gives the rows and each list as it gave them.
-    ensures saved { (mark : ℕ) → mark ≤ length undo.old → rows_at_mark mark undo.new store.new ≡ rows_at_mark mark undo.old store.old }
-    ensures undone { (mark : ℕ) → mark ≤ length standing.old.log
-        → (list : ℕ) (row : List Value) → count_at mark list row standing.new ≡ count_at mark list row standing.old }
+    requires { MayMake store.old standing.old undo.old (placed own ∷ []) }
+    ensures due { IsDue store.old standing.old (placed own) [] result }
+    ensures made { Makes (rows_edited store.old (placed own ∷ [])) store.old store.new standing.old standing.new undo.old undo.new result }
 {
     store.check(alloc, own.table, own.edits.as_slice())?;
     let changes = [own.as_change()];
@@ -124,31 +83,10 @@ fn remove_rows(
     along: Vec<TableEdits>,
     undo: &mut Undo,
 ) -> Result<(), Refusal>
-    requires are { AreEdits store.old (placed own ∷ map placed along.items) }
-    requires back { All (λ reference. reference.to < reference.from) store.old.links }
+    requires may { MayMake store.old standing.old undo.old (placed own ∷ map placed along.items) }
     requires several { 0 < length along.items }
-    requires fits { CanUndo store.old undo.old }
-    requires served { AreServed store.old standing.old.queries }
-    requires listed { AreListed (instance_of store.old.tables) standing.old }
-    requires typed { All (IsTested (rows_by_place (instance_of store.old.tables)) (rows_edited store.old (placed own ∷ map placed along.items))) standing.old.queries }
-    ensures due { (stored : StoredRows) → IsAt store.old own.table stored
-        → AnswersDue (first_refusal (edits_conditions store.old stored (placed own) (map placed along.items)
-        ++ list_conditions (rows_edited store.old (placed own ∷ map placed along.items)) standing.old.queries)) result }
-    ensures ok { OnOk result (HaveRows (rows_edited store.old (placed own ∷ map placed along.items)) store.old store.new) }
-    ensures err { OnErr result (HaveRows (rows_by_place (instance_of store.old.tables)) store.old store.new) }
-    ensures links { store.new.links ≡ store.old.links }
-    ensures kept { OnErr result (undo.new ≡ undo.old) }
-    ensures longer { length undo.old ≤ length undo.new }
-    ensures fits { CanUndo store.new undo.new }
-    ensures listed { AreListed (instance_of store.new.tables) standing.new }
-    ensures queries { standing.new.queries ≡ standing.old.queries }
-    ensures log { OnErr result (standing.new.log ≡ standing.old.log) }
-    ensures log_longer { length standing.old.log ≤ length standing.new.log }
-
-    // Going back to an older mark gives the rows and each list as it gave them.
-    ensures saved { (mark : ℕ) → mark ≤ length undo.old → rows_at_mark mark undo.new store.new ≡ rows_at_mark mark undo.old store.old }
-    ensures undone { (mark : ℕ) → mark ≤ length standing.old.log
-        → (list : ℕ) (row : List Value) → count_at mark list row standing.new ≡ count_at mark list row standing.old }
+    ensures due { IsDue store.old standing.old (placed own) (map placed along.items) result }
+    ensures made { Makes (rows_edited store.old (placed own ∷ map placed along.items)) store.old store.new standing.old standing.new undo.old undo.new result }
 {
     store.removals_may_be_made(own.table);
     store.rows_stand();

@@ -31,41 +31,39 @@ returns-in_err-edits-clause-due c =
     (Err c.in_err-edits.field-0.0)
     (early_due c.args.mutation c.self.inside.catalog c.self.inside.store.tables queries c.in_err-edits.field-0.0 c.in_err-edits.ensures.due))
 
-pub make_edits-requires-clause-are : goal.make_edits-requires-clause-are
-make_edits-requires-clause-are c = c.in_ok-edits.ensures.ok.are
-
-pub make_edits-requires-clause-back : goal.make_edits-requires-clause-back
-make_edits-requires-clause-back c =
-    subst (λ (links : List Reference). All (λ (r : Reference). r.to < r.from) links) (sym c.self.invariant.kept.links)
-    (references_back c.self.inside.catalog c.self.invariant.kept.back)
-
-pub make_edits-requires-clause-served : goal.make_edits-requires-clause-served
-make_edits-requires-clause-served c =
-    served c.self.inside.catalog c.self.inside.store c.self.invariant.kept.relations c.self.inside.standing.queries c.self.invariant.placed.placed
-
-pub make_edits-requires-clause-typed : goal.make_edits-requires-clause-typed
-make_edits-requires-clause-typed c =
+pub make_edits-requires : goal.make_edits-requires
+make_edits-requires c =
+    let schema = c.self.inside.catalog in
+    let store = c.self.inside.store in
     let lists = c.self.inside.standing.queries in
-    let state = watched_state c.self.inside.catalog c.self.inside.store.tables (queries_of lists) in
-    subst (λ (r : RowsByPlace). All (IsTested (rows_by_place (instance_of c.self.inside.store.tables)) r) lists)
-    (sym (edited_after c.self.inside.catalog c.self.inside.store c.self.invariant.kept.relations c.in_ok-edits.ensures.distinct c.args.mutation
-    (placed c.in_ok-edits.edits.own) (map placed c.in_ok-edits.edits.along.items) c.in_ok-edits.ensures.ok (queries_of lists)))
-    (queries_tested c.self.inside.catalog (instance_of c.self.inside.store.tables) (after_change c.args.mutation state).rows lists c.self.invariant.placed.placed
-    c.self.invariant.typed.rows
-    (rows_typed_after c.args.mutation state (value_conditions c.args.mutation (state_of c.self.inside.catalog c.self.inside.store.tables))
-    c.in_ok-edits.ensures.distinct c.in_ok-edits.ensures.due c.self.invariant.typed.rows)
-    c.self.invariant.typed.queries)
+    let state = watched_state schema store.tables (queries_of lists) in
+    record {
+      are = c.in_ok-edits.ensures.ok.are;
+      back = subst (λ (links : List Reference). All (λ (r : Reference). r.to < r.from) links) (sym c.self.invariant.kept.links)
+          (references_back schema c.self.invariant.kept.back);
+      fits = c.self.invariant.fits;
+      served = served schema store c.self.invariant.kept.relations lists c.self.invariant.placed.placed;
+      listed = c.self.invariant.listed;
+      typed = subst (λ (r : RowsByPlace). All (IsTested (rows_by_place (instance_of store.tables)) r) lists)
+          (sym (edited_after schema store c.self.invariant.kept.relations c.in_ok-edits.ensures.distinct c.args.mutation
+          (placed c.in_ok-edits.edits.own) (map placed c.in_ok-edits.edits.along.items) c.in_ok-edits.ensures.ok (queries_of lists)))
+          (queries_tested schema (instance_of store.tables) (after_change c.args.mutation state).rows lists c.self.invariant.placed.placed
+          c.self.invariant.typed.rows
+          (rows_typed_after c.args.mutation state (value_conditions c.args.mutation (state_of schema store.tables))
+          c.in_ok-edits.ensures.distinct c.in_ok-edits.ensures.due c.self.invariant.typed.rows)
+          c.self.invariant.typed.queries);
+    }
 
 pub invariant_of-self : goal.invariant_of-self
 invariant_of-self c =
     let back = change_refused c.self.inside.catalog c.self.inside.store c.self.invariant.kept.relations c.in_ok-edits.ensures.distinct c.args.mutation
-    (placed c.in_ok-edits.edits.own) (map placed c.in_ok-edits.edits.along.items) c.in_ok-edits.ensures.ok c.make_edits.new.store c.in_err-make_edits.ensures.err in
+    (placed c.in_ok-edits.edits.own) (map placed c.in_ok-edits.edits.along.items) c.in_ok-edits.ensures.ok c.make_edits.new.store c.in_err-make_edits.ensures.made.err in
     refused c.self.inside.catalog c.self.inside.store c.self.inside.undo c.self.inside.standing c.self.inside.marks.items c.self.inside.is_open c.self.invariant
     c.make_edits.new.store c.make_edits.new.undo c.make_edits.new.standing
     back.1
-    c.make_edits.ensures.links c.make_edits.ensures.saved c.make_edits.ensures.fits c.make_edits.ensures.listed c.make_edits.ensures.queries
-    c.make_edits.ensures.undone c.make_edits.ensures.longer c.make_edits.ensures.log_longer back.0 c.in_err-make_edits.ensures.kept
-    c.in_err-make_edits.ensures.log
+    c.make_edits.ensures.made.links c.make_edits.ensures.made.saved c.make_edits.ensures.made.fits c.make_edits.ensures.made.listed c.make_edits.ensures.made.queries
+    c.make_edits.ensures.made.undone c.make_edits.ensures.made.longer c.make_edits.ensures.made.log_longer back.0 c.in_err-make_edits.ensures.made.kept
+    c.in_err-make_edits.ensures.made.log
 
 pub returns-in_err-make_edits-clause-due : goal.returns-in_err-make_edits-clause-due
 returns-in_err-make_edits-clause-due c =
@@ -83,20 +81,20 @@ pub returns-in_err-make_edits-clause-err : goal.returns-in_err-make_edits-clause
 returns-in_err-make_edits-clause-err c =
     let p = err_from_is_err_and c.from_residual-in_err-make_edits.result c.from_residual-in_err-make_edits.ensures.1 in
     let back = change_refused c.self.inside.catalog c.self.inside.store c.self.invariant.kept.relations c.in_ok-edits.ensures.distinct c.args.mutation
-    (placed c.in_ok-edits.edits.own) (map placed c.in_ok-edits.edits.along.items) c.in_ok-edits.ensures.ok c.make_edits.new.store c.in_err-make_edits.ensures.err in
+    (placed c.in_ok-edits.edits.own) (map placed c.in_ok-edits.edits.along.items) c.in_ok-edits.ensures.ok c.make_edits.new.store c.in_err-make_edits.ensures.made.err in
     let same = back.0 in
     let saved = saved_through_change c.self.inside.catalog c.self.inside.store c.self.inside.undo c.self.inside.standing c.self.inside.marks.items
     c.self.inside.is_open c.self.invariant c.make_edits.new.store c.make_edits.new.undo c.make_edits.new.standing back.1
-    c.make_edits.ensures.links c.make_edits.ensures.saved c.make_edits.ensures.fits c.make_edits.ensures.listed c.make_edits.ensures.queries
-    c.make_edits.ensures.undone c.make_edits.ensures.longer c.make_edits.ensures.log_longer in
-    let queries = ap queries_of c.make_edits.ensures.queries in
+    c.make_edits.ensures.made.links c.make_edits.ensures.made.saved c.make_edits.ensures.made.fits c.make_edits.ensures.made.listed c.make_edits.ensures.made.queries
+    c.make_edits.ensures.made.undone c.make_edits.ensures.made.longer c.make_edits.ensures.made.log_longer in
+    let queries = ap queries_of c.make_edits.ensures.made.queries in
     rw (p.1) ((λ i. record { schema = c.self.inside.catalog; rows = same i; queries = queries i; saved = saved i }) ∙ c.self.view_is)
 
 pub invariant_of-self-2 : goal.invariant_of-self-2
 invariant_of-self-2 c =
     let queries = queries_of c.self.inside.standing.queries in
     let done = change_done c.self.inside.catalog c.self.inside.store c.self.invariant.kept.relations c.in_ok-edits.ensures.distinct c.args.mutation
-    (placed c.in_ok-edits.edits.own) (map placed c.in_ok-edits.edits.along.items) c.in_ok-edits.ensures.ok queries c.make_edits.new.store c.in_ok-make_edits.ensures.ok in
+    (placed c.in_ok-edits.edits.own) (map placed c.in_ok-edits.edits.along.items) c.in_ok-edits.ensures.ok queries c.make_edits.new.store c.in_ok-make_edits.ensures.made.ok in
     let typed : AreTyped c.self.inside.catalog.tables (instance_of c.make_edits.new.store.tables) =
     subst (λ (s : State). AreTyped c.self.inside.catalog.tables s.rows) (sym done.0)
     (rows_typed_after c.args.mutation (watched_state c.self.inside.catalog c.self.inside.store.tables queries)
@@ -104,8 +102,8 @@ invariant_of-self-2 c =
     c.self.invariant.typed.rows) in
     changed c.self.inside.catalog c.self.inside.store c.self.inside.undo c.self.inside.standing c.self.inside.marks.items c.self.inside.is_open c.self.invariant
     c.make_edits.new.store c.make_edits.new.undo c.make_edits.new.standing done.1
-    c.make_edits.ensures.links c.make_edits.ensures.saved c.make_edits.ensures.fits c.make_edits.ensures.listed c.make_edits.ensures.queries
-    c.make_edits.ensures.undone c.make_edits.ensures.longer c.make_edits.ensures.log_longer
+    c.make_edits.ensures.made.links c.make_edits.ensures.made.saved c.make_edits.ensures.made.fits c.make_edits.ensures.made.listed c.make_edits.ensures.made.queries
+    c.make_edits.ensures.made.undone c.make_edits.ensures.made.longer c.make_edits.ensures.made.log_longer
     c.settle_outside.new.store c.settle_outside.new.undo c.settle_outside.new.standing c.settle_outside.ensures.open typed
     c.settle_outside.ensures.rows c.settle_outside.ensures.form c.settle_outside.ensures.links c.settle_outside.ensures.fits
     c.settle_outside.ensures.queries c.settle_outside.ensures.counts c.settle_outside.ensures.ready c.settle_outside.ensures.settled
@@ -125,15 +123,15 @@ returns-clause-ok c =
     let saved = saved_rows c.self.inside.is_open c.self.inside.undo c.self.inside.store c.self.inside.marks.items in
     let queries = queries_of c.self.inside.standing.queries in
     let done = change_done c.self.inside.catalog c.self.inside.store c.self.invariant.kept.relations c.in_ok-edits.ensures.distinct c.args.mutation
-    (placed c.in_ok-edits.edits.own) (map placed c.in_ok-edits.edits.along.items) c.in_ok-edits.ensures.ok queries c.make_edits.new.store c.in_ok-make_edits.ensures.ok in
+    (placed c.in_ok-edits.edits.own) (map placed c.in_ok-edits.edits.along.items) c.in_ok-edits.ensures.ok queries c.make_edits.new.store c.in_ok-make_edits.ensures.made.ok in
     done_beside c.self.inside.catalog c.self.inside.store.tables queries saved c.args.mutation c.args.self.now c.self.view_is c.settle_outside.new.store.tables
     (queries_of c.settle_outside.new.standing.queries) (saved_rows c.self.inside.is_open c.settle_outside.new.undo c.settle_outside.new.store c.self.inside.marks.items)
-    (ap queries_of (c.settle_outside.ensures.queries ∙ c.make_edits.ensures.queries))
+    (ap queries_of (c.settle_outside.ensures.queries ∙ c.make_edits.ensures.made.queries))
     ((λ i. record { schema = c.self.inside.catalog; rows = c.settle_outside.ensures.rows i; queries = queries; saved = None }) ∙ done.0)
     (saved_to_the_end c.self.inside.catalog c.self.inside.store c.self.inside.undo c.self.inside.standing c.self.inside.marks.items c.self.inside.is_open
     c.self.invariant c.make_edits.new.store c.make_edits.new.undo c.make_edits.new.standing done.1
-    c.make_edits.ensures.links c.make_edits.ensures.saved c.make_edits.ensures.fits c.make_edits.ensures.listed c.make_edits.ensures.queries
-    c.make_edits.ensures.undone c.make_edits.ensures.longer c.make_edits.ensures.log_longer
+    c.make_edits.ensures.made.links c.make_edits.ensures.made.saved c.make_edits.ensures.made.fits c.make_edits.ensures.made.listed c.make_edits.ensures.made.queries
+    c.make_edits.ensures.made.undone c.make_edits.ensures.made.longer c.make_edits.ensures.made.log_longer
     c.settle_outside.new.store c.settle_outside.new.undo c.settle_outside.new.standing c.settle_outside.ensures.open)
 
 pub returns-clause-count : goal.returns-clause-count
