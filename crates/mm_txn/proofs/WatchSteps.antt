@@ -407,17 +407,12 @@ pub standing_missing : (name : List ℕ) (schema : Schema) → standing_place na
 standing_missing name schema nowhere =
     ap (λ (q : Option StandingDef). cond (is_none q) (Some NoSuchStandingQuery) None) (find_nowhere (λ (q : StandingDef). same_name name q.name) schema.standing nowhere)
 
--- All is at rest without it, or as it was.
-pub unwatched_rest : {T : Type 0} (schema schema' : Schema) (store : Tables) (lists lists' : Lists) (result : Result T Refusal) (name : List ℕ)
-    → AreAtRest schema store lists → OnOk result (schema' ≡ without_standing name schema) → OnErr result (schema' ≡ schema)
-    → ArePlaced schema' lists'.queries → AreListed (instance_of store.tables) lists' → AreAtRest schema' store lists'
-unwatched_rest schema schema' store lists lists' result name rest ok err placed listed = record {
-  kept = by result ok err;
-  placed = placed;
-  listed = listed;
+-- All is at rest without it.
+pub rest_left : (name : List ℕ) (schema : Schema) (store : Tables) (lists : Lists) → AreAtRest schema store lists → (place : ℕ)
+    → standing_place name schema ≡ Some place → HasDistinctStanding schema → first_refusal (drop_standing_conditions name schema) ≡ None
+    → AreAtRest (without_standing name schema) store (record lists { queries = remove lists.queries place; bags = remove lists.bags place })
+rest_left name schema store lists rest place found distinct due = record {
+  kept = kept_beside schema (without_standing name schema).standing store rest.kept;
+  placed = placed_left name schema lists rest.placed place found distinct due;
+  listed = listed_left (instance_of store.tables) lists place rest.listed;
 }
-  where
-    by : {T : Type 0} (r : Result T Refusal) → OnOk r (schema' ≡ without_standing name schema) → OnErr r (schema' ≡ schema) → AreKept schema' store
-    by (Ok value) ok err =
-        subst (λ s. AreKept s store) (sym ok) (kept_beside schema (without_standing name schema).standing store rest.kept)
-    by (Err refusal) ok err = subst (λ s. AreKept s store) (sym err) rest.kept

@@ -1,7 +1,9 @@
 -- What a database holds at rest, and what edits make of it.
 use Rattle.std.specs.Prelude.{◌≡◌, ℕ, ◌<◌, ◌≤◌, List, ◌∷◌, ◌++◌, Result, All, OnErr, OnOk, length}
 use Rattle.mm_relation.specs.Kept.{StoredRows}
+use Rattle.mm_query.specs.State.{State}
 use Rattle.mm_schema.specs.Refused.{AnswersDue, first_refusal}
+use Rattle.mm_schema.specs.Schema.{Schema}
 use Rattle.mm_schema.specs.declared.reference.Reference.{Reference}
 use Rattle.mm_standing.specs.Queries.{RowsByPlace, change_conditions as list_conditions}
 use Rattle.mm_standing.specs.State.{AreServed, Lists, count_at}
@@ -12,8 +14,23 @@ use Rattle.mm_store.specs.Worlds.{Noted}
 use Rattle.mm_value.specs.declared.refusal.Refusal.{Refusal}
 use Rattle.mm_value.specs.declared.values.Value.{Value}
 use Rattle.mm_txn.specs.Kept.{instance_of}
+use Rattle.mm_txn.specs.Rest.{AreAtRest, state_at_rest}
 use Rattle.mm_txn.specs.TableEdits.{AreEdits, HaveRows, PlacedEdits, edits_conditions, rows_edited}
 use Rattle.mm_txn.specs.Watched.{AreListed, IsTested, rows_by_place}
+
+-- A catalog, the rows of its tables, and the lists of its standing queries.
+pub record Holdings : Type 0 where
+  pub schema : Schema
+  pub store : Tables
+  pub lists : Lists
+
+-- They fit each other, and no change of the lists is ready.
+abbrev pub IsAtRest : Holdings → Type 0
+IsAtRest held = AreAtRest held.schema held.store held.lists
+
+-- The state that they are, where no transaction is open.
+abbrev pub state_held : Holdings → State
+state_held held = state_at_rest held.schema held.store held.lists
 
 -- ---- what edits make
 

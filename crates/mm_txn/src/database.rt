@@ -12,18 +12,16 @@ ghost use Rattle.mm_query.specs.declared.command.Command.TheVariants.{Define, Ch
 ghost use Rattle.mm_value.specs.declared.values.Value.TheVariants.{Int};
 ghost use Rattle.mm_txn.specs.Along.{IsAlong};
 
-use crate::changes::{make_edits, settle_outside};
-use crate::definitions::{define, is_of_index};
-use crate::edits::edits_of;
+use crate::contents::Contents;
+use crate::definitions::is_of_index;
 use crate::explain::explain_query;
 use crate::listing::list_tables;
 use crate::savepoints::{MAX_SAVEPOINTS, Mark, latest};
 use crate::select::select_rows;
 use mm_query::{Definition, ItemList, Listing, Mutation, PlanLine, Query};
 use mm_relation::Relation;
-use mm_schema::{Catalog, IndexKind, Name};
-use mm_standing::Standing;
-use mm_store::{Store, Undo};
+use mm_schema::{IndexKind, Name};
+use mm_store::Undo;
 use mm_templist::ShownRows;
 use mm_value::{Refusal, Value};
 use std::alloc::Global;
@@ -33,12 +31,9 @@ use std::marker::Model;
 /// [`Db::begin`] to [`Db::commit`] or [`Db::rollback`], a log tells how to take back what was changed, and its savepoints are marks of it.
 #[derive(Drop)]
 pub struct Db {
-    catalog: Catalog,
-    store: Store,
+    contents: Contents,
     /// What the open transaction has changed. Outside one it is empty, since each command is final at once.
     undo: Undo,
-    /// The standing queries with their lists, and what the open transaction has changed of these.
-    standing: Standing,
     /// Whether a transaction is open.
     is_open: bool,
     /// The savepoints of the open transaction, the oldest first.
@@ -51,9 +46,9 @@ impl Model for Db {
 
     ghost Value = { State };
 
-    ghost view = { λ d. kept_state d.catalog d.store d.undo d.standing d.is_open d.marks.items };
+    ghost view = { λ d. kept_state d.contents d.undo d.is_open d.marks.items };
 
-    ghost invariant = { λ d. IsConsistent d.catalog d.store d.undo d.standing d.is_open d.marks.items };
+    ghost invariant = { λ d. IsConsistent d.contents d.undo d.is_open d.marks.items };
 }
 
 impl Db {
@@ -62,10 +57,8 @@ impl Db {
         ensures { result ≡ first_state }
     {
         Db {
-            catalog: Catalog::new(alloc),
-            store: Store::new(alloc),
+            contents: Contents::new(alloc),
             undo: Undo::new(alloc),
-            standing: Standing::new(alloc),
             is_open: false,
             marks: Vec::new(alloc),
         }
@@ -81,7 +74,7 @@ impl Db {
         if self.is_open {
             return Err(Refusal::TransactionOpen);
         }
-        self.store.rows_stand();
+        self.contents.is_at_rest();
         self.is_open = true;
         Ok(())
     }
@@ -97,7 +90,7 @@ impl Db {
         if !self.is_open {
             return Err(Refusal::NoTransaction);
         }
-        settle_outside(false, &mut self.store, &mut self.undo, &mut self.standing);
+        self.contents.settle_outside(false, &mut self.undo);
         self.marks.clear();
         self.is_open = false;
         Ok(())
@@ -115,8 +108,7 @@ impl Db {
         if !self.is_open {
             return Err(Refusal::NoTransaction);
         }
-        self.store.revert(&mut self.undo, 0);
-        self.standing.revert(0);
+        self.contents.revert(&mut self.undo, 0, 0);
         self.marks.clear();
         self.is_open = false;
         Ok(())
@@ -136,9 +128,9 @@ impl Db {
         if self.marks.len() >= MAX_SAVEPOINTS {
             return Err(Refusal::TooMany);
         }
-        self.store.rows_stand();
+        self.contents.is_at_rest();
         let commands = self.undo.mark();
-        let changes = self.standing.mark();
+        let changes = self.contents.mark();
         self.marks.push(Mark {
             name,
             commands,
@@ -161,8 +153,7 @@ impl Db {
         }
         let place = latest(self.marks.as_slice(), name).ok_or(Refusal::NoSuchSavepoint)?;
         let (commands, changes) = self.marks[place].lengths();
-        self.store.revert(&mut self.undo, commands);
-        self.standing.revert(changes);
+        self.contents.revert(&mut self.undo, commands, changes);
         self.marks.truncate(place + 1);
         Ok(())
     }
@@ -190,14 +181,8 @@ impl Db {
         if self.is_open && !is_of_index(&definition) {
             return Err(Refusal::NotInTransaction);
         }
-        define(
-            alloc,
-            &mut self.catalog,
-            &mut self.store,
-            &mut self.standing,
-            &self.undo,
-            definition,
-        )
+        self.contents.is_at_rest();
+        self.contents.define(alloc, &self.undo, definition)
     }
 
     /// Changes the rows of a table, and tells how many rows of it that concerned: those that came, that meet the tests of an UPDATE,
@@ -217,21 +202,11 @@ impl Db {
         ensures count { IfOk result (λ count. count ≡ length (own_pairs mutation self.old)) }
         ensures err { OnErr result (self.new ≡ self.old) }
     {
-        let edits = edits_of(alloc, &self.catalog, &self.store, mutation)?;
+        self.contents.is_at_rest();
+        let edits = self.contents.edits_of(alloc, mutation)?;
         let count = edits.own.edits.len();
-        make_edits(
-            alloc,
-            &mut self.store,
-            &mut self.standing,
-            edits,
-            &mut self.undo,
-        )?;
-        settle_outside(
-            self.is_open,
-            &mut self.store,
-            &mut self.undo,
-            &mut self.standing,
-        );
+        self.contents.make_edits(alloc, edits, &mut self.undo)?;
+        self.contents.settle_outside(self.is_open, &mut self.undo);
         Ok(count)
     }
 
@@ -242,17 +217,21 @@ impl Db {
             (λ refusal. first_refusal (conditions (ScanIndex name.now) self.now) ≡ Some refusal) }
         ensures along { IfOk result (λ along. IsAlong along (rows_by_index self.now name.now)) }
     {
-        let index = self.catalog.find_index(name).ok_or(Refusal::NoSuchIndex)?;
-        let at = self
+        let contents = &self.contents;
+        let index = contents
+            .catalog
+            .find_index(name)
+            .ok_or(Refusal::NoSuchIndex)?;
+        let at = contents
             .catalog
             .place_of(&index.table)
             .ok_or(Refusal::NoSuchIndex)?;
-        let table = self.catalog.table_at(at);
+        let table = contents.catalog.table_at(at);
         let place = table.indexes.place_of(name).ok_or(Refusal::NoSuchIndex)?;
         let columns = &table.definition.columns;
         let column = columns.place_of(&index.column).ok_or(Refusal::NoSuchIndex)?;
         Ok(Along {
-            relation: self.store.table(at),
+            relation: contents.store.table(at),
             place,
             column,
             kind: index.kind,
@@ -277,7 +256,8 @@ impl Db {
         ensures due { AnswersDue (first_refusal (conditions (Select query.now) self.now)) result }
         ensures rows { IfOk result (λ rows. rows ≡ selected query.now self.now) }
     {
-        select_rows(alloc, &self.catalog, &self.store, query, zero)
+        let contents = &self.contents;
+        select_rows(alloc, &contents.catalog, &contents.store, query, zero)
     }
 
     /// The plan of a query, by the row counts of the tables as they are: a line for each table of FROM, in their order. The
@@ -286,7 +266,8 @@ impl Db {
         ensures due { AnswersDue (first_refusal (conditions (Explain query.now) self.now)) result }
         ensures lines { IfOk result (λ lines. lines ≡ plan_in self.now query.now) }
     {
-        explain_query(alloc, &self.catalog, &self.store, query)
+        let contents = &self.contents;
+        explain_query(alloc, &contents.catalog, &contents.store, query)
     }
 
     /// The rows that a standing query shows, in their order; no value is copied, and no row of a table is looked at.
@@ -295,11 +276,12 @@ impl Db {
         ensures due { AnswersDue (first_refusal (conditions (Show name.now) self.now)) result }
         ensures rows { IfOk result (λ rows. rows ≡ shown_rows name.now self.now) }
     {
-        let place = self
+        let contents = &self.contents;
+        let place = contents
             .catalog
             .standing_place_of(name)
             .ok_or(Refusal::NoSuchStandingQuery)?;
-        self.standing.list(alloc, place)
+        contents.standing.list(alloc, place)
     }
 
     /// What there is: the tables with their indexes and how many rows each has, and the standing queries and how many rows each
@@ -308,7 +290,13 @@ impl Db {
         ensures listing { IfOk result (λ listing. listing ≡ listing_of self.now) }
         ensures memory { IfErr result (λ refusal. refusal ≡ Memory) }
     {
-        list_tables(alloc, &self.catalog, &self.store, &self.standing)
+        let contents = &self.contents;
+        list_tables(
+            alloc,
+            &contents.catalog,
+            &contents.store,
+            &contents.standing,
+        )
     }
 
     /// The relation of a table, which has at most 1,048,576 rows. `NoSuchTable` where none has the name. It takes no memory.
@@ -318,8 +306,12 @@ impl Db {
         ensures rows { IfOk result (λ relation. rows_of relation.now ≡ rows_in self.now table.now) }
         ensures few { IfOk result (λ relation. length relation.now.refs ≤ 1048576) }
     {
-        let place = self.catalog.place_of(table).ok_or(Refusal::NoSuchTable)?;
-        Ok(self.store.table(place))
+        let contents = &self.contents;
+        let place = contents
+            .catalog
+            .place_of(table)
+            .ok_or(Refusal::NoSuchTable)?;
+        Ok(contents.store.table(place))
     }
 }
 

@@ -6,6 +6,7 @@
 
 mod cascades;
 mod changes;
+mod contents;
 mod database;
 mod definitions;
 mod edits;

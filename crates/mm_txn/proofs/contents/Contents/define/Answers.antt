@@ -6,49 +6,42 @@ use Rattle.mm_schema.specs.Schema.{table_conditions}
 use Rattle.mm_store.proofs.UndoLaws.{CanUndo-nil}
 use Rattle.mm_query.specs.Machine.{after_definition, is_of_index}
 use Rattle.mm_query.specs.declared.command.Definition.TheVariants as define
-use Rattle.mm_txn.specs.Kept.{instance_of, state_of}
+use Rattle.mm_txn.specs.Kept.{state_of}
 use Rattle.mm_txn.proofs.Resting.{rest_by_index, rest_by_no_index, rest_by_table, rest_still}
-use Rattle.mm_txn.proofs.WatchSteps.{unwatched_rest}
-use Rattle.mm_txn.proofs.definitions.define.Goals as goal
+use Rattle.mm_txn.proofs.contents.Contents.define.Goals as goal
 
-pub returns-in-Table-clause-rest : goal.returns-in-Table-clause-rest
-returns-in-Table-clause-rest c =
-    let schema = c.args.catalog.now in
-    let store = c.args.store.now in
-    rest_still schema store c.args.standing.now c.requires.rest c.add_table.new.catalog c.add_table.new.store c.add_table.ensures.kept c.add_table.result
+pub invariant_of-self : goal.invariant_of-self
+invariant_of-self c =
+    let schema = c.self.inside.catalog in
+    let store = c.self.inside.store in
+    rest_still schema store c.self.inside.standing c.self.invariant c.add_table.new.catalog c.add_table.new.store c.add_table.ensures.kept c.add_table.result
     (first_refusal (table_conditions c.in-Table.definition schema))
     (state_of c.add_table.new.catalog c.add_table.new.store.tables ≡ after_definition (define.Table c.in-Table.definition) (state_of schema store.tables))
     c.add_table.ensures.due
-    (rest_by_table schema store c.args.standing.now c.requires.rest c.add_table.new.catalog c.add_table.new.store c.add_table.ensures.kept c.in-Table.definition)
+    (rest_by_table schema store c.self.inside.standing c.self.invariant c.add_table.new.catalog c.add_table.new.store c.add_table.ensures.kept c.in-Table.definition)
     c.add_table.ensures.ok c.add_table.ensures.err
 
-pub returns-in-Index-clause-rest : goal.returns-in-Index-clause-rest
-returns-in-Index-clause-rest c =
-    let schema = c.args.catalog.now in
-    let store = c.args.store.now in
-    rest_still schema store c.args.standing.now c.requires.rest c.add_index.new.catalog c.add_index.new.store c.add_index.ensures.kept c.add_index.result
+pub invariant_of-self-2 : goal.invariant_of-self-2
+invariant_of-self-2 c =
+    let schema = c.self.inside.catalog in
+    let store = c.self.inside.store in
+    rest_still schema store c.self.inside.standing c.self.invariant c.add_index.new.catalog c.add_index.new.store c.add_index.ensures.kept c.add_index.result
     (first_refusal (index_conditions c.in-Index.index schema))
     (state_of c.add_index.new.catalog c.add_index.new.store.tables ≡ after_definition (define.Index c.in-Index.index) (state_of schema store.tables))
     c.add_index.ensures.due
-    (rest_by_index schema store c.args.standing.now c.requires.rest c.add_index.new.catalog c.add_index.new.store c.add_index.ensures.kept c.in-Index.index)
+    (rest_by_index schema store c.self.inside.standing c.self.invariant c.add_index.new.catalog c.add_index.new.store c.add_index.ensures.kept c.in-Index.index)
     c.add_index.ensures.ok c.add_index.ensures.err
 
-pub returns-in-DropIndex-clause-rest : goal.returns-in-DropIndex-clause-rest
-returns-in-DropIndex-clause-rest c =
-    let schema = c.args.catalog.now in
-    let store = c.args.store.now in
-    rest_still schema store c.args.standing.now c.requires.rest c.drop_index.new.catalog c.drop_index.new.store c.drop_index.ensures.kept c.drop_index.result
+pub invariant_of-self-3 : goal.invariant_of-self-3
+invariant_of-self-3 c =
+    let schema = c.self.inside.catalog in
+    let store = c.self.inside.store in
+    rest_still schema store c.self.inside.standing c.self.invariant c.drop_index.new.catalog c.drop_index.new.store c.drop_index.ensures.kept c.drop_index.result
     (first_refusal (drop_index_conditions c.in-DropIndex.name schema))
     (state_of c.drop_index.new.catalog c.drop_index.new.store.tables ≡ after_definition (define.DropIndex c.in-DropIndex.name) (state_of schema store.tables))
     c.drop_index.ensures.due
-    (rest_by_no_index schema store c.args.standing.now c.requires.rest c.drop_index.new.catalog c.drop_index.new.store c.drop_index.ensures.kept c.in-DropIndex.name)
+    (rest_by_no_index schema store c.self.inside.standing c.self.invariant c.drop_index.new.catalog c.drop_index.new.store c.drop_index.ensures.kept c.in-DropIndex.name)
     c.drop_index.ensures.ok c.drop_index.ensures.err
-
-pub returns-in-Unwatch-clause-rest : goal.returns-in-Unwatch-clause-rest
-returns-in-Unwatch-clause-rest c =
-    unwatched_rest c.args.catalog.now c.unwatch.new.catalog c.args.store.now c.args.standing.now c.unwatch.new.standing c.unwatch.result c.in-Unwatch.name
-    c.requires.rest c.unwatch.ensures.catalog c.unwatch.ensures.catalog_stays c.unwatch.ensures.placed
-    (c.unwatch.ensures.listed (instance_of c.args.store.now.tables) c.requires.rest.listed)
 
 -- ---- nothing is to be taken back where a change concerns more than an index
 
