@@ -27,6 +27,7 @@ mod Naming
 mod Placed
 mod WatchSteps
 mod Showing
+mod Stepping
 mod TestedQueries
 mod TypedSteps
 mod PlacedRows

@@ -67,10 +67,13 @@ returns-clause-along c = record {
       (sym c.place_of.ensures.place ∙ c.in_ok-at.ensures.ok_part) c.table_at-table.result.now c.table_at-table.ensures c.in_ok-place.place
       (sym c.place_of-2.ensures ∙ c.in_ok-place.ensures.ok_part) c.in_ok-column.column (sym c.place_of-3.ensures ∙ c.in_ok-column.ensures.ok_part)
       c.table.result.now c.table.ensures.at;
-  rows_are = rows_along c.self.inside.catalog c.self.inside.store.tables c.self.invariant.kept.relations c.args.name.now c.in_ok-index.index.now
-      (sym c.find_index.ensures.found ∙ ap option_copied c.in_ok-index.ensures.ok_part) c.find_index.ensures.in_place c.place_of.ensures.distinct c.in_ok-at.at
-      (sym c.place_of.ensures.place ∙ c.in_ok-at.ensures.ok_part) c.table_at-table.result.now c.table_at-table.ensures c.in_ok-place.place
-      (sym c.place_of-2.ensures ∙ c.in_ok-place.ensures.ok_part) c.in_ok-column.column (sym c.place_of-3.ensures ∙ c.in_ok-column.ensures.ok_part)
-      c.table.result.now c.table.ensures.at
-      ∙ ap (λ (s : State). rows_by_index s c.args.name.now) c.self.view_is;
 }
+
+pub returns-clause-rows : goal.returns-clause-rows
+returns-clause-rows c =
+    rows_along c.self.inside.catalog c.self.inside.store.tables c.self.invariant.kept.relations c.args.name.now c.in_ok-index.index.now
+    (sym c.find_index.ensures.found ∙ ap option_copied c.in_ok-index.ensures.ok_part) c.find_index.ensures.in_place c.place_of.ensures.distinct c.in_ok-at.at
+    (sym c.place_of.ensures.place ∙ c.in_ok-at.ensures.ok_part) c.table_at-table.result.now c.table_at-table.ensures c.in_ok-place.place
+    (sym c.place_of-2.ensures ∙ c.in_ok-place.ensures.ok_part) c.in_ok-column.column (sym c.place_of-3.ensures ∙ c.in_ok-column.ensures.ok_part)
+    c.table.result.now c.table.ensures.at
+    ∙ ap (λ (s : State). rows_by_index s c.args.name.now) c.self.view_is
