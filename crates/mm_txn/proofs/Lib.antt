@@ -27,7 +27,6 @@ mod Naming
 mod Placed
 mod WatchSteps
 mod Showing
-mod Stepping
 mod TestedQueries
 mod TypedSteps
 mod PlacedRows
