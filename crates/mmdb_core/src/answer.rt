@@ -5,7 +5,6 @@ ghost use Rattle.mm_lang.specs.ReplyText.{reply_text, rows_text};
 ghost use Rattle.mm_lang.specs.Lines.{without_return};
 ghost use Rattle.mm_value.specs.Device.{Writes};
 ghost use Rattle.mm_value.specs.Watched.{inner_of, has_failed};
-ghost use Rattle.mm_query.specs.declared.reply.Reply.TheVariants.{Rows};
 ghost use Rattle.mm_txn.specs.Answers.{reply_of};
 ghost use Rattle.mm_txn.specs.Requests.{command_of};
 ghost use Rattle.mmdb_core.specs.steps.Respond.{RepliesToLine, RepliesToReading};
@@ -103,7 +102,7 @@ fn send_answer<W: Write>(answer: Answer<'_>, writer: &mut Watched<W>) -> Result<
 /// Writes the reply of rows and flushes it. It is no `error`.
 fn send_rows<W: Write>(rows: &Rows<'_>, writer: &mut Watched<W>) -> Result<bool, WriteFault>
     requires { has_failed writer.old ≡ false }
-    ensures written { Writes W.contents writer.old writer.new result (reply_text (Rows rows.now)) }
+    ensures written { Writes W.contents writer.old writer.new result (rows_text rows.now) }
     ensures refused { IfOk result (λ refused. refused ≡ false) }
 {
     write_rows(rows, writer)?;
