@@ -1,5 +1,6 @@
 use Rattle.std.proofs.Common.{Some, None, false, Ok, inl, refl, sym, ap, subst}
 use Rattle.mm_value.proofs.Writing.{Writes-nil}
+use Rattle.mm_query.specs.Machine.{Outcome}
 use Rattle.mm_txn.specs.Answers.{reply_of}
 use Rattle.mm_txn.specs.Requests.{command_of}
 use Rattle.mm_txn.specs.declared.request.Request.{Request}
@@ -9,7 +10,7 @@ use Rattle.mmdb_core.proofs.answer.answer_request.Goals as goal
 
 pub returns-in-Nothing : goal.returns-in-Nothing
 returns-in-Nothing g c =
-    let nothing = record { reply = None; state = c.args.database.now } in
+    let nothing : Outcome = record { reply = None; state = c.args.database.now } in
     record {
       outcome = nothing;
       leads = subst (λ (r : Request). MayLeadTo (Ok (command_of r)) c.args.database.now nothing) (sym c.in-Nothing.is) (inl refl);

@@ -47,5 +47,5 @@ returns g c =
     let rows = c.args.rows in
     let read = c.loop-row.invariant.0 in
     let was = c.loop-row.invariant.2 in
-    Writes-then (text_all rows read c.loop-row.rows c.args.count c.loop-row.invariant.1 c.in-None.ensures c.requires.counted
+    Writes-then (text_all rows read c.loop-row.rows c.args.count c.loop-row.invariant.1 c.in_default.ensures c.requires.counted
     ∙ late_end was.0 c.loop-row.lines (count_line c.args.count) (lines read) was.2) was.1 c.finish.ensures
