@@ -59,24 +59,26 @@ returns-clause-due c =
     ap (λ b. cond b (Some NoSuchIndex) None) found_now
 
 pub returns-clause-along : goal.returns-clause-along
-returns-clause-along c =
-    let seen = ap (λ (h : Holdings). kept_state h c.self.inside.undo c.self.inside.is_open c.self.inside.marks.items) c.contents.view_is ∙ c.self.view_is in
-    record {
-      few = c.table.ensures.few;
-      within = along_within c.contents.inside.catalog c.contents.inside.store.tables c.contents.invariant.kept.relations c.args.name.now c.in_ok-index.index.now
-          (sym c.find_index.ensures.found ∙ ap option_copied c.in_ok-index.ensures.ok_part) c.find_index.ensures.in_place c.place_of.ensures.distinct c.in_ok-at.at
-          (sym c.place_of.ensures.place ∙ c.in_ok-at.ensures.ok_part) c.table_at-table.result.now c.table_at-table.ensures c.in_ok-place.place
-          (sym c.place_of-2.ensures ∙ c.in_ok-place.ensures.ok_part) c.in_ok-column.column (sym c.place_of-3.ensures ∙ c.in_ok-column.ensures.ok_part)
-          c.table.result.now c.table.ensures.at;
-      index = has_index c.contents.inside.catalog c.contents.inside.store.tables c.contents.invariant.kept.relations c.args.name.now c.in_ok-index.index.now
-          (sym c.find_index.ensures.found ∙ ap option_copied c.in_ok-index.ensures.ok_part) c.find_index.ensures.in_place c.place_of.ensures.distinct c.in_ok-at.at
-          (sym c.place_of.ensures.place ∙ c.in_ok-at.ensures.ok_part) c.table_at-table.result.now c.table_at-table.ensures c.in_ok-place.place
-          (sym c.place_of-2.ensures ∙ c.in_ok-place.ensures.ok_part) c.in_ok-column.column (sym c.place_of-3.ensures ∙ c.in_ok-column.ensures.ok_part)
-          c.table.result.now c.table.ensures.at;
-      rows_are = rows_along c.contents.inside.catalog c.contents.inside.store.tables c.contents.invariant.kept.relations c.args.name.now c.in_ok-index.index.now
-          (sym c.find_index.ensures.found ∙ ap option_copied c.in_ok-index.ensures.ok_part) c.find_index.ensures.in_place c.place_of.ensures.distinct c.in_ok-at.at
-          (sym c.place_of.ensures.place ∙ c.in_ok-at.ensures.ok_part) c.table_at-table.result.now c.table_at-table.ensures c.in_ok-place.place
-          (sym c.place_of-2.ensures ∙ c.in_ok-place.ensures.ok_part) c.in_ok-column.column (sym c.place_of-3.ensures ∙ c.in_ok-column.ensures.ok_part)
-          c.table.result.now c.table.ensures.at
-          ∙ ap (λ (s : State). rows_by_index s c.args.name.now) seen;
-    }
+returns-clause-along c = record {
+  few = c.table.ensures.few;
+  within = along_within c.contents.inside.catalog c.contents.inside.store.tables c.contents.invariant.kept.relations c.args.name.now c.in_ok-index.index.now
+      (sym c.find_index.ensures.found ∙ ap option_copied c.in_ok-index.ensures.ok_part) c.find_index.ensures.in_place c.place_of.ensures.distinct c.in_ok-at.at
+      (sym c.place_of.ensures.place ∙ c.in_ok-at.ensures.ok_part) c.table_at-table.result.now c.table_at-table.ensures c.in_ok-place.place
+      (sym c.place_of-2.ensures ∙ c.in_ok-place.ensures.ok_part) c.in_ok-column.column (sym c.place_of-3.ensures ∙ c.in_ok-column.ensures.ok_part)
+      c.table.result.now c.table.ensures.at;
+  index = has_index c.contents.inside.catalog c.contents.inside.store.tables c.contents.invariant.kept.relations c.args.name.now c.in_ok-index.index.now
+      (sym c.find_index.ensures.found ∙ ap option_copied c.in_ok-index.ensures.ok_part) c.find_index.ensures.in_place c.place_of.ensures.distinct c.in_ok-at.at
+      (sym c.place_of.ensures.place ∙ c.in_ok-at.ensures.ok_part) c.table_at-table.result.now c.table_at-table.ensures c.in_ok-place.place
+      (sym c.place_of-2.ensures ∙ c.in_ok-place.ensures.ok_part) c.in_ok-column.column (sym c.place_of-3.ensures ∙ c.in_ok-column.ensures.ok_part)
+      c.table.result.now c.table.ensures.at;
+}
+
+pub returns-clause-rows : goal.returns-clause-rows
+returns-clause-rows c =
+    rows_along c.contents.inside.catalog c.contents.inside.store.tables c.contents.invariant.kept.relations c.args.name.now c.in_ok-index.index.now
+    (sym c.find_index.ensures.found ∙ ap option_copied c.in_ok-index.ensures.ok_part) c.find_index.ensures.in_place c.place_of.ensures.distinct c.in_ok-at.at
+    (sym c.place_of.ensures.place ∙ c.in_ok-at.ensures.ok_part) c.table_at-table.result.now c.table_at-table.ensures c.in_ok-place.place
+    (sym c.place_of-2.ensures ∙ c.in_ok-place.ensures.ok_part) c.in_ok-column.column (sym c.place_of-3.ensures ∙ c.in_ok-column.ensures.ok_part)
+    c.table.result.now c.table.ensures.at
+    ∙ ap (λ (s : State). rows_by_index s c.args.name.now)
+    (ap (λ (h : Holdings). kept_state h c.self.inside.undo c.self.inside.is_open c.self.inside.marks.items) c.contents.view_is ∙ c.self.view_is)
