@@ -21,8 +21,8 @@ invariant_of-self c =
     (rest_by_table schema store c.self.inside.standing c.self.invariant c.add_table.new.catalog c.add_table.new.store c.add_table.ensures.kept c.in-Table.definition)
     c.add_table.ensures.ok c.add_table.ensures.err
 
-pub invariant_of-self-2 : goal.invariant_of-self-2
-invariant_of-self-2 c =
+pub invariant_of-self-in-Index : goal.invariant_of-self-in-Index
+invariant_of-self-in-Index c =
     let schema = c.self.inside.catalog in
     let store = c.self.inside.store in
     rest_still schema store c.self.inside.standing c.self.invariant c.add_index.new.catalog c.add_index.new.store c.add_index.ensures.kept c.add_index.result
@@ -32,8 +32,8 @@ invariant_of-self-2 c =
     (rest_by_index schema store c.self.inside.standing c.self.invariant c.add_index.new.catalog c.add_index.new.store c.add_index.ensures.kept c.in-Index.index)
     c.add_index.ensures.ok c.add_index.ensures.err
 
-pub invariant_of-self-3 : goal.invariant_of-self-3
-invariant_of-self-3 c =
+pub invariant_of-self-in-DropIndex : goal.invariant_of-self-in-DropIndex
+invariant_of-self-in-DropIndex c =
     let schema = c.self.inside.catalog in
     let store = c.self.inside.store in
     rest_still schema store c.self.inside.standing c.self.invariant c.drop_index.new.catalog c.drop_index.new.store c.drop_index.ensures.kept c.drop_index.result
@@ -49,7 +49,7 @@ pub returns-in-Table-clause-fits : goal.returns-in-Table-clause-fits
 returns-in-Table-clause-fits c = CanUndo-nil c.add_table.new.store c.args.undo.now (c.requires.settled (ap is_of_index c.in-Table.is)).undo_is
 
 pub returns-in-DropTable-clause-fits : goal.returns-in-DropTable-clause-fits
-returns-in-DropTable-clause-fits c = CanUndo-nil c.drop_table.new.store c.args.undo.now (c.requires.settled (ap is_of_index c.in-DropTable.is)).undo_is
+returns-in-DropTable-clause-fits c = CanUndo-nil c.drop_table.new.self.store c.args.undo.now (c.requires.settled (ap is_of_index c.in-DropTable.is)).undo_is
 
 pub returns-in-DropTable-clause-settled : goal.returns-in-DropTable-clause-settled
 returns-in-DropTable-clause-settled c = λ none.

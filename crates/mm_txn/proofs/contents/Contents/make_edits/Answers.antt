@@ -26,8 +26,8 @@ invariant_of-self c =
     rest_made c.self.inside.catalog (rows_edited c.self.inside.store (placed c.args.edits.own ∷ [])) c.self.inside.store c.edit_table.new.store
     c.self.inside.standing c.edit_table.new.standing c.args.undo.now c.edit_table.new.undo c.edit_table.result c.self.invariant c.edit_table.ensures.made
 
-pub invariant_of-self-2 : goal.invariant_of-self-2
-invariant_of-self-2 c =
+pub invariant_of-self-else-is_empty : goal.invariant_of-self-else-is_empty
+invariant_of-self-else-is_empty c =
     rest_made c.self.inside.catalog (rows_edited c.self.inside.store (placed c.args.edits.own ∷ map placed c.args.edits.along.items)) c.self.inside.store
     c.remove_rows.new.store c.self.inside.standing c.remove_rows.new.standing c.args.undo.now c.remove_rows.new.undo c.remove_rows.result c.self.invariant
     c.remove_rows.ensures.made

@@ -12,7 +12,7 @@ settle-requires c = subst (λ (h : Holdings). CanUndo h.store c.args.undo.now) (
 
 pub invariant_of-self : goal.invariant_of-self
 invariant_of-self c =
-    rest_settled c.self.inside.catalog c.self.inside.store c.settle.new.self c.self.inside.standing c.settle-2.new.self c.self.invariant c.settle.ensures.links
-    (ap (λ (l : Lists). l.queries) c.settle-2.ensures.rest) c.settle.ensures.form c.settle.ensures.rows
-    (λ list row. ap (λ n. pos n) (c.settle-2.ensures.counts list row))
-    (ap (λ (l : Lists). l.prepared) c.settle-2.ensures.rest ∙ c.self.invariant.listed.ready)
+    rest_settled c.self.inside.catalog c.self.inside.store c.settle.new.self c.self.inside.standing c.settle-then-not-is_open.new.self c.self.invariant c.settle.ensures.links
+    (ap (λ (l : Lists). l.queries) c.settle-then-not-is_open.ensures.rest) c.settle.ensures.form c.settle.ensures.rows
+    (λ list row. ap (λ n. pos n) (c.settle-then-not-is_open.ensures.counts list row))
+    (ap (λ (l : Lists). l.prepared) c.settle-then-not-is_open.ensures.rest ∙ c.self.invariant.listed.ready)

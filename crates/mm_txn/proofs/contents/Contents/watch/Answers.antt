@@ -89,8 +89,8 @@ returns-in-Err-clause-err c =
     c.drop_standing.ensures.ok in
     (λ i. state_at_rest (back i) store (c.in-Err.ensures.err i)) ∙ ap (λ (h : Holdings). state_held h) c.self.view_is
 
-pub invariant_of-self-2 : goal.invariant_of-self-2
-invariant_of-self-2 c =
+pub invariant_of-self-in-Err : goal.invariant_of-self-in-Err
+invariant_of-self-in-Err c =
     let schema = c.self.inside.catalog in
     let store = c.self.inside.store in
     let lists = c.self.inside.standing in
@@ -132,8 +132,8 @@ returns-clause-ok c =
     c.watch.new.self new.2
     ∙ ap (λ (h : Holdings). after_watch name query (state_held h)) c.self.view_is
 
-pub invariant_of-self-3 : goal.invariant_of-self-3
-invariant_of-self-3 c =
+pub invariant_of-self-in_default : goal.invariant_of-self-in_default
+invariant_of-self-in_default c =
     let schema = c.self.inside.catalog in
     let store = c.self.inside.store in
     let lists = c.self.inside.standing in
