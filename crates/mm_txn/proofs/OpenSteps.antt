@@ -1,5 +1,5 @@
 -- What stays consistent where a transaction begins, is divided and ends, and where rows are changed.
-use Rattle.std.proofs.Common.{◌≡◌, ℕ, zero, suc, ◌≤◌, Bool, true, false, cond, Result, List, [], ◌∷◌, ◌++◌, Option, Some, None, length, take, slice_get, refl, sym, ap, subst, ◌∙◌, ⊎_elim, arith}
+use Rattle.std.proofs.Common.{◌≡◌, ℕ, zero, suc, ◌≤◌, Bool, true, false, cond, Result, List, [], ◌∷◌, ◌++◌, Option, Some, None, length, take, slice_get, refl, sym, ap, subst, ◌∙◌, ⊎_elim}
 use Rattle.std.specs.List.{All}
 use Rattle.std.specs.Prelude.{IfSome}
 use Rattle.std.proofs.lemmas.Bool.{cases_Bool, false≢true}
@@ -14,7 +14,6 @@ use Rattle.mm_store.specs.Undoing.{CanUndo}
 use Rattle.mm_store.specs.Worlds.{Noted}
 use Rattle.mm_query.specs.Machine.{after_rollback_to, after_savepoint, back_to, rows_at_latest}
 use Rattle.mm_query.specs.State.{AreSavedRows, Saved, Savepoint, State}
-use Rattle.mm_query.specs.declared.bound_query.BoundQuery.{BoundQuery}
 use Rattle.mm_laws.proofs.Throughout.{gone_back, held_before, held_further}
 use Rattle.mm_typing.specs.Typing.{AreTyped, IsTyped, ShiftsNumbers}
 use Rattle.mm_value.specs.declared.refusal.Refusal.{Refusal}

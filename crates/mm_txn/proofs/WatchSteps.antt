@@ -1,5 +1,5 @@
 -- A standing query that comes, and one that goes.
-use Rattle.std.proofs.Common.{◌≡◌, ◌⊎◌, ℕ, zero, suc, ◌+◌, ◌<◌, ◌≤◌, Bool, true, false, cond, not, Result, Ok, Err, OnErr, OnOk, MatchResult, List, [], ◌∷◌, ◌++◌, Option, Some, None, inl, inr, filter, find, is_none, is_some, length, map, nat_le, nat_lt, pos, slice_get, refl, sym, ap, subst, ◌∙◌, ⊎_elim, arith}
+use Rattle.std.proofs.Common.{◌≡◌, ◌⊎◌, ℕ, zero, suc, ◌+◌, ◌<◌, ◌≤◌, Bool, true, false, cond, not, Result, Ok, Err, OnOk, MatchResult, List, [], ◌∷◌, ◌++◌, Option, Some, None, inl, inr, filter, find, is_none, is_some, length, map, nat_le, nat_lt, pos, slice_get, refl, sym, ap, subst, ◌∙◌, ⊎_elim, arith}
 use Rattle.std.specs.List.{All, AllByRecursion, IsDistinct, list_any, position_or_len, remove}
 use Rattle.std.proofs.lemmas.Bool.Decides.{nat_tests}
 use Rattle.std.proofs.lemmas.Bool.{or_from, or_parts}
@@ -15,7 +15,6 @@ use Rattle.mm_schema.specs.declared.standing.StandingDef.{StandingDef}
 use Rattle.mm_schema.proofs.Dues.{due_behind, due_in_front}
 use Rattle.mm_schema.proofs.NameLemmas.{same_bytes, same_name_refl}
 use Rattle.mm_schema.proofs.Places.{find_at_place, find_nowhere, place_from_some, within_from_some}
-use Rattle.mm_schema.proofs.References.{first_none}
 use Rattle.mm_schema.proofs.StandingLemmas.{names_of}
 use Rattle.mm_bag.specs.Counts.{Counts, Entries, count_in, count_of}
 use Rattle.mm_store.specs.Tables.{Tables, rows_at}

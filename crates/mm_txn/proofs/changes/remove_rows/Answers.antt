@@ -1,5 +1,5 @@
 -- Rows of several tables go, or none; and the lists follow them.
-use Rattle.std.proofs.Common.{arith, rules, ◌≡◌, ◌∷◌, ◌++◌, List, None, OnOk, map, sym, ap, subst, ◌∙◌}
+use Rattle.std.proofs.Common.{arith, rules, ◌∷◌, ◌++◌, List, OnOk, map, sym, ap, subst, ◌∙◌}
 use Rattle.std.specs.Prelude.{Result}
 use Rattle.std.proofs.lemmas.Grind.{common_steps}
 use Rattle.std.specs.List.{All}
