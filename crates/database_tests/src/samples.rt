@@ -2,30 +2,32 @@
 //!
 //! A command, an answer or a database is let go by a call of `drop`, here and in the other modules: that is proved once, where the
 //! end of a scope is proved at each place.
-ghost use Rattle.std.specs.Prelude.{◌≡◌, false, IfOk, pos};
+ghost use Rattle.std.specs.Prelude.{◌≡◌, false, IfOk};
 ghost use Rattle.mm_schema.specs.Standing.{lacks_some_table};
-ghost use Rattle.mm_value.specs.declared.values.Value.TheVariants.{Int};
 
 use mm_lang::{Reply, RowLines, parse, write_reply};
 use mm_query::{
     BoundChange, BoundQuery, Command, Definition, Mutation, Query, RowList, bind_query,
 };
 use mm_schema::{Catalog, Columns, IndexDef, IndexKind, Name, TableDef, TableNames};
-use mm_templist::ShownRows;
-use mm_txn::Db;
-use mm_value::{Refusal, Row, Value, Watched, WriteFault};
+use mm_txn::{Answer, Change, Db, Question, Request, RowReader, Rows, ShownRows, StoredRows};
+use mm_value::{Refusal, Row, Watched, WriteFault};
 use std::alloc::Global;
-
-/// The rows of a query, or another reply.
-#[derive(Drop)]
-pub enum Answer<'s> {
-    Shown(ShownRows<'s>),
-    Told(Reply),
-}
 
 /// The command of a line.
 pub fn command(alloc: Global, line: &str) -> Result<Command, Refusal> {
     parse(alloc, line.as_bytes())
+}
+
+/// The question of a line.
+pub fn question(alloc: Global, line: &str) -> Result<Question, Refusal> {
+    match Request::of(command(alloc, line)?) {
+        Request::Ask(question) => Ok(question),
+        other => {
+            drop(other);
+            Err(Refusal::Syntax)
+        }
+    }
 }
 
 /// The table of a `TABLE`.
@@ -204,34 +206,37 @@ pub fn give_line(alloc: Global, database: &mut Db, line: &str) -> Result<usize, 
 
 /// Gives a command that is no question to a database, and tells how many rows it changed.
 pub fn give(alloc: Global, database: &mut Db, command: Command) -> Result<usize, Refusal> {
-    match command {
-        Command::Change(mutation) => return database.change(alloc, mutation),
-        Command::Define(definition) => database.define(alloc, definition)?,
-        Command::Begin => database.begin()?,
-        Command::Commit => database.commit()?,
-        Command::Rollback => database.rollback()?,
-        Command::Savepoint(name) => database.savepoint(name)?,
-        Command::RollbackTo(name) => database.rollback_to(&name)?,
-        _ => return Err(Refusal::Syntax),
+    match Request::of(command) {
+        Request::Change(change) => make(alloc, database, change),
+        other => {
+            drop(other);
+            Err(Refusal::Syntax)
+        }
     }
-    Ok(0)
 }
 
-/// Asks a database a question. `zero` is to be 0.
+/// Makes a change of a database, and tells how many rows it changed.
+pub fn make(alloc: Global, database: &mut Db, change: Change) -> Result<usize, Refusal> {
+    match database.execute(alloc, change) {
+        Reply::Done => Ok(0),
+        Reply::Count(count) => Ok(count),
+        Reply::Refused(refusal) => Err(refusal),
+        other => {
+            drop(other);
+            Err(Refusal::Syntax)
+        }
+    }
+}
+
+/// Asks a database a question.
 pub fn ask<'s>(
     alloc: Global,
     database: &'s Db,
-    question: &Command,
-    zero: &'s Value,
-) -> Result<Answer<'s>, Refusal>
-    requires { zero.now ≡ Int (pos 0) }
-{
-    match question {
-        Command::Select(query) => Ok(Answer::Shown(database.select(alloc, query, zero)?)),
-        Command::Show(name) => Ok(Answer::Shown(database.show(alloc, name)?)),
-        Command::Explain(query) => Ok(Answer::Told(Reply::Steps(database.explain(alloc, query)?))),
-        Command::Tables => Ok(Answer::Told(Reply::Listing(database.tables(alloc)?))),
-        _ => Err(Refusal::Syntax),
+    question: &Question,
+) -> Result<Answer<'s>, Refusal> {
+    match database.ask(alloc, question) {
+        Answer::Refused(refusal) => Err(refusal),
+        answer => Ok(answer),
     }
 }
 
@@ -239,14 +244,10 @@ pub fn ask<'s>(
 fn tell(
     alloc: Global,
     database: &Db,
-    question: &Command,
+    question: &Question,
     told: &mut Vec<u8>,
 ) -> Result<(), Refusal> {
-    let zero = Value::Int(0);
-    let answer = ask(alloc, database, question, &zero)?;
-    let outcome = write(&answer, told);
-    drop(answer);
-    outcome
+    write(ask(alloc, database, question)?, told)
 }
 
 /// What a database answers to these questions, one behind the other.
@@ -271,24 +272,26 @@ fn tell_each(
 
 /// The same of the question of a line.
 fn tell_line(alloc: Global, database: &Db, line: &str, told: &mut Vec<u8>) -> Result<(), Refusal> {
-    let question = command(alloc, line)?;
+    let question = question(alloc, line)?;
     let outcome = tell(alloc, database, &question, told);
     drop(question);
     outcome
 }
 
 /// The text of an answer. `Memory` is the only refusal.
-pub fn text_of(alloc: Global, answer: &Answer<'_>) -> Result<Vec<u8>, Refusal> {
+pub fn text_of(alloc: Global, answer: Answer<'_>) -> Result<Vec<u8>, Refusal> {
     let mut text = Vec::new(alloc);
     write(answer, &mut text)?;
     Ok(text)
 }
 
 /// Writes an answer behind what was told. `Memory` is the only refusal.
-fn write(answer: &Answer<'_>, told: &mut Vec<u8>) -> Result<(), Refusal> {
+fn write(answer: Answer<'_>, told: &mut Vec<u8>) -> Result<(), Refusal> {
     let written = match answer {
-        Answer::Shown(rows) => write_shown(rows, told),
-        Answer::Told(reply) => write_reply(reply, &mut Watched::new(told)),
+        Answer::Rows(rows) => write_answered(&rows, told),
+        Answer::Steps(lines) => write_reply(&Reply::Steps(lines), &mut Watched::new(told)),
+        Answer::Listing(listing) => write_reply(&Reply::Listing(listing), &mut Watched::new(told)),
+        Answer::Refused(refusal) => write_reply(&Reply::Refused(refusal), &mut Watched::new(told)),
     };
     match written {
         Ok(()) => Ok(()),
@@ -296,7 +299,31 @@ fn write(answer: &Answer<'_>, told: &mut Vec<u8>) -> Result<(), Refusal> {
     }
 }
 
-/// Writes the rows of a query, and how many they are.
+/// Writes the rows of an answer, and how many they are.
+fn write_answered(rows: &Rows<'_>, told: &mut Vec<u8>) -> Result<(), WriteFault> {
+    match rows.reader() {
+        RowReader::Stored(stored) => write_stored(stored, rows.len(), told),
+        RowReader::Shown(shown) => write_shown(shown, told),
+    }
+}
+
+/// Writes rows of a table, and how many they are.
+fn write_stored(
+    mut rows: StoredRows<'_>,
+    count: usize,
+    told: &mut Vec<u8>,
+) -> Result<(), WriteFault> {
+    let mut lines = RowLines::new();
+    for _ in 0..count {
+        let Some(row) = rows.next() else {
+            break;
+        };
+        lines.add_row(row, &mut Watched::new(&mut *told))?;
+    }
+    lines.finish(count, &mut Watched::new(told))
+}
+
+/// Writes rows that are shown, and how many they are.
 fn write_shown(rows: &ShownRows<'_>, told: &mut Vec<u8>) -> Result<(), WriteFault> {
     let mut lines = RowLines::new();
     for i in 0..rows.len() {

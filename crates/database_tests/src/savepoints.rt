@@ -1,10 +1,10 @@
 //! Growths of memory that are refused in a transaction with savepoints, and to indexes that are made in one.
 use crate::assertions::assert_that;
 use crate::growths::{FILLED, FIRST_EMP, MOVED_EMP, NAMES, NO_NAME, OF_EMP};
-use crate::samples::opened;
+use crate::samples::{make, opened};
 use crate::steps::{end_refused, give_each, roll_back, tell_refused};
 use mm_schema::Name;
-use mm_txn::Db;
+use mm_txn::{Change, Db};
 use mm_value::Refusal;
 use std::process::Abort;
 use std::test::Fail;
@@ -16,19 +16,23 @@ const PLAN_AND_ANSWER: [&str; 2] = [
 ];
 
 /// Makes a savepoint, again where memory is refused, and goes back to it.
-fn save_again(rt: &(impl Abort + Print), database: &mut Db, name: &Name) -> Result<(), Fail> {
-    if let Err(refusal) = database.savepoint(name.copy()) {
+fn save_again(
+    rt: &(impl Abort + AllocGlobal + Print),
+    database: &mut Db,
+    name: &Name,
+) -> Result<(), Fail> {
+    if let Err(refusal) = make(rt.alloc(), database, Change::Savepoint(name.copy())) {
         tell_refused(rt, refusal)?;
-        let gone = database.rollback_to(name);
+        let gone = make(rt.alloc(), database, Change::RollbackTo(name.copy()));
         assert_that(rt, matches!(gone, Err(Refusal::NoSuchSavepoint)));
-        database.savepoint(name.copy())?;
+        make(rt.alloc(), database, Change::Savepoint(name.copy()))?;
     }
-    database.rollback_to(name)?;
+    make(rt.alloc(), database, Change::RollbackTo(name.copy()))?;
     Ok(())
 }
 
 /// Makes a savepoint of each name, again where memory is refused, and goes back to it.
-fn save_each(rt: &(impl Abort + Print), database: &mut Db) -> Result<(), Fail> {
+fn save_each(rt: &(impl Abort + AllocGlobal + Print), database: &mut Db) -> Result<(), Fail> {
     for bytes in NAMES {
         let name = Name::new(bytes).ok_or(NO_NAME)?;
         save_again(rt, database, &name)?;

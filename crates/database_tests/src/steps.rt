@@ -1,14 +1,10 @@
 //! Calls to which memory is refused, and the same calls given again.
-ghost use Rattle.std.specs.Prelude.{◌≡◌, pos};
-ghost use Rattle.mm_value.specs.declared.values.Value.TheVariants.{Int};
-
 use crate::assertions::assert_same;
 use crate::samples::{
-    Answer, ask, command, database, give, give_line, opened, sizes, text_of, told,
+    ask, command, database, give, give_line, opened, question, sizes, text_of, told,
 };
-use mm_query::Command;
-use mm_txn::Db;
-use mm_value::{Refusal, Value};
+use mm_txn::{Answer, Db, Question};
+use mm_value::Refusal;
 use std::io;
 use std::process::Abort;
 use std::test::Fail;
@@ -213,16 +209,13 @@ pub fn roll_back(
 fn ask_again<'s>(
     rt: &(impl Abort + AllocGlobal + Print),
     database: &'s Db,
-    question: &Command,
-    zero: &'s Value,
-) -> Result<Answer<'s>, Fail>
-    requires { zero.now ≡ Int (pos 0) }
-{
-    match ask(rt.alloc(), database, question, zero) {
+    question: &Question,
+) -> Result<Answer<'s>, Fail> {
+    match ask(rt.alloc(), database, question) {
         Ok(answer) => Ok(answer),
         Err(refusal) => {
             tell_refused(rt, refusal)?;
-            Ok(ask(rt.alloc(), database, question, zero)?)
+            Ok(ask(rt.alloc(), database, question)?)
         }
     }
 }
@@ -235,7 +228,7 @@ fn ask_line(
     line: &str,
     expected: &str,
 ) -> Result<bool, Fail> {
-    match command(rt.alloc(), line) {
+    match question(rt.alloc(), line) {
         Ok(question) => {
             let outcome = ask_once_more(rt, database, &question, line, expected);
             drop(question);
@@ -249,21 +242,18 @@ fn ask_line(
 fn ask_once_more(
     rt: &(impl Abort + AllocGlobal + Print),
     database: &Db,
-    question: &Command,
+    question: &Question,
     line: &str,
     expected: &str,
 ) -> Result<bool, Fail> {
-    let zero = Value::Int(0);
-    let answer = ask_again(rt, database, question, &zero)?;
-    let outcome = look_at(rt, &answer, line, expected);
-    drop(answer);
-    outcome
+    let answer = ask_again(rt, database, question)?;
+    look_at(rt, answer, line, expected)
 }
 
 /// Looks at the answer to the question of a line. Whether that came so far: not where memory was refused to its text.
 fn look_at(
     rt: &(impl Abort + AllocGlobal),
-    answer: &Answer<'_>,
+    answer: Answer<'_>,
     line: &str,
     expected: &str,
 ) -> Result<bool, Fail> {

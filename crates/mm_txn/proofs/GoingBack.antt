@@ -1,8 +1,8 @@
 -- What can be gone back to, through what changes rows, takes changes back, and makes savepoints.
-use Rattle.std.proofs.Common.{◌≡◌, ℕ, suc, ◌≤◌, List, [], ◌∷◌, ◌++◌, Some, length, map, reverse, take, slice_get, refl, sym, ap, subst, ◌∙◌, arith}
+use Rattle.std.proofs.Common.{◌≡◌, ℕ, zero, suc, ◌≤◌, List, [], ◌∷◌, ◌++◌, Some, drop, length, map, reverse, take, slice_get, refl, sym, ap, subst, ◌∙◌, arith}
 use Rattle.std.specs.List.{All, AllByRecursion}
 use Rattle.std.proofs.lemmas.List.{drop_all, length-take}
-use Rattle.std.proofs.lemmas.List.Elements.{All-from_recursion, All-nil, All-push, All-take, recursion_from_All}
+use Rattle.std.proofs.lemmas.List.Elements.{All-from_recursion, All-push, All-take, recursion_from_All}
 use Rattle.mm_schema.specs.Instance.{Instance}
 use Rattle.mm_standing.specs.State.{Lists, count_at}
 use Rattle.mm_store.specs.Marks.{rows_at_mark, rows_now}
@@ -17,6 +17,15 @@ use Rattle.mm_txn.specs.Watched.{AreListed}
 use Rattle.mm_txn.specs.declared.savepoints.Mark.{Mark}
 use Rattle.mm_txn.proofs.ListSteps.{saved_now, saved_through}
 use Rattle.mm_txn.proofs.LatestMarks.{Ascend-longer, Ascend-push, Ascend-take, each_within}
+
+-- Nothing of the front of a list lies behind it.
+pub none_behind : {X : Type 0} (n : ℕ) (xs front : List X) → front ≡ take n xs → drop n front ≡ []
+none_behind n xs front is = ap (drop n) is ∙ drop_taken n xs
+  where
+    drop_taken : {X : Type 0} (n : ℕ) (xs : List X) → drop n (take n xs) ≡ []
+    drop_taken zero xs = refl
+    drop_taken (suc n) [] = refl
+    drop_taken (suc n) (x ∷ xs) = drop_taken n xs
 
 -- ---- where older rows stay
 

@@ -22,6 +22,7 @@ mod RowsMade
 mod SavedRows
 mod LatestMarks
 mod Selecting
+mod RestKept
 mod Resting
 mod Naming
 mod Placed

@@ -1,5 +1,5 @@
 -- Standing queries and their lists after a change of the tables of the catalog.
-use Rattle.std.proofs.Common.{◌≡◌, ℕ, suc, ◌+◌, ◌≤◌, Bool, true, false, cond, not, Result, Ok, Err, OnOk, OnErr, List, [], ◌∷◌, ◌++◌, zero, Option, Some, None, filter, find, is_none, length, map, pos, slice_get, refl, sym, ap, subst, ◌∙◌, arith}
+use Rattle.std.proofs.Common.{◌≡◌, ℕ, suc, ◌+◌, ◌≤◌, Bool, true, false, cond, not, Result, Ok, Err, OnOk, OnErr, List, [], ◌∷◌, ◌++◌, zero, Option, Some, None, filter, find, is_none, map, pos, slice_get, refl, sym, ap, subst, ◌∙◌, arith}
 use Rattle.std.specs.List.{All, AllByRecursion, IsDistinct, list_any}
 use Rattle.std.specs.Option.{unwrap_or}
 use Rattle.std.proofs.lemmas.Bool.Decides.{nat_tests}
@@ -24,7 +24,6 @@ use Rattle.mm_schema.proofs.References.{as_there, same_with, same_without, secon
 use Rattle.mm_bag.specs.Counts.{count_of}
 use Rattle.mm_store.specs.Tables.{Tables}
 use Rattle.mm_value.specs.declared.refusal.Refusal.{Refusal}
-use Rattle.mm_value.specs.declared.values.Value.{Value}
 use Rattle.mm_query.specs.Machine.{Outcome, after_definition, definition_conditions}
 use Rattle.mm_query.specs.Queries.{bag_of}
 use Rattle.mm_query.specs.Resolving.{IsQueryWithin}

@@ -4,22 +4,24 @@ use Rattle.std.specs.List.{AllByRecursion, list_any}
 use Rattle.std.specs.Option.{option_map_or}
 use Rattle.mm_schema.specs.Name.{same_name}
 use Rattle.mm_schema.specs.Refused.{first_refusal}
-use Rattle.mm_schema.specs.Schema.{Schema}
 use Rattle.mm_value.specs.declared.refusal.Refusal.TheVariants.{NoSuchSavepoint, NoTransaction}
 use Rattle.mm_query.specs.Machine.{conditions, lacks_savepoint}
 use Rattle.mm_query.specs.State.{Saved, Savepoint, State}
 use Rattle.mm_query.specs.declared.command.Command.TheVariants.{RollbackTo}
-use Rattle.mm_standing.specs.State.{Lists}
 use Rattle.mm_store.specs.Tables.{Tables}
 use Rattle.mm_store.specs.Worlds.{Noted}
+use Rattle.mm_txn.specs.Contents.{Holdings}
 use Rattle.mm_txn.specs.Saved.{kept_state, saved_of}
 use Rattle.mm_txn.specs.declared.savepoints.Mark.{Mark}
 use Rattle.mm_txn.proofs.LatestMarks.{IsLatest, none_named, some_named}
 use Rattle.mm_txn.proofs.TypedSteps.{saved_where_open}
 
-module _ (name : List ℕ) (schema : Schema) (store : Tables) (undo : List Noted) (lists : Lists) (is_open : Bool) (marks : List Mark) (is : is_open ≡ true) where
+module _ (name : List ℕ) (held : Holdings) (undo : List Noted) (is_open : Bool) (marks : List Mark) (is : is_open ≡ true) where
+  abbrev store : Tables
+  store = held.store
+
   abbrev state : State
-  state = kept_state schema store undo lists is_open marks
+  state = kept_state held undo is_open marks
 
   lacks_is : lacks_savepoint name state ≡ not (list_any (λ (s : Savepoint). same_name name s.name) (saved_of undo store marks).savepoints)
   lacks_is =

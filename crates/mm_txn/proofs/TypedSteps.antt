@@ -2,7 +2,7 @@
 use Rattle.std.proofs.Common.{◌≡◌, ◌⊎◌, ℕ, Bool, true, false, cond, not, ◌&&◌, Result, Ok, Err, OnOk, OnErr, List, ◌++◌, Option, Some, None, is_some, length, inl, inr, refl, sym, ap, subst, ◌∙◌, ⊎_elim, arith}
 use Rattle.std.proofs.lemmas.Bool.{cases_Bool}
 use Rattle.mm_schema.specs.Refused.{AnswersDue, Condition, first_refusal}
-use Rattle.mm_schema.specs.Schema.{HasDistinctNames, Schema}
+use Rattle.mm_schema.specs.Schema.{HasDistinctNames}
 use Rattle.mm_schema.proofs.Dues.{due_in_front}
 use Rattle.mm_standing.specs.State.{Lists, count_at}
 use Rattle.mm_store.specs.Marks.{rows_at_mark}
@@ -19,7 +19,7 @@ use Rattle.mm_query.specs.State.{Saved, State}
 use Rattle.mm_query.specs.declared.command.Definition.{Definition}
 use Rattle.mm_query.specs.declared.command.Definition.TheVariants as define
 use Rattle.mm_query.specs.declared.command.Mutation.{Mutation}
-use Rattle.mm_txn.specs.Rest.{AreAtRest, state_at_rest}
+use Rattle.mm_txn.specs.Contents.{Holdings, IsAtRest, state_held}
 use Rattle.mm_txn.specs.Saved.{IsConsistent, IsSettled, kept_state, saved_of, saved_rows}
 use Rattle.mm_txn.specs.declared.savepoints.Mark.{Mark}
 use Rattle.mm_txn.proofs.GoingBack.{back_through, saved_same}
@@ -100,13 +100,16 @@ on_err : {T E A B : Type 0} (r : Result T E) → (A → B) → OnErr r A → OnE
 on_err (Ok value) f held = tt
 on_err (Err refusal) f held = f held
 
-module _ (schema : Schema) (store : Tables) (undo : List Noted) (lists : Lists) (is_open : Bool) (marks : List Mark)
-    (was : IsConsistent schema store undo lists is_open marks) (definition : Definition) (may : (is_open && not (is_of_index definition)) ≡ false) where
-  abbrev state : State
-  state = kept_state schema store undo lists is_open marks
+module _ (held : Holdings) (undo : List Noted) (is_open : Bool) (marks : List Mark) (was : IsConsistent held undo is_open marks) (definition : Definition)
+    (may : (is_open && not (is_of_index definition)) ≡ false) where
+  abbrev store : Tables
+  store = held.store
 
-  abbrev rest_state : State
-  rest_state = state_at_rest schema store lists
+  abbrev lists : Lists
+  lists = held.lists
+
+  abbrev state : State
+  state = kept_state held undo is_open marks
 
   abbrev saved : Option Saved
   saved = saved_rows is_open undo store marks
@@ -115,66 +118,62 @@ module _ (schema : Schema) (store : Tables) (undo : List Noted) (lists : Lists) 
   pub settled_before : is_of_index definition ≡ false → IsSettled undo lists
   settled_before none = (was.settled (closed_where_none is_open (is_of_index definition) may none)).0
 
-  module _ (schema' : Schema) (store' : Tables) (lists' : Lists)
-      (rows : is_of_index definition ≡ true → (mark : ℕ) → rows_at_mark mark undo store' ≡ rows_at_mark mark undo store) where
+  module _ (new : Holdings) (rows : is_of_index definition ≡ true → (mark : ℕ) → rows_at_mark mark undo new.store ≡ rows_at_mark mark undo store) where
     -- What is saved stays.
-    pub saved_defined : saved_rows is_open undo store' marks ≡ saved
+    pub saved_defined : saved_rows is_open undo new.store marks ≡ saved
     saved_defined =
         ⊎_elim
         (λ (is : is_open ≡ true).
         ap (λ (s : Saved). cond is_open (Some s) None)
-        (saved_same store store' undo undo (length undo) (λ mark within. rows (index_where_open is_open (is_of_index definition) may is) mark)
+        (saved_same store new.store undo undo (length undo) (λ mark within. rows (index_where_open is_open (is_of_index definition) may is) mark)
         (length lists.log) marks (was.back is).ascend))
         (λ (closed : is_open ≡ false).
-        ap (λ (b : Bool). cond b (Some (saved_of undo store' marks)) None) closed
+        ap (λ (b : Bool). cond b (Some (saved_of undo new.store marks)) None) closed
         ∙ sym (ap (λ (b : Bool). cond b (Some (saved_of undo store marks)) None) closed))
         (cases_Bool is_open)
 
-    made : state_at_rest schema' store' lists' ≡ after_definition definition rest_state
-        → kept_state schema' store' undo lists' is_open marks ≡ after_definition definition state
-    made done = (λ i. record (done i) { saved = saved_defined i }) ∙ sym (after_beside definition rest_state saved)
+    made : state_held new ≡ after_definition definition (state_held held) → kept_state new undo is_open marks ≡ after_definition definition state
+    made done = (λ i. record (done i) { saved = saved_defined i }) ∙ sym (after_beside definition (state_held held) saved)
 
-    left : state_at_rest schema' store' lists' ≡ rest_state → kept_state schema' store' undo lists' is_open marks ≡ state
+    left : state_held new ≡ state_held held → kept_state new undo is_open marks ≡ state
     left same = λ i. record (same i) { saved = saved_defined i }
 
     module _ {T : Type 0} (result : Result T Refusal) where
       -- The state is that after the change, or as it was.
-      pub definition_done : OnOk result (state_at_rest schema' store' lists' ≡ after_definition definition rest_state)
-          → OnOk result (kept_state schema' store' undo lists' is_open marks ≡ after_definition definition state)
+      pub definition_done : OnOk result (state_held new ≡ after_definition definition (state_held held))
+          → OnOk result (kept_state new undo is_open marks ≡ after_definition definition state)
       definition_done ok = on_ok result made ok
 
-      pub definition_refused : OnErr result (state_at_rest schema' store' lists' ≡ rest_state)
-          → OnErr result (kept_state schema' store' undo lists' is_open marks ≡ state)
+      pub definition_refused : OnErr result (state_held new ≡ state_held held) → OnErr result (kept_state new undo is_open marks ≡ state)
       definition_refused err = on_err result left err
 
     -- Rows and standing queries have their types.
-    typed_after : {T : Type 0} (result : Result T Refusal) → AnswersDue (first_refusal (definition_conditions definition rest_state)) result
-        → OnOk result (state_at_rest schema' store' lists' ≡ after_definition definition rest_state)
-        → OnErr result (state_at_rest schema' store' lists' ≡ rest_state) → IsTyped (kept_state schema' store' undo lists' is_open marks)
-    typed_after (Ok value) due ok err =
+    typed_after : IsAtRest held → {T : Type 0} (result : Result T Refusal)
+        → AnswersDue (first_refusal (definition_conditions definition (state_held held))) result
+        → OnOk result (state_held new ≡ after_definition definition (state_held held)) → OnErr result (state_held new ≡ state_held held)
+        → IsTyped (kept_state new undo is_open marks)
+    typed_after rest (Ok value) due ok err =
         subst IsTyped (sym (made ok))
         (typed_by_definition definition state
         (⊎_elim (λ closed. inl (saved_where_open is_open (saved_of undo store marks) ∙ closed)) (λ index. inr index)
         (index_or_closed is_open (is_of_index definition) may))
-        (ap first_refusal (conditions_beside definition rest_state saved) ∙ due) was.placed.beside (bound_all schema lists.queries was.placed.placed) was.typed)
-    typed_after (Err refusal) due ok err = subst IsTyped (sym (left err)) was.typed
+        (ap first_refusal (conditions_beside definition (state_held held) saved) ∙ due) rest.placed.beside
+        (bound_all held.schema lists.queries rest.placed.placed) was.typed)
+    typed_after rest (Err refusal) due ok err = subst IsTyped (sym (left err)) was.typed
 
     -- After a change of the catalog all is consistent.
-    pub defined : {T : Type 0} (result : Result T Refusal) → AnswersDue (first_refusal (definition_conditions definition rest_state)) result
-        → OnOk result (state_at_rest schema' store' lists' ≡ after_definition definition rest_state)
-        → OnErr result (state_at_rest schema' store' lists' ≡ rest_state) → AreAtRest schema' store' lists' → CanUndo store' undo
-        → (is_of_index definition ≡ false → IsSettled undo lists') → (is_of_index definition ≡ true → lists' ≡ lists)
-        → IsConsistent schema' store' undo lists' is_open marks
-    defined result due ok err rest fits settled same = record {
-      kept = rest.kept;
-      placed = rest.placed;
-      typed = typed_after result due ok err;
-      listed = rest.listed;
+    pub defined : IsAtRest held → {T : Type 0} (result : Result T Refusal)
+        → AnswersDue (first_refusal (definition_conditions definition (state_held held))) result
+        → OnOk result (state_held new ≡ after_definition definition (state_held held)) → OnErr result (state_held new ≡ state_held held)
+        → CanUndo new.store undo → (is_of_index definition ≡ false → IsSettled undo new.lists) → (is_of_index definition ≡ true → new.lists ≡ lists)
+        → IsConsistent new undo is_open marks
+    defined rest result due ok err fits settled same = record {
+      typed = typed_after rest result due ok err;
       fits = fits;
       back = λ is.
           let index = index_where_open is_open (is_of_index definition) may is in
           let back = was.back is in
-          back_through store store' undo undo (length undo) (λ mark within. rows index mark) lists lists' (ap (λ (l : Lists). l.queries) (same index))
+          back_through store new.store undo undo (length undo) (λ mark within. rows index mark) lists new.lists (ap (λ (l : Lists). l.queries) (same index))
           (length lists.log) (λ mark within list row. ap (λ (l : Lists). count_at mark list row l) (same index)) marks back.saved back.each back.ascend
           (omega arith) (omega (arith, ap (λ (l : Lists). length l.log) (same index)));
       settled = λ closed.

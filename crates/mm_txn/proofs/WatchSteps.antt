@@ -1,5 +1,5 @@
 -- A standing query that comes, and one that goes.
-use Rattle.std.proofs.Common.{◌≡◌, ◌⊎◌, ℕ, zero, suc, ◌+◌, ◌<◌, ◌≤◌, Bool, true, false, cond, not, Result, Ok, Err, OnErr, OnOk, MatchResult, List, [], ◌∷◌, ◌++◌, Option, Some, None, inl, inr, filter, find, is_none, is_some, length, map, nat_le, nat_lt, pos, slice_get, refl, sym, ap, subst, ◌∙◌, ⊎_elim, arith}
+use Rattle.std.proofs.Common.{◌≡◌, ◌⊎◌, ℕ, zero, suc, ◌+◌, ◌<◌, ◌≤◌, Bool, true, false, cond, not, Result, Ok, Err, OnOk, MatchResult, List, [], ◌∷◌, ◌++◌, Option, Some, None, inl, inr, filter, find, is_none, is_some, length, map, nat_le, nat_lt, pos, slice_get, refl, sym, ap, subst, ◌∙◌, ⊎_elim, arith}
 use Rattle.std.specs.List.{All, AllByRecursion, IsDistinct, list_any, position_or_len, remove}
 use Rattle.std.proofs.lemmas.Bool.Decides.{nat_tests}
 use Rattle.std.proofs.lemmas.Bool.{or_from, or_parts}
@@ -15,7 +15,6 @@ use Rattle.mm_schema.specs.declared.standing.StandingDef.{StandingDef}
 use Rattle.mm_schema.proofs.Dues.{due_behind, due_in_front}
 use Rattle.mm_schema.proofs.NameLemmas.{same_bytes, same_name_refl}
 use Rattle.mm_schema.proofs.Places.{find_at_place, find_nowhere, place_from_some, within_from_some}
-use Rattle.mm_schema.proofs.References.{first_none}
 use Rattle.mm_schema.proofs.StandingLemmas.{names_of}
 use Rattle.mm_bag.specs.Counts.{Counts, Entries, count_in, count_of}
 use Rattle.mm_store.specs.Tables.{Tables, rows_at}
@@ -407,17 +406,12 @@ pub standing_missing : (name : List ℕ) (schema : Schema) → standing_place na
 standing_missing name schema nowhere =
     ap (λ (q : Option StandingDef). cond (is_none q) (Some NoSuchStandingQuery) None) (find_nowhere (λ (q : StandingDef). same_name name q.name) schema.standing nowhere)
 
--- All is at rest without it, or as it was.
-pub unwatched_rest : {T : Type 0} (schema schema' : Schema) (store : Tables) (lists lists' : Lists) (result : Result T Refusal) (name : List ℕ)
-    → AreAtRest schema store lists → OnOk result (schema' ≡ without_standing name schema) → OnErr result (schema' ≡ schema)
-    → ArePlaced schema' lists'.queries → AreListed (instance_of store.tables) lists' → AreAtRest schema' store lists'
-unwatched_rest schema schema' store lists lists' result name rest ok err placed listed = record {
-  kept = by result ok err;
-  placed = placed;
-  listed = listed;
+-- All is at rest without it.
+pub rest_left : (name : List ℕ) (schema : Schema) (store : Tables) (lists : Lists) → AreAtRest schema store lists → (place : ℕ)
+    → standing_place name schema ≡ Some place → HasDistinctStanding schema → first_refusal (drop_standing_conditions name schema) ≡ None
+    → AreAtRest (without_standing name schema) store (record lists { queries = remove lists.queries place; bags = remove lists.bags place })
+rest_left name schema store lists rest place found distinct due = record {
+  kept = kept_beside schema (without_standing name schema).standing store rest.kept;
+  placed = placed_left name schema lists rest.placed place found distinct due;
+  listed = listed_left (instance_of store.tables) lists place rest.listed;
 }
-  where
-    by : {T : Type 0} (r : Result T Refusal) → OnOk r (schema' ≡ without_standing name schema) → OnErr r (schema' ≡ schema) → AreKept schema' store
-    by (Ok value) ok err =
-        subst (λ s. AreKept s store) (sym ok) (kept_beside schema (without_standing name schema).standing store rest.kept)
-    by (Err refusal) ok err = subst (λ s. AreKept s store) (sym err) rest.kept

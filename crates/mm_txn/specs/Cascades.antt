@@ -13,7 +13,7 @@ use Rattle.mm_schema.specs.Schema.{Schema, table_place}
 use Rattle.mm_schema.specs.declared.column.Column.{Column}
 use Rattle.mm_relation.specs.declared.edits.Edit.{Edit}
 use Rattle.mm_store.specs.Links.{IsReference}
-use Rattle.mm_store.specs.Tables.{Tables, key_at}
+use Rattle.mm_store.specs.Tables.{IsAt, Tables, key_at}
 use Rattle.mm_value.specs.declared.row_ref.RowRef.{RowRef}
 use Rattle.mm_value.specs.declared.values.Value.{Value}
 use Rattle.mm_txn.specs.TableEdits.{FitsAt, PlacedEdits, edits_at, pairs_at}
@@ -65,3 +65,8 @@ pub record AddsReferrers (stored : StoredRows) (test : List Value → Bool) (old
   pub live : All (IsLive stored.places) old → All (IsLive stored.places) new
   pub found : (at : RowRef) → Contains stored.refs at
       → list_any (same_ref at) new ≡ list_any (same_ref at) old || test (row_at (slot_at stored.places) at)
+
+-- The same of the relation at a place and the rows that go along by a column.
+abbrev pub AddsGoing : Tables → ℕ → Along → List RowRef → List RowRef → Type 0
+AddsGoing store place along old new =
+    (stored : StoredRows) → IsAt store place stored → AddsReferrers stored (goes_by store.tables along.0 along.1) old new

@@ -1,8 +1,13 @@
 pub mod Along
+pub mod Answers
 pub mod Cascades
+pub mod Contents
 pub mod Kept
 pub mod Marks
+pub mod Requests
 pub mod Rest
 pub mod Saved
+pub mod Sources
+pub mod Steps
 pub mod TableEdits
 pub mod Watched

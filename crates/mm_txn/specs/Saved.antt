@@ -1,7 +1,6 @@
 -- What is saved of an open transaction, and that it can be taken back.
 use Rattle.std.specs.Prelude.{◌≡◌, ℕ, Bool, true, false, cond, All, List, [], Option, Some, None, length, map, reverse}
 use Rattle.mm_schema.specs.Instance.{Instance}
-use Rattle.mm_schema.specs.Schema.{Schema}
 use Rattle.mm_standing.specs.State.{FitAt, Lists}
 use Rattle.mm_store.specs.Marks.{rows_at_mark}
 use Rattle.mm_store.specs.Tables.{Tables}
@@ -9,9 +8,10 @@ use Rattle.mm_store.specs.Undoing.{CanUndo}
 use Rattle.mm_store.specs.Worlds.{Noted}
 use Rattle.mm_query.specs.State.{Saved, Savepoint, State}
 use Rattle.mm_typing.specs.Typing.{IsTyped}
-use Rattle.mm_txn.specs.Kept.{AreKept, instance_of}
+use Rattle.mm_txn.specs.Contents.{Holdings}
+use Rattle.mm_txn.specs.Kept.{instance_of}
 use Rattle.mm_txn.specs.Marks.{Ascend}
-use Rattle.mm_txn.specs.Watched.{AreListed, ArePlaced, queries_of, rows_by_place}
+use Rattle.mm_txn.specs.Watched.{queries_of, rows_by_place}
 use Rattle.mm_txn.specs.declared.savepoints.Mark.{Mark}
 
 -- The rows at a mark are those that stood when the log had so many commands.
@@ -27,12 +27,12 @@ abbrev pub saved_rows : Bool → List Noted → Tables → List Mark → Option 
 saved_rows is_open undo store marks = cond is_open (Some (saved_of undo store marks)) None
 
 -- The state that is kept: the catalog, the rows beside its tables, the queries of the lists, and the rows that are saved.
-abbrev pub kept_state : Schema → Tables → List Noted → Lists → Bool → List Mark → State
-kept_state schema store undo lists is_open marks = record {
-  schema = schema;
-  rows = instance_of store.tables;
-  queries = queries_of lists.queries;
-  saved = saved_rows is_open undo store marks;
+abbrev pub kept_state : Holdings → List Noted → Bool → List Mark → State
+kept_state held undo is_open marks = record {
+  schema = held.schema;
+  rows = instance_of held.store.tables;
+  queries = queries_of held.lists.queries;
+  saved = saved_rows is_open undo held.store marks;
 }
 
 -- Nothing can be taken back.
@@ -54,14 +54,10 @@ pub record CanGoBack (store : Tables) (undo : List Noted) (lists : Lists) (marks
   pub each : All (IsSaved undo store lists) marks
   pub ascend : Ascend 0 0 marks (length undo) (length lists.log)
 
--- There is a relation for each table of the catalog and a list for each standing query; rows have the types of their columns, and
--- standing queries add numbers only to whole numbers; the lists fit the rows; all commands of the log can be taken back, and the
--- lists with them; and outside a transaction there are none.
-pub record IsConsistent (schema : Schema) (store : Tables) (undo : List Noted) (lists : Lists) (is_open : Bool) (marks : List Mark) : Type 0 where
-  pub kept : AreKept schema store
-  pub placed : ArePlaced schema lists.queries
-  pub typed : IsTyped (kept_state schema store undo lists is_open marks)
-  pub listed : AreListed (instance_of store.tables) lists
-  pub fits : CanUndo store undo
-  pub back : is_open ≡ true → CanGoBack store undo lists marks
-  pub settled : is_open ≡ false → IsSettled undo lists × (marks ≡ [])
+-- Rows have the types of their columns, and standing queries add numbers only to whole numbers; all commands of the log can be taken
+-- back, and the lists with them; and outside a transaction there are none.
+pub record IsConsistent (held : Holdings) (undo : List Noted) (is_open : Bool) (marks : List Mark) : Type 0 where
+  pub typed : IsTyped (kept_state held undo is_open marks)
+  pub fits : CanUndo held.store undo
+  pub back : is_open ≡ true → CanGoBack held.store undo held.lists marks
+  pub settled : is_open ≡ false → IsSettled undo held.lists × (marks ≡ [])

@@ -10,7 +10,7 @@ ghost use Rattle.mm_store.specs.Looked.{IsFirstOn, IsIndexOn};
 ghost use Rattle.mm_store.specs.Tables.{IsAt, rows_at};
 ghost use Rattle.mm_query.specs.Edits.{goes_along, removals_of, with_cascades};
 ghost use Rattle.mm_value.specs.declared.refusal.Refusal.TheVariants.{Memory};
-ghost use Rattle.mm_txn.specs.Cascades.{AddsReferrers, IsCascade, along_of, along_to, alongs_from, goes_by};
+ghost use Rattle.mm_txn.specs.Cascades.{AddsGoing, IsCascade, along_of, along_to, alongs_from};
 ghost use Rattle.mm_txn.specs.Kept.{AreKept, instance_of};
 ghost use Rattle.mm_txn.specs.TableEdits.{AreEdits, FitsAt, edits_at, named, pairs_at, placed};
 
@@ -176,8 +176,7 @@ fn add_referrers(
 ) -> Result<(), Refusal>
     requires there { table < length store.now.tables }
     requires cascade { IsCascade store.now table cascade.now.column (cascade.now.to, cascade.now.gone.now) }
-    ensures found { OnOk result ((stored : StoredRows) → IsAt store.now table stored
-        → AddsReferrers stored (goes_by store.now.tables cascade.now.column (cascade.now.to, cascade.now.gone.now)) found.old.items found.new.items) }
+    ensures found { OnOk result (AddsGoing store.now table (along_of cascade.now) found.old.items found.new.items) }
     ensures memory { IfErr result (λ refusal. refusal ≡ Memory) }
 {
     match store.index_on(table, cascade.column) {
@@ -198,8 +197,7 @@ fn add_by_index(
     requires there { table < length store.now.tables }
     requires cascade { IsCascade store.now table cascade.now.column (cascade.now.to, cascade.now.gone.now) }
     requires index { (stored : StoredRows) → IsAt store.now table stored → IsIndexOn stored cascade.now.column index }
-    ensures found { OnOk result ((stored : StoredRows) → IsAt store.now table stored
-        → AddsReferrers stored (goes_by store.now.tables cascade.now.column (cascade.now.to, cascade.now.gone.now)) found.old.items found.new.items) }
+    ensures found { OnOk result (AddsGoing store.now table (along_of cascade.now) found.old.items found.new.items) }
     ensures memory { IfErr result (λ refusal. refusal ≡ Memory) }
 {
     store.is_kept(table);
@@ -226,8 +224,7 @@ fn add_by_scan(
     requires there { table < length store.now.tables }
     requires cascade { IsCascade store.now table cascade.now.column (cascade.now.to, cascade.now.gone.now) }
     requires unindexed { (stored : StoredRows) → IsAt store.now table stored → IsFirstOn stored cascade.now.column None }
-    ensures found { OnOk result ((stored : StoredRows) → IsAt store.now table stored
-        → AddsReferrers stored (goes_by store.now.tables cascade.now.column (cascade.now.to, cascade.now.gone.now)) found.old.items found.new.items) }
+    ensures found { OnOk result (AddsGoing store.now table (along_of cascade.now) found.old.items found.new.items) }
     ensures memory { IfErr result (λ refusal. refusal ≡ Memory) }
 {
     store.is_kept(table);

@@ -8,18 +8,19 @@ ghost use Rattle.mm_relation.specs.RowLists.{edit_pairs};
 ghost use Rattle.mm_schema.specs.Refused.{AnswersDue, first_refusal};
 ghost use Rattle.mm_bag.specs.Counts.{Counts};
 ghost use Rattle.mm_standing.specs.Queries.{change_conditions as list_conditions};
-ghost use Rattle.mm_standing.specs.State.{AreServed, FitPrepared, count_at, count_now};
+ghost use Rattle.mm_standing.specs.State.{AreServed, FitPrepared};
 ghost use Rattle.mm_store.specs.Marks.{rows_at_mark};
 ghost use Rattle.mm_store.specs.Tables.{AreFit, HasRows, IsAt, SameForm, Turns, makes_orphans, rows_with};
 ghost use Rattle.mm_store.specs.Undoing.{CanUndo};
 ghost use Rattle.mm_store.specs.Worlds.{Noted};
 ghost use Rattle.mm_value.specs.declared.refusal.Refusal.TheVariants.{RowIsReferenced};
 ghost use Rattle.mm_value.specs.declared.values.Value.{Value};
+ghost use Rattle.mm_txn.specs.Contents.{IsDue, Makes, MayMake};
 ghost use Rattle.mm_txn.specs.Kept.{instance_of};
-ghost use Rattle.mm_txn.specs.Saved.{IsSettled};
-ghost use Rattle.mm_txn.specs.TableEdits.{AreEdits, FitsAt, HaveRows, edits_conditions, leaves_orphans, placed, rows_edited, told};
+ghost use Rattle.mm_txn.specs.TableEdits.{AreEdits, FitsAt, HaveRows, leaves_orphans, placed, rows_edited, told};
 ghost use Rattle.mm_txn.specs.Watched.{AreListed, IsTested, rows_by_place};
 
+use crate::contents::Contents;
 use crate::edits::{ChangeEdits, TableEdits};
 use mm_delta::TableEdits as TableChange;
 use mm_standing::Standing;
@@ -27,50 +28,32 @@ use mm_store::{Meter, Store, Undo};
 use mm_value::Refusal;
 use std::alloc::{AllocError, Global};
 
-/// Makes all edits of a change that its rows and the standing queries allow, and notes them in the log, or none. Each list follows its
-/// query. The refusals are those of [`Store::check`] for the table that the change names, where `RowIsReferenced` is also due where a
-/// row refers that no edit takes out to one of another table that goes; and behind them those of [`Standing::prepare`].
-pub(crate) fn make_edits(
-    alloc: Global,
-    store: &mut Store,
-    standing: &mut Standing,
-    edits: ChangeEdits,
-    undo: &mut Undo,
-) -> Result<(), Refusal>
-    requires are { AreEdits store.old (placed edits.own ∷ map placed edits.along.items) }
-    requires back { All (λ reference. reference.to < reference.from) store.old.links }
-    requires fits { CanUndo store.old undo.old }
-    requires served { AreServed store.old standing.old.queries }
-    requires listed { AreListed (instance_of store.old.tables) standing.old }
-    requires typed { All (IsTested (rows_by_place (instance_of store.old.tables)) (rows_edited store.old (placed edits.own ∷ map placed edits.along.items))) standing.old.queries }
-    ensures due { (stored : StoredRows) → IsAt store.old edits.own.table stored
-        → AnswersDue (first_refusal (edits_conditions store.old stored (placed edits.own) (map placed edits.along.items)
-        ++ list_conditions (rows_edited store.old (placed edits.own ∷ map placed edits.along.items)) standing.old.queries)) result }
-    ensures ok { OnOk result (HaveRows (rows_edited store.old (placed edits.own ∷ map placed edits.along.items)) store.old store.new) }
-    ensures err { OnErr result (HaveRows (rows_by_place (instance_of store.old.tables)) store.old store.new) }
-    ensures links { store.new.links ≡ store.old.links }
-    ensures kept { OnErr result (undo.new ≡ undo.old) }
-    ensures longer { length undo.old ≤ length undo.new }
-    ensures fits { CanUndo store.new undo.new }
-    ensures listed { AreListed (instance_of store.new.tables) standing.new }
-    ensures queries { standing.new.queries ≡ standing.old.queries }
-    ensures log { OnErr result (standing.new.log ≡ standing.old.log) }
-    ensures log_longer { length standing.old.log ≤ length standing.new.log }
-
-    // Going back to an older mark gives the rows and each list as it gave them.
-    ensures saved { (mark : ℕ) → mark ≤ length undo.old → rows_at_mark mark undo.new store.new ≡ rows_at_mark mark undo.old store.old }
-    ensures undone { (mark : ℕ) → mark ≤ length standing.old.log
-        → (list : ℕ) (row : List Value) → count_at mark list row standing.new ≡ count_at mark list row standing.old }
-{
-    let ChangeEdits { own, along } = edits;
-    if along.is_empty() {
-        edit_table(alloc, store, standing, own, undo)
-    } else {
-        remove_rows(alloc, store, standing, own, along, undo)
+impl Contents {
+    /// Makes all edits of a change that its rows and the standing queries allow, and notes them in the log, or none. Each list follows
+    /// its query. The refusals are those of [`Store::check`] for the table that the change names, where `RowIsReferenced` is also due
+    /// where a row refers that no edit takes out to one of another table that goes; and behind them those of [`Standing::prepare`].
+    pub(crate) fn make_edits(
+        &mut self,
+        alloc: Global,
+        edits: ChangeEdits,
+        undo: &mut Undo,
+    ) -> Result<(), Refusal>
+        requires { MayMake self.old.store self.old.lists undo.old (placed edits.own ∷ map placed edits.along.items) }
+        ensures due { IsDue self.old.store self.old.lists (placed edits.own) (map placed edits.along.items) result }
+        ensures made { Makes (rows_edited self.old.store (placed edits.own ∷ map placed edits.along.items)) self.old.store self.new.store
+            self.old.lists self.new.lists undo.old undo.new result }
+        ensures schema { self.new.schema ≡ self.old.schema }
+    {
+        let ChangeEdits { own, along } = edits;
+        if along.is_empty() {
+            edit_table(alloc, &mut self.store, &mut self.standing, own, undo)
+        } else {
+            remove_rows(alloc, &mut self.store, &mut self.standing, own, along, undo)
+        }
     }
 }
 
-/// Makes the edits of one table, as [`make_edits`] does. What refuses them by the rows comes first, and costs no list any work.
+/// Makes the edits of one table, as [`Contents::make_edits`] does. What refuses them by the rows comes first, and costs no list any work.
 fn edit_table(
     alloc: Global,
     store: &mut Store,
@@ -78,30 +61,9 @@ fn edit_table(
     own: TableEdits,
     undo: &mut Undo,
 ) -> Result<(), Refusal>
-    requires are { AreEdits store.old (placed own ∷ []) }
-    requires back { All (λ reference. reference.to < reference.from) store.old.links }
-    requires fits { CanUndo store.old undo.old }
-    requires served { AreServed store.old standing.old.queries }
-    requires listed { AreListed (instance_of store.old.tables) standing.old }
-    requires typed { All (IsTested (rows_by_place (instance_of store.old.tables)) (rows_edited store.old (placed own ∷ []))) standing.old.queries }
-    ensures due { (stored : StoredRows) → IsAt store.old own.table stored
-        → AnswersDue (first_refusal (edits_conditions store.old stored (placed own) ([])
-        ++ list_conditions (rows_edited store.old (placed own ∷ [])) standing.old.queries)) result }
-    ensures ok { OnOk result (HaveRows (rows_edited store.old (placed own ∷ [])) store.old store.new) }
-    ensures err { OnErr result (HaveRows (rows_by_place (instance_of store.old.tables)) store.old store.new) }
-    ensures links { store.new.links ≡ store.old.links }
-    ensures kept { OnErr result (undo.new ≡ undo.old) }
-    ensures longer { length undo.old ≤ length undo.new }
-    ensures fits { CanUndo store.new undo.new }
-    ensures listed { AreListed (instance_of store.new.tables) standing.new }
-    ensures queries { standing.new.queries ≡ standing.old.queries }
-    ensures log { OnErr result (standing.new.log ≡ standing.old.log) }
-    ensures log_longer { length standing.old.log ≤ length standing.new.log }
-
-    // Going back to an older mark gives the rows and each list as it gave them.
-    ensures saved { (mark : ℕ) → mark ≤ length undo.old → rows_at_mark mark undo.new store.new ≡ rows_at_mark mark undo.old store.old }
-    ensures undone { (mark : ℕ) → mark ≤ length standing.old.log
-        → (list : ℕ) (row : List Value) → count_at mark list row standing.new ≡ count_at mark list row standing.old }
+    requires { MayMake store.old standing.old undo.old (placed own ∷ []) }
+    ensures due { IsDue store.old standing.old (placed own) [] result }
+    ensures made { Makes (rows_edited store.old (placed own ∷ [])) store.old store.new standing.old standing.new undo.old undo.new result }
 {
     store.check(alloc, own.table, own.edits.as_slice())?;
     let changes = [own.as_change()];
@@ -114,7 +76,7 @@ fn edit_table(
     Ok(())
 }
 
-/// Takes rows out of several tables, as [`make_edits`] does. A row may only go once the rows that refer to it are gone, so the lists,
+/// Takes rows out of several tables, as [`Contents::make_edits`] does. A row may only go once the rows that refer to it are gone, so the lists,
 /// which read rows as they are before, are made ready first, and what a row refuses is found while the tables are gone through.
 fn remove_rows(
     alloc: Global,
@@ -124,31 +86,10 @@ fn remove_rows(
     along: Vec<TableEdits>,
     undo: &mut Undo,
 ) -> Result<(), Refusal>
-    requires are { AreEdits store.old (placed own ∷ map placed along.items) }
-    requires back { All (λ reference. reference.to < reference.from) store.old.links }
+    requires may { MayMake store.old standing.old undo.old (placed own ∷ map placed along.items) }
     requires several { 0 < length along.items }
-    requires fits { CanUndo store.old undo.old }
-    requires served { AreServed store.old standing.old.queries }
-    requires listed { AreListed (instance_of store.old.tables) standing.old }
-    requires typed { All (IsTested (rows_by_place (instance_of store.old.tables)) (rows_edited store.old (placed own ∷ map placed along.items))) standing.old.queries }
-    ensures due { (stored : StoredRows) → IsAt store.old own.table stored
-        → AnswersDue (first_refusal (edits_conditions store.old stored (placed own) (map placed along.items)
-        ++ list_conditions (rows_edited store.old (placed own ∷ map placed along.items)) standing.old.queries)) result }
-    ensures ok { OnOk result (HaveRows (rows_edited store.old (placed own ∷ map placed along.items)) store.old store.new) }
-    ensures err { OnErr result (HaveRows (rows_by_place (instance_of store.old.tables)) store.old store.new) }
-    ensures links { store.new.links ≡ store.old.links }
-    ensures kept { OnErr result (undo.new ≡ undo.old) }
-    ensures longer { length undo.old ≤ length undo.new }
-    ensures fits { CanUndo store.new undo.new }
-    ensures listed { AreListed (instance_of store.new.tables) standing.new }
-    ensures queries { standing.new.queries ≡ standing.old.queries }
-    ensures log { OnErr result (standing.new.log ≡ standing.old.log) }
-    ensures log_longer { length standing.old.log ≤ length standing.new.log }
-
-    // Going back to an older mark gives the rows and each list as it gave them.
-    ensures saved { (mark : ℕ) → mark ≤ length undo.old → rows_at_mark mark undo.new store.new ≡ rows_at_mark mark undo.old store.old }
-    ensures undone { (mark : ℕ) → mark ≤ length standing.old.log
-        → (list : ℕ) (row : List Value) → count_at mark list row standing.new ≡ count_at mark list row standing.old }
+    ensures due { IsDue store.old standing.old (placed own) (map placed along.items) result }
+    ensures made { Makes (rows_edited store.old (placed own ∷ map placed along.items)) store.old store.new standing.old standing.new undo.old undo.new result }
 {
     store.removals_may_be_made(own.table);
     store.rows_stand();
@@ -221,31 +162,6 @@ fn remove_from(
     store.check(alloc, table, edits.as_slice())?;
     store.apply(alloc, table, edits, undo)?;
     Ok(())
-}
-
-/// Makes what was done final, unless a transaction is open.
-pub(crate) fn settle_outside(
-    is_open: bool,
-    store: &mut Store,
-    undo: &mut Undo,
-    standing: &mut Standing,
-)
-    requires fits { CanUndo store.old undo.old }
-    requires ready { standing.old.prepared ≡ [] }
-    ensures rows { instance_of store.new.tables ≡ instance_of store.old.tables }
-    ensures form { EachTurns SameForm store.old.tables store.new.tables }
-    ensures links { store.new.links ≡ store.old.links }
-    ensures fits { CanUndo store.new undo.new }
-    ensures queries { standing.new.queries ≡ standing.old.queries }
-    ensures counts { (list : ℕ) (row : List Value) → count_now standing.new list row ≡ count_now standing.old list row }
-    ensures ready { standing.new.prepared ≡ [] }
-    ensures open { is_open ≡ true → (store.new ≡ store.old) × (undo.new ≡ undo.old) × (standing.new ≡ standing.old) }
-    ensures settled { is_open ≡ false → IsSettled undo.new standing.new }
-{
-    if !is_open {
-        store.settle(undo);
-        standing.settle();
-    }
 }
 
 /// Makes ready what removals of several tables change of the lists. It refuses what [`prepare_lists`] does.

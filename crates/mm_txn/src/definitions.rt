@@ -9,14 +9,13 @@ ghost use Rattle.mm_store.specs.Undoing.{CanUndo};
 ghost use Rattle.mm_store.specs.Worlds.{Noted};
 ghost use Rattle.mm_query.specs.Machine.{after_definition, definition_conditions, is_of_index};
 ghost use Rattle.mm_query.specs.declared.command.Definition.TheVariants as define;
+ghost use Rattle.mm_txn.specs.Contents.{state_held};
 ghost use Rattle.mm_txn.specs.Kept.{AreKept, state_of};
-ghost use Rattle.mm_txn.specs.Rest.{AreAtRest, state_at_rest};
 ghost use Rattle.mm_txn.specs.Saved.{IsSettled};
 
-use crate::watching::{unwatch, watch};
+use crate::contents::Contents;
 use mm_query::Definition;
 use mm_schema::{Catalog, IndexDef, Name, TableDef};
-use mm_standing::Standing;
 use mm_store::{Store, Undo};
 use mm_value::Refusal;
 use std::alloc::{AllocError, Global};
@@ -28,37 +27,52 @@ pub(crate) fn is_of_index(definition: &Definition) -> bool
     matches!(definition, Definition::Index(_) | Definition::DropIndex(_))
 }
 
-/// Changes the catalog. The first refusal that is due is answered, or `Memory` in its place or in that of success. The log can be
-/// taken back afterwards as before.
-pub(crate) fn define(
-    alloc: Global,
-    catalog: &mut Catalog,
-    store: &mut Store,
-    standing: &mut Standing,
-    undo: &Undo,
-    definition: Definition,
-) -> Result<(), Refusal>
-    requires rest { AreAtRest catalog.old store.old standing.old }
-    requires fits { CanUndo store.old undo.now }
-    requires settled { is_of_index definition ≡ false → IsSettled undo.now standing.old }
-    ensures due { AnswersDue (first_refusal (definition_conditions definition (state_at_rest catalog.old store.old standing.old))) result }
-    ensures ok { OnOk result
-        (state_at_rest catalog.new store.new standing.new ≡ after_definition definition (state_at_rest catalog.old store.old standing.old)) }
-    ensures err { OnErr result (state_at_rest catalog.new store.new standing.new ≡ state_at_rest catalog.old store.old standing.old) }
-    ensures rest { AreAtRest catalog.new store.new standing.new }
-    ensures fits { CanUndo store.new undo.now }
-    ensures settled { is_of_index definition ≡ false → IsSettled undo.now standing.new }
-    ensures lists { is_of_index definition ≡ true → standing.new ≡ standing.old }
-    ensures rows_before { is_of_index definition ≡ true
-        → (mark : ℕ) → rows_at_mark mark undo.now store.new ≡ rows_at_mark mark undo.now store.old }
-{
-    match definition {
-        Definition::Table(definition) => add_table(alloc, catalog, store, definition),
-        Definition::DropTable(name) => drop_table(catalog, store, standing, &name),
-        Definition::Index(index) => add_index(alloc, catalog, store, undo, index),
-        Definition::DropIndex(name) => drop_index(catalog, store, &name),
-        Definition::Watch(named) => watch(alloc, catalog, store, standing, named),
-        Definition::Unwatch(name) => unwatch(catalog, standing, &name),
+impl Contents {
+    /// Changes the catalog. The first refusal that is due is answered, or `Memory` in its place or in that of success. The log can be
+    /// taken back afterwards as before.
+    pub(crate) fn define(
+        &mut self,
+        alloc: Global,
+        undo: &Undo,
+        definition: Definition,
+    ) -> Result<(), Refusal>
+        requires fits { CanUndo self.old.store undo.now }
+        requires settled { is_of_index definition ≡ false → IsSettled undo.now self.old.lists }
+        ensures due { AnswersDue (first_refusal (definition_conditions definition (state_held self.old))) result }
+        ensures ok { OnOk result (state_held self.new ≡ after_definition definition (state_held self.old)) }
+        ensures err { OnErr result (state_held self.new ≡ state_held self.old) }
+        ensures fits { CanUndo self.new.store undo.now }
+        ensures settled { is_of_index definition ≡ false → IsSettled undo.now self.new.lists }
+        ensures lists { is_of_index definition ≡ true → self.new.lists ≡ self.old.lists }
+        ensures rows_before { is_of_index definition ≡ true
+            → (mark : ℕ) → rows_at_mark mark undo.now self.new.store ≡ rows_at_mark mark undo.now self.old.store }
+    {
+        match definition {
+            Definition::Table(definition) => {
+                add_table(alloc, &mut self.catalog, &mut self.store, definition)
+            }
+            Definition::DropTable(name) => self.drop_table(&name),
+            Definition::Index(index) => {
+                add_index(alloc, &mut self.catalog, &mut self.store, undo, index)
+            }
+            Definition::DropIndex(name) => drop_index(&mut self.catalog, &mut self.store, &name),
+            Definition::Watch(named) => self.watch(alloc, named),
+            Definition::Unwatch(name) => self.unwatch(&name),
+        }
+    }
+
+    /// Drops a table with its rows and indexes; those behind it move up. The refusals are those of [`Catalog::drop_table`].
+    fn drop_table(&mut self, name: &Name) -> Result<(), Refusal>
+        ensures due { AnswersDue (first_refusal (drop_table_conditions name.now self.old.schema)) result }
+        ensures ok { OnOk result (state_held self.new ≡ after_definition (define.DropTable name.now) (state_held self.old)) }
+        ensures err { OnErr result (state_held self.new ≡ state_held self.old) }
+        ensures log { self.new.lists.log ≡ self.old.lists.log }
+    {
+        let place = self.catalog.place_of(name).ok_or(Refusal::NoSuchTable)?;
+        self.catalog.drop_table(name)?;
+        self.store.drop_table(place);
+        self.standing.table_dropped(place);
+        Ok(())
     }
 }
 
@@ -87,28 +101,6 @@ fn add_table(
         store.drop_table(store.len() - 1);
         return Err(refusal);
     }
-    Ok(())
-}
-
-/// Drops a table with its rows and indexes; those behind it move up. The refusals are those of [`Catalog::drop_table`].
-fn drop_table(
-    catalog: &mut Catalog,
-    store: &mut Store,
-    standing: &mut Standing,
-    name: &Name,
-) -> Result<(), Refusal>
-    requires { AreAtRest catalog.old store.old standing.old }
-    ensures due { AnswersDue (first_refusal (drop_table_conditions name.now catalog.old)) result }
-    ensures ok { OnOk result (state_at_rest catalog.new store.new standing.new
-        ≡ after_definition (define.DropTable name.now) (state_at_rest catalog.old store.old standing.old)) }
-    ensures err { OnErr result (state_at_rest catalog.new store.new standing.new ≡ state_at_rest catalog.old store.old standing.old) }
-    ensures rest { AreAtRest catalog.new store.new standing.new }
-    ensures log { standing.new.log ≡ standing.old.log }
-{
-    let place = catalog.place_of(name).ok_or(Refusal::NoSuchTable)?;
-    catalog.drop_table(name)?;
-    store.drop_table(place);
-    standing.table_dropped(place);
     Ok(())
 }
 

@@ -8,6 +8,7 @@ ghost use Rattle.mm_txn.specs.Kept.{AreKept, AreOf, state_of};
 ghost use Rattle.mm_txn.specs.TableEdits.{AreEditsOf, AreOwnEditsOf, placed, told};
 
 use crate::cascades::cascades;
+use crate::contents::Contents;
 use mm_delta::TableEdits as TableChange;
 use mm_edits::{additions, removals, updates};
 use mm_query::{BoundChange, Mutation, bind_change};
@@ -47,31 +48,27 @@ pub(crate) struct ChangeEdits {
     pub(crate) along: Vec<TableEdits>,
 }
 
-/// The edits that a change asks for. Of what the catalog and the new values refuse the first is answered: the refusals are
-/// those of [`bind_change`] and [`updates`]; or `Memory` in its place or in that of success.
-pub(crate) fn edits_of(
-    alloc: Global,
-    catalog: &Catalog,
-    store: &Store,
-    mutation: Mutation,
-) -> Result<ChangeEdits, Refusal>
-    requires { AreKept catalog.now store.now }
-    ensures due { AnswersDue (first_refusal (binding_conditions mutation catalog.now
-        ++ value_conditions mutation (state_of catalog.now store.now.tables))) result }
-    ensures ok { IfOk result (λ e. AreEditsOf mutation catalog.now store.now (placed e.own) (map placed e.along.items)) }
-    ensures distinct { HasDistinctNames catalog.now }
-{
-    let cascades_rows = matches!(mutation, Mutation::Delete { .. });
-    let own = own_edits(alloc, catalog, store, mutation)?;
-    let along = if cascades_rows {
-        cascades(alloc, catalog, store, &own)?
-    } else {
-        Vec::new(alloc)
-    };
-    Ok(ChangeEdits { own, along })
+impl Contents {
+    /// The edits that a change asks for. Of what the catalog and the new values refuse the first is answered: the refusals are
+    /// those of [`bind_change`] and [`updates`]; or `Memory` in its place or in that of success.
+    pub(crate) fn edits_of(&self, alloc: Global, mutation: Mutation) -> Result<ChangeEdits, Refusal>
+        ensures due { AnswersDue (first_refusal (binding_conditions mutation self.now.schema
+            ++ value_conditions mutation (state_of self.now.schema self.now.store.tables))) result }
+        ensures ok { IfOk result (λ e. AreEditsOf mutation self.now.schema self.now.store (placed e.own) (map placed e.along.items)) }
+        ensures distinct { HasDistinctNames self.now.schema }
+    {
+        let cascades_rows = matches!(mutation, Mutation::Delete { .. });
+        let own = own_edits(alloc, &self.catalog, &self.store, mutation)?;
+        let along = if cascades_rows {
+            cascades(alloc, &self.catalog, &self.store, &own)?
+        } else {
+            Vec::new(alloc)
+        };
+        Ok(ChangeEdits { own, along })
+    }
 }
 
-/// The edits of the table that a change names. It refuses what [`edits_of`] does.
+/// The edits of the table that a change names. It refuses what [`Contents::edits_of`] does.
 fn own_edits(
     alloc: Global,
     catalog: &Catalog,

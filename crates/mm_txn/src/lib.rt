@@ -4,15 +4,25 @@
 //! A call that may take memory is handed the allocator; no other call takes any.
 #![tactic(auto)]
 
+mod along;
+mod answer;
 mod cascades;
 mod changes;
+mod contents;
 mod database;
 mod definitions;
 mod edits;
 mod explain;
 mod listing;
+mod request;
+mod rows;
 mod savepoints;
 mod select;
 mod watching;
+mod zero;
 
-pub use database::{Along, Db};
+pub use answer::Answer;
+pub use database::Db;
+pub use mm_templist::ShownRows;
+pub use request::{Change, Question, Request};
+pub use rows::{RowReader, Rows, StoredRows};

@@ -1,80 +1,65 @@
 //! Standing queries that are kept and dropped. They are for a database in which no transaction is open.
 ghost use Rattle.std.specs.Prelude.{◌≡◌, [], None, map, IfErr, IfOk, OnErr, OnOk};
 ghost use Rattle.mm_query.specs.Resolving.{IsQueryWithin, placed_query};
-ghost use Rattle.mm_query.specs.Standing.{after_watch, watch_conditions, without_query};
+ghost use Rattle.mm_query.specs.Standing.{after_unwatch, after_watch, watch_conditions};
 ghost use Rattle.mm_query.specs.declared.query.FromItem.{FromItem as Item};
-ghost use Rattle.mm_schema.specs.Instance.{Instance};
 ghost use Rattle.mm_schema.specs.Refused.{AnswersDue, first_refusal};
-ghost use Rattle.mm_schema.specs.Standing.{drop_standing_conditions, standing_conditions, without_standing};
+ghost use Rattle.mm_schema.specs.Standing.{drop_standing_conditions, standing_conditions};
 ghost use Rattle.mm_value.specs.declared.refusal.Refusal.TheVariants.{Memory};
-ghost use Rattle.mm_txn.specs.Rest.{AreAtRest, earlier_refusal, naming_conditions, state_at_rest};
-ghost use Rattle.mm_txn.specs.Watched.{AreListed, ArePlaced, queries_of};
+ghost use Rattle.mm_txn.specs.Contents.{state_held};
+ghost use Rattle.mm_txn.specs.Rest.{earlier_refusal, naming_conditions};
 
+use crate::contents::Contents;
 use crate::explain::plan_now;
 use mm_plan::places_of;
 use mm_query::{BoundQuery, FromItem, NamedQuery, Query, bind_query};
 use mm_schema::{Catalog, Name, TableNames};
-use mm_standing::Standing;
-use mm_store::Store;
 use mm_value::Refusal;
 use std::alloc::Global;
 
-/// Keeps a query as a standing query, which comes last. The first refusal that is due is answered, or `Memory` in its place or in
-/// that of success.
-pub(crate) fn watch(
-    alloc: Global,
-    catalog: &mut Catalog,
-    store: &Store,
-    standing: &mut Standing,
-    named: NamedQuery,
-) -> Result<(), Refusal>
-    requires rest { AreAtRest catalog.old store.now standing.old }
-    requires log { standing.old.log ≡ [] }
-    ensures due { AnswersDue (first_refusal (watch_conditions named.name named.query (state_at_rest catalog.old store.now standing.old))) result }
-    ensures ok { OnOk result (state_at_rest catalog.new store.now standing.new
-        ≡ after_watch named.name named.query (state_at_rest catalog.old store.now standing.old)) }
-    ensures err { OnErr result (state_at_rest catalog.new store.now standing.new ≡ state_at_rest catalog.old store.now standing.old) }
-    ensures rest { AreAtRest catalog.new store.now standing.new }
-    ensures log { standing.new.log ≡ [] }
-{
-    prove!(catalog.standing().len() == standing.len());
-    let NamedQuery { name, query } = named;
-    let bound = bind_named(alloc, catalog, &name, &query)?;
-    let tables = places_of(alloc, catalog, bound.from.as_slice())?;
-    let plan = plan_now(alloc, catalog, store, &query)?;
-    let names = names_of(alloc, bound.from.as_slice())?;
-    catalog.add_standing(name.copy(), names)?;
-    if let Err(refusal) = standing.watch(alloc, store, bound, tables, plan.as_slice()) {
-        let _ = catalog.drop_standing(&name);
-        return Err(refusal);
+impl Contents {
+    /// Keeps a query as a standing query, which comes last. The first refusal that is due is answered, or `Memory` in its place or in
+    /// that of success.
+    pub(crate) fn watch(&mut self, alloc: Global, named: NamedQuery) -> Result<(), Refusal>
+        requires { self.old.lists.log ≡ [] }
+        ensures due { AnswersDue (first_refusal (watch_conditions named.name named.query (state_held self.old))) result }
+        ensures ok { OnOk result (state_held self.new ≡ after_watch named.name named.query (state_held self.old)) }
+        ensures err { OnErr result (state_held self.new ≡ state_held self.old) }
+        ensures log { self.new.lists.log ≡ [] }
+    {
+        prove!(self.catalog.standing().len() == self.standing.len());
+        let NamedQuery { name, query } = named;
+        let bound = bind_named(alloc, &self.catalog, &name, &query)?;
+        let tables = places_of(alloc, &self.catalog, bound.from.as_slice())?;
+        let plan = plan_now(alloc, &self.catalog, &self.store, &query)?;
+        let names = names_of(alloc, bound.from.as_slice())?;
+        self.catalog.add_standing(name.copy(), names)?;
+        if let Err(refusal) = self
+            .standing
+            .watch(alloc, &self.store, bound, tables, plan.as_slice())
+        {
+            let _ = self.catalog.drop_standing(&name);
+            return Err(refusal);
+        }
+        Ok(())
     }
-    Ok(())
-}
 
-/// Drops a standing query. `NoSuchStandingQuery` where none has the name.
-pub(crate) fn unwatch(
-    catalog: &mut Catalog,
-    standing: &mut Standing,
-    name: &Name,
-) -> Result<(), Refusal>
-    requires placed { ArePlaced catalog.old standing.old.queries }
-    requires prepared { standing.old.prepared ≡ [] }
-    requires log { standing.old.log ≡ [] }
-    ensures due { AnswersDue (first_refusal (drop_standing_conditions name.now catalog.old)) result }
-    ensures catalog { OnOk result (catalog.new ≡ without_standing name.now catalog.old) }
-    ensures queries { OnOk result (queries_of standing.new.queries ≡ without_query name.now catalog.old.standing (queries_of standing.old.queries)) }
-    ensures catalog_stays { OnErr result (catalog.new ≡ catalog.old) }
-    ensures queries_stay { OnErr result (queries_of standing.new.queries ≡ queries_of standing.old.queries) }
-    ensures placed { ArePlaced catalog.new standing.new.queries }
-    ensures listed { (rows : Instance) → AreListed rows standing.old → AreListed rows standing.new }
-    ensures log { standing.new.log ≡ [] }
-{
-    let place = catalog
-        .standing_place_of(name)
-        .ok_or(Refusal::NoSuchStandingQuery)?;
-    catalog.drop_standing(name)?;
-    standing.unwatch(place);
-    Ok(())
+    /// Drops a standing query. `NoSuchStandingQuery` where none has the name.
+    pub(crate) fn unwatch(&mut self, name: &Name) -> Result<(), Refusal>
+        requires { self.old.lists.log ≡ [] }
+        ensures due { AnswersDue (first_refusal (drop_standing_conditions name.now self.old.schema)) result }
+        ensures ok { OnOk result (state_held self.new ≡ after_unwatch name.now (state_held self.old)) }
+        ensures err { OnErr result (state_held self.new ≡ state_held self.old) }
+        ensures log { self.new.lists.log ≡ [] }
+    {
+        let place = self
+            .catalog
+            .standing_place_of(name)
+            .ok_or(Refusal::NoSuchStandingQuery)?;
+        self.catalog.drop_standing(name)?;
+        self.standing.unwatch(place);
+        Ok(())
+    }
 }
 
 /// The query of a new standing query, with its fields resolved. Of what refuses it by the catalog the first is answered: a name

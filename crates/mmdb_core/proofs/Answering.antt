@@ -2,29 +2,37 @@
 use Rattle.std.proofs.Common.{◌≡◌, ℕ, ◌+◌, ◌<◌, Bool, true, false, cond, eqb, List, [], ◌∷◌, ◌++◌, Option, Some, None, Result, Ok, Err, IsTrue, length, take, drop, inl, inr, sym, refl, ap, subst, ◌∙◌, ⊎_elim, arith}
 use Rattle.std.proofs.Math.Seq.{take-length}
 use Rattle.std.proofs.lemmas.List.{drop_all, take_all}
-use Rattle.std.proofs.lemmas.Bool.{lt-ltb}
+use Rattle.std.proofs.lemmas.Bool.{false≢true, lt-ltb}
 use Rattle.std.specs.Prelude.{IfOk, is_err}
 use Rattle.std.specs.Io.KnownBytes.{Appends, Keeps}
 use Rattle.mm_lang.specs.Grammar.{command_of}
 use Rattle.mm_lang.specs.Lines.{without_return, HasNoFeed}
 use Rattle.mm_lang.specs.Reading.{Reads, command_takes_memory, is_nothing, read_as, reading, reading_takes_memory, takes_memory}
-use Rattle.mm_lang.specs.ReplyText.{reply_text}
+use Rattle.mm_lang.specs.ReplyText.{reply_text, rows_text}
 use Rattle.mm_lang.specs.Tokens.{tokens}
 use Rattle.mm_value.specs.Device.{Writes}
 use Rattle.mm_value.specs.Watched.{inner_of, has_failed}
 use Rattle.mm_value.specs.declared.device.Watched.{Watched}
 use Rattle.mm_value.specs.declared.refusal.Refusal.{Refusal}
 use Rattle.mm_value.specs.declared.refusal.Refusal.TheVariants.{LineTooLong, Memory}
+use Rattle.mm_value.specs.declared.values.Value.{Value}
 use Rattle.mm_query.specs.Machine.{Outcome, step}
 use Rattle.mm_query.specs.State.{State}
+use Rattle.mm_query.specs.Transactions.{is_done_without_memory}
 use Rattle.mm_query.specs.declared.command.Command.{Command}
 use Rattle.mm_query.specs.declared.command.Command.TheVariants.{Nothing}
 use Rattle.mm_query.specs.declared.reply.Reply.{Reply}
 use Rattle.mm_query.specs.declared.reply.Reply.TheVariants.{Refused}
+use Rattle.mm_txn.specs.Requests.{command_of_change, command_of_question}
+use Rattle.mm_txn.specs.Steps.{IsStep, refused_outcome}
+use Rattle.mm_txn.specs.declared.request.Change.{Change}
+use Rattle.mm_txn.specs.declared.request.Change.TheVariants as change
+use Rattle.mm_txn.specs.declared.request.Question.{Question}
+use Rattle.mm_txn.specs.declared.request.Question.TheVariants as question
 use Rattle.mmdb_core.specs.steps.Feeds.{EndsLine}
 use Rattle.mmdb_core.specs.steps.Input.{Comes, Finds, IsLastLine, IsLine, PassesLine}
-use Rattle.mmdb_core.specs.steps.Respond.{RepliesToLine, GoesOn, IsStep, MayLeadTo, PassesReplied, Replies, RepliesToReading}
-use Rattle.mmdb_core.specs.Run.{answer, is_error, outcome_of, refused_outcome}
+use Rattle.mmdb_core.specs.steps.Respond.{RepliesToLine, GoesOn, MayLeadTo, PassesReplied, Replies, RepliesToReading}
+use Rattle.mmdb_core.specs.Run.{answer, is_error, outcome_of}
 use Rattle.mmdb_core.specs.declared.fault.RunFault.{RunFault}
 use Rattle.mmdb_core.specs.declared.fault.RunFault.TheVariants.{Write}
 use Rattle.mmdb_core.specs.declared.input.Input.{Input}
@@ -58,18 +66,41 @@ writes_flushed {contents = contents} {old} {mid} {new} (Err e) text writes kept 
   failed = failed;
 }
 
--- a step of a command that takes memory is what its reading leads to
-pub leads_step : (command : Command) → IsTrue (command_takes_memory command) → (read : Result Command Refusal) → read ≡ Ok command
-    → (state : State) (outcome stepped : Outcome) → outcome ≡ stepped → IsStep command state stepped → MayLeadTo read state outcome
-leads_step command takes read is state outcome stepped same leads =
-    subst (λ r. MayLeadTo r state outcome) (sym is) (subst (MayLeadTo (Ok command) state) (sym same) of_command)
-  where
-    of_command : MayLeadTo (Ok command) state stepped
-    of_command =
-        ⊎_elim
-        (λ (h : stepped ≡ step command state). inl h)
-        (λ (h : stepped ≡ refused_outcome Memory state). inr (h, takes))
-        leads
+-- a change that want of memory may refuse takes memory, ..
+change_takes : (change : Change) → is_done_without_memory (command_of_change change) ≡ false → IsTrue (command_takes_memory (command_of_change change))
+change_takes (change.Define definition) may = refl
+change_takes (change.Edit mutation) may = refl
+change_takes change.Begin may = absurd (false≢true (sym may))
+change_takes change.Commit may = absurd (false≢true (sym may))
+change_takes change.Rollback may = absurd (false≢true (sym may))
+change_takes (change.Savepoint name) may = refl
+change_takes (change.RollbackTo name) may = absurd (false≢true (sym may))
+
+-- .. and so does each question
+question_takes : (question : Question) → IsTrue (command_takes_memory (command_of_question question))
+question_takes (question.Scan table) = refl
+question_takes (question.ScanIndex index) = refl
+question_takes (question.Select query) = refl
+question_takes (question.Explain query) = refl
+question_takes (question.Show name) = refl
+question_takes question.Tables = refl
+
+-- what a change comes to is what its reading leads to, ..
+pub change_leads : (change : Change) (state : State) (outcome : Outcome) → IsStep (command_of_change change) state outcome
+    → MayLeadTo (Ok (command_of_change change)) state outcome
+change_leads change state outcome (inl is) = inl is
+change_leads change state outcome (inr h) = inr (h.0, change_takes change h.1)
+
+-- .. and so is what a question is answered
+pub question_leads : (question : Question) (state : State) (outcome : Outcome) → IsStep (command_of_question question) state outcome
+    → MayLeadTo (Ok (command_of_question question)) state outcome
+question_leads question state outcome (inl is) = inl is
+question_leads question state outcome (inr h) = inr (h.0, question_takes question)
+
+-- the same rows have the same text
+pub writes_as : {W T E : Type 0} {contents : W → Option (List ℕ)} {old new : Watched W} {result : Result T E} {rows rows' : List (List Value)} → rows ≡ rows'
+    → Writes contents old new result (rows_text rows) → Writes contents old new result (rows_text rows')
+writes_as {contents = contents} {old} {new} {result} is writes = subst (λ r. Writes contents old new result (rows_text r)) is writes
 
 -- a line, by its last byte
 pub without_return-last : (front : List ℕ) (b : ℕ) → without_return (front ++ b ∷ []) ≡ cond (eqb b 13) front (front ++ b ∷ [])

@@ -16,7 +16,8 @@ use Rattle.mm_query.specs.State.{Saved, Savepoint, State}
 use Rattle.mm_query.specs.declared.command.Command.TheVariants.{Nothing, Rollback, RollbackTo}
 use Rattle.mm_query.specs.declared.reply.Reply.TheVariants.{Done, Refused}
 use Rattle.mm_query.proofs.Due.{step-done, step-refused}
-use Rattle.mmdb_core.specs.Run.{answer, outcome_of, refused_outcome}
+use Rattle.mm_txn.specs.Steps.{refused_outcome}
+use Rattle.mmdb_core.specs.Run.{answer, outcome_of}
 
 -- memory refused to a line that takes it
 pub refused_memory : (line : List ℕ) (state : State) → takes_memory line ≡ true → answer true line state ≡ refused_outcome Memory state

@@ -4,6 +4,4 @@ pub mod Inputs
 pub mod LawLemmas
 pub mod LongLines
 pub mod Runs
-pub mod Scanning
-pub mod Selects
 pub mod Walks

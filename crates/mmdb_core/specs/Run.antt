@@ -14,13 +14,10 @@ use Rattle.mm_query.specs.State.{State, first_state}
 use Rattle.mm_query.specs.declared.command.Command.{Command}
 use Rattle.mm_query.specs.declared.reply.Reply.{Reply}
 use Rattle.mm_query.specs.declared.reply.Reply.TheVariants.{Done, Count, Rows, Steps, Listing, Refused}
+use Rattle.mm_txn.specs.Steps.{refused_outcome}
 use Rattle.mmdb_core.specs.declared.fault.RunFault.{RunFault}
 use Rattle.mmdb_core.specs.declared.fault.RunFault.TheVariants.{Read, Write, TooLong}
 use Rattle.mmdb_core.specs.declared.limits.Totals.{Totals}
-
--- A refusal is the reply, and the state stays.
-abbrev pub refused_outcome : Refusal → State → Outcome
-refused_outcome refusal state = record { reply = Some (Refused refusal); state = state }
 
 -- What a reading leads to: a step, or its refusal.
 abbrev pub outcome_of : Result Command Refusal → State → Outcome

@@ -12,15 +12,12 @@ use Rattle.mm_query.specs.Machine.{Outcome, step}
 use Rattle.mm_query.specs.State.{State}
 use Rattle.mm_query.specs.declared.command.Command.{Command}
 use Rattle.mmdb_core.specs.steps.Input.{Advances, Finds, PassesLine, StopsInLine}
-use Rattle.mmdb_core.specs.Run.{answer, is_error, refused_outcome, text_of}
+use Rattle.mm_txn.specs.Steps.{refused_outcome}
+use Rattle.mmdb_core.specs.Run.{answer, is_error, text_of}
 use Rattle.mmdb_core.specs.declared.fault.RunFault.{RunFault}
 use Rattle.mmdb_core.specs.declared.fault.RunFault.TheVariants.{Read, Write, TooLong}
 use Rattle.mmdb_core.specs.declared.input.Input.{Input}
 use Rattle.mmdb_core.specs.declared.input.Next.TheVariants.{End}
-
--- The outcome is the command's step, or want of memory.
-abbrev pub IsStep : Command → State → Outcome → Type 0
-IsStep command state outcome = (outcome ≡ step command state) ⊎ (outcome ≡ refused_outcome Memory state)
 
 -- What a reading leads to: a command's step, or want of memory where it takes memory; or the reading's refusal.
 abbrev pub MayLeadTo : Result Command Refusal → State → Outcome → Type 0

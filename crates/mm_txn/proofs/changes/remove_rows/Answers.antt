@@ -1,6 +1,7 @@
 -- Rows of several tables go, or none; and the lists follow them.
-use Rattle.std.proofs.Common.{◌≡◌, ◌∷◌, ◌++◌, List, None, OnOk, map, sym, ap, subst, ◌∙◌}
+use Rattle.std.proofs.Common.{arith, rules, ◌∷◌, ◌++◌, List, OnOk, map, sym, ap, subst, ◌∙◌}
 use Rattle.std.specs.Prelude.{Result}
+use Rattle.std.proofs.lemmas.Grind.{common_steps}
 use Rattle.std.specs.List.{All}
 use Rattle.mm_schema.specs.Instance.{Instance}
 use Rattle.mm_schema.specs.Refused.{AnswersDue, first_refusal}
@@ -19,10 +20,7 @@ use Rattle.mm_txn.proofs.changes.remove_rows.Goals as goal
 
 pub prepare_removals-prepared-requires-clause-fit : goal.prepare_removals-prepared-requires-clause-fit
 prepare_removals-prepared-requires-clause-fit c =
-    subst (λ (es : List TableEdits). All (FitsAt c.args.store.now) (placed c.args.own ∷ map placed es)) (sym c.as_slice.ensures.value) c.requires.are.fit
-
-pub returns-in-Err-Memory-clause-err : goal.returns-in-Err-Memory-clause-err
-returns-in-Err-Memory-clause-err c = rows_as_they_were c.args.store.now
+    subst (λ (es : List TableEdits). All (FitsAt c.args.store.now) (placed c.args.own ∷ map placed es)) (sym c.as_slice.ensures.value) c.requires.may.are.fit
 
 pub returns-in-Err-clause-due : goal.returns-in-Err-clause-due
 returns-in-Err-clause-due c =
@@ -35,40 +33,11 @@ returns-in-Err-clause-due c =
     subst (λ (r : Result Unit Refusal). AnswersDue {T = Unit {0}} (first_refusal (cs ++ ds)) r) (sym c.in-Err.ensures)
     (both_due c.remove_each.result c.prepare_removals-prepared.result cs ds (referred_due (leaves_orphans store all))
     (c.removals_may_be_made.ensures stored at c.args.own.edits.items
-    (own_fit store c.args.own c.args.along.items c.requires.are c.requires.back c.requires.several stored at)
-    (own_removals store c.args.own c.args.along.items c.requires.are c.requires.back c.requires.several) (leaves_orphans store all))
+    (own_fit store c.args.own c.args.along.items c.requires.may.are c.requires.may.back c.requires.several stored at)
+    (own_removals store c.args.own c.args.along.items c.requires.may.are c.requires.may.back c.requires.several) (leaves_orphans store all))
     c.remove_each.ensures.due
     (subst (λ (es : List TableEdits). AnswersDue {T = Unit {0}} (first_refusal (list_conditions (rows_edited store (placed c.args.own ∷ map placed es)) queries))
     c.prepare_removals-prepared.result) c.as_slice.ensures.value c.prepare_removals-prepared.ensures.due))
-
-pub returns-in-Err-clause-err : goal.returns-in-Err-clause-err
-returns-in-Err-clause-err c =
-    let store = c.args.store.now in
-    let mid = c.remove_each.new.store in
-    let new = c.revert.new.self in
-    rows_formed store new
-    (rows_reverted store mid new c.args.undo.now c.remove_each.new.undo c.mark-mark.result c.mark-mark.ensures
-    c.remove_each.ensures.saved c.rows_stand.ensures c.revert.ensures.rows)
-    (forms_twice store.tables mid.tables new.tables c.remove_each.ensures.form c.revert.ensures.form)
-
-pub returns-in-Err-clause-listed : goal.returns-in-Err-clause-listed
-returns-in-Err-clause-listed c =
-    let store = c.args.store.now in
-    let prepared = c.prepare_removals-prepared.new.standing in
-    subst (λ (r : Instance). AreListed r c.discard.new.self)
-    (sym (rows_reverted store c.remove_each.new.store c.revert.new.self c.args.undo.now c.remove_each.new.undo c.mark-mark.result
-    c.mark-mark.ensures c.remove_each.ensures.saved c.rows_stand.ensures c.revert.ensures.rows))
-    (listed_still (instance_of store.tables) c.args.standing.now c.discard.new.self
-    (ap (λ (l : Lists). l.queries) c.discard.ensures ∙ c.prepare_removals-prepared.ensures.queries) c.requires.listed
-    (λ list row. ap (λ (l : Lists). count_now l list row) c.discard.ensures
-    ∙ same_counts c.args.standing.now prepared c.prepare_removals-prepared.ensures.entries list row)
-    (ap (λ (l : Lists). l.prepared) c.discard.ensures))
-
-pub returns-in-Err-clause-undone : goal.returns-in-Err-clause-undone
-returns-in-Err-clause-undone c =
-    λ mark within list row. ap (λ (l : Lists). count_at mark list row l) c.discard.ensures
-    ∙ same_at mark c.args.standing.now c.prepare_removals-prepared.new.standing c.prepare_removals-prepared.ensures.entries
-    c.prepare_removals-prepared.ensures.log list row
 
 pub returns-clause-due : goal.returns-clause-due
 returns-clause-due c =
@@ -81,27 +50,88 @@ returns-clause-due c =
     subst (λ (r : Result Unit Refusal). AnswersDue {T = Unit {0}} (first_refusal (cs ++ ds)) r) (sym c.in_default-and.ensures)
     (both_due c.remove_each.result c.prepare_removals-prepared.result cs ds (referred_due (leaves_orphans store all))
     (c.removals_may_be_made.ensures stored at c.args.own.edits.items
-    (own_fit store c.args.own c.args.along.items c.requires.are c.requires.back c.requires.several stored at)
-    (own_removals store c.args.own c.args.along.items c.requires.are c.requires.back c.requires.several) (leaves_orphans store all))
+    (own_fit store c.args.own c.args.along.items c.requires.may.are c.requires.may.back c.requires.several stored at)
+    (own_removals store c.args.own c.args.along.items c.requires.may.are c.requires.may.back c.requires.several) (leaves_orphans store all))
     c.remove_each.ensures.due
     (subst (λ (es : List TableEdits). AnswersDue {T = Unit {0}} (first_refusal (list_conditions (rows_edited store (placed c.args.own ∷ map placed es)) queries))
     c.prepare_removals-prepared.result) c.as_slice.ensures.value c.prepare_removals-prepared.ensures.due))
 
-pub returns-clause-listed : goal.returns-clause-listed
-returns-clause-listed c =
-    let store = c.args.store.now in
-    let all = placed c.args.own ∷ map placed c.args.along.items in
-    let after = rows_edited store all in
-    let removed = c.remove_each.result in
-    let prepared = c.prepare_removals-prepared.result in
-    let lists = c.prepare_removals-prepared.new.standing in
-    let u = c.in_default-and.field-0 in
-    let both = sym c.in_default-and.ensures in
-    listed_made c.args.standing.now lists c.apply_prepared.new.self c.prepare_removals-prepared.ensures.entries c.apply_prepared.ensures.made
-    (instance_of c.remove_each.new.store.tables) after
-    (rows_made store c.remove_each.new.store all (first_ok removed prepared u both c.remove_each.ensures.ok))
-    (second_ok removed prepared u both
-    (subst (λ (es : List TableEdits). OnOk prepared (FitPrepared (rows_edited store (placed c.args.own ∷ map placed es)) lists)) c.as_slice.ensures.value
-    c.prepare_removals-prepared.ensures.ok))
-    c.apply_prepared.ensures.queries
-    c.apply_prepared.ensures.prepared
+pub returns-in-Err-Memory-clause-made : goal.returns-in-Err-Memory-clause-made
+returns-in-Err-Memory-clause-made c = record {
+  ok = search rules;
+  err = rows_as_they_were c.args.store.now;
+  links = search rules;
+  kept = search rules;
+  longer = search rules;
+  fits = search rules;
+  listed = search rules;
+  queries = search rules;
+  log = search rules;
+  log_longer = search rules;
+  saved = search rules;
+  undone = search rules;
+}
+
+pub returns-in-Err-clause-made : goal.returns-in-Err-clause-made
+returns-in-Err-clause-made c = record {
+  ok = search rules;
+  err = let store = c.args.store.now in
+      let mid = c.remove_each.new.store in
+      let new = c.revert.new.self in
+      rows_formed store new
+      (rows_reverted store mid new c.args.undo.now c.remove_each.new.undo c.mark-mark.result c.mark-mark.ensures
+      c.remove_each.ensures.saved c.rows_stand.ensures c.revert.ensures.rows)
+      (forms_twice store.tables mid.tables new.tables c.remove_each.ensures.form c.revert.ensures.form);
+  links = search rules;
+  kept = grind (arith, common_steps);
+  longer = grind (arith, common_steps);
+  fits = search rules;
+  listed = let store = c.args.store.now in
+      let prepared = c.prepare_removals-prepared.new.standing in
+      subst (λ (r : Instance). AreListed r c.discard.new.self)
+      (sym (rows_reverted store c.remove_each.new.store c.revert.new.self c.args.undo.now c.remove_each.new.undo c.mark-mark.result
+      c.mark-mark.ensures c.remove_each.ensures.saved c.rows_stand.ensures c.revert.ensures.rows))
+      (listed_still (instance_of store.tables) c.args.standing.now c.discard.new.self
+      (ap (λ (l : Lists). l.queries) c.discard.ensures ∙ c.prepare_removals-prepared.ensures.queries) c.requires.may.listed
+      (λ list row. ap (λ (l : Lists). count_now l list row) c.discard.ensures
+      ∙ same_counts c.args.standing.now prepared c.prepare_removals-prepared.ensures.entries list row)
+      (ap (λ (l : Lists). l.prepared) c.discard.ensures));
+  queries = search rules;
+  log = search rules;
+  log_longer = grind (arith, common_steps);
+  saved = search rules;
+  undone = λ mark within list row. ap (λ (l : Lists). count_at mark list row l) c.discard.ensures
+      ∙ same_at mark c.args.standing.now c.prepare_removals-prepared.new.standing c.prepare_removals-prepared.ensures.entries
+      c.prepare_removals-prepared.ensures.log list row;
+}
+
+pub returns-clause-made : goal.returns-clause-made
+returns-clause-made c = record {
+  ok = search rules;
+  err = search rules;
+  links = search rules;
+  kept = grind (arith, common_steps);
+  longer = grind (arith, common_steps);
+  fits = search rules;
+  listed = let store = c.args.store.now in
+      let all = placed c.args.own ∷ map placed c.args.along.items in
+      let after = rows_edited store all in
+      let removed = c.remove_each.result in
+      let prepared = c.prepare_removals-prepared.result in
+      let lists = c.prepare_removals-prepared.new.standing in
+      let u = c.in_default-and.field-0 in
+      let both = sym c.in_default-and.ensures in
+      listed_made c.args.standing.now lists c.apply_prepared.new.self c.prepare_removals-prepared.ensures.entries c.apply_prepared.ensures.made
+      (instance_of c.remove_each.new.store.tables) after
+      (rows_made store c.remove_each.new.store all (first_ok removed prepared u both c.remove_each.ensures.ok))
+      (second_ok removed prepared u both
+      (subst (λ (es : List TableEdits). OnOk prepared (FitPrepared (rows_edited store (placed c.args.own ∷ map placed es)) lists)) c.as_slice.ensures.value
+      c.prepare_removals-prepared.ensures.ok))
+      c.apply_prepared.ensures.queries
+      c.apply_prepared.ensures.prepared;
+  queries = search rules;
+  log = search rules;
+  log_longer = grind (arith, common_steps);
+  saved = search rules;
+  undone = search rules;
+}

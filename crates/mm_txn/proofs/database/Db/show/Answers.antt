@@ -11,36 +11,41 @@ use Rattle.mm_txn.specs.Kept.{instance_of}
 use Rattle.mm_txn.specs.Saved.{saved_rows}
 use Rattle.mm_txn.proofs.Showing.{list_is_some_bag, only_memory, shown_if_ok}
 use Rattle.mm_txn.proofs.WatchSteps.{place_of_list, standing_found, standing_missing}
+use Rattle.mm_txn.specs.Contents.{Holdings}
+use Rattle.mm_txn.specs.Saved.{kept_state}
 use Rattle.mm_txn.proofs.database.Db.show.Goals as goal
 
 pub returns-in_err-place-clause-due : goal.returns-in_err-place-clause-due
 returns-in_err-place-clause-due c =
+    let seen = ap (λ (h : Holdings). kept_state h c.self.inside.undo c.self.inside.is_open c.self.inside.marks.items) c.contents.view_is ∙ c.self.view_is in
     let p = err_from_is_err_and c.from_residual.result c.from_residual.ensures.1 in
     let told : NoSuchStandingQuery ≡ c.in_err-place.field-0.0 = grind arith in
-    let missing = standing_missing c.args.name.now c.self.inside.catalog (sym c.standing_place_of.ensures.place ∙ c.in_err-place.ensures.ok_part) in
-    rw (p.1, p.2) (inl (sym (ap (λ (s : State). first_refusal (drop_standing_conditions c.args.name.now s.schema)) c.self.view_is)
+    let missing = standing_missing c.args.name.now c.contents.inside.catalog (sym c.standing_place_of.ensures.place ∙ c.in_err-place.ensures.ok_part) in
+    rw (p.1, p.2) (inl (sym (ap (λ (s : State). first_refusal (drop_standing_conditions c.args.name.now s.schema)) seen)
     ∙ missing ∙ ap (λ (r : Refusal). Some r) told))
 
 pub list-requires-clause-place : goal.list-requires-clause-place
 list-requires-clause-place c =
-    place_of_list c.args.name.now c.self.inside.catalog c.self.inside.standing c.self.invariant.placed c.in_ok-place.place
+    place_of_list c.args.name.now c.contents.inside.catalog c.contents.inside.standing c.contents.invariant.placed c.in_ok-place.place
     (sym c.standing_place_of.ensures.place ∙ c.in_ok-place.ensures.ok_part)
 
 pub list-requires-clause-fits : goal.list-requires-clause-fits
 list-requires-clause-fits c =
-    list_is_some_bag c.self.inside.catalog c.self.inside.standing c.self.invariant.placed (instance_of c.self.inside.store.tables) c.self.invariant.listed
+    list_is_some_bag c.contents.inside.catalog c.contents.inside.standing c.contents.invariant.placed (instance_of c.contents.inside.store.tables) c.contents.invariant.listed
     c.in_ok-place.place
 
 pub returns-clause-due : goal.returns-clause-due
 returns-clause-due c =
+    let seen = ap (λ (h : Holdings). kept_state h c.self.inside.undo c.self.inside.is_open c.self.inside.marks.items) c.contents.view_is ∙ c.self.view_is in
     only_memory (first_refusal (drop_standing_conditions c.args.name.now c.args.self.now.schema)) c.list.result
-    (sym (ap (λ (s : State). first_refusal (drop_standing_conditions c.args.name.now s.schema)) c.self.view_is)
-    ∙ standing_found c.args.name.now c.self.inside.catalog c.in_ok-place.place (sym c.standing_place_of.ensures.place ∙ c.in_ok-place.ensures.ok_part))
+    (sym (ap (λ (s : State). first_refusal (drop_standing_conditions c.args.name.now s.schema)) seen)
+    ∙ standing_found c.args.name.now c.contents.inside.catalog c.in_ok-place.place (sym c.standing_place_of.ensures.place ∙ c.in_ok-place.ensures.ok_part))
     c.list.ensures.memory
 
 pub returns-clause-rows : goal.returns-clause-rows
 returns-clause-rows c =
-    subst (λ (s : State). IfOk c.list.result (λ rows. rows ≡ shown_rows c.args.name.now s)) c.self.view_is
-    (shown_if_ok c.self.inside.catalog c.self.inside.standing c.self.invariant.placed (instance_of c.self.inside.store.tables) c.self.invariant.listed
-    (saved_rows c.self.inside.is_open c.self.inside.undo c.self.inside.store c.self.inside.marks.items) c.args.name.now c.in_ok-place.place
+    let seen = ap (λ (h : Holdings). kept_state h c.self.inside.undo c.self.inside.is_open c.self.inside.marks.items) c.contents.view_is ∙ c.self.view_is in
+    subst (λ (s : State). IfOk c.list.result (λ rows. rows ≡ shown_rows c.args.name.now s)) seen
+    (shown_if_ok c.contents.inside.catalog c.contents.inside.standing c.contents.invariant.placed (instance_of c.contents.inside.store.tables) c.contents.invariant.listed
+    (saved_rows c.self.inside.is_open c.self.inside.undo c.contents.inside.store c.self.inside.marks.items) c.args.name.now c.in_ok-place.place
     (sym c.standing_place_of.ensures.place ∙ c.in_ok-place.ensures.ok_part) c.list.result c.list.ensures.shown)
