@@ -3,6 +3,7 @@ use crate::assertions::assert_same;
 use crate::samples::{
     ask, command, database, give, give_line, opened, question, sizes, text_of, told,
 };
+use mm_query::Command;
 use mm_txn::{Answer, Db, Question};
 use mm_value::Refusal;
 use std::io;
