@@ -12,7 +12,7 @@ use crate::steps::{
     ask_each, end_refused, expect_memory, give_each, not_so_far, read_each, roll_back, tell_refused,
 };
 use mm_query::{
-    BoundQuery, Command, FieldPlace, PlainRows, Query, RowList, bind_change, bind_query, plain_eval,
+    BoundQuery, Command, FieldPlace, PlainRows, RowList, bind_change, bind_query, plain_eval,
 };
 use mm_schema::{Catalog, Name};
 use mm_value::{Refusal, Row};
@@ -228,21 +228,6 @@ const FIELDS: [FieldPlace; 2] = [
     },
 ];
 
-/// Binds a query, again where memory is refused.
-fn bind_query_again(
-    rt: &(impl Abort + AllocGlobal + Print),
-    catalog: &Catalog,
-    query: &Query,
-) -> Result<BoundQuery, Fail> {
-    match bind_query(rt.alloc(), catalog, query) {
-        Ok(bound) => Ok(bound),
-        Err(refusal) => {
-            tell_refused(rt, refusal)?;
-            Ok(bind_query(rt.alloc(), catalog, query)?)
-        }
-    }
-}
-
 /// Asserts that the query is bound to the tables.
 fn assert_bound(rt: &impl Abort, bound: &BoundQuery) {
     assert_same(rt, bound.fields.as_slice(), FIELDS.as_slice());
@@ -251,31 +236,26 @@ fn assert_bound(rt: &impl Abort, bound: &BoundQuery) {
     assert_same(rt, sizes, [2, 2]);
 }
 
-/// Binds the query of a command, again where memory is refused, and looks at it.
-fn bind_selected_again(
-    rt: &(impl Abort + AllocGlobal + Print),
-    catalog: &Catalog,
-    command: &Command,
-) -> Result<(), Fail> {
-    let query = selected(command)?;
-    let bound = bind_query_again(rt, catalog, query)?;
-    assert_bound(rt, &bound);
-    Ok(())
-}
-
-/// The same with the query of all clauses but DISTINCT.
+/// Binds the query of all clauses but DISTINCT, again where memory is refused, and looks at it.
 fn bind_the_query_again(
     rt: &(impl Abort + AllocGlobal + Print),
     catalog: &Catalog,
 ) -> Result<(), Fail> {
-    match command(rt.alloc(), QUERY) {
-        Ok(command) => {
-            let outcome = bind_selected_again(rt, catalog, &command);
-            drop(command);
-            outcome
+    let alloc = rt.alloc();
+    let outcome = match selected(alloc, QUERY) {
+        Ok(query) => bind_query(alloc, catalog, query),
+        Err(refusal) => return end_refused(rt, refusal),
+    };
+    let bound = match outcome {
+        Ok(bound) => bound,
+        Err(refusal) => {
+            tell_refused(rt, refusal)?;
+            bind_query(alloc, catalog, selected(alloc, QUERY)?)?
         }
-        Err(refusal) => end_refused(rt, refusal),
-    }
+    };
+    assert_bound(rt, &bound.query);
+    assert_same(rt, bound.tables.as_slice(), [0, 1].as_slice());
+    Ok(())
 }
 
 #[test]

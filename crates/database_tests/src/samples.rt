@@ -52,10 +52,13 @@ pub fn index(name: &Name) -> Option<IndexDef> {
 }
 
 /// The query of a `SELECT`.
-pub fn selected(command: &Command) -> Result<&Query, Refusal> {
-    match command {
+pub fn selected(alloc: Global, line: &str) -> Result<Query, Refusal> {
+    match command(alloc, line)? {
         Command::Select(query) => Ok(query),
-        _other => Err(Refusal::Syntax),
+        other => {
+            drop(other);
+            Err(Refusal::Syntax)
+        }
     }
 }
 
@@ -117,19 +120,8 @@ pub fn bound_query(alloc: Global) -> Result<BoundQuery, Refusal> {
 
 /// Binds the query of a line.
 fn bind_line(alloc: Global, catalog: &Catalog, line: &str) -> Result<BoundQuery, Refusal> {
-    let command = command(alloc, line)?;
-    let bound = bind_selected(alloc, catalog, &command);
-    drop(command);
-    bound
-}
-
-/// Binds the query of a `SELECT`.
-fn bind_selected(
-    alloc: Global,
-    catalog: &Catalog,
-    command: &Command,
-) -> Result<BoundQuery, Refusal> {
-    bind_query(alloc, catalog, selected(command)?)
+    let query = selected(alloc, line)?;
+    Ok(bind_query(alloc, catalog, query)?.query)
 }
 
 /// The place of the table of a change, and how many items its lists have.
@@ -229,25 +221,11 @@ pub fn make(alloc: Global, database: &mut Db, change: Change) -> Result<usize, R
 }
 
 /// Asks a database a question.
-pub fn ask<'s>(
-    alloc: Global,
-    database: &'s Db,
-    question: &Question,
-) -> Result<Answer<'s>, Refusal> {
+pub fn ask<'s>(alloc: Global, database: &'s Db, question: Question) -> Result<Answer<'s>, Refusal> {
     match database.ask(alloc, question) {
         Answer::Refused(refusal) => Err(refusal),
         answer => Ok(answer),
     }
-}
-
-/// Writes what a database answers to a question behind what was told.
-fn tell(
-    alloc: Global,
-    database: &Db,
-    question: &Question,
-    told: &mut Vec<u8>,
-) -> Result<(), Refusal> {
-    write(ask(alloc, database, question)?, told)
 }
 
 /// What a database answers to these questions, one behind the other.
@@ -273,9 +251,7 @@ fn tell_each(
 /// The same of the question of a line.
 fn tell_line(alloc: Global, database: &Db, line: &str, told: &mut Vec<u8>) -> Result<(), Refusal> {
     let question = question(alloc, line)?;
-    let outcome = tell(alloc, database, &question, told);
-    drop(question);
-    outcome
+    write(ask(alloc, database, question)?, told)
 }
 
 /// The text of an answer. `Memory` is the only refusal.

@@ -4,7 +4,7 @@ use crate::samples::{
     ask, command, database, give, give_line, opened, question, sizes, text_of, told,
 };
 use mm_query::Command;
-use mm_txn::{Answer, Db, Question};
+use mm_txn::{Answer, Db};
 use mm_value::Refusal;
 use std::io;
 use std::process::Abort;
@@ -206,21 +206,6 @@ pub fn roll_back(
     }
 }
 
-/// Asks a question, and once more where memory is refused.
-fn ask_again<'s>(
-    rt: &(impl Abort + AllocGlobal + Print),
-    database: &'s Db,
-    question: &Question,
-) -> Result<Answer<'s>, Fail> {
-    match ask(rt.alloc(), database, question) {
-        Ok(answer) => Ok(answer),
-        Err(refusal) => {
-            tell_refused(rt, refusal)?;
-            Ok(ask(rt.alloc(), database, question)?)
-        }
-    }
-}
-
 /// Asks the question of a line, once more where memory is refused to it, and looks at the answer. Whether that came so far: not where
 /// memory was refused in front of the call, or behind it.
 fn ask_line(
@@ -229,25 +214,18 @@ fn ask_line(
     line: &str,
     expected: &str,
 ) -> Result<bool, Fail> {
-    match question(rt.alloc(), line) {
-        Ok(question) => {
-            let outcome = ask_once_more(rt, database, &question, line, expected);
-            drop(question);
-            outcome
+    let alloc = rt.alloc();
+    let outcome = match question(alloc, line) {
+        Ok(question) => ask(alloc, database, question),
+        Err(refusal) => return not_so_far(rt, refusal),
+    };
+    let answer = match outcome {
+        Ok(answer) => answer,
+        Err(refusal) => {
+            tell_refused(rt, refusal)?;
+            ask(alloc, database, question(alloc, line)?)?
         }
-        Err(refusal) => not_so_far(rt, refusal),
-    }
-}
-
-/// The same with the question that was read from the line.
-fn ask_once_more(
-    rt: &(impl Abort + AllocGlobal + Print),
-    database: &Db,
-    question: &Question,
-    line: &str,
-    expected: &str,
-) -> Result<bool, Fail> {
-    let answer = ask_again(rt, database, question)?;
+    };
     look_at(rt, answer, line, expected)
 }
 

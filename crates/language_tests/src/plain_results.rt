@@ -19,14 +19,12 @@ fn pairs(rt: &(impl Abort + AllocGlobal), pairs: &[(i64, i64)]) -> Vec<Row> {
     rows
 }
 
-/// A query that is bound, once more where memory was refused.
-fn bound(rt: &(impl Abort + AllocGlobal), query: &Query) -> BoundQuery {
+/// A query that is bound.
+fn bound(rt: &(impl Abort + AllocGlobal), query: Query) -> BoundQuery {
     let catalog = catalog(rt);
-    let bound = match bind_query(rt.alloc(), &catalog, query) {
-        Err(Refusal::Memory) => bind_query(rt.alloc(), &catalog, query),
-        bound => bound,
-    };
-    bound.expect(rt, "a query")
+    bind_query(rt.alloc(), &catalog, query)
+        .expect(rt, "a query")
+        .query
 }
 
 /// Adds the rows of a table, once more where memory was refused.
@@ -47,17 +45,16 @@ fn bag(rt: &(impl Abort + AllocGlobal), query: &BoundQuery, rows: &PlainRows<'_>
 /// The bag of a query over the rows of one table or of two.
 fn found(
     rt: &(impl Abort + AllocGlobal),
-    query: &Query,
+    query: &BoundQuery,
     first: &[Row],
     second: Option<&[Row]>,
 ) -> Vec<Row> {
-    let query = bound(rt, query);
     let mut rows = PlainRows::new(rt.alloc());
     add(rt, &mut rows, first);
     if let Some(second) = second {
         add(rt, &mut rows, second);
     }
-    bag(rt, &query, &rows)
+    bag(rt, query, &rows)
 }
 
 /// The whole number in a column of a row.
@@ -85,7 +82,7 @@ fn expect_rows(rt: &impl Abort, rows: &[Row], expected: &[(i64, Option<i64>)]) {
 /// Tests the bag of a query over the rows of one table or of two.
 fn expect_found(
     rt: &(impl Abort + AllocGlobal),
-    query: &Query,
+    query: &BoundQuery,
     first: &[Row],
     second: Option<&[Row]>,
     expected: &[(i64, Option<i64>)],
@@ -119,7 +116,7 @@ fn joins_a_table_with_itself(rt: HostRuntime) {
     let rows = pairs(&rt, &[(1, 5), (2, 5)]);
     expect_found(
         &rt,
-        &twice(&rt),
+        &bound(&rt, twice(&rt)),
         &rows,
         Some(rows.as_slice()),
         &[(1, Some(1)), (1, Some(2)), (2, Some(1)), (2, Some(2))],
@@ -131,7 +128,7 @@ fn adds_shifts_without_bound(rt: HostRuntime) {
     let rows = pairs(&rt, &[(1, i64::MIN), (2, i64::MAX)]);
     let all = query(&rt, &[(b"t", b"a")], &[(b"a", b"id")]);
     let more = Operand::Shifted(field(&rt, b"a", b"k"), 1);
-    let all = asked(&rt, all, Comparison::Less, more);
+    let all = bound(&rt, asked(&rt, all, Comparison::Less, more));
     expect_found(&rt, &all, &rows, None, &[(1, None), (2, None)]);
 }
 
@@ -160,14 +157,14 @@ const SEVENS: [(i64, Option<i64>); 6] = [
 ];
 
 fn joins_by_equal(rt: &(impl Abort + AllocGlobal), t: &[Row], u: &[Row]) {
-    let equal = asked(rt, both(rt), Comparison::Equal, v(rt));
+    let equal = bound(rt, asked(rt, both(rt), Comparison::Equal, v(rt)));
     expect_found(rt, &equal, t, Some(u), &SEVENS);
     expect_found(rt, &equal, t, Some(&[]), &[]);
 }
 
 fn joins_by_bounds(rt: &(impl Abort + AllocGlobal), t: &[Row], u: &[Row]) {
     let bounds = asked(rt, both(rt), Comparison::LessOrEqual, v(rt));
-    let bounds = asked(rt, bounds, Comparison::GreaterOrEqual, v(rt));
+    let bounds = bound(rt, asked(rt, bounds, Comparison::GreaterOrEqual, v(rt)));
     expect_found(rt, &bounds, t, Some(u), &SEVENS);
 }
 
@@ -205,7 +202,7 @@ fn joins_by_a_shift(rt: HostRuntime) {
     let emp = pairs(&rt, &[(10, 2), (11, 2), (12, 1)]);
     expect_found(
         &rt,
-        &nine_more(&rt),
+        &bound(&rt, nine_more(&rt)),
         &dept,
         Some(emp.as_slice()),
         &[(10, None)],
@@ -224,7 +221,7 @@ fn row_with_text(rt: &(impl Abort + AllocGlobal)) -> Row {
 /// The rows that the query of the texts and keys of the rows whose k is 3 finds among these.
 fn found_with_three(rt: &(impl Abort + AllocGlobal), rows: &[Row]) -> Vec<Row> {
     let all = query(rt, &[(b"s", b"a")], &[(b"a", b"s"), (b"a", b"id")]);
-    let one = asked(rt, all, Comparison::Equal, number(3));
+    let one = bound(rt, asked(rt, all, Comparison::Equal, number(3)));
     found(rt, &one, rows, None)
 }
 

@@ -18,7 +18,7 @@ use crate::known::value_in;
 use crate::look_up::LookUp;
 use crate::wanted::{Wanted, number_value};
 use mm_relation::Edit;
-use mm_store::View;
+use mm_store::{IndexRef, View};
 use mm_value::{Refusal, Row, RowRef, Value};
 use std::alloc::Global;
 
@@ -90,7 +90,7 @@ fn all_of(alloc: Global, view: &View<'_>, table: usize) -> Result<Vec<RowRef>, R
 {
     view.is_kept(table);
     let mut found = Vec::new(alloc);
-    view.key_range(alloc, table, None, None, &mut found)?;
+    view.range(alloc, table, IndexRef::Key, None, None, &mut found)?;
     Ok(found)
 }
 

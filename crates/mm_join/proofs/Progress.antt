@@ -1,12 +1,13 @@
 -- How far a join has come.
-use Rattle.std.proofs.Common.{◌≡◌, ℕ, zero, suc, ◌+◌, ◌≤◌, List, [], ◌∷◌, ◌++◌, Some, None, get_or, drop, length, map, take, refl, sym, ap, ◌∙◌, subst, arith, length-append}
-use Rattle.std.specs.List.{All, filter, flat_map, slice_get}
+use Rattle.std.proofs.Common.{◌≡◌, ℕ, zero, suc, ◌+◌, ◌<◌, ◌≤◌, List, [], ◌∷◌, ◌++◌, Some, None, get_or, drop, length, map, take, refl, sym, ap, ◌∙◌, subst, arith, length-append}
+use Rattle.std.specs.List.{All, filter, flat_map, slice_get, sum_by}
+use Rattle.std.proofs.lemmas.List.Sums.{sum_by_more, sum_by_more_le}
 use Rattle.std.specs.List.Sorted.{IsPermutation}
 use Rattle.std.proofs.lemmas.List.{append-nil, length-map, map-append, take-append-drop, take_all}
 use Rattle.std.proofs.lemmas.List.Concat.{flat_map-append}
 use Rattle.std.proofs.lemmas.List.Elements.{All-append, All-filter, All-get_or, All-map, All-nil, All-weaker}
 use Rattle.std.proofs.lemmas.List.Sorted.{IsPermutation-append, IsPermutation-map, IsPermutation-refl, length_permutation}
-use Rattle.std.proofs.lemmas.Option.{slice_get-get_or, slice_get_within}
+use Rattle.std.proofs.lemmas.Option.{get_or_from_slice_get, slice_get-get_or, slice_get_within}
 use Rattle.std.proofs.lemmas.Simd.{map-map}
 use Rattle.mm_partition.specs.Places.{IsLive}
 use Rattle.mm_query.specs.Queries.{Partial, none_fails}
@@ -15,6 +16,7 @@ use Rattle.mm_query.specs.declared.bound_query.FieldPlace.{FieldPlace}
 use Rattle.mm_relation.specs.Kept.{StoredRows}
 use Rattle.mm_select.proofs.Fits.{filter-map}
 use Rattle.mm_select.specs.Matches.{Covers, matches, matching}
+use Rattle.mm_store.proofs.Joining.{some_at}
 use Rattle.mm_store.proofs.Lists.{take_more}
 use Rattle.mm_store.specs.Tables.{IsAt, Tables, rows_at}
 use Rattle.mm_schema.specs.Refused.{first_refusal}
@@ -25,6 +27,7 @@ use Rattle.mm_join.proofs.Caps.{due_of_longer, within_cap}
 use Rattle.mm_join.specs.Caps.{cap_conditions}
 use Rattle.mm_join.proofs.JoinSteps.{Row, fits, fitting_behind, joined_each}
 use Rattle.mm_join.specs.Joined.{joined}
+use Rattle.mm_join.specs.Ways.{AreCandidates}
 
 -- ---- an element that is there
 
@@ -86,12 +89,6 @@ module _ (store : Tables) (table : ℕ) (at : RowRef) where
   live_behind (t ∷ tables) (r ∷ refs) live stored here is = (live.0, live_behind tables refs live.1 stored here is)
 
 -- ---- the candidates of one combination
-
--- All references of the table cover what fits.
-pub all_cover : (store : Tables) (table : ℕ) (atoms : List (Atom FieldPlace)) (rows : Partial) (refs : List RowRef)
-    → map (row_of store table) refs ≡ rows_at store.tables table → Covers store table atoms rows refs
-all_cover store table atoms rows refs all =
-    (refs, all, IsPermutation-refl (matching store table atoms rows refs))
 
 module _ (store : Tables) (tables : List ℕ) (table : ℕ) (atoms : List (Atom FieldPlace)) where
   abbrev next : List Row
@@ -186,15 +183,25 @@ module _ (store : Tables) (tables : List ℕ) (table : ℕ) (atoms : List (Atom 
             (found_live store tables table atoms front front_live stored here candidates live);
       }
 
-  -- The same for rows that are those of the combination.
-  pub progress_step : (i : ℕ) (combos : List (List RowRef)) (front : List RowRef) (rows : Partial) (candidates : List RowRef) (stored : StoredRows)
-      → All (AreLive store tables) fronts → slice_get fronts i ≡ Some front → rows ≡ map Some (rows_of_combo store tables front)
-      → IsAt store table stored → All (IsLive stored.places) candidates → Covers store table atoms rows candidates
+  -- With the candidates of the next combination a join is a combination further.
+  pub candidates_step : (i : ℕ) (combos : List (List RowRef)) (front : List RowRef) (rows : Partial) (candidates : List RowRef) (most : ℕ)
+      → table < length store.tables → All (AreLive store tables) fronts → slice_get fronts i ≡ Some front
+      → rows ≡ map Some (rows_of_combo store tables front) → AreCandidates store table atoms (rows_of_combo store tables front) most candidates
       → Progress store tables table atoms fronts i combos
       → Progress store tables table atoms fronts (i + 1) (combos ++ matches store table atoms rows front candidates)
-  progress_step i combos front rows candidates stored all there chosen here live covers so_far =
+  candidates_step i combos front rows candidates most within all there chosen are so_far =
+      let (stored, here) = some_at store.tables table within in
       subst (λ r. Progress store tables table atoms fronts (i + 1) (combos ++ matches store table atoms r front candidates)) (sym chosen)
-      (progress_next i combos front candidates stored all there here live (subst (λ r. Covers store table atoms r candidates) chosen covers) so_far)
+      (progress_next i combos front candidates stored all there here (are.live stored here) are.cover so_far)
+
+  -- Where nothing fits behind it, it is a combination further with nothing added.
+  pub none_step : (i : ℕ) (combos : List (List RowRef)) (front : List RowRef) (most : ℕ) → table < length store.tables
+      → All (AreLive store tables) fronts → slice_get fronts i ≡ Some front
+      → AreCandidates store table atoms (rows_of_combo store tables front) most []
+      → Progress store tables table atoms fronts i combos → Progress store tables table atoms fronts (i + 1) combos
+  none_step i combos front most within all there are so_far =
+      subst (Progress store tables table atoms fronts (i + 1)) (append-nil combos)
+      (candidates_step i combos front (map Some (rows_of_combo store tables front)) [] most within all there refl are so_far)
 
   -- No more was found than there is, ..
   pub progress_few : (i : ℕ) (combos : List (List RowRef)) → Progress store tables table atoms fronts i combos
@@ -260,3 +267,26 @@ module _ (store : Tables) (outer : Combos) (descriptor : List ℕ) (atoms : List
 
     pub live_end : All (AreLive store list.tables) list.combos
     live_end = subst (λ ts. All (AreLive store ts) list.combos) own_tables so_far.live
+
+-- ---- what each combination costs
+
+module _ (cost : List Row → ℕ) (store : Tables) (outer : Combos) (i : ℕ) (front : List RowRef) (at : slice_get outer.combos i ≡ Some front) where
+  mapped : slice_get (combo_rows store outer) i ≡ Some (rows_of_combo store outer.tables front)
+  mapped = slice_get-mapped (rows_of_combo store outer.tables) outer.combos i front at
+
+  within : i < length (combo_rows store outer)
+  within = slice_get_within (combo_rows store outer) i (rows_of_combo store outer.tables front) mapped
+
+  rows_there : get_or (combo_rows store outer) i [] ≡ rows_of_combo store outer.tables front
+  rows_there = get_or_from_slice_get (combo_rows store outer) i (rows_of_combo store outer.tables front) [] mapped
+
+  -- The sum so far, with the cost of the next combination, ..
+  pub one_more : sum_by cost (take (i + 1) (combo_rows store outer))
+      ≡ sum_by cost (take i (combo_rows store outer)) + cost (rows_of_combo store outer.tables front)
+  one_more = sum_by_more cost (combo_rows store outer) i [] within ∙ ap (λ r. sum_by cost (take i (combo_rows store outer)) + cost r) rows_there
+
+  -- .. which is within the whole sum.
+  pub one_more_within : sum_by cost (take i (combo_rows store outer)) + cost (rows_of_combo store outer.tables front) ≤ sum_by cost (combo_rows store outer)
+  one_more_within =
+      subst (λ (r : List Row). sum_by cost (take i (combo_rows store outer)) + cost r ≤ sum_by cost (combo_rows store outer)) rows_there
+      (sum_by_more_le cost (combo_rows store outer) i [] within)

@@ -1,7 +1,15 @@
 -- The row that a foreign key names is the only one with its key.
-use Rattle.std.proofs.Common.{◌≡◌, ℕ, zero, suc, ◌<◌, List, [], ◌∷◌, None, Some, get_or, length, map, refl, sym, ap, ◌∙◌, subst, arith}
+use Rattle.std.proofs.Common.{◌≡◌, ℕ, zero, suc, ◌<◌, ◌&&◌, List, [], ◌∷◌, None, Some, get_or, length, map, refl, sym, ap, ◌∙◌, subst, arith}
 use Rattle.std.specs.Prelude.{pos, slice_get}
 use Rattle.std.specs.List.{Contains}
+use Rattle.std.specs.List.Sorted.{IsPermutation}
+use Rattle.std.specs.Ordering.{is_eq, is_ge, is_le}
+use Rattle.std.specs.declared.cmp.Ordering.{Ordering}
+use Rattle.std.specs.declared.cmp.Ordering.TheVariants as ordering
+use Rattle.std.proofs.lemmas.List.Elements.{filter_agree}
+use Rattle.std.proofs.lemmas.List.Sorted.{IsPermutation-refl}
+use Rattle.mm_order.specs.Probe.{is_between}
+use Rattle.mm_store.specs.declared.index_ref.IndexRef.TheVariants as index
 use Rattle.std.specs.Option.{option_map, unwrap_or}
 use Rattle.std.proofs.lemmas.Option.{slice_get-get_or}
 use Rattle.mm_partition.specs.Places.{IsLive, slot_at}
@@ -9,8 +17,8 @@ use Rattle.mm_query.specs.Atoms.{value_in}
 use Rattle.mm_query.specs.Queries.{Partial, value_at}
 use Rattle.mm_query.specs.declared.bound_query.FieldPlace.{FieldPlace}
 use Rattle.mm_relation.specs.Kept.{IsKept, StoredRows}
-use Rattle.mm_relation.specs.Reads.{AreMatches}
-use Rattle.mm_relation.specs.Refs.{HasRow, Slots, row_at, row_in}
+use Rattle.mm_relation.specs.Reads.{AreMatches, has_value}
+use Rattle.mm_relation.specs.Refs.{HasRow, Slots, place_by, row_at, row_in}
 use Rattle.mm_select.proofs.Fits.{row_here}
 use Rattle.mm_store.proofs.Joining.{one_relation}
 use Rattle.mm_store.specs.Links.{RefersTo}
@@ -20,20 +28,27 @@ use Rattle.mm_value.specs.declared.row_ref.RowRef.{RowRef}
 use Rattle.mm_value.specs.declared.values.Value.{Value}
 use Rattle.mm_value.specs.declared.values.Value.TheVariants.{Int}
 use Rattle.mm_join.proofs.JoinKeys.{shifted_by_0}
-use Rattle.mm_join.proofs.Probed.{have_from_are, range_matches}
+use Rattle.mm_join.proofs.Found.{finds_matches}
 use Rattle.mm_relation.proofs.OneKey.{one_of_key as range_of_key}
-use Rattle.mm_select.proofs.Along.{key_range}
 use Rattle.mm_join.specs.Equated.{HaveMatches, IsPartner, plain_key, sought}
 
 -- ---- the row of a key
+
+not_apart : (o : Ordering) → (is_ge o && is_le o) ≡ is_eq o
+not_apart ordering.Less = refl
+not_apart ordering.Equal = refl
+not_apart ordering.Greater = refl
 
 module _ (stored : StoredRows) (kept : IsKept stored.width stored.key (slot_at stored.places) stored.refs stored.indexes)
     (value : Value) (at : RowRef) (live : HasRow (slot_at stored.places) at) (own : slice_get (row_at (slot_at stored.places) at) stored.key ≡ Some value) where
   -- The reference alone is all the matches of its key.
   one_of_key : AreMatches stored.key (slot_at stored.places) value stored.refs (at ∷ [])
-  one_of_key = range_matches stored.key stored value (at ∷ [])
-      (key_range stored kept (Some value) (Some value) (at ∷ [])
-      (sym (range_of_key stored.key (slot_at stored.places) stored.refs kept.by_key value at ((kept.held at).1 live) own)))
+  one_of_key =
+      let place : RowRef → Ordering = place_by stored.key (slot_at stored.places) value in
+      subst (IsPermutation (at ∷ []))
+      (sym (range_of_key stored.key (slot_at stored.places) stored.refs kept.by_key value at ((kept.held at).1 live) own)
+      ∙ filter_agree (is_between place place) (has_value stored.key (slot_at stored.places) value) (λ other. not_apart (place other)) stored.refs)
+      (IsPermutation-refl (at ∷ []))
 
 -- ---- the row that a row of a combination refers to
 
@@ -112,5 +127,5 @@ module _ (store : Tables) where
           let stored = live_at tables front live field.place d within in
           let value : Value = unwrap_or (value_at partial field) (Int (pos 0)) in
           subst (λ v. HaveMatches relation.key (slot_at relation.places) v relation.refs (to ∷ [])) (sym (shifted_by_0 value))
-          (have_from_are relation kept relation.key kept.key_in value (to ∷ [])
-          (partner_matches only stored.0 stored.1 to (refers stored.0 stored.1)))
+          (finds_matches relation kept index.Key relation.key kept.key_in value (to ∷ [])
+          (partner_matches only stored.0 stored.1 to (refers stored.0 stored.1))).matches

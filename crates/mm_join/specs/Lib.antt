@@ -1,7 +1,8 @@
 pub mod Caps
-pub mod Column
-pub mod Cursor
+pub mod Entries
 pub mod Equated
-pub mod Gaps
 pub mod Joined
+pub mod Joins
+pub mod Keys
+pub mod Reads
 pub mod Ways

@@ -1,41 +1,47 @@
-//! A column of a table of a store.
-ghost use Rattle.std.specs.Prelude.{◌≡◌, ◌<◌, Some, length};
-ghost use Rattle.std.specs.Option.{option_map};
-ghost use Rattle.mm_join.specs.Column.{HasItsColumn, value_there};
+//! What a row of a table has in a column.
+ghost use Rattle.std.specs.Prelude.{◌≡◌, ◌+◌, ◌<◌, ◌≤◌, length};
+ghost use Rattle.mm_partition.specs.Places.{IsLive, slot_at};
+ghost use Rattle.mm_query.specs.Atoms.{value_in};
+ghost use Rattle.mm_relation.specs.Kept.{StoredRows};
+ghost use Rattle.mm_relation.specs.Refs.{row_at};
+ghost use Rattle.mm_store.specs.Tables.{IsAt};
+ghost use Rattle.mm_value.specs.Hash.{value_hash};
 ghost use Rattle.mm_value.specs.Prefix.{order_prefix};
 
-use mm_store::{Meter, Store};
-use mm_value::{RowRef, Value, order_prefix};
+use mm_store::View;
+use mm_value::{Row, RowRef, Value, hash64, order_prefix};
 
-/// A column of a table.
-#[derive(Clone, Copy)]
-pub(crate) struct ColumnOf<'s> {
-    pub store: &'s Store,
-    /// The place of the table in the store.
-    pub table: usize,
-    /// The column, counted from 0.
-    pub column: usize,
+/// The prefix of a row's value in a column; a row without that column counts as one that has 0 there.
+fn prefix_in(row: &Row, column: usize) -> u64
+    ensures { result ≡ order_prefix (value_in column row.now) }
+{
+    match row.values().get(column) {
+        Some(value) => order_prefix(value),
+        None => order_prefix(&Value::Int(0)),
+    }
 }
 
-impl<'s> ColumnOf<'s> {
-    /// The value of a row. The meter counts the row.
-    pub fn value(&self, meter: &mut Meter, at: RowRef) -> &'s Value
-        requires there { self.now.table < length self.now.store.now.tables }
-        requires column { HasItsColumn self.now at }
-        ensures { value_there self.now at ≡ Some result.now }
-    {
-        self.store.row(meter, self.table, at).value(self.column)
+/// The hash of a row's value in a column; a row without that column counts as one that has 0 there.
+pub(crate) fn hash_in(row: &Row, column: usize) -> u64
+    ensures { result ≡ value_hash (value_in column row.now) }
+{
+    match row.values().get(column) {
+        Some(value) => hash64(value),
+        None => hash64(&Value::Int(0)),
     }
+}
 
-    /// The prefix of the value of a row. The meter counts the row only if it is looked at, where its prefix is not kept.
-    pub fn prefix(&self, meter: &mut Meter, at: RowRef) -> u64
-        requires there { self.now.table < length self.now.store.now.tables }
-        requires column { HasItsColumn self.now at }
-        ensures { option_map order_prefix (value_there self.now at) ≡ Some result }
-    {
-        match self.store.prefix_of(self.table, self.column, at) {
-            Some(prefix) => prefix,
-            None => order_prefix(self.value(meter, at)),
-        }
+/// The prefix of what the row of a reference of a table has in a column. The row is read only where its prefix is not kept.
+pub(crate) fn prefix_there(view: &mut View<'_>, table: usize, column: usize, at: RowRef) -> u64
+    requires there { table < length view.old.store.tables }
+    requires live { (stored : StoredRows) → IsAt view.old.store table stored → IsLive stored.places at }
+    ensures prefix { (stored : StoredRows) → IsAt view.old.store table stored
+        → result ≡ order_prefix (value_in column (row_at (slot_at stored.places) at)) }
+    ensures reads { view.new.reads ≤ view.old.reads + 1 }
+    ensures same { view.new.store ≡ view.old.store }
+{
+    match view.prefix_of(table, column, at) {
+        Some(prefix) => prefix,
+        None => prefix_in(view.row(table, at), column),
     }
 }

@@ -10,15 +10,23 @@ ghost use Rattle.mm_store.specs.Tables.{IsAt};
 ghost use Rattle.mm_templist.specs.Combos.{AreLive, rows_of_combo};
 
 use mm_query::{Atom, FieldPlace, none_fails};
-use mm_store::{Meter, Store};
+use mm_store::View;
 use mm_templist::TempList;
 use mm_value::{Refusal, Row, RowRef};
 use std::alloc::AllocError;
 
+/// A combination of the outer list.
+#[derive(Clone, Copy)]
+pub(crate) struct Front<'f> {
+    /// The places in the store of the tables of the outer list.
+    pub tables: &'f [usize],
+    /// A reference for each of them.
+    pub refs: &'f [RowRef],
+}
+
 /// The inner side of a join: the table that is joined to the outer list, and what is asked of the combinations.
 #[derive(Clone, Copy)]
-pub(crate) struct Inner<'s, 'q> {
-    pub store: &'s Store,
+pub(crate) struct Inner<'q> {
     /// The place of the table in the store.
     pub table: usize,
     pub atoms: &'q [Atom<FieldPlace>],
@@ -26,30 +34,32 @@ pub(crate) struct Inner<'s, 'q> {
     pub cap: u64,
 }
 
-impl<'s, 'q> Inner<'s, 'q> {
-    /// Adds the combination of `front` and a candidate behind it, if it fits, where `rows` are the rows of `front`.
-    /// `ResultTooLarge` where one more than `cap` fits; `Memory` where memory is refused.
-    fn add_fitting(
+impl Inner<'_> {
+    /// Adds the combination of `front` and a candidate behind it, if it fits, where `rows` are the rows of `front`. The candidate is
+    /// read. `ResultTooLarge` where one more than `cap` fits; `Memory` where memory is refused.
+    fn add_fitting<'s>(
         &self,
-        meter: &mut Meter,
+        view: &mut View<'s>,
         rows: &mut Vec<Option<&'s Row>>,
         front: &[RowRef],
         at: RowRef,
         list: &mut TempList<'_>,
     ) -> Result<(), Refusal>
-        requires there { self.now.table < length self.now.store.now.tables }
-        requires live { (stored : StoredRows) → IsAt self.now.store.now self.now.table stored → IsLive stored.places at }
+        requires there { self.now.table < length view.old.store.tables }
+        requires live { (stored : StoredRows) → IsAt view.old.store self.now.table stored → IsLive stored.places at }
         requires wide { length front.now + 1 ≡ length list.old.tables }
         requires few { length list.old.combos ≤ self.now.cap }
         ensures due { AnswersDue (first_refusal (cap_conditions self.now.cap (list.old.combos
-            ++ matches self.now.store.now self.now.table self.now.atoms.now (map option_copied rows.old.items) front.now (at ∷ [])))) result }
+            ++ matches view.old.store self.now.table self.now.atoms.now (map option_copied rows.old.items) front.now (at ∷ [])))) result }
         ensures list { OnOk result (list.new ≡ record list.old {
           combos = list.old.combos
-              ++ matches self.now.store.now self.now.table self.now.atoms.now (map option_copied rows.old.items) front.now (at ∷ []);
+              ++ matches view.old.store self.now.table self.now.atoms.now (map option_copied rows.old.items) front.now (at ∷ []);
         }) }
         ensures rows { OnOk result (rows.new.items ≡ rows.old.items) }
+        ensures reads { view.new.reads ≤ view.old.reads + 1 }
+        ensures same { view.new.store ≡ view.old.store }
     {
-        rows.push(Some(self.store.row(meter, self.table, at)))?;
+        rows.push(Some(view.row(self.table, at)))?;
         let fits = none_fails(self.atoms, rows);
         rows.pop();
         if !fits {
@@ -62,49 +72,52 @@ impl<'s, 'q> Inner<'s, 'q> {
         Ok(())
     }
 
-    /// Adds the combinations of `front` and each candidate behind it that fit, where `rows` are the rows of `front`.
-    /// `ResultTooLarge` where more than `cap` fit; `Memory` where memory is refused.
-    pub fn add_all(
+    /// Adds the combinations of `front` and each candidate behind it that fit, where `rows` are the rows of `front`. Each candidate
+    /// is read at most once. `ResultTooLarge` where more than `cap` fit; `Memory` where memory is refused.
+    pub fn add_all<'s>(
         &self,
-        meter: &mut Meter,
+        view: &mut View<'s>,
         rows: &mut Vec<Option<&'s Row>>,
         front: &[RowRef],
         candidates: &[RowRef],
         list: &mut TempList<'_>,
     ) -> Result<(), Refusal>
-        requires there { self.now.table < length self.now.store.now.tables }
-        requires live { (stored : StoredRows) → IsAt self.now.store.now self.now.table stored → All (IsLive stored.places) candidates.now }
+        requires there { self.now.table < length view.old.store.tables }
+        requires live { (stored : StoredRows) → IsAt view.old.store self.now.table stored → All (IsLive stored.places) candidates.now }
         requires wide { length front.now + 1 ≡ length list.old.tables }
         requires few { length list.old.combos ≤ self.now.cap }
         ensures due { AnswersDue (first_refusal (cap_conditions self.now.cap (list.old.combos
-            ++ matches self.now.store.now self.now.table self.now.atoms.now (map option_copied rows.old.items) front.now candidates.now))) result }
+            ++ matches view.old.store self.now.table self.now.atoms.now (map option_copied rows.old.items) front.now candidates.now))) result }
         ensures list { OnOk result (list.new ≡ record list.old {
           combos = list.old.combos
-              ++ matches self.now.store.now self.now.table self.now.atoms.now (map option_copied rows.old.items) front.now candidates.now;
+              ++ matches view.old.store self.now.table self.now.atoms.now (map option_copied rows.old.items) front.now candidates.now;
         }) }
         ensures rows { OnOk result (rows.new.items ≡ rows.old.items) }
+        ensures reads { view.new.reads ≤ view.old.reads + length candidates.now }
+        ensures same { view.new.store ≡ view.old.store }
     {
         for at in candidates {
-            self.add_fitting(meter, rows, front, *at, list)?;
+            self.add_fitting(view, rows, front, *at, list)?;
         }
         Ok(())
     }
 }
 
-/// Puts the rows of a combination of these tables in the place of those that `rows` has. `AllocError` where memory is refused.
+/// Puts the rows of a combination in the place of those that `rows` has. Each is read once. `AllocError` where memory is refused.
 pub(crate) fn choose<'s>(
-    store: &'s Store,
-    meter: &mut Meter,
-    tables: &[usize],
-    front: &[RowRef],
+    view: &mut View<'s>,
+    front: Front<'_>,
     rows: &mut Vec<Option<&'s Row>>,
 ) -> Result<(), AllocError>
-    requires { AreLive store.now tables.now front.now }
-    ensures { OnOk result (map option_copied rows.new.items ≡ map Some (rows_of_combo store.entry.now tables.now front.now)) }
+    requires { AreLive view.old.store front.tables.now front.refs.now }
+    ensures rows { OnOk result (map option_copied rows.new.items
+        ≡ map Some (rows_of_combo view.old.store front.entry.tables.now front.entry.refs.now)) }
+    ensures reads { view.new.reads ≤ view.old.reads + length front.entry.tables.now }
+    ensures same { view.new.store ≡ view.old.store }
 {
     rows.clear();
-    for (place, at) in front.iter().enumerate() {
-        rows.push(Some(store.row(meter, tables[place], *at)))?;
+    for (place, at) in front.refs.iter().enumerate() {
+        rows.push(Some(view.row(front.tables[place], *at)))?;
     }
     Ok(())
 }

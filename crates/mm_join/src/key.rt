@@ -1,6 +1,7 @@
 //! Join equalities of a further table.
 ghost use Rattle.std.specs.Prelude.{◌≡◌, ◌⊎◌, ◌↔◌, ℕ, ◌<◌, List, length, pos, Contains, IfNone, IfSome, IsTrue};
 ghost use Rattle.mm_join.specs.Equated.{IsJoin, IsJoinEquality, added};
+ghost use Rattle.mm_join.specs.Keys.{key_between, key_of};
 ghost use Rattle.mm_join.specs.declared.key.Shift.TheVariants as shift;
 ghost use Rattle.mm_query.specs.declared.atom.Atom.{Atom as AnyAtom};
 
@@ -41,6 +42,7 @@ pub struct JoinKey {
 /// What an atom asks of a column of the table at a place of FROM, counted from 0, if it is a join equality of that table: `=`
 /// between one of its columns and one of an earlier table, on either side, with or without a shift.
 pub fn join_key(atom: &Atom<FieldPlace>, place: usize) -> Option<JoinKey>
+    ensures is { result ≡ key_of place atom.now }
     ensures key { IfSome result (λ key. (atoms : List (AnyAtom FieldPlace)) (outers : List ℕ) → Contains atoms atom.now → length outers ≡ place
         → IsJoin atoms outers key) }
     ensures earlier { IfSome result (λ key. key.field.place < place) }
@@ -59,6 +61,7 @@ pub fn join_key(atom: &Atom<FieldPlace>, place: usize) -> Option<JoinKey>
 /// What it asks of a column of the table at a place that one field equals another one with a number added, if one of them is of that
 /// table and the other one of an earlier table.
 fn key_between(left: FieldPlace, right: FieldPlace, by: i64, place: usize) -> Option<JoinKey>
+    ensures is { result ≡ key_between place left right by }
     ensures key { IfSome result (λ key.
         ((left.place ≡ place) × (right.place < place) × (key ≡ record { column = left.column; field = right; shift = shift.Plus by }))
         ⊎ ((right.place ≡ place) × (left.place < place) × (key ≡ record { column = right.column; field = left; shift = shift.Minus by }))) }

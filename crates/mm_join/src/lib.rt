@@ -4,20 +4,14 @@
 mod built;
 mod column;
 mod cursor;
-mod followed;
-mod gap;
+mod entries;
 mod inner;
+mod join;
 mod key;
 mod laws;
-mod merge;
-mod nested;
-mod probes;
+mod lookup;
 mod ways;
 
-pub use built::hash_build;
-pub use followed::precomputed;
+pub use join::Join;
 pub use key::{JoinKey, Shift, join_key};
 pub use laws::join_step;
-pub use merge::tree_merge;
-pub use nested::nested_loops;
-pub use probes::{hash_probe, tree_join};

@@ -15,3 +15,12 @@ pub mod StandingQueries
 pub mod StillFound
 pub mod Throughout
 mod Transactions
+mod TypedAssignments
+pub mod TypedChanges
+pub mod TypedDefinitions
+pub mod TypedNumbers
+mod TypedPlaces
+mod TypedQueries
+mod TypedRows
+mod TypedSteps
+mod TypedTables

@@ -1,1 +1,2 @@
 pub mod RefusalOrder
+pub mod Typing

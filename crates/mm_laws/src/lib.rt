@@ -9,6 +9,7 @@ mod plan_laws;
 mod query_laws;
 mod refusal_laws;
 mod standing_laws;
+mod typing_laws;
 
 pub use cascade_laws::{cascades_leave_none_behind, cascades_take_no_others};
 pub use command_laws::{
@@ -31,3 +32,4 @@ pub use refusal_laws::{first_refusals_are_answered, ranks_ascend_along_the_one_o
 pub use standing_laws::{
     standing_queries_are_shown, standing_queries_stay_bound, standing_queries_stay_within_limit,
 };
+pub use typing_laws::{bound_queries_add_to_numbers, types_are_kept};

@@ -134,7 +134,8 @@ few_at store place stored at few =
 
 -- ---- the combination of no tables
 
-none_fails_yet : (atoms : List (Atom FieldPlace)) → none_fails atoms [] ≡ true
+-- No atom is false of it.
+pub none_fails_yet : (atoms : List (Atom FieldPlace)) → none_fails atoms [] ≡ true
 none_fails_yet [] = refl
 none_fails_yet (atom ∷ atoms) = none_fails_yet atoms
 

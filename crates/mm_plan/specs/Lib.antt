@@ -1,5 +1,7 @@
 pub mod Begun
-pub mod From
+pub mod Choosing
+pub mod Finding
 pub mod Growing
-pub mod Rules
-pub mod Ways
+pub mod Kept
+pub mod Naming
+pub mod Steps

@@ -4,7 +4,7 @@ ghost use Rattle.std.specs.List.{list_all};
 ghost use Rattle.mm_plan.specs.Growing.{HaveRows, IsCap, names_first};
 
 use mm_query::{Atom, FieldPlace, MAX_COMBINATIONS};
-use mm_store::Store;
+use mm_store::View;
 
 /// Whether an atom names fields of the first so many tables alone.
 fn names_first(atom: &Atom<FieldPlace>, tables: usize) -> bool
@@ -25,12 +25,12 @@ fn all_name_first(atoms: &[Atom<FieldPlace>], tables: usize) -> bool
 }
 
 /// Whether each of some tables has a row.
-fn have_rows(store: &Store, tables: &[usize]) -> bool
-    requires { All (λ table. table < length store.now.tables) tables.now }
-    ensures { IsTrue result ↔ HaveRows store.now tables.now }
+fn have_rows(view: &View<'_>, tables: &[usize]) -> bool
+    requires { All (λ table. table < length view.now.store.tables) tables.now }
+    ensures { IsTrue result ↔ HaveRows view.now.store tables.now }
 {
     for &table in tables {
-        if store.len_of(table) == 0 {
+        if view.len_of(table) == 0 {
             return false;
         }
     }
@@ -41,17 +41,17 @@ fn have_rows(store: &Store, tables: &[usize]) -> bool
 /// the last table, no more than may be in that. So a product that is too large is refused as soon as it is, and not kept. Else any
 /// number may.
 pub(crate) fn cap_of(
-    store: &Store,
+    view: &View<'_>,
     atoms: &[Atom<FieldPlace>],
     tables: &[usize],
     first: usize,
 ) -> u64
-    requires there { All (λ table. table < length store.now.tables) tables.now }
+    requires there { All (λ table. table < length view.now.store.tables) tables.now }
     requires within { first ≤ length tables.now }
-    ensures { IsCap store.now atoms.now tables.now first result }
+    ensures { IsCap view.now.store atoms.now tables.now first result }
 {
     let later = &tables[first..];
-    if later.is_empty() || (all_name_first(atoms, first) && have_rows(store, later)) {
+    if later.is_empty() || (all_name_first(atoms, first) && have_rows(view, later)) {
         MAX_COMBINATIONS as u64
     } else {
         u64::MAX

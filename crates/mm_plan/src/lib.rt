@@ -1,26 +1,28 @@
-//! How a query is run: which tables it reads, in which order, and by which method; and its plan, which way its tables are gone
-//! along, chosen by fixed rules (Lehman and Carey, SIGMOD 1986).
+//! How a query is run: the steps by which its tables are reached, chosen by fixed rules (Lehman and Carey, SIGMOD 1986); its run by
+//! these steps; and its plan, which is the steps by their names.
 //!
 //! A call that may take memory is handed the allocator; no other call takes any.
 #![tactic(auto)]
 
-mod access;
+mod beginning;
 mod caps;
-mod first;
-mod from;
-mod further;
-mod joins;
+mod choosing;
+mod ends;
+mod explaining;
+mod finding;
+mod keys;
 mod laws;
-mod planner;
-mod planning;
+mod naming;
+mod next_table;
 mod run;
-mod ways;
+mod step;
 
-pub use from::places_of;
+pub use choosing::plan_steps;
+pub use explaining::explain;
+pub use finding::{find_rows, in_key_order};
 pub use laws::{
-    first_lines_are_served_by_their_indexes, join_equalities_are_not_passed_over,
-    join_equalities_ask_for_earlier_values, join_lines_go_by_their_indexes,
-    keys_and_indexed_columns_have_trees,
+    join_equalities_ask_for_earlier_values, nested_loops_are_for_no_join_equality,
+    steps_by_names_are_the_plan,
 };
-pub use planning::plan;
-pub use run::run_plan;
+pub use run::{run_plan, run_query};
+pub use step::Step;

@@ -1,5 +1,5 @@
 -- What refuses a command: by names that are there or are not, and by one list of conditions behind another.
-use Rattle.std.proofs.Common.{◌≡◌, ℕ, Bool, true, false, List, ◌++◌, Some, None, is_none, slice_get, sym, ap, ◌∙◌, append_assoc}
+use Rattle.std.proofs.Common.{◌≡◌, ℕ, Bool, true, false, List, [], ◌∷◌, ◌++◌, Some, None, is_none, slice_get, sym, ap, ◌∙◌, append_assoc}
 use Rattle.std.specs.Option.{option_map_or}
 use Rattle.mm_schema.specs.Refused.{first_refusal}
 use Rattle.mm_schema.specs.Schema.{Schema, key_named, lacks_table, table_named, table_passes, table_place}
@@ -37,6 +37,10 @@ module _ (name : List ℕ) (schema : Schema) (place : ℕ) (table : Table) (plac
   -- .. and its key is that table's.
   pub key_at_place : key_named name schema ≡ key_place table.definition.columns
   key_at_place = ap (λ t. option_map_or (λ u. key_place u.definition.columns) t 0) named
+
+-- A condition that holds refuses alone.
+pub due_one : (holds : Bool) (refusal : Refusal) → holds ≡ true → first_refusal (record { holds = holds; refusal = refusal } ∷ []) ≡ Some refusal
+due_one holds refusal is = ap (λ b. first_refusal (record { holds = b; refusal = refusal } ∷ [])) is
 
 -- What the catalog or the new values refuse is refused, ..
 pub due_in_front_of_rows : (mutation : Mutation) (state : State) (refusal : Refusal)

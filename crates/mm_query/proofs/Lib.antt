@@ -1,6 +1,9 @@
 pub mod Binds
+mod Bounds
 pub mod Due
+pub mod FoundTables
 pub mod FoundTargets
+pub mod Noted
 pub mod PlacedColumns
 pub mod PlacedQueries
 pub mod PlainEval

@@ -1,14 +1,15 @@
 -- The places of names that are there lie within the columns.
-use Rattle.std.proofs.Common.{◌≡◌, ℕ, ◌<◌, Bool, true, false, ◌||◌, List, [], ◌∷◌, Option, Some, None, is_none, length, map, refl}
+use Rattle.std.proofs.Common.{◌≡◌, ℕ, ◌<◌, Bool, true, false, ◌||◌, List, [], ◌∷◌, Option, Some, None, get_or, is_none, length, map, refl, sym, ap, ◌∙◌}
 use Rattle.std.specs.List.{All, list_any}
-use Rattle.std.specs.Option.{unwrap_or}
+use Rattle.std.specs.Option.{option_map, unwrap_or}
+use Rattle.std.proofs.lemmas.Option.{slice_get-get_or}
 use Rattle.std.proofs.lemmas.List.Elements.{All-cons, All-nil}
-use Rattle.mm_schema.proofs.Places.{within_from_some}
+use Rattle.mm_schema.proofs.Places.{find_at_place, find_nowhere, within_from_some}
 use Rattle.mm_schema.specs.Columns.{column_place}
 use Rattle.mm_schema.specs.Name.{same_name}
 use Rattle.mm_schema.specs.declared.column.Column.{Column}
 use Rattle.mm_query.specs.Atoms.{IsWithin, ReadsWithin}
-use Rattle.mm_query.specs.Placing.{assignment_lacks_column, atom_lacks_column, lacks_column, operand_lacks_column, placed, placed_assignment, placed_atom, placed_operand}
+use Rattle.mm_query.specs.Placing.{assignment_lacks_column, atom_lacks_column, lacks_column, operand_lacks_column, placed, placed_assignment, placed_atom, placed_operand, type_named}
 use Rattle.mm_query.specs.declared.atom.Assignment.{Assignment}
 use Rattle.mm_query.specs.declared.atom.Atom.{Atom}
 use Rattle.mm_query.specs.declared.atom.Operand.{Operand}
@@ -17,6 +18,21 @@ use Rattle.mm_query.specs.declared.atom.Operand.TheVariants as operand
 neither : (a b : Bool) → (a || b) ≡ false → (a ≡ false) × (b ≡ false)
 neither true b e = cc
 neither false b e = (refl, e)
+
+-- The type of the column of a name is found at its place.
+module _ (columns : List Column) (name : List ℕ) where
+  abbrev is_named : Column → Bool
+  is_named column = same_name name column.name
+
+  pub no_type : column_place name columns ≡ None → None ≡ type_named columns name
+  no_type nowhere = sym (ap (option_map (λ (c : Column). c.col_type)) (find_nowhere is_named columns nowhere))
+
+  pub type_at : (read : List Column) (k : ℕ) (column : Column) → read ≡ columns → column_place name columns ≡ Some k
+      → Some (get_or read k column).col_type ≡ type_named columns name
+  type_at read k column same place =
+      sym (ap (option_map (λ (c : Column). c.col_type))
+      (find_at_place is_named columns k place ∙ slice_get-get_or columns k column (within_from_some is_named columns k place))
+      ∙ λ j. Some (get_or (sym same j) k column).col_type)
 
 module _ (columns : List Column) where
   -- A name that is there has a place within them, ..

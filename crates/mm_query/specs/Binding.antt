@@ -9,11 +9,12 @@ use Rattle.mm_value.specs.Types.{type_of}
 use Rattle.mm_value.specs.declared.refusal.Refusal.TheVariants.{NoSuchTable, TypeMismatch, WrongNumberOfValues}
 use Rattle.mm_value.specs.declared.values.Value.{Value}
 use Rattle.mm_query.specs.Atoms.{IsWithin, ReadsWithin}
-use Rattle.mm_query.specs.Placing.{column_conditions, placed_assignment, placed_atom}
+use Rattle.mm_query.specs.Placing.{column_conditions, mapped_atom, placed_assignment, placed_atom}
 use Rattle.mm_query.specs.declared.atom.Assignment.{Assignment}
 use Rattle.mm_query.specs.declared.atom.Atom.{Atom}
 use Rattle.mm_query.specs.declared.bind.BoundChange.{BoundChange}
 use Rattle.mm_query.specs.declared.bind.BoundChange.TheVariants as bound
+use Rattle.mm_query.specs.declared.bound_query.FieldPlace.{FieldPlace}
 use Rattle.mm_query.specs.declared.command.Mutation.{Mutation}
 use Rattle.mm_query.specs.declared.command.Mutation.TheVariants as written
 
@@ -47,6 +48,14 @@ assignments_for table schema assignments = map (placed_assignment (columns_named
 abbrev pub tests_for : List ℕ → Schema → List (Atom (List ℕ)) → List (Atom ℕ)
 tests_for table schema tests = map (placed_atom (columns_named table schema)) tests
 
+-- A column of the only table of a query.
+abbrev pub at_first : ℕ → FieldPlace
+at_first column = record { place = 0; column = column }
+
+-- The same tests as the atoms of a query of that table alone.
+abbrev pub atoms_for : List ℕ → Schema → List (Atom (List ℕ)) → List (Atom FieldPlace)
+atoms_for table schema tests = map (mapped_atom at_first) (tests_for table schema tests)
+
 -- All columns that tests name are among the first ones of a row.
 abbrev pub TestsWithin : ℕ → List (Atom ℕ) → Type 0
 TestsWithin width tests = All (λ (t : Atom ℕ). ReadsWithin width t.left t.right) tests
@@ -55,20 +64,20 @@ TestsWithin width tests = All (λ (t : Atom ℕ). ReadsWithin width t.left t.rig
 abbrev pub AssignmentsWithin : ℕ → List (Assignment ℕ) → Type 0
 AssignmentsWithin width assignments = All (λ (a : Assignment ℕ). IsWithin width a.source) assignments
 
--- An UPDATE that is bound: its table has this place, and its columns have these, which lie in the table.
+-- An UPDATE that is bound: its table has this place, and its columns have these, which lie in the table. Its tests are atoms of a query.
 pub record BindsUpdate (schema : Schema) (name : List ℕ) (assignments : List (Assignment (List ℕ))) (tests : List (Atom (List ℕ)))
-    (place : ℕ) (placed : List (Assignment ℕ)) (asked : List (Atom ℕ)) : Type 0 where
+    (place : ℕ) (placed : List (Assignment ℕ)) (asked : List (Atom FieldPlace)) : Type 0 where
   pub table : table_place name schema ≡ Some place
   pub assignments_placed : placed ≡ assignments_for name schema assignments
-  pub tests_placed : asked ≡ tests_for name schema tests
+  pub tests_placed : asked ≡ atoms_for name schema tests
   pub assignments_within : AssignmentsWithin (length (columns_named name schema)) placed
-  pub tests_within : TestsWithin (length (columns_named name schema)) asked
+  pub tests_within : TestsWithin (length (columns_named name schema)) (tests_for name schema tests)
 
 -- A DELETE that is bound.
-pub record BindsDelete (schema : Schema) (name : List ℕ) (tests : List (Atom (List ℕ))) (place : ℕ) (asked : List (Atom ℕ)) : Type 0 where
+pub record BindsDelete (schema : Schema) (name : List ℕ) (tests : List (Atom (List ℕ))) (place : ℕ) (asked : List (Atom FieldPlace)) : Type 0 where
   pub table : table_place name schema ≡ Some place
-  pub tests_placed : asked ≡ tests_for name schema tests
-  pub tests_within : TestsWithin (length (columns_named name schema)) asked
+  pub tests_placed : asked ≡ atoms_for name schema tests
+  pub tests_within : TestsWithin (length (columns_named name schema)) (tests_for name schema tests)
 
 -- The change with places in place of the names of its table and its columns.
 abbrev pub Binds : Schema → Mutation → BoundChange → Type 0

@@ -3,6 +3,7 @@ pub mod Binding
 pub mod Choosing
 pub mod Counting
 pub mod Edits
+pub mod Faults
 pub mod Machine
 pub mod Placing
 pub mod Plans

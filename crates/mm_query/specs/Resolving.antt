@@ -4,7 +4,7 @@ use Rattle.std.specs.List.{list_any}
 use Rattle.std.specs.Option.{option_and_then, option_map_or, unwrap_or}
 use Rattle.mm_schema.specs.Name.{same_name}
 use Rattle.mm_schema.specs.Refused.{Condition}
-use Rattle.mm_schema.specs.Schema.{Schema, columns_named, lacks_table, table_named}
+use Rattle.mm_schema.specs.Schema.{Schema, columns_named, lacks_table, table_named, table_place}
 use Rattle.mm_schema.specs.declared.table.Table.{Table}
 use Rattle.mm_value.specs.declared.col_type.ColType.{ColType}
 use Rattle.mm_value.specs.declared.refusal.Refusal.TheVariants.{AliasTaken, NoSuchAlias, NoSuchColumn, NoSuchTable, TooMany, TypeMismatch}
@@ -20,6 +20,12 @@ use Rattle.mm_query.specs.declared.bound_query.FieldPlace.{FieldPlace}
 use Rattle.mm_query.specs.declared.query.FieldName.{FieldName}
 use Rattle.mm_query.specs.declared.query.FromItem.{FromItem}
 use Rattle.mm_query.specs.declared.query.Query.{Query}
+
+-- ---- tables
+
+-- The places of the tables of FROM in the catalog's order of creation, and 0 for one that isn't there.
+abbrev pub places_in : Schema → List FromItem → List ℕ
+places_in schema from = map (λ (item : FromItem). unwrap_or (table_place item.table schema) 0) from
 
 -- ---- fields
 

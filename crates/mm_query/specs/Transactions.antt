@@ -1,5 +1,5 @@
 -- Which commands concern transactions, and what is kept in one.
-use Rattle.std.specs.Prelude.{◌≡◌, ℕ, Bool, true, false, not, ◌||◌, List, map}
+use Rattle.std.specs.Prelude.{◌≡◌, ℕ, Bool, true, false, not, List, map}
 use Rattle.mm_schema.specs.Name.{same_name}
 use Rattle.mm_schema.specs.Schema.{Schema}
 use Rattle.mm_schema.specs.declared.table.Table.{Table}

@@ -1,8 +1,10 @@
 //! Atoms: what a row is asked in WHERE, and what a column is given in SET.
 ghost use Rattle.std.specs.Prelude.{◌≡◌, ◌<◌, ◌+ℤ◌, ℕ, Some, length};
+ghost use Rattle.std.specs.Option.{option_copied};
 ghost use Rattle.std.specs.Ordering.{int_cmp};
 ghost use Rattle.mm_value.specs.Order.{value_cmp};
 ghost use Rattle.mm_query.specs.Atoms.{ReadsWithin, holds, operand_of, shifted, stands, value_in};
+ghost use Rattle.mm_query.specs.Resolving.{column_of};
 
 use mm_value::{Row, Value, compare};
 use std::cmp::Ordering;
@@ -51,6 +53,19 @@ pub struct Assignment<F> {
     pub column: F,
     /// The value, computed from the old row alone.
     pub source: Operand<F>,
+}
+
+impl<F> Operand<F> {
+    /// The column that it names, if it is no value.
+    pub fn column(&self) -> Option<&F>
+        ensures { option_copied result ≡ column_of self.now }
+    {
+        match self {
+            Operand::Literal(_) => None,
+            Operand::Column(column) => Some(column),
+            Operand::Shifted(column, _) => Some(column),
+        }
+    }
 }
 
 impl Comparison {

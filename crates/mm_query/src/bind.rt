@@ -9,9 +9,10 @@ ghost use Rattle.mm_query.specs.Binding.{Binds, binding_conditions, has_other_le
 ghost use Rattle.mm_query.specs.declared.command.Mutation.TheVariants.{Insert, Update, Delete};
 
 use crate::atom::{Assignment, Atom};
+use crate::bound_query::FieldPlace;
 use crate::command::Mutation;
 use crate::item_list::ItemList;
-use crate::place::{column_refusal, place_assignments, place_tests};
+use crate::place::{form_faults, place_assignments, place_tests};
 use crate::row_list::RowList;
 use mm_schema::{Catalog, Column, Name};
 use mm_value::{Refusal, Row, Value};
@@ -33,19 +34,19 @@ pub enum BoundChange {
         table: usize,
         /// The columns that get new values, by their places.
         assignments: ItemList<Assignment<usize>>,
-        /// What a row is asked, with columns by their places.
-        tests: ItemList<Atom<usize>>,
+        /// What a row is asked: the atoms of a query of this table alone.
+        tests: ItemList<Atom<FieldPlace>>,
     },
     /// Takes the rows that meet all tests out of a table.
     Delete {
         /// The table's place in the catalog's order of creation.
         table: usize,
-        /// What a row is asked, with columns by their places.
-        tests: ItemList<Atom<usize>>,
+        /// What a row is asked: the atoms of a query of this table alone.
+        tests: ItemList<Atom<FieldPlace>>,
     },
 }
 
-/// Resolves the names of a change and tests its values and its tests against the columns. `NoSuchTable`, `NoSuchColumn`,
+/// Resolves the names of a change, each of which is looked up once, and tests its values and its tests against the columns. `NoSuchTable`, `NoSuchColumn`,
 /// `NameTaken` for a column twice in SET, `TypeMismatch`, `WrongNumberOfValues`, `TooMany` for more than 16 tests: the first
 /// whose condition holds, over the whole command. `Memory` may come in their place and in that of success, except for an
 /// INSERT, which takes none here.
@@ -69,7 +70,7 @@ pub fn bind_change(
     }
 }
 
-/// Resolves the table of an UPDATE and the columns of its assignments and tests.
+/// Resolves the table of an UPDATE, and the columns of its assignments and tests.
 fn bind_update(
     alloc: Global,
     catalog: &Catalog,
@@ -81,23 +82,24 @@ fn bind_update(
     ensures ok { IfOk result (Binds catalog.now (Update name.now assignments tests)) }
     ensures distinct { HasDistinctNames catalog.now }
 {
-    let Some(place) = catalog.place_of(name) else {
+    let Some(table) = catalog.place_of(name) else {
         return Err(Refusal::NoSuchTable);
     };
-    let columns = &catalog.table_at(place).definition.columns;
-    if let Some(refusal) = column_refusal(columns, assignments.as_slice(), tests.as_slice()) {
-        return Err(refusal);
+    let columns = &catalog.table_at(table).definition.columns;
+    let mut faults = form_faults(assignments.as_slice(), tests.as_slice());
+    let assignments = place_assignments(alloc, columns, assignments, &mut faults)?;
+    let tests = place_tests(alloc, columns, tests, &mut faults)?;
+    match faults.refusal(Refusal::NameTaken) {
+        Some(refusal) => Err(refusal),
+        None => Ok(BoundChange::Update {
+            table,
+            assignments,
+            tests,
+        }),
     }
-    let assignments = place_assignments(alloc, columns, assignments.into_vec())?;
-    let tests = place_tests(alloc, columns, tests.into_vec())?;
-    Ok(BoundChange::Update {
-        table: place,
-        assignments: ItemList::new(assignments),
-        tests: ItemList::new(tests),
-    })
 }
 
-/// Resolves the table of a DELETE and the columns of its tests.
+/// Resolves the table of a DELETE, and the columns of its tests.
 fn bind_delete(
     alloc: Global,
     catalog: &Catalog,
@@ -108,18 +110,16 @@ fn bind_delete(
     ensures ok { IfOk result (Binds catalog.now (Delete name.now tests)) }
     ensures distinct { HasDistinctNames catalog.now }
 {
-    let Some(place) = catalog.place_of(name) else {
+    let Some(table) = catalog.place_of(name) else {
         return Err(Refusal::NoSuchTable);
     };
-    let columns = &catalog.table_at(place).definition.columns;
-    if let Some(refusal) = column_refusal(columns, &[], tests.as_slice()) {
-        return Err(refusal);
+    let columns = &catalog.table_at(table).definition.columns;
+    let mut faults = form_faults(&[], tests.as_slice());
+    let tests = place_tests(alloc, columns, tests, &mut faults)?;
+    match faults.refusal(Refusal::NameTaken) {
+        Some(refusal) => Err(refusal),
+        None => Ok(BoundChange::Delete { table, tests }),
     }
-    let tests = place_tests(alloc, columns, tests.into_vec())?;
-    Ok(BoundChange::Delete {
-        table: place,
-        tests: ItemList::new(tests),
-    })
 }
 
 /// Resolves the table of an INSERT and tests its tuples against the columns.

@@ -1,78 +1,41 @@
-//! Tests and assignments resolved against the columns of their table.
-ghost use Rattle.std.specs.Prelude.{◌≡◌, ◌<◌, ◌||◌, ℕ, List, false, All, IfErr, IfOk, length, map};
+//! Tests and assignments resolved against the columns of their table: each name is looked up once.
+ghost use Rattle.std.specs.Prelude.{◌≡◌, ◌||◌, ℕ, List, false, IfErr, IfOk, OnOk, length, map, nat_lt};
 ghost use Rattle.std.specs.List.{list_any};
-ghost use Rattle.std.specs.Option.{option_copied};
-ghost use Rattle.mm_schema.specs.Columns.{column_named};
 ghost use Rattle.mm_schema.specs.Name.{same_name};
-ghost use Rattle.mm_schema.specs.Refused.{first_refusal};
-ghost use Rattle.mm_value.specs.declared.col_type.ColType.TheVariants.{Text};
 ghost use Rattle.mm_value.specs.declared.refusal.Refusal.TheVariants.{Memory};
-ghost use Rattle.mm_query.specs.Atoms.{IsWithin, ReadsWithin};
-ghost use Rattle.mm_query.specs.Placing.{assignment_lacks_column, atom_lacks_column, column_conditions, differ, has_twin_targets, lacks_column, mismatches, operand_lacks_column, operand_type, placed, placed_assignment, placed_atom, placed_operand, shifts_text, type_named};
+ghost use Rattle.mm_query.specs.Binding.{at_first};
+ghost use Rattle.mm_query.specs.Faults.{noted};
+ghost use Rattle.mm_query.specs.Placing.{assignment_lacks_column, atom_lacks_column, differ, has_twin_targets, lacks_column, mapped_atom, mapped_operand, mismatches, operand_lacks_column, operand_type, placed, placed_assignment, placed_atom, placed_operand, shifts_text, type_named};
 ghost use Rattle.mm_query.specs.declared.atom.Assignment.{Assignment as Assigned};
 ghost use Rattle.mm_query.specs.declared.atom.Atom.{Atom as Test};
 
 use crate::atom::{Assignment, Atom, Operand};
-use mm_schema::{Column, Columns, Name};
+use crate::bound_query::FieldPlace;
+use crate::faults::{Faults, Resolved};
+use crate::item_list::ItemList;
+use mm_schema::{Columns, Name};
 use mm_value::{ColType, Refusal};
 use std::alloc::Global;
 
 /// The most tests of a change.
 pub const MAX_TESTS: usize = 16;
 
-/// What refuses an UPDATE by the columns of its table: `NoSuchColumn`, `NameTaken` for a column twice in SET, `TypeMismatch`,
-/// `TooMany` for more than 16 tests; the first that is due over the whole command. A DELETE has no assignments.
-pub fn column_refusal(
-    columns: &Columns,
-    assignments: &[Assignment<Name>],
-    tests: &[Atom<Name>],
-) -> Option<Refusal>
-    ensures { result ≡ first_refusal (column_conditions columns.now assignments.now tests.now) }
+/// What is amiss with a change apart from its columns: twins in SET and the count of its tests. A DELETE has no assignments.
+pub(crate) fn form_faults(assignments: &[Assignment<Name>], tests: &[Atom<Name>]) -> Faults
+    ensures { result ≡ record {
+      column = false;
+      twin = has_twin_targets assignments.now;
+      alias = false;
+      mismatch = false;
+      too_many = nat_lt 16 (length tests.now);
+    } }
 {
-    if assign_missing_column(columns, assignments) || test_missing_column(columns, tests) {
-        Some(Refusal::NoSuchColumn)
-    } else if has_twin_targets(assignments) {
-        Some(Refusal::NameTaken)
-    } else if assign_mismatch(columns, assignments) || test_mismatch(columns, tests) {
-        Some(Refusal::TypeMismatch)
-    } else if tests.len() > MAX_TESTS {
-        Some(Refusal::TooMany)
-    } else {
-        None
-    }
-}
-
-/// Whether some assignment names a column that isn't there.
-fn assign_missing_column(columns: &Columns, assignments: &[Assignment<Name>]) -> bool
-    ensures { result ≡ list_any (assignment_lacks_column columns.now) assignments.now }
-{
-    assignments.iter().any(|assignment| lacks_column(columns, &assignment.column)
-        || operand_lacks_column(columns, &assignment.source))
-}
-
-/// Whether some test names a column that isn't there.
-fn test_missing_column(columns: &Columns, tests: &[Atom<Name>]) -> bool
-    ensures { result ≡ list_any (atom_lacks_column columns.now) tests.now }
-{
-    tests.iter().any(|test| lacks_column(columns, &test.left)
-        || operand_lacks_column(columns, &test.right))
-}
-
-/// Whether no column has the name.
-fn lacks_column(columns: &Columns, name: &Name) -> bool
-    ensures { result ≡ lacks_column columns.now name.now }
-{
-    columns.place_of(name).is_none()
-}
-
-/// Whether an operand names a column that isn't there.
-fn operand_lacks_column(columns: &Columns, operand: &Operand<Name>) -> bool
-    ensures { result ≡ operand_lacks_column columns.now operand.now }
-{
-    match operand {
-        Operand::Literal(_) => false,
-        Operand::Column(name) => lacks_column(columns, name),
-        Operand::Shifted(name, _) => lacks_column(columns, name),
+    Faults {
+        column: false,
+        twin: has_twin_targets(assignments),
+        alias: false,
+        mismatch: false,
+        too_many: tests.len() > MAX_TESTS,
     }
 }
 
@@ -97,144 +60,140 @@ fn assigns_to(assignments: &[Assignment<Name>], name: &Name) -> bool
         .any(|assignment| *name == assignment.column)
 }
 
-/// Whether some column differs in type from what it gets, or a text is shifted.
-fn assign_mismatch(columns: &Columns, assignments: &[Assignment<Name>]) -> bool
-    ensures { result ≡ list_any (λ (a : Assigned (List ℕ)). mismatches (type_named columns.now) a.column a.source) assignments.now }
+/// What the name of a column stands for. One that is missing is noted.
+pub(crate) fn resolve_column(columns: &Columns, name: &Name, faults: &mut Faults) -> Resolved<usize>
+    ensures place { result.place ≡ placed columns.now name.now }
+    ensures col_type { result.col_type ≡ type_named columns.now name.now }
+    ensures faults { faults.new ≡ noted (lacks_column columns.now name.now) false false faults.old }
 {
-    assignments.iter().any(|assignment| mismatches(columns, &assignment.column, &assignment.source))
-}
-
-/// Whether some column differs in type from what it is compared with, or a text is shifted.
-fn test_mismatch(columns: &Columns, tests: &[Atom<Name>]) -> bool
-    ensures { result ≡ list_any (λ (t : Test (List ℕ)). mismatches (type_named columns.now) t.left t.right) tests.now }
-{
-    tests
-        .iter()
-        .any(|test| mismatches(columns, &test.left, &test.right))
-}
-
-/// Whether a column differs in type from an operand, or that shifts a text.
-fn mismatches(columns: &Columns, name: &Name, operand: &Operand<Name>) -> bool
-    ensures { result ≡ mismatches (type_named columns.now) name.now operand.now }
-{
-    differ(type_named(columns, name), operand_type(columns, operand))
-        || shifts_text(columns, operand)
-}
-
-/// Whether two types are known and differ.
-pub(crate) fn differ(a: Option<ColType>, b: Option<ColType>) -> bool
-    ensures { result ≡ differ a b }
-{
-    match (a, b) {
-        (Some(a), Some(b)) => a != b,
-        _ => false,
+    let Some(place) = columns.place_of(name) else {
+        faults.column = true;
+        return Resolved {
+            place: 0,
+            col_type: None,
+        };
+    };
+    Resolved {
+        place,
+        col_type: Some(columns.as_slice()[place].col_type),
     }
 }
 
-/// The column of a name, if it is there.
-pub fn column_named<'a>(columns: &'a Columns, name: &Name) -> Option<&'a Column>
-    ensures { option_copied result ≡ column_named name.now columns.now }
-{
-    columns
-        .as_slice()
-        .iter()
-        .find(|column| *name == column.name)
-}
-
-/// The type of the column of a name, if it is there.
-pub(crate) fn type_named(columns: &Columns, name: &Name) -> Option<ColType>
-    ensures { result ≡ type_named columns.now name.now }
-{
-    match column_named(columns, name) {
-        Some(column) => Some(column.col_type),
-        None => None,
-    }
-}
-
-/// The type of an operand, if its column is there.
-fn operand_type(columns: &Columns, operand: &Operand<Name>) -> Option<ColType>
-    ensures { result ≡ operand_type (type_named columns.now) operand.now }
+/// An operand with a place for its column, beside a side of this type, and what is amiss with it.
+fn place_operand(
+    columns: &Columns,
+    operand: Operand<Name>,
+    left: Option<ColType>,
+    faults: &mut Faults,
+) -> Operand<usize>
+    ensures place { result ≡ placed_operand columns.now operand }
+    ensures faults { faults.new ≡ noted (operand_lacks_column columns.now operand) false
+        (differ left (operand_type (type_named columns.now) operand) || shifts_text (type_named columns.now) operand) faults.old }
 {
     match operand {
-        Operand::Literal(value) => Some(value.col_type()),
-        Operand::Column(name) => type_named(columns, name),
-        Operand::Shifted(name, _) => type_named(columns, name),
+        Operand::Literal(value) => {
+            faults.compare(left, Some(value.col_type()));
+            Operand::Literal(value)
+        }
+        Operand::Column(name) => {
+            let right = resolve_column(columns, &name, faults);
+            faults.compare(left, right.col_type);
+            Operand::Column(right.place)
+        }
+        Operand::Shifted(name, shift) => {
+            let right = resolve_column(columns, &name, faults);
+            faults.compare_shifted(left, right.col_type);
+            Operand::Shifted(right.place, shift)
+        }
     }
 }
 
-/// Whether an operand shifts a text.
-fn shifts_text(columns: &Columns, operand: &Operand<Name>) -> bool
-    ensures { result ≡ shifts_text (type_named columns.now) operand.now }
+/// An assignment with places for its columns, and what is amiss with it.
+fn place_assignment(
+    columns: &Columns,
+    assignment: Assignment<Name>,
+    faults: &mut Faults,
+) -> Assignment<usize>
+    ensures place { result ≡ placed_assignment columns.now assignment }
+    ensures faults { faults.new ≡ noted (assignment_lacks_column columns.now assignment) false
+        (mismatches (type_named columns.now) assignment.column assignment.source) faults.old }
 {
-    match operand {
-        Operand::Shifted(name, _) => match type_named(columns, name) {
-            Some(col_type) => col_type == ColType::Text,
-            None => false,
-        },
-        _ => false,
+    let column = resolve_column(columns, &assignment.column, faults);
+    Assignment {
+        column: column.place,
+        source: place_operand(columns, assignment.source, column.col_type, faults),
     }
 }
 
-/// The place of the column of a name, and 0 where there is none.
-pub(crate) fn place(columns: &Columns, name: &Name) -> usize
-    ensures { result ≡ placed columns.now name.now }
+/// A column of the only table of a query.
+fn at_first(column: usize) -> FieldPlace
+    ensures { result ≡ at_first column }
 {
-    columns.place_of(name).unwrap_or(0)
+    FieldPlace { place: 0, column }
 }
 
-fn place_operand(columns: &Columns, operand: Operand<Name>) -> Operand<usize>
-    ensures { result ≡ placed_operand columns.now operand }
+/// An operand of a change as one of a query of its table alone.
+fn operand_at_first(operand: Operand<usize>) -> Operand<FieldPlace>
+    ensures { result ≡ mapped_operand at_first operand }
 {
     match operand {
         Operand::Literal(value) => Operand::Literal(value),
-        Operand::Column(name) => Operand::Column(place(columns, &name)),
-        Operand::Shifted(name, shift) => Operand::Shifted(place(columns, &name), shift),
+        Operand::Column(column) => Operand::Column(at_first(column)),
+        Operand::Shifted(column, shift) => Operand::Shifted(at_first(column), shift),
     }
 }
 
-/// Tests with places in place of the names of columns. `Memory` is the only refusal.
-#[tactic(auto, using(crate::proofs::Within::tests_within))]
-pub fn place_tests(
+/// A test as an atom of a query of the table alone, and what is amiss with it.
+fn place_test(columns: &Columns, test: Atom<Name>, faults: &mut Faults) -> Atom<FieldPlace>
+    ensures place { result ≡ mapped_atom at_first (placed_atom columns.now test) }
+    ensures faults { faults.new ≡ noted (atom_lacks_column columns.now test) false
+        (mismatches (type_named columns.now) test.left test.right) faults.old }
+{
+    let left = resolve_column(columns, &test.left, faults);
+    let right = place_operand(columns, test.right, left.col_type, faults);
+    Atom {
+        left: at_first(left.place),
+        comparison: test.comparison,
+        right: operand_at_first(right),
+    }
+}
+
+/// Tests as atoms of a query of the table alone, and what is amiss with them. `Memory` is the only refusal.
+pub(crate) fn place_tests(
     alloc: Global,
     columns: &Columns,
-    tests: Vec<Atom<Name>>,
-) -> Result<Vec<Atom<usize>>, Refusal>
-    ensures ok { IfOk result (λ atoms. atoms.items ≡ map (placed_atom columns.now) tests.items) }
-    ensures within { list_any (atom_lacks_column columns.now) tests.items ≡ false
-        → IfOk result (λ atoms. All (λ (t : Test ℕ). ReadsWithin (length columns.now) t.left t.right) atoms.items) }
+    tests: ItemList<Atom<Name>>,
+    faults: &mut Faults,
+) -> Result<ItemList<Atom<FieldPlace>>, Refusal>
+    ensures ok { IfOk result (λ atoms. atoms ≡ map (mapped_atom at_first) (map (placed_atom columns.now) tests)) }
+    ensures faults { OnOk result (faults.new ≡ noted (list_any (atom_lacks_column columns.now) tests) false
+        (list_any (λ (t : Test (List ℕ)). mismatches (type_named columns.now) t.left t.right) tests) faults.old) }
     ensures memory { IfErr result (λ refusal. refusal ≡ Memory) }
 {
+    let tests = tests.into_vec();
     let mut atoms = Vec::with_capacity(alloc, tests.len())?;
     for test in tests {
-        let atom = Atom {
-            left: place(columns, &test.left),
-            comparison: test.comparison,
-            right: place_operand(columns, test.right),
-        };
-        atoms.push(atom)?;
+        atoms.push(place_test(columns, test, faults))?;
     }
-    Ok(atoms)
+    Ok(ItemList::new(atoms))
 }
 
-/// Assignments with places in place of the names of columns. `Memory` is the only refusal.
-#[tactic(auto, using(crate::proofs::Within::assignments_within))]
-pub fn place_assignments(
+/// Assignments with places for their columns, and what is amiss with them. `Memory` is the only refusal.
+pub(crate) fn place_assignments(
     alloc: Global,
     columns: &Columns,
-    assignments: Vec<Assignment<Name>>,
-) -> Result<Vec<Assignment<usize>>, Refusal>
-    ensures ok { IfOk result (λ placed. placed.items ≡ map (placed_assignment columns.now) assignments.items) }
-    ensures within { list_any (assignment_lacks_column columns.now) assignments.items ≡ false
-        → IfOk result (λ placed. All (λ (a : Assigned ℕ). IsWithin (length columns.now) a.source) placed.items) }
+    assignments: ItemList<Assignment<Name>>,
+    faults: &mut Faults,
+) -> Result<ItemList<Assignment<usize>>, Refusal>
+    ensures ok { IfOk result (λ placed. placed ≡ map (placed_assignment columns.now) assignments) }
+    ensures faults { OnOk result (faults.new ≡ noted (list_any (assignment_lacks_column columns.now) assignments) false
+        (list_any (λ (a : Assigned (List ℕ)). mismatches (type_named columns.now) a.column a.source) assignments) faults.old) }
     ensures memory { IfErr result (λ refusal. refusal ≡ Memory) }
 {
+    let assignments = assignments.into_vec();
     let mut placed = Vec::with_capacity(alloc, assignments.len())?;
     for assignment in assignments {
-        let assigned = Assignment {
-            column: place(columns, &assignment.column),
-            source: place_operand(columns, assignment.source),
-        };
-        placed.push(assigned)?;
+        placed.push(place_assignment(columns, assignment, faults))?;
     }
-    Ok(placed)
+    Ok(ItemList::new(placed))
 }

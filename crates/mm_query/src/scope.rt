@@ -1,21 +1,26 @@
-//! The tables and aliases of FROM, by which the fields of a query are resolved.
-ghost use Rattle.std.specs.Prelude.{◌≡◌, ◌||◌, find};
+//! The tables of FROM, by which the names of a query are resolved: each is looked up once.
+ghost use Rattle.std.specs.Prelude.{◌≡◌, ◌||◌, ◌∷◌, [], false, map, IfErr, IfOk, OnOk};
 ghost use Rattle.std.specs.List.{list_any};
-ghost use Rattle.std.specs.Option.{option_copied};
+ghost use Rattle.std.specs.Option.{option_map_or};
 ghost use Rattle.mm_schema.specs.Name.{same_name};
-ghost use Rattle.mm_schema.specs.Refused.{first_refusal};
+ghost use Rattle.mm_schema.specs.Refused.{AnswersDue, first_refusal};
 ghost use Rattle.mm_schema.specs.Schema.{lacks_table};
-ghost use Rattle.mm_query.specs.Placing.{mismatches, operand_type, shifts_text};
-ghost use Rattle.mm_query.specs.Resolving.{alias_place, column_of, field_lacks_column, field_type, has_twin_aliases, lacks_alias, lacks_position, passes_query_limits, placed_field, query_conditions, some_field, some_side, table_of};
+ghost use Rattle.mm_value.specs.declared.refusal.Refusal.TheVariants.{Memory, NoSuchTable};
+ghost use Rattle.mm_query.specs.Faults.{noted};
+ghost use Rattle.mm_query.specs.Placing.{differ, mapped_atom, mapped_operand, mismatches, operand_type, shifts_text};
+ghost use Rattle.mm_query.specs.Resolving.{alias_place, column_of, field_lacks_column, field_type, has_twin_aliases, lacks_alias, lacks_position, passes_query_limits, placed_field, places_in, some_side};
 ghost use Rattle.mm_query.specs.declared.atom.Atom.{Atom as Test};
 ghost use Rattle.mm_query.specs.declared.query.FromItem.{FromItem as Item};
 
 use crate::atom::{Atom, Operand};
 use crate::bound_query::FieldPlace;
-use crate::place::{differ, place, type_named};
+use crate::faults::{Faults, Resolved};
+use crate::item_list::ItemList;
+use crate::place::resolve_column;
 use crate::query::{FieldName, FromItem, Query};
-use mm_schema::{Catalog, Name, Table};
+use mm_schema::{Catalog, Name};
 use mm_value::{ColType, Refusal};
+use std::alloc::Global;
 
 /// The most tables of FROM.
 pub const MAX_FROM: usize = 4;
@@ -23,245 +28,217 @@ pub const MAX_FROM: usize = 4;
 /// The most fields, atoms and positions of ORDER.
 pub const MAX_PARTS: usize = 16;
 
-/// A list of tables and their aliases, with the catalog that has the tables.
+/// The tables of FROM, all of which are in the catalog, and their aliases.
 #[derive(Drop)]
-pub struct Scope<'a> {
+pub(crate) struct Scope<'a> {
     /// The catalog.
     pub catalog: &'a Catalog,
     /// The tables and their aliases.
-    pub from: &'a [FromItem],
+    pub from: ItemList<FromItem>,
+    /// The places of the tables in the catalog's order of creation.
+    pub tables: ItemList<usize>,
+    ghost there: { list_any (λ (item : Item). lacks_table item.table catalog.now) from ≡ false },
+    ghost places: { tables ≡ places_in catalog.now from },
 }
 
-impl<F> Operand<F> {
-    /// The column that it names, if it is no value.
-    pub fn column(&self) -> Option<&F>
-        ensures { option_copied result ≡ column_of self.now }
-    {
-        match self {
-            Operand::Literal(_) => None,
-            Operand::Column(column) => Some(column),
-            Operand::Shifted(column, _) => Some(column),
-        }
+/// The places of tables in the catalog's order of creation. `NoSuchTable` where one isn't there; else `Memory` is the only refusal.
+fn find_tables(
+    alloc: Global,
+    catalog: &Catalog,
+    from: &[FromItem],
+) -> Result<ItemList<usize>, Refusal>
+    ensures due { AnswersDue (first_refusal
+        (record { holds = list_any (λ (item : Item). lacks_table item.table catalog.now) from.now; refusal = NoSuchTable } ∷ [])) result }
+    ensures ok { IfOk result (λ tables. tables ≡ places_in catalog.now from.now) }
+{
+    let mut tables = Vec::with_capacity(alloc, from.len())?;
+    for item in from {
+        let Some(place) = catalog.place_of(&item.table) else {
+            return Err(Refusal::NoSuchTable);
+        };
+        tables.push(place)?;
     }
+    Ok(ItemList::new(tables))
 }
 
 impl<'a> Scope<'a> {
-    /// The place of an alias, counted from 0. Where it stands twice it means the first.
+    /// The tables of FROM, each looked up in the catalog. `NoSuchTable` where one isn't there; else `Memory` is the only refusal.
+    pub(crate) fn find(
+        alloc: Global,
+        catalog: &'a Catalog,
+        from: ItemList<FromItem>,
+    ) -> Result<Scope<'a>, Refusal>
+        ensures due { AnswersDue (first_refusal
+            (record { holds = list_any (λ (item : Item). lacks_table item.table catalog.now) from; refusal = NoSuchTable } ∷ [])) result }
+        ensures catalog { IfOk result (λ scope. scope.catalog.now ≡ catalog.now) }
+        ensures from { IfOk result (λ scope. scope.from ≡ from) }
+    {
+        let tables = find_tables(alloc, catalog, from.as_slice())?;
+        Ok(Scope {
+            catalog,
+            from,
+            tables,
+        })
+    }
+
+    /// The place of an alias in FROM, counted from 0. Where it stands twice it means the first.
     fn place_of(&self, alias: &Name) -> Option<usize>
-        ensures { result ≡ alias_place self.now.from.now alias.now }
-    {
-        self.from.iter().position(|item| *alias == item.alias)
-    }
-
-    /// The first item of an alias.
-    fn item_of(&self, alias: &Name) -> Option<&'a FromItem>
-        ensures { option_copied result ≡ find (λ (item : Item). same_name alias.now item.alias) self.now.from.now }
-    {
-        self.from.iter().find(|item| *alias == item.alias)
-    }
-
-    /// The table of an alias, where both are there.
-    pub fn table_of(&self, alias: &Name) -> Option<&'a Table>
-        ensures { option_copied result ≡ table_of self.now.catalog.now self.now.from.now alias.now }
-    {
-        let item = self.item_of(alias)?;
-        self.catalog.find_table(&item.table)
-    }
-
-    /// The type of a field, where its alias, its table and its column are there.
-    fn type_of(&self, field: &FieldName) -> Option<ColType>
-        ensures { result ≡ field_type self.now.catalog.now self.now.from.now field.now }
-    {
-        let table = self.table_of(&field.alias)?;
-        type_named(&table.definition.columns, &field.column)
-    }
-
-    /// The place of a field's table and of its column, and 0 where one is not there.
-    pub(crate) fn place_field(&self, field: &FieldName) -> FieldPlace
-        ensures { result ≡ placed_field self.now.catalog.now self.now.from.now field.now }
-    {
-        let column = match self.table_of(&field.alias) {
-            Some(table) => place(&table.definition.columns, &field.column),
-            None => 0,
-        };
-        FieldPlace {
-            place: self.place_of(&field.alias).unwrap_or(0),
-            column,
-        }
-    }
-
-    /// Whether a field's alias is missing.
-    fn lacks_alias(&self, field: &FieldName) -> bool
-        ensures { result ≡ lacks_alias self.now.from.now field.now }
-    {
-        self.place_of(&field.alias).is_none()
-    }
-
-    /// Whether a field's column isn't in its table, which is there.
-    fn lacks_column(&self, field: &FieldName) -> bool
-        ensures { result ≡ field_lacks_column self.now.catalog.now self.now.from.now field.now }
-    {
-        match self.table_of(&field.alias) {
-            Some(table) => table.definition.columns.place_of(&field.column).is_none(),
-            None => false,
-        }
-    }
-
-    /// Whether some table isn't in the catalog.
-    fn misses_table(&self) -> bool
-        ensures { result ≡ list_any (λ (item : Item). lacks_table item.table self.now.catalog.now) self.now.from.now }
+        ensures { result ≡ alias_place self.now.from alias.now }
     {
         self.from
+            .as_slice()
             .iter()
-            .any(|item| self.catalog.find_table(&item.table).is_none())
+            .position(|item| *alias == item.alias)
     }
 
-    /// Whether a column of an atom isn't in its table, which is there.
-    fn atom_lacks_column(&self, atom: &Atom<FieldName>) -> bool
-        ensures { result ≡ some_side (field_lacks_column self.now.catalog.now self.now.from.now) atom.now }
+    /// What a field stands for. An alias or a column that is missing is noted.
+    fn resolve(&self, field: &FieldName, faults: &mut Faults) -> Resolved<FieldPlace>
+        ensures place { result.place ≡ placed_field self.now.catalog.now self.now.from field.now }
+        ensures col_type { result.col_type ≡ field_type self.now.catalog.now self.now.from field.now }
+        ensures faults { faults.new ≡ noted (field_lacks_column self.now.catalog.now self.now.from field.now)
+            (lacks_alias self.now.from field.now) false faults.old }
     {
-        if self.lacks_column(&atom.left) {
-            return true;
-        }
-        match atom.right.column() {
-            Some(field) => self.lacks_column(field),
-            None => false,
-        }
-    }
-
-    /// Whether the column of some field isn't in its table.
-    fn lack_column(&self, fields: &[FieldName]) -> bool
-        ensures { result ≡ list_any (field_lacks_column self.now.catalog.now self.now.from.now) fields.now }
-    {
-        fields.iter().any(|field| self.lacks_column(field))
-    }
-
-    /// Whether a column of some atom isn't in its table.
-    fn atoms_lack_column(&self, atoms: &[Atom<FieldName>]) -> bool
-        ensures { result ≡ list_any (some_side (field_lacks_column self.now.catalog.now self.now.from.now)) atoms.now }
-    {
-        atoms.iter().any(|atom| self.atom_lacks_column(atom))
-    }
-
-    /// Whether some column that a query names isn't in its table, or some position of ORDER is 0 or past the fields.
-    fn misses_column(&self, query: &Query) -> bool
-        ensures { result ≡ (some_field (field_lacks_column self.now.catalog.now self.now.from.now) query.now
-            || list_any (lacks_position query.now.fields) query.now.order) }
-    {
-        self.lack_column(query.fields.as_slice())
-            || self.atoms_lack_column(query.atoms.as_slice())
-            || misses_position(query)
-    }
-
-    /// Whether the alias of a field of an atom is missing.
-    fn atom_lacks_alias(&self, atom: &Atom<FieldName>) -> bool
-        ensures { result ≡ some_side (lacks_alias self.now.from.now) atom.now }
-    {
-        if self.lacks_alias(&atom.left) {
-            return true;
-        }
-        match atom.right.column() {
-            Some(field) => self.lacks_alias(field),
-            None => false,
+        let Some(place) = self.place_of(&field.alias) else {
+            faults.alias = true;
+            return Resolved {
+                place: FieldPlace {
+                    place: 0,
+                    column: 0,
+                },
+                col_type: None,
+            };
+        };
+        let table = self.catalog.table_at(self.tables.as_slice()[place]);
+        let column = resolve_column(&table.definition.columns, &field.column, faults);
+        Resolved {
+            place: FieldPlace {
+                place,
+                column: column.place,
+            },
+            col_type: column.col_type,
         }
     }
 
-    /// Whether the alias of some field is missing.
-    fn lack_alias(&self, fields: &[FieldName]) -> bool
-        ensures { result ≡ list_any (lacks_alias self.now.from.now) fields.now }
+    /// The places of fields, and what is amiss with them. `Memory` is the only refusal.
+    pub(crate) fn place_fields(
+        &self,
+        alloc: Global,
+        fields: &[FieldName],
+        faults: &mut Faults,
+    ) -> Result<ItemList<FieldPlace>, Refusal>
+        ensures ok { IfOk result (λ placed. placed ≡ map (placed_field self.now.catalog.now self.now.from) fields.now) }
+        ensures faults { OnOk result (faults.new ≡ noted (list_any (field_lacks_column self.now.catalog.now self.now.from) fields.now)
+            (list_any (lacks_alias self.now.from) fields.now) false faults.old) }
+        ensures memory { IfErr result (λ refusal. refusal ≡ Memory) }
     {
-        fields.iter().any(|field| self.lacks_alias(field))
+        let mut placed = Vec::with_capacity(alloc, fields.len())?;
+        for field in fields {
+            placed.push(self.resolve(field, faults).place)?;
+        }
+        Ok(ItemList::new(placed))
     }
 
-    /// Whether an alias of some atom is missing.
-    fn atoms_lack_alias(&self, atoms: &[Atom<FieldName>]) -> bool
-        ensures { result ≡ list_any (some_side (lacks_alias self.now.from.now)) atoms.now }
+    /// An operand with a place for its field, beside a side of this type, and what is amiss with it.
+    fn place_operand(
+        &self,
+        operand: Operand<FieldName>,
+        left: Option<ColType>,
+        faults: &mut Faults,
+    ) -> Operand<FieldPlace>
+        ensures place { result ≡ mapped_operand (placed_field self.now.catalog.now self.now.from) operand }
+        ensures faults { faults.new ≡ noted
+            (option_map_or (field_lacks_column self.now.catalog.now self.now.from) (column_of operand) false)
+            (option_map_or (lacks_alias self.now.from) (column_of operand) false)
+            (differ left (operand_type (field_type self.now.catalog.now self.now.from) operand)
+            || shifts_text (field_type self.now.catalog.now self.now.from) operand)
+            faults.old }
     {
-        atoms.iter().any(|atom| self.atom_lacks_alias(atom))
-    }
-
-    /// Whether some alias that a query names is missing.
-    fn misses_alias(&self, query: &Query) -> bool
-        ensures { result ≡ some_field (lacks_alias self.now.from.now) query.now }
-    {
-        self.lack_alias(query.fields.as_slice()) || self.atoms_lack_alias(query.atoms.as_slice())
-    }
-
-    /// Whether some alias stands twice.
-    fn has_twin_aliases(&self) -> bool
-        ensures { result ≡ has_twin_aliases self.now.from.now }
-    {
-        let from = self.from;
-        for (i, item) in from.iter().enumerate() {
-            if has_alias(&from[i + 1..], &item.alias) {
-                return true;
+        match operand {
+            Operand::Literal(value) => {
+                faults.compare(left, Some(value.col_type()));
+                Operand::Literal(value)
+            }
+            Operand::Column(field) => {
+                let right = self.resolve(&field, faults);
+                faults.compare(left, right.col_type);
+                Operand::Column(right.place)
+            }
+            Operand::Shifted(field, shift) => {
+                let right = self.resolve(&field, faults);
+                faults.compare_shifted(left, right.col_type);
+                Operand::Shifted(right.place, shift)
             }
         }
-        false
     }
 
-    /// The type of an operand, where its column has one.
-    fn operand_type(&self, operand: &Operand<FieldName>) -> Option<ColType>
-        ensures { result ≡ operand_type (field_type self.now.catalog.now self.now.from.now) operand.now }
+    /// An atom with places for its fields, and what is amiss with it.
+    fn place_atom(&self, atom: Atom<FieldName>, faults: &mut Faults) -> Atom<FieldPlace>
+        ensures place { result ≡ mapped_atom (placed_field self.now.catalog.now self.now.from) atom }
+        ensures faults { faults.new ≡ noted (some_side (field_lacks_column self.now.catalog.now self.now.from) atom)
+            (some_side (lacks_alias self.now.from) atom)
+            (mismatches (field_type self.now.catalog.now self.now.from) atom.left atom.right) faults.old }
     {
-        match operand {
-            Operand::Literal(value) => Some(value.col_type()),
-            Operand::Column(field) => self.type_of(field),
-            Operand::Shifted(field, _) => self.type_of(field),
+        let left = self.resolve(&atom.left, faults);
+        Atom {
+            left: left.place,
+            comparison: atom.comparison,
+            right: self.place_operand(atom.right, left.col_type, faults),
         }
     }
 
-    /// Whether an operand shifts a text.
-    fn shifts_text(&self, operand: &Operand<FieldName>) -> bool
-        ensures { result ≡ shifts_text (field_type self.now.catalog.now self.now.from.now) operand.now }
+    /// Atoms with places for their fields, and what is amiss with them. `Memory` is the only refusal.
+    pub(crate) fn place_atoms(
+        &self,
+        alloc: Global,
+        atoms: ItemList<Atom<FieldName>>,
+        faults: &mut Faults,
+    ) -> Result<ItemList<Atom<FieldPlace>>, Refusal>
+        ensures ok { IfOk result (λ placed. placed ≡ map (mapped_atom (placed_field self.now.catalog.now self.now.from)) atoms) }
+        ensures faults { OnOk result (faults.new ≡ noted
+            (list_any (some_side (field_lacks_column self.now.catalog.now self.now.from)) atoms)
+            (list_any (some_side (lacks_alias self.now.from)) atoms)
+            (list_any (λ (a : Test FieldName). mismatches (field_type self.now.catalog.now self.now.from) a.left a.right) atoms)
+            faults.old) }
+        ensures memory { IfErr result (λ refusal. refusal ≡ Memory) }
     {
-        match operand {
-            Operand::Shifted(field, _) => match self.type_of(field) {
-                Some(col_type) => col_type == ColType::Text,
-                None => false,
-            },
-            _ => false,
+        let atoms = atoms.into_vec();
+        let mut placed = Vec::with_capacity(alloc, atoms.len())?;
+        for atom in atoms {
+            placed.push(self.place_atom(atom, faults))?;
+        }
+        Ok(ItemList::new(placed))
+    }
+}
+
+/// What is amiss with a query apart from its tables and fields: positions of ORDER, twin aliases and counts.
+pub(crate) fn form_faults(query: &Query) -> Faults
+    ensures { result ≡ record {
+      column = list_any (lacks_position query.now.fields) query.now.order;
+      twin = has_twin_aliases query.now.from;
+      alias = false;
+      mismatch = false;
+      too_many = passes_query_limits query.now;
+    } }
+{
+    Faults {
+        column: misses_position(query),
+        twin: has_twin_aliases(query.from.as_slice()),
+        alias: false,
+        mismatch: false,
+        too_many: passes_limits(query),
+    }
+}
+
+/// Whether some alias stands twice.
+fn has_twin_aliases(from: &[FromItem]) -> bool
+    ensures { result ≡ has_twin_aliases from.now }
+{
+    for (i, item) in from.iter().enumerate() {
+        if has_alias(&from[i + 1..], &item.alias) {
+            return true;
         }
     }
-
-    /// Whether the two sides of an atom differ in type, or it shifts a text.
-    fn mismatches(&self, atom: &Atom<FieldName>) -> bool
-        ensures { result ≡ mismatches (field_type self.now.catalog.now self.now.from.now) atom.now.left atom.now.right }
-    {
-        differ(self.type_of(&atom.left), self.operand_type(&atom.right))
-            || self.shifts_text(&atom.right)
-    }
-
-    /// Whether the two sides of some atom of a query do.
-    fn has_mismatch(&self, query: &Query) -> bool
-        ensures { result ≡ list_any (λ (a : Test FieldName). mismatches (field_type self.now.catalog.now self.now.from.now) a.left a.right) query.now.atoms }
-    {
-        let atoms = query.atoms.as_slice();
-        atoms.iter().any(|atom| self.mismatches(atom))
-    }
-
-    /// What refuses a query whose tables these are: `NoSuchTable`, `NoSuchColumn` for a column or a position of ORDER,
-    /// `AliasTaken`, `NoSuchAlias`, `TypeMismatch`, `TooMany`; the first that is due over the whole query.
-    pub(crate) fn refusal(&self, query: &Query) -> Option<Refusal>
-        requires { self.now.from.now ≡ query.now.from }
-        ensures { result ≡ first_refusal (query_conditions query.now self.now.catalog.now) }
-    {
-        if self.misses_table() {
-            Some(Refusal::NoSuchTable)
-        } else if self.misses_column(query) {
-            Some(Refusal::NoSuchColumn)
-        } else if self.has_twin_aliases() {
-            Some(Refusal::AliasTaken)
-        } else if self.misses_alias(query) {
-            Some(Refusal::NoSuchAlias)
-        } else if self.has_mismatch(query) {
-            Some(Refusal::TypeMismatch)
-        } else if passes_limits(query) {
-            Some(Refusal::TooMany)
-        } else {
-            None
-        }
-    }
+    false
 }
 
 /// Whether some item has the alias.

@@ -1,11 +1,10 @@
 -- Atoms that speak of a further table are false of no row of the first one alone.
 use Rattle.std.proofs.Common.{◌≡◌, ℕ, zero, suc, true, false, List, [], ◌∷◌, Option, None, Some, inl, inr, get_or, refl, ap}
 use Rattle.std.specs.Prelude.{◌==◌}
-use Rattle.std.specs.List.{list_any}
 use Rattle.std.specs.Option.{option_map}
 use Rattle.std.proofs.lemmas.Bool.{cases_Bool}
 use Rattle.mm_query.specs.Atoms.{holds, holds_of, operand_of, shifted, value_in}
-use Rattle.mm_query.specs.Queries.{none_fails, value_at}
+use Rattle.mm_query.specs.Queries.{value_at}
 use Rattle.mm_query.specs.declared.atom.Atom.{Atom}
 use Rattle.mm_query.specs.declared.atom.Comparison.{Comparison}
 use Rattle.mm_query.specs.declared.atom.Operand.{Operand}
@@ -31,8 +30,8 @@ holds_without : (comparison : Comparison) (left right : Option Value) → right 
 holds_without comparison None right none = refl
 holds_without comparison (Some a) right none = ap (holds_of comparison (Some a)) none
 
--- .. so an atom with one is false of no row of the first table, ..
-holds_alone : (row : List Value) (atom : Atom FieldPlace) → asks_of_first atom ≡ false → holds (value_at (Some row ∷ [])) atom ≡ true
+-- .. so an atom with one is false of no row of the first table.
+pub holds_alone : (row : List Value) (atom : Atom FieldPlace) → asks_of_first atom ≡ false → holds (value_at (Some row ∷ [])) atom ≡ true
 holds_alone row atom silent =
     let right = operand_of (value_at (Some row ∷ [])) atom.right in
     elim (cases_Bool (atom.left.place == 0)) [
@@ -40,17 +39,4 @@ holds_alone row atom silent =
           let behind : reads_first atom.right ≡ false = cc in
           holds_without atom.comparison (value_at (Some row ∷ []) atom.left) right (operand_behind row atom.right behind)
       | inr behind ↦ ap (λ left. holds_of atom.comparison left right) (field_behind row atom.left behind)
-    ]
-
--- .. and so are all atoms, where each has one.
-pub all_admit : (row : List Value) (atoms : List (Atom FieldPlace)) → list_any asks_of_first atoms ≡ false → none_fails atoms (Some row ∷ []) ≡ true
-all_admit row [] none = refl
-all_admit row (atom ∷ atoms) none =
-    elim (cases_Bool (asks_of_first atom)) [
-      | inl asks ↦ cc
-      | inr silent ↦
-          let rest : list_any asks_of_first atoms ≡ false = cc in
-          let one = holds_alone row atom silent in
-          let others = all_admit row atoms rest in
-          cc
     ]

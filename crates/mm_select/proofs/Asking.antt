@@ -1,7 +1,7 @@
 -- What a row that fits alone tells of its columns.
 use Rattle.std.proofs.Common.{◌≡◌, ℕ, zero, suc, ◌<◌, Bool, true, false, List, [], ◌∷◌, length, get_or, Option, Some, None, refl, sym, ap, ◌∙◌, arith}
 use Rattle.std.specs.List.{Contains, list_all}
-use Rattle.std.specs.Ordering.{is_eq, is_ge, is_le}
+use Rattle.std.specs.Ordering.{is_ge, is_le}
 use Rattle.std.specs.declared.cmp.Ordering.{Ordering}
 use Rattle.std.specs.declared.cmp.Ordering.TheVariants as ordering
 use Rattle.std.proofs.lemmas.Bool.{and_parts, false≢true}
@@ -13,7 +13,7 @@ use Rattle.mm_query.specs.declared.atom.Comparison.TheVariants.{Equal}
 use Rattle.mm_query.specs.declared.bound_query.FieldPlace.{FieldPlace}
 use Rattle.mm_value.specs.Order.{value_cmp}
 use Rattle.mm_value.specs.declared.values.Value.{Value}
-use Rattle.mm_select.proofs.Along.{AtLeast, AtMost}
+use Rattle.mm_select.specs.Accesses.{has, is_from, is_up_to}
 use Rattle.mm_select.specs.Asked.{IsHigh, IsLow, compares}
 
 all_get : {X : Type 0} (p : X → Bool) (xs : List X) (k : ℕ) (d : X) → k < length xs → list_all p xs ≡ true → p (get_or xs k d) ≡ true
@@ -41,13 +41,13 @@ module _ (atoms : List (Atom FieldPlace)) (column : ℕ) (row : List Value) (fit
   told : (c : Comparison) (value : Value) → Contains atoms (compares column c value) → stands c (value_cmp (value_in column row) value) ≡ true
   told c value among = holds_each atoms (Some row ∷ []) (compares column c value) among fits
 
-  pub told_equal : (value : Value) → Contains atoms (compares column Equal value) → is_eq (value_cmp (value_in column row) value) ≡ true
+  pub told_equal : (value : Value) → Contains atoms (compares column Equal value) → has column value row ≡ true
   told_equal value among = told Equal value among
 
-  pub told_low : (low : Option Value) → IsLow atoms column low → AtLeast low (value_in column row)
-  told_low None ends = tt
+  pub told_low : (low : Option Value) → IsLow atoms column low → is_from low (value_in column row) ≡ true
+  told_low None ends = refl
   told_low (Some value) (c, sets, among) = not_less c (value_cmp (value_in column row) value) sets (told c value among)
 
-  pub told_high : (high : Option Value) → IsHigh atoms column high → AtMost high (value_in column row)
-  told_high None ends = tt
+  pub told_high : (high : Option Value) → IsHigh atoms column high → is_up_to high (value_in column row) ≡ true
+  told_high None ends = refl
   told_high (Some value) (c, sets, among) = not_greater c (value_cmp (value_in column row) value) sets (told c value among)

@@ -6,9 +6,6 @@ use Rattle.mm_query.specs.declared.atom.Atom.{Atom}
 use Rattle.mm_query.specs.declared.atom.Comparison.{Comparison}
 use Rattle.mm_query.specs.declared.atom.Operand.TheVariants.{Literal}
 use Rattle.mm_query.specs.declared.bound_query.FieldPlace.{FieldPlace}
-use Rattle.mm_relation.specs.Kept.{StoredRows}
-use Rattle.mm_relation.specs.Reads.{HasIndex}
-use Rattle.mm_schema.specs.declared.index.IndexKind.TheVariants.{Tree}
 use Rattle.mm_value.specs.declared.values.Value.{Value}
 
 -- The atom that a column of the first table compares so with this value.
@@ -24,8 +21,3 @@ IsLow atoms column (Some value) = (comparison : Comparison) × (stands compariso
 abbrev pub IsHigh : List (Atom FieldPlace) → ℕ → Option Value → Type 0
 IsHigh atoms column None = Unit {0}
 IsHigh atoms column (Some value) = (comparison : Comparison) × (stands comparison Greater ≡ false) × Contains atoms (compares column comparison value)
-
--- The tree at this place among the indexes is on the column; at no place it is that on the key.
-abbrev pub IsTreeOn : StoredRows → Option ℕ → ℕ → Type 0
-IsTreeOn stored None column = column ≡ stored.key
-IsTreeOn stored (Some index) column = HasIndex stored.indexes index column Tree

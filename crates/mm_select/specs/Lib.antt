@@ -1,3 +1,4 @@
+pub mod Accesses
 pub mod Alone
 pub mod Asked
 pub mod Fitting

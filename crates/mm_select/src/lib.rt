@@ -1,10 +1,9 @@
 //! Selections: the rows of a table that meet atoms, as a temporary list of references.
 #![tactic(auto)]
 
-mod candidates;
-mod indexed;
+mod access;
 mod row_test;
-mod scan;
+mod selecting;
 
-pub use indexed::{by_hash, by_tree};
-pub use scan::by_scan;
+pub use access::Access;
+pub use selecting::select;

@@ -1,40 +1,47 @@
 //! What atoms ask of the rows of the first table alone.
-ghost use Rattle.std.specs.Prelude.{◌≡◌, ◌∷◌, ◌<◌, [], Some, length};
+ghost use Rattle.std.specs.Prelude.{◌≡◌, ◌+◌, ◌≤◌, ◌∷◌, ◌<◌, [], false, true, Some, length};
 ghost use Rattle.std.specs.List.{list_any};
 ghost use Rattle.mm_partition.specs.Places.{IsLive};
 ghost use Rattle.mm_query.specs.Queries.{none_fails};
 ghost use Rattle.mm_relation.specs.Kept.{StoredRows};
+ghost use Rattle.mm_select.specs.Accesses.{asks_along, is_along};
 ghost use Rattle.mm_select.specs.Alone.{asks_of_first};
 ghost use Rattle.mm_store.specs.Tables.{IsAt};
 ghost use Rattle.mm_templist.specs.Combos.{row_of};
 
+use crate::access::{Access, is_met_along};
 use mm_query::{Atom, FieldPlace, Operand, none_fails};
-use mm_store::{Meter, Store};
+use mm_store::View;
 use mm_value::RowRef;
 
-/// Atoms that are put to the rows of the first table alone.
+/// Atoms that are put to the rows of the first table along an access.
 #[derive(Clone, Copy)]
-pub(crate) struct RowTest<'s, 'q> {
-    pub store: &'s Store,
+pub(crate) struct RowTest<'q> {
     /// The place of the table in the store.
     pub table: usize,
     pub atoms: &'q [Atom<FieldPlace>],
-    /// Whether one of them asks something of that table alone. If not, each row passes, with no look at it.
+    pub access: Access<'q>,
+    /// Whether one of them asks something of that table alone that not every row along the access meets. If not, each row
+    /// passes, with no look at it.
     pub asks: bool,
-    ghost told: { asks ≡ list_any asks_of_first atoms.now },
+    ghost told: { asks ≡ list_any (asks_along access) atoms.now },
 }
 
-impl RowTest<'_, '_> {
-    /// Whether no atom is false of the row of a reference. The meter counts the row if it is looked at.
-    pub fn admits(&self, meter: &mut Meter, at: RowRef) -> bool
-        requires there { self.now.table < length self.now.store.now.tables }
-        requires live { (stored : StoredRows) → IsAt self.now.store.now self.now.table stored → IsLive stored.places at }
-        ensures { result ≡ none_fails self.now.atoms.now (Some (row_of self.now.store.now self.now.table at) ∷ []) }
+impl RowTest<'_> {
+    /// Whether no atom is false of the row of a reference, which lies along the access. The view counts the row if it is looked at.
+    pub fn admits(&self, view: &mut View<'_>, at: RowRef) -> bool
+        requires there { self.now.table < length view.old.store.tables }
+        requires live { (stored : StoredRows) → IsAt view.old.store self.now.table stored → IsLive stored.places at }
+        requires along { is_along self.now.access (row_of view.old.store self.now.table at) ≡ true }
+        ensures told { result ≡ none_fails self.now.atoms.now (Some (row_of view.old.store self.now.table at) ∷ []) }
+        ensures reads { view.new.reads ≤ view.old.reads + 1 }
+        ensures unread { list_any (asks_along self.now.access) self.now.atoms.now ≡ false → view.new.reads ≡ view.old.reads }
+        ensures same { view.new.store ≡ view.old.store }
     {
         if !self.asks {
             return true;
         }
-        let row = self.store.row(meter, self.table, at);
+        let row = view.row(self.table, at);
         none_fails(self.atoms, &[Some(row)])
     }
 }
@@ -51,9 +58,16 @@ fn asks_of_first(atom: &Atom<FieldPlace>) -> bool
     atom.left.place == 0 && reads_first
 }
 
-/// Whether some atom compares a column of the first table with a value or another column of it.
-pub(crate) fn some_asks_of_first(atoms: &[Atom<FieldPlace>]) -> bool
-    ensures { result ≡ list_any asks_of_first atoms.now }
+/// Whether an atom asks something of the first table alone that not every row along an access meets.
+fn asks_along(access: Access<'_>, atom: &Atom<FieldPlace>) -> bool
+    ensures { result ≡ asks_along access.entry atom.now }
 {
-    atoms.iter().any(|atom| asks_of_first(atom))
+    asks_of_first(atom) && !is_met_along(access, atom)
+}
+
+/// Whether some atom asks something of the first table alone that not every row along an access meets.
+pub(crate) fn some_asks_along(access: Access<'_>, atoms: &[Atom<FieldPlace>]) -> bool
+    ensures { result ≡ list_any (asks_along access.entry) atoms.now }
+{
+    atoms.iter().any(|atom| asks_along(access, atom))
 }

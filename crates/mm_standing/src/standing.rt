@@ -24,7 +24,7 @@ use crate::prepare::{changes_of_lists, numbers, reserve_each, with_opposites};
 use crate::watched::Watched;
 use crate::watching::bag_now;
 use mm_delta::{Counted, TableEdits};
-use mm_query::{BoundQuery, PlanLine};
+use mm_query::BoundQuery;
 use mm_store::{Store, View};
 use mm_templist::ShownRows;
 use mm_value::Refusal;
@@ -157,8 +157,8 @@ impl Standing {
         self.bags.remove(place);
     }
 
-    /// Keeps a query as a standing query, which comes last, with the rows that it gives over the rows of the store, found by the lines
-    /// of a plan. `tables` are the places in the store of the tables of its FROM list, at most 4. It asks for nothing prepared and an
+    /// Keeps a query as a standing query, which comes last, with the rows that it gives over the rows of the store, found by its
+    /// plan. `tables` are the places in the store of the tables of its FROM list, at most 4. It asks for nothing prepared and an
     /// empty log. `StandingListTooLarge` where more than 1,048,576 combinations fit; `Memory` may come in its place and in that of
     /// success. A refused call changes nothing.
     pub fn watch(
@@ -167,7 +167,6 @@ impl Standing {
         store: &Store,
         query: BoundQuery,
         tables: Vec<usize>,
-        plan: &[PlanLine],
     ) -> Result<(), Refusal>
         requires there { All (λ table. table < length store.now.tables) tables.items }
         requires few { length tables.items ≤ 4 }
@@ -183,7 +182,7 @@ impl Standing {
     {
         self.queries.reserve(1)?;
         self.bags.reserve(1)?;
-        let bag = bag_now(alloc, store, &query, tables.as_slice(), plan)?;
+        let bag = bag_now(alloc, store, &query, tables.as_slice())?;
         self.queries.push_reserved(Watched { query, tables });
         self.bags.push_reserved(bag);
         Ok(())

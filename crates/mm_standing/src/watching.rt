@@ -9,20 +9,19 @@ ghost use Rattle.mm_store.specs.Tables.{rows_at};
 ghost use Rattle.mm_value.specs.declared.refusal.Refusal.TheVariants.{Memory, ResultTooLarge, StandingListTooLarge};
 
 use mm_delta::Counted;
-use mm_plan::run_plan;
-use mm_query::{BoundQuery, PlanLine};
-use mm_store::{Meter, Store};
+use mm_plan::run_query;
+use mm_query::BoundQuery;
+use mm_store::Store;
 use mm_value::{Refusal, Row};
 use std::alloc::Global;
 
-/// The bag of a query over the rows of a store, found by the lines of a plan. `StandingListTooLarge` where more than 1,048,576
+/// The bag of a query over the rows of a store, found by its plan. `StandingListTooLarge` where more than 1,048,576
 /// combinations fit; `Memory` may come in its place and in that of success.
 pub(crate) fn bag_now(
     alloc: Global,
     store: &Store,
     query: &BoundQuery,
     tables: &[usize],
-    plan: &[PlanLine],
 ) -> Result<Counted, Refusal>
     requires there { All (λ table. table < length store.now.tables) tables.now }
     requires few { length tables.now ≤ 4 }
@@ -31,12 +30,12 @@ pub(crate) fn bag_now(
     ensures once { IfOk result (λ bag. IsOnce bag.entries) }
     ensures positive { IfOk result (λ bag. ArePositive bag.entries) }
 {
-    let mut meter = Meter::new();
-    let list = match run_plan(alloc, store, &mut meter, query, tables, plan) {
+    let mut view = store.view();
+    let list = match run_query(alloc, &mut view, query, tables) {
         Ok(list) => list,
         Err(refusal) => return Err(as_list(refusal)),
     };
-    let rows = list.project_sorted(alloc, store, &mut meter, false, &[])?;
+    let rows = list.project_sorted(alloc, &mut view, false, &[])?;
     counted(alloc, rows)
 }
 

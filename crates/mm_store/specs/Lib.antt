@@ -4,6 +4,7 @@ pub mod Joined
 pub mod Links
 pub mod Looked
 pub mod Marks
+pub mod Ordered
 pub mod Seen
 pub mod Spares
 pub mod Tables

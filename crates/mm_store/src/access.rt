@@ -1,21 +1,18 @@
 //! Rows by their references, in the order of their keys and along indexes.
-ghost use Rattle.std.specs.Prelude.{◌≡◌, ℕ, ◌+◌, ◌<◌, ◌≤◌, length, map, min, All, IfOk, IfSome, OnOk, OnErr, Some, slice_get};
-ghost use Rattle.std.specs.Option.{option_copied, option_map};
-ghost use Rattle.mm_partition.specs.Places.{AreRowsStorable, IsLive, Live, slot_at};
+ghost use Rattle.std.specs.Prelude.{◌≡◌, ℕ, ◌<◌, ◌≤◌, length, map, All, IfSome, OnOk, OnErr, Some, slice_get};
+ghost use Rattle.std.specs.Option.{option_map};
+ghost use Rattle.mm_partition.specs.Places.{AreRowsStorable, IsLive, slot_at};
 ghost use Rattle.mm_relation.specs.Kept.{IsKept, StoredRows};
-ghost use Rattle.mm_relation.specs.Reads.{Appends, AreMatches, HasIndex, IsRange};
+ghost use Rattle.mm_relation.specs.Reads.{Appends, AreMatches};
 ghost use Rattle.mm_relation.specs.Refs.{row_at};
 ghost use Rattle.mm_relation.specs.RowLists.{rows_of};
-ghost use Rattle.mm_schema.specs.declared.index.IndexKind.TheVariants as kind;
 ghost use Rattle.mm_store.specs.Looked.{IsFirstOn, IsIndexOn};
 ghost use Rattle.mm_store.specs.Tables.{IsAt};
 ghost use Rattle.mm_value.specs.Prefix.{order_prefix};
 
 use crate::index_ref::{IndexRef, append_matches, first_index};
-use crate::meter::Meter;
 use crate::store::Store;
-use mm_relation::Relation;
-use mm_value::{Refusal, Row, RowRef, Value};
+use mm_value::{RowRef, Value};
 use std::alloc::{AllocError, Global};
 use ttree::Iter;
 
@@ -43,19 +40,8 @@ impl Store {
         relation.are_storable();
     }
 
-    /// The row of a live reference of a table. The meter counts it.
-    pub fn row(&self, meter: &mut Meter, table: usize, at: RowRef) -> &Row
-        requires there { table < length self.now.tables }
-        requires live { (stored : StoredRows) → IsAt self.now table stored → IsLive stored.places at }
-        ensures row { (stored : StoredRows) → IsAt self.now table stored → slot_at stored.places at ≡ Live result.now }
-        ensures counted { meter.new ≡ min (meter.old + 1) u64.MAX }
-    {
-        meter.count();
-        self.table(table).row(at)
-    }
-
-    /// The `order_prefix` of what the row of a live reference of a table has in a column, without a look at the row, so that no
-    /// meter counts it. None where the prefixes of the column are not kept.
+    /// The `order_prefix` of what the row of a live reference of a table has in a column, without a look at the row, so that it
+    /// is not counted. None where the prefixes of the column are not kept.
     pub fn prefix_of(&self, table: usize, column: usize, at: RowRef) -> Option<u64>
         requires there { table < length self.now.tables }
         requires live { (stored : StoredRows) → IsAt self.now table stored → IsLive stored.places at }
@@ -63,24 +49,6 @@ impl Store {
             option_map order_prefix (slice_get (row_at (slot_at stored.places) at) column) ≡ Some prefix) }
     {
         self.table(table).prefix_of(column, at)
-    }
-
-    /// Copies of all rows of a table, in the order of their keys. `Memory` where memory is refused; that is the only refusal.
-    pub fn rows_of(&self, alloc: Global, table: usize) -> Result<Vec<Row>, Refusal>
-        requires { table < length self.now.tables }
-        ensures { (stored : StoredRows) → IsAt self.now table stored → IfOk result (λ rows. rows.items ≡ rows_of stored) }
-    {
-        copy_rows(alloc, self.table(table))
-    }
-
-    /// The references of all rows of a table, in the order of their keys. `AllocError` where memory is refused.
-    pub fn key_scan(&self, alloc: Global, table: usize) -> Result<Vec<RowRef>, AllocError>
-        requires { table < length self.now.tables }
-        ensures rows { (stored : StoredRows) → IsAt self.now table stored
-            → IfOk result (λ found. map (row_at (slot_at stored.places)) found.items ≡ rows_of stored) }
-        ensures live { (stored : StoredRows) → IsAt self.now table stored → IfOk result (λ found. All (IsLive stored.places) found.items) }
-    {
-        copy_refs(alloc, self.key_walk(table))
     }
 
     /// The references of all rows of a table, in the order of their keys, without a copy.
@@ -119,84 +87,4 @@ impl Store {
     {
         append_matches(alloc, self.table(table), index, value, out)
     }
-
-    /// Appends the references of the rows of a table whose keys are between two ends, these included, in the order of the key.
-    /// An end that is not given leaves its side open. `AllocError` where memory is refused; then `out` holds what it held.
-    pub fn key_range(
-        &self,
-        alloc: Global,
-        table: usize,
-        low: Option<&Value>,
-        high: Option<&Value>,
-        out: &mut Vec<RowRef>,
-    ) -> Result<(), AllocError>
-        requires { table < length self.now.tables }
-        ensures ok { OnOk result ((stored : StoredRows) → IsAt self.now table stored
-            → Appends (IsRange stored.key stored (option_copied low.entry) (option_copied high.entry)) out.old.items out.new.items) }
-        ensures err { OnErr result (out.new.items ≡ out.old.items) }
-    {
-        let relation = self.table(table);
-        relation.is_kept();
-        relation.key_range(alloc, low, high, out)
-    }
-
-    /// Appends the references of the rows whose values in the column of the TREE index at a place of a table's are between two
-    /// ends, these included, in the order of the walk along it. An end that is not given leaves its side open. `AllocError` where
-    /// memory is refused; then `out` holds what it held.
-    pub fn tree_range(
-        &self,
-        alloc: Global,
-        table: usize,
-        index: usize,
-        low: Option<&Value>,
-        high: Option<&Value>,
-        out: &mut Vec<RowRef>,
-    ) -> Result<(), AllocError>
-        requires there { table < length self.now.tables }
-        requires tree { (stored : StoredRows) → IsAt self.now table stored → (column : ℕ) × HasIndex stored.indexes index column kind.Tree }
-        ensures ok { OnOk result ((stored : StoredRows) (column : ℕ) → IsAt self.now table stored → HasIndex stored.indexes index column kind.Tree
-            → Appends (IsRange column stored (option_copied low.entry) (option_copied high.entry)) out.old.items out.new.items) }
-        ensures err { OnErr result (out.new.items ≡ out.old.items) }
-    {
-        self.table(table).tree_range(alloc, index, low, high, out)
-    }
-
-    /// Appends the references of the rows whose value in the column of the HASH index at a place of a table's is this one, in no
-    /// promised order. `AllocError` where memory is refused; then `out` holds what it held.
-    pub fn hash_matches(
-        &self,
-        alloc: Global,
-        table: usize,
-        index: usize,
-        value: &Value,
-        out: &mut Vec<RowRef>,
-    ) -> Result<(), AllocError>
-        requires there { table < length self.now.tables }
-        requires hash { (stored : StoredRows) → IsAt self.now table stored → (column : ℕ) × HasIndex stored.indexes index column kind.Hash }
-        ensures ok { OnOk result ((stored : StoredRows) (column : ℕ) → IsAt self.now table stored → HasIndex stored.indexes index column kind.Hash
-            → Appends (AreMatches column (slot_at stored.places) value.now stored.refs) out.old.items out.new.items) }
-        ensures err { OnErr result (out.new.items ≡ out.old.items) }
-    {
-        self.table(table).hash_matches(alloc, index, value, out)
-    }
-}
-
-/// Copies of all rows, in the order of their keys.
-fn copy_rows(alloc: Global, relation: &Relation) -> Result<Vec<Row>, Refusal>
-    requires { length relation.now.refs ≤ 1048576 }
-    ensures { IfOk result (λ rows. rows.items ≡ rows_of relation.now) }
-{
-    relation.is_kept();
-    let mut rows = Vec::with_capacity(alloc, relation.len())?;
-    for at in relation.by_key() {
-        rows.push(relation.row(at).copy(alloc)?)?;
-    }
-    Ok(rows)
-}
-
-/// These references, in their order.
-fn copy_refs(alloc: Global, refs: Iter) -> Result<Vec<RowRef>, AllocError>
-    ensures { IfOk result (λ found. found.items ≡ refs.entry) }
-{
-    refs.collect(alloc)
 }

@@ -7,13 +7,13 @@ mod access;
 mod index_ref;
 mod link;
 mod links;
-mod meter;
 mod store;
+mod table_rows;
 mod undo;
 mod view;
 
 pub use index_ref::IndexRef;
-pub use meter::Meter;
 pub use store::Store;
+pub use table_rows::{StoredRows, TableRows};
 pub use undo::Undo;
 pub use view::View;

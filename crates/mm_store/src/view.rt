@@ -3,28 +3,28 @@ ghost use Rattle.std.specs.Prelude.{◌≡◌, ℕ, ◌+◌, ◌<◌, ◌≤◌,
 ghost use Rattle.std.specs.Option.{option_copied, option_map};
 ghost use Rattle.mm_partition.specs.Places.{AreRowsStorable, IsLive, Live, slot_at};
 ghost use Rattle.mm_relation.specs.Kept.{IsKept, StoredRows};
-ghost use Rattle.mm_relation.specs.Reads.{Appends, AreMatches, HasIndex, IsRange, IsWalk};
+ghost use Rattle.mm_relation.specs.Reads.{Appends, AreMatches, IsRange, IsWalk};
 ghost use Rattle.mm_relation.specs.Refs.{row_at};
 ghost use Rattle.mm_relation.specs.RowLists.{rows_of};
-ghost use Rattle.mm_schema.specs.declared.index.IndexKind.TheVariants as kind;
 ghost use Rattle.mm_store.specs.Links.{IsReference, RefersTo};
 ghost use Rattle.mm_store.specs.Looked.{IsFirstOn, IsFirstSuch, IsHash, IsIndexOn, IsTree};
 ghost use Rattle.mm_store.specs.Tables.{IsAt};
 ghost use Rattle.mm_value.specs.Prefix.{order_prefix};
 
 use crate::index_ref::{IndexRef, append_range, first_hash, first_tree, tree_walk};
-use crate::meter::Meter;
 use crate::store::Store;
+use mm_relation::Relation;
 use mm_value::{Row, RowRef, Value};
 use std::alloc::{AllocError, Global};
 use std::marker::Model;
 use ttree::Iter;
 
-/// The rows of a store, found by its access calls, and each that is looked at counted by one meter.
+/// The rows of a store, found by its access calls. It counts each that is looked at.
 #[derive(Drop)]
 pub struct View<'a> {
     store: &'a Store,
-    meter: &'a mut Meter,
+    /// How many rows were looked at, at most `u64::MAX`.
+    reads: u64,
 }
 
 impl<'a> Model for View<'a> {
@@ -32,36 +32,49 @@ impl<'a> Model for View<'a> {
 
     ghost Value = { Seen };
 
-    ghost view = { λ v. record { store = v.store.now; reads = v.meter.now } };
+    ghost view = { λ v. record { store = v.store.now; reads = v.reads } };
 }
 
 impl Store {
-    /// The store as a query sees it, with this meter.
-    pub fn view<'a>(&'a self, meter: &'a mut Meter) -> View<'a>
+    /// The store as a query sees it, of which no row was looked at yet.
+    pub fn view(&self) -> View<'_>
         ensures store { result.store ≡ self.now }
-        ensures reads { result.reads ≡ meter.old }
+        ensures reads { result.reads ≡ 0 }
     {
-        View { store: self, meter }
+        View {
+            store: self,
+            reads: 0,
+        }
     }
 }
 
 impl<'a> View<'a> {
-    /// How many rows the meter has counted, at most `u64::MAX`.
+    /// How many rows were looked at, at most `u64::MAX`.
     pub fn reads(&self) -> u64
         ensures { result ≡ self.now.reads }
     {
-        self.meter.reads()
+        self.reads
     }
 
-    /// The row of a live reference of a table. The meter counts it.
+    /// The relation of a table.
+    pub(crate) fn relation(&self, table: usize) -> &'a Relation
+        requires { table < length self.now.store.tables }
+        ensures at { IsAt self.now.store table result.now }
+        ensures few { length result.now.refs ≤ 1048576 }
+    {
+        self.store.table(table)
+    }
+
+    /// The row of a live reference of a table. It is counted; the count stays where no greater one fits.
     pub fn row(&mut self, table: usize, at: RowRef) -> &'a Row
         requires there { table < length self.old.store.tables }
         requires live { (stored : StoredRows) → IsAt self.old.store table stored → IsLive stored.places at }
         ensures row { (stored : StoredRows) → IsAt self.old.store table stored → slot_at stored.places at ≡ Live result.now }
         ensures counted { self.new ≡ record self.old { reads = min (self.old.reads + 1) u64.MAX } }
     {
-        let store = self.store;
-        store.row(self.meter, table, at)
+        let View { store, reads } = self;
+        *reads = reads.saturating_add(1);
+        store.table(table).row(at)
     }
 
     /// The `order_prefix` of what the row of a live reference of a table has in a column, without a look at the row: the meter
@@ -170,67 +183,6 @@ impl<'a> View<'a> {
         ensures err { OnErr result (out.new.items ≡ out.old.items) }
     {
         append_range(alloc, self.store.table(table), index, low, high, out)
-    }
-
-    /// Appends the references of the rows of a table whose keys are between two ends, these included, in the order of the key.
-    /// An end that is not given leaves its side open. No row is counted. `AllocError` where memory is refused; then `out` holds
-    /// what it held.
-    pub fn key_range(
-        &self,
-        alloc: Global,
-        table: usize,
-        low: Option<&Value>,
-        high: Option<&Value>,
-        out: &mut Vec<RowRef>,
-    ) -> Result<(), AllocError>
-        requires { table < length self.now.store.tables }
-        ensures ok { OnOk result ((stored : StoredRows) → IsAt self.now.store table stored
-            → Appends (IsRange stored.key stored (option_copied low.entry) (option_copied high.entry)) out.old.items out.new.items) }
-        ensures err { OnErr result (out.new.items ≡ out.old.items) }
-    {
-        self.store.key_range(alloc, table, low, high, out)
-    }
-
-    /// Appends the references of the rows whose values in the column of the TREE index at a place of a table's are between two
-    /// ends, these included, in the order of the walk along it. An end that is not given leaves its side open. No row is counted.
-    /// `AllocError` where memory is refused; then `out` holds what it held.
-    pub fn tree_range(
-        &self,
-        alloc: Global,
-        table: usize,
-        index: usize,
-        low: Option<&Value>,
-        high: Option<&Value>,
-        out: &mut Vec<RowRef>,
-    ) -> Result<(), AllocError>
-        requires there { table < length self.now.store.tables }
-        requires tree { (stored : StoredRows) → IsAt self.now.store table stored → (column : ℕ) × HasIndex stored.indexes index column kind.Tree }
-        ensures ok { OnOk result ((stored : StoredRows) (column : ℕ) → IsAt self.now.store table stored
-            → HasIndex stored.indexes index column kind.Tree
-            → Appends (IsRange column stored (option_copied low.entry) (option_copied high.entry)) out.old.items out.new.items) }
-        ensures err { OnErr result (out.new.items ≡ out.old.items) }
-    {
-        self.store.tree_range(alloc, table, index, low, high, out)
-    }
-
-    /// Appends the references of the rows whose value in the column of the HASH index at a place of a table's is this one, in no
-    /// promised order. No row is counted. `AllocError` where memory is refused; then `out` holds what it held.
-    pub fn hash_matches(
-        &self,
-        alloc: Global,
-        table: usize,
-        index: usize,
-        value: &Value,
-        out: &mut Vec<RowRef>,
-    ) -> Result<(), AllocError>
-        requires there { table < length self.now.store.tables }
-        requires hash { (stored : StoredRows) → IsAt self.now.store table stored → (column : ℕ) × HasIndex stored.indexes index column kind.Hash }
-        ensures ok { OnOk result ((stored : StoredRows) (column : ℕ) → IsAt self.now.store table stored
-            → HasIndex stored.indexes index column kind.Hash
-            → Appends (AreMatches column (slot_at stored.places) value.now stored.refs) out.old.items out.new.items) }
-        ensures err { OnErr result (out.new.items ≡ out.old.items) }
-    {
-        self.store.hash_matches(alloc, table, index, value, out)
     }
 
     /// The references of all rows of a table, in the order of their keys, without a copy. No row is counted.

@@ -1,21 +1,19 @@
 -- The rows of a live combination, reference by reference.
-use Rattle.std.proofs.Common.{◌≡◌, ℕ, zero, suc, ◌+◌, ◌<◌, List, [], ◌∷◌, ◌++◌, None, Some, pos, get_or, length, map, take, refl, sym, ap, ◌∙◌, subst, arith}
+use Rattle.std.proofs.Common.{◌≡◌, ℕ, zero, suc, ◌+◌, ◌<◌, List, [], ◌∷◌, ◌++◌, Some, get_or, length, map, take, refl, sym, ap, ◌∙◌, subst, arith}
 use Rattle.std.specs.Option.{option_map, option_map_or, unwrap_or}
 use Rattle.std.specs.Prelude.{slice_get}
 use Rattle.std.proofs.lemmas.List.{map_push, take_more}
 use Rattle.std.proofs.lemmas.Option.{get_or_from_slice_get, slice_get-map, slice_get_within}
 use Rattle.mm_value.specs.declared.row_ref.RowRef.{RowRef}
 use Rattle.mm_value.specs.declared.values.Value.{Value}
-use Rattle.mm_value.specs.declared.values.Value.TheVariants.{Int}
 use Rattle.mm_partition.specs.Places.{IsLive, Live, slot_at}
 use Rattle.mm_relation.specs.Kept.{StoredRows}
 use Rattle.mm_relation.specs.Refs.{row_at, row_in}
 use Rattle.mm_store.specs.Tables.{IsAt, Tables}
-use Rattle.mm_query.specs.Atoms.{value_in}
-use Rattle.mm_query.specs.Queries.{Partial, value_at, values_of}
+use Rattle.mm_query.specs.Queries.{Partial, values_of}
 use Rattle.mm_query.specs.declared.bound_query.FieldPlace.{FieldPlace}
 use Rattle.mm_templist.specs.Combos.{AreLive, Combos, combo_rows, row_of, rows_of_combo}
-use Rattle.mm_templist.specs.Results.{HasColumn, projected_rows}
+use Rattle.mm_templist.specs.Results.{projected_rows}
 
 -- A reference is of a row that is there, in the table at a place.
 abbrev pub IsThere : Tables → ℕ → RowRef → Type 0
@@ -62,35 +60,6 @@ module _ (store : Tables) where
       → ((stored : StoredRows) → IsAt store table stored → slot_at stored.places at ≡ Live row) → row_of store table at ≡ row
   row_is_found table at row there found =
       ap (λ o. option_map_or (λ stored. row_at (slot_at stored.places) at) o []) there.1 ∙ ap row_in (found there.0 there.1)
-
-  -- A field's place is that of a table and of a reference.
-  pub field_within : (tables : List ℕ) (refs : List RowRef) (field : FieldPlace) → AreLive store tables refs → HasColumn (rows_of_combo store tables refs) field
-      → (field.place < length tables) × (field.place < length refs)
-  field_within tables refs field live has =
-      let within : field.place < length (rows_of_combo store tables refs) = slice_get_within (rows_of_combo store tables refs) field.place has.0 has.1 in
-      (omega (arith, within, length_rows tables refs live), omega (arith, within, length_rows tables refs live, length_live tables refs live))
-
-  -- The row at the place of a field has the field's column.
-  pub field_row : (tables : List ℕ) (refs : List RowRef) (field : FieldPlace) (row : List Value) → AreLive store tables refs
-      → (has : HasColumn (rows_of_combo store tables refs) field)
-      → ((stored : StoredRows) → IsAt store (get_or tables field.place 0) stored
-      → slot_at stored.places (get_or refs field.place (record { part = 0; slot = 0 })) ≡ Live row)
-      → row ≡ has.0
-  field_row tables refs field row live has found =
-      let place = field.place in
-      let no_ref : RowRef = record { part = 0; slot = 0 } in
-      let within = (field_within tables refs field live has).0 in
-      let here : slice_get (rows_of_combo store tables refs) place ≡ Some row =
-      row_in_place tables refs place 0 no_ref live within ∙ ap Some (row_is_found _ _ row (there_at tables refs place 0 no_ref live within) found) in
-      ap (λ o. unwrap_or o row) (sym here ∙ has.1)
-
--- The value of a field, where its place has a row that has its column.
-pub value_of_field : (rows : List (List Value)) (field : FieldPlace) (row : List Value) (value : Value) → slice_get rows field.place ≡ Some row
-    → slice_get row field.column ≡ Some value → value_at (map Some rows) field ≡ Some value
-value_of_field rows field row value row_is value_is =
-    ap (option_map (value_in field.column))
-    (get_or_from_slice_get (map Some rows) field.place (Some row) None (slice_get-map Some rows field.place ∙ ap (option_map Some) row_is))
-    ∙ ap Some (get_or_from_slice_get row field.column value (Int (pos 0)) value_is)
 
 -- One element more.
 pub next_of : {X : Type 0} (xs : List X) (k : ℕ) (x : X) → slice_get xs k ≡ Some x → take (k + 1) xs ≡ take k xs ++ x ∷ []

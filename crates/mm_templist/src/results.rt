@@ -1,69 +1,42 @@
 //! What a temporary list shows.
-ghost use Rattle.std.specs.Prelude.{◌≡◌, ◌+◌, ◌++◌, ◌*◌, ◌<◌, ◌≤◌, All, IfErr, IfOk, List, OnOk, Some, length, map, min, pos};
+ghost use Rattle.std.specs.Prelude.{◌≡◌, ◌+◌, ◌++◌, ◌*◌, ◌≤◌, All, IfErr, IfOk, OnOk, Some, length, map, pos};
 ghost use Rattle.std.specs.Option.{option_copied, unwrap_or};
 ghost use Rattle.mm_value.specs.declared.refusal.Refusal.TheVariants.{Memory};
-ghost use Rattle.mm_value.specs.declared.row_ref.RowRef.{RowRef};
 ghost use Rattle.mm_value.specs.declared.values.Value.TheVariants.{Int};
 ghost use Rattle.mm_query.specs.Queries.{value_at, values_of};
-ghost use Rattle.mm_query.specs.declared.bound_query.FieldPlace.{FieldPlace};
 ghost use Rattle.mm_templist.specs.Combos.{AreLive, rows_of_combo};
 ghost use Rattle.mm_templist.specs.Pieces.{pieces};
-ghost use Rattle.mm_templist.specs.Results.{HasColumn, HasValue, StandAt, projected_rows, result_rows};
+ghost use Rattle.mm_templist.specs.Results.{projected_rows, result_rows};
 ghost use Rattle.mm_templist.specs.Runs.{referred};
 
 use crate::shown::ShownRows;
 use crate::temp_list::TempList;
 use mm_query::FieldPlace;
-use mm_store::{Meter, Store};
+use mm_store::View;
 use mm_value::{Refusal, Row, RowRef, Value};
 use std::alloc::{AllocError, Global};
 
 impl<'a> TempList<'a> {
-    /// The value of the field at a place in the combination at a place, both counted from 0. The meter counts its row.
-    pub fn value<'s>(
-        &self,
-        store: &'s Store,
-        meter: &mut Meter,
-        i: usize,
-        field: usize,
-    ) -> &'s Value
-        requires combo { i < length self.now.combos }
-        requires field { field < length self.now.fields }
-        requires there { HasValue store.now self.now i field }
-        ensures value { (combo : List RowRef) (place : FieldPlace) → StandAt self.now i field combo place
-            → value_at (map Some (rows_of_combo store.now self.now.tables combo)) place ≡ Some result.now }
-        ensures counted { meter.new ≡ min (meter.old + 1) u64.MAX }
-    {
-        let descriptor = self.descriptor();
-        value_of(
-            store,
-            meter,
-            descriptor.tables,
-            self.combo(i),
-            descriptor.fields[field],
-        )
-    }
-
     /// The rows of the result, a row of the values of the fields for each combination, sorted by their values in the columns of
     /// `order`, counted from 0, and as whole rows where these are equal; with `distinct` one of each row. No value is copied. A
-    /// field whose place has no row, or one that ends before its column, reads as `zero`, which is to be 0. The meter counts the
+    /// field whose place has no row, or one that ends before its column, reads as `zero`, which is to be 0. The view counts the
     /// rows that are read, of which each reference asks for one. `AllocError` where memory is refused.
-    pub fn shown<'s>(
+    pub fn shown<'s, 'v: 's>(
         &self,
         alloc: Global,
-        store: &'s Store,
-        meter: &mut Meter,
+        view: &mut View<'v>,
         distinct: bool,
         order: &[usize],
         zero: &'s Value,
     ) -> Result<ShownRows<'s>, AllocError>
-        requires live { All (AreLive store.now self.now.tables) self.now.combos }
+        requires live { All (AreLive view.old.store self.now.tables) self.now.combos }
         requires zero { zero.now ≡ Int (pos 0) }
-        ensures ok { IfOk result (λ rows. rows ≡ result_rows store.now self.now distinct order.now) }
-        ensures reads { meter.new ≤ meter.old + length self.now.combos * length self.now.tables }
+        ensures ok { IfOk result (λ rows. rows ≡ result_rows view.old.store self.now distinct order.now) }
+        ensures reads { view.new.reads ≤ view.old.reads + length self.now.combos * length self.now.tables }
+        ensures same { view.new.store ≡ view.old.store }
     {
         let width = self.descriptor().fields.len();
-        let values = self.projected(alloc, store, meter, zero)?;
+        let values = self.projected(alloc, view, zero)?;
         ShownRows::sorted(alloc, values, width, self.len(), distinct, order)
     }
 
@@ -71,43 +44,43 @@ impl<'a> TempList<'a> {
     pub fn project_sorted(
         &self,
         alloc: Global,
-        store: &Store,
-        meter: &mut Meter,
+        view: &mut View<'_>,
         distinct: bool,
         order: &[usize],
     ) -> Result<Vec<Row>, Refusal>
-        requires live { All (AreLive store.now self.now.tables) self.now.combos }
-        ensures ok { IfOk result (λ rows. rows.items ≡ result_rows store.now self.now distinct order.now) }
+        requires live { All (AreLive view.old.store self.now.tables) self.now.combos }
+        ensures ok { IfOk result (λ rows. rows.items ≡ result_rows view.old.store self.now distinct order.now) }
         ensures memory { IfErr result (λ refusal. refusal ≡ Memory) }
-        ensures reads { meter.new ≤ meter.old + length self.now.combos * length self.now.tables }
+        ensures reads { view.new.reads ≤ view.old.reads + length self.now.combos * length self.now.tables }
+        ensures same { view.new.store ≡ view.old.store }
     {
         let zero = Value::Int(0);
-        let shown = self.shown(alloc, store, meter, distinct, order, &zero)?;
+        let shown = self.shown(alloc, view, distinct, order, &zero)?;
         copy_rows(alloc, &shown)
     }
 
     /// References to the values of the fields of each combination in turn, one behind the other. `AllocError` where memory is
     /// refused.
-    fn projected<'s>(
+    fn projected<'s, 'v: 's>(
         &self,
         alloc: Global,
-        store: &'s Store,
-        meter: &mut Meter,
+        view: &mut View<'v>,
         zero: &'s Value,
     ) -> Result<Vec<&'s Value>, AllocError>
-        requires live { All (AreLive store.now self.now.tables) self.now.combos }
+        requires live { All (AreLive view.old.store self.now.tables) self.now.combos }
         requires zero { zero.now ≡ Int (pos 0) }
         ensures rows { IfOk result (λ values. pieces (length self.now.fields) (length self.now.combos) (referred values.items)
-            ≡ projected_rows store.now self.now) }
+            ≡ projected_rows view.old.store self.now) }
         ensures whole { IfOk result (λ values. length values.items ≡ length self.now.combos * length self.now.fields) }
-        ensures reads { meter.new ≤ meter.old + length self.now.combos * length self.now.tables }
+        ensures reads { view.new.reads ≤ view.old.reads + length self.now.combos * length self.now.tables }
+        ensures same { view.new.store ≡ view.old.store }
     {
         let descriptor = self.descriptor();
         let mut chosen = Vec::with_capacity(alloc, descriptor.tables.len())?;
         let room = self.len().saturating_mul(descriptor.fields.len());
         let mut values = Vec::with_capacity(alloc, room)?;
         for i in 0..self.len() {
-            choose_rows(store, meter, descriptor.tables, self.combo(i), &mut chosen)?;
+            choose_rows(view, descriptor.tables, self.combo(i), &mut chosen)?;
             push_values(&mut values, descriptor.fields, &chosen, zero)?;
         }
         Ok(values)
@@ -165,38 +138,21 @@ fn copy_row(alloc: Global, values: &[&Value]) -> Result<Row, Refusal>
     Ok(Row::new(row))
 }
 
-/// The value of a field of a combination. The meter counts its row.
-fn value_of<'s>(
-    store: &'s Store,
-    meter: &mut Meter,
-    tables: &[usize],
-    combo: &[RowRef],
-    field: FieldPlace,
-) -> &'s Value
-    requires live { AreLive store.now tables.now combo.now }
-    requires column { HasColumn (rows_of_combo store.now tables.now combo.now) field }
-    ensures value { value_at (map Some (rows_of_combo store.now tables.now combo.now)) field ≡ Some result.now }
-    ensures counted { meter.new ≡ min (meter.old + 1) u64.MAX }
-{
-    let row = store.row(meter, tables[field.place], combo[field.place]);
-    row.value(field.column)
-}
-
 /// Makes `chosen` the rows of a combination, each in the table at its place. `AllocError` where memory is refused.
 fn choose_rows<'s>(
-    store: &'s Store,
-    meter: &mut Meter,
+    view: &mut View<'s>,
     tables: &[usize],
     combo: &[RowRef],
     chosen: &mut Vec<Option<&'s Row>>,
 ) -> Result<(), AllocError>
-    requires { AreLive store.now tables.now combo.now }
-    ensures rows { OnOk result (map option_copied chosen.new.items ≡ map Some (rows_of_combo store.now tables.now combo.now)) }
-    ensures reads { meter.new ≤ meter.old + length tables.now }
+    requires { AreLive view.old.store tables.now combo.now }
+    ensures rows { OnOk result (map option_copied chosen.new.items ≡ map Some (rows_of_combo view.old.store tables.now combo.now)) }
+    ensures reads { view.new.reads ≤ view.old.reads + length tables.now }
+    ensures same { view.new.store ≡ view.old.store }
 {
     chosen.clear();
     for (i, table) in tables.iter().enumerate() {
-        chosen.push(Some(store.row(meter, *table, combo[i])))?;
+        chosen.push(Some(view.row(*table, combo[i])))?;
     }
     Ok(())
 }

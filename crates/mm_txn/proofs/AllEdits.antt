@@ -26,7 +26,8 @@ use Rattle.mm_query.specs.declared.command.Mutation.{Mutation}
 use Rattle.mm_query.specs.declared.command.Mutation.TheVariants.{Insert, Update, Delete}
 use Rattle.mm_laws.proofs.Removals.{AreRemovals, none_comes, removals_remove}
 use Rattle.mm_store.specs.Tables.{Tables}
-use Rattle.mm_txn.specs.Kept.{AreOf, instance_of, state_of}
+use Rattle.mm_plan.specs.Kept.{AreOf, instance_of}
+use Rattle.mm_txn.specs.Kept.{state_of}
 use Rattle.mm_txn.specs.TableEdits.{AreEdits, AreEditsOf, AreOwnEditsOf, FitsAt, PlacedEdits, named, pairs_at}
 use Rattle.mm_txn.proofs.DatabaseSteps.{rows_there, some_there}
 use Rattle.mm_txn.proofs.ReferenceRows.{found_passes}

@@ -29,7 +29,7 @@ use Rattle.mm_store.specs.Tables.{AreFit, IsAt, Tables, rows_at}
 use Rattle.mm_value.specs.declared.row_ref.RowRef.{RowRef}
 use Rattle.mm_txn.specs.Cascades.{Along, IsCascade, along_of, goes_by, goes_by_some}
 use Rattle.mm_txn.specs.declared.cascades.Cascade.{Cascade}
-use Rattle.mm_txn.specs.Kept.{AreKept, instance_of}
+use Rattle.mm_plan.specs.Kept.{AreKept, instance_of}
 use Rattle.mm_txn.specs.TableEdits.{AreEdits, FitsAt, PlacedEdits, edits_at, named, pairs_at, placed}
 use Rattle.mm_txn.specs.declared.edits.TableEdits.{TableEdits}
 use Rattle.mm_txn.proofs.CascadeSteps.{all_done, also_some, one_table, up_to_own}

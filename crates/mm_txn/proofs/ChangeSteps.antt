@@ -28,8 +28,8 @@ use Rattle.mm_standing.specs.Queries.{RowsByPlace, StandingQuery, change_conditi
 use Rattle.mm_value.specs.declared.refusal.Refusal.{Refusal}
 use Rattle.mm_value.specs.declared.refusal.Refusal.TheVariants.{NoSuchTable, TypeMismatch, WrongNumberOfValues}
 use Rattle.mm_query.specs.Atoms.{range_conditions}
-use Rattle.mm_query.specs.Binding.{AssignmentsWithin, Binds, TestsWithin, binding_conditions, has_other_length, has_type_mismatch}
-use Rattle.mm_query.specs.Edits.{also, changed_table, edits, goes_along, new_values, own_edits, own_pairs, removals, removals_of, updates, value_conditions, with_cascades}
+use Rattle.mm_query.specs.Binding.{AssignmentsWithin, Binds, binding_conditions, has_other_length, has_type_mismatch}
+use Rattle.mm_query.specs.Edits.{also, changed_table, edits, goes_along, new_values, own_edits, own_pairs, removals_of, value_conditions, with_cascades}
 use Rattle.mm_query.specs.Machine.{after_change, after_edits, change_conditions, is_referred_to, some_is_referred, some_lacks_target}
 use Rattle.mm_query.specs.Standing.{growth_conditions}
 use Rattle.mm_query.specs.State.{State, rows_in}
@@ -37,11 +37,15 @@ use Rattle.mm_query.specs.declared.atom.Assignment.{Assignment}
 use Rattle.mm_query.specs.declared.atom.Atom.{Atom}
 use Rattle.mm_query.specs.declared.bind.BoundChange.TheVariants as bound
 use Rattle.mm_query.specs.declared.bound_query.BoundQuery.{BoundQuery}
+use Rattle.mm_query.specs.declared.bound_query.FieldPlace.{FieldPlace}
 use Rattle.mm_query.specs.declared.command.Mutation.{Mutation}
 use Rattle.mm_query.specs.declared.command.Mutation.TheVariants as written
 use Rattle.mm_query.proofs.Binds.{bound_pairs, bound_place, delete_pairs, update_pairs}
 use Rattle.mm_query.proofs.Due.{due_behind_values, due_in_front_of_rows, not_lacking, passes_at_place}
-use Rattle.mm_txn.specs.Kept.{AreOf, instance_of, state_of, watched_state}
+use Rattle.mm_plan.specs.Finding.{meets}
+use Rattle.mm_plan.specs.Kept.{AreOf, instance_of}
+use Rattle.mm_txn.specs.Kept.{state_of, watched_state}
+use Rattle.mm_txn.specs.RowEdits.{updates_of}
 use Rattle.mm_txn.specs.TableEdits.{AreEditsOf, AreOwnEditsOf, FitsAt, HaveRows, PlacedEdits, edits_at, edits_conditions, leaves_orphan, leaves_orphans, named, pairs_at, rows_edited}
 use Rattle.mm_txn.specs.Watched.{IsPlaced, queries_of, rows_by_place}
 use Rattle.mm_txn.proofs.BackLinks.{IsOlder, first_of, older_at}
@@ -89,26 +93,18 @@ widths schema (written.Update name assignments tests) place rows binds none tabl
 widths schema (written.Delete name tests) place rows binds none table there = absurd binds
 
 -- UPDATE computes the values of its new rows.
-pub update_values : (schema : Schema) (mutation : Mutation) (place : ℕ) (assignments : List (Assignment ℕ)) (tests : List (Atom ℕ)) (state : State)
+pub update_values : (schema : Schema) (mutation : Mutation) (place : ℕ) (assignments : List (Assignment ℕ)) (tests : List (Atom FieldPlace)) (state : State)
     → Binds schema mutation (bound.Update place assignments tests) → value_conditions mutation state ≡ range_conditions (new_values (own_pairs mutation state))
 update_values schema (written.Insert name tuples) place assignments tests state binds = absurd binds
 update_values schema (written.Update name written_assignments written_tests) place assignments tests state binds = refl
 update_values schema (written.Delete name written_tests) place assignments tests state binds = absurd binds
 
--- All columns that it names are there.
-pub update_within : (schema : Schema) (mutation : Mutation) (place : ℕ) (assignments : List (Assignment ℕ)) (tests : List (Atom ℕ))
-    → Binds schema mutation (bound.Update place assignments tests)
-    → AssignmentsWithin (length (columns_named (changed_table mutation) schema)) assignments
-    × TestsWithin (length (columns_named (changed_table mutation) schema)) tests
+-- All columns that its assignments name are there.
+pub update_within : (schema : Schema) (mutation : Mutation) (place : ℕ) (assignments : List (Assignment ℕ)) (tests : List (Atom FieldPlace))
+    → Binds schema mutation (bound.Update place assignments tests) → AssignmentsWithin (length (columns_named (changed_table mutation) schema)) assignments
 update_within schema (written.Insert name tuples) place assignments tests binds = absurd binds
-update_within schema (written.Update name written_assignments written_tests) place assignments tests binds = (binds.assignments_within, binds.tests_within)
+update_within schema (written.Update name written_assignments written_tests) place assignments tests binds = binds.assignments_within
 update_within schema (written.Delete name written_tests) place assignments tests binds = absurd binds
-
-pub delete_within : (schema : Schema) (mutation : Mutation) (place : ℕ) (tests : List (Atom ℕ)) → Binds schema mutation (bound.Delete place tests)
-    → TestsWithin (length (columns_named (changed_table mutation) schema)) tests
-delete_within schema (written.Insert name tuples) place tests binds = absurd binds
-delete_within schema (written.Update name assignments written_tests) place tests binds = absurd binds
-delete_within schema (written.Delete name written_tests) place tests binds = binds.tests_within
 
 -- ---- the edits of what was bound
 
@@ -157,21 +153,22 @@ module _ (schema : Schema) (rs : List StoredRows) (are : AreOf schema.tables rs)
       }
 
       -- The pairs of an UPDATE and of a DELETE are those of its rows.
-      pub update_owns : (assignments : List (Assignment ℕ)) (tests : List (Atom ℕ)) → Binds schema mutation (bound.Update place assignments tests)
-          → own_pairs mutation (state_of schema rs) ≡ updates assignments tests (rows_of stored)
+      pub update_owns : (assignments : List (Assignment ℕ)) (tests : List (Atom FieldPlace)) → Binds schema mutation (bound.Update place assignments tests)
+          → own_pairs mutation (state_of schema rs) ≡ updates_of assignments (filter (meets tests) (rows_of stored))
       update_owns assignments tests binds =
           update_pairs schema mutation place assignments tests (state_of schema rs) refl binds
-          ∙ ap (updates assignments tests) (rows_of_name schema rs are (changed_table mutation) place placed stored there)
+          ∙ ap (λ rows. updates_of assignments (filter (meets tests) rows)) (rows_of_name schema rs are (changed_table mutation) place placed stored there)
 
-      pub delete_owns : (tests : List (Atom ℕ)) → Binds schema mutation (bound.Delete place tests)
-          → own_pairs mutation (state_of schema rs) ≡ removals tests (rows_of stored)
+      pub delete_owns : (tests : List (Atom FieldPlace)) → Binds schema mutation (bound.Delete place tests)
+          → own_pairs mutation (state_of schema rs) ≡ removals_of (filter (meets tests) (rows_of stored))
       delete_owns tests binds =
           delete_pairs schema mutation place tests (state_of schema rs) refl binds
-          ∙ ap (removals tests) (rows_of_name schema rs are (changed_table mutation) place placed stored there)
+          ∙ ap (λ rows. removals_of (filter (meets tests) rows)) (rows_of_name schema rs are (changed_table mutation) place placed stored there)
 
       -- What refuses an UPDATE before its rows are looked at is the range of its new values.
-      pub update_due : (assignments : List (Assignment ℕ)) (tests : List (Atom ℕ)) → Binds schema mutation (bound.Update place assignments tests)
-          → first_refusal (binding_conditions mutation schema) ≡ None → first_refusal (range_conditions (new_values (updates assignments tests (rows_of stored))))
+      pub update_due : (assignments : List (Assignment ℕ)) (tests : List (Atom FieldPlace)) → Binds schema mutation (bound.Update place assignments tests)
+          → first_refusal (binding_conditions mutation schema) ≡ None
+          → first_refusal (range_conditions (new_values (updates_of assignments (filter (meets tests) (rows_of stored)))))
           ≡ first_refusal (binding_conditions mutation schema ++ value_conditions mutation (state_of schema rs))
       update_due assignments tests binds none =
           sym (due_behind (binding_conditions mutation schema) (value_conditions mutation (state_of schema rs)) none

@@ -12,7 +12,8 @@ use Rattle.mm_query.specs.Machine.{after_definition}
 use Rattle.mm_query.specs.State.{rows_in}
 use Rattle.mm_query.specs.declared.command.Definition.TheVariants as define
 use Rattle.mm_query.proofs.Due.{key_at_place}
-use Rattle.mm_txn.specs.Kept.{AreIndexes, AreOf, instance_of, state_of}
+use Rattle.mm_plan.specs.Kept.{AreIndexes, AreOf, instance_of}
+use Rattle.mm_txn.specs.Kept.{state_of}
 use Rattle.mm_txn.proofs.RowsBeside.{AreOf-push, as_many_rows, beside, dropped_at_place, rows_at_place}
 
 module _ (schema : Schema) (rs : List StoredRows) (are : AreOf schema.tables rs) where

@@ -10,7 +10,7 @@ use Rattle.mm_store.specs.Tables.{Tables}
 use Rattle.mm_store.specs.Worlds.{Noted}
 use Rattle.mm_store.proofs.MarkLaws.{rows_at_end}
 use Rattle.mm_value.specs.declared.values.Value.{Value}
-use Rattle.mm_txn.specs.Kept.{instance_of}
+use Rattle.mm_plan.specs.Kept.{instance_of}
 use Rattle.mm_txn.specs.Marks.{Ascend}
 use Rattle.mm_txn.specs.Saved.{AreSaved, CanGoBack, IsSaved, saved_of, savepoint_at}
 use Rattle.mm_txn.specs.Watched.{AreListed}

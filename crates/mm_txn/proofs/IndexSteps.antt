@@ -33,7 +33,8 @@ use Rattle.mm_value.specs.declared.refusal.Refusal.TheVariants.{NoSuchColumn, No
 use Rattle.mm_query.proofs.Due.{not_lacking, passes_at_place}
 use Rattle.mm_query.specs.Machine.{index_rows, rows_by_index}
 use Rattle.mm_query.specs.State.{rows_in}
-use Rattle.mm_txn.specs.Kept.{AreIndexes, AreOf, IsIndex, IsOf, instance_of, state_of}
+use Rattle.mm_plan.specs.Kept.{AreIndexes, AreOf, IsIndex, IsOf, instance_of}
+use Rattle.mm_txn.specs.Kept.{state_of}
 use Rattle.mm_txn.proofs.DatabaseSteps.{key_is, place_found, rows_of_name, rows_there, some_there}
 use Rattle.mm_txn.proofs.IndexesBeside.{AreOf-with_index, AreOf-without_index}
 use Rattle.mm_txn.proofs.RowsBeside.{as_many_rows, beside, instance_of-set}

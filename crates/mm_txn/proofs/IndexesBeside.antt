@@ -13,7 +13,7 @@ use Rattle.mm_schema.specs.declared.table.Table.{Table}
 use Rattle.mm_schema.proofs.Instances.{name_of, others_lack}
 use Rattle.mm_schema.proofs.NameLemmas.{same_bytes}
 use Rattle.mm_schema.proofs.TwinIndexes.{all_kept, free_behind, is_taken, others_stay, stay_without, stays_without, twins_behind}
-use Rattle.mm_txn.specs.Kept.{AreIndexes, AreOf, IsIndex, IsOf}
+use Rattle.mm_plan.specs.Kept.{AreIndexes, AreOf, IsIndex, IsOf}
 
 -- ---- one index more
 

@@ -23,7 +23,7 @@ use Rattle.mm_schema.proofs.NameLemmas.{differs_back, same_bytes}
 use Rattle.mm_schema.proofs.References.{same_with, same_without, second_none, targets_added, targets_indexed, targets_left, targets_unindexed}
 use Rattle.mm_laws.proofs.OlderTables.{older_with_definitions, older_with_table, older_without_table}
 use Rattle.mm_store.specs.Tables.{IsFrom, Tables, links_without}
-use Rattle.mm_txn.specs.Kept.{AreKept, AreOf}
+use Rattle.mm_plan.specs.Kept.{AreKept, AreOf}
 use Rattle.mm_txn.proofs.ReferenceRows.{AreToOthers, IsToOther, place_apart, some_place}
 
 -- ---- columns that refer to other tables

@@ -22,7 +22,7 @@ use Rattle.mm_store.specs.Tables.{AreFit, HasRows, IsAt, SameForm, Tables, Turns
 use Rattle.mm_store.proofs.Forms.{forms_same}
 use Rattle.mm_store.proofs.Joining.{one_relation, some_at}
 use Rattle.mm_value.specs.declared.refusal.Refusal.TheVariants.{StandingListTooLarge}
-use Rattle.mm_txn.specs.Kept.{AreOf, instance_of}
+use Rattle.mm_plan.specs.Kept.{AreOf, instance_of}
 use Rattle.mm_txn.specs.TableEdits.{FitsAt, HaveRows, PlacedEdits, edits_at, rows_edited, told}
 use Rattle.mm_txn.specs.Watched.{IsPlaced, queries_of, rows_by_place}
 use Rattle.mm_txn.proofs.Placed.{bag_by_place, rows_at_place}

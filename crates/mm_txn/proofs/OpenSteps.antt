@@ -15,11 +15,11 @@ use Rattle.mm_store.specs.Worlds.{Noted}
 use Rattle.mm_query.specs.Machine.{after_rollback_to, after_savepoint, back_to, rows_at_latest}
 use Rattle.mm_query.specs.State.{AreSavedRows, Saved, Savepoint, State}
 use Rattle.mm_laws.proofs.Throughout.{gone_back, held_before, held_further}
-use Rattle.mm_typing.specs.Typing.{AreTyped, IsTyped, ShiftsNumbers}
+use Rattle.mm_laws.specs.Typing.{AreTyped, IsTyped, ShiftsNumbers}
 use Rattle.mm_value.specs.declared.refusal.Refusal.{Refusal}
 use Rattle.mm_value.specs.declared.values.Value.{Value}
 use Rattle.mm_txn.specs.Contents.{Holdings, Makes}
-use Rattle.mm_txn.specs.Kept.{instance_of}
+use Rattle.mm_plan.specs.Kept.{instance_of}
 use Rattle.mm_txn.specs.Saved.{CanGoBack, IsConsistent, IsSaved, IsSettled, kept_state, saved_of, saved_rows}
 use Rattle.mm_txn.specs.Watched.{AreListed, queries_of}
 use Rattle.mm_txn.specs.declared.savepoints.Mark.{Mark}

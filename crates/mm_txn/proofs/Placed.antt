@@ -16,9 +16,9 @@ use Rattle.mm_store.specs.Tables.{rows_at}
 use Rattle.mm_query.specs.Queries.{bag, bag_of}
 use Rattle.mm_query.specs.State.{State, rows_in}
 use Rattle.mm_query.specs.declared.query.FromItem.{FromItem}
-use Rattle.mm_plan.specs.From.{places_in}
+use Rattle.mm_query.specs.Resolving.{places_in}
 use Rattle.mm_standing.specs.Queries.{StandingQuery, bag_over}
-use Rattle.mm_txn.specs.Kept.{instance_of}
+use Rattle.mm_plan.specs.Kept.{instance_of}
 use Rattle.mm_txn.specs.Watched.{IsPlaced, rows_by_place}
 
 -- the table has the name

@@ -20,7 +20,8 @@ use Rattle.mm_schema.proofs.Twins.{Row}
 use Rattle.mm_query.proofs.Due.{lacks_nowhere}
 use Rattle.mm_query.specs.State.{rows_in}
 use Rattle.mm_store.specs.Tables.{finds_orphan, key_at, rows_at}
-use Rattle.mm_txn.specs.Kept.{AreOf, state_of}
+use Rattle.mm_plan.specs.Kept.{AreOf}
+use Rattle.mm_txn.specs.Kept.{state_of}
 use Rattle.mm_txn.proofs.IndexSteps.{own_place, slice_get_within}
 use Rattle.mm_txn.proofs.DatabaseSteps.{key_is, rows_of_name, rows_there, some_there}
 

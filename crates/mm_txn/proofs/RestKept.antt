@@ -10,7 +10,7 @@ use Rattle.mm_store.specs.Worlds.{Noted}
 use Rattle.mm_value.specs.declared.refusal.Refusal.{Refusal}
 use Rattle.mm_value.specs.declared.values.Value.{Value}
 use Rattle.mm_txn.specs.Contents.{Makes}
-use Rattle.mm_txn.specs.Kept.{instance_of}
+use Rattle.mm_plan.specs.Kept.{instance_of}
 use Rattle.mm_txn.specs.Rest.{AreAtRest}
 use Rattle.mm_txn.specs.Saved.{AreSaved}
 use Rattle.mm_txn.specs.TableEdits.{HaveRows}

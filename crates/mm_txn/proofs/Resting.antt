@@ -26,7 +26,7 @@ use Rattle.mm_store.specs.Tables.{Tables}
 use Rattle.mm_value.specs.declared.refusal.Refusal.{Refusal}
 use Rattle.mm_query.specs.Machine.{Outcome, after_definition, definition_conditions}
 use Rattle.mm_query.specs.Queries.{bag_of}
-use Rattle.mm_query.specs.Resolving.{IsQueryWithin}
+use Rattle.mm_query.specs.Resolving.{IsQueryWithin, places_in}
 use Rattle.mm_query.specs.Standing.{AreBeside, AreBound, HasQueries, tables_read}
 use Rattle.mm_query.specs.State.{State}
 use Rattle.mm_query.specs.declared.bound_query.BoundQuery.{BoundQuery}
@@ -36,10 +36,10 @@ use Rattle.mm_query.specs.declared.command.Definition.TheVariants as define
 use Rattle.mm_query.specs.declared.query.FromItem.{FromItem}
 use Rattle.mm_query.proofs.Due.{step-done}
 use Rattle.mm_laws.proofs.StandingQueries.{watched_by_step}
-use Rattle.mm_plan.specs.From.{places_in}
 use Rattle.mm_standing.specs.Queries.{RowsByPlace, StandingQuery, bag_over}
 use Rattle.mm_standing.specs.State.{FitNow, Lists}
-use Rattle.mm_txn.specs.Kept.{AreKept, instance_of, state_of}
+use Rattle.mm_plan.specs.Kept.{AreKept, instance_of}
+use Rattle.mm_txn.specs.Kept.{state_of}
 use Rattle.mm_txn.specs.Rest.{AreAtRest, state_at_rest}
 use Rattle.mm_txn.specs.Watched.{AreListed, ArePlaced, IsPlaced, queries_of, rows_by_place}
 use Rattle.mm_txn.proofs.Placed.{bag_by_place, first, has, lacks, place_is}

@@ -21,7 +21,7 @@ use Rattle.mm_query.specs.Machine.{after_edits}
 use Rattle.mm_laws.proofs.StillFound.{beside_still}
 use Rattle.mm_standing.specs.Queries.{RowsByPlace}
 use Rattle.mm_store.specs.Tables.{Tables, rows_with}
-use Rattle.mm_txn.specs.Kept.{AreOf, instance_of}
+use Rattle.mm_plan.specs.Kept.{AreOf, instance_of}
 use Rattle.mm_txn.specs.TableEdits.{AreEdits, FitsAt, HaveRows, PlacedEdits, edits_at, named, pairs_at, rows_edited}
 use Rattle.mm_txn.specs.Watched.{rows_by_place}
 use Rattle.mm_txn.proofs.DatabaseSteps.{some_there}

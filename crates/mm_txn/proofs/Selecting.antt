@@ -5,9 +5,8 @@ use Rattle.std.specs.Option.{option_map_or, unwrap_or}
 use Rattle.std.proofs.lemmas.Bool.{false≢true, or_parts}
 use Rattle.std.proofs.lemmas.List.Elements.{All-cons, All-nil}
 use Rattle.std.proofs.lemmas.List.Sorted.{IsPermutation-map}
-use Rattle.mm_plan.specs.From.{places_in}
 use Rattle.mm_query.specs.Queries.{bag_of, one_of_each, rows_by_columns, size_conditions, values_of}
-use Rattle.mm_query.specs.Resolving.{bag_in, placed_query, query_conditions, select_conditions, selected}
+use Rattle.mm_query.specs.Resolving.{bag_in, placed_query, places_in, query_conditions, select_conditions, selected}
 use Rattle.mm_query.specs.State.{State, rows_in}
 use Rattle.mm_query.specs.declared.bound_query.BoundQuery.{BoundQuery}
 use Rattle.mm_query.specs.declared.query.FromItem.{FromItem}
@@ -25,7 +24,8 @@ use Rattle.mm_store.specs.Tables.{Tables, rows_at}
 use Rattle.mm_templist.specs.Combos.{Combos, combo_rows}
 use Rattle.mm_templist.specs.Results.{projected_rows, result_rows}
 use Rattle.mm_value.specs.declared.values.Value.{Value}
-use Rattle.mm_txn.specs.Kept.{AreOf, state_of}
+use Rattle.mm_plan.specs.Kept.{AreOf}
+use Rattle.mm_txn.specs.Kept.{state_of}
 use Rattle.mm_txn.proofs.DatabaseSteps.{rows_of_name, rows_there}
 
 -- ---- the tables of FROM

@@ -14,15 +14,15 @@ use Rattle.mm_query.specs.declared.atom.Operand.{Operand}
 use Rattle.mm_query.specs.declared.atom.Operand.TheVariants as operand
 use Rattle.mm_query.specs.declared.bound_query.FieldPlace.{FieldPlace}
 use Rattle.mm_query.specs.declared.query.FromItem.{FromItem}
-use Rattle.mm_plan.specs.From.{places_in}
+use Rattle.mm_query.specs.Resolving.{places_in}
 use Rattle.mm_relevance.specs.Relevance.{AddsToNumber, AddsToNumbers, is_text}
-use Rattle.mm_typing.specs.Typing.{AreTyped, ShiftsNumber, ShiftsNumbers, type_at}
-use Rattle.mm_typing.proofs.Numbers.{adds_to_numbers}
+use Rattle.mm_laws.specs.Typing.{AreTyped, ShiftsNumber, ShiftsNumbers, type_at}
+use Rattle.mm_laws.proofs.TypedNumbers.{adds_to_numbers}
 use Rattle.mm_delta.specs.declared.edited.TableEdits.{TableEdits}
 use Rattle.mm_standing.specs.Queries.{RowsByPlace, StandingQuery}
 use Rattle.mm_standing.specs.Reads.{AreTypeTested}
 use Rattle.mm_store.specs.Tables.{Tables}
-use Rattle.mm_txn.specs.Kept.{instance_of}
+use Rattle.mm_plan.specs.Kept.{instance_of}
 use Rattle.mm_txn.specs.TableEdits.{rows_edited, told}
 use Rattle.mm_txn.specs.Watched.{IsPlaced, IsTested, queries_of, rows_by_place}
 use Rattle.mm_txn.proofs.ListedRows.{after_is, before_is}

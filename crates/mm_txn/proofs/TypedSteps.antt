@@ -9,9 +9,9 @@ use Rattle.mm_store.specs.Marks.{rows_at_mark}
 use Rattle.mm_store.specs.Tables.{Tables}
 use Rattle.mm_store.specs.Undoing.{CanUndo}
 use Rattle.mm_store.specs.Worlds.{Noted}
-use Rattle.mm_typing.specs.Typing.{AreTyped, IsTyped}
-use Rattle.mm_typing.proofs.Changes.{typed_by_change}
-use Rattle.mm_typing.proofs.Definitions.{typed_by_definition}
+use Rattle.mm_laws.specs.Typing.{AreTyped, IsTyped}
+use Rattle.mm_laws.proofs.TypedChanges.{typed_by_change}
+use Rattle.mm_laws.proofs.TypedDefinitions.{typed_by_definition}
 use Rattle.mm_value.specs.declared.refusal.Refusal.{Refusal}
 use Rattle.mm_query.specs.Binding.{binding_conditions}
 use Rattle.mm_query.specs.Machine.{after_change, after_definition, definition_conditions, is_of_index}

@@ -22,7 +22,7 @@ use Rattle.mm_value.specs.declared.refusal.Refusal.{Refusal}
 use Rattle.mm_value.specs.declared.refusal.Refusal.TheVariants.{NoSuchStandingQuery, StandingListTooLarge}
 use Rattle.mm_value.specs.declared.values.Value.{Value}
 use Rattle.mm_query.specs.Queries.{bag, bag_of}
-use Rattle.mm_query.specs.Resolving.{IsQueryWithin, passes_query_limits, placed_query}
+use Rattle.mm_query.specs.Resolving.{IsQueryWithin, passes_query_limits, placed_query, places_in}
 use Rattle.mm_query.specs.Standing.{AreBeside, after_watch, outgrows, tables_read, watch_conditions, without_query}
 use Rattle.mm_query.specs.State.{State, rows_in}
 use Rattle.mm_query.specs.declared.bound_query.BoundQuery.{BoundQuery}
@@ -31,11 +31,10 @@ use Rattle.mm_query.specs.declared.command.NamedQuery.{NamedQuery}
 use Rattle.mm_query.specs.declared.query.FromItem.{FromItem}
 use Rattle.mm_query.specs.declared.query.Query.{Query}
 use Rattle.mm_query.proofs.PlacedQueries.{none_hold}
-use Rattle.mm_plan.specs.From.{places_in}
 use Rattle.mm_standing.specs.Bags.{entries_at}
 use Rattle.mm_standing.specs.Queries.{IsBagOf, RowsByPlace, StandingQuery, bag_over, list_conditions}
 use Rattle.mm_standing.specs.State.{Lists}
-use Rattle.mm_txn.specs.Kept.{AreKept, instance_of}
+use Rattle.mm_plan.specs.Kept.{AreKept, instance_of}
 use Rattle.mm_txn.specs.Rest.{AreAtRest, naming_conditions, state_at_rest}
 use Rattle.mm_txn.specs.Watched.{AreListed, ArePlaced, IsPlaced, queries_of, rows_by_place}
 use Rattle.mm_txn.proofs.Placed.{lists_by_place, places_within, rows_at_place}

@@ -13,7 +13,7 @@ use Rattle.mm_store.specs.Undoing.{CanUndo}
 use Rattle.mm_store.specs.Worlds.{Noted}
 use Rattle.mm_value.specs.declared.refusal.Refusal.{Refusal}
 use Rattle.mm_value.specs.declared.values.Value.{Value}
-use Rattle.mm_txn.specs.Kept.{instance_of}
+use Rattle.mm_plan.specs.Kept.{instance_of}
 use Rattle.mm_txn.specs.Rest.{AreAtRest, state_at_rest}
 use Rattle.mm_txn.specs.TableEdits.{AreEdits, HaveRows, PlacedEdits, edits_conditions, rows_edited}
 use Rattle.mm_txn.specs.Watched.{AreListed, IsTested, rows_by_place}

@@ -1,23 +1,10 @@
 -- How the database keeps the machine's state: a catalog, and beside each of its tables a relation.
-use Rattle.std.specs.Prelude.{◌≡◌, List, [], ◌∷◌, Some, None, length, map}
-use Rattle.mm_relation.specs.Index.{column_of, kind_of}
-use Rattle.mm_relation.specs.Kept.{StoredRows}
-use Rattle.mm_relation.specs.RowLists.{rows_of}
-use Rattle.mm_relation.specs.declared.index.Index.{Index}
-use Rattle.mm_schema.specs.Columns.{column_place, key_place}
-use Rattle.mm_schema.specs.Instance.{Instance}
-use Rattle.mm_schema.specs.References.{HasTargets, RefersBack, RefersToOthers, all_references}
-use Rattle.mm_schema.specs.Schema.{Schema}
-use Rattle.mm_schema.specs.declared.column.Column.{Column}
-use Rattle.mm_schema.specs.declared.index.IndexDef.{IndexDef}
-use Rattle.mm_schema.specs.declared.table.Table.{Table}
-use Rattle.mm_store.specs.Tables.{Tables}
+use Rattle.std.specs.Prelude.{List, [], None}
+use Rattle.mm_plan.specs.Kept.{instance_of}
 use Rattle.mm_query.specs.State.{State}
 use Rattle.mm_query.specs.declared.bound_query.BoundQuery.{BoundQuery}
-
--- The rows of each relation.
-abbrev pub instance_of : List StoredRows → Instance
-instance_of stored = map rows_of stored
+use Rattle.mm_relation.specs.Kept.{StoredRows}
+use Rattle.mm_schema.specs.Schema.{Schema}
 
 -- The state of a catalog, of the rows beside its tables and of the queries beside its standing queries, where no transaction is open.
 abbrev pub watched_state : Schema → List StoredRows → List BoundQuery → State
@@ -26,37 +13,3 @@ watched_state schema stored queries = record { schema = schema; rows = instance_
 -- The same with no standing query.
 abbrev pub state_of : Schema → List StoredRows → State
 state_of schema stored = watched_state schema stored []
-
--- The index is on the column that is named, and of the kind.
-pub record IsIndex (columns : List Column) (definition : IndexDef) (index : Index) : Type 0 where
-  pub column : column_place definition.column columns ≡ Some (column_of index)
-  pub kind : kind_of index ≡ definition.kind
-
--- The indexes are those that are defined, in the same order.
-abbrev pub AreIndexes : List Column → List IndexDef → List Index → Type 0
-AreIndexes columns [] [] = Unit {0}
-AreIndexes columns (d ∷ ds) (x ∷ xs) = IsIndex columns d x × AreIndexes columns ds xs
-AreIndexes columns [] (x ∷ xs) = ⊥
-AreIndexes columns (d ∷ ds) [] = ⊥
-
--- The relation has the columns of the table, its key and its indexes.
-pub record IsOf (table : Table) (stored : StoredRows) : Type 0 where
-  pub key : stored.key ≡ key_place table.definition.columns
-  pub width : stored.width ≡ length table.definition.columns
-  pub indexes : AreIndexes table.definition.columns table.indexes stored.indexes
-
--- There is a relation for each table and no others.
-abbrev pub AreOf : List Table → List StoredRows → Type 0
-AreOf [] [] = Unit {0}
-AreOf (t ∷ ts) (r ∷ rs) = IsOf t r × AreOf ts rs
-AreOf [] (r ∷ rs) = ⊥
-AreOf (t ∷ ts) [] = ⊥
-
--- There is a relation for each table; the store's references are those of the catalog's columns, and each is to another table
--- that is there, which is older.
-pub record AreKept (schema : Schema) (store : Tables) : Type 0 where
-  pub relations : AreOf schema.tables store.tables
-  pub links : store.links ≡ all_references schema
-  pub targets : HasTargets schema
-  pub others : RefersToOthers schema
-  pub back : RefersBack [] schema.tables

@@ -1,11 +1,12 @@
-pub mod Along
 pub mod Answers
 pub mod Cascades
 pub mod Contents
+pub mod IndexPlaces
 pub mod Kept
 pub mod Marks
 pub mod Requests
 pub mod Rest
+pub mod RowEdits
 pub mod Saved
 pub mod Sources
 pub mod Steps

@@ -7,9 +7,9 @@ use Rattle.mm_store.specs.Tables.{Tables}
 use Rattle.mm_store.specs.Undoing.{CanUndo}
 use Rattle.mm_store.specs.Worlds.{Noted}
 use Rattle.mm_query.specs.State.{Saved, Savepoint, State}
-use Rattle.mm_typing.specs.Typing.{IsTyped}
+use Rattle.mm_laws.specs.Typing.{IsTyped}
 use Rattle.mm_txn.specs.Contents.{Holdings}
-use Rattle.mm_txn.specs.Kept.{instance_of}
+use Rattle.mm_plan.specs.Kept.{instance_of}
 use Rattle.mm_txn.specs.Marks.{Ascend}
 use Rattle.mm_txn.specs.Watched.{queries_of, rows_by_place}
 use Rattle.mm_txn.specs.declared.savepoints.Mark.{Mark}

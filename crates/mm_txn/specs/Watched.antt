@@ -2,10 +2,9 @@
 use Rattle.std.specs.Prelude.{◌≡◌, ◌≤◌, All, List, [], get_or, length, map, slice_index_or}
 use Rattle.mm_schema.specs.Instance.{Instance}
 use Rattle.mm_schema.specs.Schema.{Schema}
-use Rattle.mm_query.specs.Resolving.{IsQueryWithin}
+use Rattle.mm_query.specs.Resolving.{IsQueryWithin, places_in}
 use Rattle.mm_query.specs.Standing.{AreBeside}
 use Rattle.mm_query.specs.declared.bound_query.BoundQuery.{BoundQuery}
-use Rattle.mm_plan.specs.From.{places_in}
 use Rattle.mm_relevance.specs.Relevance.{AddsToNumbers}
 use Rattle.mm_standing.specs.Queries.{RowsByPlace, StandingQuery}
 use Rattle.mm_standing.specs.State.{FitNow, Lists}

@@ -11,12 +11,12 @@ ghost use Rattle.mm_store.specs.Tables.{IsAt, rows_at};
 ghost use Rattle.mm_query.specs.Edits.{goes_along, removals_of, with_cascades};
 ghost use Rattle.mm_value.specs.declared.refusal.Refusal.TheVariants.{Memory};
 ghost use Rattle.mm_txn.specs.Cascades.{AddsGoing, IsCascade, along_of, along_to, alongs_from};
-ghost use Rattle.mm_txn.specs.Kept.{AreKept, instance_of};
+ghost use Rattle.mm_plan.specs.Kept.{AreKept, instance_of};
 ghost use Rattle.mm_txn.specs.TableEdits.{AreEdits, FitsAt, edits_at, named, pairs_at, placed};
 
 use crate::edits::TableEdits;
+use crate::row_edits::removals_at;
 use mm_delta::{references_of_gone, row_gone};
-use mm_edits::removals_at;
 use mm_relation::Edit;
 use mm_schema::{Catalog, Column, Name};
 use mm_store::{IndexRef, Store};
@@ -89,7 +89,8 @@ fn going_along(
     for cascade in &columns {
         add_referrers(alloc, store, table, cascade, &mut found)?;
     }
-    Ok(removals_at(alloc, store.table(table), found.as_slice())?)
+    let mut view = store.view();
+    Ok(removals_at(alloc, &mut view, table, found)?)
 }
 
 /// The CASCADE columns of a table that refer to tables of which rows go. `Memory` is the only refusal.

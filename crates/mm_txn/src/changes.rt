@@ -16,7 +16,7 @@ ghost use Rattle.mm_store.specs.Worlds.{Noted};
 ghost use Rattle.mm_value.specs.declared.refusal.Refusal.TheVariants.{RowIsReferenced};
 ghost use Rattle.mm_value.specs.declared.values.Value.{Value};
 ghost use Rattle.mm_txn.specs.Contents.{IsDue, Makes, MayMake};
-ghost use Rattle.mm_txn.specs.Kept.{instance_of};
+ghost use Rattle.mm_plan.specs.Kept.{instance_of};
 ghost use Rattle.mm_txn.specs.TableEdits.{AreEdits, FitsAt, HaveRows, leaves_orphans, placed, rows_edited, told};
 ghost use Rattle.mm_txn.specs.Watched.{AreListed, IsTested, rows_by_place};
 
@@ -24,7 +24,7 @@ use crate::contents::Contents;
 use crate::edits::{ChangeEdits, TableEdits};
 use mm_delta::TableEdits as TableChange;
 use mm_standing::Standing;
-use mm_store::{Meter, Store, Undo};
+use mm_store::{Store, Undo};
 use mm_value::Refusal;
 use std::alloc::{AllocError, Global};
 
@@ -222,7 +222,6 @@ fn prepare_lists(
     ensures queries { standing.new.queries ≡ standing.old.queries }
     ensures log { standing.new.log ≡ standing.old.log }
 {
-    let mut meter = Meter::new();
-    let mut view = store.view(&mut meter);
+    let mut view = store.view();
     standing.prepare(alloc, &mut view, changes)
 }

@@ -5,7 +5,7 @@ ghost use Rattle.mm_store.specs.Marks.{rows_at_mark, rows_now};
 ghost use Rattle.mm_store.specs.Undoing.{CanUndo};
 ghost use Rattle.mm_value.specs.declared.values.Value.{Value};
 ghost use Rattle.mm_txn.specs.Contents.{IsAtRest};
-ghost use Rattle.mm_txn.specs.Kept.{instance_of};
+ghost use Rattle.mm_plan.specs.Kept.{instance_of};
 ghost use Rattle.mm_txn.specs.Saved.{AreSaved, IsSettled};
 
 use mm_schema::Catalog;

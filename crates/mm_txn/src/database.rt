@@ -1,6 +1,5 @@
 //! The database: its calls are steps of the machine of row lists.
 ghost use Rattle.std.specs.Prelude.{◌≡◌, ◌≤◌, Some, None, IfErr, IfOk, OnOk, OnErr, MatchResult, length};
-ghost use Rattle.mm_relation.specs.RowLists.{rows_of};
 ghost use Rattle.mm_schema.specs.Refused.{AnswersDue, first_refusal};
 ghost use Rattle.mm_query.specs.Edits.{own_pairs};
 ghost use Rattle.mm_query.specs.Machine.{conditions, plan_in, rows_by_index, state_after};
@@ -9,23 +8,19 @@ ghost use Rattle.mm_query.specs.Standing.{listing as listing_of, shown_rows};
 ghost use Rattle.mm_value.specs.declared.refusal.Refusal.TheVariants.{Memory};
 ghost use Rattle.mm_query.specs.State.{first_state, rows_in};
 ghost use Rattle.mm_query.specs.declared.command.Command.TheVariants.{Define, Change, Scan, ScanIndex, Select, Explain, Show, Begin, Commit, Rollback, Savepoint, RollbackTo};
-ghost use Rattle.mm_txn.specs.Along.{IsAlong, rows_along};
 
 mod ask;
 mod execute;
 
-use crate::along::Along;
 use crate::contents::Contents;
 use crate::definitions::is_of_index;
-use crate::explain::explain_query;
 use crate::listing::list_tables;
 use crate::savepoints::{MAX_SAVEPOINTS, Mark, latest};
 use crate::select::select_rows;
 use crate::zero::Zero;
 use mm_query::{Definition, ItemList, Listing, Mutation, PlanLine, Query};
-use mm_relation::Relation;
 use mm_schema::Name;
-use mm_store::Undo;
+use mm_store::{TableRows, Undo};
 use mm_templist::ShownRows;
 use mm_value::Refusal;
 use std::alloc::Global;
@@ -195,40 +190,20 @@ impl Db {
         Ok(count)
     }
 
-    /// The index of a name, with the rows of its table, of which there are at most 1,048,576. `NoSuchIndex` where none has the
-    /// name. It takes no memory.
-    fn scan_index(&self, name: &Name) -> Result<Along<'_>, Refusal>
-        ensures due { MatchResult result (λ _. first_refusal (conditions (ScanIndex name.now) self.now) ≡ None)
-            (λ refusal. first_refusal (conditions (ScanIndex name.now) self.now) ≡ Some refusal) }
-        ensures along { IfOk result IsAlong }
-        ensures rows { IfOk result (λ along. rows_along along ≡ rows_by_index self.now name.now) }
+    /// The rows of a table, in the order of the index of a name. The refusals are those of
+    /// [`Question::ScanIndex`](crate::Question::ScanIndex).
+    fn scan_index(&self, alloc: Global, name: &Name) -> Result<TableRows<'_>, Refusal>
+        ensures due { AnswersDue (first_refusal (conditions (ScanIndex name.now) self.now)) result }
+        ensures rows { IfOk result (λ rows. rows ≡ rows_by_index self.now name.now) }
     {
-        let contents = &self.contents;
-        let index = contents
-            .catalog
-            .find_index(name)
-            .ok_or(Refusal::NoSuchIndex)?;
-        let at = contents
-            .catalog
-            .place_of(&index.table)
-            .ok_or(Refusal::NoSuchIndex)?;
-        let table = contents.catalog.table_at(at);
-        let place = table.indexes.place_of(name).ok_or(Refusal::NoSuchIndex)?;
-        let columns = &table.definition.columns;
-        let column = columns.place_of(&index.column).ok_or(Refusal::NoSuchIndex)?;
-        Ok(Along {
-            relation: contents.store.table(at),
-            place,
-            column,
-            kind: index.kind,
-        })
+        self.contents.scan_index(alloc, name)
     }
 
     /// The rows that a query gives, in their order, found by its plan; no value is copied. The refusals are those of
     /// [`Question::Select`](crate::Question::Select).
-    fn select(&self, alloc: Global, query: &Query) -> Result<ShownRows<'_>, Refusal>
-        ensures due { AnswersDue (first_refusal (conditions (Select query.now) self.now)) result }
-        ensures rows { IfOk result (λ rows. rows ≡ selected query.now self.now) }
+    fn select(&self, alloc: Global, query: Query) -> Result<ShownRows<'_>, Refusal>
+        ensures due { AnswersDue (first_refusal (conditions (Select query) self.now)) result }
+        ensures rows { IfOk result (λ rows. rows ≡ selected query self.now) }
     {
         let contents = &self.contents;
         select_rows(
@@ -242,12 +217,11 @@ impl Db {
 
     /// The plan of a query, by the row counts of the tables as they are: a line for each table of FROM, in their order. The
     /// refusals are those of [`Db::select`] but for `ResultTooLarge`.
-    fn explain(&self, alloc: Global, query: &Query) -> Result<ItemList<PlanLine>, Refusal>
-        ensures due { AnswersDue (first_refusal (conditions (Explain query.now) self.now)) result }
-        ensures lines { IfOk result (λ lines. lines ≡ plan_in self.now query.now) }
+    fn explain(&self, alloc: Global, query: Query) -> Result<ItemList<PlanLine>, Refusal>
+        ensures due { AnswersDue (first_refusal (conditions (Explain query) self.now)) result }
+        ensures lines { IfOk result (λ lines. lines ≡ plan_in self.now query) }
     {
-        let contents = &self.contents;
-        explain_query(alloc, &contents.catalog, &contents.store, query)
+        self.contents.explain(alloc, query)
     }
 
     /// The rows that a standing query shows, in their order; no value is copied, and no row of a table is looked at.
@@ -279,18 +253,12 @@ impl Db {
         )
     }
 
-    /// The relation of a table, which has at most 1,048,576 rows. `NoSuchTable` where none has the name. It takes no memory.
-    fn scan(&self, table: &Name) -> Result<&Relation, Refusal>
+    /// The rows of a table, in the order of its key. `NoSuchTable` where none has the name. It takes no memory.
+    fn scan(&self, table: &Name) -> Result<TableRows<'_>, Refusal>
         ensures due { MatchResult result (λ _. first_refusal (conditions (Scan table.now) self.now) ≡ None)
             (λ refusal. first_refusal (conditions (Scan table.now) self.now) ≡ Some refusal) }
-        ensures rows { IfOk result (λ relation. rows_of relation.now ≡ rows_in self.now table.now) }
-        ensures few { IfOk result (λ relation. length relation.now.refs ≤ 1048576) }
+        ensures rows { IfOk result (λ rows. rows ≡ rows_in self.now table.now) }
     {
-        let contents = &self.contents;
-        let place = contents
-            .catalog
-            .place_of(table)
-            .ok_or(Refusal::NoSuchTable)?;
-        Ok(contents.store.table(place))
+        self.contents.scan(table)
     }
 }

@@ -10,7 +10,8 @@ ghost use Rattle.mm_store.specs.Worlds.{Noted};
 ghost use Rattle.mm_query.specs.Machine.{after_definition, definition_conditions, is_of_index};
 ghost use Rattle.mm_query.specs.declared.command.Definition.TheVariants as define;
 ghost use Rattle.mm_txn.specs.Contents.{state_held};
-ghost use Rattle.mm_txn.specs.Kept.{AreKept, state_of};
+ghost use Rattle.mm_plan.specs.Kept.{AreKept};
+ghost use Rattle.mm_txn.specs.Kept.{state_of};
 ghost use Rattle.mm_txn.specs.Saved.{IsSettled};
 
 use crate::contents::Contents;

@@ -4,13 +4,14 @@ ghost use Rattle.mm_schema.specs.Refused.{AnswersDue, first_refusal};
 ghost use Rattle.mm_schema.specs.Schema.{HasDistinctNames};
 ghost use Rattle.mm_query.specs.Binding.{binding_conditions};
 ghost use Rattle.mm_query.specs.Edits.{value_conditions};
-ghost use Rattle.mm_txn.specs.Kept.{AreKept, AreOf, state_of};
+ghost use Rattle.mm_plan.specs.Kept.{AreKept, AreOf};
+ghost use Rattle.mm_txn.specs.Kept.{state_of};
 ghost use Rattle.mm_txn.specs.TableEdits.{AreEditsOf, AreOwnEditsOf, placed, told};
 
 use crate::cascades::cascades;
 use crate::contents::Contents;
+use crate::row_edits::{additions, removals, updates};
 use mm_delta::TableEdits as TableChange;
-use mm_edits::{additions, removals, updates};
 use mm_query::{BoundChange, Mutation, bind_change};
 use mm_relation::Edit;
 use mm_schema::Catalog;
@@ -91,12 +92,19 @@ fn own_edits(
             assignments,
             tests,
         } => {
-            let relation = store.table(table);
-            let edits = updates(alloc, relation, assignments.as_slice(), tests.as_slice())?;
+            let mut view = store.view();
+            let edits = updates(
+                alloc,
+                &mut view,
+                table,
+                assignments.as_slice(),
+                tests.as_slice(),
+            )?;
             Ok(TableEdits { table, edits })
         }
         BoundChange::Delete { table, tests } => {
-            let edits = removals(alloc, store.table(table), tests.as_slice())?;
+            let mut view = store.view();
+            let edits = removals(alloc, &mut view, table, tests.as_slice())?;
             Ok(TableEdits { table, edits })
         }
     }

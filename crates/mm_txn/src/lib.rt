@@ -4,7 +4,6 @@
 //! A call that may take memory is handed the allocator; no other call takes any.
 #![tactic(auto)]
 
-mod along;
 mod answer;
 mod cascades;
 mod changes;
@@ -13,16 +12,20 @@ mod database;
 mod definitions;
 mod edits;
 mod explain;
+mod index_place;
 mod listing;
 mod request;
+mod row_edits;
 mod rows;
 mod savepoints;
+mod scanning;
 mod select;
 mod watching;
 mod zero;
 
 pub use answer::Answer;
 pub use database::Db;
+pub use mm_store::StoredRows;
 pub use mm_templist::ShownRows;
 pub use request::{Change, Question, Request};
-pub use rows::{RowReader, Rows, StoredRows};
+pub use rows::{RowReader, Rows};

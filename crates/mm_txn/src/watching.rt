@@ -1,6 +1,6 @@
 //! Standing queries that are kept and dropped. They are for a database in which no transaction is open.
 ghost use Rattle.std.specs.Prelude.{◌≡◌, [], None, map, IfErr, IfOk, OnErr, OnOk};
-ghost use Rattle.mm_query.specs.Resolving.{IsQueryWithin, placed_query};
+ghost use Rattle.mm_query.specs.Resolving.{IsQueryWithin, placed_query, places_in};
 ghost use Rattle.mm_query.specs.Standing.{after_unwatch, after_watch, watch_conditions};
 ghost use Rattle.mm_query.specs.declared.query.FromItem.{FromItem as Item};
 ghost use Rattle.mm_schema.specs.Refused.{AnswersDue, first_refusal};
@@ -10,9 +10,7 @@ ghost use Rattle.mm_txn.specs.Contents.{state_held};
 ghost use Rattle.mm_txn.specs.Rest.{earlier_refusal, naming_conditions};
 
 use crate::contents::Contents;
-use crate::explain::plan_now;
-use mm_plan::places_of;
-use mm_query::{BoundQuery, FromItem, NamedQuery, Query, bind_query};
+use mm_query::{Bound, FromItem, NamedQuery, Query, bind_query};
 use mm_schema::{Catalog, Name, TableNames};
 use mm_value::Refusal;
 use std::alloc::Global;
@@ -29,15 +27,11 @@ impl Contents {
     {
         prove!(self.catalog.standing().len() == self.standing.len());
         let NamedQuery { name, query } = named;
-        let bound = bind_named(alloc, &self.catalog, &name, &query)?;
-        let tables = places_of(alloc, &self.catalog, bound.from.as_slice())?;
-        let plan = plan_now(alloc, &self.catalog, &self.store, &query)?;
-        let names = names_of(alloc, bound.from.as_slice())?;
+        let bound = bind_named(alloc, &self.catalog, &name, query)?;
+        let names = names_of(alloc, bound.query.from.as_slice())?;
         self.catalog.add_standing(name.copy(), names)?;
-        if let Err(refusal) = self
-            .standing
-            .watch(alloc, &self.store, bound, tables, plan.as_slice())
-        {
+        let tables = bound.tables.into_vec();
+        if let Err(refusal) = self.standing.watch(alloc, &self.store, bound.query, tables) {
             let _ = self.catalog.drop_standing(&name);
             return Err(refusal);
         }
@@ -65,15 +59,11 @@ impl Contents {
 /// The query of a new standing query, with its fields resolved. Of what refuses it by the catalog the first is answered: a name
 /// that is taken stands behind tables, columns and positions that are missing, and before all else. `Memory` may come in its place
 /// and in that of success.
-fn bind_named(
-    alloc: Global,
-    catalog: &Catalog,
-    name: &Name,
-    query: &Query,
-) -> Result<BoundQuery, Refusal>
-    ensures due { AnswersDue (first_refusal (naming_conditions name.now query.now catalog.now)) result }
-    ensures ok { IfOk result (λ bound. bound ≡ placed_query catalog.now query.now) }
-    ensures within { IfOk result (IsQueryWithin catalog.now) }
+fn bind_named(alloc: Global, catalog: &Catalog, name: &Name, query: Query) -> Result<Bound, Refusal>
+    ensures due { AnswersDue (first_refusal (naming_conditions name.now query catalog.now)) result }
+    ensures ok { IfOk result (λ bound. bound.query ≡ placed_query catalog.now query) }
+    ensures tables { IfOk result (λ bound. bound.tables ≡ places_in catalog.now query.from) }
+    ensures within { IfOk result (λ bound. IsQueryWithin catalog.now bound.query) }
     ensures free { OnOk result (first_refusal (standing_conditions name.now catalog.now) ≡ None) }
 {
     let taken = catalog.standing_refusal(name);

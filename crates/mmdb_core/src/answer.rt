@@ -70,7 +70,7 @@ fn answer_request<W: Write>(
     match request {
         Request::Nothing => Ok(false),
         Request::Change(change) => send(&database.execute(alloc, change), writer),
-        Request::Ask(question) => send_answer(database.ask(alloc, &question), writer),
+        Request::Ask(question) => send_answer(database.ask(alloc, question), writer),
     }
 }
 

@@ -1,2 +1,1 @@
-mod OneRow
 mod StillSample

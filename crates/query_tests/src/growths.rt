@@ -4,16 +4,39 @@
 //! A run refuses one growth, or that one and those behind it until a line is written, since some calls ask once more. Where it is in
 //! front of the call or behind it a test ends there: other runs refuse those of the call.
 //! A selection or a join is a part of the run of a plan that asks for it, and is tested with that.
+ghost use Rattle.std.specs.Prelude.{◌≤◌};
+
 mod lists;
 mod plans;
 mod runs;
 
+use mm_query::{Atom, BoundQuery, FieldPlace, ItemList};
 use mm_value::{Row, Value, compare};
+use std::alloc::{AllocError, Global};
 use std::io;
 
 /// Tells that a call was refused memory and is given again. A run that refuses growths looks for the line.
 fn asked_again(rt: &impl Print) -> io::Result<()> {
     rt.println("refused")
+}
+
+/// The query of two fields and these atoms.
+fn query_of<const N: usize>(
+    alloc: Global,
+    fields: [FieldPlace; 2],
+    atoms: [Atom<FieldPlace>; N],
+) -> Result<BoundQuery, AllocError>
+    requires { N ≤ 16 }
+{
+    let fields = fields.to_vec(alloc)?;
+    let atoms = Vec::from_array(alloc, atoms)?;
+    Ok(BoundQuery {
+        distinct: false,
+        fields: ItemList::new(fields),
+        from: ItemList::new(Vec::new(alloc)),
+        atoms: ItemList::new(atoms),
+        order: ItemList::new(Vec::new(alloc)),
+    })
 }
 
 /// Whether rows are these pairs of whole numbers, in this order.

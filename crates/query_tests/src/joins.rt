@@ -1,20 +1,18 @@
 //! Joins over references.
-ghost use Rattle.std.specs.Prelude.{ℕ, All};
+ghost use Rattle.std.specs.Prelude.{ℕ};
 ghost use Rattle.mm_join.specs.Equated.{IsJoin};
 ghost use Rattle.mm_join.specs.Joined.{IsNext};
-ghost use Rattle.mm_relation.specs.Kept.{StoredRows};
-ghost use Rattle.mm_store.specs.Tables.{IsAt};
-ghost use Rattle.mm_templist.specs.Combos.{AreLive};
+ghost use Rattle.mm_join.specs.Joins.{CanJoin};
 ghost use Rattle.query_tests.specs.Sample.{IsSample};
 
 use crate::assertions::{assert_same, assert_that};
-use crate::plans::{INNER_VALUE, OUTER_VALUE, equal};
+use crate::atoms::{INNER_VALUE, OUTER_VALUE, equal};
 use crate::samples::{Values, empty, sample};
-use mm_join::{JoinKey, Shift, hash_build, join_key, nested_loops, tree_merge};
+use mm_join::{Join, JoinKey, Shift, join_key};
 use mm_query::{Atom, Comparison, FieldPlace, Operand};
 use mm_schema::IndexKind;
-use mm_select::by_scan;
-use mm_store::{Meter, Store};
+use mm_select::{Access, select};
+use mm_store::Store;
 use mm_templist::{Descriptor, TempList};
 use mm_value::Refusal;
 use std::alloc::Global;
@@ -22,23 +20,17 @@ use std::process::Abort;
 use std::test::Fail;
 
 /// Joins a list of no combinations by nested loops, where memory is refused once at most.
-fn loops_over_none(
-    rt: &impl Abort,
-    alloc: Global,
-    store: &Store,
-    outer: &TempList,
-    of_both: Descriptor,
-) -> Result<(), Fail>
-    requires tables { (table : ℕ) × IsNext store.now outer.now.tables of_both.tables.now table }
-    requires live { All (AreLive store.now outer.now.tables) outer.now.combos }
+fn loops_over_none(rt: &impl Abort, alloc: Global, store: &Store, join: Join) -> Result<(), Fail>
+    requires { (table : ℕ) × CanJoin store.now join table }
 {
-    let mut meter = Meter::new();
-    let list = match nested_loops(alloc, store, &mut meter, outer, of_both, &[], 0) {
+    let mut view = store.view();
+    let list = match join.nested_loops(alloc, &mut view) {
         Ok(list) => list,
-        Err(_) => nested_loops(alloc, store, &mut meter, outer, of_both, &[], 0)?,
+        Err(_) => join.nested_loops(alloc, &mut view)?,
     };
     assert_same(rt, list.len(), 0);
     assert_same(rt, list.descriptor().tables, [0, 1].as_slice());
+    assert_same(rt, view.reads(), 0);
     Ok(())
 }
 
@@ -55,7 +47,13 @@ fn joins_a_list_of_no_combinations(rt: HostRuntime) -> Result<(), Fail> {
         fields: &[],
     };
     let outer = TempList::new(alloc, of_one);
-    loops_over_none(&rt, alloc, &store, &outer, of_both)
+    let join = Join {
+        outer: &outer,
+        descriptor: of_both,
+        atoms: &[],
+        cap: 0,
+    };
+    loops_over_none(&rt, alloc, &store, join)
 }
 
 /// Joins a list of no combinations by a hash table that is built, where memory is refused once at most.
@@ -63,22 +61,20 @@ fn builds_for_none(
     rt: &impl Abort,
     alloc: Global,
     store: &Store,
-    outer: &TempList,
-    of_both: Descriptor,
-    atoms: &[Atom<FieldPlace>],
+    join: Join,
     key: JoinKey,
 ) -> Result<(), Fail>
-    requires tables { (table : ℕ) × IsNext store.now outer.now.tables of_both.tables.now table }
-    requires live { All (AreLive store.now outer.now.tables) outer.now.combos }
-    requires asked { (table : ℕ) (stored : StoredRows) → IsNext store.now outer.now.tables of_both.tables.now table → IsAt store.now table stored
-        → IsJoin atoms.now outer.now.tables key }
+    requires next { (table : ℕ) × CanJoin store.now join table }
+    requires asked { (table : ℕ) → IsNext store.now join.outer.now.tables join.descriptor.tables.now table
+        → IsJoin join.atoms.now join.outer.now.tables key }
 {
-    let mut meter = Meter::new();
-    let list = match hash_build(alloc, store, &mut meter, outer, of_both, atoms, 0, key) {
+    let mut view = store.view();
+    let list = match join.built_hash(alloc, &mut view, key) {
         Ok(list) => list,
-        Err(_) => hash_build(alloc, store, &mut meter, outer, of_both, atoms, 0, key)?,
+        Err(_) => join.built_hash(alloc, &mut view, key)?,
     };
     assert_same(rt, list.len(), 0);
+    assert_same(rt, view.reads(), 0);
     Ok(())
 }
 
@@ -118,14 +114,19 @@ fn builds_a_hash_table_of_no_rows(rt: HostRuntime) -> Result<(), Fail> {
         shift,
     };
     assert_same(&rt, key, wanted);
-    builds_for_none(&rt, alloc, &store, &outer, of_both, &atoms, key)
+    let join = Join {
+        outer: &outer,
+        descriptor: of_both,
+        atoms: &atoms,
+        cap: 0,
+    };
+    builds_for_none(&rt, alloc, &store, join, key)
 }
 
 /// How many combinations a merge of two tables along the trees on their values gives under a cap.
 fn try_capped(rt: &impl Abort, alloc: Global, store: &Store, cap: u64) -> Result<usize, Refusal>
     requires { IsSample store.now }
 {
-    let atoms = [equal(INNER_VALUE, OUTER_VALUE, None)];
     let of_one = Descriptor {
         tables: &[0],
         fields: &[],
@@ -134,14 +135,19 @@ fn try_capped(rt: &impl Abort, alloc: Global, store: &Store, cap: u64) -> Result
         tables: &[0, 1],
         fields: &[],
     };
+    let mut view = store.view();
+    let atoms = [equal(INNER_VALUE, OUTER_VALUE)];
     let key = join_key(&atoms[0], 1).expect(rt, "a join equality");
-    let tree = store.table(1).index_of(key.column, IndexKind::Tree);
-    let tree = Some(tree.expect(rt, "a tree on the values"));
-    let mut meter = Meter::new();
-    let outer = by_scan(alloc, store, &mut meter, of_one, &atoms)?;
-    let list = tree_merge(
-        alloc, store, &mut meter, &outer, of_both, &atoms, cap, tree, key,
-    )?;
+    let tree = view.tree_on(1, key.column);
+    let tree = tree.expect(rt, "a tree on the values");
+    let outer = select(alloc, &mut view, of_one, &atoms, Access::Scan)?;
+    let join = Join {
+        outer: &outer,
+        descriptor: of_both,
+        atoms: &atoms,
+        cap,
+    };
+    let list = join.tree_merge(alloc, &mut view, tree, key)?;
     Ok(list.len())
 }
 

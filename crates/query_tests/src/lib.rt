@@ -6,6 +6,8 @@
 #[cfg(test)]
 mod assertions;
 #[cfg(test)]
+mod atoms;
+#[cfg(test)]
 mod growths;
 #[cfg(test)]
 mod joins;
@@ -13,8 +15,6 @@ mod joins;
 mod pair;
 #[cfg(test)]
 mod plan_runs;
-#[cfg(test)]
-mod plans;
 #[cfg(test)]
 mod result_lists;
 #[cfg(test)]

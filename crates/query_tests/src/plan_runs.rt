@@ -1,16 +1,16 @@
-//! Queries run by the lines of a plan: that they go by its methods, which the number of rows that are read tells.
+//! Queries run by their plans: that these have the steps that the rules give, and how many rows are read along them.
 ghost use Rattle.std.specs.Prelude.{◌<◌, ◌≤◌, length, All};
 ghost use Rattle.query_tests.specs.Sample.{IsSample};
 
-use crate::assertions::{assert_same, assert_that};
-use crate::plans::{
-    INNER_KEY, INNER_VALUE, Method, OUTER_KEY, OUTER_VALUE, compared, equal, is_seven, line, lines,
+use crate::assertions::assert_same;
+use crate::atoms::{
+    INNER_KEY, INNER_VALUE, OUTER_KEY, OUTER_VALUE, compared, equal, equal_sum, is_seven, stands,
 };
 use crate::samples::{Values, sample};
-use mm_plan::run_plan;
-use mm_query::{Atom, BoundQuery, Comparison, FieldPlace, ItemList, PlanLine};
+use mm_plan::{Step, plan_steps, run_plan};
+use mm_query::{Atom, BoundQuery, Comparison, FieldPlace, ItemList};
 use mm_schema::IndexKind;
-use mm_store::{Meter, Store};
+use mm_store::{IndexRef, Store};
 use mm_value::Refusal;
 use std::alloc::{AllocError, Global};
 use std::process::Abort;
@@ -39,20 +39,36 @@ fn query_of<const N: usize>(
     })
 }
 
-/// How many combinations of rows of these tables are in the answer of a query, and how many rows are read to find them by a plan.
+/// What came of a query.
+#[derive(Drop)]
+struct Ran {
+    /// The steps of its plan.
+    steps: Vec<Step>,
+    /// How many combinations of rows are in its answer.
+    found: usize,
+    /// How many rows were read to find them.
+    reads: u64,
+}
+
+/// Runs a query over these tables by its plan.
 fn run_once(
     alloc: Global,
     store: &Store,
     tables: &[usize],
     query: &BoundQuery,
-    plan: &[PlanLine],
-) -> Result<(usize, u64), Refusal>
+) -> Result<Ran, Refusal>
     requires there { All (λ table. table < length store.now.tables) tables.now }
     requires few { length tables.now ≤ 4 }
 {
-    let mut meter = Meter::new();
-    let list = run_plan(alloc, store, &mut meter, query, tables, plan)?;
-    Ok((list.len(), meter.reads()))
+    let mut view = store.view();
+    let steps = plan_steps(alloc, &view, query, tables)?;
+    let list = run_plan(alloc, &mut view, query, tables, steps.as_slice())?;
+    let (found, reads) = (list.len(), view.reads());
+    Ok(Ran {
+        steps,
+        found,
+        reads,
+    })
 }
 
 /// The same where memory is refused once at most.
@@ -61,324 +77,420 @@ fn run_again(
     store: &Store,
     tables: &[usize],
     query: &BoundQuery,
-    plan: &[PlanLine],
-) -> Result<(usize, u64), Refusal>
+) -> Result<Ran, Refusal>
     requires there { All (λ table. table < length store.now.tables) tables.now }
     requires few { length tables.now ≤ 4 }
 {
-    match run_once(alloc, store, tables, query, plan) {
-        Ok(done) => Ok(done),
-        Err(_) => run_once(alloc, store, tables, query, plan),
+    match run_once(alloc, store, tables, query) {
+        Ok(ran) => Ok(ran),
+        Err(_) => run_once(alloc, store, tables, query),
     }
 }
 
-/// How many combinations of rows of these tables fit the tests, and how many rows are read to find them by a plan, where memory is
-/// refused once at most.
-fn run<const N: usize>(
+/// What is to come of a query.
+#[derive(Clone, Copy)]
+struct Wanted<'a> {
+    /// The places of its tables in the store.
+    tables: &'a [usize],
+    steps: &'a [Step],
+    found: usize,
+    reads: u64,
+}
+
+/// Asks for the combinations of rows that fit the tests, where memory is refused once at most, and ends the test unless all comes as it
+/// is wanted.
+fn runs<const N: usize>(
+    rt: &impl Abort,
     alloc: Global,
     store: &Store,
-    tables: &[usize],
     tests: [Atom<FieldPlace>; N],
-    plan: &[PlanLine],
-) -> Result<(usize, u64), Refusal>
-    requires there { All (λ table. table < length store.now.tables) tables.now }
-    requires few { length tables.now ≤ 4 }
+    wanted: Wanted,
+) -> Result<(), Fail>
+    requires there { All (λ table. table < length store.now.tables) wanted.tables.now }
+    requires few { length wanted.tables.now ≤ 4 }
     requires tests { N ≤ 16 }
 {
     let query = query_of(alloc, tests)?;
-    run_again(alloc, store, tables, &query, plan)
-}
-
-/// What is found and read where the rows of one table that fit a test are selected by a method.
-fn run_selection(
-    alloc: Global,
-    store: &Store,
-    method: Method,
-    test: Atom<FieldPlace>,
-) -> Result<(usize, u64), Fail>
-    requires { IsSample store.now }
-{
-    let plan = [line(method)?];
-    Ok(run(alloc, store, &[0], [test], &plan)?)
-}
-
-/// What is found and read where the rows of two tables that fit a test are joined by a method.
-fn run_two(
-    alloc: Global,
-    store: &Store,
-    method: Method,
-    test: Atom<FieldPlace>,
-) -> Result<(usize, u64), Fail>
-    requires { IsSample store.now }
-{
-    let plan = lines(Method::Scan, method)?;
-    Ok(run(alloc, store, &[0, 1], [test], &plan)?)
-}
-
-/// What is found and read where the row of key 7 is joined by a method with the one of value 7.
-fn run_join(alloc: Global, kind: IndexKind, method: Method) -> Result<(usize, u64), Fail> {
-    let plan = lines(Method::TreeEqual, method)?;
-    let store = sample(alloc, kind, [1000, 1000], Values::Keys)?;
-    let tests = [is_seven(), equal(INNER_VALUE, OUTER_KEY, None)];
-    Ok(run(alloc, &store, &[0, 0], tests, &plan)?)
-}
-
-/// What is found and read where each row of a table is joined by a method with the one of another table that has its value. The
-/// values are in another order than the keys, so a merge has to go along both tables by the values.
-fn run_all(alloc: Global, kind: IndexKind, method: Method) -> Result<(usize, u64), Fail> {
-    let store = sample(alloc, kind, [1000, 1000], Values::Falling)?;
-    run_two(alloc, &store, method, equal(INNER_VALUE, OUTER_VALUE, None))
-}
-
-/// What is found and read where the row of key 7 is joined by a method and a test with others, of which those of one key are kept.
-fn run_shifted(
-    alloc: Global,
-    store: &Store,
-    method: Method,
-    test: Atom<FieldPlace>,
-    key: i64,
-) -> Result<(usize, u64), Fail>
-    requires { IsSample store.now }
-{
-    let plan = lines(Method::TreeEqual, method)?;
-    let is_kept = compared(INNER_KEY, Comparison::Equal, key);
-    Ok(run(alloc, store, &[0, 0], [is_seven(), test, is_kept], &plan)?)
-}
-
-/// How many rows are read along a range for those of a value below 5 and a key of at least 10.
-fn range_reads(alloc: Global, kind: IndexKind) -> Result<u64, Fail> {
-    let store = sample(alloc, kind, [1000, 1000], Values::Keys)?;
-    let value = compared(OUTER_VALUE, Comparison::Less, 5);
-    let key = compared(OUTER_KEY, Comparison::GreaterOrEqual, 10);
-    let plan = [line(Method::TreeRange)?];
-    let (_, reads) = run(alloc, &store, &[0], [value, key], &plan)?;
-    Ok(reads)
-}
-
-/// Selects the one row of a number by each kind of line.
-fn select_seven(rt: &impl Abort, alloc: Global, store: &Store) -> Result<(), Fail>
-    requires { IsSample store.now }
-{
-    let value = compared(OUTER_VALUE, Comparison::Equal, 7);
-    let (found, reads) = run_selection(alloc, store, Method::Hash, value)?;
-    assert_same(rt, found, 1);
-    assert_that(rt, reads <= 2);
-
-    let (found, reads) = run_selection(alloc, store, Method::TreeEqual, is_seven())?;
-    assert_same(rt, found, 1);
-    assert_that(rt, reads <= 2);
-
-    let (found, reads) = run_selection(alloc, store, Method::Scan, is_seven())?;
-    assert_same(rt, found, 1);
-    assert_same(rt, reads, 1000);
+    let ran = run_again(alloc, store, wanted.tables, &query)?;
+    assert_same(rt, ran.steps.as_slice(), wanted.steps);
+    assert_same(rt, ran.found, wanted.found);
+    assert_same(rt, ran.reads, wanted.reads);
     Ok(())
+}
+
+/// The same over a sample made for it.
+fn runs_over<const N: usize>(
+    rt: &(impl Abort + AllocGlobal),
+    kind: IndexKind,
+    counts: [u32; 2],
+    values: Values,
+    tests: [Atom<FieldPlace>; N],
+    wanted: Wanted,
+) -> Result<(), Fail>
+    requires there { All (λ table. table < 2) wanted.tables.now }
+    requires few { length wanted.tables.now ≤ 4 }
+    requires tests { N ≤ 16 }
+{
+    let store = sample(rt.alloc(), kind, counts, values)?;
+    runs(rt, rt.alloc(), &store, tests, wanted)
+}
+
+/// The step to the row of key 7, for which the first atom asks.
+const TO_SEVEN: Step = Step::LookUp {
+    index: IndexRef::Key,
+    atom: 0,
+};
+
+/// The first index of a sample that is no tree.
+const HASH: IndexRef = IndexRef::Hash(0);
+
+/// The first tree of a sample beside that on the key.
+const TREE: IndexRef = IndexRef::Tree(0);
+
+#[test]
+fn look_ups_read_no_row(rt: HostRuntime) -> Result<(), Fail> {
+    let by_hash = Wanted {
+        tables: &[0],
+        steps: &[Step::LookUp {
+            index: HASH,
+            atom: 0,
+        }],
+        found: 1,
+        reads: 0,
+    };
+    let value = compared(OUTER_VALUE, Comparison::Equal, 7);
+    let (kind, counts, values) = (IndexKind::Hash, [1000, 0], Values::Keys);
+    runs_over(&rt, kind, counts, values, [value], by_hash)?;
+
+    let by_key = Wanted {
+        steps: &[TO_SEVEN],
+        ..by_hash
+    };
+    runs_over(&rt, kind, counts, values, [is_seven()], by_key)
 }
 
 #[test]
-fn selections_go_by_their_lines(rt: HostRuntime) -> Result<(), Fail> {
-    let alloc = rt.alloc();
-    let store = sample(alloc, IndexKind::Hash, [1000, 1000], Values::Keys)?;
-    select_seven(&rt, alloc, &store)
+fn look_up_reads_a_row_for_a_further_atom(rt: HostRuntime) -> Result<(), Fail> {
+    let wanted = Wanted {
+        tables: &[0],
+        steps: &[TO_SEVEN],
+        found: 0,
+        reads: 1,
+    };
+    let tests = [is_seven(), compared(OUTER_VALUE, Comparison::Less, 7)];
+    runs_over(&rt, IndexKind::Hash, [1000, 0], Values::Keys, tests, wanted)
 }
 
-/// What is found and read along a range of keys that has two ends.
-fn run_between(alloc: Global, store: &Store) -> Result<(usize, u64), Fail>
-    requires { IsSample store.now }
-{
-    let plan = [line(Method::TreeRange)?];
-    let low = compared(OUTER_KEY, Comparison::Greater, 990);
-    let high = compared(OUTER_KEY, Comparison::LessOrEqual, 995);
-    Ok(run(alloc, store, &[0], [low, high], &plan)?)
+#[test]
+fn scan_reads_each_row_for_an_atom(rt: HostRuntime) -> Result<(), Fail> {
+    let wanted = Wanted {
+        tables: &[0],
+        steps: &[Step::Scan],
+        found: 6,
+        reads: 1000,
+    };
+    let (kind, counts, values) = (IndexKind::Hash, [1000, 0], Values::Keys);
+    let test = compared(OUTER_VALUE, Comparison::Less, 7);
+    runs_over(&rt, kind, counts, values, [test], wanted)?;
+
+    let of_all = Wanted {
+        found: 1000,
+        reads: 0,
+        ..wanted
+    };
+    runs_over(&rt, kind, counts, values, [], of_all)
 }
 
-/// Selects the rows of two ranges of keys, of which one has no lower end.
+/// Selects the keys of a range, whose rows are looked at unless their ends tell that all of them fit.
 fn select_ranges(rt: &impl Abort, alloc: Global, store: &Store) -> Result<(), Fail>
     requires { IsSample store.now }
 {
-    let (found, reads) = run_between(alloc, store)?;
-    assert_same(rt, found, 5);
-    assert_that(rt, reads <= 7);
+    let included = Wanted {
+        tables: &[0],
+        steps: &[Step::Range {
+            index: IndexRef::Key,
+            atom: 0,
+        }],
+        found: 6,
+        reads: 0,
+    };
+    let low = compared(OUTER_KEY, Comparison::GreaterOrEqual, 990);
+    let high = compared(OUTER_KEY, Comparison::LessOrEqual, 995);
+    runs(rt, alloc, store, [low, high], included)?;
+
+    let low = compared(OUTER_KEY, Comparison::Greater, 990);
+    let high = compared(OUTER_KEY, Comparison::LessOrEqual, 995);
+    let without_low = Wanted {
+        found: 5,
+        reads: 6,
+        ..included
+    };
+    runs(rt, alloc, store, [low, high], without_low)?;
 
     let high = compared(OUTER_KEY, Comparison::Less, 5);
-    let (found, reads) = run_selection(alloc, store, Method::TreeRange, high)?;
-    assert_same(rt, found, 4);
-    assert_that(rt, reads <= 6);
-    Ok(())
+    let below_high = Wanted {
+        found: 4,
+        reads: 5,
+        ..included
+    };
+    runs(rt, alloc, store, [high], below_high)
 }
 
 #[test]
 fn ranges_read_few_rows(rt: HostRuntime) -> Result<(), Fail> {
     let alloc = rt.alloc();
-    let store = sample(alloc, IndexKind::Hash, [1000, 1000], Values::Keys)?;
+    let store = sample(alloc, IndexKind::Hash, [1000, 0], Values::Keys)?;
     select_ranges(&rt, alloc, &store)
 }
 
+/// The atoms that ask for a value below 5 and a key of at least 10.
+fn two_bounds() -> [Atom<FieldPlace>; 2] {
+    [
+        compared(OUTER_VALUE, Comparison::Less, 5),
+        compared(OUTER_KEY, Comparison::GreaterOrEqual, 10),
+    ]
+}
+
 #[test]
-fn first_atom_that_fits_a_line_is_taken(rt: HostRuntime) -> Result<(), Fail> {
+fn first_atom_that_fits_a_rule_is_taken(rt: HostRuntime) -> Result<(), Fail> {
     // The values have no tree, so the range is one of keys, from 10 to 1,000.
-    assert_same(&rt, range_reads(rt.alloc(), IndexKind::Hash)?, 991);
+    let of_keys = Wanted {
+        tables: &[0],
+        steps: &[Step::Range {
+            index: IndexRef::Key,
+            atom: 1,
+        }],
+        found: 0,
+        reads: 991,
+    };
+    let (counts, values) = ([1000, 0], Values::Keys);
+    runs_over(&rt, IndexKind::Hash, counts, values, two_bounds(), of_keys)?;
+
     // Both columns have one, so the range is one of values, which come first.
-    assert_that(&rt, range_reads(rt.alloc(), IndexKind::Tree)? <= 6);
-    Ok(())
+    let of_values = Wanted {
+        steps: &[Step::Range {
+            index: TREE,
+            atom: 0,
+        }],
+        reads: 5,
+        ..of_keys
+    };
+    runs_over(
+        &rt,
+        IndexKind::Tree,
+        counts,
+        values,
+        two_bounds(),
+        of_values,
+    )
+}
+
+/// The look-ups in an index of these joins: the table with fewer rows comes first, so that a tree on the values is searched.
+fn joined_by(kind: IndexKind) -> [Step; 2] {
+    let join = match kind {
+        IndexKind::Hash => Step::HashJoin {
+            index: HASH,
+            atom: 1,
+        },
+        IndexKind::Tree => Step::TreeJoin {
+            index: TREE,
+            atom: 1,
+        },
+    };
+    [TO_SEVEN, join]
+}
+
+/// Joins the row of key 7 of a table of 10 rows by an index of this kind with those of another table whose values fit a test.
+fn join_seven(
+    rt: &(impl Abort + AllocGlobal),
+    kind: IndexKind,
+    test: Atom<FieldPlace>,
+    found: usize,
+    reads: u64,
+) -> Result<(), Fail> {
+    let steps = joined_by(kind);
+    let wanted = Wanted {
+        tables: &[1, 0],
+        steps: &steps,
+        found,
+        reads,
+    };
+    runs_over(
+        rt,
+        kind,
+        [1000, 10],
+        Values::Keys,
+        [is_seven(), test],
+        wanted,
+    )
 }
 
 #[test]
-fn hash_join_reads_few_rows(rt: HostRuntime) -> Result<(), Fail> {
-    let (found, reads) = run_join(rt.alloc(), IndexKind::Hash, Method::HashJoin)?;
-    assert_same(&rt, found, 1);
-    assert_that(&rt, reads <= 10);
-    Ok(())
+fn look_up_joins_read_both_rows(rt: HostRuntime) -> Result<(), Fail> {
+    join_seven(&rt, IndexKind::Hash, equal(INNER_VALUE, OUTER_KEY), 1, 2)?;
+    join_seven(&rt, IndexKind::Tree, equal(INNER_VALUE, OUTER_KEY), 1, 2)
+}
+
+/// Joins the row of key 7 by an index of this kind with those whose values are a sum and a difference.
+fn join_shifted(rt: &(impl Abort + AllocGlobal), kind: IndexKind) -> Result<(), Fail> {
+    join_seven(rt, kind, equal_sum(INNER_VALUE, OUTER_KEY, 3), 1, 2)?;
+    join_seven(rt, kind, equal_sum(OUTER_KEY, INNER_VALUE, 3), 1, 2)
 }
 
 #[test]
-fn tree_join_reads_few_rows(rt: HostRuntime) -> Result<(), Fail> {
-    let (found, reads) = run_join(rt.alloc(), IndexKind::Tree, Method::TreeJoin)?;
-    assert_same(&rt, found, 1);
-    assert_that(&rt, reads <= 10);
-    Ok(())
+fn shifted_joins_read_both_rows(rt: HostRuntime) -> Result<(), Fail> {
+    join_shifted(&rt, IndexKind::Hash)?;
+    join_shifted(&rt, IndexKind::Tree)
 }
 
 #[test]
-fn built_hash_reads_each_row_a_few_times(rt: HostRuntime) -> Result<(), Fail> {
-    let (found, reads) = run_join(rt.alloc(), IndexKind::Tree, Method::BuiltHash)?;
-    assert_same(&rt, found, 1);
-    assert_that(&rt, reads <= 1010);
+fn shift_past_64_bits_reads_no_row_of_the_inner_table(rt: HostRuntime) -> Result<(), Fail> {
+    let past = equal_sum(INNER_VALUE, OUTER_KEY, i64::MAX);
+    join_seven(&rt, IndexKind::Hash, past, 0, 1)?;
+    let past = equal_sum(INNER_VALUE, OUTER_KEY, i64::MAX);
+    join_seven(&rt, IndexKind::Tree, past, 0, 1)
+}
 
-    let (found, reads) = run_all(rt.alloc(), IndexKind::Tree, Method::BuiltHash)?;
-    assert_same(&rt, found, 1000);
-    assert_that(&rt, reads <= 3000);
-    Ok(())
+#[test]
+fn built_hash_reads_each_row_once_to_build(rt: HostRuntime) -> Result<(), Fail> {
+    let of_one = Wanted {
+        tables: &[0, 0],
+        steps: &[TO_SEVEN, Step::BuiltHash { atom: 1 }],
+        found: 1,
+        reads: 1002,
+    };
+    let tests = [is_seven(), equal(INNER_VALUE, OUTER_KEY)];
+    runs_over(&rt, IndexKind::Tree, [1000, 0], Values::Keys, tests, of_one)?;
+
+    let of_all = Wanted {
+        tables: &[0, 1],
+        steps: &[Step::Scan, Step::BuiltHash { atom: 0 }],
+        found: 1000,
+        reads: 3000,
+    };
+    let test = equal(INNER_KEY, OUTER_VALUE);
+    let counts = [1000, 1000];
+    runs_over(
+        &rt,
+        IndexKind::Hash,
+        counts,
+        Values::Falling,
+        [test],
+        of_all,
+    )
+}
+
+/// The atoms that ask the value of the second table to be a column of the first one, neither of them a join equality.
+fn bounded_by(column: FieldPlace) -> [Atom<FieldPlace>; 2] {
+    [
+        stands(INNER_VALUE, Comparison::LessOrEqual, column),
+        stands(INNER_VALUE, Comparison::GreaterOrEqual, column),
+    ]
 }
 
 #[test]
 fn nested_loops_read_each_pair(rt: HostRuntime) -> Result<(), Fail> {
-    let (found, reads) = run_join(rt.alloc(), IndexKind::Tree, Method::NestedLoops)?;
-    assert_same(&rt, found, 1);
-    assert_that(&rt, reads > 1000);
+    let of_one = Wanted {
+        tables: &[0, 0],
+        steps: &[TO_SEVEN, Step::NestedLoops],
+        found: 1,
+        reads: 1001,
+    };
+    let [low, high] = bounded_by(OUTER_KEY);
+    let tests = [is_seven(), low, high];
+    runs_over(&rt, IndexKind::Tree, [1000, 0], Values::Keys, tests, of_one)?;
 
-    let (found, reads) = run_all(rt.alloc(), IndexKind::Tree, Method::NestedLoops)?;
-    assert_same(&rt, found, 1000);
-    assert_that(&rt, reads > 1_000_000);
-    Ok(())
-}
-
-/// What is found and read where the row of key 7 is joined with the one that its value refers to.
-fn run_precomputed(alloc: Global) -> Result<(usize, u64), Fail> {
-    let plan = lines(Method::TreeEqual, Method::Precomputed)?;
-    let store = sample(alloc, IndexKind::Hash, [1000, 1000], Values::Keys)?;
-    let tests = [is_seven(), equal(INNER_KEY, OUTER_VALUE, None)];
-    Ok(run(alloc, &store, &[1, 0], tests, &plan)?)
-}
-
-#[test]
-fn precomputed_join_reads_few_rows(rt: HostRuntime) -> Result<(), Fail> {
-    let (found, reads) = run_precomputed(rt.alloc())?;
-    assert_same(&rt, found, 1);
-    assert_that(&rt, reads <= 10);
-    Ok(())
+    let of_all = Wanted {
+        tables: &[0, 1],
+        steps: &[Step::Scan, Step::NestedLoops],
+        found: 100,
+        reads: 10_100,
+    };
+    let tests = bounded_by(OUTER_VALUE);
+    let counts = [100, 100];
+    runs_over(&rt, IndexKind::Tree, counts, Values::Falling, tests, of_all)
 }
 
 #[test]
-fn merge_reads_each_row_a_few_times(rt: HostRuntime) -> Result<(), Fail> {
-    let (found, reads) = run_all(rt.alloc(), IndexKind::Tree, Method::TreeMerge)?;
-    assert_same(&rt, found, 1000);
-    assert_that(&rt, reads <= 4000);
-    Ok(())
+fn precomputed_join_reads_both_rows(rt: HostRuntime) -> Result<(), Fail> {
+    let wanted = Wanted {
+        tables: &[1, 0],
+        steps: &[TO_SEVEN, Step::Precomputed { atom: 1 }],
+        found: 1,
+        reads: 2,
+    };
+    let tests = [is_seven(), equal(INNER_KEY, OUTER_VALUE)];
+    let counts = [1000, 1000];
+    runs_over(&rt, IndexKind::Hash, counts, Values::Keys, tests, wanted)
 }
 
-/// Merges two tables, of which the second has few rows, by the two ways to write the equality of their values.
-fn merge_with_few(rt: &impl Abort, alloc: Global, store: &Store) -> Result<(), Fail>
-    requires { IsSample store.now }
+/// The steps of a merge along the trees on the values.
+const MERGE: [Step; 2] = [
+    Step::Scan,
+    Step::TreeMerge {
+        outer: TREE,
+        inner: TREE,
+        atom: 0,
+    },
+];
+
+#[test]
+fn merge_reads_each_pair_that_fits(rt: HostRuntime) -> Result<(), Fail> {
+    // The values are in another order than the keys, so a merge has to go along both tables by the values.
+    let wanted = Wanted {
+        tables: &[0, 1],
+        steps: &MERGE,
+        found: 1000,
+        reads: 2000,
+    };
+    let test = equal(INNER_VALUE, OUTER_VALUE);
+    let counts = [1000, 1000];
+    runs_over(
+        &rt,
+        IndexKind::Tree,
+        counts,
+        Values::Falling,
+        [test],
+        wanted,
+    )
+}
+
+/// Merges a table of 1,000 rows and one of 10, in this order or the other one, by a test that each row of the second meets with one
+/// of the first.
+fn merge_with_few(
+    rt: &(impl Abort + AllocGlobal),
+    tables: [usize; 2],
+    test: Atom<FieldPlace>,
+) -> Result<(), Fail>
+    requires { All (λ table. table < 2) tables }
 {
-    let test = equal(INNER_VALUE, OUTER_VALUE, None);
-    let (found, reads) = run_two(alloc, store, Method::TreeMerge, test)?;
-    assert_same(rt, found, 10);
-    assert_that(rt, reads <= 40);
+    let wanted = Wanted {
+        tables: &tables,
+        steps: &MERGE,
+        found: 10,
+        reads: 20,
+    };
+    let counts = [1000, 10];
+    runs_over(rt, IndexKind::Tree, counts, Values::Keys, [test], wanted)
+}
+
+#[test]
+fn merge_reads_no_row_without_partner(rt: HostRuntime) -> Result<(), Fail> {
+    merge_with_few(&rt, [0, 1], equal(INNER_VALUE, OUTER_VALUE))?;
+    merge_with_few(&rt, [1, 0], equal(INNER_VALUE, OUTER_VALUE))?;
 
     // The same with the equality written the other way round.
-    let test = equal(OUTER_VALUE, INNER_VALUE, None);
-    let (found, reads) = run_two(alloc, store, Method::TreeMerge, test)?;
-    assert_same(rt, found, 10);
-    assert_that(rt, reads <= 40);
-    Ok(())
-}
-
-#[test]
-fn merge_passes_over_rows_without_partners(rt: HostRuntime) -> Result<(), Fail> {
-    let alloc = rt.alloc();
-    let store = sample(alloc, IndexKind::Tree, [1000, 10], Values::Keys)?;
-    merge_with_few(&rt, alloc, &store)
+    merge_with_few(&rt, [0, 1], equal(OUTER_VALUE, INNER_VALUE))
 }
 
 #[test]
 fn merge_pairs_all_rows_of_one_value(rt: HostRuntime) -> Result<(), Fail> {
-    let alloc = rt.alloc();
-    let store = sample(alloc, IndexKind::Tree, [3, 2], Values::Ones)?;
-    let test = equal(INNER_VALUE, OUTER_VALUE, None);
-    let (found, _) = run_two(alloc, &store, Method::TreeMerge, test)?;
-    assert_same(&rt, found, 6);
-    Ok(())
-}
-
-/// Joins the row of key 7 by a method with those whose values are a sum and a difference.
-fn join_sum_and_difference(
-    rt: &impl Abort,
-    alloc: Global,
-    store: &Store,
-    method: Method,
-) -> Result<(), Fail>
-    requires { IsSample store.now }
-{
-    let sum = equal(INNER_VALUE, OUTER_KEY, Some(3));
-    let (found, reads) = run_shifted(alloc, store, method, sum, 10)?;
-    assert_same(rt, found, 1);
-    assert_that(rt, reads <= 10);
-
-    let difference = equal(OUTER_KEY, INNER_VALUE, Some(3));
-    let (found, reads) = run_shifted(alloc, store, method, difference, 4)?;
-    assert_same(rt, found, 1);
-    assert_that(rt, reads <= 10);
-    Ok(())
-}
-
-/// The same in a sample whose values have an index of this kind.
-fn join_shifted(
-    rt: &impl Abort,
-    alloc: Global,
-    kind: IndexKind,
-    method: Method,
-) -> Result<(), Fail> {
-    let store = sample(alloc, kind, [1000, 1000], Values::Keys)?;
-    join_sum_and_difference(rt, alloc, &store, method)
-}
-
-#[test]
-fn shifted_joins_read_few_rows(rt: HostRuntime) -> Result<(), Fail> {
-    join_shifted(&rt, rt.alloc(), IndexKind::Hash, Method::HashJoin)?;
-    join_shifted(&rt, rt.alloc(), IndexKind::Tree, Method::TreeJoin)
-}
-
-/// How many rows are found whose value is the key 7 and a number that takes it past 64 bits.
-fn found_past_64_bits(alloc: Global, kind: IndexKind, method: Method) -> Result<usize, Fail> {
-    let plan = lines(Method::TreeEqual, method)?;
-    let store = sample(alloc, kind, [1000, 1000], Values::Keys)?;
-    let tests = [is_seven(), equal(INNER_VALUE, OUTER_KEY, Some(i64::MAX))];
-    let (found, _) = run(alloc, &store, &[0, 0], tests, &plan)?;
-    Ok(found)
-}
-
-#[test]
-fn shift_past_64_bits_finds_none(rt: HostRuntime) -> Result<(), Fail> {
-    let alloc = rt.alloc();
-    assert_same(
-        &rt,
-        found_past_64_bits(alloc, IndexKind::Hash, Method::HashJoin)?,
-        0,
-    );
-    assert_same(
-        &rt,
-        found_past_64_bits(alloc, IndexKind::Tree, Method::TreeJoin)?,
-        0,
-    );
-    Ok(())
+    let wanted = Wanted {
+        tables: &[0, 1],
+        steps: &MERGE,
+        found: 6,
+        reads: 9,
+    };
+    let test = equal(INNER_VALUE, OUTER_VALUE);
+    runs_over(&rt, IndexKind::Tree, [3, 2], Values::Ones, [test], wanted)
 }

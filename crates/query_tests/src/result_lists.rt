@@ -1,15 +1,17 @@
 //! Temporary lists and the rows of results.
-ghost use Rattle.std.specs.Prelude.{◌≡◌, ◌+◌, ◌++◌, ◌∷◌, ◌<◌, [], length, pos, All, IfOk, OnErr, OnOk};
+ghost use Rattle.std.specs.Prelude.{◌≡◌, ◌+◌, ◌++◌, ◌∷◌, [], length, pos, All, IfOk, OnErr, OnOk};
 ghost use Rattle.mm_value.specs.declared.values.Value.TheVariants.{Int};
 ghost use Rattle.mm_templist.specs.Combos.{AreLive};
-ghost use Rattle.mm_templist.specs.Results.{HasValue, result_rows};
+ghost use Rattle.mm_templist.specs.Results.{result_rows};
 ghost use Rattle.query_tests.specs.Sample.{IsSample};
 
 use crate::assertions::{assert_same, assert_that};
+use crate::atoms::OUTER_VALUE;
 use crate::samples::{Values, sample};
 use mm_query::FieldPlace;
 use mm_schema::IndexKind;
-use mm_store::{Meter, Store};
+use mm_select::{Access, select};
+use mm_store::{Store, View};
 use mm_templist::{Descriptor, ShownRows, TempList};
 use mm_value::{Refusal, RowRef, Value, compare};
 use std::alloc::{AllocError, Global};
@@ -29,21 +31,21 @@ fn push(list: &mut TempList, front: &[RowRef], at: RowRef) -> Result<(), AllocEr
 }
 
 /// The rows of a result in the order of the first column, for which memory may be refused once.
-fn show<'s>(
+fn show<'s, 'v: 's>(
     list: &TempList,
     alloc: Global,
-    store: &'s Store,
-    meter: &mut Meter,
+    view: &mut View<'v>,
     distinct: bool,
     zero: &'s Value,
 ) -> Result<ShownRows<'s>, AllocError>
-    requires live { All (AreLive store.now list.now.tables) list.now.combos }
+    requires live { All (AreLive view.old.store list.now.tables) list.now.combos }
     requires zero { zero.now ≡ Int (pos 0) }
-    ensures ok { IfOk result (λ rows. rows ≡ result_rows store.now list.now distinct (0 ∷ [])) }
+    ensures ok { IfOk result (λ rows. rows ≡ result_rows view.old.store list.now distinct (0 ∷ [])) }
+    ensures same { view.new.store ≡ view.old.store }
 {
-    match list.shown(alloc, store, meter, distinct, &[0], zero) {
+    match list.shown(alloc, view, distinct, &[0], zero) {
         Ok(shown) => Ok(shown),
-        Err(_) => list.shown(alloc, store, meter, distinct, &[0], zero),
+        Err(_) => list.shown(alloc, view, distinct, &[0], zero),
     }
 }
 
@@ -88,17 +90,13 @@ fn keeps_combinations_in_their_order(rt: HostRuntime) -> Result<(), Fail> {
 }
 
 /// How many rows of the result are copied, for which memory may be refused once.
-fn copied(
-    list: &TempList,
-    alloc: Global,
-    store: &Store,
-    meter: &mut Meter,
-) -> Result<usize, Refusal>
-    requires { All (AreLive store.now list.now.tables) list.now.combos }
+fn copied(list: &TempList, alloc: Global, view: &mut View<'_>) -> Result<usize, Refusal>
+    requires live { All (AreLive view.old.store list.now.tables) list.now.combos }
+    ensures same { view.new.store ≡ view.old.store }
 {
-    let rows = match list.project_sorted(alloc, store, meter, true, &[0]) {
+    let rows = match list.project_sorted(alloc, view, true, &[0]) {
         Ok(rows) => rows,
-        Err(_) => list.project_sorted(alloc, store, meter, true, &[0])?,
+        Err(_) => list.project_sorted(alloc, view, true, &[0])?,
     };
     Ok(rows.len())
 }
@@ -107,12 +105,12 @@ fn copied(
 fn shows_none(rt: &impl Abort, list: &TempList, alloc: Global, store: &Store) -> Result<(), Fail>
     requires { All (AreLive store.now list.now.tables) list.now.combos }
 {
-    let mut meter = Meter::new();
-    assert_same(rt, copied(list, alloc, store, &mut meter)?, 0);
     let zero = Value::Int(0);
-    let shown = show(list, alloc, store, &mut meter, true, &zero)?;
+    let mut view = store.view();
+    assert_same(rt, copied(list, alloc, &mut view)?, 0);
+    let shown = show(list, alloc, &mut view, true, &zero)?;
     assert_same(rt, shown.len(), 0);
-    assert_same(rt, meter.reads(), 0);
+    assert_same(rt, view.reads(), 0);
     Ok(())
 }
 
@@ -132,13 +130,14 @@ fn shows_no_rows_of_no_combinations(rt: HostRuntime) -> Result<(), Fail> {
 fn shows_0(rt: &impl Abort, list: &TempList, alloc: Global, store: &Store) -> Result<(), Fail>
     requires { All (AreLive store.now list.now.tables) list.now.combos }
 {
-    let mut meter = Meter::new();
     let zero = Value::Int(0);
-    let shown = show(list, alloc, store, &mut meter, false, &zero)?;
+    let mut view = store.view();
+    let shown = show(list, alloc, &mut view, false, &zero)?;
     assert_same(rt, shown.len(), 1);
     let row = shown.row(0);
     assert_same(rt, row.len(), 1);
     assert_that(rt, compare(row[0], &zero).is_eq());
+    assert_same(rt, view.reads(), 0);
     Ok(())
 }
 
@@ -154,48 +153,54 @@ fn shows_0_where_no_row_is_there(rt: HostRuntime) -> Result<(), Fail> {
     shows_0(&rt, &list, alloc, &store)
 }
 
-/// The whole number in the first field of the first combination of a list, and how many rows are read for it.
-fn first_value(store: &Store, list: &TempList) -> (Option<i64>, u64)
-    requires combo { 0 < length list.now.combos }
-    requires field { 0 < length list.now.fields }
-    requires there { HasValue store.now list.now 0 0 }
+/// The rows of the first table, where memory is refused once at most.
+fn all_rows(alloc: Global, store: &Store) -> Result<TempList<'_>, AllocError>
+    requires { IsSample store.now }
+    ensures { IfOk result (λ list. All (AreLive store.now list.tables) list.combos) }
 {
-    let mut meter = Meter::new();
-    let number = match list.value(store, &mut meter, 0, 0) {
-        Value::Int(number) => Some(*number),
-        Value::Text(_) => None,
+    let mut view = store.view();
+    let descriptor = Descriptor {
+        tables: &[0],
+        fields: &[OUTER_VALUE],
     };
-    (number, meter.reads())
+    match select(alloc, &mut view, descriptor, &[], Access::Scan) {
+        Ok(list) => Ok(list),
+        Err(_) => select(alloc, &mut view, descriptor, &[], Access::Scan),
+    }
 }
 
-/// What is told where a row that should be there is not.
-const NO_ROW: &str = "no row has the key";
-
-/// Adds the row of key 3 of the second table to a list of none, and reads what stands beside the key.
-fn reads_a_value(rt: &impl Abort, store: &Store, list: &mut TempList) -> Result<(), Fail>
-    requires sample { IsSample store.now }
-    requires none { list.old ≡ record { tables = 1 ∷ []; fields = record { place = 0; column = 1 } ∷ []; combos = [] } }
+/// How many rows a list shows, and how many rows are read for them.
+fn try_count(list: &TempList, alloc: Global, store: &Store) -> Result<(usize, u64), AllocError>
+    requires { All (AreLive store.now list.now.tables) list.now.combos }
 {
-    store.is_kept(1);
-    let Some(at) = store.table(1).find(&Value::Int(3)) else {
-        return Err(Fail::from(NO_ROW));
-    };
-    push(list, &[], at)?;
-    assert_same(rt, first_value(store, list), (Some(1), 1));
+    let zero = Value::Int(0);
+    let mut view = store.view();
+    let shown = list.shown(alloc, &mut view, false, &[0], &zero)?;
+    Ok((shown.len(), view.reads()))
+}
+
+/// The same where memory is refused once at most.
+fn count_shown(list: &TempList, alloc: Global, store: &Store) -> Result<(usize, u64), AllocError>
+    requires { All (AreLive store.now list.now.tables) list.now.combos }
+{
+    match try_count(list, alloc, store) {
+        Ok(counts) => Ok(counts),
+        Err(_) => try_count(list, alloc, store),
+    }
+}
+
+/// Shows the three rows of the first table.
+fn shows_three(rt: &impl Abort, alloc: Global, store: &Store) -> Result<(), Fail>
+    requires { IsSample store.now }
+{
+    let list = all_rows(alloc, store)?;
+    assert_same(rt, count_shown(&list, alloc, store)?, (3, 3));
     Ok(())
 }
 
 #[test]
-fn reads_one_row_for_a_value(rt: HostRuntime) -> Result<(), Fail> {
+fn reads_a_row_for_each_reference(rt: HostRuntime) -> Result<(), Fail> {
     let alloc = rt.alloc();
     let store = sample(alloc, IndexKind::Tree, [3, 3], Values::Falling)?;
-    let descriptor = Descriptor {
-        tables: &[1],
-        fields: &[FieldPlace {
-            place: 0,
-            column: 1,
-        }],
-    };
-    let mut list = TempList::new(alloc, descriptor);
-    reads_a_value(&rt, &store, &mut list)
+    shows_three(&rt, alloc, &store)
 }

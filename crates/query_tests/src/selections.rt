@@ -3,8 +3,8 @@ ghost use Rattle.std.specs.Prelude.{◌≡◌, length};
 
 use crate::assertions::assert_same;
 use crate::samples::empty;
-use mm_select::by_scan;
-use mm_store::{Meter, Store};
+use mm_select::{Access, select};
+use mm_store::Store;
 use mm_templist::Descriptor;
 use std::alloc::{AllocError, Global};
 use std::test::Fail;
@@ -13,16 +13,16 @@ use std::test::Fail;
 fn scan(alloc: Global, store: &Store) -> Result<(usize, u64), AllocError>
     requires { length store.now.tables ≡ 2 }
 {
-    let mut meter = Meter::new();
+    let mut view = store.view();
     let descriptor = Descriptor {
         tables: &[0],
         fields: &[],
     };
-    let list = match by_scan(alloc, store, &mut meter, descriptor, &[]) {
+    let list = match select(alloc, &mut view, descriptor, &[], Access::Scan) {
         Ok(list) => list,
-        Err(_) => by_scan(alloc, store, &mut meter, descriptor, &[])?,
+        Err(_) => select(alloc, &mut view, descriptor, &[], Access::Scan)?,
     };
-    Ok((list.len(), meter.reads()))
+    Ok((list.len(), view.reads()))
 }
 
 #[test]

@@ -9,10 +9,10 @@ use crate::steps::{
     prepare_and_drop, removal, replacement, settle, tables, watch,
 };
 use mm_delta::Signed;
-use mm_plan::run_plan;
+use mm_plan::run_query;
 use mm_query::BoundQuery;
 use mm_standing::Standing;
-use mm_store::{Meter, Store, Undo};
+use mm_store::{Store, Undo};
 use mm_value::Refusal;
 use std::alloc::Global;
 use std::marker::Model;
@@ -307,8 +307,8 @@ impl Case {
         tables: &[usize],
     ) -> Result<usize, Refusal> {
         refuse(query, tables)?;
-        let mut meter = Meter::new();
-        let list = run_plan(alloc, &self.store, &mut meter, query, tables, &[])?;
+        let mut view = self.store.view();
+        let list = run_query(alloc, &mut view, query, tables)?;
         Ok(list.len())
     }
 }

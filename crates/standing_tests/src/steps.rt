@@ -19,7 +19,7 @@ use mm_query::{BoundQuery, FieldPlace, Operand};
 use mm_relation::Edit;
 use mm_schema::IndexKind;
 use mm_standing::Standing;
-use mm_store::{Meter, Store, Undo};
+use mm_store::{Store, Undo};
 use mm_value::{Refusal, RowRef, Value};
 use std::alloc::{AllocError, Global};
 
@@ -170,8 +170,7 @@ fn prepare(
     ensures queries { standing.new.queries ≡ standing.old.queries }
     ensures log { standing.new.log ≡ standing.old.log }
 {
-    let mut meter = Meter::new();
-    let mut view = store.view(&mut meter);
+    let mut view = store.view();
     let changes = [TableEdits { table, edits }];
     standing.prepare(alloc, &mut view, &changes)
 }
@@ -191,8 +190,7 @@ pub fn changes_of(
     requires whole { length tables.now ≡ length query.now.from }
     requires unshifted { is_unshifted query.now ≡ true }
 {
-    let mut meter = Meter::new();
-    let mut view = store.view(&mut meter);
+    let mut view = store.view();
     let changes = [TableEdits { table, edits }];
     delta(alloc, &mut view, query, tables, &changes)
 }
@@ -254,7 +252,7 @@ pub fn watch(
 {
     let _lists = standing.len();
     store.rows_stand();
-    standing.watch(alloc, source, query, tables, &[])?;
+    standing.watch(alloc, source, query, tables)?;
     Ok(())
 }
 

@@ -13,3 +13,5 @@ mod relations;
 mod stores;
 #[cfg(test)]
 mod triple;
+#[cfg(test)]
+mod views;

@@ -12,7 +12,7 @@ ghost use Rattle.mm_store.specs.Undoing.{CanUndo};
 use crate::assertions::{assert_same, assert_that};
 use mm_relation::Edit;
 use mm_schema::{IndexKind, Reference};
-use mm_store::{Meter, Store, Undo};
+use mm_store::{IndexRef, Store, Undo};
 use mm_value::{Refusal, Row, RowRef, Value};
 use std::alloc::{AllocError, Global};
 use std::marker::Model;
@@ -159,7 +159,7 @@ fn empty_log(store: &Store, alloc: Global) -> Undo
 }
 
 /// The reference of the row of a key.
-fn at_key(store: &Store, table: usize, key: i64) -> Option<RowRef>
+pub fn at_key(store: &Store, table: usize, key: i64) -> Option<RowRef>
     requires { table < length store.now.tables }
     ensures { IfSome result (λ at. (stored : StoredRows) → IsAt store.now table stored → IsLive stored.places at) }
 {
@@ -365,8 +365,7 @@ fn target_of(store: &Store, key: i64) -> Option<RowRef>
     requires link { Contains store.now.links (record { from = 1; column = 1; to = 0 }) }
 {
     let at = at_key(store, 1, key)?;
-    let mut meter = Meter::new();
-    Some(store.view(&mut meter).follow(1, 1, at))
+    Some(store.view().follow(1, 1, at))
 }
 
 /// How many rows of a table have a value in the second column, by its TREE index.
@@ -378,12 +377,13 @@ fn count_by_tree(
 ) -> Result<usize, AllocError>
     requires { table < length store.now.tables }
 {
-    let Some(index) = store.table(table).index_of(1, IndexKind::Tree) else {
+    let view = store.view();
+    let Some(index) = view.tree_on(table, 1) else {
         return Ok(0);
     };
     let value = Value::Int(value);
     let mut found = Vec::new(alloc);
-    store.tree_range(alloc, table, index, Some(&value), Some(&value), &mut found)?;
+    view.range(alloc, table, index, Some(&value), Some(&value), &mut found)?;
     Ok(found.len())
 }
 
@@ -396,12 +396,13 @@ fn count_by_hash(
 ) -> Result<usize, AllocError>
     requires { table < length store.now.tables }
 {
-    let Some(index) = store.table(table).index_of(1, IndexKind::Hash) else {
+    let view = store.view();
+    let Some(index) = view.hash_on(table, 1) else {
         return Ok(0);
     };
     let value = Value::Int(value);
     let mut found = Vec::new(alloc);
-    store.hash_matches(alloc, table, index, &value, &mut found)?;
+    view.matches(alloc, table, index, &value, &mut found)?;
     Ok(found.len())
 }
 
@@ -415,8 +416,7 @@ fn count_by_first(
 ) -> Result<Option<usize>, AllocError>
     requires { table < length store.now.tables }
 {
-    let mut meter = Meter::new();
-    let view = store.view(&mut meter);
+    let view = store.view();
     let Some(index) = view.index_on(table, column) else {
         return Ok(None);
     };
@@ -435,11 +435,17 @@ fn count_between(
 ) -> Result<usize, AllocError>
     requires { table < length store.now.tables }
 {
-    let mut meter = Meter::new();
-    let view = store.view(&mut meter);
+    let view = store.view();
     let (low, high) = (Value::Int(low), Value::Int(high));
     let mut found = Vec::new(alloc);
-    view.key_range(alloc, table, Some(&low), Some(&high), &mut found)?;
+    view.range(
+        alloc,
+        table,
+        IndexRef::Key,
+        Some(&low),
+        Some(&high),
+        &mut found,
+    )?;
     Ok(found.len())
 }
 
@@ -447,8 +453,7 @@ fn count_between(
 fn count_and_first(store: &Store, table: usize) -> (usize, Option<RowRef>)
     requires { table < length store.now.tables }
 {
-    let mut meter = Meter::new();
-    let view = store.view(&mut meter);
+    let view = store.view();
     let mut walk = view.key_walk(table);
     (view.len_of(table), walk.next())
 }
@@ -590,6 +595,16 @@ impl Case {
     /// The row to which that of a key of the second table refers.
     pub fn target(&self, key: i64) -> Option<RowRef> {
         target_of(&self.store, key)
+    }
+
+    /// Whether references of the second table are those of the rows of these keys, in this order.
+    pub fn are_of(&self, refs: &[RowRef], keys: &[i64]) -> bool {
+        for (at, key) in refs.iter().zip(keys) {
+            if self.second(*key) != Some(*at) {
+                return false;
+            }
+        }
+        refs.len() == keys.len()
     }
 
     /// Whether the row of a key of the second table refers to that of a key of the first, and both are there.

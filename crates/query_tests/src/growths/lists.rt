@@ -5,12 +5,12 @@ ghost use Rattle.mm_templist.specs.Combos.{AreLive};
 
 use super::{are_pairs, asked_again, is_number};
 use crate::assertions::{assert_same, assert_that};
-use crate::plans::{OUTER_KEY, OUTER_VALUE};
+use crate::atoms::{OUTER_KEY, OUTER_VALUE};
 use crate::samples::{Values, sample};
 use mm_query::FieldPlace;
 use mm_schema::IndexKind;
-use mm_select::by_scan;
-use mm_store::{Meter, Store};
+use mm_select::{Access, select};
+use mm_store::Store;
 use mm_templist::{Descriptor, ShownRows, TempList};
 use mm_value::{Refusal, Row, RowRef, Value};
 use std::alloc::{AllocError, Global};
@@ -78,8 +78,8 @@ fn all_rows(alloc: Global, store: &Store) -> Result<TempList<'_>, AllocError>
         tables: &[0],
         fields: &FIELDS,
     };
-    let mut meter = Meter::new();
-    by_scan(alloc, store, &mut meter, descriptor, &[])
+    let mut view = store.view();
+    select(alloc, &mut view, descriptor, &[], Access::Scan)
 }
 
 /// Copies of the rows of a list in the order of the second field, made again where memory is refused.
@@ -91,13 +91,13 @@ fn project_again(
 ) -> Result<Vec<Row>, Fail>
     requires { All (AreLive store.now list.now.tables) list.now.combos }
 {
-    let mut meter = Meter::new();
-    match list.project_sorted(alloc, store, &mut meter, true, &[1]) {
+    let mut view = store.view();
+    match list.project_sorted(alloc, &mut view, true, &[1]) {
         Ok(rows) => Ok(rows),
         Err(refusal) => {
             asked_again(rt)?;
             assert_same(rt, refusal, Refusal::Memory);
-            Ok(list.project_sorted(alloc, store, &mut meter, true, &[1])?)
+            Ok(list.project_sorted(alloc, &mut view, true, &[1])?)
         }
     }
 }
@@ -148,12 +148,12 @@ fn show_again<'s>(
     requires live { All (AreLive store.now list.now.tables) list.now.combos }
     requires zero { zero.now ≡ Int (pos 0) }
 {
-    let mut meter = Meter::new();
-    match list.shown(alloc, store, &mut meter, false, &[1], zero) {
+    let mut view = store.view();
+    match list.shown(alloc, &mut view, false, &[1], zero) {
         Ok(rows) => Ok(rows),
         Err(_) => {
             asked_again(rt)?;
-            let rows = list.shown(alloc, store, &mut meter, false, &[1], zero)?;
+            let rows = list.shown(alloc, &mut view, false, &[1], zero)?;
             Ok(rows)
         }
     }

@@ -1,208 +1,281 @@
-//! Queries run by the lines of their plans: by each selection, and by each join.
-ghost use Rattle.std.specs.Prelude.{◌<◌, ◌≤◌, length, All, IfOk};
+//! Queries run by the steps of their plans: by each selection, and by each join.
+ghost use Rattle.std.specs.Prelude.{◌≡◌, ◌<◌, ◌≤◌, length, All, IfOk};
+ghost use Rattle.mm_plan.specs.Steps.{AreSteps};
 ghost use Rattle.mm_templist.specs.Combos.{AreLive};
 ghost use Rattle.query_tests.specs.Sample.{IsSample};
 
-use super::{are_pairs, asked_again};
+use super::{are_pairs, asked_again, query_of};
 use crate::assertions::{assert_same, assert_that};
-use crate::plans::{
-    INNER_KEY, INNER_VALUE, Method, OUTER_KEY, OUTER_VALUE, compared, equal, line, lines,
-};
+use crate::atoms::{INNER_KEY, INNER_VALUE, OUTER_KEY, OUTER_VALUE, compared, equal, stands};
 use crate::samples::{Values, sample};
-use mm_plan::run_plan;
-use mm_query::{Atom, BoundQuery, Comparison, FieldPlace, ItemList, PlanLine};
+use mm_plan::{Step, plan_steps, run_plan};
+use mm_query::{Atom, BoundQuery, Comparison, FieldPlace};
 use mm_schema::IndexKind;
-use mm_store::{Meter, Store};
+use mm_store::{IndexRef, Store, View};
 use mm_templist::TempList;
 use mm_value::Refusal;
-use std::alloc::{AllocError, Global};
+use std::alloc::Global;
 use std::process::Abort;
 use std::test::Fail;
 
-/// The query of two fields and one atom.
-fn query_of(
-    alloc: Global,
-    fields: [FieldPlace; 2],
-    atom: Atom<FieldPlace>,
-) -> Result<BoundQuery, AllocError> {
-    let fields = fields.to_vec(alloc)?;
-    let atoms = vec![in alloc; atom]?;
-    Ok(BoundQuery {
-        distinct: false,
-        fields: ItemList::new(fields),
-        from: ItemList::new(Vec::new(alloc)),
-        atoms: ItemList::new(atoms),
-        order: ItemList::new(Vec::new(alloc)),
-    })
-}
-
-/// Runs a query by a plan, and again where memory is refused.
+/// Runs a query by steps, and again where memory is refused.
 fn run_again<'a>(
     rt: &(impl Abort + Print),
     alloc: Global,
-    store: &Store,
+    view: &mut View<'_>,
     query: &'a BoundQuery,
     tables: &'a [usize],
-    plan: &[PlanLine],
+    steps: &[Step],
 ) -> Result<TempList<'a>, Fail>
-    requires there { All (λ table. table < length store.now.tables) tables.now }
+    requires there { All (λ table. table < length view.old.store.tables) tables.now }
     requires few { length tables.now ≤ 4 }
-    ensures { IfOk result (λ list. All (AreLive store.now list.tables) list.combos) }
+    requires steps { AreSteps view.old.store query.now.atoms tables.now steps.now }
+    ensures live { IfOk result (λ list. All (AreLive view.old.store list.tables) list.combos) }
+    ensures same { view.new.store ≡ view.old.store }
 {
-    let mut meter = Meter::new();
-    match run_plan(alloc, store, &mut meter, query, tables, plan) {
+    match run_plan(alloc, view, query, tables, steps) {
         Ok(list) => Ok(list),
         Err(refusal) => {
             asked_again(rt)?;
             assert_same(rt, refusal, Refusal::Memory);
-            let list = run_plan(alloc, store, &mut meter, query, tables, plan)?;
+            let list = run_plan(alloc, view, query, tables, steps)?;
             Ok(list)
         }
     }
 }
 
-/// Runs a query by a plan. In the order of the first field its rows are to be these.
+/// What a query is to give over a store.
+#[derive(Clone, Copy)]
+struct Case<'a> {
+    /// The places of its tables.
+    tables: &'a [usize],
+    /// The step of the last of them.
+    last: Step,
+    /// Its rows in the order of the first field.
+    pairs: &'a [(i64, i64)],
+}
+
+/// Runs a query by its plan, and looks at the last step and the rows.
 fn runs(
     rt: &(impl Abort + Print),
     alloc: Global,
     store: &Store,
-    tables: &[usize],
     query: &BoundQuery,
-    plan: &[PlanLine],
-    pairs: &[(i64, i64)],
+    case: Case,
 ) -> Result<(), Fail>
-    requires there { All (λ table. table < length store.now.tables) tables.now }
-    requires few { length tables.now ≤ 4 }
+    requires there { All (λ table. table < length store.now.tables) case.tables.now }
+    requires few { length case.tables.now ≤ 4 }
 {
-    let list = run_again(rt, alloc, store, query, tables, plan)?;
-    let mut meter = Meter::new();
-    let Ok(rows) = list.project_sorted(alloc, store, &mut meter, false, &[0]) else {
+    let mut view = store.view();
+    let Ok(steps) = plan_steps(alloc, &view, query, case.tables) else {
         return Ok(());
     };
-    assert_that(rt, are_pairs(rows.as_slice(), pairs));
+    assert_same(rt, steps.as_slice().last().copied(), Some(case.last));
+    let list = run_again(rt, alloc, &mut view, query, case.tables, steps.as_slice())?;
+    let Ok(rows) = list.project_sorted(alloc, &mut view, false, &[0]) else {
+        return Ok(());
+    };
+    assert_that(rt, are_pairs(rows.as_slice(), case.pairs));
     Ok(())
 }
 
-/// Finds rows of a table by a method: those whose values compare so with a number. They are to be these keys and values.
+/// Finds the keys and values of the rows of the first table that fit an atom, along a step.
 fn selects(
     rt: &(impl Abort + Print),
     alloc: Global,
     store: &Store,
-    method: Method,
     atom: Atom<FieldPlace>,
+    step: Step,
     pairs: &[(i64, i64)],
 ) -> Result<(), Fail>
     requires { IsSample store.now }
 {
-    let plan = [line(method)?];
-    match query_of(alloc, [OUTER_KEY, OUTER_VALUE], atom) {
-        Ok(query) => runs(rt, alloc, store, &[0], &query, &plan, pairs),
+    let case = Case {
+        tables: &[0],
+        last: step,
+        pairs,
+    };
+    match query_of(alloc, [OUTER_KEY, OUTER_VALUE], [atom]) {
+        Ok(query) => runs(rt, alloc, store, &query, case),
         Err(_) => Ok(()),
     }
 }
 
 #[test]
-fn by_scan_growths(rt: HostRuntime) -> Result<(), Fail> {
+fn scan_growths(rt: HostRuntime) -> Result<(), Fail> {
     let alloc = rt.alloc();
     let atom = compared(OUTER_VALUE, Comparison::GreaterOrEqual, 2);
     let pairs = [(1, 6), (2, 5), (3, 4), (4, 3), (5, 2)];
     match sample(alloc, IndexKind::Hash, [6, 0], Values::Falling) {
-        Ok(store) => selects(&rt, alloc, &store, Method::Scan, atom, &pairs),
+        Ok(store) => selects(&rt, alloc, &store, atom, Step::Scan, &pairs),
         Err(_) => Ok(()),
     }
 }
 
 #[test]
-fn by_hash_growths(rt: HostRuntime) -> Result<(), Fail> {
+fn look_up_growths(rt: HostRuntime) -> Result<(), Fail> {
     let alloc = rt.alloc();
     let atom = compared(OUTER_VALUE, Comparison::Equal, 1);
+    let step = Step::LookUp {
+        index: IndexRef::Hash(0),
+        atom: 0,
+    };
     let pairs = [(1, 1), (2, 1), (3, 1), (4, 1), (5, 1), (6, 1)];
     match sample(alloc, IndexKind::Hash, [6, 0], Values::Ones) {
-        Ok(store) => selects(&rt, alloc, &store, Method::Hash, atom, &pairs),
+        Ok(store) => selects(&rt, alloc, &store, atom, step, &pairs),
         Err(_) => Ok(()),
     }
 }
 
 #[test]
-fn by_tree_growths(rt: HostRuntime) -> Result<(), Fail> {
+fn range_growths(rt: HostRuntime) -> Result<(), Fail> {
     let alloc = rt.alloc();
     let atom = compared(OUTER_VALUE, Comparison::GreaterOrEqual, 2);
+    let step = Step::Range {
+        index: IndexRef::Tree(0),
+        atom: 0,
+    };
     let pairs = [(1, 6), (2, 5), (3, 4), (4, 3), (5, 2)];
     match sample(alloc, IndexKind::Tree, [6, 0], Values::Falling) {
-        Ok(store) => selects(&rt, alloc, &store, Method::TreeRange, atom, &pairs),
+        Ok(store) => selects(&rt, alloc, &store, atom, step, &pairs),
         Err(_) => Ok(()),
     }
 }
 
-/// Joins the rows of two tables by a method where a column of the second is the value of the first. Their keys are to be these.
-fn joins_on(
-    rt: &(impl Abort + Print),
-    alloc: Global,
-    store: &Store,
-    tables: &[usize],
-    method: Method,
-    column: FieldPlace,
-    pairs: &[(i64, i64)],
-) -> Result<(), Fail>
-    requires there { All (λ table. table < length store.now.tables) tables.now }
-    requires few { length tables.now ≤ 4 }
-{
-    let plan = lines(Method::Scan, method)?;
-    let atom = equal(column, OUTER_VALUE, None);
-    match query_of(alloc, [OUTER_KEY, INNER_KEY], atom) {
-        Ok(query) => runs(rt, alloc, store, tables, &query, &plan, pairs),
-        Err(_) => Ok(()),
-    }
-}
-
-/// Joins the rows of two tables that have one value by a method. Of the keys of the first table those from 2 on have a partner, of
-/// which the key is less by 1.
-fn joins(
+/// Joins two tables of which the values fall as their keys rise: the first has 6 rows, and the second 5. The keys are to be those of
+/// the case.
+fn joins<const N: usize>(
     rt: &(impl Abort + Print),
     alloc: Global,
     kind: IndexKind,
-    method: Method,
-) -> Result<(), Fail> {
-    let pairs = [(2, 1), (3, 2), (4, 3), (5, 4), (6, 5)];
+    atoms: [Atom<FieldPlace>; N],
+    case: Case,
+) -> Result<(), Fail>
+    requires there { All (λ table. table < 2) case.tables.now }
+    requires few { length case.tables.now ≤ 4 }
+    requires atoms { N ≤ 16 }
+{
+    let Ok(query) = query_of(alloc, [OUTER_KEY, INNER_KEY], atoms) else {
+        return Ok(());
+    };
     match sample(alloc, kind, [6, 5], Values::Falling) {
-        Ok(store) => joins_on(rt, alloc, &store, &[0, 1], method, INNER_VALUE, &pairs),
+        Ok(store) => runs(rt, alloc, &store, &query, case),
         Err(_) => Ok(()),
     }
 }
 
+/// The keys of the rows of one value: those of the first table from 2 on have a partner, of which the key is less by 1.
+const OF_ONE_VALUE: [(i64, i64); 5] = [(2, 1), (3, 2), (4, 3), (5, 4), (6, 5)];
+
+/// The keys of the rows of the first table whose values are keys of the second.
+const OF_VALUE_AND_KEY: [(i64, i64); 5] = [(2, 5), (3, 4), (4, 3), (5, 2), (6, 1)];
+
 #[test]
 fn nested_loops_growths(rt: HostRuntime) -> Result<(), Fail> {
-    joins(&rt, rt.alloc(), IndexKind::Hash, Method::NestedLoops)
+    let case = Case {
+        tables: &[0, 1],
+        last: Step::NestedLoops,
+        pairs: &OF_ONE_VALUE,
+    };
+    let atoms = [
+        stands(INNER_VALUE, Comparison::LessOrEqual, OUTER_VALUE),
+        stands(INNER_VALUE, Comparison::GreaterOrEqual, OUTER_VALUE),
+    ];
+    joins(&rt, rt.alloc(), IndexKind::Hash, atoms, case)
 }
 
 #[test]
-fn hash_build_growths(rt: HostRuntime) -> Result<(), Fail> {
-    joins(&rt, rt.alloc(), IndexKind::Tree, Method::BuiltHash)
+fn built_hash_growths(rt: HostRuntime) -> Result<(), Fail> {
+    let case = Case {
+        tables: &[0, 1],
+        last: Step::BuiltHash { atom: 0 },
+        pairs: &OF_VALUE_AND_KEY,
+    };
+    let atoms = [equal(INNER_KEY, OUTER_VALUE)];
+    joins(&rt, rt.alloc(), IndexKind::Hash, atoms, case)
 }
 
 #[test]
-fn hash_probe_growths(rt: HostRuntime) -> Result<(), Fail> {
-    joins(&rt, rt.alloc(), IndexKind::Hash, Method::HashJoin)
-}
-
-#[test]
-fn tree_join_growths(rt: HostRuntime) -> Result<(), Fail> {
-    joins(&rt, rt.alloc(), IndexKind::Tree, Method::TreeJoin)
+fn hash_join_growths(rt: HostRuntime) -> Result<(), Fail> {
+    let case = Case {
+        tables: &[0, 1],
+        last: Step::HashJoin {
+            index: IndexRef::Hash(0),
+            atom: 0,
+        },
+        pairs: &OF_ONE_VALUE,
+    };
+    let atoms = [equal(INNER_VALUE, OUTER_VALUE)];
+    joins(&rt, rt.alloc(), IndexKind::Hash, atoms, case)
 }
 
 #[test]
 fn tree_merge_growths(rt: HostRuntime) -> Result<(), Fail> {
-    joins(&rt, rt.alloc(), IndexKind::Tree, Method::TreeMerge)
+    let case = Case {
+        tables: &[0, 1],
+        last: Step::TreeMerge {
+            outer: IndexRef::Tree(0),
+            inner: IndexRef::Tree(0),
+            atom: 0,
+        },
+        pairs: &OF_ONE_VALUE,
+    };
+    let atoms = [equal(INNER_VALUE, OUTER_VALUE)];
+    joins(&rt, rt.alloc(), IndexKind::Tree, atoms, case)
 }
 
 #[test]
 fn precomputed_growths(rt: HostRuntime) -> Result<(), Fail> {
+    // The values of the first table of the query are keys of the second one.
+    let case = Case {
+        tables: &[1, 0],
+        last: Step::Precomputed { atom: 0 },
+        pairs: &[(1, 5), (2, 4), (3, 3), (4, 2), (5, 1)],
+    };
+    let atoms = [equal(INNER_KEY, OUTER_VALUE)];
+    joins(&rt, rt.alloc(), IndexKind::Hash, atoms, case)
+}
+
+/// Joins the two rows of the first table along the tree on the values of the second, which has six.
+fn joins_few(rt: &(impl Abort + Print), alloc: Global, store: &Store) -> Result<(), Fail>
+    requires { IsSample store.now }
+{
+    let case = Case {
+        tables: &[0, 1],
+        last: Step::TreeJoin {
+            index: IndexRef::Tree(0),
+            atom: 1,
+        },
+        pairs: &[
+            (1, 1),
+            (1, 2),
+            (1, 3),
+            (1, 4),
+            (1, 5),
+            (1, 6),
+            (2, 1),
+            (2, 2),
+            (2, 3),
+            (2, 4),
+            (2, 5),
+            (2, 6),
+        ],
+    };
+    let atoms = [
+        compared(OUTER_KEY, Comparison::GreaterOrEqual, 1),
+        equal(INNER_VALUE, OUTER_VALUE),
+    ];
+    match query_of(alloc, [OUTER_KEY, INNER_KEY], atoms) {
+        Ok(query) => runs(rt, alloc, store, &query, case),
+        Err(_) => Ok(()),
+    }
+}
+
+#[test]
+fn tree_join_growths(rt: HostRuntime) -> Result<(), Fail> {
     let alloc = rt.alloc();
-    let method = Method::Precomputed;
-    let pairs = [(1, 5), (2, 4), (3, 3), (4, 2), (5, 1)];
-    match sample(alloc, IndexKind::Hash, [6, 5], Values::Falling) {
-        // The values of the first table of the query are keys of the second one.
-        Ok(store) => joins_on(&rt, alloc, &store, &[1, 0], method, INNER_KEY, &pairs),
+    match sample(alloc, IndexKind::Tree, [2, 6], Values::Ones) {
+        Ok(store) => joins_few(&rt, alloc, &store),
         Err(_) => Ok(()),
     }
 }

@@ -1,7 +1,11 @@
+use Rattle.std.proofs.Common.{refl}
 use Rattle.mm_delta.proofs.Refs.{found_by_key}
 use Rattle.mm_delta.proofs.rows.all_of.Goals as goal
 
+pub range-requires-clause-tree : goal.range-requires-clause-tree
+range-requires-clause-tree c = λ stored here. (stored.key, refl, tt)
+
 pub returns-clause-found : goal.returns-clause-found
 returns-clause-found c = λ stored at.
-    found_by_key stored (c.is_kept.ensures.kept stored at) c.new-found.result.items c.key_range.new.out.items c.new-found.ensures.items
-    (c.in_ok-key_range.ensures.ok stored at)
+    found_by_key stored (c.is_kept.ensures.kept stored at) c.new-found.result.items c.range.new.out.items c.new-found.ensures.items
+    (c.in_ok-range.ensures.ok stored stored.key at refl)

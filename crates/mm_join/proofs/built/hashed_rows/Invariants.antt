@@ -1,4 +1,4 @@
-use Rattle.std.proofs.Common.{◌≡◌, ◌≤◌, ◌++◌, length, map}
+use Rattle.std.proofs.Common.{◌≡◌, ◌+◌, ◌≤◌, ◌++◌, length, map}
 use Rattle.std.specs.List.Sorted.{IsPermutation}
 use Rattle.mm_partition.specs.Places.{slot_at}
 use Rattle.mm_relation.specs.Kept.{StoredRows}
@@ -10,7 +10,9 @@ use Rattle.mm_join.proofs.built.hashed_rows.Given as goal
 abbrev pub invariant-loop-at : goal.invariant-loop-at
 invariant-loop-at l = record {
   split : l.initial.at-iterator ≡ l.yielded ++ l.at-iterator;
-  pairs : (stored : StoredRows) → IsAt l.store l.table stored
+  same : l.view.store ≡ l.fn.view.store;
+  pairs : (stored : StoredRows) → IsAt l.fn.view.store l.table stored
       → IsPermutation l.pairs.entries (map (hashed_row l.column (slot_at stored.places)) l.yielded);
   spare : length l.at-iterator ≤ l.pairs.spare;
+  reads : l.view.reads ≤ l.fn.view.reads + length l.yielded;
 }

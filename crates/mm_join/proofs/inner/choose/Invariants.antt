@@ -1,4 +1,4 @@
-use Rattle.std.proofs.Common.{◌≡◌, ◌++◌, Some, drop, map}
+use Rattle.std.proofs.Common.{◌≡◌, ◌+◌, ◌≤◌, ◌++◌, Some, drop, length, map}
 use Rattle.std.specs.Option.{option_copied}
 use Rattle.mm_templist.specs.Combos.{AreLive, rows_of_combo}
 use Rattle.mm_join.proofs.inner.choose.Given as goal
@@ -6,7 +6,10 @@ use Rattle.mm_join.proofs.inner.choose.Given as goal
 -- the rows so far and those of the references that are left are the rows of the combination
 abbrev pub invariant-loop-place : goal.invariant-loop-place
 invariant-loop-place l = record {
-  rows : map option_copied l.rows.items ++ map Some (rows_of_combo l.store (drop l.place l.tables) (drop l.place l.front))
-      ≡ map Some (rows_of_combo l.store l.tables l.front);
-  live : AreLive l.store (drop l.place l.tables) (drop l.place l.front);
+  same : l.view.store ≡ l.fn.view.store;
+  rows : map option_copied l.rows.items ++ map Some (rows_of_combo l.fn.view.store (drop l.place l.front.tables.now) (drop l.place l.front.refs.now))
+      ≡ map Some (rows_of_combo l.fn.view.store l.front.tables.now l.front.refs.now);
+  live : AreLive l.fn.view.store (drop l.place l.front.tables.now) (drop l.place l.front.refs.now);
+  within : l.place ≤ length l.front.tables.now;
+  reads : l.view.reads ≤ l.fn.view.reads + l.place;
 }

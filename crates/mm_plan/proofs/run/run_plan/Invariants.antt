@@ -1,11 +1,17 @@
-use Rattle.std.proofs.Common.{◌-◌, length}
+use Rattle.std.proofs.Common.{◌≡◌, ◌≤◌, ◌+◌, drop, length, map, take}
 use Rattle.mm_plan.specs.Begun.{IsBegun}
+use Rattle.mm_plan.specs.Steps.{plan_reads, steps_reads}
+use Rattle.mm_store.specs.Tables.{rows_at}
 use Rattle.mm_plan.proofs.run.run_plan.Given as goal
 
--- the tables that are left become fewer
-abbrev pub decreases-loop-alloc : goal.decreases-loop-alloc
-decreases-loop-alloc l = length l.tables - length l.list.tables
-
--- the list has the fitting combinations of the first tables
-abbrev pub invariant-loop-alloc : goal.invariant-loop-alloc
-invariant-loop-alloc l = IsBegun l.store l.query l.tables l.list
+-- the list has the fitting combinations of the first tables; what was read and what the steps behind may read is not more than all may
+abbrev pub invariant-loop-place : goal.invariant-loop-place
+invariant-loop-place l = record {
+  same : l.view.store ≡ l.fn.view.store;
+  begun : IsBegun l.fn.view.store l.query l.tables l.list;
+  at : length l.list.tables ≡ l.place;
+  reads : l.view.reads
+      + steps_reads l.query.atoms (map (rows_at l.fn.view.store.tables) (take l.place l.tables)) (drop l.place l.steps)
+      (map (rows_at l.fn.view.store.tables) (drop l.place l.tables))
+      ≤ l.fn.view.reads + plan_reads l.query.atoms l.steps (map (rows_at l.fn.view.store.tables) l.tables);
+}

@@ -1,32 +1,35 @@
--- The columns of the table at the place of the name decide.
-use Rattle.std.proofs.Common.{None, Some, [], length, refl, sym, ap, subst, inl, ◌∙◌}
-use Rattle.std.specs.List.{list_any}
-use Rattle.mm_query.specs.Binding.{TestsWithin}
-use Rattle.mm_query.specs.Placing.{atom_lacks_column}
-use Rattle.mm_query.proofs.PlacedColumns.{bound_delete, due_by_columns, none_missing, refused_nowhere}
+-- What is amiss with the columns of the table at the place of the name decides.
+use Rattle.std.proofs.Common.{Some, None, [], inl, refl, sym, ◌∙◌}
+use Rattle.mm_query.proofs.PlacedColumns.{bound_delete, due_by_columns, due_of_delete, none_missing, refused_nowhere}
 use Rattle.mm_query.proofs.bind.bind_delete.Goals as goal
 
 pub returns-in_default-clause-due : goal.returns-in_default-clause-due
 returns-in_default-clause-due c = inl (refused_nowhere c.args.name.now c.args.catalog.now [] c.args.tests (sym c.in_default.ensures.place))
 
-pub returns-in-Some-column_refusal-clause-due : goal.returns-in-Some-column_refusal-clause-due
-returns-in-Some-column_refusal-clause-due c =
+pub returns-in-Some-refusal-clause-due : goal.returns-in-Some-refusal-clause-due
+returns-in-Some-refusal-clause-due c =
     let columns = c.table_at.result.now.definition.columns in
+    let due =
+    due_of_delete columns c.args.tests c.as_slice.result.now c.as_slice.ensures c.form_faults-faults.result c.place_tests.new.faults
+    c.form_faults-faults.ensures c.in_ok-tests.ensures.faults in
     inl
-    (due_by_columns c.args.name.now c.args.catalog.now c.in-Some.place c.table_at.result.now (sym c.in-Some.ensures.place) c.table_at.ensures columns refl
-    [] c.args.tests [] c.as_slice.result.now refl c.as_slice.ensures (Some c.in-Some-column_refusal.refusal) c.in-Some-column_refusal.ensures)
+    (due_by_columns c.args.name.now c.args.catalog.now c.in-Some.table c.table_at.result.now (sym c.in-Some.ensures.place) c.table_at.ensures columns refl
+    [] c.args.tests (Some c.in-Some-refusal.refusal) (c.in-Some-refusal.ensures ∙ due))
 
-pub returns-clause-due : goal.returns-clause-due
-returns-clause-due c =
+pub returns-in-None-clause-due : goal.returns-in-None-clause-due
+returns-in-None-clause-due c =
     let columns = c.table_at.result.now.definition.columns in
-    due_by_columns c.args.name.now c.args.catalog.now c.in-Some.place c.table_at.result.now (sym c.in-Some.ensures.place) c.table_at.ensures columns refl
-    [] c.args.tests [] c.as_slice.result.now refl c.as_slice.ensures None c.in_default-column_refusal.ensures
+    let due =
+    due_of_delete columns c.args.tests c.as_slice.result.now c.as_slice.ensures c.form_faults-faults.result c.place_tests.new.faults
+    c.form_faults-faults.ensures c.in_ok-tests.ensures.faults in
+    due_by_columns c.args.name.now c.args.catalog.now c.in-Some.table c.table_at.result.now (sym c.in-Some.ensures.place) c.table_at.ensures columns refl
+    [] c.args.tests None (c.in-None.ensures ∙ due)
 
-pub returns-clause-ok : goal.returns-clause-ok
-returns-clause-ok c =
+pub returns-in-None-clause-ok : goal.returns-in-None-clause-ok
+returns-in-None-clause-ok c =
     let columns = c.table_at.result.now.definition.columns in
-    let there = none_missing columns [] c.as_slice.result.now c.in_default-column_refusal.ensures in
-    let within = c.in_ok-tests.ensures.within (ap (list_any (atom_lacks_column columns)) (c.into_vec.ensures ∙ sym c.as_slice.ensures) ∙ there.1) in
-    bound_delete c.args.name.now c.args.catalog.now c.in-Some.place c.table_at.result.now (sym c.in-Some.ensures.place) c.table_at.ensures columns refl
-    c.args.tests c.into_vec.result.items c.into_vec.ensures c.new.result (c.new.ensures ∙ c.in_ok-tests.ensures.ok)
-    (subst (TestsWithin (length columns)) (sym c.new.ensures) within)
+    let due =
+    due_of_delete columns c.args.tests c.as_slice.result.now c.as_slice.ensures c.form_faults-faults.result c.place_tests.new.faults
+    c.form_faults-faults.ensures c.in_ok-tests.ensures.faults in
+    bound_delete c.args.name.now c.args.catalog.now c.in-Some.table c.table_at.result.now (sym c.in-Some.ensures.place) c.table_at.ensures columns refl
+    c.args.tests (none_missing columns [] c.args.tests (c.in-None.ensures ∙ due)).1 c.in_ok-tests.tests c.in_ok-tests.ensures.ok

@@ -5,6 +5,7 @@ use Rattle.mm_templist.proofs.results.choose_rows.Given as goal
 
 abbrev pub invariant-loop-i : goal.invariant-loop-i
 invariant-loop-i l = record {
-  rows : map option_copied l.chosen.items ≡ map Some (take l.i (rows_of_combo l.store l.tables l.combo));
-  reads : l.meter ≤ l.fn.meter + l.i;
+  same : l.view.store ≡ l.fn.view.store;
+  rows : map option_copied l.chosen.items ≡ map Some (take l.i (rows_of_combo l.fn.view.store l.tables l.combo));
+  reads : l.view.reads ≤ l.fn.view.reads + l.i;
 }

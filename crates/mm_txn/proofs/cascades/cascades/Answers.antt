@@ -10,7 +10,7 @@ use Rattle.mm_relation.specs.declared.edits.Edit.{Edit}
 use Rattle.mm_schema.specs.declared.table.Table.{Table}
 use Rattle.mm_query.specs.Edits.{goes_along, removals_of, with_cascades}
 use Rattle.mm_store.specs.Tables.{rows_at}
-use Rattle.mm_txn.specs.Kept.{instance_of}
+use Rattle.mm_plan.specs.Kept.{instance_of}
 use Rattle.mm_txn.specs.TableEdits.{AreEdits, PlacedEdits, named, pairs_at, placed}
 use Rattle.mm_txn.specs.declared.edits.TableEdits.{TableEdits}
 use Rattle.mm_txn.proofs.CascadeFinds.{none_more, one_edited, one_more, rest_at_first, rest_at_last, some_more}

@@ -1,6 +1,6 @@
 -- The rows are found column by column.
-use Rattle.std.proofs.Common.{◌≡◌, ◌<◌, Bool, List, [], ◌∷◌, map, take, ap, ◌∙◌, subst, sym, ◌||◌}
-use Rattle.std.specs.List.{All, filter, list_any}
+use Rattle.std.proofs.Common.{◌≡◌, ◌<◌, Bool, List, [], ◌∷◌, length, map, take, ap, ◌∙◌, subst, sym, ◌||◌}
+use Rattle.std.specs.List.{filter, list_any}
 use Rattle.std.specs.Option.{option_map_or}
 use Rattle.std.proofs.lemmas.List.{take_all}
 use Rattle.std.proofs.lemmas.List.Elements.{All-nil}
@@ -13,6 +13,7 @@ use Rattle.mm_schema.proofs.StrictOrder.{Contains-from_IsIn}
 use Rattle.mm_schema.proofs.Twins.{Row}
 use Rattle.mm_query.specs.Edits.{goes_along, removals_of}
 use Rattle.mm_value.specs.declared.row_ref.RowRef.{RowRef}
+use Rattle.mm_store.specs.Tables.{IsAt, Tables}
 use Rattle.mm_txn.specs.Cascades.{Along, IsCascade, along_of, alongs_from, goes_by, goes_by_some}
 use Rattle.mm_txn.specs.TableEdits.{PlacedEdits, named, placed}
 use Rattle.mm_txn.proofs.CascadeFinds.{along_push, cascade_so}
@@ -48,34 +49,40 @@ loop-cascade-preserved c = λ stored at.
     (adds_both stored (goes_by_some rs (map along_of (take k items))) (goes_by rs item.column (item.to, item.gone.now)) [] c.loop-cascade.found.items
     c.add_referrers.new.found.items (c.loop-cascade.invariant stored at) (c.in_ok-add_referrers.ensures.found stored at))
 
-pub table-requires : goal.table-requires
-table-requires c =
-    subst (λ n. c.args.table < n) (as_many c.args.catalog.now.tables c.args.store.now.tables c.requires.kept.relations) c.requires.there
-
 pub removals_at-requires : goal.removals_at-requires
 removals_at-requires c = record {
-  live = subst (All (IsLive c.table.result.now.places)) (sym c.as_slice.ensures.value)
-      ((c.loop-cascade.invariant c.table.result.now c.table.ensures.at).live (All-nil (IsLive c.table.result.now.places)));
+  there = subst (λ (s : Tables). c.args.table < length s.tables) (sym c.view-view.ensures.store)
+      (subst (λ n. c.args.table < n) (as_many c.args.catalog.now.tables c.args.store.now.tables c.requires.kept.relations) c.requires.there);
+  live = λ stored at.
+      (c.loop-cascade.invariant stored (subst (λ (s : Tables). IsAt s c.args.table stored) c.view-view.ensures.store at)).live
+      (All-nil (IsLive stored.places));
 }
+
+pub returns-clause-fit : goal.returns-clause-fit
+returns-clause-fit c =
+    let within = subst (λ n. c.args.table < n) (as_many c.args.catalog.now.tables c.args.store.now.tables c.requires.kept.relations) c.requires.there in
+    let (stored, here) = some_at c.args.store.now.tables c.args.table within in
+    (stored, here, c.in_ok-removals_at.ensures.fit stored (subst (λ (s : Tables). IsAt s c.args.table stored) (sym c.view-view.ensures.store) here))
 
 pub returns-clause-pairs : goal.returns-clause-pairs
 returns-clause-pairs c = λ t at.
     let schema = c.args.catalog.now in
     let store = c.args.store.now in
-    let stored = c.table.result.now in
+    let within = subst (λ n. c.args.table < n) (as_many schema.tables store.tables c.requires.kept.relations) c.requires.there in
+    let (stored, here) = some_at store.tables c.args.table within in
+    let seen = subst (λ (s : Tables). IsAt s c.args.table stored) (sym c.view-view.ensures.store) here in
     let now = slot_at stored.places in
     let cs : List PlacedEdits = placed c.args.own.now ∷ map placed c.args.along.now in
     let items = c.deref-cascade-items.result.now in
     let k = c.loop-cascade.cascade-index in
     let p : Row → Bool = goes_along schema (map (named schema store.tables) cs) t.definition.columns in
-    let q : RowRef → Bool = λ x. list_any (same_ref x) c.as_slice.result.now in
+    let q : RowRef → Bool = λ x. list_any (same_ref x) c.loop-cascade.found.items in
     let goes : (row : Row) → goes_by_some store.tables (map along_of (take k items)) row ≡ p row =
     λ row. ap (λ xs. goes_by_some store.tables (map along_of xs) row) (take_all k items c.loop-cascade-test.false ∙ c.deref-cascade-items.ensures.value)
     ∙ ap (λ xs. goes_by_some store.tables xs row) (c.in_ok-columns.ensures.found t at)
     ∙ alongs_go schema store c.requires.kept c.requires.distinct cs c.requires.are c.args.table t at row in
-    ap (λ o. option_map_or (λ (s : StoredRows). edit_pairs (slot_at s.places) c.in_ok-removals_at.field-0.items) o []) c.table.ensures.at
-    ∙ ap (edit_pairs now) c.in_ok-removals_at.ensures.items
-    ∙ pairs_filtered now q p stored.refs (λ x here.
-    ap (list_any (same_ref x)) c.as_slice.ensures.value
-    ∙ (c.loop-cascade.invariant stored c.table.ensures.at).found x (Contains-from_IsIn stored.refs x here) ∙ goes (row_at now x))
-    ∙ ap (λ rows. removals_of (filter p rows)) (sym (ap (λ o. option_map_or rows_of o []) c.table.ensures.at))
+    ap (λ o. option_map_or (λ (s : StoredRows). edit_pairs (slot_at s.places) c.in_ok-removals_at.field-0.items) o []) here
+    ∙ ap (edit_pairs now) (c.in_ok-removals_at.ensures.items stored seen)
+    ∙ pairs_filtered now q p stored.refs (λ x among.
+    (c.loop-cascade.invariant stored here).found x (Contains-from_IsIn stored.refs x among) ∙ goes (row_at now x))
+    ∙ ap (λ rows. removals_of (filter p rows)) (sym (ap (λ o. option_map_or rows_of o []) here))

@@ -9,7 +9,7 @@ use Rattle.mm_standing.specs.Queries.{change_conditions as list_conditions}
 use Rattle.mm_standing.specs.State.{FitPrepared, Lists, count_at, count_now}
 use Rattle.mm_store.proofs.Forms.{forms_twice}
 use Rattle.mm_value.specs.declared.refusal.Refusal.{Refusal}
-use Rattle.mm_txn.specs.Kept.{instance_of}
+use Rattle.mm_plan.specs.Kept.{instance_of}
 use Rattle.mm_txn.specs.TableEdits.{FitsAt, edits_conditions, leaves_orphans, placed, rows_edited}
 use Rattle.mm_txn.specs.Watched.{AreListed}
 use Rattle.mm_txn.specs.declared.edits.TableEdits.{TableEdits}

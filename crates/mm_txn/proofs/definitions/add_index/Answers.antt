@@ -6,7 +6,8 @@ use Rattle.mm_schema.specs.Schema.{Schema}
 use Rattle.mm_value.specs.declared.refusal.Refusal.{Refusal}
 use Rattle.mm_value.specs.declared.refusal.Refusal.TheVariants.{NoSuchColumn, NoSuchTable}
 use Rattle.mm_query.proofs.Due.{lacks_nowhere}
-use Rattle.mm_txn.specs.Kept.{AreKept, AreOf, state_of}
+use Rattle.mm_plan.specs.Kept.{AreKept, AreOf}
+use Rattle.mm_txn.specs.Kept.{state_of}
 use Rattle.mm_txn.proofs.DatabaseSteps.{rows_there}
 use Rattle.mm_txn.proofs.IndexSteps.{column_within, index_added, no_column_due, no_table_due, taken_back}
 use Rattle.mm_txn.proofs.KeptReferences.{kept_by_index, kept_by_rows}

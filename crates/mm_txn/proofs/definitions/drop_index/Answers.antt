@@ -5,7 +5,7 @@ use Rattle.mm_schema.specs.Schema.{Schema}
 use Rattle.mm_schema.proofs.IndexLemmas.{lacks_nowhere}
 use Rattle.mm_value.specs.declared.refusal.Refusal.{Refusal}
 use Rattle.mm_value.specs.declared.refusal.Refusal.TheVariants.{NoSuchIndex}
-use Rattle.mm_txn.specs.Kept.{AreKept}
+use Rattle.mm_plan.specs.Kept.{AreKept}
 use Rattle.mm_txn.proofs.IndexSteps.{index_dropped, index_not_missing, index_there, with_index_there}
 use Rattle.mm_txn.proofs.KeptReferences.{kept_by_no_index}
 use Rattle.mm_txn.proofs.definitions.drop_index.Goals as goal

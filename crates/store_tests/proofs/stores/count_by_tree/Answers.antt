@@ -1,11 +1,4 @@
-use Rattle.std.proofs.Common.{ℕ}
-use Rattle.mm_relation.specs.Kept.{StoredRows}
-use Rattle.mm_relation.specs.Reads.{HasIndex}
-use Rattle.mm_schema.specs.declared.index.IndexKind.TheVariants as kind
-use Rattle.mm_store.proofs.Applying.{each}
 use Rattle.store_tests.proofs.stores.count_by_tree.Goals as goal
 
-pub tree_range-requires-clause-tree : goal.tree_range-requires-clause-tree
-tree_range-requires-clause-tree c =
-    each (λ (s : StoredRows). (column : ℕ) × HasIndex s.indexes c.in-Some.index column kind.Tree) c.args.store.now c.args.table c.table.result.now
-    c.table.ensures.at (1, c.in-Some.ensures.found)
+pub range-requires-clause-tree : goal.range-requires-clause-tree
+range-requires-clause-tree c = λ stored at. (let first = c.in-Some.ensures stored at in (1, first.0, first.1))

@@ -1,4 +1,4 @@
-use Rattle.std.proofs.Common.{◌≡◌, ◌+◌, ◌≤◌, [], ◌∷◌, ◌++◌, List, inl, inr, get_or, length, map, take, sym, ◌∙◌, subst}
+use Rattle.std.proofs.Common.{◌≡◌, ◌+◌, ◌≤◌, [], ◌∷◌, ◌++◌, arith, List, inl, inr, get_or, length, map, take, sym, ◌∙◌, subst}
 use Rattle.std.specs.Option.{option_copied}
 use Rattle.std.proofs.lemmas.Result.{err_from_is_err_and}
 use Rattle.mm_select.specs.Matches.{matches}
@@ -12,7 +12,7 @@ pub returns-in_err-add_fitting-clause-due : goal.returns-in_err-add_fitting-clau
 returns-in_err-add_fitting-clause-due c =
     let p = err_from_is_err_and c.from_residual.result c.from_residual.ensures.1 in
     let inner = c.args.self.now in
-    let store = inner.store.now in
+    let store = c.args.view.now.store in
     let atoms = inner.atoms.now in
     let rows = map option_copied c.args.rows.now.items in
     let front = c.args.front.now in
@@ -20,12 +20,13 @@ returns-in_err-add_fitting-clause-due c =
     let candidates = c.args.candidates.now in
     let i = c.loop-at.at-index in
     let at : RowRef = get_or candidates i record { part = 0; slot = 0 } in
-    let tried : List (List RowRef) = c.loop-at.list.combos ++ matches store inner.table atoms (map option_copied c.loop-at.rows.items) front (at ∷ []) in
+    let tried : List (List RowRef) =
+    c.loop-at.list.combos ++ matches c.loop-at.view.store inner.table atoms (map option_copied c.loop-at.rows.items) front (at ∷ []) in
     let all : List (List RowRef) = old ++ matches store inner.table atoms rows front candidates in
     let longer : length tried ≤ length all =
     subst (λ (l : List (List RowRef)). length l ≤ length all)
     (sym (λ j. (c.loop-at.invariant.list j).combos
-    ++ matches store inner.table atoms (map option_copied (c.loop-at.invariant.rows j)) front (at ∷ [])))
+    ++ matches (c.loop-at.invariant.same j) inner.table atoms (map option_copied (c.loop-at.invariant.rows j)) front (at ∷ [])))
     (matches_part store inner.table atoms rows front old candidates i record { part = 0; slot = 0 } c.loop-at-test.true) in
     rw (p.1, p.2) (elim c.in_err-add_fitting.ensures.due [
       | inl due ↦ inl (due_of_longer inner.cap tried all _ longer due)
@@ -35,7 +36,7 @@ returns-in_err-add_fitting-clause-due c =
 pub loop-at-preserved : goal.loop-at-preserved
 loop-at-preserved c =
     let inner = c.args.self.now in
-    let store = inner.store.now in
+    let store = c.args.view.now.store in
     let atoms = inner.atoms.now in
     let rows = map option_copied c.args.rows.now.items in
     let front = c.args.front.now in
@@ -43,10 +44,11 @@ loop-at-preserved c =
     let candidates = c.args.candidates.now in
     let i = c.loop-at.at-index in
     let at : RowRef = get_or candidates i record { part = 0; slot = 0 } in
-    let tried : List (List RowRef) = c.loop-at.list.combos ++ matches store inner.table atoms (map option_copied c.loop-at.rows.items) front (at ∷ []) in
+    let tried : List (List RowRef) =
+    c.loop-at.list.combos ++ matches c.loop-at.view.store inner.table atoms (map option_copied c.loop-at.rows.items) front (at ∷ []) in
     let step : tried ≡ old ++ matches store inner.table atoms rows front (take (i + 1) candidates) =
     (λ j. (c.loop-at.invariant.list j).combos
-    ++ matches store inner.table atoms (map option_copied (c.loop-at.invariant.rows j)) front (at ∷ []))
+    ++ matches (c.loop-at.invariant.same j) inner.table atoms (map option_copied (c.loop-at.invariant.rows j)) front (at ∷ []))
     ∙ matches_step store inner.table atoms rows front old candidates i record { part = 0; slot = 0 } c.loop-at-test.true in
     record {
       list = c.in_ok-add_fitting.ensures.list
@@ -54,4 +56,6 @@ loop-at-preserved c =
       rows = c.in_ok-add_fitting.ensures.rows ∙ c.loop-at.invariant.rows;
       few = subst (λ (list : Combos). length list.combos ≤ inner.cap) (sym c.in_ok-add_fitting.ensures.list)
           (cap_within inner.cap tried c.in_ok-add_fitting.ensures.due);
+      same = c.add_fitting.ensures.same ∙ c.loop-at.invariant.same;
+      reads = omega (arith, c.add_fitting.ensures.reads, c.loop-at.invariant.reads);
     }

@@ -12,7 +12,7 @@ use Rattle.mm_templist.proofs.temp_list.TempList.projected.Goals as goal
 
 pub loop-i-preserved : goal.loop-i-preserved
 loop-i-preserved c =
-    let store = c.args.store.now in
+    let store = c.args.view.now.store in
     let list = c.args.self.now in
     let combo = c.combo.result.now in
     let width = length list.fields in
@@ -24,12 +24,13 @@ loop-i-preserved c =
     c.in_ok-push_values.ensures
     ∙ ((λ k. before ++ values_of (c.descriptor-descriptor.ensures.fields k) (map option_copied (c.deref.ensures.value k)))
     ∙ ap (λ rows. before ++ values_of list.fields rows)
-    (c.in_ok-choose_rows.ensures.rows ∙ (λ k. map Some (rows_of_combo store (c.descriptor-descriptor.ensures.tables k) combo)))) in
+    (c.in_ok-choose_rows.ensures.rows ∙ (λ k. map Some (rows_of_combo (c.loop-i.invariant.same k) (c.descriptor-descriptor.ensures.tables k) combo)))) in
     let wide : length row ≡ width = values_are_as_many list.fields (map Some (rows_of_combo store list.tables combo)) in
     let long_before : length before ≡ length c.loop-i.values.items = length-map c.loop-i.values.items (λ value. value.now) in
     let long_after : length after ≡ length c.push_values.new.values.items = length-map c.push_values.new.values.items (λ value. value.now) in
     let tables = ap length c.descriptor-descriptor.ensures.tables in
     record {
+      same = c.in_ok-choose_rows.ensures.same ∙ c.loop-i.invariant.same;
       rows = ap (pieces width (i + 1)) shown
           ∙ (pieces-push width i before row (long_before ∙ c.loop-i.invariant.whole) wide
           ∙ (ap (λ rows. rows ++ row ∷ []) c.loop-i.invariant.rows ∙ sym (next_projected store list i combo c.combo.ensures)));

@@ -13,7 +13,7 @@ use Rattle.mm_query.specs.Machine.{after_definition}
 use Rattle.mm_query.specs.State.{State}
 use Rattle.mm_query.specs.declared.command.Definition.TheVariants as define
 use Rattle.mm_txn.specs.Contents.{Holdings, state_held}
-use Rattle.mm_txn.specs.Kept.{AreOf, instance_of}
+use Rattle.mm_plan.specs.Kept.{AreOf, instance_of}
 use Rattle.mm_txn.specs.Rest.{AreAtRest, state_at_rest}
 use Rattle.mm_txn.proofs.DatabaseSteps.{rows_there, some_there, table_dropped}
 use Rattle.mm_txn.proofs.KeptReferences.{kept_by_no_table, none_to_dropped}

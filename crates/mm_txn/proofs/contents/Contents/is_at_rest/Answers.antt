@@ -1,7 +1,7 @@
 use Rattle.std.proofs.Common.{◌≡◌, subst}
 use Rattle.mm_store.specs.Marks.{rows_now}
 use Rattle.mm_txn.specs.Contents.{Holdings, IsAtRest}
-use Rattle.mm_txn.specs.Kept.{instance_of}
+use Rattle.mm_plan.specs.Kept.{instance_of}
 use Rattle.mm_txn.proofs.contents.Contents.is_at_rest.Goals as goal
 
 pub returns-clause-rest : goal.returns-clause-rest

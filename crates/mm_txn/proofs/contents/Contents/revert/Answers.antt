@@ -5,7 +5,7 @@ use Rattle.mm_store.specs.Marks.{rows_at_mark}
 use Rattle.mm_store.specs.Undoing.{CanUndo}
 use Rattle.mm_value.specs.declared.values.Value.{Value}
 use Rattle.mm_txn.specs.Contents.{Holdings}
-use Rattle.mm_txn.specs.Kept.{instance_of}
+use Rattle.mm_plan.specs.Kept.{instance_of}
 use Rattle.mm_txn.specs.Saved.{AreSaved}
 use Rattle.mm_txn.proofs.GoingBack.{none_behind}
 use Rattle.mm_txn.proofs.RestKept.{rest_back}

@@ -1,10 +1,11 @@
 -- A query begins to stand, in the catalog and in the lists, or in neither.
 use Rattle.std.proofs.Common.{◌≡◌, false, inl, inr, length, map, sym, ap, subst, ◌∙◌, ⊎_elim}
 use Rattle.std.proofs.lemmas.Result.{err_from_is_err_and}
-use Rattle.mm_plan.specs.From.{places_in}
+use Rattle.mm_query.specs.Resolving.{places_in}
 use Rattle.mm_query.specs.Standing.{after_watch, tables_read, watch_conditions}
 use Rattle.mm_schema.specs.Refused.{first_refusal}
 use Rattle.mm_txn.specs.Contents.{Holdings, state_held}
+use Rattle.mm_query.specs.declared.bound_query.BoundQuery.{BoundQuery}
 use Rattle.mm_query.specs.declared.query.FromItem.{FromItem}
 use Rattle.mm_schema.specs.Schema.{Schema}
 use Rattle.mm_schema.specs.Standing.{lacks_some_table}
@@ -35,12 +36,13 @@ add_standing-requires c =
     let lists = c.self.inside.standing in
     let name = c.args.named.name in
     let query = c.args.named.query in
-    let bound = c.in_ok-bound.bound in
-    let tables_are : c.in_ok-tables.tables.items ≡ places_in schema bound.from = c.in_ok-tables.ensures.ok ∙ ap (places_in schema) c.as_slice.ensures in
+    let bound = c.in_ok-bound.bound.query in
+    let tables_are : c.in_ok-bound.bound.tables ≡ places_in schema bound.from =
+    c.in_ok-bound.ensures.tables ∙ sym (ap (λ (b : BoundQuery). places_in schema b.from) c.in_ok-bound.ensures.ok) in
     let names_are : c.in_ok-names.names ≡ tables_read bound =
-    c.in_ok-names.ensures.names ∙ ap (map (λ (item : FromItem). item.table)) c.as_slice-2.ensures in
+    c.in_ok-names.ensures.names ∙ ap (map (λ (item : FromItem). item.table)) c.as_slice.ensures in
     subst (λ ns. lacks_some_table ns schema ≡ false) (sym names_are)
-    (watch_tables_there schema store lists c.self.invariant name query c.in_ok-bound.ensures.due bound c.in_ok-bound.ensures.ok c.in_ok-tables.tables.items tables_are)
+    (watch_tables_there schema store lists c.self.invariant name query c.in_ok-bound.ensures.due bound c.in_ok-bound.ensures.ok c.in_ok-bound.bound.tables tables_are)
 
 pub watch-requires-clause-there : goal.watch-requires-clause-there
 watch-requires-clause-there c =
@@ -49,9 +51,10 @@ watch-requires-clause-there c =
     let lists = c.self.inside.standing in
     let name = c.args.named.name in
     let query = c.args.named.query in
-    let bound = c.in_ok-bound.bound in
-    let tables_are : c.in_ok-tables.tables.items ≡ places_in schema bound.from = c.in_ok-tables.ensures.ok ∙ ap (places_in schema) c.as_slice.ensures in
-    watch_served schema store lists c.self.invariant name query c.in_ok-bound.ensures.due bound c.in_ok-bound.ensures.ok c.in_ok-tables.tables.items tables_are
+    let bound = c.in_ok-bound.bound.query in
+    let tables_are : c.into_vec-tables.result.items ≡ places_in schema bound.from =
+    c.into_vec-tables.ensures ∙ c.in_ok-bound.ensures.tables ∙ sym (ap (λ (b : BoundQuery). places_in schema b.from) c.in_ok-bound.ensures.ok) in
+    watch_served schema store lists c.self.invariant name query c.in_ok-bound.ensures.due bound c.in_ok-bound.ensures.ok c.into_vec-tables.result.items tables_are
 
 pub watch-requires-clause-few : goal.watch-requires-clause-few
 watch-requires-clause-few c =
@@ -60,9 +63,10 @@ watch-requires-clause-few c =
     let lists = c.self.inside.standing in
     let name = c.args.named.name in
     let query = c.args.named.query in
-    let bound = c.in_ok-bound.bound in
-    let tables_are : c.in_ok-tables.tables.items ≡ places_in schema bound.from = c.in_ok-tables.ensures.ok ∙ ap (places_in schema) c.as_slice.ensures in
-    watch_few schema store lists c.self.invariant name query c.in_ok-bound.ensures.due bound c.in_ok-bound.ensures.ok c.in_ok-tables.tables.items tables_are
+    let bound = c.in_ok-bound.bound.query in
+    let tables_are : c.into_vec-tables.result.items ≡ places_in schema bound.from =
+    c.into_vec-tables.ensures ∙ c.in_ok-bound.ensures.tables ∙ sym (ap (λ (b : BoundQuery). places_in schema b.from) c.in_ok-bound.ensures.ok) in
+    watch_few schema store lists c.self.invariant name query c.in_ok-bound.ensures.due bound c.in_ok-bound.ensures.ok c.into_vec-tables.result.items tables_are
 
 pub returns-in-Err-clause-due : goal.returns-in-Err-clause-due
 returns-in-Err-clause-due c =
@@ -72,9 +76,10 @@ returns-in-Err-clause-due c =
     let lists = c.self.inside.standing in
     let name = c.args.named.name in
     let query = c.args.named.query in
-    let bound = c.in_ok-bound.bound in
-    let tables_are : c.in_ok-tables.tables.items ≡ places_in schema bound.from = c.in_ok-tables.ensures.ok ∙ ap (places_in schema) c.as_slice.ensures in
-    let due = watch_due schema store lists c.self.invariant name query c.in_ok-bound.ensures.due bound c.in_ok-bound.ensures.ok c.in_ok-tables.tables.items tables_are in
+    let bound = c.in_ok-bound.bound.query in
+    let tables_are : c.into_vec-tables.result.items ≡ places_in schema bound.from =
+    c.into_vec-tables.ensures ∙ c.in_ok-bound.ensures.tables ∙ sym (ap (λ (b : BoundQuery). places_in schema b.from) c.in_ok-bound.ensures.ok) in
+    let due = watch_due schema store lists c.self.invariant name query c.in_ok-bound.ensures.due bound c.in_ok-bound.ensures.ok c.into_vec-tables.result.items tables_are in
     ⊎_elim (λ h. inl (sym seen ∙ (sym due ∙ h))) (λ m. inr m) c.in-Err.ensures.due
 
 pub returns-in-Err-clause-err : goal.returns-in-Err-clause-err
@@ -109,10 +114,11 @@ returns-clause-due c =
     let lists = c.self.inside.standing in
     let name = c.args.named.name in
     let query = c.args.named.query in
-    let bound = c.in_ok-bound.bound in
-    let tables_are : c.in_ok-tables.tables.items ≡ places_in schema bound.from = c.in_ok-tables.ensures.ok ∙ ap (places_in schema) c.as_slice.ensures in
+    let bound = c.in_ok-bound.bound.query in
+    let tables_are : c.into_vec-tables.result.items ≡ places_in schema bound.from =
+    c.into_vec-tables.ensures ∙ c.in_ok-bound.ensures.tables ∙ sym (ap (λ (b : BoundQuery). places_in schema b.from) c.in_ok-bound.ensures.ok) in
     sym seen
-    ∙ (sym (watch_due schema store lists c.self.invariant name query c.in_ok-bound.ensures.due bound c.in_ok-bound.ensures.ok c.in_ok-tables.tables.items tables_are)
+    ∙ (sym (watch_due schema store lists c.self.invariant name query c.in_ok-bound.ensures.due bound c.in_ok-bound.ensures.ok c.into_vec-tables.result.items tables_are)
     ∙ c.in_default.ensures.due)
 
 pub returns-clause-ok : goal.returns-clause-ok
@@ -122,12 +128,13 @@ returns-clause-ok c =
     let lists = c.self.inside.standing in
     let name = c.args.named.name in
     let query = c.args.named.query in
-    let bound = c.in_ok-bound.bound in
-    let tables_are : c.in_ok-tables.tables.items ≡ places_in schema bound.from = c.in_ok-tables.ensures.ok ∙ ap (places_in schema) c.as_slice.ensures in
+    let bound = c.in_ok-bound.bound.query in
+    let tables_are : c.into_vec-tables.result.items ≡ places_in schema bound.from =
+    c.into_vec-tables.ensures ∙ c.in_ok-bound.ensures.tables ∙ sym (ap (λ (b : BoundQuery). places_in schema b.from) c.in_ok-bound.ensures.ok) in
     let names_are : c.in_ok-names.names ≡ tables_read bound =
-    c.in_ok-names.ensures.names ∙ ap (map (λ (item : FromItem). item.table)) c.as_slice-2.ensures in
+    c.in_ok-names.ensures.names ∙ ap (map (λ (item : FromItem). item.table)) c.as_slice.ensures in
     let new = c.in_default.ensures.ok in
-    state_by_watch schema store lists c.self.invariant name query c.in_ok-bound.ensures.due bound c.in_ok-bound.ensures.ok c.in_ok-tables.tables.items tables_are
+    state_by_watch schema store lists c.self.invariant name query c.in_ok-bound.ensures.due bound c.in_ok-bound.ensures.ok c.into_vec-tables.result.items tables_are
     c.in_ok-names.names names_are c.copy.result c.copy.ensures new.0 new.1 c.add_standing.new.self c.in_ok-add_standing.ensures.ok
     c.watch.new.self new.2
     ∙ ap (λ (h : Holdings). after_watch name query (state_held h)) c.self.view_is
@@ -139,13 +146,14 @@ invariant_of-self-in_default c =
     let lists = c.self.inside.standing in
     let name = c.args.named.name in
     let query = c.args.named.query in
-    let bound = c.in_ok-bound.bound in
-    let tables_are : c.in_ok-tables.tables.items ≡ places_in schema bound.from = c.in_ok-tables.ensures.ok ∙ ap (places_in schema) c.as_slice.ensures in
+    let bound = c.in_ok-bound.bound.query in
+    let tables_are : c.into_vec-tables.result.items ≡ places_in schema bound.from =
+    c.into_vec-tables.ensures ∙ c.in_ok-bound.ensures.tables ∙ sym (ap (λ (b : BoundQuery). places_in schema b.from) c.in_ok-bound.ensures.ok) in
     let names_are : c.in_ok-names.names ≡ tables_read bound =
-    c.in_ok-names.ensures.names ∙ ap (map (λ (item : FromItem). item.table)) c.as_slice-2.ensures in
+    c.in_ok-names.ensures.names ∙ ap (map (λ (item : FromItem). item.table)) c.as_slice.ensures in
     let new = c.in_default.ensures.ok in
-    let due = sym (watch_due schema store lists c.self.invariant name query c.in_ok-bound.ensures.due bound c.in_ok-bound.ensures.ok c.in_ok-tables.tables.items tables_are)
+    let due = sym (watch_due schema store lists c.self.invariant name query c.in_ok-bound.ensures.due bound c.in_ok-bound.ensures.ok c.into_vec-tables.result.items tables_are)
     ∙ c.in_default.ensures.due in
-    rest_by_watch schema store lists c.self.invariant name query c.in_ok-bound.ensures.due bound c.in_ok-bound.ensures.ok c.in_ok-tables.tables.items tables_are
+    rest_by_watch schema store lists c.self.invariant name query c.in_ok-bound.ensures.due bound c.in_ok-bound.ensures.ok c.into_vec-tables.result.items tables_are
     c.in_ok-names.names names_are c.copy.result c.copy.ensures new.0 new.1 c.add_standing.new.self c.in_ok-add_standing.ensures.ok
     c.watch.new.self new.2 (sym c.len.ensures.queries ∙ c.len.ensures.bags) due c.in_ok-bound.ensures.within

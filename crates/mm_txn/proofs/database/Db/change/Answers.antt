@@ -7,8 +7,9 @@ use Rattle.mm_standing.specs.Queries.{RowsByPlace}
 use Rattle.mm_query.specs.Edits.{own_pairs, value_conditions}
 use Rattle.mm_query.specs.Machine.{after_change}
 use Rattle.mm_query.specs.State.{State}
-use Rattle.mm_typing.specs.Typing.{AreTyped}
-use Rattle.mm_txn.specs.Kept.{instance_of, state_of, watched_state}
+use Rattle.mm_laws.specs.Typing.{AreTyped}
+use Rattle.mm_plan.specs.Kept.{instance_of}
+use Rattle.mm_txn.specs.Kept.{state_of, watched_state}
 use Rattle.mm_txn.specs.Saved.{saved_rows}
 use Rattle.mm_txn.specs.TableEdits.{placed, rows_edited}
 use Rattle.mm_txn.specs.Watched.{IsTested, queries_of, rows_by_place}

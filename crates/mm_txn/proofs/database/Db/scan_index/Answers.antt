@@ -1,84 +1,14 @@
--- The index of a name, and the relation beside its table.
-use Rattle.std.proofs.Common.{◌≡◌, true, false, cond, Some, None, is_none, sym, ap, ◌∙◌, arith}
-use Rattle.std.specs.Option.{option_copied}
-use Rattle.std.proofs.lemmas.Result.{err_from_is_err_and}
-use Rattle.mm_schema.specs.Indexes.{lacks_index}
-use Rattle.mm_value.specs.declared.refusal.Refusal.{Refusal}
-use Rattle.mm_value.specs.declared.refusal.Refusal.TheVariants.{NoSuchIndex}
-use Rattle.mm_query.specs.Machine.{rows_by_index}
+use Rattle.std.proofs.Common.{◌≡◌, IfOk, subst}
+use Rattle.mm_query.specs.Machine.{conditions, rows_by_index}
 use Rattle.mm_query.specs.State.{State}
-use Rattle.mm_txn.proofs.IndexSteps.{along_within, column_there, has_index, index_here, relation_there, rows_along, table_there}
-use Rattle.mm_txn.specs.Contents.{Holdings}
-use Rattle.mm_txn.specs.Saved.{kept_state}
+use Rattle.mm_query.specs.declared.command.Command.TheVariants.{ScanIndex}
+use Rattle.mm_schema.specs.Refused.{AnswersDue, first_refusal}
 use Rattle.mm_txn.proofs.database.Db.scan_index.Goals as goal
-
-pub returns-in_err-index-clause-due : goal.returns-in_err-index-clause-due
-returns-in_err-index-clause-due c =
-    let seen = ap (λ (h : Holdings). kept_state h c.self.inside.undo c.self.inside.is_open c.self.inside.marks.items) c.contents.view_is ∙ c.self.view_is in
-    let p = err_from_is_err_and c.from_residual.result c.from_residual.ensures.1 in
-    let lacks : lacks_index c.args.name.now c.contents.inside.catalog ≡ true =
-    ap is_none (sym c.find_index.ensures.found ∙ ap option_copied c.in_err-index.ensures.ok_part) in
-    let lacks_now : lacks_index c.args.name.now
-    c.args.self.now.schema ≡ true = sym (ap (λ (s : State). lacks_index c.args.name.now s.schema) seen) ∙ lacks in
-    let told : NoSuchIndex ≡ c.in_err-index.field-0.0 = grind arith in
-    rw (p.1, p.2) (ap (λ b. cond b (Some NoSuchIndex) None) lacks_now ∙ ap (λ (r : Refusal). Some r) told)
-
-pub returns-in_err-at-clause-due : goal.returns-in_err-at-clause-due
-returns-in_err-at-clause-due c =
-    absurd (table_there c.contents.inside.catalog c.contents.inside.store.tables c.contents.invariant.kept.relations c.args.name.now c.in_ok-index.index.now
-    (sym c.find_index.ensures.found ∙ ap option_copied c.in_ok-index.ensures.ok_part) c.find_index.ensures.in_place c.place_of.ensures.distinct
-    (sym c.place_of.ensures.place ∙ c.in_err-at.ensures.ok_part))
-
-pub returns-in_err-place-clause-due : goal.returns-in_err-place-clause-due
-returns-in_err-place-clause-due c =
-    absurd (index_here c.contents.inside.catalog c.contents.inside.store.tables c.contents.invariant.kept.relations c.args.name.now c.in_ok-index.index.now
-    (sym c.find_index.ensures.found ∙ ap option_copied c.in_ok-index.ensures.ok_part) c.find_index.ensures.in_place c.place_of.ensures.distinct c.in_ok-at.at
-    (sym c.place_of.ensures.place ∙ c.in_ok-at.ensures.ok_part) c.table_at-table.result.now c.table_at-table.ensures
-    (sym c.place_of-2.ensures ∙ c.in_err-place.ensures.ok_part))
-
-pub returns-in_err-column-clause-due : goal.returns-in_err-column-clause-due
-returns-in_err-column-clause-due c =
-    absurd (column_there c.contents.inside.catalog c.contents.inside.store.tables c.contents.invariant.kept.relations c.args.name.now c.in_ok-index.index.now
-    (sym c.find_index.ensures.found ∙ ap option_copied c.in_ok-index.ensures.ok_part) c.find_index.ensures.in_place c.place_of.ensures.distinct c.in_ok-at.at
-    (sym c.place_of.ensures.place ∙ c.in_ok-at.ensures.ok_part) c.table_at-table.result.now c.table_at-table.ensures
-    (sym c.place_of-3.ensures ∙ c.in_err-column.ensures.ok_part))
-
-pub table-requires : goal.table-requires
-table-requires c =
-    relation_there c.contents.inside.catalog c.contents.inside.store.tables c.contents.invariant.kept.relations c.args.name.now c.in_ok-index.index.now
-    (sym c.find_index.ensures.found ∙ ap option_copied c.in_ok-index.ensures.ok_part) c.find_index.ensures.in_place c.place_of.ensures.distinct c.in_ok-at.at
-    (sym c.place_of.ensures.place ∙ c.in_ok-at.ensures.ok_part) c.table_at-table.result.now c.table_at-table.ensures
 
 pub returns-clause-due : goal.returns-clause-due
 returns-clause-due c =
-    let seen = ap (λ (h : Holdings). kept_state h c.self.inside.undo c.self.inside.is_open c.self.inside.marks.items) c.contents.view_is ∙ c.self.view_is in
-    let found : lacks_index c.args.name.now c.contents.inside.catalog ≡ false =
-    ap is_none (sym c.find_index.ensures.found ∙ ap option_copied c.in_ok-index.ensures.ok_part) in
-    let found_now : lacks_index c.args.name.now
-    c.args.self.now.schema ≡ false = sym (ap (λ (s : State). lacks_index c.args.name.now s.schema) seen) ∙ found in
-    ap (λ b. cond b (Some NoSuchIndex) None) found_now
-
-pub returns-clause-along : goal.returns-clause-along
-returns-clause-along c = record {
-  few = c.table.ensures.few;
-  within = along_within c.contents.inside.catalog c.contents.inside.store.tables c.contents.invariant.kept.relations c.args.name.now c.in_ok-index.index.now
-      (sym c.find_index.ensures.found ∙ ap option_copied c.in_ok-index.ensures.ok_part) c.find_index.ensures.in_place c.place_of.ensures.distinct c.in_ok-at.at
-      (sym c.place_of.ensures.place ∙ c.in_ok-at.ensures.ok_part) c.table_at-table.result.now c.table_at-table.ensures c.in_ok-place.place
-      (sym c.place_of-2.ensures ∙ c.in_ok-place.ensures.ok_part) c.in_ok-column.column (sym c.place_of-3.ensures ∙ c.in_ok-column.ensures.ok_part)
-      c.table.result.now c.table.ensures.at;
-  index = has_index c.contents.inside.catalog c.contents.inside.store.tables c.contents.invariant.kept.relations c.args.name.now c.in_ok-index.index.now
-      (sym c.find_index.ensures.found ∙ ap option_copied c.in_ok-index.ensures.ok_part) c.find_index.ensures.in_place c.place_of.ensures.distinct c.in_ok-at.at
-      (sym c.place_of.ensures.place ∙ c.in_ok-at.ensures.ok_part) c.table_at-table.result.now c.table_at-table.ensures c.in_ok-place.place
-      (sym c.place_of-2.ensures ∙ c.in_ok-place.ensures.ok_part) c.in_ok-column.column (sym c.place_of-3.ensures ∙ c.in_ok-column.ensures.ok_part)
-      c.table.result.now c.table.ensures.at;
-}
+    subst (λ (s : State). AnswersDue (first_refusal (conditions (ScanIndex c.args.name.now) s)) c.scan_index.result) c.self.view_is c.scan_index.ensures.due
 
 pub returns-clause-rows : goal.returns-clause-rows
 returns-clause-rows c =
-    rows_along c.contents.inside.catalog c.contents.inside.store.tables c.contents.invariant.kept.relations c.args.name.now c.in_ok-index.index.now
-    (sym c.find_index.ensures.found ∙ ap option_copied c.in_ok-index.ensures.ok_part) c.find_index.ensures.in_place c.place_of.ensures.distinct c.in_ok-at.at
-    (sym c.place_of.ensures.place ∙ c.in_ok-at.ensures.ok_part) c.table_at-table.result.now c.table_at-table.ensures c.in_ok-place.place
-    (sym c.place_of-2.ensures ∙ c.in_ok-place.ensures.ok_part) c.in_ok-column.column (sym c.place_of-3.ensures ∙ c.in_ok-column.ensures.ok_part)
-    c.table.result.now c.table.ensures.at
-    ∙ ap (λ (s : State). rows_by_index s c.args.name.now)
-    (ap (λ (h : Holdings). kept_state h c.self.inside.undo c.self.inside.is_open c.self.inside.marks.items) c.contents.view_is ∙ c.self.view_is)
+    subst (λ (s : State). IfOk c.scan_index.result (λ rows. rows ≡ rows_by_index s c.args.name.now)) c.self.view_is c.scan_index.ensures.rows

@@ -7,7 +7,7 @@ use Rattle.mm_value.specs.declared.refusal.Refusal.{Refusal}
 use Rattle.mm_value.specs.declared.refusal.Refusal.TheVariants.{NoSuchStandingQuery}
 use Rattle.mm_query.specs.Standing.{shown_rows}
 use Rattle.mm_query.specs.State.{State}
-use Rattle.mm_txn.specs.Kept.{instance_of}
+use Rattle.mm_plan.specs.Kept.{instance_of}
 use Rattle.mm_txn.specs.Saved.{saved_rows}
 use Rattle.mm_txn.proofs.Showing.{list_is_some_bag, only_memory, shown_if_ok}
 use Rattle.mm_txn.proofs.WatchSteps.{place_of_list, standing_found, standing_missing}

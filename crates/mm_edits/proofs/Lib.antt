@@ -1,8 +1,0 @@
-mod Along
-mod ByKey
-mod Ends
-mod Made
-mod Once
-mod OnPath
-mod Selected
-mod Values

@@ -1,0 +1,63 @@
+use Rattle.std.proofs.Common.{ℕ, ◌+◌, ◌<◌, ◌≤◌, length, sym, subst, arith}
+use Rattle.std.specs.List.{sum_by}
+use Rattle.mm_store.specs.Tables.{IsAt, Tables, rows_at}
+use Rattle.mm_templist.specs.Combos.{combo_rows}
+use Rattle.mm_join.specs.Joined.{IsNext}
+use Rattle.mm_join.specs.Joins.{CanJoin, Joins}
+use Rattle.mm_join.specs.Reads.{has_hash, reads_of}
+use Rattle.mm_join.specs.Ways.{IsWay, inner_of, reads_along}
+use Rattle.mm_join.specs.declared.inner.Inner.{Inner}
+use Rattle.mm_join.proofs.join.Join.built_hash.Goals as goal
+
+pub hashed_rows-requires : goal.hashed_rows-requires
+hashed_rows-requires c =
+    subst (λ (x : Inner). x.table < length c.args.view.now.store.tables) (sym (c.inner.ensures c.requires.next.0 c.requires.next.1.0.0)) c.requires.next.1.0.1
+
+pub along-requires : goal.along-requires
+along-requires c =
+    let store = c.args.view.now.store in
+    let join = c.args.self.now in
+    let (table, can) = c.requires.next in
+    let inner = c.inner.ensures table can.0.0 in
+    record {
+      next = subst (λ (s : Tables). (n : ℕ) × CanJoin s join n × IsWay s join.outer.now.tables (inner_of join n) c.sought.result) (sym c.hashed_rows.ensures.same) (
+        table,
+        can,
+        subst (IsWay store join.outer.now.tables (inner_of join table)) (sym c.sought.ensures) (
+          c.requires.asked table can.0,
+          λ stored here.
+              c.in_ok-pairs.ensures.pairs stored (subst (λ (x : Inner). IsAt store x.table stored) (sym inner) here),
+        ),
+      );
+    }
+
+pub returns-in_err-pairs-clause-reads : goal.returns-in_err-pairs-clause-reads
+returns-in_err-pairs-clause-reads c = λ table is.
+    let inner = c.inner.ensures table is.0 in
+    let read : c.hashed_rows.new.view.reads ≤ c.args.view.now.reads + length (rows_at c.args.view.now.store.tables table) =
+    subst (λ (x : Inner). c.hashed_rows.new.view.reads ≤ c.args.view.now.reads + length (rows_at c.args.view.now.store.tables x.table)) inner
+    c.hashed_rows.ensures.reads in
+    omega (arith, read)
+
+pub returns-clause-joins : goal.returns-clause-joins
+returns-clause-joins c = λ table is.
+    subst (λ (s : Tables). Joins s c.args.self.now table c.along.result) c.hashed_rows.ensures.same
+    (c.along.ensures.joins table (subst (λ (s : Tables). IsNext s c.args.self.now.outer.now.tables c.args.self.now.descriptor.tables.now table)
+    (sym c.hashed_rows.ensures.same) is))
+
+pub returns-clause-reads : goal.returns-clause-reads
+returns-clause-reads c = λ table is.
+    let store = c.args.view.now.store in
+    let join = c.args.self.now in
+    let inner = c.inner.ensures table is.0 in
+    let next = subst (λ (s : Tables). IsNext s join.outer.now.tables join.descriptor.tables.now table) (sym c.hashed_rows.ensures.same) is in
+    let along : c.along.new.view.reads ≤ c.hashed_rows.new.view.reads + reads_of store join table (has_hash c.args.key) =
+    subst (λ n. c.along.new.view.reads ≤ c.hashed_rows.new.view.reads + n)
+    (λ j. sum_by (reads_along (c.sought.ensures j) (rows_at (c.hashed_rows.ensures.same j).tables table))
+    (combo_rows (c.hashed_rows.ensures.same j) join.outer.now))
+    (c.along.ensures.reads table next) in
+    omega (
+      arith,
+      subst (λ (x : Inner). c.hashed_rows.new.view.reads ≤ c.args.view.now.reads + length (rows_at store.tables x.table)) inner c.hashed_rows.ensures.reads,
+      along,
+    )

@@ -1,0 +1,9 @@
+use Rattle.std.proofs.Common.{◌≡◌, drop}
+use Rattle.mm_plan.specs.Choosing.{first_from, first_rule}
+use Rattle.mm_plan.proofs.choosing.Chooser.first_by.Given as goal
+
+-- The atoms that are left give what all do.
+abbrev pub invariant-loop-place : goal.invariant-loop-place
+invariant-loop-place l =
+    first_from (first_rule l.rule l.self.view.now.store l.table) l.place (drop l.place l.self.atoms.now)
+    ≡ first_from (first_rule l.rule l.self.view.now.store l.table) 0 l.self.atoms.now

@@ -1,0 +1,59 @@
+use Rattle.std.proofs.Common.{◌≡◌, ◌+◌, ◌<◌, ◌++◌, ◌∷◌, [], get_or, length, map, take, sym, ap, ◌∙◌, subst, arith}
+use Rattle.std.specs.Prelude.{slice_get}
+use Rattle.std.specs.List.{All}
+use Rattle.std.proofs.lemmas.List.{map-append, take_all}
+use Rattle.std.proofs.lemmas.List.Elements.{All-get_or, All-push}
+use Rattle.mm_partition.specs.Places.{IsLive}
+use Rattle.mm_plan.specs.Finding.{IsKeyed}
+use Rattle.mm_plan.specs.declared.finding.Keyed.{Keyed}
+use Rattle.mm_relation.specs.Kept.{StoredRows}
+use Rattle.mm_relation.specs.Refs.{row_in}
+use Rattle.mm_store.proofs.Joining.{some_at}
+use Rattle.mm_store.proofs.Lists.{take_more}
+use Rattle.mm_store.specs.Seen.{Seen}
+use Rattle.mm_store.specs.Tables.{IsAt, Tables}
+use Rattle.mm_value.specs.declared.row_ref.RowRef.{RowRef}
+use Rattle.mm_plan.proofs.finding.with_keys.Goals as goal
+
+abbrev none : RowRef
+none = record { part = 0; slot = 0 }
+
+pub row-row-requires-clause-there : goal.row-row-requires-clause-there
+row-row-requires-clause-there c = subst (λ (s : Tables). c.args.table < length s.tables) (sym c.loop-at.invariant.same) c.requires.there
+
+pub row-row-requires-clause-live : goal.row-row-requires-clause-live
+row-row-requires-clause-live c = λ stored at.
+    All-get_or (IsLive stored.places) c.args.refs.now c.loop-at.at-index none c.loop-at-test.true
+    (c.requires.live stored (subst (λ (s : Tables). IsAt s c.args.table stored) c.loop-at.invariant.same at))
+
+pub value-requires : goal.value-requires
+value-requires c =
+    let (stored, here) = some_at c.args.view.now.store.tables c.args.table c.requires.there in
+    let is = c.row-row.ensures.row stored (subst (λ (s : Tables). IsAt s c.args.table stored) (sym c.loop-at.invariant.same) here) in
+    let kept = c.is_kept.ensures.kept stored here in
+    omega (arith, c.key_of-key.ensures stored here, kept.key_in, kept.wide _ _ is)
+
+pub loop-at-preserved : goal.loop-at-preserved
+loop-at-preserved c =
+    let refs = c.args.refs.now in
+    let i = c.loop-at.at-index in
+    let at : RowRef = get_or refs i none in
+    let at_of = λ (row : Keyed). row.at in
+    let more : take i refs ++ at ∷ [] ≡ take (i + 1) refs = sym (take_more refs i none c.loop-at-test.true) in
+    let new : Keyed = record { key = c.value.result; at = at } in
+    record {
+      same = ap (λ (seen : Seen). seen.store) c.row-row.ensures.counted ∙ c.loop-at.invariant.same;
+      refs = ap (map at_of) c.in_ok-push.ensures.items
+          ∙ (map-append at_of c.loop-at.rows.items (new ∷ []) ∙ (ap (λ rs. rs ++ at ∷ []) c.loop-at.invariant.refs ∙ more));
+      keys = λ stored here.
+          let is = c.row-row.ensures.row stored (subst (λ (s : Tables). IsAt s c.args.table stored) (sym c.loop-at.invariant.same) here) in
+          let keyed : IsKeyed stored new =
+          ap (λ content. slice_get (row_in content) stored.key) is
+          ∙ (ap (slice_get c.row-row.result.now) (sym (c.key_of-key.ensures stored here)) ∙ c.value.ensures) in
+          subst (All (IsKeyed stored)) (sym c.in_ok-push.ensures.items)
+          (All-push (IsKeyed stored) c.loop-at.rows.items new (c.loop-at.invariant.keys stored here) keyed);
+      reads = omega (arith, ap (λ (seen : Seen). seen.reads) c.row-row.ensures.counted, c.loop-at.invariant.reads);
+    }
+
+pub returns-clause-refs : goal.returns-clause-refs
+returns-clause-refs c = c.loop-at.invariant.refs ∙ take_all c.loop-at.at-index c.args.refs.now c.loop-at-test.false

@@ -1,0 +1,142 @@
+-- The steps of a plan: which a query allows, and how many rows running them may look at.
+use Rattle.std.specs.Prelude.{◌≡◌, ℕ, suc, ◌+◌, ◌==◌, ◌++◌, ◌∷◌, ◌&&◌, not, pos, if◌then◌else◌, Bool, true, List, [], Option, Some, None, length, slice_get, slice_index, take}
+use Rattle.std.specs.List.{sum_by}
+use Rattle.std.specs.Option.{option_map_or}
+use Rattle.std.specs.declared.cmp.Ordering.{Ordering}
+use Rattle.std.specs.declared.cmp.Ordering.TheVariants as ordering
+use Rattle.mm_join.specs.Equated.{added}
+use Rattle.mm_join.specs.Keys.{key_of}
+use Rattle.mm_join.specs.Reads.{has_hash, has_prefix, has_sought, reads_behind}
+use Rattle.mm_join.specs.declared.key.JoinKey.{JoinKey}
+use Rattle.mm_plan.specs.declared.step.Step.{Step}
+use Rattle.mm_plan.specs.declared.step.Step.TheVariants as step
+use Rattle.mm_query.specs.Atoms.{holds, stands}
+use Rattle.mm_query.specs.Choosing.{first_given}
+use Rattle.mm_query.specs.Queries.{Partial, value_at}
+use Rattle.mm_query.specs.declared.atom.Atom.{Atom}
+use Rattle.mm_query.specs.declared.atom.Comparison.{Comparison}
+use Rattle.mm_query.specs.declared.atom.Comparison.TheVariants.{Equal}
+use Rattle.mm_query.specs.declared.atom.Operand.{Operand}
+use Rattle.mm_query.specs.declared.atom.Operand.TheVariants.{Literal}
+use Rattle.mm_query.specs.declared.bound_query.FieldPlace.{FieldPlace}
+use Rattle.mm_relation.specs.Kept.{StoredRows}
+use Rattle.mm_select.specs.Accesses.{lies_between}
+use Rattle.mm_select.specs.Asked.{compares}
+use Rattle.mm_select.specs.Fitting.{fitting}
+use Rattle.mm_store.specs.Links.{IsReference}
+use Rattle.mm_store.specs.Looked.{IsHash, IsIndexOn, IsTree}
+use Rattle.mm_store.specs.Tables.{IsAt, Tables}
+use Rattle.mm_store.specs.declared.index_ref.IndexRef.{IndexRef}
+use Rattle.mm_value.specs.declared.values.Value.{Value}
+
+-- ---- steps that a query allows
+
+-- The first table may be reached so: the index is there, on the column that the atom compares with a value.
+abbrev pub Reaches : StoredRows → List (Atom FieldPlace) → Step → Type 0
+Reaches stored atoms step.Scan = Unit {0}
+Reaches stored atoms (step.LookUp index atom) =
+    (column : ℕ) × (value : Value) × (slice_get atoms atom ≡ Some (compares column Equal value)) × IsIndexOn stored column index
+Reaches stored atoms (step.Range index atom) = (column : ℕ) × (comparison : Comparison) × (value : Value)
+    × (slice_get atoms atom ≡ Some (compares column comparison value)) × IsIndexOn stored column index × IsTree index
+Reaches stored atoms _ = ⊥
+
+-- The atom at a place is a join equality of the table at another place in FROM, with a key of which this holds.
+abbrev pub HasKey : List (Atom FieldPlace) → ℕ → ℕ → (JoinKey → Type 0) → Type 0
+HasKey atoms place atom Holds = (own : Atom FieldPlace) × (key : JoinKey)
+    × (slice_get atoms atom ≡ Some own) × (key_of place own ≡ Some key) × Holds key
+
+-- The table at a place of the store has the index on the column.
+abbrev pub HasIndexAt : Tables → ℕ → ℕ → IndexRef → Type 0
+HasIndexAt store table column index = (stored : StoredRows) → IsAt store table stored → IsIndexOn stored column index
+
+-- The key asks for the value of its field, without a shift, in the key column of the table at a place, to which that field refers.
+abbrev pub RefersPlainly : Tables → List ℕ → ℕ → JoinKey → Type 0
+RefersPlainly store outers table key = (added key.shift ≡ pos 0)
+    × ((stored : StoredRows) → IsAt store table stored → key.column ≡ stored.key)
+    × IsReference store.links (slice_index outers key.field.place) key.field.column table
+
+-- A further table may be reached so behind some others: what the step goes by is there, and an atom asks for it.
+abbrev pub Joins : Tables → List (Atom FieldPlace) → List ℕ → ℕ → Step → Type 0
+Joins store atoms outers table step.NestedLoops = Unit {0}
+Joins store atoms outers table (step.BuiltHash atom) = HasKey atoms (length outers) atom (λ key. Unit {0})
+Joins store atoms outers table (step.HashJoin index atom) = HasKey atoms (length outers) atom (λ key. HasIndexAt store table key.column index × IsHash index)
+Joins store atoms outers table (step.TreeJoin index atom) = HasKey atoms (length outers) atom (λ key. HasIndexAt store table key.column index × IsTree index)
+Joins store atoms outers table (step.TreeMerge outer inner atom) = HasKey atoms (length outers) atom (λ key.
+    (first : ℕ) × (outers ≡ first ∷ []) × HasIndexAt store first key.field.column outer × IsTree outer
+    × HasIndexAt store table key.column inner × IsTree inner)
+Joins store atoms outers table (step.Precomputed atom) = HasKey atoms (length outers) atom (λ key. RefersPlainly store outers table key)
+Joins store atoms outers table _ = ⊥
+
+-- Each table of a query has a step that may reach it.
+pub record AreSteps (store : Tables) (atoms : List (Atom FieldPlace)) (tables : List ℕ) (steps : List Step) : Type 0 where
+  pub each : length steps ≡ length tables
+  pub first : (table : ℕ) (own : Step) (stored : StoredRows) → slice_get tables 0 ≡ Some table → slice_get steps 0 ≡ Some own
+      → IsAt store table stored → Reaches stored atoms own
+  pub further : (place table : ℕ) (own : Step) → slice_get tables (suc place) ≡ Some table → slice_get steps (suc place) ≡ Some own
+      → Joins store atoms (take (suc place) tables) table own
+
+-- ---- how many rows they look at
+
+-- The value that an operand is.
+abbrev pub literal_of : Operand FieldPlace → Option Value
+literal_of (Literal value) = Some value
+literal_of _ = None
+
+-- The value with which the atom compares the column of the first table, where it is false of all values on this side of that one.
+abbrev pub end_of : Ordering → ℕ → Atom FieldPlace → Option Value
+end_of beyond column atom =
+    if (atom.left.place == 0) && (atom.left.column == column) && not (stands atom.comparison beyond) then literal_of atom.right else None
+
+-- The first lower end that the atoms set for the column of the first table, ..
+abbrev pub low_end : List (Atom FieldPlace) → ℕ → Option Value
+low_end atoms column = first_given (end_of ordering.Less column) atoms
+
+-- .. and the first upper one.
+abbrev pub high_end : List (Atom FieldPlace) → ℕ → Option Value
+high_end atoms column = first_given (end_of ordering.Greater column) atoms
+
+-- The test passes the atom at a place, if there is one.
+abbrev pub passes_atom : (Atom FieldPlace → Bool) → List (Atom FieldPlace) → ℕ → Bool
+passes_atom test atoms atom = option_map_or test (slice_get atoms atom) true
+
+-- It passes the key that this atom has for the table at a place in FROM, if it has one.
+abbrev pub passes_key : (JoinKey → Bool) → List (Atom FieldPlace) → ℕ → ℕ → Bool
+passes_key test atoms place atom = passes_atom (λ own. option_map_or test (key_of place own) true) atoms atom
+
+-- Behind some rows the step for the table at a place in FROM may look at the row.
+abbrev pub may_look : List (Atom FieldPlace) → ℕ → Step → Partial → List Value → Bool
+may_look atoms place (step.LookUp index atom) rows row = passes_atom (holds (value_at (Some row ∷ []))) atoms atom
+may_look atoms place (step.Range index atom) rows row =
+    passes_atom (λ own. lies_between own.left.column (low_end atoms own.left.column) (high_end atoms own.left.column) row) atoms atom
+may_look atoms place (step.TreeMerge outer inner atom) rows row = passes_key (λ key. has_prefix key rows row) atoms place atom
+may_look atoms place (step.TreeJoin index atom) rows row = passes_key (λ key. has_sought key rows row) atoms place atom
+may_look atoms place (step.HashJoin index atom) rows row = passes_key (λ key. has_sought key rows row) atoms place atom
+may_look atoms place (step.BuiltHash atom) rows row = passes_key (λ key. has_hash key rows row) atoms place atom
+may_look atoms place _ rows row = true
+
+-- How many rows the step may look at for each combination of the tables before its own: those of the combination, and of its own table
+-- those that may follow them; along a foreign key there is one.
+abbrev pub reads_each : List (Atom FieldPlace) → ℕ → Step → List (List Value) → List (List Value) → ℕ
+reads_each atoms place (step.Precomputed atom) rows combination = length combination + 1
+reads_each atoms place own rows combination = reads_behind (may_look atoms place own) rows combination
+
+-- How many it may look at once more, whatever stands before its table: each row, for a hash table that is built or a walk along a tree.
+abbrev pub reads_once : Step → List (List Value) → ℕ
+reads_once (step.TreeMerge outer inner atom) rows = length rows
+reads_once (step.BuiltHash atom) rows = length rows
+reads_once _ rows = 0
+
+-- How many it may look at in all, over these rows of its table and these combinations of the tables before it.
+abbrev pub step_reads : List (Atom FieldPlace) → ℕ → Step → List (List Value) → List (List (List Value)) → ℕ
+step_reads atoms place own rows outers = reads_once own rows + sum_by (reads_each atoms place own rows) outers
+
+-- How many all steps may: each behind the combinations of the tables before it that fit so far.
+abbrev pub steps_reads : List (Atom FieldPlace) → List (List (List Value)) → List Step → List (List (List Value)) → ℕ
+steps_reads atoms before [] tables = 0
+steps_reads atoms before (own ∷ steps) [] = 0
+steps_reads atoms before (own ∷ steps) (rows ∷ tables) =
+    step_reads atoms (length before) own rows (fitting atoms before) + steps_reads atoms (before ++ rows ∷ []) steps tables
+
+-- A plan with these steps may look at no more rows than this, over these rows of its tables.
+abbrev pub plan_reads : List (Atom FieldPlace) → List Step → List (List (List Value)) → ℕ
+plan_reads atoms steps tables = steps_reads atoms [] steps tables

@@ -1,0 +1,196 @@
+//! The rows of one table that meet atoms.
+ghost use Rattle.std.specs.Prelude.{◌≡◌, ◌+◌, ◌++◌, ◌∷◌, ◌<◌, ◌≤◌, [], All, IfOk, IsPermutation, None, OnOk, filter, length, map};
+ghost use Rattle.std.specs.List.{count_by};
+ghost use Rattle.std.specs.List.Sorted.{IsSortedByKey};
+ghost use Rattle.mm_partition.specs.Places.{IsLive, slot_at};
+ghost use Rattle.mm_plan.specs.Choosing.{first_step};
+ghost use Rattle.mm_plan.specs.Finding.{IsKeyed, among, is_again, meeting, meets, once};
+ghost use Rattle.mm_plan.specs.Steps.{may_look};
+ghost use Rattle.mm_relation.specs.Kept.{StoredRows};
+ghost use Rattle.mm_relation.specs.Refs.{row_at};
+ghost use Rattle.mm_store.specs.Tables.{IsAt, rows_at};
+ghost use Rattle.mm_value.specs.Order.{value_cmp};
+
+use crate::beginning::access_by;
+use crate::choosing::Chooser;
+use crate::step::Step;
+use mm_query::{Atom, FieldPlace, none_fails};
+use mm_select::select;
+use mm_store::View;
+use mm_templist::{Descriptor, TempList};
+use mm_value::{RowRef, Value, compare};
+use std::alloc::{AllocError, Global};
+
+/// The key of a row, and the reference where the row stands.
+#[derive(Clone, Copy)]
+struct Keyed<'v> {
+    key: &'v Value,
+    at: RowRef,
+}
+
+/// The references of the rows of a table of which no atom is false, in key order. They are found by the step that a query of this
+/// table alone would take; where that goes by an index and finds several, each is looked at once more for its key. `AllocError`
+/// where memory is refused.
+pub fn find_rows(
+    alloc: Global,
+    view: &mut View<'_>,
+    table: usize,
+    atoms: &[Atom<FieldPlace>],
+) -> Result<Vec<RowRef>, AllocError>
+    requires { table < length view.old.store.tables }
+    ensures found { IfOk result (λ found. (stored : StoredRows) → IsAt view.old.store table stored → found.items ≡ meeting atoms.now stored) }
+    ensures reads { view.new.reads ≤ view.old.reads
+        + count_by (may_look atoms.now 0 (first_step view.old.store atoms.now table) []) (rows_at view.old.store.tables table)
+        + count_by (meets atoms.now) (rows_at view.old.store.tables table) }
+    ensures same { view.new.store ≡ view.old.store }
+{
+    view.is_kept(table);
+    let step = Chooser { view, atoms }.first_step(table);
+    if let Step::Scan = step {
+        return scan(alloc, view, table, atoms);
+    }
+    let tables = [table];
+    let descriptor = Descriptor {
+        tables: &tables,
+        fields: &[],
+    };
+    let list = select(alloc, view, descriptor, atoms, access_by(atoms, step))?;
+    let found = refs_of(alloc, &list)?;
+    in_key_order(alloc, view, table, found)
+}
+
+/// The same by a look at each row, in key order; at none where there are no atoms.
+fn scan(
+    alloc: Global,
+    view: &mut View<'_>,
+    table: usize,
+    atoms: &[Atom<FieldPlace>],
+) -> Result<Vec<RowRef>, AllocError>
+    requires { table < length view.old.store.tables }
+    ensures found { IfOk result (λ found. (stored : StoredRows) → IsAt view.old.store table stored → found.items ≡ meeting atoms.now stored) }
+    ensures reads { view.new.reads ≤ view.old.reads + length (rows_at view.old.store.tables table) }
+    ensures same { view.new.store ≡ view.old.store }
+{
+    view.is_kept(table);
+    let mut found = Vec::new(alloc);
+    for at in view.key_walk(table) {
+        if is_met(view, table, at, atoms) {
+            found.push(at)?;
+        }
+    }
+    Ok(found)
+}
+
+/// Whether no atom is false of the row of a reference. The view counts the row if it is looked at.
+fn is_met(view: &mut View<'_>, table: usize, at: RowRef, atoms: &[Atom<FieldPlace>]) -> bool
+    requires there { table < length view.old.store.tables }
+    requires live { (stored : StoredRows) → IsAt view.old.store table stored → IsLive stored.places at }
+    ensures told { (stored : StoredRows) → IsAt view.old.store table stored → result ≡ meets atoms.now (row_at (slot_at stored.places) at) }
+    ensures reads { view.new.reads ≤ view.old.reads + 1 }
+    ensures same { view.new.store ≡ view.old.store }
+{
+    if atoms.is_empty() {
+        return true;
+    }
+    let row = view.row(table, at);
+    none_fails(atoms, &[Some(row)])
+}
+
+/// The references of a list of the rows of one table, in its order. `AllocError` where memory is refused.
+fn refs_of(alloc: Global, list: &TempList<'_>) -> Result<Vec<RowRef>, AllocError>
+    requires { All (λ combo. length combo ≡ 1) list.now.combos }
+    ensures { IfOk result (λ refs. map (λ at. at ∷ []) refs.items ≡ list.now.combos) }
+{
+    let mut refs = Vec::with_capacity(alloc, list.len())?;
+    for i in 0..list.len() {
+        refs.push(list.combo(i)[0])?;
+    }
+    Ok(refs)
+}
+
+/// Those of a table's references that are among these, each once and in key order, however these stand. Where there are several,
+/// each row is looked at once. `AllocError` where memory is refused. It takes O(m log m) comparisons for m references, and m where
+/// they are in key order.
+pub fn in_key_order(
+    alloc: Global,
+    view: &mut View<'_>,
+    table: usize,
+    mut refs: Vec<RowRef>,
+) -> Result<Vec<RowRef>, AllocError>
+    requires there { table < length view.old.store.tables }
+    requires live { (stored : StoredRows) → IsAt view.old.store table stored → All (IsLive stored.places) refs.items }
+    ensures found { IfOk result (λ found. (stored : StoredRows) → IsAt view.old.store table stored → found.items ≡ among refs.items stored) }
+    ensures reads { view.new.reads ≤ view.old.reads + length refs.items }
+    ensures same { view.new.store ≡ view.old.store }
+{
+    view.is_kept(table);
+    if refs.len() < 2 {
+        return Ok(refs);
+    }
+    let mut rows = with_keys(alloc, view, table, refs.as_slice())?;
+    sort_by_key(&mut rows);
+    refs.clear();
+    append_once(rows.as_slice(), &mut refs)?;
+    Ok(refs)
+}
+
+/// The rows of these references, in their order. Each is looked at once. `AllocError` where memory is refused.
+fn with_keys<'v>(
+    alloc: Global,
+    view: &mut View<'v>,
+    table: usize,
+    refs: &[RowRef],
+) -> Result<Vec<Keyed<'v>>, AllocError>
+    requires there { table < length view.old.store.tables }
+    requires live { (stored : StoredRows) → IsAt view.old.store table stored → All (IsLive stored.places) refs.now }
+    ensures refs { IfOk result (λ rows. map (λ row. row.at) rows.items ≡ refs.now) }
+    ensures keys { IfOk result (λ rows. (stored : StoredRows) → IsAt view.old.store table stored → All (IsKeyed stored) rows.items) }
+    ensures reads { view.new.reads ≤ view.old.reads + length refs.now }
+    ensures same { view.new.store ≡ view.old.store }
+{
+    view.is_kept(table);
+    let key = view.key_of(table);
+    let mut rows = Vec::with_capacity(alloc, refs.len())?;
+    for at in refs {
+        let row = view.row(table, *at);
+        rows.push(Keyed {
+            key: row.value(key),
+            at: *at,
+        })?;
+    }
+    Ok(rows)
+}
+
+/// Puts rows in the order of their keys. It takes no memory and O(m log m) comparisons for m rows, and m where they are in
+/// that order.
+fn sort_by_key(rows: &mut Vec<Keyed>)
+    ensures permutation { IsPermutation rows.old.items rows.new.items }
+    ensures sorted { IsSortedByKey (λ row. row.key.now) value_cmp rows.new.items }
+{
+    rows.sort_unstable_by(|a, b| compare(a.key, b.key));
+}
+
+/// Whether the reference is the one before it.
+fn is_again(before: Option<RowRef>, at: RowRef) -> bool
+    ensures { result ≡ is_again before at }
+{
+    match before {
+        Some(other) => other == at,
+        None => false,
+    }
+}
+
+/// Appends the references of rows, in their order, and one of several that follow each other and are one. `AllocError` where memory
+/// is refused; then some may have been appended.
+fn append_once(rows: &[Keyed], refs: &mut Vec<RowRef>) -> Result<(), AllocError>
+    ensures { OnOk result (refs.new.items ≡ refs.old.items ++ once None (map (λ row. row.at) rows.now)) }
+{
+    let mut before = None;
+    for row in rows {
+        if !is_again(before, row.at) {
+            refs.push(row.at)?;
+        }
+        before = Some(row.at);
+    }
+    Ok(())
+}

@@ -1,0 +1,36 @@
+-- What is noted of some names and then of further ones.
+use Rattle.std.proofs.Common.{◌≡◌, Bool, true, false, ◌||◌, refl}
+use Rattle.std.proofs.Math.Bool.{or_assoc}
+use Rattle.mm_query.specs.Faults.{noted}
+use Rattle.mm_query.specs.declared.faults.Faults.{Faults}
+
+pub or_false : (a : Bool) → (a || false) ≡ a
+or_false true = refl
+or_false false = refl
+
+or_true : (a : Bool) → (a || true) ≡ true
+or_true true = refl
+or_true false = refl
+
+-- Where nothing is amiss, nothing is noted, ..
+pub noted_none : (faults : Faults) → noted false false false faults ≡ faults
+noted_none faults i =
+    record faults { column = or_false faults.column i; alias = or_false faults.alias i; mismatch = or_false faults.mismatch i }
+
+-- .. a column that is missing is, ..
+pub noted_column : (faults : Faults) → noted true false false faults ≡ record faults { column = true }
+noted_column faults i =
+    record faults { column = or_true faults.column i; alias = or_false faults.alias i; mismatch = or_false faults.mismatch i }
+
+-- .. and so is an alias.
+pub noted_alias : (faults : Faults) → noted false true false faults ≡ record faults { alias = true }
+noted_alias faults i =
+    record faults { column = or_false faults.column i; alias = or_true faults.alias i; mismatch = or_false faults.mismatch i }
+
+-- What is noted first and what is noted then are noted at once.
+pub noted_twice : (c a m c' a' m' : Bool) (faults : Faults) → noted c' a' m' (noted c a m faults) ≡ noted (c || c') (a || a') (m || m') faults
+noted_twice c a m c' a' m' faults i = record faults {
+  column = or_assoc faults.column c c' i;
+  alias = or_assoc faults.alias a a' i;
+  mismatch = or_assoc faults.mismatch m m' i;
+}

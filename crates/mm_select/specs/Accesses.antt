@@ -1,0 +1,94 @@
+-- Ways to the rows of a table, and which rows lie along them.
+use Rattle.std.specs.Prelude.{ℕ, ◌==◌, ◌&&◌, ◌||◌, Bool, true, false, not, List, Option, Some, None, Contains, IsPermutation, filter}
+use Rattle.std.specs.Option.{option_copied}
+use Rattle.std.specs.Ordering.{is_eq, is_ge, is_le}
+use Rattle.std.specs.declared.cmp.Ordering.TheVariants.{Less, Greater}
+use Rattle.mm_partition.specs.Places.{slot_at}
+use Rattle.mm_query.specs.Atoms.{stands, value_in}
+use Rattle.mm_query.specs.declared.atom.Atom.{Atom}
+use Rattle.mm_query.specs.declared.atom.Comparison.{Comparison}
+use Rattle.mm_query.specs.declared.atom.Comparison.TheVariants as comparison
+use Rattle.mm_query.specs.declared.atom.Operand.{Operand}
+use Rattle.mm_query.specs.declared.atom.Operand.TheVariants.{Literal, Column, Shifted}
+use Rattle.mm_query.specs.declared.bound_query.FieldPlace.{FieldPlace}
+use Rattle.mm_relation.specs.Kept.{StoredRows}
+use Rattle.mm_relation.specs.Refs.{row_at}
+use Rattle.mm_select.specs.Alone.{asks_of_first}
+use Rattle.mm_select.specs.Asked.{IsHigh, IsLow, compares}
+use Rattle.mm_select.specs.declared.access.Access.{Access}
+use Rattle.mm_select.specs.declared.access.Access.TheVariants as access
+use Rattle.mm_store.specs.Looked.{IsIndexOn, IsTree}
+use Rattle.mm_value.specs.Order.{value_cmp}
+use Rattle.mm_value.specs.declared.row_ref.RowRef.{RowRef}
+use Rattle.mm_value.specs.declared.values.Value.{Value}
+
+-- The row has this value in the column.
+abbrev pub has : ℕ → Value → List Value → Bool
+has column value row = is_eq (value_cmp (value_in column row) value)
+
+-- The value is not before a lower end, if there is one, ..
+abbrev pub is_from : Option Value → Value → Bool
+is_from None value = true
+is_from (Some low) value = is_ge (value_cmp value low)
+
+-- .. nor behind an upper one.
+abbrev pub is_up_to : Option Value → Value → Bool
+is_up_to None value = true
+is_up_to (Some high) value = is_le (value_cmp value high)
+
+-- The row's value in the column is between two ends, these included.
+abbrev pub lies_between : ℕ → Option Value → Option Value → List Value → Bool
+lies_between column low high row = is_from low (value_in column row) && is_up_to high (value_in column row)
+
+-- The row lies along the access.
+abbrev pub is_along : Access → List Value → Bool
+is_along access.Scan row = true
+is_along (access.Equal index column value) row = has column value.now row
+is_along (access.Range index column low high) row = lies_between column (option_copied low) (option_copied high) row
+
+-- The relation has the index of the access.
+abbrev pub IsServed : StoredRows → Access → Type 0
+IsServed stored access.Scan = Unit {0}
+IsServed stored (access.Equal index column value) = IsIndexOn stored column index
+IsServed stored (access.Range index column low high) = IsIndexOn stored column index × IsTree index
+
+-- The atoms ask for no row but those along the access.
+abbrev pub Asks : List (Atom FieldPlace) → Access → Type 0
+Asks atoms access.Scan = Unit {0}
+Asks atoms (access.Equal index column value) = Contains atoms (compares column comparison.Equal value.now)
+Asks atoms (access.Range index column low high) = IsLow atoms column (option_copied low) × IsHigh atoms column (option_copied high)
+
+-- These references are those of the rows along the access, each once.
+abbrev pub AreAlong : StoredRows → Access → List RowRef → Type 0
+AreAlong stored access found = IsPermutation found (filter (λ at. is_along access (row_at (slot_at stored.places) at)) stored.refs)
+
+-- Every value from this lower end on stands so to a value: the end does, and so does whatever is greater.
+abbrev pub stand_from : Option Value → Comparison → Value → Bool
+stand_from None comparison value = false
+stand_from (Some low) comparison value = stands comparison Greater && stands comparison (value_cmp low value)
+
+-- Every value up to this upper end does: the end does, and so does whatever is less.
+abbrev pub stand_up_to : Option Value → Comparison → Value → Bool
+stand_up_to None comparison value = false
+stand_up_to (Some high) comparison value = stands comparison Less && stands comparison (value_cmp high value)
+
+-- What the rows along the access have in this column stands so to a value.
+abbrev pub all_stand : Access → ℕ → Comparison → Value → Bool
+all_stand access.Scan column comparison value = false
+all_stand (access.Equal index on at) column comparison value = (column == on) && stands comparison (value_cmp at.now value)
+all_stand (access.Range index on low high) column comparison value =
+    (column == on) && (stand_from (option_copied low) comparison value || stand_up_to (option_copied high) comparison value)
+
+-- The operand is a value, and what the rows along the access have in this column stands so to it.
+abbrev pub all_stand_to : Access → ℕ → Comparison → Operand FieldPlace → Bool
+all_stand_to access column comparison (Literal value) = all_stand access column comparison value
+all_stand_to access column comparison (Column field) = false
+all_stand_to access column comparison (Shifted field by) = false
+
+-- The atom compares a column of the first table with a value, and holds of every row along the access.
+abbrev pub is_met_along : Access → Atom FieldPlace → Bool
+is_met_along access atom = (atom.left.place == 0) && all_stand_to access atom.left.column atom.comparison atom.right
+
+-- The atom asks something of the first table alone that not every row along the access meets.
+abbrev pub asks_along : Access → Atom FieldPlace → Bool
+asks_along access atom = asks_of_first atom && not (is_met_along access atom)

@@ -1,0 +1,133 @@
+//! Ways to the rows of a table.
+ghost use Rattle.std.specs.Prelude.{◌≡◌, ◌<◌, IfOk, length};
+ghost use Rattle.std.specs.Option.{option_copied};
+ghost use Rattle.mm_relation.specs.Kept.{StoredRows};
+ghost use Rattle.mm_select.specs.Accesses.{AreAlong, IsServed, all_stand, all_stand_to, is_met_along, stand_from, stand_up_to};
+ghost use Rattle.mm_select.specs.declared.access.Access.TheVariants as access;
+ghost use Rattle.mm_store.specs.Tables.{IsAt};
+
+use mm_query::{Atom, Comparison, FieldPlace, Operand};
+use mm_store::{IndexRef, View};
+use mm_value::{RowRef, Value, compare};
+use std::alloc::{AllocError, Global};
+use std::cmp::Ordering;
+
+/// A way to rows of a table.
+#[derive(Clone, Copy)]
+pub enum Access<'q> {
+    /// A look at every row, in key order.
+    Scan,
+    /// A look-up of a value in an index on a column.
+    Equal {
+        index: IndexRef,
+        column: usize,
+        value: &'q Value,
+    },
+    /// A range along a tree on a column, its ends included. An end that is not given leaves its side open.
+    Range {
+        index: IndexRef,
+        column: usize,
+        low: Option<&'q Value>,
+        high: Option<&'q Value>,
+    },
+}
+
+/// Whether an atom compares a column of the first table with a value, and holds of every row along an access, so that no row
+/// has to be looked at for it.
+pub(crate) fn is_met_along(access: Access<'_>, atom: &Atom<FieldPlace>) -> bool
+    ensures { result ≡ is_met_along access.entry atom.now }
+{
+    let all_stand = match &atom.right {
+        Operand::Literal(value) => all_stand(access, atom.left.column, atom.comparison, value),
+        _ => false,
+    };
+    atom.left.place == 0 && all_stand
+}
+
+/// Whether what the rows along an access have in a column stands so to a value.
+fn all_stand(access: Access<'_>, column: usize, comparison: Comparison, value: &Value) -> bool
+    ensures { result ≡ all_stand access.entry column comparison value.now }
+{
+    match access {
+        Access::Scan => false,
+        Access::Equal {
+            column: on,
+            value: at,
+            ..
+        } => column == on && comparison.accepts(compare(at, value)),
+        Access::Range {
+            column: on,
+            low,
+            high,
+            ..
+        } => {
+            column == on
+                && (stand_from(low, comparison, value) || stand_up_to(high, comparison, value))
+        }
+    }
+}
+
+/// Whether every value from a lower end on stands so to this one.
+fn stand_from(low: Option<&Value>, comparison: Comparison, value: &Value) -> bool
+    ensures { result ≡ stand_from (option_copied low.entry) comparison value.now }
+{
+    match low {
+        Some(low) => {
+            comparison.accepts(Ordering::Greater) && comparison.accepts(compare(low, value))
+        }
+        None => false,
+    }
+}
+
+/// Whether every value up to an upper end stands so to this one.
+fn stand_up_to(high: Option<&Value>, comparison: Comparison, value: &Value) -> bool
+    ensures { result ≡ stand_up_to (option_copied high.entry) comparison value.now }
+{
+    match high {
+        Some(high) => {
+            comparison.accepts(Ordering::Less) && comparison.accepts(compare(high, value))
+        }
+        None => false,
+    }
+}
+
+/// The references of the rows that have a value in the column of an index. `AllocError` where memory is refused.
+pub(crate) fn equal_to(
+    alloc: Global,
+    view: &View<'_>,
+    table: usize,
+    index: IndexRef,
+    column: usize,
+    value: &Value,
+) -> Result<Vec<RowRef>, AllocError>
+    requires there { table < length view.now.store.tables }
+    requires served { (stored : StoredRows) → IsAt view.now.store table stored → IsServed stored (access.Equal index column value) }
+    ensures { (stored : StoredRows) → IsAt view.now.store table stored
+        → IfOk result (λ found. AreAlong stored (access.Equal index column value.entry) found.items) }
+{
+    view.is_kept(table);
+    let mut found = Vec::new(alloc);
+    view.matches(alloc, table, index, value, &mut found)?;
+    Ok(found)
+}
+
+/// The references of the rows between two ends along a tree, these included. `AllocError` where memory is refused.
+pub(crate) fn between(
+    alloc: Global,
+    view: &View<'_>,
+    table: usize,
+    index: IndexRef,
+    column: usize,
+    low: Option<&Value>,
+    high: Option<&Value>,
+) -> Result<Vec<RowRef>, AllocError>
+    requires there { table < length view.now.store.tables }
+    requires served { (stored : StoredRows) → IsAt view.now.store table stored → IsServed stored (access.Range index column low high) }
+    ensures { (stored : StoredRows) → IsAt view.now.store table stored
+        → IfOk result (λ found. AreAlong stored (access.Range index column low.entry high.entry) found.items) }
+{
+    view.is_kept(table);
+    let mut found = Vec::new(alloc);
+    view.range(alloc, table, index, low, high, &mut found)?;
+    Ok(found)
+}

@@ -1,0 +1,11 @@
+use Rattle.std.proofs.Common.{◌≡◌, sym, ap, subst, ◌∙◌}
+use Rattle.mm_relation.specs.Reads.{HasIndex}
+use Rattle.mm_schema.specs.declared.index.IndexKind.TheVariants.{Tree}
+use Rattle.mm_store.specs.Ordered.{IsOrder, ordered_rows}
+use Rattle.mm_store.proofs.table_rows.TableRows.reader.Goals as goal
+
+pub along_index-requires-clause-tree : goal.along_index-requires-clause-tree
+along_index-requires-clause-tree c = (c.in-Tree.column, (subst (IsOrder c.self.inside.relation.now) c.in-Tree.is c.self.invariant).1)
+
+pub along_tree-requires-clause-live : goal.along_tree-requires-clause-live
+along_tree-requires-clause-live c = (subst (IsOrder c.self.inside.relation.now) c.in-Made.is c.self.invariant).0

@@ -1,0 +1,29 @@
+-- The rows of a table in an order.
+use Rattle.std.specs.Prelude.{ℕ, ◌≤◌, All, List, length, map}
+use Rattle.mm_partition.specs.Places.{IsLive, slot_at}
+use Rattle.mm_relation.specs.Kept.{StoredRows}
+use Rattle.mm_relation.specs.Reads.{HasIndex}
+use Rattle.mm_relation.specs.Refs.{row_at}
+use Rattle.mm_relation.specs.RowLists.{rows_of}
+use Rattle.mm_schema.specs.Rows.{rows_by}
+use Rattle.mm_schema.specs.Sorting.{in_order}
+use Rattle.mm_schema.specs.declared.index.IndexKind.TheVariants as kind
+use Rattle.mm_store.specs.declared.table_rows.Order.{Order}
+use Rattle.mm_store.specs.declared.table_rows.Order.TheVariants.{Key, Made, Tree}
+use Rattle.mm_value.specs.declared.values.Value.{Value}
+
+-- The rows by a column, and those of one value by their keys.
+abbrev pub rows_in_order : ℕ → StoredRows → List (List Value)
+rows_in_order column stored = in_order (rows_by column stored.key) (rows_of stored)
+
+-- The rows of a relation in the order.
+abbrev pub ordered_rows : StoredRows → Order → List (List Value)
+ordered_rows stored Key = rows_of stored
+ordered_rows stored (Tree place column) = rows_in_order column stored
+ordered_rows stored (Made tree) = map (row_at (slot_at stored.places)) tree.refs
+
+-- They can be read in it: they are there, and few enough.
+abbrev pub IsOrder : StoredRows → Order → Type 0
+IsOrder stored Key = length stored.refs ≤ 1048576
+IsOrder stored (Tree place column) = (length stored.refs ≤ 1048576) × HasIndex stored.indexes place column kind.Tree
+IsOrder stored (Made tree) = All (IsLive stored.places) tree.refs × (length tree.refs ≤ 1048576)

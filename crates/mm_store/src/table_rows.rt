@@ -1,0 +1,170 @@
+//! The rows of a table in an order, read where they lie.
+ghost use Rattle.std.specs.Prelude.{◌≡◌, ℕ, ◌∷◌, ◌<◌, ◌≤◌, [], All, IfOk, MatchOption, length, map};
+ghost use Rattle.mm_partition.specs.Places.{IsLive, slot_at};
+ghost use Rattle.mm_relation.specs.Kept.{StoredRows as Stored};
+ghost use Rattle.mm_relation.specs.Reads.{HasIndex};
+ghost use Rattle.mm_relation.specs.RowLists.{rows_of};
+ghost use Rattle.mm_schema.specs.declared.index.IndexKind.TheVariants.{Tree};
+ghost use Rattle.mm_relation.specs.Refs.{row_at};
+ghost use Rattle.mm_store.specs.Ordered.{rows_in_order};
+ghost use Rattle.mm_store.specs.Tables.{IsAt, rows_at};
+
+use crate::view::View;
+use mm_order::OrderedRefs;
+use mm_relation::Relation;
+use mm_schema::IndexKind;
+use mm_value::Row;
+use std::alloc::{AllocError, Global};
+use std::marker::Model;
+use ttree::{Iter, TTree};
+
+/// What the rows of a table are read along.
+#[derive(Drop)]
+enum Order {
+    /// The tree on the key.
+    Key,
+    /// The TREE index at a place of the table's, which is on a column.
+    Tree { place: usize, column: usize },
+    /// A tree that was made for them.
+    Made(TTree),
+}
+
+/// The rows of a table in an order, seen as their list. None is copied: a reader reads them where they lie.
+#[derive(Drop)]
+pub struct TableRows<'a> {
+    relation: &'a Relation,
+    order: Order,
+}
+
+impl<'a> Model for TableRows<'a> {
+    ghost use Rattle.std.specs.Prelude.{List};
+    ghost use Rattle.mm_store.specs.Ordered.{IsOrder, ordered_rows};
+    ghost use Rattle.mm_value.specs.declared.values.Value.{Value as Val};
+
+    ghost Value = { List (List Val) };
+
+    ghost view = { λ r. ordered_rows r.relation.now r.order };
+
+    ghost invariant = { λ r. IsOrder r.relation.now r.order };
+}
+
+/// The rows of a table that are left to be read, seen as their list.
+#[derive(Drop)]
+pub struct StoredRows<'a> {
+    relation: &'a Relation,
+    walk: Iter<'a>,
+}
+
+impl<'a> Model for StoredRows<'a> {
+    ghost use Rattle.std.specs.Prelude.{All, List, map};
+    ghost use Rattle.mm_partition.specs.Places.{IsLive, slot_at};
+    ghost use Rattle.mm_relation.specs.Refs.{row_at};
+    ghost use Rattle.mm_value.specs.declared.values.Value.{Value as Val};
+
+    ghost Value = { List (List Val) };
+
+    ghost view = { λ r. map (row_at (slot_at r.relation.now.places)) r.walk };
+
+    ghost invariant = { λ r. All (IsLive r.relation.now.places) r.walk };
+}
+
+impl<'a> View<'a> {
+    /// The rows of a table in the order of its key. No row is counted.
+    pub fn rows_by_key(&self, table: usize) -> TableRows<'a>
+        requires { table < length self.now.store.tables }
+        ensures { result ≡ rows_at self.now.store.tables table }
+    {
+        TableRows {
+            relation: self.relation(table),
+            order: Order::Key,
+        }
+    }
+
+    /// The rows of a table by the values in the column of the index at a place of the table's, and those of one value by their
+    /// keys. A TREE index has their order; for a HASH index their references are put in order first. No row is counted.
+    /// `AllocError` where memory is refused.
+    pub fn rows_by_index(
+        &self,
+        alloc: Global,
+        table: usize,
+        place: usize,
+        column: usize,
+        kind: IndexKind,
+    ) -> Result<TableRows<'a>, AllocError>
+        requires there { table < length self.now.store.tables }
+        requires index { (stored : Stored) → IsAt self.now.store table stored → HasIndex stored.indexes place column kind }
+        requires column { (stored : Stored) → IsAt self.now.store table stored → column < stored.width }
+        ensures { IfOk result (λ rows. (stored : Stored) → IsAt self.now.store table stored → rows ≡ rows_in_order column stored) }
+    {
+        let relation = self.relation(table);
+        let order = match kind {
+            IndexKind::Tree => Order::Tree { place, column },
+            IndexKind::Hash => Order::Made(relation.ordered_by(alloc, column)?),
+        };
+        Ok(TableRows { relation, order })
+    }
+}
+
+impl<'a> TableRows<'a> {
+    /// How many rows there are.
+    pub fn len(&self) -> usize
+        ensures { result ≡ length self.now }
+    {
+        match &self.order {
+            Order::Key => self.relation.len(),
+            Order::Tree { .. } => self.relation.len(),
+            Order::Made(tree) => tree.len(),
+        }
+    }
+
+    /// What reads them, from the first one on.
+    pub fn reader(&self) -> StoredRows<'_>
+        ensures { result ≡ self.now }
+    {
+        // The arms hold different borrows, so each returns.
+        match &self.order {
+            Order::Key => return along_key(self.relation),
+            Order::Tree { place, .. } => return along_index(self.relation, *place),
+            Order::Made(tree) => return along_tree(self.relation, tree),
+        }
+    }
+}
+
+impl<'a> StoredRows<'a> {
+    /// The next row, which is left no more. None where no row is left.
+    pub fn next(&mut self) -> Option<&'a Row>
+        ensures { MatchOption result (self.old ≡ []) (λ row. self.old ≡ row.now ∷ self.new) }
+    {
+        let at = self.walk.next()?;
+        Some(self.relation.row(at))
+    }
+}
+
+/// Reads the rows of a relation in the order of its key.
+fn along_key(relation: &Relation) -> StoredRows<'_>
+    requires { length relation.now.refs ≤ 1048576 }
+    ensures { result ≡ rows_of relation.now }
+{
+    let walk = relation.by_key();
+    StoredRows { relation, walk }
+}
+
+/// Reads the rows of a relation along its TREE index at a place.
+fn along_index(relation: &Relation, place: usize) -> StoredRows<'_>
+    requires few { length relation.now.refs ≤ 1048576 }
+    requires tree { (column : ℕ) × HasIndex relation.now.indexes place column Tree }
+    ensures { (column : ℕ) → HasIndex relation.now.indexes place column Tree → result ≡ rows_in_order column relation.now }
+{
+    let walk = relation.tree_walk(place);
+    StoredRows { relation, walk }
+}
+
+/// Reads the rows of a relation in the order of a tree.
+fn along_tree<'a>(relation: &'a Relation, tree: &'a TTree) -> StoredRows<'a>
+    requires live { All (IsLive relation.now.places) tree.now.refs }
+    requires few { length tree.now.refs ≤ 1048576 }
+    ensures { result ≡ map (row_at (slot_at relation.now.places)) tree.now.refs }
+{
+    let walk = tree.iter();
+    StoredRows { relation, walk }
+}

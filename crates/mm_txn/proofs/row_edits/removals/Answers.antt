@@ -1,0 +1,26 @@
+use Rattle.std.proofs.Common.{◌≡◌, map, rules, ap, ◌∙◌, subst, sym}
+use Rattle.std.specs.Prelude.{IfOk}
+use Rattle.std.proofs.lemmas.Result.{IfOk-weaker}
+use Rattle.mm_partition.specs.Places.{slot_at}
+use Rattle.mm_plan.specs.Finding.{meets}
+use Rattle.mm_relation.specs.Refs.{row_at}
+use Rattle.mm_relation.specs.RowLists.{edit_pairs}
+use Rattle.mm_relation.specs.declared.edits.Edit.TheVariants.{Gone}
+use Rattle.mm_store.specs.Tables.{AreFit}
+use Rattle.mm_txn.proofs.EditsMade.{fit-gone, pairs-removed}
+use Rattle.mm_txn.proofs.row_edits.removals.Goals as goal
+
+pub returns : goal.returns
+returns c =
+    let atoms = c.args.atoms.now in
+    let collected : IfOk c.collect.result (λ edits. edits.items ≡ map Gone c.in_ok-found.found.items) = search rules in
+    record {
+      pairs = IfOk-weaker c.collect.result (λ edits. edits.items ≡ map Gone c.in_ok-found.found.items) _
+          (λ edits is stored here.
+          ap (edit_pairs (slot_at stored.places)) (is ∙ ap (map Gone) (c.in_ok-found.ensures.found stored here))
+          ∙ pairs-removed (slot_at stored.places) (meets atoms) stored.refs) collected;
+      fit = IfOk-weaker c.collect.result (λ edits. edits.items ≡ map Gone c.in_ok-found.found.items) _
+          (λ edits is stored here.
+          subst (AreFit stored) (sym (is ∙ ap (map Gone) (c.in_ok-found.ensures.found stored here)))
+          (fit-gone stored (c.is_kept.ensures.kept stored here) (λ at. meets atoms (row_at (slot_at stored.places) at)))) collected;
+    }

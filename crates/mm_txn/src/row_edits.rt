@@ -1,0 +1,133 @@
+//! The edits of one table that a change of its rows asks for.
+ghost use Rattle.std.specs.Prelude.{◌≡◌, ◌<◌, [], All, IfOk, filter, length, map};
+ghost use Rattle.std.specs.List.{flat_map};
+ghost use Rattle.mm_partition.specs.Places.{IsLive, slot_at};
+ghost use Rattle.mm_plan.specs.Finding.{among, meets};
+ghost use Rattle.mm_query.specs.Atoms.{range_conditions, updated_row};
+ghost use Rattle.mm_query.specs.Binding.{AssignmentsWithin};
+ghost use Rattle.mm_query.specs.Edits.{new_values, removals_of};
+ghost use Rattle.mm_relation.specs.Changes.{Standing};
+ghost use Rattle.mm_relation.specs.Edits.{new_rows};
+ghost use Rattle.mm_relation.specs.Kept.{StoredRows};
+ghost use Rattle.mm_relation.specs.Refs.{Slots, row_at};
+ghost use Rattle.mm_relation.specs.RowLists.{edit_pairs, rows_of};
+ghost use Rattle.mm_relation.specs.declared.edits.Edit.TheVariants.{Gone, Swap};
+ghost use Rattle.mm_schema.specs.Refused.{AnswersDue, first_refusal};
+ghost use Rattle.mm_schema.specs.Rows.{additions};
+ghost use Rattle.mm_store.specs.Tables.{AreFit, IsAt};
+ghost use Rattle.mm_txn.specs.RowEdits.{swap_of, updates_of};
+
+use mm_plan::{find_rows, in_key_order};
+use mm_query::{Assignment, Atom, FieldPlace, updated_row};
+use mm_relation::Edit;
+use mm_store::View;
+use mm_value::{Refusal, Row, RowRef};
+use std::alloc::{AllocError, Global};
+
+/// Edits that add these rows, in their order. They name no row that is there. `AllocError` where memory is refused.
+pub(crate) fn additions(alloc: Global, rows: Vec<Row>) -> Result<Vec<Edit>, AllocError>
+    ensures pairs { IfOk result (λ edits. (now : Slots) → edit_pairs now edits.items ≡ additions rows.items) }
+    ensures standing { IfOk result (λ edits. (now : Slots) → Standing now edits.items) }
+    ensures rows { IfOk result (λ edits. new_rows edits.items ≡ rows.items) }
+{
+    rows.into_iter().map(Edit::Add).collect(alloc)
+}
+
+/// Edits that put in place of each row that meets all atoms the row that the assignments make of it. The rows are found as for a
+/// query of this table alone. `ArithmeticOutOfRange` where some value is past the range of whole numbers; else `Memory` is the only
+/// refusal.
+pub(crate) fn updates(
+    alloc: Global,
+    view: &mut View<'_>,
+    table: usize,
+    assignments: &[Assignment<usize>],
+    atoms: &[Atom<FieldPlace>],
+) -> Result<Vec<Edit>, Refusal>
+    requires there { table < length view.old.store.tables }
+    requires assignments { (stored : StoredRows) → IsAt view.old.store table stored → AssignmentsWithin stored.width assignments.now }
+    ensures due { (stored : StoredRows) → IsAt view.old.store table stored
+        → AnswersDue (first_refusal (range_conditions (new_values (updates_of assignments.now (filter (meets atoms.now) (rows_of stored)))))) result }
+    ensures pairs { IfOk result (λ edits. (stored : StoredRows) → IsAt view.old.store table stored
+        → edit_pairs (slot_at stored.places) edits.items ≡ updates_of assignments.now (filter (meets atoms.now) (rows_of stored))) }
+    ensures fit { IfOk result (λ edits. (stored : StoredRows) → IsAt view.old.store table stored → AreFit stored edits.items) }
+{
+    view.is_kept(table);
+    let found = find_rows(alloc, view, table, atoms)?;
+    swaps(alloc, view, table, found.as_slice(), assignments)
+}
+
+/// Edits that put in place of each of some rows the one that the assignments make of it. The refusals are those of `updates`.
+fn swaps(
+    alloc: Global,
+    view: &mut View<'_>,
+    table: usize,
+    refs: &[RowRef],
+    assignments: &[Assignment<usize>],
+) -> Result<Vec<Edit>, Refusal>
+    requires there { table < length view.old.store.tables }
+    requires live { (stored : StoredRows) → IsAt view.old.store table stored → All (IsLive stored.places) refs.now }
+    requires assignments { (stored : StoredRows) → IsAt view.old.store table stored → AssignmentsWithin stored.width assignments.now }
+    ensures due { (stored : StoredRows) → IsAt view.old.store table stored → AnswersDue (first_refusal (range_conditions
+        (flat_map (λ at. updated_row assignments.now (row_at (slot_at stored.places) at)) refs.now))) result }
+    ensures made { IfOk result (λ edits. (stored : StoredRows) → IsAt view.old.store table stored
+        → edits.items ≡ map (swap_of (slot_at stored.places) assignments.now) refs.now) }
+{
+    view.is_kept(table);
+    let mut edits = Vec::with_capacity(alloc, refs.len())?;
+    for at in refs {
+        edits.push(swap(alloc, *at, view.row(table, *at), assignments)?)?;
+    }
+    Ok(edits)
+}
+
+/// The edit that puts in place of a row the one that the assignments make of it. The refusals are those of `updates`.
+fn swap(
+    alloc: Global,
+    at: RowRef,
+    row: &Row,
+    assignments: &[Assignment<usize>],
+) -> Result<Edit, Refusal>
+    requires { AssignmentsWithin (length row.now) assignments.now }
+    ensures due { AnswersDue (first_refusal (range_conditions (updated_row assignments.now row.now))) result }
+    ensures ok { IfOk result (λ edit. edit ≡ Swap at (updated_row assignments.now row.now)) }
+{
+    let new = updated_row(alloc, row, assignments)?;
+    Ok(Edit::Swap(at, new))
+}
+
+/// Edits that take out each row that meets all atoms. The rows are found as for a query of this table alone. `AllocError` where memory
+/// is refused.
+pub(crate) fn removals(
+    alloc: Global,
+    view: &mut View<'_>,
+    table: usize,
+    atoms: &[Atom<FieldPlace>],
+) -> Result<Vec<Edit>, AllocError>
+    requires { table < length view.old.store.tables }
+    ensures pairs { IfOk result (λ edits. (stored : StoredRows) → IsAt view.old.store table stored
+        → edit_pairs (slot_at stored.places) edits.items ≡ removals_of (filter (meets atoms.now) (rows_of stored))) }
+    ensures fit { IfOk result (λ edits. (stored : StoredRows) → IsAt view.old.store table stored → AreFit stored edits.items) }
+{
+    view.is_kept(table);
+    let found = find_rows(alloc, view, table, atoms)?;
+    found.into_iter().map(Edit::Gone).collect(alloc)
+}
+
+/// Edits that take out the rows of these references, each once and in key order, however the references stand. `AllocError` where
+/// memory is refused.
+pub(crate) fn removals_at(
+    alloc: Global,
+    view: &mut View<'_>,
+    table: usize,
+    refs: Vec<RowRef>,
+) -> Result<Vec<Edit>, AllocError>
+    requires there { table < length view.old.store.tables }
+    requires live { (stored : StoredRows) → IsAt view.old.store table stored → All (IsLive stored.places) refs.items }
+    ensures items { IfOk result (λ edits. (stored : StoredRows) → IsAt view.old.store table stored → edits.items ≡ map Gone (among refs.items stored)) }
+    ensures fit { IfOk result (λ edits. (stored : StoredRows) → IsAt view.old.store table stored → AreFit stored edits.items) }
+    ensures none_comes { IfOk result (λ edits. new_rows edits.items ≡ []) }
+{
+    view.is_kept(table);
+    let gone = in_key_order(alloc, view, table, refs)?;
+    gone.into_iter().map(Edit::Gone).collect(alloc)
+}

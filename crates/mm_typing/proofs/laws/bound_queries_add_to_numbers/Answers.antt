@@ -1,5 +1,0 @@
-use Rattle.mm_typing.proofs.Numbers.{adds_to_numbers}
-use Rattle.mm_typing.proofs.laws.bound_queries_add_to_numbers.Goals as goal
-
-pub returns : goal.returns
-returns c schema rows query typed = adds_to_numbers schema rows typed query
