@@ -1,6 +1,6 @@
 //! The search for inequalities that show that a row cannot change what a query gives.
 use crate::report::{Pass, print};
-use mm_query::{Atom, BoundQuery, Comparison, FieldPlace, FromItem, ItemList, Operand};
+use mm_query::{Atom, BoundQuery, Comparison, Few, FieldPlace, FromItem, Operand, ShortList};
 use mm_relevance::irrelevant;
 use mm_schema::Name;
 use mm_value::{Row, Value};
@@ -110,10 +110,10 @@ fn query(alloc: Global, atoms: Vec<Atom<FieldPlace>>) -> anyhow::Result<BoundQue
     })?;
     Ok(BoundQuery {
         distinct: false,
-        fields: ItemList::new(Vec::new(alloc)),
-        from: ItemList::new(from),
-        atoms: ItemList::new(atoms),
-        order: ItemList::new(Vec::new(alloc)),
+        fields: ShortList::from_vec(Vec::new(alloc)),
+        from: Few::from_vec(from),
+        atoms: ShortList::from_vec(atoms),
+        order: ShortList::from_vec(Vec::new(alloc)),
     })
 }
 

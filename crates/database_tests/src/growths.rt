@@ -1,4 +1,4 @@
-//! Calls whose growths of memory are refused, as `tests/refused_growths` of the repository does: in each run of a test one growth, or
+//! Calls whose growths of memory are refused, as `tests/refused_growths.py` does: in each run of a test one growth, or
 //! all from one to the line that tells of a refused call. Then the call has changed nothing, and is given again.
 //!
 //! So whatever else may be refused before that line ends the test, as passed. `SCAN`, `DROP` and `UNWATCH` ask for no memory, nor

@@ -92,7 +92,7 @@ fn expect_found(
 
 /// The query where the field `a.k` compares so with another.
 fn asked(
-    rt: &impl Abort,
+    rt: &(impl Abort + AllocGlobal),
     query: Query,
     comparison: Comparison,
     right: Operand<FieldName>,

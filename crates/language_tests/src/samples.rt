@@ -1,7 +1,7 @@
 //! Tables and queries for tests.
 use crate::assertions::assert_same;
 use crate::put_again::put_again;
-use mm_query::{Atom, Comparison, FieldName, FromItem, ItemList, Operand, Query};
+use mm_query::{Atom, Comparison, Few, FieldName, FromItem, Operand, Query};
 use mm_schema::{Catalog, Column, Columns, Name, Role, TableDef};
 use mm_value::{ColType, Refusal, Text, Value};
 use std::process::Abort;
@@ -99,16 +99,16 @@ pub fn query(
     }
     Query {
         distinct: false,
-        fields: ItemList::new(shown),
-        from: ItemList::new(items),
-        atoms: ItemList::new(Vec::new(rt.alloc())),
-        order: ItemList::new(Vec::new(rt.alloc())),
+        fields: Few::from_vec(shown),
+        from: Few::from_vec(items),
+        atoms: Few::from_vec(Vec::new(rt.alloc())),
+        order: Few::from_vec(Vec::new(rt.alloc())),
     }
 }
 
 /// The query with one more atom.
 pub fn with_atom(
-    rt: &impl Abort,
+    rt: &(impl Abort + AllocGlobal),
     query: Query,
     left: FieldName,
     comparison: Comparison,
@@ -121,18 +121,21 @@ pub fn with_atom(
         atoms,
         order,
     } = query;
-    let mut atoms = atoms.into_vec();
+    let mut longer = Vec::new(rt.alloc());
+    for own in atoms {
+        put(rt, &mut longer, own);
+    }
     let atom = Atom {
         left,
         comparison,
         right,
     };
-    put(rt, &mut atoms, atom);
+    put(rt, &mut longer, atom);
     Query {
         distinct,
         fields,
         from,
-        atoms: ItemList::new(atoms),
+        atoms: Few::from_vec(longer),
         order,
     }
 }

@@ -4,7 +4,7 @@ use Rattle.std.specs.List.{sum_by}
 use Rattle.std.proofs.lemmas.List.Sums.{sum_by-cons}
 use Rattle.mm_query.specs.Queries.{bag_of, combinations}
 use Rattle.mm_query.specs.declared.bound_query.BoundQuery.{BoundQuery}
-use Rattle.mm_bag.specs.Counts.{count_of}
+use Rattle.mm_multiset.specs.Counts.{count_of}
 use Rattle.mm_delta.specs.Terms.{lists_around}
 use Rattle.mm_delta.proofs.SumOfTerms.{count_as_sum, weight}
 use Rattle.mm_delta.proofs.Found.{Row, Rows}

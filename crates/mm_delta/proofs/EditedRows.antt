@@ -16,11 +16,11 @@ use Rattle.mm_value.specs.declared.row_ref.RowRef.{RowRef}
 use Rattle.mm_value.specs.Equality.{same_row}
 use Rattle.mm_value.specs.EqualityLaws.{same_row_equiv}
 use Rattle.mm_value.proofs.SameRows.{rows_exact}
-use Rattle.mm_bag.specs.Counts.{count_of}
+use Rattle.mm_multiset.specs.Counts.{count_of}
 use Rattle.mm_delta.specs.Edited.{after_at, before_at, come_at, edits_at, gone_at}
 use Rattle.mm_delta.specs.Skipping.{IsRowOf}
 use Rattle.mm_delta.specs.Steps.{EachFit}
-use Rattle.mm_delta.specs.declared.edited.TableEdits.{TableEdits}
+use Rattle.mm_delta.specs.declared.edited.TableChange.{TableChange}
 use Rattle.mm_delta.proofs.Found.{Row, Rows}
 use Rattle.mm_delta.proofs.Goes.{after_edits}
 use Rattle.mm_delta.proofs.Reordering.{place_of}
@@ -41,7 +41,7 @@ stands_where_counted rows row counted =
 mapped_there : (f : RowRef → Row) (refs : List RowRef) (at : RowRef) → Contains refs at → Contains (map f refs) (f at)
 mapped_there f refs at (k, within, is) = (k, omega (arith, within, length-map refs f), get_or-map f refs k at (f at) within ∙ ap f is)
 
-module _ (store : Tables) (changes : List TableEdits) (table : ℕ) (stored : StoredRows) (at : IsAt store table stored)
+module _ (store : Tables) (changes : List TableChange) (table : ℕ) (stored : StoredRows) (at : IsAt store table stored)
     (was : IsKept stored.width stored.key (slot_at stored.places) stored.refs stored.indexes) (fit : EachFit store changes) where
   -- A row that goes is one before the change.
   pub gone_are_rows : All (IsRowOf store changes table) (gone_at store changes table)

@@ -7,7 +7,7 @@ use Rattle.mm_store.specs.Tables.{Tables}
 use Rattle.mm_query.specs.Queries.{Partial, none_fails, same_row}
 use Rattle.mm_query.specs.declared.bound_query.BoundQuery.{BoundQuery}
 use Rattle.mm_delta.specs.Candidates.{candidates, having, passes, required}
-use Rattle.mm_bag.specs.Counts.{count_of}
+use Rattle.mm_multiset.specs.Counts.{count_of}
 use Rattle.mm_delta.specs.Steps.{AreAlike, HasTables}
 use Rattle.mm_delta.specs.Walk.{AreOpen, found}
 use Rattle.mm_delta.proofs.Found.{Row, Rows, open_set}

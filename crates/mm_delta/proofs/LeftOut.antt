@@ -15,12 +15,12 @@ use Rattle.mm_query.specs.declared.bound_query.BoundQuery.{BoundQuery}
 use Rattle.mm_query.specs.declared.bound_query.FieldPlace.{FieldPlace}
 use Rattle.mm_relevance.specs.Relevance.{AddsToNumber, AddsToNumbers, IsCyclic, is_text}
 use Rattle.mm_relevance.proofs.Adding.{adds_nothing}
-use Rattle.mm_bag.specs.Counts.{count_of}
+use Rattle.mm_multiset.specs.Counts.{count_of}
 use Rattle.mm_delta.specs.Edited.{after_at, before_at}
 use Rattle.mm_delta.specs.Skipping.{IsOfCyclicRows, IsRowOf, IsTypeTested}
 use Rattle.mm_delta.specs.Terms.{lists_around}
 use Rattle.mm_delta.specs.Walk.{one_row, other_places, rows_around}
-use Rattle.mm_delta.specs.declared.edited.TableEdits.{TableEdits}
+use Rattle.mm_delta.specs.declared.edited.TableChange.{TableChange}
 use Rattle.mm_delta.proofs.Found.{Row, Rows}
 use Rattle.mm_delta.proofs.Product.{found_from_row, get_around, lists_long, past_around}
 use Rattle.mm_delta.proofs.Skip.{found_none}
@@ -52,7 +52,7 @@ module _ (after before : ℕ → Rows) (row : Row) (from : List ℕ) (k : ℕ) (
       slice_get-get_or lists k [] (omega (arith, long))
       ∙ ap Some (get_around after before row from k inside k inside ∙ cond-true (k == k) (row ∷ []) (rows_around from k after before k) (eq-eqb k k refl))
 
-module _ (q : BoundQuery) (store : Tables) (changes : List TableEdits) (tables : List ℕ) (k : ℕ) (row : Row) (inside : k < length tables)
+module _ (q : BoundQuery) (store : Tables) (changes : List TableChange) (tables : List ℕ) (k : ℕ) (row : Row) (inside : k < length tables)
     (typed : IsTypeTested q store changes tables) (stands : IsRowOf store changes (get_or tables k 0) row) where
   abbrev around : List Rows
   around = lists_around 0 (after_at store changes) (λ _. row ∷ []) (before_at store) tables k

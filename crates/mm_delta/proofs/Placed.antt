@@ -20,7 +20,7 @@ use Rattle.mm_value.specs.declared.values.Value.{Value}
 use Rattle.mm_delta.specs.Candidates.{Required, having, passes}
 use Rattle.mm_delta.specs.Edited.{before_at, edits_at, walked}
 use Rattle.mm_delta.specs.Steps.{AreAlike, EachFit, coming, edits_walked, stays}
-use Rattle.mm_delta.specs.declared.edited.TableEdits.{TableEdits}
+use Rattle.mm_delta.specs.declared.edited.TableChange.{TableChange}
 use Rattle.mm_delta.proofs.SumOfTerms.{sum_by-filter}
 use Rattle.mm_delta.proofs.Goes.{after_edits}
 use Rattle.mm_delta.proofs.Product.{filter-map}
@@ -33,7 +33,7 @@ fit_nothing stored = record {
 }
 
 -- The edits that count at a place fit.
-pub fit_walked : (store : Tables) (changes : List TableEdits) (k j table : ℕ) (stored : StoredRows) → EachFit store changes → IsAt store table stored
+pub fit_walked : (store : Tables) (changes : List TableChange) (k j table : ℕ) (stored : StoredRows) → EachFit store changes → IsAt store table stored
     → AreFit stored (edits_walked changes k j table)
 fit_walked store changes k j table stored fit at = by (nat_lt j k)
   where
@@ -42,7 +42,7 @@ fit_walked store changes k j table stored fit at = by (nat_lt j k)
     by false = fit_nothing stored
 
 -- The rows at a place are those with the edits that count there.
-pub walked_is : (store : Tables) (changes : List TableEdits) (tables : List ℕ) (k j : ℕ) (stored : StoredRows) → IsAt store (get_or tables j 0) stored
+pub walked_is : (store : Tables) (changes : List TableChange) (tables : List ℕ) (k j : ℕ) (stored : StoredRows) → IsAt store (get_or tables j 0) stored
     → walked store changes tables k j ≡ rows_with stored (edits_walked changes k j (get_or tables j 0))
 walked_is store changes tables k j stored at =
     (λ i. cond (nat_lt j k) (option_map_or (λ s. rows_with s (edits_at changes (get_or tables j 0))) (at i) []) (option_map_or rows_of (at i) []))

@@ -8,7 +8,7 @@ use Rattle.mm_value.specs.Equality.{same_row}
 use Rattle.mm_value.specs.EqualityLaws.{same_row_equiv}
 use Rattle.mm_value.specs.declared.values.Value.{Value}
 use Rattle.mm_value.proofs.SameRows.{rows_exact}
-use Rattle.mm_bag.specs.Counts.{count_of}
+use Rattle.mm_multiset.specs.Counts.{count_of}
 
 abbrev Rows : Type 0
 Rows = List (List Value)

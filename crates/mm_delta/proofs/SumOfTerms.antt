@@ -11,7 +11,7 @@ use Rattle.mm_query.specs.Queries.{bag_of, combinations, fits, projected, same_r
 use Rattle.mm_query.specs.declared.bound_query.BoundQuery.{BoundQuery}
 use Rattle.mm_query.specs.declared.query.FromItem.{FromItem}
 use Rattle.mm_delta.specs.Change.{change_between, change_of}
-use Rattle.mm_bag.specs.Counts.{count_of}
+use Rattle.mm_multiset.specs.Counts.{count_of}
 use Rattle.mm_delta.specs.Terms.{lists_around, names_of, term}
 use Rattle.mm_delta.proofs.Sums.{Balance, products_balance, sum_by-map}
 

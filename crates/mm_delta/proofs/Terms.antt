@@ -18,12 +18,12 @@ use Rattle.mm_store.specs.Tables.{IsAt, Tables, rows_with}
 use Rattle.mm_value.specs.declared.values.Value.{Value}
 use Rattle.mm_query.specs.Queries.{bag_of}
 use Rattle.mm_query.specs.declared.bound_query.BoundQuery.{BoundQuery}
-use Rattle.mm_bag.specs.Counts.{Entries, count_in, count_of}
+use Rattle.mm_multiset.specs.Counts.{Entries, count_in, count_of}
 use Rattle.mm_delta.specs.Edited.{after_at, before_at, come_at, edits_at, gone_at}
 use Rattle.mm_delta.specs.Steps.{EachFit, HasTables, coming, row_reads}
 use Rattle.mm_delta.specs.Terms.{lists_around}
 use Rattle.mm_delta.specs.Walk.{other_places}
-use Rattle.mm_delta.specs.declared.edited.TableEdits.{TableEdits}
+use Rattle.mm_delta.specs.declared.edited.TableChange.{TableChange}
 use Rattle.mm_delta.proofs.ByRows.{count_by_rows}
 use Rattle.mm_delta.proofs.SumOfTerms.{half, half_all, one_place}
 use Rattle.mm_delta.proofs.Goes.{edits_balance}
@@ -40,13 +40,13 @@ all_come (Swap at row ∷ edits) = ap (λ l. row ∷ l) (all_come edits)
 all_come (Gone at ∷ edits) = all_come edits
 
 -- The rows that go, by the relation of the table.
-pub gone_is : (store : Tables) (changes : List TableEdits) (table : ℕ) (stored : StoredRows) → IsAt store table stored
+pub gone_is : (store : Tables) (changes : List TableChange) (table : ℕ) (stored : StoredRows) → IsAt store table stored
     → gone_at store changes table ≡ map (row_at (slot_at stored.places)) (named edit_name Old (edits_at changes table))
 gone_is store changes table stored at =
     ap (λ o. option_map_or (λ (s : StoredRows). map (row_at (slot_at s.places)) (named edit_name Old (edits_at changes table))) o []) at
 
 -- The rows of a table after the change and those that go are those before it and those that come.
-pub table_balance : (store : Tables) (changes : List TableEdits) (table : ℕ) (stored : StoredRows) → IsAt store table stored
+pub table_balance : (store : Tables) (changes : List TableChange) (table : ℕ) (stored : StoredRows) → IsAt store table stored
     → IsKept stored.width stored.key (slot_at stored.places) stored.refs stored.indexes → EachFit store changes
     → Balance (after_at store changes table) (gone_at store changes table) (before_at store table) (come_at changes table)
 table_balance store changes table stored at was fit f =
@@ -82,7 +82,7 @@ others_there tables store k all = tables_from tables store k 0 (length tables) (
 -- ---- one place
 
 -- What some edited rows add, where the store is another name of the one before.
-pub term_count : (q : BoundQuery) (store now : Tables) (changes : List TableEdits) (tables : List ℕ) (k : ℕ) (row : List Value)
+pub term_count : (q : BoundQuery) (store now : Tables) (changes : List TableChange) (tables : List ℕ) (k : ℕ) (row : List Value)
     (edited rows : List (List Value)) (old new : ℕ) → now ≡ store → rows ≡ edited
     → new ≡ old + sum_by (λ x. count_of row (bag_of q (lists_around 0 (after_at now changes) (λ _. x ∷ []) (before_at now) tables k))) rows
     → new ≡ old + sum_by (λ x. count_of row (bag_of q (lists_around 0 (after_at store changes) (λ _. x ∷ []) (before_at store) tables k))) edited
@@ -91,7 +91,7 @@ term_count q store now changes tables k row edited rows old new same is h =
     ∙ (λ i. old + sum_by (λ x. count_of row (bag_of q (lists_around 0 (after_at (same i) changes) (λ _. x ∷ []) (before_at (same i)) tables k))) (is i))
 
 -- What the rows that the query sees add, less what those take away that it sees, is what all edited rows do.
-pub net_count : (q : BoundQuery) (store : Tables) (changes : List TableEdits) (tables : List ℕ) (k : ℕ) (stored : StoredRows) → k < length tables
+pub net_count : (q : BoundQuery) (store : Tables) (changes : List TableChange) (tables : List ℕ) (k : ℕ) (stored : StoredRows) → k < length tables
     → IsAt store (get_or tables k 0) stored → (row : List Value) (comes comes' goes goes' : ℕ)
     → goes' ≡ goes + sum_by (λ x. count_of row (bag_of q (lists_around 0 (after_at store changes) (λ _. x ∷ []) (before_at store) tables k)))
     (seen_gone q k (slot_at stored.places) (edits_at changes (get_or tables k 0)))
@@ -113,7 +113,7 @@ net_count q store changes tables k stored within at row comes comes' goes goes' 
     )
 
 -- What they read, likewise.
-pub reads_same : (q : BoundQuery) (store now : Tables) (changes : List TableEdits) (tables : List ℕ) (skipped : ℕ → List Value → Bool) (k : ℕ) (rows edited : List (List Value))
+pub reads_same : (q : BoundQuery) (store now : Tables) (changes : List TableChange) (tables : List ℕ) (skipped : ℕ → List Value → Bool) (k : ℕ) (rows edited : List (List Value))
     → now ≡ store → rows ≡ edited → sum_by (row_reads q now changes tables skipped k) rows ≡ sum_by (row_reads q store changes tables skipped k) edited
 reads_same q store now changes tables skipped k rows edited same is = λ i. sum_by (row_reads q (same i) changes tables skipped k) (is i)
 
@@ -127,7 +127,7 @@ pub bound_is : (f : List Value → ℕ) (gone come : List (List Value))
 bound_is f gone come = omega (arith, sum_by-append (λ x. 1 + f x) gone come, ones f gone, ones f come)
 
 -- As many rows go as edits name one.
-pub gone_length : (store : Tables) (changes : List TableEdits) (table : ℕ) (stored : StoredRows) → IsAt store table stored → (edits : List Edit)
+pub gone_length : (store : Tables) (changes : List TableChange) (table : ℕ) (stored : StoredRows) → IsAt store table stored → (edits : List Edit)
     → edits ≡ edits_at changes table → length (named edit_name Old edits) ≡ length (gone_at store changes table)
 gone_length store changes table stored at edits is =
     ap (λ e. length (named edit_name Old e)) is
@@ -159,7 +159,7 @@ range_le f k (suc more) =
     one_on : (k more : ℕ) → k + suc more ≡ (k + more) + 1
     one_on k more = omega arith
 
-module _ (q : BoundQuery) (store : Tables) (changes : List TableEdits) (tables : List ℕ) (row : List Value) where
+module _ (q : BoundQuery) (store : Tables) (changes : List TableChange) (tables : List ℕ) (row : List Value) where
   abbrev pub halfway : ℕ → ℕ
   halfway k = count_of row (bag_of q (half 0 (after_at store changes) (before_at store) tables k))
 

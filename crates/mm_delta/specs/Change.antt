@@ -4,7 +4,7 @@ use Rattle.mm_value.specs.declared.values.Value.{Value}
 use Rattle.mm_query.specs.Queries.{bag_of}
 use Rattle.mm_query.specs.declared.bound_query.BoundQuery.{BoundQuery}
 use Rattle.mm_query.specs.declared.query.FromItem.{FromItem}
-use Rattle.mm_bag.specs.Counts.{count_of}
+use Rattle.mm_multiset.specs.Counts.{count_of}
 
 -- The count of a row in a query's bag over the one lists, of which there is one for each table of FROM, minus that over the others.
 abbrev pub change_between : BoundQuery → List (List (List Value)) → List (List (List Value)) → List Value → ℤ

@@ -13,27 +13,27 @@ use Rattle.mm_relation.specs.declared.names.Side.TheVariants.{Old}
 use Rattle.mm_store.specs.Tables.{Tables, rows_at, rows_with}
 use Rattle.mm_value.specs.declared.values.Value.{Value}
 use Rattle.mm_delta.specs.Walk.{rows_around}
-use Rattle.mm_delta.specs.declared.edited.TableEdits.{TableEdits}
+use Rattle.mm_delta.specs.declared.edited.TableChange.{TableChange}
 
 -- The edits of a table.
-abbrev pub edits_at : List TableEdits → ℕ → List Edit
-edits_at changes table = option_map_or (λ (c : TableEdits). c.edits.now) (find (λ (c : TableEdits). c.table == table) changes) []
+abbrev pub edits_at : List TableChange → ℕ → List Edit
+edits_at changes table = option_map_or (λ (c : TableChange). c.edits.now) (find (λ (c : TableChange). c.table == table) changes) []
 
 -- The rows that a table has before the change.
 abbrev pub before_at : Tables → ℕ → List (List Value)
 before_at store table = rows_at store.tables table
 
 -- The rows that it has after the change.
-abbrev pub after_at : Tables → List TableEdits → ℕ → List (List Value)
+abbrev pub after_at : Tables → List TableChange → ℕ → List (List Value)
 after_at store changes table = option_map_or (λ stored. rows_with stored (edits_at changes table)) (slice_get store.tables table) []
 
 -- Its rows that go.
-abbrev pub gone_at : Tables → List TableEdits → ℕ → List (List Value)
+abbrev pub gone_at : Tables → List TableChange → ℕ → List (List Value)
 gone_at store changes table =
     option_map_or (λ stored. map (row_at (slot_at stored.places)) (named edit_name Old (edits_at changes table))) (slice_get store.tables table) []
 
 -- The rows that come.
-abbrev pub come_at : List TableEdits → ℕ → List (List Value)
+abbrev pub come_at : List TableChange → ℕ → List (List Value)
 come_at changes table = new_rows (edits_at changes table)
 
 -- A relation has an index on the column. It always has one on its key.
@@ -45,5 +45,5 @@ abbrev pub has_index : Tables → ℕ → ℕ → Bool
 has_index store table column = option_map_or (λ stored. is_indexed stored column) (slice_get store.tables table) false
 
 -- The rows at each place of FROM while those at place k are edited: those after the change before it, and those before the change behind it.
-abbrev pub walked : Tables → List TableEdits → List ℕ → ℕ → ℕ → List (List Value)
+abbrev pub walked : Tables → List TableChange → List ℕ → ℕ → ℕ → List (List Value)
 walked store changes tables k = rows_around tables k (after_at store changes) (before_at store)

@@ -5,18 +5,18 @@ use Rattle.mm_value.specs.declared.values.Value.{Value}
 use Rattle.mm_query.specs.declared.bound_query.BoundQuery.{BoundQuery}
 use Rattle.mm_relevance.specs.Relevance.{AddsToNumbers, IsCyclic}
 use Rattle.mm_delta.specs.Edited.{after_at, before_at}
-use Rattle.mm_delta.specs.declared.edited.TableEdits.{TableEdits}
+use Rattle.mm_delta.specs.declared.edited.TableChange.{TableChange}
 
 -- A test of rows at places of FROM that only cyclic rows pass.
 abbrev pub IsOfCyclicRows : BoundQuery → (ℕ → List Value → Bool) → Type 0
 IsOfCyclicRows query skipped = (place : ℕ) (row : List Value) → skipped place row ≡ true → IsCyclic query place row
 
 -- No atom adds a number to a text, neither of the rows before a change nor of those after it, and FROM has so many tables.
-pub record IsTypeTested (query : BoundQuery) (store : Tables) (changes : List TableEdits) (tables : List ℕ) : Type 0 where
+pub record IsTypeTested (query : BoundQuery) (store : Tables) (changes : List TableChange) (tables : List ℕ) : Type 0 where
   pub whole : length tables ≡ length query.from
   pub before : AddsToNumbers query (λ j. before_at store (get_or tables j 0))
   pub after : AddsToNumbers query (λ j. after_at store changes (get_or tables j 0))
 
 -- A row is one of a table's before the change or one of those after it.
-abbrev pub IsRowOf : Tables → List TableEdits → ℕ → List Value → Type 0
+abbrev pub IsRowOf : Tables → List TableChange → ℕ → List Value → Type 0
 IsRowOf store changes table row = Contains (before_at store table) row ⊎ Contains (after_at store changes table) row

@@ -19,7 +19,7 @@ use Rattle.mm_delta.specs.Candidates.{Required, candidates, passes}
 use Rattle.mm_delta.specs.Edited.{before_at, come_at, edits_at, gone_at, has_index, walked}
 use Rattle.mm_delta.specs.Walk.{one_row, other_places}
 use Rattle.mm_delta.specs.Wanted.{value_wanted}
-use Rattle.mm_delta.specs.declared.edited.TableEdits.{TableEdits}
+use Rattle.mm_delta.specs.declared.edited.TableChange.{TableChange}
 use Rattle.mm_delta.specs.declared.look_up.LookUp.{LookUp}
 
 -- The edit takes the row of a reference away, or puts another one in its place.
@@ -41,7 +41,7 @@ abbrev pub IsServed : Tables → ℕ → LookUp → Type 0
 IsServed store table look_up = (stored : StoredRows) → IsAt store table stored → IsIndexOn stored look_up.column look_up.index
 
 -- The edits of each table fit it.
-abbrev pub EachFit : Tables → List TableEdits → Type 0
+abbrev pub EachFit : Tables → List TableChange → Type 0
 EachFit store changes = (table : ℕ) (stored : StoredRows) → IsAt store table stored → AreFit stored (edits_at changes table)
 
 -- Each of the places is one of FROM, and its table is there.
@@ -49,25 +49,25 @@ abbrev pub HasTables : List ℕ → Tables → List ℕ → Type 0
 HasTables tables store places = AllByRecursion (λ j. (j < length tables) × (get_or tables j 0 < length store.tables)) places
 
 -- How many rows may be read for some rows, in which places are still without one.
-abbrev pub reads_for : BoundQuery → Tables → List TableEdits → List ℕ → ℕ → List ℕ → Partial → ℕ
+abbrev pub reads_for : BoundQuery → Tables → List TableChange → List ℕ → ℕ → List ℕ → Partial → ℕ
 reads_for query store changes tables k places rows =
     candidates (λ j. has_index store (get_or tables j 0)) query.atoms (λ j. before_at store (get_or tables j 0)) (walked store changes tables k) places rows
 
 -- How many rows may be read for an edited row at a place of FROM beside it itself: those with which it may be combined, and none
 -- where the row is skipped.
-abbrev pub row_reads : BoundQuery → Tables → List TableEdits → List ℕ → (ℕ → List Value → Bool) → ℕ → List Value → ℕ
+abbrev pub row_reads : BoundQuery → Tables → List TableChange → List ℕ → (ℕ → List Value → Bool) → ℕ → List Value → ℕ
 row_reads query store changes tables skipped k row =
     if skipped k row then 0 else reads_for query store changes tables k (other_places (length tables) k) (one_row (length tables) k row)
 
 -- How many rows may be read for the edited rows at a place of FROM: for each of them it itself, and those with which it may be
 -- combined, where the row is not skipped.
-abbrev pub term_reads : BoundQuery → Tables → List TableEdits → List ℕ → (ℕ → List Value → Bool) → ℕ → ℕ
+abbrev pub term_reads : BoundQuery → Tables → List TableChange → List ℕ → (ℕ → List Value → Bool) → ℕ → ℕ
 term_reads query store changes tables skipped k =
     sum_by (λ row. 1 + row_reads query store changes tables skipped k row)
     (gone_at store changes (get_or tables k 0) ++ come_at changes (get_or tables k 0))
 
 -- The edits of a table that count at a place while place k has an edited row: all of them before it, and none behind it.
-abbrev pub edits_walked : List TableEdits → ℕ → ℕ → ℕ → List Edit
+abbrev pub edits_walked : List TableChange → ℕ → ℕ → ℕ → List Edit
 edits_walked changes k place table = if nat_lt place k then edits_at changes table else []
 
 -- Two lists have the same rows, each as often.

@@ -5,16 +5,16 @@ ghost use Rattle.mm_value.specs.Equality.{same_row};
 ghost use Rattle.mm_value.specs.declared.refusal.Refusal.TheVariants.{Memory};
 ghost use Rattle.mm_value.specs.declared.values.Value.{Value as AnyValue};
 ghost use Rattle.mm_delta.specs.Change.{change_between};
-ghost use Rattle.mm_bag.specs.Counts.{signed_count};
-ghost use Rattle.mm_bag.specs.declared.signed.Signed.{Signed as Change};
+ghost use Rattle.mm_multiset.specs.Counts.{signed_count};
+ghost use Rattle.mm_multiset.specs.declared.signed.Signed.{Signed as Change};
 ghost use Rattle.mm_delta.specs.Edited.{after_at, before_at};
 ghost use Rattle.mm_delta.specs.Skipping.{IsOfCyclicRows, IsTypeTested};
 ghost use Rattle.mm_delta.specs.Steps.{EachFit, term_reads};
 
-use crate::edited::TableEdits;
+use crate::edited::TableChange;
 use crate::indexed_changes::IndexedChanges;
 use crate::walk::Walk;
-use mm_bag::{Signed, Tally, net_changes};
+use mm_multiset::{Signed, Tally, net_changes};
 use mm_query::BoundQuery;
 use mm_store::View;
 use mm_value::Refusal;
@@ -30,7 +30,7 @@ pub fn delta<'c, 'a: 'c>(
     view: &mut View<'a>,
     query: &'c BoundQuery,
     tables: &'c [usize],
-    changes: &'c [TableEdits<'c>],
+    changes: &'c [TableChange<'c>],
 ) -> Result<Vec<Signed>, Refusal>
     requires few { length tables.now ≤ 4 }
     requires there { All (λ table. table < length view.old.store.tables) tables.now }

@@ -2,9 +2,9 @@
 ghost use Rattle.std.specs.Prelude.{◌≡◌, ◌+◌, [], ◌∷◌, List, IfErr, OnOk};
 ghost use Rattle.mm_value.specs.declared.refusal.Refusal.TheVariants.{Memory};
 ghost use Rattle.mm_value.specs.declared.values.Value.{Value as AnyValue};
-ghost use Rattle.mm_bag.specs.Counts.{count_in, count_of};
+ghost use Rattle.mm_multiset.specs.Counts.{count_in, count_of};
 
-use mm_bag::Tally;
+use mm_multiset::Tally;
 use mm_value::{Refusal, Row};
 
 /// Counts a row once more. `Memory` is the only refusal.

@@ -11,7 +11,7 @@ use mm_value::{Row, RowRef};
 
 /// The edits of one table.
 #[derive(Drop)]
-pub struct TableEdits<'c> {
+pub struct TableChange<'c> {
     /// The table's place in the store.
     pub table: usize,
     /// What is to be changed of its rows.
@@ -19,7 +19,7 @@ pub struct TableEdits<'c> {
 }
 
 /// The edits of a table.
-pub(crate) fn edits_of<'c>(changes: &[TableEdits<'c>], table: usize) -> &'c [Edit]
+pub(crate) fn edits_of<'c>(changes: &[TableChange<'c>], table: usize) -> &'c [Edit]
     ensures { result.now ≡ edits_at changes.now table }
 {
     for change in changes {

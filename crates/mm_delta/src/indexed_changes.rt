@@ -7,7 +7,7 @@ ghost use Rattle.mm_delta.specs.Edited.{edits_at};
 use crate::asked_columns::asked_columns;
 use crate::beside::Beside;
 use crate::edit_index::EditIndex;
-use crate::edited::{TableEdits, edits_of};
+use crate::edited::{TableChange, edits_of};
 use mm_query::BoundQuery;
 use mm_relation::Edit;
 use mm_store::View;
@@ -30,14 +30,14 @@ struct TableIndex<'c> {
 /// The edits of the tables that are changed, and hash indexes over those of some of them.
 #[derive(Drop)]
 pub(crate) struct IndexedChanges<'c> {
-    changes: &'c [TableEdits<'c>],
+    changes: &'c [TableChange<'c>],
     indexes: Vec<TableIndex<'c>>,
 }
 
 impl<'c> Model for IndexedChanges<'c> {
     ghost use Rattle.std.specs.Prelude.{◌≡◌, List, All};
     ghost use Rattle.mm_delta.specs.Edited.{edits_at};
-    ghost use Rattle.mm_delta.specs.declared.edited.TableEdits.{TableEdits as Edits};
+    ghost use Rattle.mm_delta.specs.declared.edited.TableChange.{TableChange as Edits};
 
     ghost Value = { List Edits };
 
@@ -54,7 +54,7 @@ impl<'c> IndexedChanges<'c> {
         view: &View<'_>,
         query: &BoundQuery,
         tables: &[usize],
-        changes: &'c [TableEdits<'c>],
+        changes: &'c [TableChange<'c>],
     ) -> Result<IndexedChanges<'c>, Refusal>
         requires { All (λ table. table < length view.now.store.tables) tables.now }
         ensures ok { IfOk result (λ indexed. indexed ≡ changes.now) }
@@ -93,7 +93,7 @@ impl<'c> IndexedChanges<'c> {
 }
 
 /// Whether the table at a place of FROM has more than a few edits, and one behind it is changed too.
-fn is_met(changes: &[TableEdits<'_>], tables: &[usize], place: usize) -> bool
+fn is_met(changes: &[TableChange<'_>], tables: &[usize], place: usize) -> bool
     requires { place < length tables.now }
 {
     let is_changed = |table: &usize| !edits_of(changes, *table).is_empty();

@@ -15,13 +15,13 @@ ghost use Rattle.mm_delta.specs.Candidates.{Required, asked_by, candidates, has_
 ghost use Rattle.mm_delta.specs.Edited.{come_at, gone_at};
 ghost use Rattle.mm_delta.specs.Steps.{reads_for, row_reads, term_reads};
 ghost use Rattle.mm_delta.specs.Walk.{one_row, other_places};
-ghost use Rattle.mm_delta.specs.declared.edited.TableEdits.{TableEdits};
+ghost use Rattle.mm_delta.specs.declared.edited.TableChange.{TableChange};
 
 /// An edited row that is left out reads no row beside itself. Any other reads those with which it may be combined.
 pub fn left_out_rows_are_not_combined()
-    ensures left_out { (query : BoundQuery) (store : Tables) (changes : List TableEdits) (tables : List ℕ) (skipped : ℕ → List Value → Bool) (k : ℕ) (row : List Value)
+    ensures left_out { (query : BoundQuery) (store : Tables) (changes : List TableChange) (tables : List ℕ) (skipped : ℕ → List Value → Bool) (k : ℕ) (row : List Value)
         → skipped k row ≡ true → row_reads query store changes tables skipped k row ≡ 0 }
-    ensures others { (query : BoundQuery) (store : Tables) (changes : List TableEdits) (tables : List ℕ) (skipped : ℕ → List Value → Bool) (k : ℕ) (row : List Value)
+    ensures others { (query : BoundQuery) (store : Tables) (changes : List TableChange) (tables : List ℕ) (skipped : ℕ → List Value → Bool) (k : ℕ) (row : List Value)
         → skipped k row ≡ false → row_reads query store changes tables skipped k row
         ≡ reads_for query store changes tables k (other_places (length tables) k) (one_row (length tables) k row) }
 {}
@@ -29,14 +29,14 @@ pub fn left_out_rows_are_not_combined()
 /// A place of FROM whose table has no edited row reads nothing. One all of whose edited rows are left out reads just these. One
 /// with a single edited row reads it, and what it may be combined with.
 pub fn each_edited_row_is_read_once()
-    ensures unedited { (query : BoundQuery) (store : Tables) (changes : List TableEdits) (tables : List ℕ) (skipped : ℕ → List Value → Bool) (k : ℕ)
+    ensures unedited { (query : BoundQuery) (store : Tables) (changes : List TableChange) (tables : List ℕ) (skipped : ℕ → List Value → Bool) (k : ℕ)
         → gone_at store changes (get_or tables k 0) ≡ [] → come_at changes (get_or tables k 0) ≡ []
         → term_reads query store changes tables skipped k ≡ 0 }
-    ensures left_out { (query : BoundQuery) (store : Tables) (changes : List TableEdits) (tables : List ℕ) (skipped : ℕ → List Value → Bool) (k : ℕ)
+    ensures left_out { (query : BoundQuery) (store : Tables) (changes : List TableChange) (tables : List ℕ) (skipped : ℕ → List Value → Bool) (k : ℕ)
         → All (λ row. skipped k row ≡ true) (gone_at store changes (get_or tables k 0) ++ come_at changes (get_or tables k 0))
         → term_reads query store changes tables skipped k
         ≡ length (gone_at store changes (get_or tables k 0)) + length (come_at changes (get_or tables k 0)) }
-    ensures single { (query : BoundQuery) (store : Tables) (changes : List TableEdits) (tables : List ℕ) (skipped : ℕ → List Value → Bool) (k : ℕ) (row : List Value)
+    ensures single { (query : BoundQuery) (store : Tables) (changes : List TableChange) (tables : List ℕ) (skipped : ℕ → List Value → Bool) (k : ℕ) (row : List Value)
         → gone_at store changes (get_or tables k 0) ++ come_at changes (get_or tables k 0) ≡ row ∷ []
         → term_reads query store changes tables skipped k ≡ 1 + row_reads query store changes tables skipped k row }
 {}

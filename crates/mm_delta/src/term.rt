@@ -4,7 +4,7 @@ ghost use Rattle.std.specs.List.{sum_by};
 ghost use Rattle.mm_value.specs.declared.refusal.Refusal.TheVariants.{Memory};
 ghost use Rattle.mm_value.specs.declared.values.Value.{Value as AnyValue};
 ghost use Rattle.mm_query.specs.Queries.{bag_of};
-ghost use Rattle.mm_bag.specs.Counts.{count_in, count_of};
+ghost use Rattle.mm_multiset.specs.Counts.{count_in, count_of};
 ghost use Rattle.mm_delta.specs.Edited.{after_at, before_at, come_at, gone_at};
 ghost use Rattle.mm_delta.specs.Skipping.{IsOfCyclicRows, IsRowOf, IsTypeTested};
 ghost use Rattle.mm_delta.specs.Steps.{EachFit, HasTables, row_reads, term_reads};
@@ -13,7 +13,7 @@ ghost use Rattle.mm_delta.specs.Walk.{other_places};
 
 use crate::unseen::Sight;
 use crate::walk::Walk;
-use mm_bag::Tally;
+use mm_multiset::Tally;
 use mm_store::View;
 use mm_value::{Refusal, Row};
 use std::alloc::Global;

@@ -103,6 +103,38 @@ module _ {A : Type 0} (separator : Separator) (item : Phrase A) (literals : A �
     items_fail e (inl f) = inl (f.0, h.goes_on ∙ ap (option_map (in_front h.said)) (list_none (the_separator separator) item (tokens now.rest) f.1))
     items_fail e (inr f) = inr f
 
+    -- the others were read as a list of their own, ..
+    pub items_behind : (new : Reader) (all : List A) → GivesItems (list_of (the_separator separator) item) (flat_map literals) now new after all
+        → GivesItems (list_of (the_separator separator) item) (flat_map literals) old new before all
+    items_behind new all others = record {
+      items = h.so_far.items ++ others.items;
+      joined = others.joined ∙ ap (λ l. l ++ others.items) h.so_far.joined ∙ append_assoc before h.so_far.items others.items;
+      given = record {
+        said = h.said ++ rest.said;
+        read = h.goes_on ∙ ap (option_map (in_front h.said)) rest.read;
+        fault =
+            rest.fault ∙ ap (λ f. option_or f (first_fault (flat_map literals rest.said))) h.so_far.fault
+            ∙ sym (or_assoc old.fault (first_fault (flat_map literals h.said)) (first_fault (flat_map literals rest.said)))
+            ∙ ap (option_or old.fault) (sym faults);
+        same =
+            λ none. let p = or_none_parts (first_fault (flat_map literals h.said)) (first_fault (flat_map literals rest.said)) (sym faults ∙ none) in
+            λ i. h.so_far.same p.0 i ++ rest.same p.1 i;
+        shorter = omega (arith, rest.shorter, h.so_far.shorter);
+      };
+    }
+      where
+        rest : Gives (list_of (the_separator separator) item) (flat_map literals) now new others.items
+        rest = others.given
+
+        faults : first_fault (flat_map literals (h.said ++ rest.said))
+            ≡ option_or (first_fault (flat_map literals h.said)) (first_fault (flat_map literals rest.said))
+        faults = ap first_fault (flat_map-append literals h.said rest.said) ∙ fault-append (flat_map literals h.said) (flat_map literals rest.said)
+
+    -- .. or there is no such list
+    pub items_fail_behind : (e : Refusal) → Fails (list_of (the_separator separator) item) now e → Fails (list_of (the_separator separator) item) old e
+    items_fail_behind e (inl f) = inl (f.0, h.goes_on ∙ ap (option_map (in_front h.said)) f.1)
+    items_fail_behind e (inr f) = inr f
+
     module _ (mid : Reader) (x : A) (g : Gives item literals now mid x) (more : List A) (pushed : more ≡ after ++ x ∷ []) where
       all_literals : flat_map literals (h.said ++ g.said ∷ []) ≡ flat_map literals h.said ++ literals g.said
       all_literals = flat_map-append literals h.said (g.said ∷ []) ∙ ap (λ l. flat_map literals h.said ++ l) (append-nil (literals g.said))

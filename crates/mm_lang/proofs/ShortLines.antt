@@ -2,15 +2,13 @@
 use Rattle.std.proofs.Common.{◌≡◌, ◌<◌, ◌≤◌, ℕ, ◌+◌, List, [], ◌∷◌, ◌++◌, Option, Some, None, false, true, length, map, get_or, take, refl, sym, ap, append_assoc, append-nil, ◌∙◌}
 use Rattle.std.specs.List.{flat_map}
 use Rattle.std.specs.Option.{OnSome, is_some}
-use Rattle.std.proofs.lemmas.List.{take_all, take_more}
-use Rattle.std.proofs.lemmas.List.Concat.{flat_map-append}
 use Rattle.bstr.specs.Find.{IsFirstByte, is_byte}
 use Rattle.std.proofs.Math.Seq.{take-append_seam}
 use Rattle.mm_value.specs.declared.values.Value.{Value}
 use Rattle.mm_value.specs.Literal.{doubled, quoted}
-use Rattle.mm_value.specs.Written.{value_text, values_text, row_text}
+use Rattle.mm_value.specs.Written.{value_text, row_text}
 use Rattle.mm_value.proofs.Quotes.{doubled_unfound}
-use Rattle.mm_value.proofs.RowTexts.{next_text, values_text-cons}
+use Rattle.mm_value.proofs.RowTexts.{next_text_of, next_value, values_text_all}
 use Rattle.mm_lang.specs.Late.{KeepsFront}
 
 pub on_some_weaker : {T P Q : Type 0} (r : Option T) → (P → Q) → OnSome r P → OnSome r Q
@@ -35,39 +33,18 @@ quoted_behind line opened filled closed text plain opens fills closes =
     ∙ append_assoc line (39 ∷ text) (39 ∷ [])
     ∙ ap (λ l. line ++ (39 ∷ l ++ 39 ∷ [])) (sym plain)
 
--- a value after another one, read from where it is
-abbrev pub next_text_of : {T : Type 0} → (T → Value) → T → List ℕ
-next_text_of value v = next_text (value v)
-
 -- i values behind a front of a line, and the next one
 pub next_value_behind : {T : Type 0} (value : T → Value) (front line parted longer : List ℕ) (others : List T) (i : ℕ) (v : T) → i < length others
     → v ≡ get_or others i v → line ≡ front ++ flat_map (next_text_of value) (take i others) → parted ≡ line ++ 44 ∷ 32 ∷ []
     → longer ≡ parted ++ value_text (value v) → longer ≡ front ++ flat_map (next_text_of value) (take (i + 1) others)
 next_value_behind value front line parted longer others i v lt at so_far parts grows =
     let here = flat_map (next_text_of value) (take i others) in
-    let next : flat_map (next_text_of value) (take (i + 1) others) ≡ here ++ next_text_of value v =
-    ap (flat_map (next_text_of value)) (take_more others i v lt ∙ ap (λ w. take i others ++ w ∷ []) (sym at))
-    ∙ flat_map-append (next_text_of value) (take i others) (v ∷ [])
-    ∙ ap (λ l. here ++ l) (append-nil (next_text_of value v)) in
     grows
     ∙ ap (λ l. l ++ value_text (value v)) parts
     ∙ append_assoc line (44 ∷ 32 ∷ []) (value_text (value v))
     ∙ ap (λ l. l ++ next_text_of value v) so_far
     ∙ append_assoc front here (next_text_of value v)
-    ∙ ap (λ l. front ++ l) (sym next)
-
-next_texts : {T : Type 0} (value : T → Value) (vs : List T) → flat_map next_text (map value vs) ≡ flat_map (next_text_of value) vs
-next_texts value [] = refl
-next_texts value (v ∷ vs) = ap (λ l. next_text (value v) ++ l) (next_texts value vs)
-
--- the first value, and all after it
-texts_of_all : {T : Type 0} (value : T → Value) (values : List T) (first : T) (others : List T) (i : ℕ) → values ≡ first ∷ others → length others ≤ i
-    → values_text (map value values) ≡ value_text (value first) ++ flat_map (next_text_of value) (take i others)
-texts_of_all value values first others i e end =
-    ap (λ l. values_text (map value l)) e
-    ∙ values_text-cons (value first) (map value others)
-    ∙ ap (λ l. value_text (value first) ++ l) (next_texts value others)
-    ∙ ap (λ l. value_text (value first) ++ flat_map (next_text_of value) l) (sym (take_all i others end))
+    ∙ ap (λ l. front ++ l) (sym (next_value value others i v lt at))
 
 -- the first value and all others, in parentheses and with the line feed, behind a front of a line
 pub line_of_all : {T : Type 0} (value : T → Value) (front opened begun line ended : List ℕ) (values : List T) (first : T) (others : List T) (i : ℕ)
@@ -85,12 +62,7 @@ line_of_all value front opened begun line ended values first others i parts end 
     ∙ ap (λ l. l ++ 41 ∷ 10 ∷ []) whole
     ∙ append_assoc front (40 ∷ texts) (41 ∷ 10 ∷ [])
     ∙ ap (λ l. front ++ 40 ∷ l) (sym (append_assoc texts (41 ∷ []) (10 ∷ [])))
-    ∙ ap (λ l. front ++ ((40 ∷ l ++ 41 ∷ []) ++ 10 ∷ [])) (sym (texts_of_all value values first others i parts end))
-
--- values that are read from themselves
-pub values_themselves : (values : List Value) → map (λ (v : Value). v) values ≡ values
-values_themselves [] = refl
-values_themselves (v ∷ vs) = ap (λ l. v ∷ l) (values_themselves vs)
+    ∙ ap (λ l. front ++ ((40 ∷ l ++ 41 ∷ []) ++ 10 ∷ [])) (sym (values_text_all value values first others parts i end))
 
 -- ---- bytes that begin with those before
 

@@ -10,7 +10,7 @@ use crate::keyword::Keyword;
 use crate::phrase::{Phrase, Separator, read_clause};
 use crate::reader::Reader;
 use crate::token::Symbol;
-use mm_query::{Assignment, Atom, ItemList, Operand};
+use mm_query::{Assignment, Atom, Few, Operand};
 use mm_schema::Name;
 use mm_value::Refusal;
 use std::marker::PhantomData;
@@ -103,9 +103,7 @@ impl Phrase for AssignmentPhrase {
 
 /// Reads `WHERE` and the tests behind it, with `AND` between each two, or nothing where no `WHERE` stands there: then there
 /// are no tests. `Syntax` where no test stands behind `WHERE` or `AND`, `Memory` where memory was refused.
-pub(crate) fn read_tests<C: ColumnName>(
-    reader: &mut Reader<'_>,
-) -> Result<ItemList<Atom<C>>, Refusal>
+pub(crate) fn read_tests<C: ColumnName>(reader: &mut Reader<'_>) -> Result<Few<Atom<C>>, Refusal>
     ensures { ReadsPhrase (tests_on C.column) (flat_map test_literals) reader.old reader.new result }
 {
     let mut test = TestPhrase { names: PhantomData };

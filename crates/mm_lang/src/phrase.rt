@@ -9,7 +9,7 @@ ghost use Rattle.mm_value.specs.declared.values.Value.{Value as Val};
 use crate::keyword::Keyword;
 use crate::reader::Reader;
 use crate::token::Symbol;
-use mm_query::ItemList;
+use mm_query::Few;
 use mm_value::Refusal;
 
 /// What stands between each two items of a list.
@@ -56,17 +56,23 @@ pub(crate) fn read_list<P: Phrase>(
     }
 }
 
-/// Reads one or more items, with the separator between each two, as `read_list` does, and gives their list.
+/// Reads one or more items, with the separator between each two, as `read_list` does, and gives their list. An only item
+/// takes no block.
 pub(crate) fn read_items<P: Phrase>(
     phrase: &mut P,
     separator: Separator,
     reader: &mut Reader<'_>,
-) -> Result<ItemList<P::Item>, Refusal>
+) -> Result<Few<P::Item>, Refusal>
     ensures { ReadsPhrase (list_of (the_separator separator) P.reading) (flat_map P.literals) reader.old reader.new result }
 {
+    let first = phrase.read(reader)?;
+    if !reader.skip_separator(separator) {
+        return Ok(Few::one(first));
+    }
     let mut items = Vec::new(reader.alloc());
+    items.push(first)?;
     read_list(phrase, separator, reader, &mut items)?;
-    Ok(ItemList::new(items))
+    Ok(Few::from_vec(items))
 }
 
 /// Reads a keyword and the items behind it, as `read_items` does, or nothing where the keyword does not stand there: then
@@ -76,11 +82,11 @@ pub(crate) fn read_clause<P: Phrase>(
     phrase: &mut P,
     separator: Separator,
     reader: &mut Reader<'_>,
-) -> Result<ItemList<P::Item>, Refusal>
+) -> Result<Few<P::Item>, Refusal>
     ensures { ReadsPhrase (clause keyword (the_separator separator) P.reading) (flat_map P.literals) reader.old reader.new result }
 {
     if !reader.skip_keyword(keyword) {
-        return Ok(ItemList::new(Vec::new(reader.alloc())));
+        return Ok(Few::from_vec(Vec::new(reader.alloc())));
     }
     read_items(phrase, separator, reader)
 }

@@ -1,10 +1,9 @@
 //! The text of replies.
-ghost use Rattle.std.specs.Prelude.{◌≡◌, ◌⊎◌, ℕ, false, List, IsTrue, [], ◌∷◌, ◌++◌, Some, codes, decimal, map};
+ghost use Rattle.std.specs.Prelude.{◌≡◌, ◌⊎◌, ℕ, false, List, IsTrue, [], ◌∷◌, ◌++◌, Some, codes, decimal};
 ghost use Rattle.std.specs.Char.{is_ascii_digit};
 ghost use Rattle.mm_value.specs.Device.{Writes};
 ghost use Rattle.mm_value.specs.Watched.{has_failed};
 ghost use Rattle.mm_value.specs.declared.refusal.Refusal.{Refusal};
-ghost use Rattle.mm_value.specs.Written.{row_text};
 ghost use Rattle.mm_query.specs.declared.reply.Reply.{Reply};
 ghost use Rattle.mm_query.specs.declared.plan_line.PlanLine.{PlanLine as AnyLine};
 ghost use Rattle.mm_query.specs.declared.reply.Reply.TheVariants.{Refused, Steps};
@@ -22,7 +21,7 @@ use crate::row_line::RowLines;
 use itoa::Buffer;
 use mm_query::{PlanLine, Reply};
 use mm_schema::IndexId;
-use mm_value::{Refusal, Row, Value, Watched, WriteFault, put_all, write_row, write_tuple};
+use mm_value::{Refusal, Row, Watched, WriteFault, put_all};
 use std::io::Write;
 
 /// Writes a reply, each line of it with its line feed: `ok`, `ok` and a count, a line for each row and then their
@@ -75,29 +74,6 @@ pub fn definitions_are_told_as_written()
         → command_of (tokens (table_told definition)) ≡ Some (Define (MakeTable definition)) }
     ensures index { (index : IndexDef) → HasIndexNames index → command_of (tokens (index_told index)) ≡ Some (Define (MakeIndex index)) }
 {}
-
-/// Writes the line of a row in a reply of rows. Takes no memory. After `WriteFault` the writer has failed, and a front of
-/// the line was written.
-pub(crate) fn write_row_line<W: Write>(row: &Row, writer: &mut Watched<W>) -> Result<(), WriteFault>
-    requires { has_failed writer.old ≡ false }
-    ensures { Writes W.contents writer.old writer.new result (row_text row.now ++ 10 ∷ []) }
-{
-    write_row(row, writer)?;
-    put_all(writer, b"\n")
-}
-
-/// Writes the line of a row in a reply of rows, as [`write_row_line`] does, from references to its values. Takes no memory.
-/// After `WriteFault` the writer has failed, and a front of the line was written.
-pub(crate) fn write_tuple_line<W: Write>(
-    values: &[&Value],
-    writer: &mut Watched<W>,
-) -> Result<(), WriteFault>
-    requires { has_failed writer.old ≡ false }
-    ensures { Writes W.contents writer.old writer.new result (row_text (map (λ v. v.now) values.now) ++ 10 ∷ []) }
-{
-    write_tuple(values, writer)?;
-    put_all(writer, b"\n")
-}
 
 /// Writes the line that stands behind the rows of a reply: how many there are. Takes no memory. After `WriteFault` the
 /// writer has failed, and a front of the line was written.

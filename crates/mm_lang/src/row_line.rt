@@ -5,13 +5,12 @@ ghost use Rattle.mm_value.specs.Device.{Writes};
 ghost use Rattle.mm_value.specs.Literal.{quoted};
 ghost use Rattle.mm_value.specs.Watched.{has_failed};
 ghost use Rattle.mm_value.specs.Written.{row_text, value_text};
-ghost use Rattle.mm_value.specs.declared.values.Value.{Value as AnyValue};
 
-use crate::reply_text::{write_row_count, write_row_line, write_tuple_line};
+use crate::reply_text::write_row_count;
 use arrayvec::ArrayVec;
 use bstr::ByteSlice;
 use itoa::Buffer;
-use mm_value::{Row, Value, Watched, WriteFault, put_all};
+use mm_value::{AsValue, Row, Value, Watched, WriteFault, put_all, write_row};
 use std::io::Write;
 use std::marker::Model;
 
@@ -19,33 +18,6 @@ use std::marker::Model;
 const MAX_WAITING_BYTES: usize = 512;
 
 type Waiting = ArrayVec<u8, MAX_WAITING_BYTES>;
-
-/// What a value can be read from.
-pub(crate) trait AsValue {
-    ghost value: { Self → AnyValue };
-
-    /// The value.
-    fn as_value(&self) -> &Value
-        ensures { result.now ≡ value self.now };
-}
-
-impl AsValue for Value {
-    ghost value = { λ v. v };
-
-    #[inline(always)]
-    fn as_value(&self) -> &Value {
-        self
-    }
-}
-
-impl<'v> AsValue for &'v Value {
-    ghost value = { λ v. v.now };
-
-    #[inline(always)]
-    fn as_value(&self) -> &Value {
-        *self
-    }
-}
 
 /// Lines of rows that wait to be written, up to 512 bytes of them, so that a writer is called once for many rows. Seen as their bytes.
 #[derive(Drop)]
@@ -81,14 +53,7 @@ impl RowLines {
         requires { has_failed writer.old ≡ false }
         ensures { WritesLate W.contents writer.old self.old writer.new self.new result (row_text row.now ++ 10 ∷ []) }
     {
-        if self.has_added(row.values()) {
-            return Ok(());
-        }
-        self.write_out(writer)?;
-        if self.has_added(row.values()) {
-            return Ok(());
-        }
-        write_row_line(row, writer)
+        self.add(row.values(), writer)
     }
 
     /// Adds the line of a row as [`RowLines::add_row`] does, from references to its values.
@@ -100,14 +65,7 @@ impl RowLines {
         requires { has_failed writer.old ≡ false }
         ensures { WritesLate W.contents writer.old self.old writer.new self.new result (row_text (map (λ v. v.now) values.now) ++ 10 ∷ []) }
     {
-        if self.has_added(values) {
-            return Ok(());
-        }
-        self.write_out(writer)?;
-        if self.has_added(values) {
-            return Ok(());
-        }
-        write_tuple_line(values, writer)
+        self.add(values, writer)
     }
 
     /// Writes the lines that wait, and behind them the line that tells how many rows there are. Takes no memory. After `WriteFault` the
@@ -122,6 +80,25 @@ impl RowLines {
     {
         self.write_out(writer)?;
         write_row_count(count, writer)
+    }
+
+    /// Adds the line of a row as [`RowLines::add_row`] does, from its values or from references to them.
+    fn add<V: AsValue, W: Write>(
+        &mut self,
+        values: &[V],
+        writer: &mut Watched<W>,
+    ) -> Result<(), WriteFault>
+        requires { has_failed writer.old ≡ false }
+        ensures { WritesLate W.contents writer.old self.old writer.new self.new result (row_text (map V.value values.now) ++ 10 ∷ []) }
+    {
+        if self.has_added(values) {
+            return Ok(());
+        }
+        self.write_out(writer)?;
+        if self.has_added(values) {
+            return Ok(());
+        }
+        write_line(values, writer)
     }
 
     /// Writes the lines that wait.
@@ -147,6 +124,15 @@ impl RowLines {
         self.waiting.truncate(len);
         false
     }
+}
+
+/// Writes the line of a row. After `WriteFault` the writer has failed, and a front of the line was written.
+fn write_line<V: AsValue, W: Write>(values: &[V], writer: &mut Watched<W>) -> Result<(), WriteFault>
+    requires { has_failed writer.old ≡ false }
+    ensures { Writes W.contents writer.old writer.new result (row_text (map V.value values.now) ++ 10 ∷ []) }
+{
+    write_row(values, writer)?;
+    put_all(writer, b"\n")
 }
 
 /// Puts the line of a row behind what waits, with its line feed. `None` where there is no room for it, where a text has a quote in it,

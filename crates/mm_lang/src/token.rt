@@ -216,12 +216,12 @@ pub(crate) fn is_blank(byte: u8) -> bool
 fn is_word_byte(byte: u8) -> bool
     ensures { result ≡ is_word_byte byte }
 {
-    told_of(&WORD_BYTES, byte)
+    is_marked(&WORD_BYTES, byte)
 }
 
-// What a table of all bytes tells of one.
+// Whether a table of all bytes marks this one.
 #[inline(always)]
-fn told_of(table: &[bool; 256], byte: u8) -> bool
+fn is_marked(table: &[bool; 256], byte: u8) -> bool
     ensures { result ≡ slice_index_or table.now byte false }
 {
     table[byte as usize]

@@ -8,6 +8,7 @@ use Rattle.mm_query.specs.Queries.{none_fails}
 use Rattle.mm_query.specs.declared.atom.Atom.{Atom}
 use Rattle.mm_query.specs.declared.bound_query.FieldPlace.{FieldPlace}
 use Rattle.mm_value.specs.declared.values.Value.{Value}
+use Rattle.mm_schema.specs.Rows.{most_rows}
 
 -- There is one for each combination and each row.
 length-extended : (outers : List (List (List Value))) (next : List (List Value)) → length (extended outers next) ≡ length outers * length next
@@ -28,7 +29,7 @@ length-joined atoms outers next =
     omega (arith, length-extended outers next)
 
 -- Fewer than 2^64 combinations are of three tables at most.
-pub few_of_three : (tables found : ℕ) → tables < 3 → found ≤ most_combinations tables → found * 1048576 ≤ 18446744073709551615
+pub few_of_three : (tables found : ℕ) → tables < 3 → found ≤ most_combinations tables → found * most_rows ≤ 18446744073709551615
 few_of_three zero found few bounded = omega (arith, bounded)
 few_of_three (suc zero) found few bounded = omega (arith, bounded)
 few_of_three (suc (suc zero)) found few bounded = omega (arith, bounded)

@@ -29,6 +29,7 @@ use Rattle.mm_templist.specs.Combos.{AreLive, Combos, combo_rows, rows_of_combo}
 use Rattle.mm_value.specs.declared.refusal.Refusal.{Refusal}
 use Rattle.mm_value.specs.declared.refusal.Refusal.TheVariants.{Memory, ResultTooLarge}
 use Rattle.mm_value.specs.declared.values.Value.{Value}
+use Rattle.mm_schema.specs.Rows.{most_rows}
 
 -- ---- the table that comes next
 
@@ -72,9 +73,9 @@ splits store first tables all (next ∷ later) is more = record {
 
 -- ---- how many there are
 
-at_most_each : (outers next found most : ℕ) → found ≤ outers * next → outers ≤ most → next ≤ 1048576 → found ≤ most * 1048576
+at_most_each : (outers next found most : ℕ) → found ≤ outers * next → outers ≤ most → next ≤ most_rows → found ≤ most * most_rows
 at_most_each outers next found most given few_outers few_next =
-    let grown = mul-le outers next most 1048576 few_outers few_next in
+    let grown = mul-le outers next most most_rows few_outers few_next in
     omega (arith, given, grown)
 
 module _ (store : Tables) (query : BoundQuery) where
@@ -105,12 +106,12 @@ module _ (store : Tables) (query : BoundQuery) where
         ∙ length_permutation found (fitting query.atoms (lists_of (list.tables ++ next ∷ []))) fits_behind
 
     -- So the last join is refused where the query is.
-    pub due_behind : first_refusal (size_conditions (bag_of query (lists_of (list.tables ++ next ∷ [])))) ≡ first_refusal (cap_conditions 1048576 found)
-    due_behind = ap (λ n. cond (nat_lt 1048576 n) (Some ResultTooLarge) None) as_many_behind
+    pub due_behind : first_refusal (size_conditions (bag_of query (lists_of (list.tables ++ next ∷ [])))) ≡ first_refusal (cap_conditions most_rows found)
+    due_behind = ap (λ n. cond (nat_lt most_rows n) (Some ResultTooLarge) None) as_many_behind
 
-    module _ (few : length (rows_at store.tables next) ≤ 1048576) (bounded : length list.combos ≤ most_combinations (length list.tables)) where
+    module _ (few : length (rows_at store.tables next) ≤ most_rows) (bounded : length list.combos ≤ most_combinations (length list.tables)) where
       -- With one table more there are at most so many, ..
-      pub bounded_behind : length found ≤ most_combinations (length list.tables) * 1048576
+      pub bounded_behind : length found ≤ most_combinations (length list.tables) * most_rows
       bounded_behind =
           let given = length-joined query.atoms (combo_rows store list) (rows_at store.tables next) in
           let outers = length-map list.combos (rows_of_combo store list.tables) in
@@ -125,12 +126,12 @@ module _ (store : Tables) (query : BoundQuery) where
           ap (λ b. cond b (Some ResultTooLarge) None) not_more
 
 -- The rows at a place are those of the relation there.
-pub few_at : (store : Tables) (place : ℕ) (stored : StoredRows) → IsAt store place stored → length stored.refs ≤ 1048576
-    → length (rows_at store.tables place) ≤ 1048576
+pub few_at : (store : Tables) (place : ℕ) (stored : StoredRows) → IsAt store place stored → length stored.refs ≤ most_rows
+    → length (rows_at store.tables place) ≤ most_rows
 few_at store place stored at few =
     let rows : length (rows_at store.tables place) ≡ length stored.refs =
     ap (λ s. length (option_map_or rows_of s [])) at ∙ length-map stored.refs (row_at (slot_at stored.places)) in
-    subst (λ n. n ≤ 1048576) (sym rows) few
+    subst (λ n. n ≤ most_rows) (sym rows) few
 
 -- ---- the combination of no tables
 
@@ -153,10 +154,10 @@ behind_is : (first : List ℕ) (next : ℕ) (later : List ℕ) → get_or (first
 behind_is [] next later = refl
 behind_is (t ∷ first) next later = behind_is first next later
 
-not_refused : (n : ℕ) → cond (nat_lt 1048576 n) (Some ResultTooLarge) None ≡ None → n ≤ 1048576
-not_refused n due = by (nat_lt 1048576 n) refl due
+not_refused : (n : ℕ) → cond (nat_lt most_rows n) (Some ResultTooLarge) None ≡ None → n ≤ most_rows
+not_refused n due = by (nat_lt most_rows n) refl due
   where
-    by : (b : Bool) → nat_lt 1048576 n ≡ b → cond b (Some ResultTooLarge) None ≡ None → n ≤ 1048576
+    by : (b : Bool) → nat_lt most_rows n ≡ b → cond b (Some ResultTooLarge) None ≡ None → n ≤ most_rows
     by true more due = absurd (none_is_some ResultTooLarge (sym due))
     by false few due = grind (arith, nat_tests, few)
 
@@ -165,20 +166,20 @@ front_there P [] rest all = All-nil P
 front_there P (t ∷ first) rest all = All-cons P t first (All-head P t (first ++ rest) all) (front_there P first rest (All-tail P t (first ++ rest) all))
 
 -- More are refused where fewer are.
-more_refused : (few many : ℕ) (refusal : Refusal) → few ≤ many → cond (nat_lt 1048576 few) (Some ResultTooLarge) None ≡ Some refusal
-    → cond (nat_lt 1048576 many) (Some ResultTooLarge) None ≡ Some refusal
-more_refused few many refusal more due = by (nat_lt 1048576 few) refl due
+more_refused : (few many : ℕ) (refusal : Refusal) → few ≤ many → cond (nat_lt most_rows few) (Some ResultTooLarge) None ≡ Some refusal
+    → cond (nat_lt most_rows many) (Some ResultTooLarge) None ≡ Some refusal
+more_refused few many refusal more due = by (nat_lt most_rows few) refl due
   where
-    by : (b : Bool) → nat_lt 1048576 few ≡ b → cond b (Some ResultTooLarge) None ≡ Some refusal
-        → cond (nat_lt 1048576 many) (Some ResultTooLarge) None ≡ Some refusal
+    by : (b : Bool) → nat_lt most_rows few ≡ b → cond b (Some ResultTooLarge) None ≡ Some refusal
+        → cond (nat_lt most_rows many) (Some ResultTooLarge) None ≡ Some refusal
     by true too_many due =
-        let too : nat_lt 1048576 many ≡ true = grind (arith, nat_tests, too_many, more) in
+        let too : nat_lt most_rows many ≡ true = grind (arith, nat_tests, too_many, more) in
         ap (λ b. cond b (Some ResultTooLarge) None) too ∙ due
     by false few due = absurd (none_is_some refusal due)
 
 module _ (store : Tables) (query : BoundQuery) (tables : List ℕ) (list : Combos) (begun : IsBegun store query tables list)
     (all : All (λ t. t < length store.tables) tables) (short : length tables ≤ 4) (left : length list.tables < length tables)
-    (few_rows : length (rows_at store.tables (get_or tables (length list.tables) 0)) ≤ 1048576) where
+    (few_rows : length (rows_at store.tables (get_or tables (length list.tables) 0)) ≤ most_rows) where
   pub split : Splits store list.tables tables
   split = splits store list.tables tables all begun.rest begun.first (λ same. omega (arith, left, same))
 
@@ -193,12 +194,12 @@ module _ (store : Tables) (query : BoundQuery) (tables : List ℕ) (list : Combo
   abbrev given : List (List (List Value))
   given = found store query list begun.fitting split.next
 
-  few_next : length (rows_at store.tables split.next) ≤ 1048576
-  few_next = subst (λ t. length (rows_at store.tables t) ≤ 1048576) next_is few_rows
+  few_next : length (rows_at store.tables split.next) ≤ most_rows
+  few_next = subst (λ t. length (rows_at store.tables t) ≤ most_rows) next_is few_rows
 
   -- Where no table is left behind it, the join is refused as the query is, ..
   due_at_last : split.later ≡ []
-      → first_refusal (size_conditions (bag_of query (map (rows_at store.tables) tables))) ≡ first_refusal (cap_conditions 1048576 given)
+      → first_refusal (size_conditions (bag_of query (map (rows_at store.tables) tables))) ≡ first_refusal (cap_conditions most_rows given)
   due_at_last none =
       ap (λ ts. first_refusal (size_conditions (bag_of query (map (rows_at store.tables) ts)))) (split.is ∙ ap (λ later. list.tables ++ split.next ∷ later) none)
       ∙ due_behind store query list begun.fitting split.next
@@ -208,7 +209,7 @@ module _ (store : Tables) (query : BoundQuery) (tables : List ℕ) (list : Combo
 
   -- .. where each combination goes on, the query has no fewer, ..
   due_before : list_all (names_first (length list.tables + 1)) query.atoms ≡ true → HaveRows store split.later
-      → (refusal : Refusal) → first_refusal (cap_conditions 1048576 given) ≡ Some refusal
+      → (refusal : Refusal) → first_refusal (cap_conditions most_rows given) ≡ Some refusal
       → first_refusal (size_conditions (bag_of query (map (rows_at store.tables) tables))) ≡ Some refusal
   due_before named rows refusal due =
       let with_next = list.tables ++ split.next ∷ [] in
@@ -240,7 +241,7 @@ module _ (store : Tables) (query : BoundQuery) (tables : List ℕ) (list : Combo
 
   -- So many a list may have where each goes on.
   abbrev pub IsWithin : Type 0
-  IsWithin = NoneLost store query.atoms (length list.tables + 1) split.later → length given ≤ 1048576
+  IsWithin = NoneLost store query.atoms (length list.tables + 1) split.later → length given ≤ most_rows
 
   -- A join that is not refused keeps to that.
   pub within : (cap : ℕ) → IsCap store query.atoms tables (length list.tables + 1) cap → (result : Result Combos Refusal)
@@ -269,9 +270,9 @@ module _ (store : Tables) (query : BoundQuery) (tables : List ℕ) (list : Combo
             (IsPermutation-trans (combo_rows store next) given (fitting query.atoms (map (rows_at store.tables) (list.tables ++ split.next ∷ []))) same
             (fits_behind store query list begun.fitting split.next));
         live = live;
-        bounded = subst (λ n. length next.combos ≤ most_combinations n) (sym one_more) (subst (λ n. n ≤ most_combinations (length list.tables) * 1048576)
+        bounded = subst (λ n. length next.combos ≤ most_combinations n) (sym one_more) (subst (λ n. n ≤ most_combinations (length list.tables) * most_rows)
             (sym count) (bounded_behind store query list begun.fitting split.next few_next begun.bounded));
-        capped = λ none. subst (λ n. n ≤ 1048576) (sym count) (few (subst (λ n. NoneLost store query.atoms n split.later) one none));
+        capped = λ none. subst (λ n. n ≤ most_rows) (sym count) (few (subst (λ n. NoneLost store query.atoms n split.later) one none));
       }
 
 -- What holds of a list for each further table holds of it for this one.
@@ -307,7 +308,7 @@ none_left store query tables list begun none = by begun.rest refl begun.first
         let few = begun.capped (inl last) in
         let count : length (bag_of query (map (rows_at store.tables) tables)) ≡ length list.combos =
         ap (λ ts. length (bag_of query (map (rows_at store.tables) ts))) (sym whole) ∙ as_many store query list begun.fitting in
-        let not_more : nat_lt 1048576 (length (bag_of query (map (rows_at store.tables) tables))) ≡ false = grind (arith, nat_tests, count, few) in
+        let not_more : nat_lt most_rows (length (bag_of query (map (rows_at store.tables) tables))) ≡ false = grind (arith, nat_tests, count, few) in
         ap (λ b. cond b (Some ResultTooLarge) None) not_more
     by (t ∷ rest) more is = absurd (shorter list.tables (omega (arith, none, ap length is)))
       where
@@ -318,7 +319,7 @@ none_left store query tables list begun none = by begun.rest refl begun.first
 -- ---- the first table
 
 module _ (store : Tables) (query : BoundQuery) (tables : List ℕ) (all : All (λ t. t < length store.tables) tables) (short : length tables ≤ 4)
-    (some : 0 < length tables) (few_rows : length (rows_at store.tables (get_or tables 0 0)) ≤ 1048576) where
+    (some : 0 < length tables) (few_rows : length (rows_at store.tables (get_or tables 0 0)) ≤ most_rows) where
   abbrev unit : Combos
   unit = record { tables = []; fields = query.fields; combos = [] ∷ [] }
 
@@ -331,7 +332,7 @@ module _ (store : Tables) (query : BoundQuery) (tables : List ℕ) (all : All (�
   abbrev alone : List (List (List Value))
   alone = given store query tables unit none_yet all short some few_rows
 
-  few_alone : length alone ≤ 1048576
+  few_alone : length alone ≤ most_rows
   few_alone =
       let most = bounded_behind store query unit none_yet.fitting first.next
       (few_next store query tables unit none_yet all short some few_rows) none_yet.bounded in

@@ -1,5 +1,5 @@
 -- References that are sorted by their keys, each once, are in the relation's order.
-use Rattle.std.proofs.Common.{◌≡◌, ℕ, suc, ◌+◌, ◌<◌, Bool, true, false, cond, ◌||◌, List, [], ◌∷◌, length, get_or, Option, Some, None, ◌⊎◌, inl, inr, drop, map, refl, sym, ap, ◌∙◌, subst, arith, add-one}
+use Rattle.std.proofs.Common.{◌≡◌, ℕ, suc, ◌+◌, ◌<◌, Bool, true, false, cond, ◌||◌, List, [], ◌∷◌, length, get_or, Option, Some, None, ◌⊎◌, inl, inr, map, refl, sym, ap, ◌∙◌, subst, arith, add-one}
 use Rattle.std.specs.Prelude.{slice_get, IsPermutation}
 use Rattle.std.specs.List.{All, filter, list_any}
 use Rattle.std.specs.List.Sorted.{IsSortedByKey, IsStrictlySortedBy}
@@ -8,22 +8,20 @@ use Rattle.std.specs.Ordering.{is_lt, ordering_reverse, ordering_then}
 use Rattle.std.specs.declared.cmp.Ordering.{Ordering}
 use Rattle.std.specs.declared.cmp.Ordering.TheVariants.{Less, Equal, Greater}
 use Rattle.std.proofs.Math.ListN.{get_or-map}
-use Rattle.std.proofs.lemmas.Bool.{cases_order, false≢true}
-use Rattle.std.proofs.lemmas.Cmp.{tied_itself}
-use Rattle.std.proofs.lemmas.List.{get_or_default, length-map}
-use Rattle.std.proofs.lemmas.List.Elements.{All-contains, All-head, All-tail}
+use Rattle.std.proofs.lemmas.Bool.{false≢true}
+use Rattle.std.proofs.lemmas.List.{length-map}
+use Rattle.std.proofs.lemmas.List.Elements.{All-contains}
 use Rattle.std.proofs.lemmas.List.Sorted.{All-permutation, Contains-permutation, IsPermutation-refl, IsPermutation-sym}
 use Rattle.std.proofs.lemmas.List.Kept.{AllPairs-filter}
 use Rattle.mm_partition.specs.Places.{slot_at}
 use Rattle.mm_relation.proofs.RefTests.{same_from_test, test_from_same}
-use Rattle.mm_relation.proofs.RowLists.{KeysApart-ordered}
 use Rattle.mm_relation.specs.Before.{same_ref}
 use Rattle.mm_relation.specs.Kept.{IsKept, StoredRows}
 use Rattle.mm_relation.specs.Orders.{refs_by_total}
 use Rattle.mm_relation.specs.Refs.{HasRow, Slots, refs_by, row_at}
 use Rattle.mm_schema.proofs.StrictOrder.{Contains-from_IsIn, IsIn, IsIn-from_Contains, IsStrictlySortedBy-before, IsStrictlySortedBy-from_neighbours, IsStrictlySortedBy-nil, same_from_elements}
-use Rattle.mm_schema.proofs.Twins.{column_cmp_total}
 use Rattle.mm_schema.specs.Rows.{column_cmp}
+use Rattle.mm_select.proofs.KeyWalks.{same_from_keys}
 use Rattle.mm_value.proofs.Orders.{value_cmp_total}
 use Rattle.mm_value.specs.Order.{value_cmp}
 use Rattle.mm_value.specs.declared.row_ref.RowRef.{RowRef}
@@ -144,38 +142,6 @@ module _ (stored : StoredRows) (kept : IsKept stored.width stored.key (slot_at s
   once_sorted : (x : RowRef) (refs : List RowRef) → Climbs x refs → IsStrictlySortedBy by_key (once None (x ∷ refs))
   once_sorted x refs climbs = sorted_from_rises x (once (Some x) refs) (rises_once x refs climbs)
 
-  -- Two references of one key are one.
-  pub same_from_keys : (x y : RowRef) → HasRow now x → HasRow now y → column_cmp stored.key (row_at now x) (row_at now y) ≡ Equal → x ≡ y
-  same_from_keys x y live_x live_y tie =
-      let (i, below_i, is_x) = (kept.held x).1 live_x in
-      let (j, below_j, is_y) = (kept.held y).1 live_y in
-      let at_i : get_or stored.refs i y ≡ x = get_or_default stored.refs i y x below_i ∙ is_x in
-      let at_j : get_or stored.refs j x ≡ y = get_or_default stored.refs j x y below_j ∙ is_y in
-      let turned : column_cmp stored.key (row_at now y) (row_at now x) ≡ Equal =
-      (column_cmp_total stored.key).antisymm (row_at now y) (row_at now x) ∙ ap ordering_reverse tie in
-      elim (cases_order i j) [
-        | inl same ↦ sym at_i ∙ ap (λ n. get_or stored.refs n y) same ∙ is_y
-        | inr (inl before) ↦ absurd (KeysApart-ordered stored.key now stored.refs kept.by_key i j x before below_j
-            (ap (λ r. column_cmp stored.key (row_at now r) (row_at now (get_or stored.refs j x))) is_x
-            ∙ ap (λ r. column_cmp stored.key (row_at now x) (row_at now r)) at_j ∙ tie))
-        | inr (inr behind) ↦ absurd (KeysApart-ordered stored.key now stored.refs kept.by_key j i y behind below_i
-            (ap (λ r. column_cmp stored.key (row_at now r) (row_at now (get_or stored.refs i y))) is_y
-            ∙ ap (λ r. column_cmp stored.key (row_at now y) (row_at now r)) at_i ∙ turned))
-      ]
-
-  -- Live references of the same rows are the same.
-  pub same_from_rows : (xs ys : List RowRef) → All (HasRow now) xs → All (HasRow now) ys → map (row_at now) xs ≡ map (row_at now) ys → xs ≡ ys
-  same_from_rows [] [] live_xs live_ys same = refl
-  same_from_rows [] (y ∷ ys) live_xs live_ys same = cc
-  same_from_rows (x ∷ xs) [] live_xs live_ys same = cc
-  same_from_rows (x ∷ xs) (y ∷ ys) live_xs live_ys same =
-      let row_same : row_at now x ≡ row_at now y = ap (λ rows. get_or rows 0 []) same in
-      let tie : column_cmp stored.key (row_at now x) (row_at now y) ≡ Equal =
-      ap (column_cmp stored.key (row_at now x)) (sym row_same) ∙ tied_itself (column_cmp_total stored.key) (row_at now x) in
-      let first : x ≡ y = same_from_keys x y (All-head (HasRow now) x xs live_xs) (All-head (HasRow now) y ys live_ys) tie in
-      let rest : xs ≡ ys = same_from_rows xs ys (All-tail (HasRow now) x xs live_xs) (All-tail (HasRow now) y ys live_ys) (ap (drop 1) same) in
-      λ i. first i ∷ rest i
-
   abbrev Follows : Keyed → Keyed → Type 0
   Follows a b = (a.at ≡ b.at) ⊎ (by_key a.at b.at ≡ Less)
 
@@ -188,7 +154,7 @@ module _ (stored : StoredRows) (kept : IsKept stored.width stored.key (slot_at s
       let turned : is_lt (ordering_reverse (value_cmp a.key.now b.key.now)) ≡ false =
       sym (ap is_lt (value_cmp_total.antisymm b.key.now a.key.now)) ∙ behind in
       elim (less_from_rest (value_cmp a.key.now b.key.now) turned) [
-        | inl tie ↦ inl (same_from_keys a.at b.at live_a live_b (keyed ∙ tie))
+        | inl tie ↦ inl (same_from_keys stored kept a.at b.at live_a live_b (keyed ∙ tie))
         | inr less ↦ let first : column_cmp stored.key (row_at now a.at) (row_at now b.at) ≡ Less = keyed ∙ less in
             inr (ap (λ o. ordering_then o o) first)
       ]
@@ -245,7 +211,8 @@ module _ (stored : StoredRows) (kept : IsKept stored.width stored.key (slot_at s
       let ats : List RowRef = map (λ (row : Keyed). row.at) sorted in
       let live_sorted : All (λ (row : Keyed). HasRow now row.at) sorted = λ k d within.
       subst (HasRow now) (get_or-map (λ (row : Keyed). row.at) sorted k d)
-      (All-permutation (HasRow now) refs ats (IsPermutation-sym ats refs same) live k d.at (omega (arith, within, length-map sorted (λ (row : Keyed). row.at)))) in
+      (All-permutation (HasRow now) refs ats (IsPermutation-sym ats refs same) live k d.at
+      (omega (arith, within, length-map sorted (λ (row : Keyed). row.at)))) in
       strictly_in_order refs live ats same (sorted_once sorted keys order live_sorted)
 
   -- .. and one alone.

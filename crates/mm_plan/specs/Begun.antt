@@ -5,11 +5,12 @@ use Rattle.mm_query.specs.declared.bound_query.BoundQuery.{BoundQuery}
 use Rattle.mm_select.specs.Fitting.{AreFitting}
 use Rattle.mm_store.specs.Tables.{Tables}
 use Rattle.mm_templist.specs.Combos.{AreLive, Combos}
+use Rattle.mm_schema.specs.Rows.{most_rows}
 
 -- The most combinations of so many tables, of which each has at most 1,048,576 rows.
 abbrev pub most_combinations : ℕ → ℕ
 most_combinations zero = 1
-most_combinations (suc tables) = most_combinations tables * 1048576
+most_combinations (suc tables) = most_combinations tables * most_rows
 
 -- The list has the fitting combinations of the first of these tables; it may be joined to the rest, and where each of them is part
 -- of one that fits the query it is not larger than that may be.
@@ -20,4 +21,4 @@ pub record IsBegun (store : Tables) (query : BoundQuery) (tables : List ℕ) (li
   pub fitting : AreFitting store query.atoms list
   pub live : All (AreLive store list.tables) list.combos
   pub bounded : length list.combos ≤ most_combinations (length list.tables)
-  pub capped : NoneLost store query.atoms (length list.tables) rest → length list.combos ≤ 1048576
+  pub capped : NoneLost store query.atoms (length list.tables) rest → length list.combos ≤ most_rows

@@ -1,14 +1,17 @@
 -- Rows that meet atoms, and references in the order of their keys.
-use Rattle.std.specs.Prelude.{◌≡◌, Bool, false, List, [], ◌∷◌, Option, Some, None, cond, filter, slice_get}
+use Rattle.std.specs.Prelude.{◌≡◌, Bool, true, false, List, [], ◌∷◌, Option, Some, None, cond, filter, slice_get}
 use Rattle.std.specs.List.{list_any}
 use Rattle.mm_partition.specs.Places.{slot_at}
 use Rattle.mm_plan.specs.declared.finding.Keyed.{Keyed}
+use Rattle.mm_plan.specs.declared.step.Step.{Step}
+use Rattle.mm_plan.specs.declared.step.Step.TheVariants as step
 use Rattle.mm_query.specs.Queries.{none_fails}
 use Rattle.mm_query.specs.declared.atom.Atom.{Atom}
 use Rattle.mm_query.specs.declared.bound_query.FieldPlace.{FieldPlace}
 use Rattle.mm_relation.specs.Before.{same_ref}
 use Rattle.mm_relation.specs.Kept.{StoredRows}
 use Rattle.mm_relation.specs.Refs.{row_at}
+use Rattle.mm_store.specs.declared.index_ref.IndexRef.TheVariants.{Key}
 use Rattle.mm_value.specs.declared.row_ref.RowRef.{RowRef}
 use Rattle.mm_value.specs.declared.values.Value.{Value}
 
@@ -23,6 +26,12 @@ meeting atoms stored = filter (λ at. meets atoms (row_at (slot_at stored.places
 -- The references of a relation that are among some others, in key order.
 abbrev pub among : List RowRef → StoredRows → List RowRef
 among refs stored = filter (λ at. list_any (same_ref at) refs) stored.refs
+
+-- The step finds rows in key order.
+abbrev pub finds_in_key_order : Step → Bool
+finds_in_key_order step.Scan = true
+finds_in_key_order (step.Range Key atom) = true
+finds_in_key_order _ = false
 
 -- The key is that of the row where it stands.
 abbrev pub IsKeyed : StoredRows → Keyed → Type 0

@@ -6,6 +6,7 @@ use Rattle.mm_query.specs.Resolving.{column_of}
 use Rattle.mm_query.specs.declared.atom.Atom.{Atom}
 use Rattle.mm_query.specs.declared.bound_query.FieldPlace.{FieldPlace}
 use Rattle.mm_store.specs.Tables.{Tables, rows_at}
+use Rattle.mm_schema.specs.Rows.{most_rows}
 
 -- The atom names fields of the first so many tables alone.
 abbrev pub names_first : ℕ → Atom FieldPlace → Bool
@@ -25,5 +26,5 @@ NoneLost store atoms tables later = (later ≡ []) ⊎ ((list_all (names_first t
 -- go on as many as may be.
 abbrev pub IsCap : Tables → List (Atom FieldPlace) → List ℕ → ℕ → ℕ → Type 0
 IsCap store atoms tables first cap =
-    ((cap ≡ 1048576) × NoneLost store atoms first (drop first tables))
+    ((cap ≡ most_rows) × NoneLost store atoms first (drop first tables))
     ⊎ ((cap ≡ 18446744073709551615) × (NoneLost store atoms first (drop first tables) → ⊥))

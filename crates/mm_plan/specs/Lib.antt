@@ -4,4 +4,5 @@ pub mod Finding
 pub mod Growing
 pub mod Kept
 pub mod Naming
+pub mod ReadExamples
 pub mod Steps

@@ -2,9 +2,10 @@
 ghost use Rattle.std.specs.Prelude.{◌≡◌, ℕ, ◌+◌, ◌<◌, ◌≤◌, [], All, IfErr, IfOk, List, Some, length, slice_get};
 ghost use Rattle.std.specs.List.{count_by};
 ghost use Rattle.mm_plan.specs.Begun.{IsBegun};
+ghost use Rattle.mm_plan.specs.Finding.{finds_in_key_order};
 ghost use Rattle.mm_plan.specs.Steps.{AreSteps, Reaches, may_look};
 ghost use Rattle.mm_relation.specs.Kept.{StoredRows};
-ghost use Rattle.mm_select.specs.Accesses.{Asks, IsServed, is_along};
+ghost use Rattle.mm_select.specs.Accesses.{Asks, IsServed, is_along, is_in_key_order};
 ghost use Rattle.mm_store.specs.Tables.{rows_at};
 ghost use Rattle.mm_value.specs.declared.refusal.Refusal.TheVariants.{Memory};
 ghost use Rattle.mm_value.specs.declared.values.Value.{Value as AnyValue};
@@ -64,6 +65,7 @@ pub(crate) fn access_by(atoms: &[Atom<FieldPlace>], step: Step) -> Access<'_>
     ensures served { (stored : StoredRows) → Reaches stored atoms.now step → IsServed stored result }
     ensures asked { Asks atoms.now result }
     ensures along { (row : List AnyValue) → is_along result row ≡ may_look atoms.now 0 step [] row }
+    ensures ordered { is_in_key_order result ≡ finds_in_key_order step }
 {
     match step {
         Step::Scan => Access::Scan,

@@ -5,7 +5,7 @@ ghost use Rattle.mm_plan.specs.Steps.{AreSteps};
 
 use crate::step::Step;
 use mm_join::{JoinKey, join_key};
-use mm_query::{Atom, BoundQuery, Comparison, FieldPlace, Operand};
+use mm_query::{Atom, BoundQuery, Comparison, FieldPlace, Operand, ShortList};
 use mm_store::{IndexRef, View};
 use std::alloc::{AllocError, Global};
 
@@ -43,16 +43,16 @@ pub fn plan_steps(
     view: &View<'_>,
     query: &BoundQuery,
     tables: &[usize],
-) -> Result<Vec<Step>, AllocError>
+) -> Result<ShortList<Step, 4>, AllocError>
     requires { All (λ table. table < length view.now.store.tables) tables.now }
-    ensures steps { IfOk result (λ steps. steps.items ≡ steps_of view.now.store query.now.atoms tables.now) }
-    ensures allowed { IfOk result (λ steps. AreSteps view.now.store query.now.atoms tables.now steps.items) }
+    ensures steps { IfOk result (λ steps. steps ≡ steps_of view.now.store query.now.atoms tables.now) }
+    ensures allowed { IfOk result (λ steps. AreSteps view.now.store query.now.atoms tables.now steps) }
 {
     let chooser = Chooser {
         view,
         atoms: query.atoms.as_slice(),
     };
-    let mut steps = Vec::with_capacity(alloc, tables.len())?;
+    let mut steps = ShortList::with_capacity(alloc, tables.len())?;
     for (place, table) in tables.iter().enumerate() {
         steps.push(chooser.step_for(&tables[..place], *table))?;
     }

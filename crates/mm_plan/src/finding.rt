@@ -1,23 +1,20 @@
 //! The rows of one table that meet atoms.
-ghost use Rattle.std.specs.Prelude.{◌≡◌, ◌+◌, ◌++◌, ◌∷◌, ◌<◌, ◌≤◌, [], All, IfOk, IsPermutation, None, OnOk, filter, length, map};
+ghost use Rattle.std.specs.Prelude.{◌≡◌, ◌+◌, ◌++◌, ◌<◌, ◌≤◌, [], true, All, IfOk, IsPermutation, None, OnOk, length, map};
 ghost use Rattle.std.specs.List.{count_by};
 ghost use Rattle.std.specs.List.Sorted.{IsSortedByKey};
-ghost use Rattle.mm_partition.specs.Places.{IsLive, slot_at};
+ghost use Rattle.mm_partition.specs.Places.{IsLive};
 ghost use Rattle.mm_plan.specs.Choosing.{first_step};
-ghost use Rattle.mm_plan.specs.Finding.{IsKeyed, among, is_again, meeting, meets, once};
+ghost use Rattle.mm_plan.specs.Finding.{IsKeyed, among, finds_in_key_order, is_again, meeting, meets, once};
 ghost use Rattle.mm_plan.specs.Steps.{may_look};
 ghost use Rattle.mm_relation.specs.Kept.{StoredRows};
-ghost use Rattle.mm_relation.specs.Refs.{row_at};
 ghost use Rattle.mm_store.specs.Tables.{IsAt, rows_at};
 ghost use Rattle.mm_value.specs.Order.{value_cmp};
 
 use crate::beginning::access_by;
 use crate::choosing::Chooser;
-use crate::step::Step;
-use mm_query::{Atom, FieldPlace, none_fails};
-use mm_select::select;
+use mm_query::{Atom, FieldPlace};
+use mm_select::select_refs;
 use mm_store::View;
-use mm_templist::{Descriptor, TempList};
 use mm_value::{RowRef, Value, compare};
 use std::alloc::{AllocError, Global};
 
@@ -29,8 +26,8 @@ struct Keyed<'v> {
 }
 
 /// The references of the rows of a table of which no atom is false, in key order. They are found by the step that a query of this
-/// table alone would take; where that goes by an index and finds several, each is looked at once more for its key. `AllocError`
-/// where memory is refused.
+/// table alone would take; where that goes by an index on another column than the key and finds several, each is looked at once more
+/// for its key. `AllocError` where memory is refused.
 pub fn find_rows(
     alloc: Global,
     view: &mut View<'_>,
@@ -42,70 +39,17 @@ pub fn find_rows(
     ensures reads { view.new.reads ≤ view.old.reads
         + count_by (may_look atoms.now 0 (first_step view.old.store atoms.now table) []) (rows_at view.old.store.tables table)
         + count_by (meets atoms.now) (rows_at view.old.store.tables table) }
+    ensures one_look { finds_in_key_order (first_step view.old.store atoms.now table) ≡ true → view.new.reads ≤ view.old.reads
+        + count_by (may_look atoms.now 0 (first_step view.old.store atoms.now table) []) (rows_at view.old.store.tables table) }
     ensures same { view.new.store ≡ view.old.store }
 {
-    view.is_kept(table);
     let step = Chooser { view, atoms }.first_step(table);
-    if let Step::Scan = step {
-        return scan(alloc, view, table, atoms);
+    let access = access_by(atoms, step);
+    let found = select_refs(alloc, view, table, atoms, access)?;
+    if access.is_in_key_order() {
+        return Ok(found);
     }
-    let tables = [table];
-    let descriptor = Descriptor {
-        tables: &tables,
-        fields: &[],
-    };
-    let list = select(alloc, view, descriptor, atoms, access_by(atoms, step))?;
-    let found = refs_of(alloc, &list)?;
     in_key_order(alloc, view, table, found)
-}
-
-/// The same by a look at each row, in key order; at none where there are no atoms.
-fn scan(
-    alloc: Global,
-    view: &mut View<'_>,
-    table: usize,
-    atoms: &[Atom<FieldPlace>],
-) -> Result<Vec<RowRef>, AllocError>
-    requires { table < length view.old.store.tables }
-    ensures found { IfOk result (λ found. (stored : StoredRows) → IsAt view.old.store table stored → found.items ≡ meeting atoms.now stored) }
-    ensures reads { view.new.reads ≤ view.old.reads + length (rows_at view.old.store.tables table) }
-    ensures same { view.new.store ≡ view.old.store }
-{
-    view.is_kept(table);
-    let mut found = Vec::new(alloc);
-    for at in view.key_walk(table) {
-        if is_met(view, table, at, atoms) {
-            found.push(at)?;
-        }
-    }
-    Ok(found)
-}
-
-/// Whether no atom is false of the row of a reference. The view counts the row if it is looked at.
-fn is_met(view: &mut View<'_>, table: usize, at: RowRef, atoms: &[Atom<FieldPlace>]) -> bool
-    requires there { table < length view.old.store.tables }
-    requires live { (stored : StoredRows) → IsAt view.old.store table stored → IsLive stored.places at }
-    ensures told { (stored : StoredRows) → IsAt view.old.store table stored → result ≡ meets atoms.now (row_at (slot_at stored.places) at) }
-    ensures reads { view.new.reads ≤ view.old.reads + 1 }
-    ensures same { view.new.store ≡ view.old.store }
-{
-    if atoms.is_empty() {
-        return true;
-    }
-    let row = view.row(table, at);
-    none_fails(atoms, &[Some(row)])
-}
-
-/// The references of a list of the rows of one table, in its order. `AllocError` where memory is refused.
-fn refs_of(alloc: Global, list: &TempList<'_>) -> Result<Vec<RowRef>, AllocError>
-    requires { All (λ combo. length combo ≡ 1) list.now.combos }
-    ensures { IfOk result (λ refs. map (λ at. at ∷ []) refs.items ≡ list.now.combos) }
-{
-    let mut refs = Vec::with_capacity(alloc, list.len())?;
-    for i in 0..list.len() {
-        refs.push(list.combo(i)[0])?;
-    }
-    Ok(refs)
 }
 
 /// Those of a table's references that are among these, each once and in key order, however these stand. Where there are several,

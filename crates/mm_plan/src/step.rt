@@ -3,9 +3,10 @@ use mm_store::IndexRef;
 
 /// How a table of a query is reached (the access paths and join methods of Lehman and Carey, SIGMOD 1986). Atoms go by their places
 /// among those of the query, counted from 0.
-#[derive(Clone, Copy, Debug, PartialEq, Eq)]
+#[derive(Clone, Copy, Debug, Default, PartialEq, Eq)]
 pub enum Step {
     /// The first table, by a look at each of its rows.
+    #[default]
     Scan,
     /// The first table, by a look-up of the value that an atom asks for.
     LookUp {

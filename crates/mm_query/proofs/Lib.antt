@@ -1,6 +1,7 @@
 pub mod Binds
 mod Bounds
 pub mod Due
+mod Fews
 pub mod FoundTables
 pub mod FoundTargets
 pub mod Noted

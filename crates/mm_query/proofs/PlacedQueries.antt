@@ -1,5 +1,5 @@
 -- A query in which no condition holds names what is there.
-use Rattle.std.proofs.Common.{◌≡◌, ℕ, zero, suc, ◌-◌, ◌<◌, Bool, true, false, cond, ◌||◌, ◌==◌, List, [], ◌∷◌, Option, Some, None, find, is_none, length, map, nat_lt, inl, inr, refl, sym, ap, ◌∙◌, subst, arith}
+use Rattle.std.proofs.Common.{◌≡◌, ℕ, zero, suc, ◌-◌, ◌<◌, Bool, true, false, cond, ◌==◌, List, [], ◌∷◌, Option, Some, None, find, is_none, length, map, nat_lt, inl, inr, refl, sym, ap, ◌∙◌, subst, arith}
 use Rattle.std.specs.List.{All, AllByRecursion, list_any}
 use Rattle.std.specs.Option.{option_and_then, option_map_or, unwrap_or}
 use Rattle.std.proofs.lemmas.Bool.{false≢true, ltb-false, or_parts}
@@ -11,9 +11,8 @@ use Rattle.mm_schema.specs.Name.{same_name}
 use Rattle.mm_schema.specs.Refused.{Condition, first_refusal}
 use Rattle.mm_schema.specs.Schema.{Schema, columns_named, lacks_table, table_named}
 use Rattle.mm_schema.specs.declared.table.Table.{Table}
-use Rattle.mm_value.specs.declared.refusal.Refusal.TheVariants.{AliasTaken, NoSuchAlias, NoSuchColumn, NoSuchTable, TooMany, TypeMismatch}
-use Rattle.mm_query.specs.Placing.{lacks_column, mapped_atom, mapped_operand, mismatches, placed}
-use Rattle.mm_query.specs.Resolving.{IsAtomWithin, IsFieldWithin, IsQueryWithin, alias_place, column_of, field_lacks_column, field_type, has_twin_aliases, lacks_alias, lacks_position, passes_query_limits, placed_field, placed_query, query_conditions, some_field, some_side, table_of, width_at}
+use Rattle.mm_query.specs.Placing.{lacks_column, mapped_atom, mapped_operand, placed}
+use Rattle.mm_query.specs.Resolving.{IsAtomWithin, IsFieldWithin, IsQueryWithin, alias_place, column_of, field_lacks_column, lacks_alias, lacks_position, placed_field, placed_query, query_conditions, some_field, some_side, table_of, width_at}
 use Rattle.mm_query.specs.declared.atom.Atom.{Atom}
 use Rattle.mm_query.specs.declared.atom.Operand.{Operand}
 use Rattle.mm_query.specs.declared.atom.Operand.TheVariants.{Literal, Column, Shifted}
@@ -133,15 +132,3 @@ query_within schema query none =
       order = positions_within query.fields (length (map (placed_field schema query.from) query.fields)) query.order
           (length-map query.fields (placed_field schema query.from)) columns.1;
     }
-
--- Where sides differ in type and nothing before that is due, that is.
-pub mismatch_due : (schema : Schema) (query : Query) → false ≡ list_any (λ (item : FromItem). lacks_table item.table schema) query.from
-    → false ≡ (some_field (field_lacks_column schema query.from) query || list_any (lacks_position query.fields) query.order)
-    → false ≡ has_twin_aliases query.from → false ≡ some_field (lacks_alias query.from) query
-    → true ≡ list_any (λ (a : Atom FieldName). mismatches (field_type schema query.from) a.left a.right) query.atoms
-    → Some TypeMismatch ≡ first_refusal (query_conditions query schema)
-mismatch_due schema query a b c d e i =
-    cond (a i) (Some NoSuchTable)
-    (cond (b i) (Some NoSuchColumn)
-    (cond (c i) (Some AliasTaken)
-    (cond (d i) (Some NoSuchAlias) (cond (e i) (Some TypeMismatch) (cond (passes_query_limits query) (Some TooMany) None)))))

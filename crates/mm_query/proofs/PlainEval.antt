@@ -8,6 +8,7 @@ use Rattle.std.proofs.lemmas.List.Elements.{filter-append}
 use Rattle.std.proofs.lemmas.List.Folds.{length-flat_map-take}
 use Rattle.std.proofs.lemmas.Simd.{map-map}
 use Rattle.mm_schema.specs.Refused.{first_refusal}
+use Rattle.mm_schema.specs.Rows.{most_rows}
 use Rattle.mm_value.specs.declared.refusal.Refusal.{Refusal}
 use Rattle.mm_value.specs.declared.refusal.Refusal.TheVariants.{ResultTooLarge}
 use Rattle.mm_value.specs.declared.values.Value.{Value}
@@ -83,19 +84,19 @@ none_by true e = cc
 none_by false e = refl
 
 -- What is within the size has no refusal, and the other way round.
-pub within_size : (rows : List Row) → length rows ≤ 1048576 → first_refusal (size_conditions rows) ≡ None
-within_size rows small = ap (λ b. cond b (Some ResultTooLarge) None) (le-ltb 1048576 (length rows) small)
+pub within_size : (rows : List Row) → length rows ≤ most_rows → first_refusal (size_conditions rows) ≡ None
+within_size rows small = ap (λ b. cond b (Some ResultTooLarge) None) (le-ltb most_rows (length rows) small)
 
-pub size_within : (rows : List Row) → first_refusal (size_conditions rows) ≡ None → length rows ≤ 1048576
-size_within rows none = ltb-false 1048576 (length rows) (none_by (nat_lt 1048576 (length rows)) none)
+pub size_within : (rows : List Row) → first_refusal (size_conditions rows) ≡ None → length rows ≤ most_rows
+size_within rows none = ltb-false most_rows (length rows) (none_by (nat_lt most_rows (length rows)) none)
 
 -- What refuses some rows by their number refuses any list that is as long.
 pub due_of_longer : (rows all : List Row) (refusal : Refusal) → length rows ≤ length all → first_refusal (size_conditions rows) ≡ Some refusal
     → first_refusal (size_conditions all) ≡ Some refusal
 due_of_longer rows all refusal longer due =
-    let parts = due_by (nat_lt 1048576 (length rows)) refusal due in
-    let above : 1048576 < length rows = ltb-true 1048576 (length rows) parts.0 in
-    ap (λ b. cond b (Some ResultTooLarge) None) (lt-ltb 1048576 (length all) (omega (arith, above, longer))) ∙ ap Some parts.1
+    let parts = due_by (nat_lt most_rows (length rows)) refusal due in
+    let above : most_rows < length rows = ltb-true most_rows (length rows) parts.0 in
+    ap (λ b. cond b (Some ResultTooLarge) None) (lt-ltb most_rows (length all) (omega (arith, above, longer))) ∙ ap Some parts.1
 
 -- ---- one row after another
 

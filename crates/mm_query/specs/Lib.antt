@@ -4,6 +4,7 @@ pub mod Choosing
 pub mod Counting
 pub mod Edits
 pub mod Faults
+pub mod Few
 pub mod Machine
 pub mod Placing
 pub mod Plans

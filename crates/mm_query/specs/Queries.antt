@@ -6,6 +6,7 @@ use Rattle.std.specs.Option.{option_map, unwrap_or}
 use Rattle.std.specs.Ordering.{is_eq}
 use Rattle.std.specs.declared.cmp.Ordering.{Ordering}
 use Rattle.mm_schema.specs.Refused.{Condition}
+use Rattle.mm_schema.specs.Rows.{most_rows}
 use Rattle.mm_schema.specs.Sorting.{in_order}
 use Rattle.mm_value.specs.Order.{row_cmp}
 use Rattle.mm_value.specs.declared.refusal.Refusal.TheVariants.{ResultTooLarge}
@@ -81,4 +82,4 @@ shown query rows = in_order (rows_by_columns query.order) rows
 
 -- What refuses a query by the number of combinations that fit, of which there is a row each.
 abbrev pub size_conditions : List (List Value) → List Condition
-size_conditions rows = record { holds = nat_lt 1048576 (length rows); refusal = ResultTooLarge } ∷ []
+size_conditions rows = record { holds = nat_lt most_rows (length rows); refusal = ResultTooLarge } ∷ []

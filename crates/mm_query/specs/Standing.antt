@@ -4,6 +4,7 @@ use Rattle.std.specs.List.{list_any}
 use Rattle.std.specs.Option.{option_map_or}
 use Rattle.mm_schema.specs.Name.{same_name}
 use Rattle.mm_schema.specs.Refused.{Condition}
+use Rattle.mm_schema.specs.Rows.{most_rows}
 use Rattle.mm_schema.specs.Standing.{drop_standing_conditions, standing_named, with_standing, without_standing}
 use Rattle.mm_schema.specs.declared.standing.StandingDef.{StandingDef}
 use Rattle.mm_schema.specs.declared.table.Table.{Table}
@@ -53,9 +54,9 @@ without_query name [] queries = []
 
 -- ---- the limit of combinations
 
--- Over the rows of a state more than 1,048,576 combinations fit a query.
+-- Over the rows of a state too many combinations fit a query.
 abbrev pub outgrows : State → BoundQuery → Bool
-outgrows state query = nat_lt 1048576 (length (bag query (rows_in state)))
+outgrows state query = nat_lt most_rows (length (bag query (rows_in state)))
 
 -- What refuses a change of rows because of the standing queries over the rows after it.
 abbrev pub growth_conditions : State → List Condition

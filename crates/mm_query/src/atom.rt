@@ -47,12 +47,28 @@ pub struct Atom<F> {
 }
 
 /// A column's new value.
-#[derive(Debug, Drop)]
+#[derive(Debug, Default, Drop)]
 pub struct Assignment<F> {
     /// The column that gets it.
     pub column: F,
     /// The value, computed from the old row alone.
     pub source: Operand<F>,
+}
+
+impl<F> Default for Operand<F> {
+    fn default() -> Operand<F> {
+        Operand::Literal(Value::Int(0))
+    }
+}
+
+impl<F: Default> Default for Atom<F> {
+    fn default() -> Atom<F> {
+        Atom {
+            left: F::default(),
+            comparison: Comparison::Equal,
+            right: Operand::default(),
+        }
+    }
 }
 
 impl<F> Operand<F> {

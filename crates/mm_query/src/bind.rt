@@ -11,9 +11,10 @@ ghost use Rattle.mm_query.specs.declared.command.Mutation.TheVariants.{Insert, U
 use crate::atom::{Assignment, Atom};
 use crate::bound_query::FieldPlace;
 use crate::command::Mutation;
-use crate::item_list::ItemList;
+use crate::few::Few;
 use crate::place::{form_faults, place_assignments, place_tests};
 use crate::row_list::RowList;
+use crate::short_list::ShortList;
 use mm_schema::{Catalog, Column, Name};
 use mm_value::{Refusal, Row, Value};
 use std::alloc::Global;
@@ -33,21 +34,21 @@ pub enum BoundChange {
         /// The table's place in the catalog's order of creation.
         table: usize,
         /// The columns that get new values, by their places.
-        assignments: ItemList<Assignment<usize>>,
+        assignments: ShortList<Assignment<usize>, 2>,
         /// What a row is asked: the atoms of a query of this table alone.
-        tests: ItemList<Atom<FieldPlace>>,
+        tests: ShortList<Atom<FieldPlace>, 2>,
     },
     /// Takes the rows that meet all tests out of a table.
     Delete {
         /// The table's place in the catalog's order of creation.
         table: usize,
         /// What a row is asked: the atoms of a query of this table alone.
-        tests: ItemList<Atom<FieldPlace>>,
+        tests: ShortList<Atom<FieldPlace>, 2>,
     },
 }
 
-/// Resolves the names of a change, each of which is looked up once, and tests its values and its tests against the columns. `NoSuchTable`, `NoSuchColumn`,
-/// `NameTaken` for a column twice in SET, `TypeMismatch`, `WrongNumberOfValues`, `TooMany` for more than 16 tests: the first
+/// Resolves the names of a change, each of which is looked up once, and tests its values and its tests against the columns.
+/// `NoSuchTable`, `NoSuchColumn`, `NameTaken` for a column twice in SET, `TypeMismatch`, `WrongNumberOfValues`, `TooMany` for more than 16 tests: the first
 /// whose condition holds, over the whole command. `Memory` may come in their place and in that of success, except for an
 /// INSERT, which takes none here.
 pub fn bind_change(
@@ -75,8 +76,8 @@ fn bind_update(
     alloc: Global,
     catalog: &Catalog,
     name: &Name,
-    assignments: ItemList<Assignment<Name>>,
-    tests: ItemList<Atom<Name>>,
+    assignments: Few<Assignment<Name>>,
+    tests: Few<Atom<Name>>,
 ) -> Result<BoundChange, Refusal>
     ensures due { AnswersDue (first_refusal (binding_conditions (Update name.now assignments tests) catalog.now)) result }
     ensures ok { IfOk result (Binds catalog.now (Update name.now assignments tests)) }
@@ -104,7 +105,7 @@ fn bind_delete(
     alloc: Global,
     catalog: &Catalog,
     name: &Name,
-    tests: ItemList<Atom<Name>>,
+    tests: Few<Atom<Name>>,
 ) -> Result<BoundChange, Refusal>
     ensures due { AnswersDue (first_refusal (binding_conditions (Delete name.now tests) catalog.now)) result }
     ensures ok { IfOk result (Binds catalog.now (Delete name.now tests)) }

@@ -5,15 +5,16 @@ ghost use Rattle.mm_value.specs.declared.refusal.Refusal.TheVariants.{Memory};
 ghost use Rattle.mm_query.specs.Resolving.{IsQueryWithin, placed_query, places_in, query_conditions};
 
 use crate::atom::Atom;
-use crate::item_list::ItemList;
+use crate::few::Few;
 use crate::query::{FromItem, Query};
 use crate::scope::{Scope, form_faults};
+use crate::short_list::ShortList;
 use mm_schema::Catalog;
 use mm_value::Refusal;
 use std::alloc::Global;
 
 /// A column of a row of a combination.
-#[derive(Clone, Copy, Debug, PartialEq, Eq)]
+#[derive(Clone, Copy, Debug, Default, PartialEq, Eq)]
 pub struct FieldPlace {
     /// The place in FROM of the table that the row is of, counted from 0.
     pub place: usize,
@@ -28,13 +29,13 @@ pub struct BoundQuery {
     /// Whether one of each row is kept.
     pub distinct: bool,
     /// The fields whose values make up a row of the result, from left to right.
-    pub fields: ItemList<FieldPlace>,
+    pub fields: ShortList<FieldPlace, 4>,
     /// The tables whose rows are combined, and their aliases.
-    pub from: ItemList<FromItem>,
+    pub from: Few<FromItem>,
     /// What a combination of rows is asked.
-    pub atoms: ItemList<Atom<FieldPlace>>,
+    pub atoms: ShortList<Atom<FieldPlace>, 2>,
     /// The columns of the result by which it is sorted, counted from 0.
-    pub order: ItemList<usize>,
+    pub order: ShortList<usize, 4>,
 }
 
 /// A query whose names were resolved, and where its tables stand.
@@ -43,7 +44,7 @@ pub struct Bound {
     /// The query.
     pub query: BoundQuery,
     /// The places of its tables in the catalog's order of creation, in the order of FROM.
-    pub tables: ItemList<usize>,
+    pub tables: ShortList<usize, 4>,
 }
 
 /// Resolves the names of a query, each of which is looked up once, and tests it against the catalog. `NoSuchTable`,
@@ -85,13 +86,13 @@ pub fn bind_query(alloc: Global, catalog: &Catalog, query: Query) -> Result<Boun
 }
 
 /// Positions counted from 0 in place of those counted from 1. `Memory` is the only refusal.
-fn place_positions(alloc: Global, positions: &[usize]) -> Result<ItemList<usize>, Refusal>
+fn place_positions(alloc: Global, positions: &[usize]) -> Result<ShortList<usize, 4>, Refusal>
     ensures ok { IfOk result (λ columns. columns ≡ map (λ position. position - 1) positions.now) }
     ensures memory { IfErr result (λ refusal. refusal ≡ Memory) }
 {
-    let mut columns = Vec::with_capacity(alloc, positions.len())?;
+    let mut columns = ShortList::with_capacity(alloc, positions.len())?;
     for position in positions {
         columns.push(position.saturating_sub(1))?;
     }
-    Ok(ItemList::new(columns))
+    Ok(columns)
 }

@@ -1,6 +1,6 @@
 //! Commands, with all names as written.
 use crate::atom::{Assignment, Atom};
-use crate::item_list::ItemList;
+use crate::few::Few;
 use crate::query::Query;
 use crate::row_list::RowList;
 use mm_schema::{IndexDef, Name, TableDef};
@@ -20,16 +20,16 @@ pub enum Mutation {
         /// The name of the table.
         table: Name,
         /// The columns that get new values.
-        assignments: ItemList<Assignment<Name>>,
+        assignments: Few<Assignment<Name>>,
         /// What a row is asked, as it was before the change.
-        tests: ItemList<Atom<Name>>,
+        tests: Few<Atom<Name>>,
     },
     /// Takes the rows that meet all tests out of a table.
     Delete {
         /// The name of the table.
         table: Name,
         /// What a row is asked.
-        tests: ItemList<Atom<Name>>,
+        tests: Few<Atom<Name>>,
     },
 }
 

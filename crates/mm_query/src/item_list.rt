@@ -1,9 +1,9 @@
-//! Lists of what a command holds.
+//! Lists of what a reply holds.
 ghost use Rattle.std.specs.Prelude.{◌≡◌};
 
 use std::marker::Model;
 
-/// Items, one after another: the tests of a WHERE, or the assignments of a SET.
+/// Items, one after another: the lines of a plan, or the tables of a listing.
 #[derive(Debug, Drop)]
 pub struct ItemList<T> {
     items: Vec<T>,
@@ -30,12 +30,5 @@ impl<T> ItemList<T> {
         ensures { result.now ≡ self.now }
     {
         &self.items
-    }
-
-    /// The items as a vector, which takes no memory.
-    pub fn into_vec(self) -> Vec<T>
-        ensures { result.items ≡ self }
-    {
-        self.items
     }
 }

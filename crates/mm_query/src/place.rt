@@ -12,7 +12,8 @@ ghost use Rattle.mm_query.specs.declared.atom.Atom.{Atom as Test};
 use crate::atom::{Assignment, Atom, Operand};
 use crate::bound_query::FieldPlace;
 use crate::faults::{Faults, Resolved};
-use crate::item_list::ItemList;
+use crate::few::Few;
+use crate::short_list::ShortList;
 use mm_schema::{Columns, Name};
 use mm_value::{ColType, Refusal};
 use std::alloc::Global;
@@ -162,38 +163,36 @@ fn place_test(columns: &Columns, test: Atom<Name>, faults: &mut Faults) -> Atom<
 pub(crate) fn place_tests(
     alloc: Global,
     columns: &Columns,
-    tests: ItemList<Atom<Name>>,
+    tests: Few<Atom<Name>>,
     faults: &mut Faults,
-) -> Result<ItemList<Atom<FieldPlace>>, Refusal>
+) -> Result<ShortList<Atom<FieldPlace>, 2>, Refusal>
     ensures ok { IfOk result (λ atoms. atoms ≡ map (mapped_atom at_first) (map (placed_atom columns.now) tests)) }
     ensures faults { OnOk result (faults.new ≡ noted (list_any (atom_lacks_column columns.now) tests) false
         (list_any (λ (t : Test (List ℕ)). mismatches (type_named columns.now) t.left t.right) tests) faults.old) }
     ensures memory { IfErr result (λ refusal. refusal ≡ Memory) }
 {
-    let tests = tests.into_vec();
-    let mut atoms = Vec::with_capacity(alloc, tests.len())?;
+    let mut atoms = ShortList::with_capacity(alloc, tests.as_slice().len())?;
     for test in tests {
         atoms.push(place_test(columns, test, faults))?;
     }
-    Ok(ItemList::new(atoms))
+    Ok(atoms)
 }
 
 /// Assignments with places for their columns, and what is amiss with them. `Memory` is the only refusal.
 pub(crate) fn place_assignments(
     alloc: Global,
     columns: &Columns,
-    assignments: ItemList<Assignment<Name>>,
+    assignments: Few<Assignment<Name>>,
     faults: &mut Faults,
-) -> Result<ItemList<Assignment<usize>>, Refusal>
+) -> Result<ShortList<Assignment<usize>, 2>, Refusal>
     ensures ok { IfOk result (λ placed. placed ≡ map (placed_assignment columns.now) assignments) }
     ensures faults { OnOk result (faults.new ≡ noted (list_any (assignment_lacks_column columns.now) assignments) false
         (list_any (λ (a : Assigned (List ℕ)). mismatches (type_named columns.now) a.column a.source) assignments) faults.old) }
     ensures memory { IfErr result (λ refusal. refusal ≡ Memory) }
 {
-    let assignments = assignments.into_vec();
-    let mut placed = Vec::with_capacity(alloc, assignments.len())?;
+    let mut placed = ShortList::with_capacity(alloc, assignments.as_slice().len())?;
     for assignment in assignments {
         placed.push(place_assignment(columns, assignment, faults))?;
     }
-    Ok(ItemList::new(placed))
+    Ok(placed)
 }

@@ -2,18 +2,20 @@
 ghost use Rattle.std.specs.Prelude.{◌≡◌, ◌≤◌, ◌++◌, ◌∷◌, [], length, map, IfErr, IfOk, OnErr, OnOk};
 ghost use Rattle.std.specs.Option.{option_copied};
 ghost use Rattle.mm_schema.specs.Refused.{AnswersDue, first_refusal};
+ghost use Rattle.mm_schema.specs.Rows.{most_rows};
 ghost use Rattle.mm_value.specs.declared.refusal.Refusal.TheVariants.{Memory};
 ghost use Rattle.mm_query.specs.Queries.{bag_of, size_conditions};
 ghost use Rattle.mm_query.specs.Walk.{found_behind};
 
 use crate::bound_query::BoundQuery;
 use crate::combination::{none_fails, values_of};
+use mm_schema::MAX_ROWS;
 use mm_value::{Refusal, Row};
 use std::alloc::Global;
 use std::marker::Model;
 
-/// The most combinations that may fit a query.
-pub const MAX_COMBINATIONS: usize = 1_048_576;
+/// The most combinations that may fit a query: as many as a table may have rows.
+pub const MAX_COMBINATIONS: usize = MAX_ROWS;
 
 /// The rows of each table of FROM.
 #[derive(Drop)]
@@ -74,7 +76,7 @@ fn walk<'a>(
     chosen: &mut Vec<Option<&'a Row>>,
     found: &mut Vec<Row>,
 ) -> Result<(), Refusal>
-    requires { length found.old.items ≤ 1048576 }
+    requires { length found.old.items ≤ most_rows }
     ensures due { AnswersDue (first_refusal (size_conditions
         (found.old.items ++ found_behind query.now (map option_copied chosen.old.items) (map (λ rows. rows.now) lists.now)))) result }
     ensures ok { OnOk result (found.new.items ≡ found.old.items ++ found_behind query.now (map option_copied chosen.old.items) (map (λ rows. rows.now) lists.now)) }
@@ -99,7 +101,7 @@ fn add_fitting(
     chosen: &[Option<&Row>],
     found: &mut Vec<Row>,
 ) -> Result<(), Refusal>
-    requires { length found.old.items ≤ 1048576 }
+    requires { length found.old.items ≤ most_rows }
     ensures due { AnswersDue (first_refusal (size_conditions (found.old.items ++ found_behind query.now (map option_copied chosen.now) []))) result }
     ensures ok { OnOk result (found.new.items ≡ found.old.items ++ found_behind query.now (map option_copied chosen.now) []) }
 {

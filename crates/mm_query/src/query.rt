@@ -2,7 +2,7 @@
 ghost use Rattle.std.specs.Prelude.{◌≡◌};
 
 use crate::atom::Atom;
-use crate::item_list::ItemList;
+use crate::few::Few;
 use mm_schema::Name;
 
 /// A column of a table of FROM, as it is written: `alias.column`.
@@ -41,11 +41,11 @@ pub struct Query {
     /// Whether one of each row is kept.
     pub distinct: bool,
     /// The fields whose values make up a row of the result, from left to right.
-    pub fields: ItemList<FieldName>,
+    pub fields: Few<FieldName>,
     /// The tables whose rows are combined. A table may stand there more than once.
-    pub from: ItemList<FromItem>,
+    pub from: Few<FromItem>,
     /// What a combination of rows is asked.
-    pub atoms: ItemList<Atom<FieldName>>,
+    pub atoms: Few<Atom<FieldName>>,
     /// The fields by which the result is sorted, by their positions counted from 1.
-    pub order: ItemList<usize>,
+    pub order: Few<usize>,
 }

@@ -15,9 +15,10 @@ ghost use Rattle.mm_query.specs.declared.query.FromItem.{FromItem as Item};
 use crate::atom::{Atom, Operand};
 use crate::bound_query::FieldPlace;
 use crate::faults::{Faults, Resolved};
-use crate::item_list::ItemList;
+use crate::few::Few;
 use crate::place::resolve_column;
 use crate::query::{FieldName, FromItem, Query};
+use crate::short_list::ShortList;
 use mm_schema::{Catalog, Name};
 use mm_value::{ColType, Refusal};
 use std::alloc::Global;
@@ -34,9 +35,9 @@ pub(crate) struct Scope<'a> {
     /// The catalog.
     pub catalog: &'a Catalog,
     /// The tables and their aliases.
-    pub from: ItemList<FromItem>,
+    pub from: Few<FromItem>,
     /// The places of the tables in the catalog's order of creation.
-    pub tables: ItemList<usize>,
+    pub tables: ShortList<usize, 4>,
     ghost there: { list_any (λ (item : Item). lacks_table item.table catalog.now) from ≡ false },
     ghost places: { tables ≡ places_in catalog.now from },
 }
@@ -46,19 +47,19 @@ fn find_tables(
     alloc: Global,
     catalog: &Catalog,
     from: &[FromItem],
-) -> Result<ItemList<usize>, Refusal>
+) -> Result<ShortList<usize, 4>, Refusal>
     ensures due { AnswersDue (first_refusal
         (record { holds = list_any (λ (item : Item). lacks_table item.table catalog.now) from.now; refusal = NoSuchTable } ∷ [])) result }
     ensures ok { IfOk result (λ tables. tables ≡ places_in catalog.now from.now) }
 {
-    let mut tables = Vec::with_capacity(alloc, from.len())?;
+    let mut tables = ShortList::with_capacity(alloc, from.len())?;
     for item in from {
         let Some(place) = catalog.place_of(&item.table) else {
             return Err(Refusal::NoSuchTable);
         };
         tables.push(place)?;
     }
-    Ok(ItemList::new(tables))
+    Ok(tables)
 }
 
 impl<'a> Scope<'a> {
@@ -66,7 +67,7 @@ impl<'a> Scope<'a> {
     pub(crate) fn find(
         alloc: Global,
         catalog: &'a Catalog,
-        from: ItemList<FromItem>,
+        from: Few<FromItem>,
     ) -> Result<Scope<'a>, Refusal>
         ensures due { AnswersDue (first_refusal
             (record { holds = list_any (λ (item : Item). lacks_table item.table catalog.now) from; refusal = NoSuchTable } ∷ [])) result }
@@ -125,17 +126,17 @@ impl<'a> Scope<'a> {
         alloc: Global,
         fields: &[FieldName],
         faults: &mut Faults,
-    ) -> Result<ItemList<FieldPlace>, Refusal>
+    ) -> Result<ShortList<FieldPlace, 4>, Refusal>
         ensures ok { IfOk result (λ placed. placed ≡ map (placed_field self.now.catalog.now self.now.from) fields.now) }
         ensures faults { OnOk result (faults.new ≡ noted (list_any (field_lacks_column self.now.catalog.now self.now.from) fields.now)
             (list_any (lacks_alias self.now.from) fields.now) false faults.old) }
         ensures memory { IfErr result (λ refusal. refusal ≡ Memory) }
     {
-        let mut placed = Vec::with_capacity(alloc, fields.len())?;
+        let mut placed = ShortList::with_capacity(alloc, fields.len())?;
         for field in fields {
             placed.push(self.resolve(field, faults).place)?;
         }
-        Ok(ItemList::new(placed))
+        Ok(placed)
     }
 
     /// An operand with a place for its field, beside a side of this type, and what is amiss with it.
@@ -190,9 +191,9 @@ impl<'a> Scope<'a> {
     pub(crate) fn place_atoms(
         &self,
         alloc: Global,
-        atoms: ItemList<Atom<FieldName>>,
+        atoms: Few<Atom<FieldName>>,
         faults: &mut Faults,
-    ) -> Result<ItemList<Atom<FieldPlace>>, Refusal>
+    ) -> Result<ShortList<Atom<FieldPlace>, 2>, Refusal>
         ensures ok { IfOk result (λ placed. placed ≡ map (mapped_atom (placed_field self.now.catalog.now self.now.from)) atoms) }
         ensures faults { OnOk result (faults.new ≡ noted
             (list_any (some_side (field_lacks_column self.now.catalog.now self.now.from)) atoms)
@@ -201,12 +202,11 @@ impl<'a> Scope<'a> {
             faults.old) }
         ensures memory { IfErr result (λ refusal. refusal ≡ Memory) }
     {
-        let atoms = atoms.into_vec();
-        let mut placed = Vec::with_capacity(alloc, atoms.len())?;
+        let mut placed = ShortList::with_capacity(alloc, atoms.as_slice().len())?;
         for atom in atoms {
             placed.push(self.place_atom(atom, faults))?;
         }
-        Ok(ItemList::new(placed))
+        Ok(placed)
     }
 }
 

@@ -2,6 +2,7 @@
 ghost use Rattle.std.specs.Prelude.{◌≡◌, ◌<◌, ◌≤◌, [], length, All};
 ghost use Rattle.mm_value.specs.declared.row_ref.RowRef.{RowRef};
 ghost use Rattle.mm_partition.specs.Places.{Free, Live, IsLive, slot_at, extent_of};
+ghost use Rattle.mm_schema.specs.Rows.{most_rows};
 
 mod apply;
 mod checks;
@@ -107,7 +108,7 @@ impl Relation {
 
     /// The references in the order of the key, without a copy, where there are at most 1,048,576.
     pub fn by_key(&self) -> Iter<'_>
-        requires { length self.now.refs ≤ 1048576 }
+        requires { length self.now.refs ≤ most_rows }
         ensures refs { result ≡ self.now.refs }
         ensures live { All (IsLive self.now.places) result }
     {

@@ -5,6 +5,7 @@ ghost use Rattle.mm_order.specs.Probe.{entries_between};
 ghost use Rattle.mm_partition.specs.Places.{slot_at};
 ghost use Rattle.mm_relation.specs.Index.{InOrder};
 ghost use Rattle.mm_relation.specs.Reads.{end_place};
+ghost use Rattle.mm_schema.specs.Rows.{most_rows};
 
 use crate::at_end::{AtEnd, prefix_of_end};
 use crate::by_column::ByColumn;
@@ -65,7 +66,7 @@ pub fn copy_range(
 
 /// All references of a tree of at most 1,048,576, in order.
 pub fn copy_refs(alloc: Global, tree: &TTree) -> Result<Vec<RowRef>, AllocError>
-    requires { length tree.now.refs ≤ 1048576 }
+    requires { length tree.now.refs ≤ most_rows }
     ensures { IfOk result (λ refs. refs.items ≡ tree.now.refs) }
 {
     tree.iter().collect(alloc)

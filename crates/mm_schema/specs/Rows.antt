@@ -56,12 +56,16 @@ abbrev pub has_twin_keys : ℕ → List (List Value) → Bool
 has_twin_keys key [] = false
 has_twin_keys key (r ∷ rs) = list_any (same_in_column key r) rs || has_twin_keys key rs
 
+-- The most rows that a table has, and the most combinations that may fit a query.
+abbrev pub most_rows : ℕ
+most_rows = 1048576
+
 -- What refuses a change by rows, in the one order: two rows that its table would have are of one key; one lacks a target; a
--- row that another one refers to would go or have another key; or there would be more than 1,048,576 rows.
+-- row that another one refers to would go or have another key; or there would be too many rows.
 abbrev pub table_rows_conditions : ℕ → List (List Value) → Bool → Bool → List Condition
 table_rows_conditions key rows some_lacks_target some_is_referred =
     record { holds = has_twin_keys key rows; refusal = DuplicateKey }
     ∷ record { holds = some_lacks_target; refusal = NoTargetRow }
     ∷ record { holds = some_is_referred; refusal = RowIsReferenced }
-    ∷ record { holds = nat_lt 1048576 (length rows); refusal = TableFull }
+    ∷ record { holds = nat_lt most_rows (length rows); refusal = TableFull }
     ∷ []

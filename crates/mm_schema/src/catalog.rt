@@ -25,6 +25,8 @@ use std::marker::Model;
 pub const MAX_TABLES: usize = 64;
 /// The most columns that a table has.
 pub const MAX_COLUMNS: usize = 16;
+/// The most rows that a table has.
+pub const MAX_ROWS: usize = 1_048_576;
 /// The most indexes that a table has, beside the one on its key.
 pub const MAX_INDEXES: usize = 16;
 /// The most standing queries that a catalog has.

@@ -10,7 +10,7 @@ mod reference;
 mod standing;
 mod table;
 
-pub use catalog::{Catalog, MAX_COLUMNS, MAX_INDEXES, MAX_STANDING, MAX_TABLES};
+pub use catalog::{Catalog, MAX_COLUMNS, MAX_INDEXES, MAX_ROWS, MAX_STANDING, MAX_TABLES};
 pub use column::{Column, Columns, OnDelete, Role};
 pub use index::{IndexDef, IndexId, IndexKind, Indexes};
 pub use laws::{

@@ -1,10 +1,10 @@
 -- The rows along an access for which atoms ask are enough, and no more than they are found.
-use Rattle.std.proofs.Common.{◌≡◌, ℕ, Bool, true, List, [], ◌∷◌, ◌&&◌, ◌<◌, get_or, length, Some, refl, sym, ap, ◌∙◌, subst}
-use Rattle.std.specs.List.{All, count_by, filter}
+use Rattle.std.proofs.Common.{◌≡◌, ℕ, ◌≤◌, Bool, true, false, cond, List, [], ◌∷◌, ◌++◌, ◌&&◌, get_or, length, take, Some, refl, sym, ap, ◌∙◌, subst}
+use Rattle.std.specs.List.{All, count_by, filter, list_any}
 use Rattle.std.specs.List.Sorted.{IsPermutation}
 use Rattle.std.specs.Option.{option_copied, option_map_or}
-use Rattle.std.proofs.lemmas.List.{length-map}
-use Rattle.std.proofs.lemmas.List.Elements.{All-get_or}
+use Rattle.std.proofs.lemmas.List.{append-nil, drop_all, length-map}
+use Rattle.std.proofs.lemmas.List.Elements.{All-filter, All-head, All-tail}
 use Rattle.std.proofs.lemmas.List.Sums.{length-filter}
 use Rattle.std.proofs.lemmas.List.Sorted.{length_permutation}
 use Rattle.mm_partition.specs.Places.{IsLive, slot_at}
@@ -12,15 +12,17 @@ use Rattle.mm_query.specs.Atoms.{value_in}
 use Rattle.mm_query.specs.Queries.{none_fails}
 use Rattle.mm_query.specs.declared.atom.Atom.{Atom}
 use Rattle.mm_query.specs.declared.bound_query.FieldPlace.{FieldPlace}
-use Rattle.mm_relation.specs.Kept.{StoredRows}
+use Rattle.mm_relation.proofs.Matches.{Keeping}
+use Rattle.mm_relation.specs.Kept.{IsKept, StoredRows}
 use Rattle.mm_relation.specs.Refs.{row_at}
 use Rattle.mm_relation.specs.RowLists.{rows_of}
-use Rattle.mm_select.proofs.Along.{filter_moved, filter_within}
+use Rattle.mm_select.proofs.Along.{all_live, filter_moved, filter_within}
 use Rattle.mm_select.proofs.Asking.{told_equal, told_high, told_low}
-use Rattle.mm_select.proofs.Found.{lie_along}
-use Rattle.mm_select.proofs.Fits.{filter-map, row_here, rows_along}
-use Rattle.mm_select.specs.Accesses.{AreAlong, Asks, is_along, is_from, is_up_to}
-use Rattle.mm_select.specs.Matches.{Covers}
+use Rattle.mm_select.proofs.Found.{found_live, lie_along}
+use Rattle.mm_select.proofs.Fits.{filter-map, row_here}
+use Rattle.mm_select.proofs.Meeting.{all_admit}
+use Rattle.mm_select.specs.Accesses.{AreAlong, Asks, asks_along, is_along, is_from, is_up_to, refs_along}
+use Rattle.mm_select.specs.Matches.{matching}
 use Rattle.mm_select.specs.declared.access.Access.{Access}
 use Rattle.mm_select.specs.declared.access.Access.TheVariants as access
 use Rattle.mm_store.proofs.Joining.{one_relation}
@@ -47,22 +49,57 @@ along_told atoms (access.Range index column low high) asks row fits =
     both_true (is_from (option_copied low) (value_in column row)) (is_up_to (option_copied high) (value_in column row))
     (told_low atoms column row fits (option_copied low) asks.0) (told_high atoms column row fits (option_copied high) asks.1)
 
+-- Those that match of the references along an access are those of all.
+pub matching_along : (store : Tables) (table : ℕ) (stored : StoredRows) → IsAt store table stored → (a : Access) (atoms : List (Atom FieldPlace))
+    → Asks atoms a → matching store table atoms [] (refs_along stored a) ≡ matching store table atoms [] stored.refs
+matching_along store table stored here a atoms asks =
+    filter_within (λ at. none_fails atoms (Some (row_of store table at) ∷ [])) (λ at. is_along a (row_at (slot_at stored.places) at)) stored.refs
+    (λ at fits. subst (λ row. is_along a row ≡ true) (row_here store table stored here at) (along_told atoms a asks (row_of store table at) fits))
+
+-- A candidate is of a row that is there, and that lies along the access.
+abbrev pub IsCandidate : Tables → ℕ → Access → RowRef → Type 0
+IsCandidate store table a at = ((stored : StoredRows) → IsAt store table stored → IsLive stored.places at) × (is_along a (row_of store table at) ≡ true)
+
+filter_whole : {X : Type 0} (p : X → Bool) (xs : List X) → All (λ x. p x ≡ true) xs → filter p xs ≡ xs
+filter_whole p [] all = refl
+filter_whole p (x ∷ xs) all =
+    (λ i. cond (All-head (λ y. p y ≡ true) x xs all i) (x ∷ filter p xs) (filter p xs))
+    ∙ ap (λ l. x ∷ l) (filter_whole p xs (All-tail (λ y. p y ≡ true) x xs all))
+
+-- Those that match of all are live.
+pub matching_live : (store : Tables) (table : ℕ) (atoms : List (Atom FieldPlace)) (stored : StoredRows)
+    → IsKept stored.width stored.key (slot_at stored.places) stored.refs stored.indexes
+    → All (IsLive stored.places) (matching store table atoms [] stored.refs)
+matching_live store table atoms stored kept =
+    All-filter (λ at. none_fails atoms (Some (row_of store table at) ∷ [])) (IsLive stored.places) stored.refs (all_live stored kept)
+
+-- Where no atom asks more than the access, all candidates match.
+pub all_match : (store : Tables) (table : ℕ) (a : Access) (atoms : List (Atom FieldPlace)) (found : List RowRef) → All (IsCandidate store table a) found
+    → list_any (asks_along a) atoms ≡ false → matching store table atoms [] found ≡ found
+all_match store table a atoms found candidates silent =
+    filter_whole (λ at. none_fails atoms (Some (row_of store table at) ∷ [])) found
+    (λ k d within. all_admit (row_of store table (get_or found k d)) a (candidates k d within).1 atoms silent)
+
+-- In the end those are kept that match.
+pub kept_match : {X : Type 0} (p : X → Bool) (P : X → Type 0) (old out : List X) (kept i : ℕ) → Keeping p P 0 old out kept i → length out ≤ i
+    → take kept out ≡ filter p old
+kept_match p P old out kept i was ends =
+    sym (append-nil (take kept out)) ∙ (ap (λ l. take kept out ++ filter p l) (sym (drop_all i out ends)) ∙ was.result)
+
 module _ (store : Tables) (table : ℕ) (stored : StoredRows) (here : IsAt store table stored) (a : Access) (found : List RowRef)
     (along : AreAlong stored a found) where
   abbrev along_at : RowRef → Bool
   along_at at = is_along a (row_at (slot_at stored.places) at)
 
-  pub covered : (atoms : List (Atom FieldPlace)) → Asks atoms a → Covers store table atoms [] found
-  covered atoms asks =
-      let met : RowRef → Bool = λ at. none_fails atoms (Some (row_of store table at) ∷ []) in (
-        stored.refs,
-        rows_along store table stored here stored.refs refl,
-        subst (IsPermutation (filter met found))
-            (filter_within met along_at stored.refs
-            (λ at fits. subst (λ row. is_along a row ≡ true) (row_here store table stored here at) (along_told atoms a asks (row_of store table at) fits)))
-            (filter_moved met found (filter along_at stored.refs) along),
-      )
+  -- As many of them match as of all rows, ..
+  pub matching_found : (atoms : List (Atom FieldPlace)) → Asks atoms a
+      → IsPermutation (matching store table atoms [] found) (matching store table atoms [] stored.refs)
+  matching_found atoms asks =
+      let met : RowRef → Bool = λ at. none_fails atoms (Some (row_of store table at) ∷ []) in
+      subst (IsPermutation (filter met found)) (matching_along store table stored here a atoms asks)
+      (filter_moved met found (filter along_at stored.refs) along)
 
+  -- .. they are as many as the rows along the access, ..
   pub counted : length found ≡ count_by (is_along a) (rows_at store.tables table)
   counted =
       sym (length_permutation found (filter along_at stored.refs) along)
@@ -71,11 +108,27 @@ module _ (store : Tables) (table : ℕ) (stored : StoredRows) (here : IsAt store
       ∙ length-filter (is_along a) (rows_of stored)
       ∙ ap (λ o. count_by (is_along a) (option_map_or rows_of o [])) (sym here)
 
-  pub along_next : (k : ℕ) (d : RowRef) → k < length found → is_along a (row_of store table (get_or found k d)) ≡ true
-  along_next k d within =
-      let at : RowRef = get_or found k d in
-      subst (λ row. is_along a row ≡ true) (sym (row_here store table stored here at))
-      (All-get_or (λ at. is_along a (row_at (slot_at stored.places) at) ≡ true) found k d within (lie_along stored a found along))
+  -- .. and each is a candidate.
+  pub candidates : IsKept stored.width stored.key (slot_at stored.places) stored.refs stored.indexes → All (IsCandidate store table a) found
+  candidates kept k d within = (
+    λ other at. live_there store table stored here found (found_live stored kept a found along) other at k d within,
+    subst (λ row. is_along a row ≡ true) (sym (row_here store table stored here (get_or found k d))) (lie_along stored a found along k d within),
+  )
+
+  -- What is kept of them is what is asked for, ..
+  module _ (atoms : List (Atom FieldPlace)) (asks : Asks atoms a) (new : List RowRef) (is : new ≡ matching store table atoms [] found) where
+    pub selected : IsPermutation new (matching store table atoms [] stored.refs)
+    selected = subst (λ l. IsPermutation l (matching store table atoms [] stored.refs)) (sym is) (matching_found atoms asks)
+
+    -- .. in key order where they are, ..
+    pub selected_in_order : found ≡ refs_along stored a → new ≡ matching store table atoms [] stored.refs
+    selected_in_order same = is ∙ (ap (matching store table atoms []) same ∙ matching_along store table stored here a atoms asks)
+
+    -- .. and live.
+    pub selected_live : IsKept stored.width stored.key (slot_at stored.places) stored.refs stored.indexes → All (IsLive stored.places) new
+    selected_live kept =
+        subst (All (IsLive stored.places)) (sym is)
+        (All-filter (λ at. none_fails atoms (Some (row_of store table at) ∷ [])) (IsLive stored.places) found (found_live stored kept a found along))
 
 -- Along a scan lie all rows.
 all_along : (rows : List (List Value)) → filter (is_along access.Scan) rows ≡ rows

@@ -4,7 +4,7 @@ use Rattle.std.specs.List.{All, filter}
 use Rattle.std.specs.List.Sorted.{IsPermutation}
 use Rattle.std.specs.Option.{option_map_or}
 use Rattle.std.proofs.lemmas.List.Concat.{flat_map_single}
-use Rattle.std.proofs.lemmas.List.Elements.{All-filter, All-map, All-weaker}
+use Rattle.std.proofs.lemmas.List.Elements.{All-map, All-weaker}
 use Rattle.std.proofs.lemmas.List.Sorted.{IsPermutation-map}
 use Rattle.std.proofs.lemmas.Simd.{map-map}
 use Rattle.mm_partition.specs.Places.{IsLive, slot_at}
@@ -19,7 +19,7 @@ use Rattle.mm_templist.specs.Combos.{AreLive, Combos, combo_rows, row_of, rows_o
 use Rattle.mm_value.specs.declared.row_ref.RowRef.{RowRef}
 use Rattle.mm_value.specs.declared.values.Value.{Value}
 use Rattle.mm_select.specs.Fitting.{AreFitting, fitting}
-use Rattle.mm_select.specs.Matches.{matches, matching}
+use Rattle.mm_select.specs.Matches.{matching}
 
 abbrev pub Row : Type 0
 Row = List Value
@@ -56,38 +56,31 @@ module _ (store : Tables) (table : ℕ) where
     pub live_alone : (at : RowRef) → IsLive stored.places at → AreLive store (table ∷ []) (at ∷ [])
     live_alone at live = ((stored, here, live), tt)
 
-  module _ (atoms : List (Atom FieldPlace)) where
-    matched_rows : (refs : List RowRef)
-        → map (rows_of_combo store (table ∷ [])) (matches store table atoms [] [] refs)
-        ≡ map (λ at. row_of store table at ∷ []) (matching store table atoms [] refs)
-    matched_rows refs = map-map (rows_of_combo store (table ∷ [])) (λ (at : RowRef). at ∷ []) (matching store table atoms [] refs)
-
-    fitting_rows : (refs : List RowRef) → map (row_of store table) refs ≡ rows_at store.tables table
-        → map (λ at. row_of store table at ∷ []) (matching store table atoms [] refs) ≡ fitting atoms (rows_at store.tables table ∷ [])
-    fitting_rows refs all =
-        sym (map-map (λ (row : Row). row ∷ []) (row_of store table) (matching store table atoms [] refs))
-        ∙ (ap (map (λ (row : Row). row ∷ [])) (sym (filter-map (λ row. none_fails atoms (Some row ∷ [])) (row_of store table) refs))
-        ∙ (sym (fitting_one atoms (map (row_of store table) refs)) ∙ ap (λ rows. fitting atoms (rows ∷ [])) all))
-
-    -- A list of the matches of some candidates has the fitting rows, where just the same references match as of all rows.
-    pub matches_fit : (list : Combos) (candidates refs : List RowRef) → list.tables ≡ table ∷ []
-        → list.combos ≡ matches store table atoms [] [] candidates → map (row_of store table) refs ≡ rows_at store.tables table
-        → IsPermutation (matching store table atoms [] candidates) (matching store table atoms [] refs) → AreFitting store atoms list
-    matches_fit list candidates refs one found all same =
-        let rows : combo_rows store list ≡ map (λ at. row_of store table at ∷ []) (matching store table atoms [] candidates) =
-        (λ i. map (rows_of_combo store (one i)) (found i)) ∙ matched_rows candidates in
-        let wanted : map (λ at. row_of store table at ∷ []) (matching store table atoms [] refs) ≡ fitting atoms (map (rows_at store.tables) list.tables) =
-        fitting_rows refs all ∙ ap (λ ts. fitting atoms (map (rows_at store.tables) ts)) (sym one) in
-        subst (λ l. IsPermutation l (fitting atoms (map (rows_at store.tables) list.tables))) (sym rows)
-        (subst (IsPermutation (map (λ at. row_of store table at ∷ []) (matching store table atoms [] candidates))) wanted
-        (IsPermutation-map (λ at. row_of store table at ∷ []) (matching store table atoms [] candidates) (matching store table atoms [] refs) same))
-
-    -- They are live where the candidates are.
-    pub matches_live : (stored : StoredRows) → IsAt store table stored → (list : Combos) (candidates : List RowRef) → list.tables ≡ table ∷ []
-        → list.combos ≡ matches store table atoms [] [] candidates → All (IsLive stored.places) candidates → All (AreLive store list.tables) list.combos
-    matches_live stored here list candidates one found live =
+  module _ (list : Combos) (found : List RowRef) (one : list.tables ≡ table ∷ []) (are : list.combos ≡ map (λ at. at ∷ []) found) where
+    -- A list of live references is live, ..
+    pub refs_live : (stored : StoredRows) → IsAt store table stored → All (IsLive stored.places) found → All (AreLive store list.tables) list.combos
+    refs_live stored here live =
         subst (λ ts. All (AreLive store ts) list.combos) (sym one)
-        (subst (All (AreLive store (table ∷ []))) (sym found)
-        (All-map (AreLive store (table ∷ [])) (λ (at : RowRef). at ∷ []) (matching store table atoms [] candidates)
-        (All-filter (λ at. none_fails atoms (Some (row_of store table at) ∷ [])) (λ at. AreLive store (table ∷ []) (at ∷ [])) candidates
-        (All-weaker (IsLive stored.places) (λ at. AreLive store (table ∷ []) (at ∷ [])) (live_alone stored here) candidates live))))
+        (subst (All (AreLive store (table ∷ []))) (sym are)
+        (All-map (AreLive store (table ∷ [])) (λ (at : RowRef). at ∷ []) found
+        (All-weaker (IsLive stored.places) (λ at. AreLive store (table ∷ []) (at ∷ [])) (live_alone stored here) found live)))
+
+    module _ (atoms : List (Atom FieldPlace)) where
+      fitting_rows : (refs : List RowRef) → map (row_of store table) refs ≡ rows_at store.tables table
+          → map (λ at. row_of store table at ∷ []) (matching store table atoms [] refs) ≡ fitting atoms (rows_at store.tables table ∷ [])
+      fitting_rows refs all =
+          sym (map-map (λ (row : Row). row ∷ []) (row_of store table) (matching store table atoms [] refs))
+          ∙ (ap (map (λ (row : Row). row ∷ [])) (sym (filter-map (λ row. none_fails atoms (Some row ∷ [])) (row_of store table) refs))
+          ∙ (sym (fitting_one atoms (map (row_of store table) refs)) ∙ ap (λ rows. fitting atoms (rows ∷ [])) all))
+
+      -- .. and one of the references that match of all rows has the fitting rows.
+      pub refs_fit : (refs : List RowRef) → map (row_of store table) refs ≡ rows_at store.tables table
+          → IsPermutation found (matching store table atoms [] refs) → AreFitting store atoms list
+      refs_fit refs all same =
+          let rows : combo_rows store list ≡ map (λ at. row_of store table at ∷ []) found =
+          (λ i. map (rows_of_combo store (one i)) (are i)) ∙ map-map (rows_of_combo store (table ∷ [])) (λ (at : RowRef). at ∷ []) found in
+          let wanted : map (λ at. row_of store table at ∷ []) (matching store table atoms [] refs) ≡ fitting atoms (map (rows_at store.tables) list.tables) =
+          fitting_rows refs all ∙ ap (λ ts. fitting atoms (map (rows_at store.tables) ts)) (sym one) in
+          subst (λ l. IsPermutation l (fitting atoms (map (rows_at store.tables) list.tables))) (sym rows)
+          (subst (IsPermutation (map (λ at. row_of store table at ∷ []) found)) wanted
+          (IsPermutation-map (λ at. row_of store table at ∷ []) found (matching store table atoms [] refs) same))

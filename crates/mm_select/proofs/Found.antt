@@ -9,14 +9,14 @@ use Rattle.std.specs.Ordering.{is_eq, is_ge, is_le}
 use Rattle.std.proofs.lemmas.List.Elements.{All-filter, filter_passes}
 use Rattle.std.proofs.lemmas.List.Sorted.{All-permutation, IsPermutation-sym}
 use Rattle.std.proofs.lemmas.Option.{slice_get-get_or}
-use Rattle.mm_order.specs.Probe.{is_between}
+use Rattle.mm_order.specs.Probe.{entries_between, is_between}
 use Rattle.mm_partition.specs.Places.{IsLive, slot_at}
 use Rattle.mm_query.specs.Atoms.{value_in}
 use Rattle.mm_relation.specs.Kept.{IsKept, StoredRows}
 use Rattle.mm_relation.specs.Reads.{Appends, AreMatches, IsRange, end_place, has_value}
 use Rattle.mm_relation.specs.Refs.{Slots, place_by, row_at, row_in}
 use Rattle.mm_select.proofs.Along.{all_live, appended, filter_moved, filter_same, on_column}
-use Rattle.mm_select.specs.Accesses.{AreAlong, IsServed, has, is_along, is_from, is_up_to, lies_between}
+use Rattle.mm_select.specs.Accesses.{AreAlong, IsServed, has, is_along, is_from, is_up_to, lies_between, refs_along}
 use Rattle.mm_select.specs.declared.access.Access.{Access}
 use Rattle.mm_select.specs.declared.access.Access.TheVariants as access
 use Rattle.mm_store.specs.declared.index_ref.IndexRef.{IndexRef}
@@ -54,11 +54,16 @@ module _ (stored : StoredRows) (kept : IsKept stored.width stored.key (slot_at s
         subst (IsPermutation found) (filter_same (has_value column now value) (λ at. has column value (row_at now at)) stored.refs
         (λ k d below. ap is_eq (placed value k d below))) are
 
+    between_same : (low high : Option Value) → filter (is_between (end_place column now low) (end_place column now high)) stored.refs
+        ≡ filter (λ at. lies_between column low high (row_at now at)) stored.refs
+    between_same low high =
+        filter_same (is_between (end_place column now low) (end_place column now high)) (λ at. lies_between column low high (row_at now at)) stored.refs
+        (λ k d below. λ i. from_same low k d below i && up_to_same high k d below i)
+
     pub found_between : (low high : Option Value) (found : List RowRef) → IsRange column stored low high found → Finds (lies_between column low high) found
     found_between low high found (walk, is_walk, is) =
         let between : RowRef → Bool = is_between (end_place column now low) (end_place column now high) in
-        subst (IsPermutation found) (filter_same between (λ at. lies_between column low high (row_at now at)) stored.refs
-        (λ k d below. λ i. from_same low k d below i && up_to_same high k d below i))
+        subst (IsPermutation found) (between_same low high)
         (subst (λ (l : List RowRef). IsPermutation l (filter between stored.refs)) (sym is) (filter_moved between walk stored.refs is_walk.same))
 
   pub equal_along : (index : IndexRef) (column : ℕ) (value : Bor Value) (old new : List RowRef)
@@ -73,6 +78,15 @@ module _ (stored : StoredRows) (kept : IsKept stored.width stored.key (slot_at s
   range_along index column low high old new on none appends =
       found_between column (on_column stored kept column index on.0) (option_copied low) (option_copied high) new
       (appended (IsRange column stored (option_copied low) (option_copied high)) old new none appends)
+
+  -- What a range takes of the list of the references are those along it, in key order.
+  pub between_filtered : (index : IndexRef) (column : ℕ) (low high : Option (Bor Value)) → IsServed stored (access.Range index column low high)
+      → (walk found : List RowRef) → walk ≡ stored.refs
+      → found ≡ entries_between (end_place column now (option_copied low)) (end_place column now (option_copied high)) walk
+      → found ≡ refs_along stored (access.Range index column low high)
+  between_filtered index column low high on walk found all is =
+      is ∙ (ap (entries_between (end_place column now (option_copied low)) (end_place column now (option_copied high))) all
+      ∙ between_same column (on_column stored kept column index on.0) (option_copied low) (option_copied high))
 
   -- They are live, ..
   pub found_live : (a : Access) (found : List RowRef) → AreAlong stored a found → All (IsLive stored.places) found

@@ -4,5 +4,6 @@ pub mod Asking
 pub mod Covered
 pub mod Fits
 pub mod Found
+pub mod KeyWalks
 pub mod Meeting
 pub mod Walks

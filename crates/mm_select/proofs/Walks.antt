@@ -15,7 +15,7 @@ use Rattle.mm_templist.specs.Combos.{row_of}
 use Rattle.mm_value.specs.declared.row_ref.RowRef.{RowRef}
 use Rattle.mm_value.specs.declared.values.Value.{Value}
 use Rattle.mm_select.proofs.Fits.{row_here}
-use Rattle.mm_select.specs.Matches.{matches}
+use Rattle.mm_select.specs.Matches.{matches, matching}
 
 -- What holds of all elements holds of the next one, ..
 pub holds_next : {X : Type 0} (P : X → Type 0) (all done rest : List X) (x : X) → all ≡ done ++ x ∷ rest → All P all → P x
@@ -64,16 +64,24 @@ module _ (store : Tables) (table : ℕ) where
         by b true same = ap (λ b. cond b ((front ++ at ∷ []) ∷ []) []) (sym same)
         by b false same = ap (λ b. cond b ((front ++ at ∷ []) ∷ []) []) (sym same)
 
-    -- A candidate more is put behind the matches where its row fits, ..
-    pub matches_more : (done : List RowRef) (at : RowRef) (row : List Value) → row_of store table at ≡ row
-        → true ≡ none_fails atoms (rows ++ Some row ∷ [])
-        → matches store table atoms rows front done ++ (front ++ at ∷ []) ∷ [] ≡ matches store table atoms rows front (done ++ at ∷ [])
-    matches_more done at row is told =
-        sym (matches_append done (at ∷ []) ∙ ap (λ l. matches store table atoms rows front done ++ l) (matches_one at row true is told))
+-- One element more passes a test, ..
+filter_more : {X : Type 0} (p : X → Bool) (xs : List X) (x : X) → true ≡ p x → filter p (xs ++ x ∷ []) ≡ filter p xs ++ x ∷ []
+filter_more p xs x passes = filter-append p xs (x ∷ []) ∙ ap (λ b. filter p xs ++ cond b (x ∷ []) []) (sym passes)
 
-    -- .. and else there are the matches that there were.
-    pub matches_still : (done : List RowRef) (at : RowRef) (row : List Value) → row_of store table at ≡ row
-        → false ≡ none_fails atoms (rows ++ Some row ∷ []) → matches store table atoms rows front done ≡ matches store table atoms rows front (done ++ at ∷ [])
-    matches_still done at row is told =
-        sym (matches_append done (at ∷ []) ∙ (ap (λ l. matches store table atoms rows front done ++ l) (matches_one at row false is told)
-        ∙ append-nil (matches store table atoms rows front done)))
+-- .. or does not.
+filter_still : {X : Type 0} (p : X → Bool) (xs : List X) (x : X) → false ≡ p x → filter p (xs ++ x ∷ []) ≡ filter p xs
+filter_still p xs x fails = filter-append p xs (x ∷ []) ∙ (ap (λ b. filter p xs ++ cond b (x ∷ []) []) (sym fails) ∙ append-nil (filter p xs))
+
+-- In a store that is the same, a reference more matches where its row fits, ..
+module _ (store other : Tables) (same : other ≡ store) (table : ℕ) (atoms : List (Atom FieldPlace)) (done : List RowRef) (at : RowRef) where
+  fits_same : none_fails atoms (Some (row_of other table at) ∷ []) ≡ none_fails atoms (Some (row_of store table at) ∷ [])
+  fits_same = ap (λ s. none_fails atoms (Some (row_of s table at) ∷ [])) same
+
+  pub matching_more : true ≡ none_fails atoms (Some (row_of other table at) ∷ [])
+      → matching store table atoms [] (done ++ at ∷ []) ≡ matching store table atoms [] done ++ at ∷ []
+  matching_more told = filter_more (λ x. none_fails atoms (Some (row_of store table x) ∷ [])) done at (told ∙ fits_same)
+
+  -- .. and does not where it does not.
+  pub matching_still : false ≡ none_fails atoms (Some (row_of other table at) ∷ [])
+      → matching store table atoms [] (done ++ at ∷ []) ≡ matching store table atoms [] done
+  matching_still told = filter_still (λ x. none_fails atoms (Some (row_of store table x) ∷ [])) done at (told ∙ fits_same)

@@ -18,6 +18,7 @@ use Rattle.mm_select.specs.Asked.{IsHigh, IsLow, compares}
 use Rattle.mm_select.specs.declared.access.Access.{Access}
 use Rattle.mm_select.specs.declared.access.Access.TheVariants as access
 use Rattle.mm_store.specs.Looked.{IsIndexOn, IsTree}
+use Rattle.mm_store.specs.declared.index_ref.IndexRef.TheVariants.{Key, Tree, Hash}
 use Rattle.mm_value.specs.Order.{value_cmp}
 use Rattle.mm_value.specs.declared.row_ref.RowRef.{RowRef}
 use Rattle.mm_value.specs.declared.values.Value.{Value}
@@ -58,9 +59,21 @@ Asks atoms access.Scan = Unit {0}
 Asks atoms (access.Equal index column value) = Contains atoms (compares column comparison.Equal value.now)
 Asks atoms (access.Range index column low high) = IsLow atoms column (option_copied low) × IsHigh atoms column (option_copied high)
 
+-- The references of the rows along the access, in key order.
+abbrev pub refs_along : StoredRows → Access → List RowRef
+refs_along stored access = filter (λ at. is_along access (row_at (slot_at stored.places) at)) stored.refs
+
 -- These references are those of the rows along the access, each once.
 abbrev pub AreAlong : StoredRows → Access → List RowRef → Type 0
-AreAlong stored access found = IsPermutation found (filter (λ at. is_along access (row_at (slot_at stored.places) at)) stored.refs)
+AreAlong stored access found = IsPermutation found (refs_along stored access)
+
+-- The rows along the access are found in key order.
+abbrev pub is_in_key_order : Access → Bool
+is_in_key_order access.Scan = true
+is_in_key_order (access.Equal index column value) = false
+is_in_key_order (access.Range Key column low high) = true
+is_in_key_order (access.Range (Tree place) column low high) = false
+is_in_key_order (access.Range (Hash place) column low high) = false
 
 -- Every value from this lower end on stands so to a value: the end does, and so does whatever is greater.
 abbrev pub stand_from : Option Value → Comparison → Value → Bool

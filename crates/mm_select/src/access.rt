@@ -1,8 +1,8 @@
 //! Ways to the rows of a table.
-ghost use Rattle.std.specs.Prelude.{◌≡◌, ◌<◌, IfOk, length};
+ghost use Rattle.std.specs.Prelude.{◌≡◌, ◌<◌, true, IfOk, filter, length};
 ghost use Rattle.std.specs.Option.{option_copied};
 ghost use Rattle.mm_relation.specs.Kept.{StoredRows};
-ghost use Rattle.mm_select.specs.Accesses.{AreAlong, IsServed, all_stand, all_stand_to, is_met_along, stand_from, stand_up_to};
+ghost use Rattle.mm_select.specs.Accesses.{AreAlong, IsServed, all_stand, all_stand_to, is_in_key_order, is_met_along, refs_along, stand_from, stand_up_to};
 ghost use Rattle.mm_select.specs.declared.access.Access.TheVariants as access;
 ghost use Rattle.mm_store.specs.Tables.{IsAt};
 
@@ -30,6 +30,19 @@ pub enum Access<'q> {
         low: Option<&'q Value>,
         high: Option<&'q Value>,
     },
+}
+
+impl Access<'_> {
+    /// Whether the rows along the access are found in key order.
+    pub fn is_in_key_order(self) -> bool
+        ensures { result ≡ is_in_key_order self.entry }
+    {
+        match self {
+            Access::Scan => true,
+            Access::Equal { .. } => false,
+            Access::Range { index, .. } => matches!(index, IndexRef::Key),
+        }
+    }
 }
 
 /// Whether an atom compares a column of the first table with a value, and holds of every row along an access, so that no row
@@ -111,7 +124,8 @@ pub(crate) fn equal_to(
     Ok(found)
 }
 
-/// The references of the rows between two ends along a tree, these included. `AllocError` where memory is refused.
+/// The references of the rows between two ends along a tree, these included; along the tree on the key in key order. `AllocError` where
+/// memory is refused.
 pub(crate) fn between(
     alloc: Global,
     view: &View<'_>,
@@ -123,8 +137,10 @@ pub(crate) fn between(
 ) -> Result<Vec<RowRef>, AllocError>
     requires there { table < length view.now.store.tables }
     requires served { (stored : StoredRows) → IsAt view.now.store table stored → IsServed stored (access.Range index column low high) }
-    ensures { (stored : StoredRows) → IsAt view.now.store table stored
+    ensures along { (stored : StoredRows) → IsAt view.now.store table stored
         → IfOk result (λ found. AreAlong stored (access.Range index column low.entry high.entry) found.items) }
+    ensures ordered { (stored : StoredRows) → IsAt view.now.store table stored → is_in_key_order (access.Range index column low.entry high.entry) ≡ true
+        → IfOk result (λ found. found.items ≡ refs_along stored (access.Range index column low.entry high.entry)) }
 {
     view.is_kept(table);
     let mut found = Vec::new(alloc);

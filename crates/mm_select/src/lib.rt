@@ -1,4 +1,4 @@
-//! Selections: the rows of a table that meet atoms, as a temporary list of references.
+//! Selections: the rows of a table that meet atoms, as references or as a temporary list of these.
 #![tactic(auto)]
 
 mod access;
@@ -6,4 +6,4 @@ mod row_test;
 mod selecting;
 
 pub use access::Access;
-pub use selecting::select;
+pub use selecting::{select, select_refs};

@@ -1,9 +1,11 @@
 //! Selections.
-ghost use Rattle.std.specs.Prelude.{◌≡◌, ℕ, ◌+◌, ◌∷◌, ◌<◌, ◌≤◌, [], false, All, IfOk, length};
+ghost use Rattle.std.specs.Prelude.{◌≡◌, ℕ, ◌+◌, ◌∷◌, ◌<◌, ◌≤◌, [], false, true, All, IfOk, IsPermutation, length};
 ghost use Rattle.std.specs.List.{count_by, list_any};
+ghost use Rattle.mm_partition.specs.Places.{IsLive};
 ghost use Rattle.mm_relation.specs.Kept.{StoredRows};
-ghost use Rattle.mm_select.specs.Accesses.{AreAlong, Asks, IsServed, asks_along, is_along};
+ghost use Rattle.mm_select.specs.Accesses.{AreAlong, Asks, IsServed, asks_along, is_along, is_in_key_order};
 ghost use Rattle.mm_select.specs.Fitting.{AreFitting};
+ghost use Rattle.mm_select.specs.Matches.{matching};
 ghost use Rattle.mm_select.specs.declared.access.Access.TheVariants as access;
 ghost use Rattle.mm_store.specs.Tables.{IsAt, rows_at};
 ghost use Rattle.mm_templist.specs.Combos.{AreLive};
@@ -11,15 +13,13 @@ ghost use Rattle.mm_templist.specs.Combos.{AreLive};
 use crate::access::{Access, between, equal_to};
 use crate::row_test::{RowTest, some_asks_along};
 use mm_query::{Atom, FieldPlace};
-use mm_store::View;
+use mm_store::{IndexRef, View};
 use mm_templist::{Descriptor, TempList};
 use mm_value::RowRef;
 use std::alloc::{AllocError, Global};
 
-/// The rows of a table of which no atom is false, found along an access: by a look at each of them, in key order, or by a
-/// look-up or a range in an index, in no promised order (the access paths of Lehman and Carey, SIGMOD 1986). It looks at no row
-/// that does not lie along the access, and at none at all where every row along it meets all that the atoms ask of the table
-/// alone. `AllocError` where memory is refused.
+/// The rows of a table of which no atom is false, as a temporary list. They are found as `select_refs` finds them, whose references
+/// are not copied. `AllocError` where memory is refused.
 pub fn select<'a>(
     alloc: Global,
     view: &mut View<'_>,
@@ -40,16 +40,45 @@ pub fn select<'a>(
     ensures unread { list_any (asks_along access.entry) atoms.now ≡ false → view.new.reads ≡ view.old.reads }
     ensures same { view.new.store ≡ view.old.store }
 {
-    let table = descriptor.tables[0];
+    let refs = select_refs(alloc, view, descriptor.tables[0], atoms, access)?;
+    Ok(TempList::of_refs(descriptor, refs))
+}
+
+/// The references of the rows of a table of which no atom is false, each once, found along an access: by a look at each row, or by a
+/// look-up or a range in an index (the access paths of Lehman and Carey, SIGMOD 1986). They are in key order where the rows along
+/// the access are, and else in no promised order. It looks at no row that does not lie along the access, and at none at all where
+/// every row along it meets all that the atoms ask of the table alone. It takes memory for what lies along the access, and no more.
+/// `AllocError` where that is refused.
+pub fn select_refs(
+    alloc: Global,
+    view: &mut View<'_>,
+    table: usize,
+    atoms: &[Atom<FieldPlace>],
+    access: Access<'_>,
+) -> Result<Vec<RowRef>, AllocError>
+    requires there { table < length view.old.store.tables }
+    requires served { (stored : StoredRows) → IsAt view.old.store table stored → IsServed stored access }
+    requires asked { Asks atoms.now access }
+    ensures found { IfOk result (λ found. (stored : StoredRows) → IsAt view.old.store table stored
+        → IsPermutation found.items (matching view.old.store table atoms.now [] stored.refs)) }
+    ensures ordered { is_in_key_order access.entry ≡ true → IfOk result (λ found. (stored : StoredRows) → IsAt view.old.store table stored
+        → found.items ≡ matching view.old.store table atoms.now [] stored.refs) }
+    ensures live { IfOk result (λ found. (stored : StoredRows) → IsAt view.old.store table stored → All (IsLive stored.places) found.items) }
+    ensures reads { view.new.reads ≤ view.old.reads + count_by (is_along access.entry) (rows_at view.old.store.tables table) }
+    ensures unread { list_any (asks_along access.entry) atoms.now ≡ false → view.new.reads ≡ view.old.reads }
+    ensures same { view.new.store ≡ view.old.store }
+{
+    view.is_kept(table);
     match access {
-        Access::Scan => scan(alloc, view, descriptor, atoms),
+        Access::Scan => scan(alloc, view, table, atoms),
         Access::Equal {
             index,
             column,
             value,
         } => {
-            let found = equal_to(alloc, view, table, index, column, value)?;
-            fitting(alloc, view, descriptor, atoms, access, found.as_slice())
+            let mut found = equal_to(alloc, view, table, index, column, value)?;
+            keep_fitting(view, table, atoms, access, &mut found);
+            Ok(found)
         }
         Access::Range {
             index,
@@ -57,82 +86,76 @@ pub fn select<'a>(
             low,
             high,
         } => {
-            let found = between(alloc, view, table, index, column, low, high)?;
-            fitting(alloc, view, descriptor, atoms, access, found.as_slice())
+            let mut found = between(alloc, view, table, index, column, low, high)?;
+            keep_fitting(view, table, atoms, access, &mut found);
+            Ok(found)
         }
     }
 }
 
-/// The rows of a table of which no atom is false, in key order. The references are not copied. `AllocError` where memory is
-/// refused.
-fn scan<'a>(
+/// The references of the rows of a table of which no atom is false, in key order. `AllocError` where memory is refused.
+fn scan(
     alloc: Global,
     view: &mut View<'_>,
-    descriptor: Descriptor<'a>,
+    table: usize,
     atoms: &[Atom<FieldPlace>],
-) -> Result<TempList<'a>, AllocError>
-    requires { (table : ℕ) × (descriptor.tables.now ≡ table ∷ []) × (table < length view.old.store.tables) }
-    ensures fitting { IfOk result (λ list. AreFitting view.old.store atoms.now list) }
-    ensures live { IfOk result (λ list. All (AreLive view.old.store list.tables) list.combos) }
-    ensures tables { IfOk result (λ list. list.tables ≡ descriptor.entry.tables.now) }
-    ensures fields { IfOk result (λ list. list.fields ≡ descriptor.entry.fields.now) }
-    ensures reads { (table : ℕ) → descriptor.entry.tables.now ≡ table ∷ []
-        → view.new.reads ≤ view.old.reads + count_by (is_along access.Scan) (rows_at view.old.store.tables table) }
+) -> Result<Vec<RowRef>, AllocError>
+    requires { table < length view.old.store.tables }
+    ensures found { IfOk result (λ found. (stored : StoredRows) → IsAt view.old.store table stored
+        → found.items ≡ matching view.old.store table atoms.now [] stored.refs) }
+    ensures reads { view.new.reads ≤ view.old.reads + length (rows_at view.old.store.tables table) }
     ensures unread { list_any (asks_along access.Scan) atoms.now ≡ false → view.new.reads ≡ view.old.reads }
     ensures same { view.new.store ≡ view.old.store }
 {
-    let table = descriptor.tables[0];
-    let mut list = TempList::new(alloc, descriptor);
+    view.is_kept(table);
+    let mut found = Vec::new(alloc);
     let test = RowTest {
         table,
         atoms,
         access: Access::Scan,
         asks: some_asks_along(Access::Scan, atoms),
     };
-    for at in view.key_walk(table) {
+    for at in view.walk(table, IndexRef::Key) {
         if test.admits(view, at) {
-            list.push(&[], at)?;
+            found.push(at)?;
         }
     }
-    Ok(list)
+    Ok(found)
 }
 
-/// The rows of a table of which no atom is false, where the candidates are the rows along an access for which the atoms ask.
-/// `AllocError` where memory is refused.
-fn fitting<'a>(
-    alloc: Global,
+/// Keeps of the references of the rows along an access those of the rows of which no atom is false, in their order. It takes no memory.
+fn keep_fitting(
     view: &mut View<'_>,
-    descriptor: Descriptor<'a>,
+    table: usize,
     atoms: &[Atom<FieldPlace>],
     access: Access<'_>,
-    candidates: &[RowRef],
-) -> Result<TempList<'a>, AllocError>
-    requires one { (table : ℕ) × (descriptor.tables.now ≡ table ∷ []) × (table < length view.old.store.tables) }
-    requires along { (table : ℕ) (stored : StoredRows) → descriptor.tables.now ≡ table ∷ [] → IsAt view.old.store table stored
-        → AreAlong stored access candidates.now }
-    requires asked { Asks atoms.now access }
-    ensures fitting { IfOk result (λ list. AreFitting view.old.store atoms.now list) }
-    ensures live { IfOk result (λ list. All (AreLive view.old.store list.tables) list.combos) }
-    ensures tables { IfOk result (λ list. list.tables ≡ descriptor.entry.tables.now) }
-    ensures fields { IfOk result (λ list. list.fields ≡ descriptor.entry.fields.now) }
-    ensures reads { (table : ℕ) → descriptor.entry.tables.now ≡ table ∷ []
-        → view.new.reads ≤ view.old.reads + count_by (is_along access.entry) (rows_at view.old.store.tables table) }
+    found: &mut Vec<RowRef>,
+)
+    requires there { table < length view.old.store.tables }
+    requires along { (stored : StoredRows) → IsAt view.old.store table stored → AreAlong stored access found.old.items }
+    ensures found { found.new.items ≡ matching view.old.store table atoms.now [] found.old.items }
+    ensures reads { view.new.reads ≤ view.old.reads + length found.old.items }
     ensures unread { list_any (asks_along access.entry) atoms.now ≡ false → view.new.reads ≡ view.old.reads }
     ensures same { view.new.store ≡ view.old.store }
 {
-    let table = descriptor.tables[0];
     view.is_kept(table);
-    let mut list = TempList::new(alloc, descriptor);
+    let asks = some_asks_along(access, atoms);
+    if !asks {
+        return;
+    }
     let test = RowTest {
         table,
         atoms,
         access,
-        asks: some_asks_along(access, atoms),
+        asks,
     };
-    for at in candidates {
-        if test.admits(view, *at) {
-            list.push(&[], *at)?;
+    let mut kept = 0;
+    for i in 0..found.len() {
+        let at = found[i];
+        if test.admits(view, at) {
+            found[kept] = at;
+            kept += 1;
         }
     }
-    Ok(list)
+    found.truncate(kept);
 }

@@ -7,10 +7,11 @@ use Rattle.std.proofs.lemmas.List.{length-set}
 use Rattle.mm_value.specs.Equality.{same_row}
 use Rattle.mm_value.specs.EqualityLaws.{same_row_equiv}
 use Rattle.mm_value.specs.declared.values.Value.{Value}
-use Rattle.mm_bag.specs.Counts.{Adds, Counts, Entries, count_in, has_entry, signed_count, total_of}
-use Rattle.mm_bag.proofs.Undoing.{found_all, kept_all, only_one}
+use Rattle.mm_multiset.specs.Counts.{Adds, Counts, Entries, count_in, has_entry, signed_count, total_of}
+use Rattle.mm_multiset.proofs.Undoing.{found_all, kept_all, only_one}
 use Rattle.mm_standing.specs.Bags.{AddedTo, IsWithin, Purges, entries_at, list_change, names, room_at, row_change}
 use Rattle.mm_standing.specs.declared.change.ListChange.{ListChange}
+use Rattle.mm_schema.specs.Rows.{most_rows}
 
 pub at_map : {X Y : Type 0} (f : X → Y) (xs : List X) (i : ℕ) (d : X) (e : Y) → i < length xs → get_or (map f xs) i e ≡ f (get_or xs i d)
 at_map f [] i d e h = absurd (omega (arith, h))
@@ -181,7 +182,7 @@ eq_itself n = eq-eqb n n refl
 least : (n x d : ℤ) → x ≡ d → pos 0 ≤ℤ (n +ℤ (x +ℤ pos 0)) → pos 0 ≤ℤ (n +ℤ d)
 least n x d e h = omega (arith, ints)
 
-most : (n x d : ℤ) → x ≡ d → (n +ℤ (x +ℤ pos 0)) ≤ℤ pos 1048576 → (n +ℤ d) <ℤ pos (2 ^ 64)
+most : (n x d : ℤ) → x ≡ d → (n +ℤ (x +ℤ pos 0)) ≤ℤ pos most_rows → (n +ℤ d) <ℤ pos (2 ^ 64)
 most n x d e h = omega (arith, ints)
 
 no_more : (d : ℤ) → d +ℤ pos 0 ≡ d

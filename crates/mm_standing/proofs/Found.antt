@@ -14,8 +14,8 @@ use Rattle.mm_store.specs.Tables.{Tables, rows_at}
 use Rattle.mm_templist.specs.Combos.{Combos, combo_rows}
 use Rattle.mm_templist.specs.Results.{projected_rows, result_rows}
 use Rattle.mm_select.specs.Fitting.{AreFitting, fitting}
-use Rattle.mm_bag.specs.Counts.{Adds, Entries, count_in}
-use Rattle.mm_bag.proofs.Undoing.{only_one}
+use Rattle.mm_multiset.specs.Counts.{Adds, Entries, count_in}
+use Rattle.mm_multiset.proofs.Undoing.{only_one}
 use Rattle.mm_standing.specs.Bags.{ArePositive}
 use Rattle.mm_standing.specs.Queries.{IsBagOf}
 

@@ -11,12 +11,13 @@ use Rattle.std.proofs.lemmas.Map.Keys.{IsDistinct-IsPermutation}
 use Rattle.mm_value.specs.Equality.{same_row}
 use Rattle.mm_value.specs.EqualityLaws.{same_row_equiv}
 use Rattle.mm_value.specs.declared.values.Value.{Value}
-use Rattle.mm_bag.specs.Counts.{Entries, IsOnce, count_of, signed_count, total_of}
-use Rattle.mm_bag.specs.declared.signed.Signed.{Signed}
+use Rattle.mm_multiset.specs.Counts.{Entries, IsOnce, count_of, signed_count, total_of}
+use Rattle.mm_multiset.specs.declared.signed.Signed.{Signed}
 use Rattle.mm_standing.specs.Bags.{Brings, HasGainsFirst, sum_over}
 use Rattle.mm_standing.specs.Queries.{IsBagOf}
 use Rattle.mm_standing.proofs.Net.{IsOnceEach, counts_after, counts_behind, pick, rows_in, sum_of, total_after}
 use Rattle.mm_standing.proofs.Others.{Rows}
+use Rattle.mm_schema.specs.Rows.{most_rows}
 
 -- ---- sums of the same changes
 
@@ -154,16 +155,16 @@ sum_behind (c ∷ cs) (suc gains) (suc k) up down =
     more a b z p q = omega (arith, ints)
 
 -- So there are few rows on the way, where there are few before and after.
-pub few_behind : (changes : List Signed) → HasGainsFirst changes → (old new : ℕ) → old ≤ 1048576 → new ≤ 1048576 → pos old +ℤ sum_of changes ≡ pos new
-    → (k : ℕ) → (pos old +ℤ sum_of (drop k changes)) ≤ℤ pos 1048576
+pub few_behind : (changes : List Signed) → HasGainsFirst changes → (old new : ℕ) → old ≤ most_rows → new ≤ most_rows → pos old +ℤ sum_of changes ≡ pos new
+    → (k : ℕ) → (pos old +ℤ sum_of (drop k changes)) ≤ℤ pos most_rows
 few_behind changes (gains, up, down) old new few still is k =
     ⊎_elim (λ h. before old (sum_of (drop k changes)) few h) (λ h. after old new (sum_of (drop k changes)) (sum_of changes) still is h)
     (sum_behind changes gains k up down)
   where
-    before : (o : ℕ) (z : ℤ) → o ≤ 1048576 → z ≤ℤ pos 0 → (pos o +ℤ z) ≤ℤ pos 1048576
+    before : (o : ℕ) (z : ℤ) → o ≤ most_rows → z ≤ℤ pos 0 → (pos o +ℤ z) ≤ℤ pos most_rows
     before o z p q = omega (arith, ints)
 
-    after : (o n : ℕ) (z s : ℤ) → n ≤ 1048576 → pos o +ℤ s ≡ pos n → z ≤ℤ s → (pos o +ℤ z) ≤ℤ pos 1048576
+    after : (o n : ℕ) (z s : ℤ) → n ≤ most_rows → pos o +ℤ s ≡ pos n → z ≤ℤ s → (pos o +ℤ z) ≤ℤ pos most_rows
     after o n z s p e q = omega (arith, ints)
 
 -- ---- the changes of one list
@@ -171,7 +172,7 @@ few_behind changes (gains, up, down) old new few still is k =
 -- Changes bring the bag to the rows after, where there are few of them before and after.
 pub brings : (entries : Entries) (old new : List Signed) (after before : Rows) → IsOnceEach old → IsOnce entries → IsBagOf entries before
     → ((row : List Value) → signed_count row old ≡ pos (count_of row after) -ℤ pos (count_of row before))
-    → IsPermutation old new → HasGainsFirst new → total_of entries ≤ 1048576 → length after ≤ 1048576
+    → IsPermutation old new → HasGainsFirst new → total_of entries ≤ most_rows → length after ≤ most_rows
     → All (λ (c : Signed). (neg_ℤ (pos (2 ^ 64)) <ℤ c.count) × (c.count <ℤ pos (2 ^ 64))) old → Brings new entries after
 brings entries old new after before once keys bag change moved gains few still small =
     let new_once : IsOnceEach new = once_permuted old new moved once in

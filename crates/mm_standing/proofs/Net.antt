@@ -8,8 +8,8 @@ use Rattle.mm_value.specs.Equality.{same_row}
 use Rattle.mm_value.specs.EqualityLaws.{same_row_equiv}
 use Rattle.mm_value.specs.declared.values.Value.{Value}
 use Rattle.mm_value.proofs.SameRows.{rows_exact}
-use Rattle.mm_bag.specs.Counts.{Entries, IsOnce, count_in, count_of, signed_count, total_of}
-use Rattle.mm_bag.specs.declared.signed.Signed.{Signed}
+use Rattle.mm_multiset.specs.Counts.{Entries, IsOnce, count_in, count_of, signed_count, total_of}
+use Rattle.mm_multiset.specs.declared.signed.Signed.{Signed}
 use Rattle.mm_delta.proofs.Reordering.{permutation_from_counts}
 use Rattle.mm_standing.specs.Bags.{sum_over}
 use Rattle.mm_standing.specs.Queries.{IsBagOf}

@@ -5,11 +5,12 @@ use Rattle.std.specs.Prelude.{◌==◌}
 use Rattle.std.proofs.lemmas.Bool.{eqb-true}
 use Rattle.std.proofs.lemmas.List.{length-map}
 use Rattle.std.proofs.lemmas.List.Elements.{All-weaker}
-use Rattle.mm_bag.specs.Counts.{Counts, Entries, count_in, has_entry, total_of}
+use Rattle.mm_multiset.specs.Counts.{Counts, Entries, count_in, has_entry, total_of}
 use Rattle.mm_standing.specs.Bags.{CanAdd, HasEntry, IsSound, IsWithin, done_of, entries_at, list_change, number_for, opposite, room_at, row_change, sum_over}
 use Rattle.mm_standing.specs.declared.change.ListChange.{ListChange}
 use Rattle.mm_standing.specs.declared.change.Prepared.{Prepared}
 use Rattle.mm_standing.proofs.Adding.{not_same, room_here, set_here, set_other}
+use Rattle.mm_schema.specs.Rows.{most_rows}
 
 module _ (old new : List Counts) (same : map (λ (b : Counts). b.entries) new ≡ map (λ (b : Counts). b.entries) old) where
   pub at : (list : ℕ) → entries_at new list ≡ entries_at old list
@@ -21,7 +22,7 @@ module _ (old new : List Counts) (same : map (λ (b : Counts). b.entries) new �
   pub within_roomier : (cs : List ListChange) → IsWithin old cs → IsWithin new cs
   within_roomier cs w = record {
     counts = λ list row. subst (λ (es : Entries). pos 0 ≤ℤ (pos (count_in row es) +ℤ sum_over (row_change list row) cs)) (sym (at list)) (w.counts list row);
-    totals = λ list. subst (λ (es : Entries). (pos (total_of es) +ℤ sum_over (list_change list) cs) ≤ℤ pos 1048576) (sym (at list)) (w.totals list);
+    totals = λ list. subst (λ (es : Entries). (pos (total_of es) +ℤ sum_over (list_change list) cs) ≤ℤ pos most_rows) (sym (at list)) (w.totals list);
   }
 
   pub sound_roomier : (prepared : List Prepared) (log : List ListChange) → ((list : ℕ) → room_at old list ≤ room_at new list)

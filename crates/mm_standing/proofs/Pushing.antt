@@ -5,7 +5,7 @@ use Rattle.std.proofs.lemmas.List.{append-nil, append_assoc, take_more}
 use Rattle.std.proofs.lemmas.List.Concat.{flat_map-append}
 use Rattle.std.proofs.lemmas.Option.{get_or_from_slice_get}
 use Rattle.mm_value.specs.declared.values.Value.{Value}
-use Rattle.mm_bag.specs.Counts.{Entries}
+use Rattle.mm_multiset.specs.Counts.{Entries}
 use Rattle.mm_standing.specs.Showing.{rows_shown, times_shown, values_in_turn}
 
 pub shown_more : (distinct : Bool) (es : Entries) (i : ℕ) (e : List Value × ℕ) → i < length es → slice_get es i ≡ Some e

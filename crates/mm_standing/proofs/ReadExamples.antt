@@ -17,7 +17,7 @@ use Rattle.mm_delta.specs.Candidates.{Required, having}
 use Rattle.mm_delta.specs.Edited.{before_at, has_index, walked}
 use Rattle.mm_delta.specs.Steps.{reads_for, row_reads, term_reads}
 use Rattle.mm_delta.specs.Walk.{one_row, other_places}
-use Rattle.mm_delta.specs.declared.edited.TableEdits.{TableEdits}
+use Rattle.mm_delta.specs.declared.edited.TableChange.{TableChange}
 use Rattle.mm_delta.proofs.ReadLaws.{sum_of_zeros, those_of_one_place}
 use Rattle.mm_standing.specs.Queries.{StandingQuery}
 use Rattle.mm_standing.specs.ReadExamples.{AddsBesideFour, AddsThirdFive, BringsRow, LeavesTable, below_some_below_5, equal_pairs, equal_triples, row_of}
@@ -34,7 +34,7 @@ alone f row = omega arith
 
 -- ---- what a place of FROM adds
 
-module _ (store : Tables) (changes : List TableEdits) (skipped : RowTests) (standing : StandingQuery) where
+module _ (store : Tables) (changes : List TableChange) (skipped : RowTests) (standing : StandingQuery) where
   abbrev term_at : ℕ → ℕ
   term_at k = term_reads standing.query store changes standing.tables (skipped standing.query) k
 
@@ -99,7 +99,7 @@ fourth = row_of 3 5
 abbrev fives : Bool → List (Option Required) → Option Required
 fives b others = first_there (first_there (cond b (Some (1, Int (pos 5))) None ∷ others) ∷ [])
 
-module _ (store : Tables) (changes : List TableEdits) (skipped : RowTests) (only : AreOfCyclicRows skipped) (adds : AddsThirdFive store changes) where
+module _ (store : Tables) (changes : List TableChange) (skipped : RowTests) (only : AreOfCyclicRows skipped) (adds : AddsThirdFive store changes) where
   beside_first : (b : Bool) → has_index store 0 1 ≡ b
       → beside store changes skipped equal_pairs 0 fourth ≡ length (having (fives b []) three)
   beside_first b is =
@@ -136,7 +136,7 @@ module _ (store : Tables) (changes : List TableEdits) (skipped : RowTests) (only
 abbrev four : Rows
 four = row_of 1 5 ∷ row_of 2 5 ∷ row_of 3 5 ∷ row_of 4 9 ∷ []
 
-module _ (store : Tables) (changes : List TableEdits) (skipped : RowTests) (only : AreOfCyclicRows skipped) (adds : AddsThirdFive store changes)
+module _ (store : Tables) (changes : List TableChange) (skipped : RowTests) (only : AreOfCyclicRows skipped) (adds : AddsThirdFive store changes)
     (indexed : has_index store 0 1 ≡ true) where
   first_beside : beside store changes skipped equal_triples 0 fourth ≡ 6
   first_beside = rw (adds.before, indexed)
@@ -185,7 +185,7 @@ below_is_cyclic = (
   }),
 )
 
-module _ (store : Tables) (changes : List TableEdits) (skipped : RowTests) where
+module _ (store : Tables) (changes : List TableChange) (skipped : RowTests) where
   pub irrelevant : AddsBesideFour store changes (row_of 1 4) → skipped below_some_below_5.query 0 (row_of 1 4) ≡ true
       → query_reads store changes skipped below_some_below_5 ≡ 1
   irrelevant adds out =

@@ -10,7 +10,7 @@ use Rattle.mm_store.specs.Tables.{Tables}
 use Rattle.mm_value.specs.declared.row_ref.RowRef.{RowRef}
 use Rattle.mm_value.specs.declared.values.Value.{Value}
 use Rattle.mm_delta.specs.Edited.{has_index}
-use Rattle.mm_delta.specs.declared.edited.TableEdits.{TableEdits}
+use Rattle.mm_delta.specs.declared.edited.TableChange.{TableChange}
 use Rattle.mm_standing.specs.ReadExamples.{AddsBesideFour, AddsThirdFive, row_of}
 
 abbrev refs_to : ℕ → List RowRef
@@ -28,7 +28,7 @@ table_of rows indexes = record {
 }
 
 -- A row is added to the table at place 0.
-abbrev addition_of : List Value → List TableEdits
+abbrev addition_of : List Value → List TableChange
 addition_of row = record { table = 0; edits = record { ref_ptr = (0, 0); now = Add row ∷ [] } } ∷ []
 
 abbrev three : List (List Value)
@@ -39,7 +39,7 @@ abbrev indexes_if : Bool → List Index
 indexes_if true = Tree 1 (record { refs = refs_to 3; height = 1; spare = 0 }) ∷ []
 indexes_if false = []
 
-pub third_five_added : (b : Bool) → (store : Tables) × (changes : List TableEdits) × AddsThirdFive store changes × (has_index store 0 1 ≡ b)
+pub third_five_added : (b : Bool) → (store : Tables) × (changes : List TableChange) × AddsThirdFive store changes × (has_index store 0 1 ≡ b)
 third_five_added b = (
   record { tables = table_of three (indexes_if b) ∷ []; links = [] },
   addition_of (row_of 3 5),
@@ -51,7 +51,7 @@ third_five_added b = (
     by true = refl
     by false = refl
 
-pub added_beside_four : (row : List Value) → (store : Tables) × (changes : List TableEdits) × AddsBesideFour store changes row
+pub added_beside_four : (row : List Value) → (store : Tables) × (changes : List TableChange) × AddsBesideFour store changes row
 added_beside_four row = (
   record { tables = table_of [] [] ∷ table_of (row_of 1 4 ∷ []) [] ∷ []; links = [] },
   addition_of row,

@@ -3,7 +3,7 @@ use Rattle.std.proofs.Common.{◌≡◌, ℕ, pos, ◌+ℤ◌, List, map, Result
 use Rattle.std.specs.Prelude.{OnOk}
 use Rattle.std.proofs.lemmas.Result.{on_ok_weaker}
 use Rattle.mm_value.specs.declared.values.Value.{Value}
-use Rattle.mm_bag.specs.Counts.{Counts, Entries, count_in}
+use Rattle.mm_multiset.specs.Counts.{Counts, Entries, count_in}
 use Rattle.mm_standing.specs.Bags.{count_with, done_of, row_change, sum_over}
 use Rattle.mm_standing.specs.Queries.{AreCounts, RowsByPlace, StandingQuery}
 use Rattle.mm_standing.specs.declared.change.ListChange.{ListChange}

@@ -2,11 +2,12 @@
 use Rattle.std.proofs.Common.{◌≡◌, ℕ, zero, suc, pos, ◌+ℤ◌, ◌≤ℤ◌, ◌≤◌, ◌<◌, ◌⊎◌, inl, inr, ⊎_elim, List, [], ◌∷◌, ◌++◌, length, map, get_or, refl, sym, ap, ◌∙◌, subst, arith}
 use Rattle.std.specs.List.{All, remove}
 use Rattle.std.proofs.lemmas.Int.{ints}
-use Rattle.mm_bag.specs.Counts.{Counts, Entries, count_in, has_entry, total_of}
+use Rattle.mm_multiset.specs.Counts.{Counts, Entries, count_in, has_entry, total_of}
 use Rattle.mm_standing.specs.Bags.{ArePositive, HasEntry, IsLean, IsSound, IsWithin, done_of, entries_at, opposite, room_at}
 use Rattle.mm_standing.specs.declared.change.ListChange.{ListChange}
 use Rattle.mm_standing.specs.declared.change.Prepared.{Prepared}
 use Rattle.mm_standing.proofs.Stages.{nothing_left, nothing_to_add}
+use Rattle.mm_schema.specs.Rows.{most_rows}
 
 none : {X : Type 0} (P : X → Type 0) → All P []
 none P k d h = absurd (omega (arith, h))
@@ -42,7 +43,7 @@ sound_less bags place sound =
       counts = λ list row. positive (count_in row (entries_at left list));
       totals = λ list.
           let r = removed_at (λ (b : Counts). b.entries) bags place list [] in
-          subst (λ (es : Entries). (pos (total_of es) +ℤ pos 0) ≤ℤ pos 1048576) (sym r.1) (old.totals r.0);
+          subst (λ (es : Entries). (pos (total_of es) +ℤ pos 0) ≤ℤ pos most_rows) (sym r.1) (old.totals r.0);
     } in
     record {
       within = nothing_to_add left now;
@@ -67,11 +68,11 @@ pushed_at f [] x (suc k) e = inl refl
 pushed_at f (y ∷ ys) x zero e = inl refl
 pushed_at f (y ∷ ys) x (suc k) e = pushed_at f ys x k e
 
-few : (n : ℕ) → n ≤ 1048576 → (pos n +ℤ pos 0) ≤ℤ pos 1048576
+few : (n : ℕ) → n ≤ most_rows → (pos n +ℤ pos 0) ≤ℤ pos most_rows
 few n h = omega (arith, ints)
 
 -- A bag of at most 1,048,576 rows can come where nothing is ready and the log is empty.
-pub sound_more : (bags : List Counts) (bag : Counts) → total_of bag.entries ≤ 1048576 → IsSound bags [] [] → IsSound (bags ++ bag ∷ []) [] []
+pub sound_more : (bags : List Counts) (bag : Counts) → total_of bag.entries ≤ most_rows → IsSound bags [] [] → IsSound (bags ++ bag ∷ []) [] []
 sound_more bags bag fits sound =
     let old : IsWithin bags [] = nothing_left bags [] sound.undo in
     let all : List Counts = bags ++ bag ∷ [] in
@@ -79,8 +80,8 @@ sound_more bags bag fits sound =
       counts = λ list row. positive (count_in row (entries_at all list));
       totals = λ list.
           ⊎_elim
-          (λ same. subst (λ (es : Entries). (pos (total_of es) +ℤ pos 0) ≤ℤ pos 1048576) (sym same) (old.totals list))
-          (λ here. subst (λ (es : Entries). (pos (total_of es) +ℤ pos 0) ≤ℤ pos 1048576) (sym here) (few (total_of bag.entries) fits))
+          (λ same. subst (λ (es : Entries). (pos (total_of es) +ℤ pos 0) ≤ℤ pos most_rows) (sym same) (old.totals list))
+          (λ here. subst (λ (es : Entries). (pos (total_of es) +ℤ pos 0) ≤ℤ pos most_rows) (sym here) (few (total_of bag.entries) fits))
           (pushed_at (λ (b : Counts). b.entries) bags bag list []);
     } in
     record {

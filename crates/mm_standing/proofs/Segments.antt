@@ -9,14 +9,15 @@ use Rattle.std.proofs.lemmas.List.{drop-map}
 use Rattle.std.proofs.lemmas.List.Elements.{All-append, All-drop, All-head, All-map, All-nil, All-tail, All-weaker}
 use Rattle.mm_value.specs.Equality.{same_row}
 use Rattle.mm_value.specs.declared.values.Value.{Value}
-use Rattle.mm_bag.specs.Counts.{Counts, count_in, count_of, signed_count, total_of}
-use Rattle.mm_bag.specs.declared.signed.Signed.{Signed}
+use Rattle.mm_multiset.specs.Counts.{Counts, count_in, count_of, signed_count, total_of}
+use Rattle.mm_multiset.specs.declared.signed.Signed.{Signed}
 use Rattle.mm_standing.specs.Bags.{Brings, CanAdd, IsSmall, IsWithin, count_with, entries_at, list_change, row_change, sum_over, total_with}
 use Rattle.mm_standing.specs.declared.change.ListChange.{ListChange}
 use Rattle.mm_standing.proofs.Adding.{entries_here, not_same}
 use Rattle.mm_standing.proofs.Net.{sum_of}
 use Rattle.mm_standing.proofs.Stages.{nothing_left}
 use Rattle.mm_standing.proofs.Others.{Rows}
+use Rattle.mm_schema.specs.Rows.{most_rows}
 
 -- The changes as those of a list.
 abbrev pub changes_in : ℕ → List Signed → List ListChange
@@ -165,7 +166,7 @@ module _ (bags : List Counts) (n : ℕ) (bag : Counts) (there : n < length bags)
         join a s r t p q = omega (arith, ints)
 
     within_joined : IsWithin bags rest → ((row : List Value) → pos 0 ≤ℤ (pos (count_in row bag.entries) +ℤ signed_count row changes))
-        → (pos (total_of bag.entries) +ℤ sum_of changes) ≤ℤ pos 1048576 → IsWithin bags (rest ++ changes_in n changes)
+        → (pos (total_of bag.entries) +ℤ sum_of changes) ≤ℤ pos most_rows → IsWithin bags (rest ++ changes_in n changes)
     within_joined w counts total = record {
       counts = λ list row. count_at list row (n == list) refl;
       totals = λ list. total_at list (n == list) refl;
@@ -175,9 +176,9 @@ module _ (bags : List Counts) (n : ℕ) (bag : Counts) (there : n < length bags)
         count_at list row true e = subst (λ z. pos 0 ≤ℤ z) (sym (count_here list row e)) (counts row)
         count_at list row false e = subst (λ z. pos 0 ≤ℤ z) (sym (count_elsewhere list row e)) (w.counts list row)
 
-        total_at : (list : ℕ) (b : Bool) → (n == list) ≡ b → total_with bags (rest ++ changes_in n changes) list ≤ℤ pos 1048576
-        total_at list true e = subst (λ z. z ≤ℤ pos 1048576) (sym (total_here list e)) total
-        total_at list false e = subst (λ z. z ≤ℤ pos 1048576) (sym (total_elsewhere list e)) (w.totals list)
+        total_at : (list : ℕ) (b : Bool) → (n == list) ≡ b → total_with bags (rest ++ changes_in n changes) list ≤ℤ pos most_rows
+        total_at list true e = subst (λ z. z ≤ℤ pos most_rows) (sym (total_here list e)) total
+        total_at list false e = subst (λ z. z ≤ℤ pos most_rows) (sym (total_elsewhere list e)) (w.totals list)
 
 -- ---- so many lists
 

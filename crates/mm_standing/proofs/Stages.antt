@@ -5,9 +5,10 @@ use Rattle.std.proofs.lemmas.Int.{ints}
 use Rattle.std.proofs.Math.Seq.{drop-length, drop-nil}
 use Rattle.mm_value.specs.Equality.{same_row}
 use Rattle.mm_value.specs.declared.values.Value.{Value}
-use Rattle.mm_bag.specs.Counts.{Counts, count_in, total_of}
+use Rattle.mm_multiset.specs.Counts.{Counts, count_in, total_of}
 use Rattle.mm_standing.specs.Bags.{AddedTo, CanAdd, IsWithin, count_with, entries_at, list_change, opposite, row_change, sum_over, total_with}
 use Rattle.mm_standing.specs.declared.change.ListChange.{ListChange}
+use Rattle.mm_schema.specs.Rows.{most_rows}
 
 -- ---- lists
 
@@ -76,7 +77,7 @@ module _ (c : ListChange) (old new : List Counts) (adds : AddedTo c old new) whe
   within_moved : (rest : List ListChange) → IsWithin old (rest ++ c ∷ []) → IsWithin new rest
   within_moved rest w = record {
     counts = λ list row. subst (λ z. pos 0 ≤ℤ z) (sym (count_moved rest list row)) (w.counts list row);
-    totals = λ list. subst (λ z. z ≤ℤ pos 1048576) (sym (total_moved rest list)) (w.totals list);
+    totals = λ list. subst (λ z. z ≤ℤ pos most_rows) (sym (total_moved rest list)) (w.totals list);
   }
 
   pub can_still : (cs : List ListChange) → CanAdd old (cs ++ c ∷ []) → CanAdd new cs
@@ -100,7 +101,7 @@ module _ (c : ListChange) (old new : List Counts) (adds : AddedTo c old new) whe
   within_back : (rest : List ListChange) → IsWithin old rest → IsWithin new (rest ++ opposite c ∷ [])
   within_back rest w = record {
     counts = λ list row. subst (λ z. pos 0 ≤ℤ z) (sym (count_back rest list row)) (w.counts list row);
-    totals = λ list. subst (λ z. z ≤ℤ pos 1048576) (sym (total_back rest list)) (w.totals list);
+    totals = λ list. subst (λ z. z ≤ℤ pos most_rows) (sym (total_back rest list)) (w.totals list);
   }
 
   pub can_undo : (log : List ListChange) → IsWithin new [] → CanAdd old log → CanAdd new (log ++ opposite c ∷ [])

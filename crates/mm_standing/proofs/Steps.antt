@@ -6,12 +6,13 @@ use Rattle.std.proofs.lemmas.Int.{ints}
 use Rattle.std.proofs.lemmas.List.{map-append, drop-append-le, length_push}
 use Rattle.std.proofs.lemmas.List.Elements.{All-pop, All-push, All-weaker}
 use Rattle.std.proofs.lemmas.List.Sums.{sum_by_push}
-use Rattle.mm_bag.specs.Counts.{Counts, count_in, total_of}
+use Rattle.mm_multiset.specs.Counts.{Counts, count_in, total_of}
 use Rattle.mm_standing.specs.Bags.{AddedTo, CanAdd, HasEntry, IsSound, IsWithin, Made, count_with, done_of, entries_at, number_for, opposite, room_at}
 use Rattle.mm_standing.specs.declared.change.ListChange.{ListChange}
 use Rattle.mm_standing.specs.declared.change.Prepared.{Prepared}
 use Rattle.mm_standing.proofs.Adding.{eq_itself}
 use Rattle.mm_standing.proofs.Stages.{can_still, can_undo, count_back, count_moved, last_one, nothing_left, nothing_to_add}
+use Rattle.mm_schema.specs.Rows.{most_rows}
 
 pub All_left : {X : Type 0} (P : X → Type 0) (xs : List X) (x : X) → All P (xs ++ x ∷ []) → All P xs × P x
 All_left P xs x all = All-pop P (xs ++ x ∷ []) xs (Some x) refl all
@@ -131,7 +132,7 @@ pub sound_emptied : (old new : List Counts) → IsWithin old [] → ((list : ℕ
 sound_emptied old new w same =
     let now : IsWithin new [] = record {
       counts = λ list row. positive (count_in row (entries_at new list));
-      totals = λ list. subst (λ n. (pos n +ℤ pos 0) ≤ℤ pos 1048576) (sym (same list)) (w.totals list);
+      totals = λ list. subst (λ n. (pos n +ℤ pos 0) ≤ℤ pos most_rows) (sym (same list)) (w.totals list);
     } in
     record {
       within = nothing_to_add new now;

@@ -13,11 +13,12 @@ use Rattle.mm_value.specs.Equality.{same_row}
 use Rattle.mm_value.specs.EqualityLaws.{same_row_equiv}
 use Rattle.mm_value.specs.declared.values.Value.{Value}
 use Rattle.mm_value.proofs.SameRows.{rows_exact}
-use Rattle.mm_bag.specs.Counts.{Counts, Entries, count_in, has_entry}
+use Rattle.mm_multiset.specs.Counts.{Counts, Entries, count_in, has_entry}
 use Rattle.mm_standing.specs.Bags.{AddedTo, HasEntry, IsLean, IsSound, IsTold, IsWithin, Purges, Tells, count_with, entries_at, is_named, list_change, names, opposite, room_at, row_change, sum_over, undos}
 use Rattle.mm_standing.specs.declared.change.ListChange.{ListChange}
 use Rattle.mm_standing.specs.declared.change.Logged.{Logged}
 use Rattle.mm_standing.proofs.Stages.{count_back, count_moved}
+use Rattle.mm_schema.specs.Rows.{most_rows}
 
 -- ---- rows that changes name
 
@@ -294,7 +295,7 @@ module _ (rest : List Logged) (made : Logged) (bags added new : List Counts) (to
       still : (cs : List ListChange) → IsWithin added cs → IsWithin new cs
       still cs w = record {
         counts = λ list row. subst (λ n. pos 0 ≤ℤ (pos n +ℤ sum_over (row_change list row) cs)) (sym (purges.counts list row)) (w.counts list row);
-        totals = λ list. subst (λ n. (pos n +ℤ sum_over (list_change list) cs) ≤ℤ pos 1048576) (sym (purges.totals list)) (w.totals list);
+        totals = λ list. subst (λ n. (pos n +ℤ sum_over (list_change list) cs) ≤ℤ pos most_rows) (sym (purges.totals list)) (w.totals list);
       }
 
       by : (b : Bool) → made.is_new ≡ b → All (HasEntry new) (undos rest)

@@ -23,10 +23,11 @@ use Rattle.mm_query.specs.Queries.{bag_of, combinations, fits, one_of_each, proj
 use Rattle.mm_query.specs.declared.bound_query.BoundQuery.{BoundQuery}
 use Rattle.mm_laws.proofs.QueryLaws.{one_counted, shown_permutation}
 use Rattle.mm_laws.proofs.SortedRows.{shown_of_permutation}
-use Rattle.mm_bag.specs.Counts.{Entries, IsOnce, count_in, count_of, total_of}
+use Rattle.mm_multiset.specs.Counts.{Entries, IsOnce, count_in, count_of, total_of}
 use Rattle.mm_standing.specs.Queries.{IsBagOf, is_too_large, list_conditions, shown_of}
 use Rattle.mm_standing.specs.Showing.{rows_shown, times_shown}
 use Rattle.mm_standing.proofs.Counting.{counted_at, counted_once, find_counted, permutation_from_counts}
+use Rattle.mm_schema.specs.Rows.{most_rows}
 
 itself : (row : List Value) → same_row row row ≡ true
 itself row = same_row_equiv.refl row
@@ -116,12 +117,12 @@ total_is_length entries rows once bag =
     sym (total_shown entries) ∙ sym (length_permutation (rows_shown false entries) rows (permutation_shown entries rows once bag false))
 
 -- Where nothing refuses a list by the number of its rows, it has at most 1,048,576.
-pub few_rows : (rows : List (List Value)) → first_refusal (list_conditions rows) ≡ None → length rows ≤ 1048576
+pub few_rows : (rows : List (List Value)) → first_refusal (list_conditions rows) ≡ None → length rows ≤ most_rows
 few_rows rows none = by (is_too_large rows) refl none
   where
-    by : (b : Bool) → is_too_large rows ≡ b → cond b (Some StandingListTooLarge) None ≡ None → length rows ≤ 1048576
+    by : (b : Bool) → is_too_large rows ≡ b → cond b (Some StandingListTooLarge) None ≡ None → length rows ≤ most_rows
     by true e h = absurd (true≢false (ap is_some h))
-    by false e h = ltb-false 1048576 (length rows) e
+    by false e h = ltb-false most_rows (length rows) e
 
 -- ---- how many values a row has
 

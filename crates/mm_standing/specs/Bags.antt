@@ -3,11 +3,12 @@ use Rattle.std.specs.Prelude.{◌≡◌, ◌==◌, ℕ, ℤ, pos, ◌+◌, ◌�
 use Rattle.std.specs.List.{list_any}
 use Rattle.mm_value.specs.Equality.{same_row}
 use Rattle.mm_value.specs.declared.values.Value.{Value}
-use Rattle.mm_bag.specs.Counts.{Counts, Entries, count_in, count_of, has_entry, signed_count, total_of}
-use Rattle.mm_bag.specs.declared.signed.Signed.{Signed}
+use Rattle.mm_multiset.specs.Counts.{Counts, Entries, count_in, count_of, has_entry, signed_count, total_of}
+use Rattle.mm_multiset.specs.declared.signed.Signed.{Signed}
 use Rattle.mm_standing.specs.declared.change.ListChange.{ListChange}
 use Rattle.mm_standing.specs.declared.change.Logged.{Logged}
 use Rattle.mm_standing.specs.declared.change.Prepared.{Prepared}
+use Rattle.mm_schema.specs.Rows.{most_rows}
 
 -- The entries of the bag of a list; none where there is no such list.
 abbrev pub entries_at : List Counts → ℕ → Entries
@@ -41,7 +42,7 @@ total_with bags changes list = pos (total_of (entries_at bags list)) +ℤ sum_ov
 -- With changes added no count is below 0, and no list has more than 1,048,576 rows.
 pub record IsWithin (bags : List Counts) (changes : List ListChange) : Type 0 where
   pub counts : (list : ℕ) (row : List Value) → pos 0 ≤ℤ count_with bags changes list row
-  pub totals : (list : ℕ) → total_with bags changes list ≤ℤ pos 1048576
+  pub totals : (list : ℕ) → total_with bags changes list ≤ℤ pos most_rows
 
 -- Changes can be added one after another, from the last to the first.
 abbrev pub CanAdd : List Counts → List ListChange → Type 0
@@ -52,7 +53,7 @@ CanAdd bags changes = (k : ℕ) → IsWithin bags (drop k changes)
 pub record Brings (changes : List Signed) (entries : Entries) (rows : List (List Value)) : Type 0 where
   pub counts : (row : List Value) → pos (count_in row entries) +ℤ signed_count row changes ≡ pos (count_of row rows)
   pub stages : (k : ℕ) (row : List Value) → pos 0 ≤ℤ (pos (count_in row entries) +ℤ signed_count row (drop k changes))
-  pub totals : (k : ℕ) → (pos (total_of entries) +ℤ sum_over (λ (change : Signed). change.count) (drop k changes)) ≤ℤ pos 1048576
+  pub totals : (k : ℕ) → (pos (total_of entries) +ℤ sum_over (λ (change : Signed). change.count) (drop k changes)) ≤ℤ pos most_rows
   pub small : All (λ (change : Signed). pos 0 ≤ℤ (change.count +ℤ pos (2 ^ 64))) changes
 
 -- The changes that bring rows stand before those that take rows away.

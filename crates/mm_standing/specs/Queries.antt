@@ -7,7 +7,8 @@ use Rattle.mm_value.specs.declared.refusal.Refusal.TheVariants.{StandingListTooL
 use Rattle.mm_value.specs.declared.values.Value.{Value}
 use Rattle.mm_query.specs.Queries.{bag_of, one_of_each, shown}
 use Rattle.mm_query.specs.declared.bound_query.BoundQuery.{BoundQuery}
-use Rattle.mm_bag.specs.Counts.{Entries, count_in, count_of}
+use Rattle.mm_multiset.specs.Counts.{Entries, count_in, count_of}
+use Rattle.mm_schema.specs.Rows.{most_rows}
 
 -- A query, and the place in the store of each table of its FROM list.
 pub record StandingQuery : Type 0 where
@@ -45,7 +46,7 @@ pub record IsServed (store : Tables) (standing : StandingQuery) : Type 0 where
 
 -- A bag has more than 1,048,576 rows.
 abbrev pub is_too_large : List (List Value) → Bool
-is_too_large rows = nat_lt 1048576 (length rows)
+is_too_large rows = nat_lt most_rows (length rows)
 
 -- What refuses a list by the number of its rows.
 abbrev pub list_conditions : List (List Value) → List Condition

@@ -11,7 +11,7 @@ use Rattle.mm_query.specs.declared.bound_query.BoundQuery.{BoundQuery}
 use Rattle.mm_query.specs.declared.bound_query.FieldPlace.{FieldPlace}
 use Rattle.mm_query.specs.declared.query.FromItem.{FromItem}
 use Rattle.mm_delta.specs.Edited.{after_at, before_at, come_at, gone_at}
-use Rattle.mm_delta.specs.declared.edited.TableEdits.{TableEdits}
+use Rattle.mm_delta.specs.declared.edited.TableChange.{TableChange}
 use Rattle.mm_standing.specs.Queries.{StandingQuery}
 
 -- The row of a key and a number.
@@ -63,23 +63,23 @@ below_some_below_5 = record {
 }
 
 -- A change brings one row to the table at a place, and takes none away from it.
-pub record BringsRow (store : Tables) (changes : List TableEdits) (table : ℕ) (row : List Value) : Type 0 where
+pub record BringsRow (store : Tables) (changes : List TableChange) (table : ℕ) (row : List Value) : Type 0 where
   pub gone : gone_at store changes table ≡ []
   pub come : come_at changes table ≡ row ∷ []
 
 -- It brings none to the table, and takes none away from it.
-pub record LeavesTable (store : Tables) (changes : List TableEdits) (table : ℕ) : Type 0 where
+pub record LeavesTable (store : Tables) (changes : List TableChange) (table : ℕ) : Type 0 where
   pub gone : gone_at store changes table ≡ []
   pub come : come_at changes table ≡ []
 
 -- To the rows (1, 5), (2, 5) and (4, 9) of the table at place 0 the row (3, 5) is added.
-pub record AddsThirdFive (store : Tables) (changes : List TableEdits) : Type 0 where
+pub record AddsThirdFive (store : Tables) (changes : List TableChange) : Type 0 where
   pub before : before_at store 0 ≡ row_of 1 5 ∷ row_of 2 5 ∷ row_of 4 9 ∷ []
   pub after : after_at store changes 0 ≡ row_of 1 5 ∷ row_of 2 5 ∷ row_of 3 5 ∷ row_of 4 9 ∷ []
   pub added : BringsRow store changes 0 (row_of 3 5)
 
 -- A row is added to the table at place 0, while the one at place 1 has the row (1, 4) and is not edited.
-pub record AddsBesideFour (store : Tables) (changes : List TableEdits) (row : List Value) : Type 0 where
+pub record AddsBesideFour (store : Tables) (changes : List TableChange) (row : List Value) : Type 0 where
   pub before : before_at store 1 ≡ row_of 1 4 ∷ []
   pub added : BringsRow store changes 0 row
   pub left : LeavesTable store changes 1

@@ -6,11 +6,11 @@ use Rattle.mm_value.specs.declared.values.Value.{Value}
 use Rattle.mm_query.specs.declared.bound_query.BoundQuery.{BoundQuery}
 use Rattle.mm_delta.specs.Skipping.{IsOfCyclicRows, IsTypeTested}
 use Rattle.mm_delta.specs.Steps.{term_reads}
-use Rattle.mm_delta.specs.declared.edited.TableEdits.{TableEdits}
+use Rattle.mm_delta.specs.declared.edited.TableChange.{TableChange}
 use Rattle.mm_standing.specs.Queries.{StandingQuery}
 
 -- No standing query adds a number to a text, neither of the rows before a change nor of those after it.
-abbrev pub AreTypeTested : Tables → List TableEdits → List StandingQuery → Type 0
+abbrev pub AreTypeTested : Tables → List TableChange → List StandingQuery → Type 0
 AreTypeTested store changes queries = All (λ (s : StandingQuery). IsTypeTested s.query store changes s.tables) queries
 
 -- For each query a test of the rows at the places of its FROM.
@@ -24,6 +24,6 @@ AreOfCyclicRows skipped = (query : BoundQuery) → IsOfCyclicRows query (skipped
 -- How many rows may be read for a standing query when tables are edited, where the edited rows that pass its test are left out: for
 -- each edited row at each place of its FROM that row, and those with which it may be combined if it is not left out. None where the
 -- query reads no table that is edited.
-abbrev pub query_reads : Tables → List TableEdits → RowTests → StandingQuery → ℕ
+abbrev pub query_reads : Tables → List TableChange → RowTests → StandingQuery → ℕ
 query_reads store changes skipped standing =
     sum_by (term_reads standing.query store changes standing.tables (skipped standing.query)) (range_with_len 0 (length standing.tables))

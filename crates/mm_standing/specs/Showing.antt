@@ -2,7 +2,7 @@
 use Rattle.std.specs.Prelude.{ℕ, Bool, if◌then◌else◌, List, min, replicate}
 use Rattle.std.specs.List.{flat_map}
 use Rattle.mm_value.specs.declared.values.Value.{Value}
-use Rattle.mm_bag.specs.Counts.{Entries}
+use Rattle.mm_multiset.specs.Counts.{Entries}
 
 -- How often a row of this count is shown: with DISTINCT at most once.
 abbrev pub times_shown : Bool → ℕ → ℕ

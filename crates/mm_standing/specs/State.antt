@@ -2,7 +2,7 @@
 use Rattle.std.specs.Prelude.{ℕ, ℤ, pos, All, List, drop}
 use Rattle.mm_store.specs.Tables.{Tables}
 use Rattle.mm_value.specs.declared.values.Value.{Value}
-use Rattle.mm_bag.specs.Counts.{Counts, count_in}
+use Rattle.mm_multiset.specs.Counts.{Counts, count_in}
 use Rattle.mm_standing.specs.Bags.{count_with, done_of, entries_at}
 use Rattle.mm_standing.specs.Queries.{AreCounts, IsServed, RowsByPlace, StandingQuery}
 use Rattle.mm_standing.specs.declared.change.ListChange.{ListChange}

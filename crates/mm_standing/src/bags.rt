@@ -1,7 +1,7 @@
 //! Bags of rows, one for each standing query, and the changes that are made of them and undone.
 ghost use Rattle.std.specs.Prelude.{◌≡◌, ◌+◌, ◌≤◌, ◌<◌, ◌⊎◌, pos, not, true, All, ℕ, [], ◌∷◌, List, drop, length, take};
 ghost use Rattle.std.specs.Vec.{vec_capacity, vec_len};
-ghost use Rattle.mm_bag.specs.Counts.{Counts as BagCounts, count_in, has_entry};
+ghost use Rattle.mm_multiset.specs.Counts.{Counts as BagCounts, count_in, has_entry};
 ghost use Rattle.mm_standing.specs.Bags.{AddedTo, HasEntry, IsLean, IsSound, IsTold, IsWithin, Made, Purges, count_with, entries_at, room_at, undos};
 ghost use Rattle.mm_value.specs.declared.values.Value.{Value as Val};
 ghost use Rattle.mm_standing.specs.declared.change.ListChange.{ListChange as AnyChange};

@@ -1,6 +1,6 @@
 //! What the lists show.
 ghost use Rattle.std.specs.Prelude.{◌≡◌, ◌++◌, List, length, replicate, IfErr, IfOk, OnOk};
-ghost use Rattle.mm_bag.specs.Counts.{IsOnce};
+ghost use Rattle.mm_multiset.specs.Counts.{IsOnce};
 ghost use Rattle.mm_query.specs.Queries.{bag_of};
 ghost use Rattle.mm_templist.specs.Runs.{referred};
 ghost use Rattle.mm_value.specs.declared.refusal.Refusal.TheVariants.{Memory};

@@ -1,11 +1,11 @@
 //! Changes that are made ready, with all memory that they ask for.
 ghost use Rattle.std.specs.Prelude.{◌≡◌, ◌++◌, ◌+◌, ◌≤◌, ◌<◌, ◌^◌, ℕ, [], All, length, map, neg_ℤ, pos, slice_index, ◌+ℤ◌, ◌≤ℤ◌, ◌<ℤ◌, IfErr, IfOk, IsPermutation, OnOk};
 ghost use Rattle.std.specs.List.{sum_by};
-ghost use Rattle.mm_bag.specs.Counts.{Counts as BagCounts, count_in, total_of};
+ghost use Rattle.mm_multiset.specs.Counts.{Counts as BagCounts, count_in, total_of};
 ghost use Rattle.mm_delta.specs.Edited.{after_at, before_at};
 ghost use Rattle.mm_delta.specs.Skipping.{IsTypeTested};
 ghost use Rattle.mm_delta.specs.Steps.{EachFit};
-ghost use Rattle.mm_bag.specs.declared.signed.Signed.{Signed as Change};
+ghost use Rattle.mm_multiset.specs.declared.signed.Signed.{Signed as Change};
 ghost use Rattle.mm_schema.specs.Refused.{AnswersDue, first_refusal};
 ghost use Rattle.mm_standing.specs.Bags.{Brings, CanAdd, HasGainsFirst, IsSmall, count_with, done_of, entries_at, number_for, opposite, room_at, sum_over};
 ghost use Rattle.mm_standing.specs.Queries.{AreCounts, IsBagOf, IsServed, bag_over, change_conditions, list_conditions};
@@ -14,10 +14,11 @@ ghost use Rattle.mm_standing.specs.State.{AreServed};
 ghost use Rattle.mm_standing.specs.declared.change.ListChange.{ListChange as AnyChange};
 ghost use Rattle.mm_standing.specs.declared.change.Prepared.{Prepared as AnyPrepared};
 ghost use Rattle.mm_value.specs.declared.refusal.Refusal.TheVariants.{Memory};
+ghost use Rattle.mm_schema.specs.Rows.{most_rows};
 
 use crate::change::{ListChange, Prepared};
-use crate::watched::Watched;
-use mm_delta::{Counted, Signed, TableEdits, delta};
+use crate::watched::PlacedQuery;
+use mm_delta::{Counted, Signed, TableChange, delta};
 use mm_query::MAX_COMBINATIONS;
 use mm_store::View;
 use mm_value::Refusal;
@@ -88,9 +89,9 @@ fn opposite(alloc: Global, change: &ListChange) -> Result<ListChange, Refusal>
 pub(crate) fn changes_of_lists<'a>(
     alloc: Global,
     view: &mut View<'a>,
-    queries: &[Watched],
+    queries: &[PlacedQuery],
     bags: &[Counted],
-    changes: &[TableEdits<'_>],
+    changes: &[TableChange<'_>],
 ) -> Result<Vec<ListChange>, Refusal>
     requires size { length queries.now ≡ length bags.now }
     requires served { AreServed view.old.store queries.now }
@@ -120,15 +121,15 @@ pub(crate) fn changes_of_lists<'a>(
 fn changes_of_list<'a>(
     alloc: Global,
     view: &mut View<'a>,
-    watched: &Watched,
+    watched: &PlacedQuery,
     bag: &Counted,
-    changes: &[TableEdits<'_>],
+    changes: &[TableChange<'_>],
 ) -> Result<Vec<Signed>, Refusal>
     requires served { IsServed view.old.store watched.now }
     requires edits { EachFit view.old.store changes.now }
     requires typed { IsTypeTested watched.now.query view.old.store changes.now watched.now.tables }
     requires fits { IsBagOf bag.now.entries (bag_over (before_at view.old.store) watched.now) }
-    requires few { total_of bag.now.entries ≤ 1048576 }
+    requires few { total_of bag.now.entries ≤ most_rows }
     ensures due { AnswersDue (first_refusal (list_conditions (bag_over (after_at view.old.store changes.now) watched.now))) result }
     ensures brings { IfOk result (λ changed. Brings changed.items bag.now.entries (bag_over (after_at view.old.store changes.now) watched.now)) }
     ensures reads { (skipped : RowTests) → AreOfCyclicRows skipped

@@ -5,14 +5,14 @@ ghost use Rattle.mm_store.specs.Tables.{Tables};
 ghost use Rattle.mm_value.specs.declared.values.Value.{Value};
 ghost use Rattle.mm_relevance.specs.Relevance.{IsCyclic};
 ghost use Rattle.mm_delta.specs.Edited.{has_index};
-ghost use Rattle.mm_delta.specs.declared.edited.TableEdits.{TableEdits};
+ghost use Rattle.mm_delta.specs.declared.edited.TableChange.{TableChange};
 ghost use Rattle.mm_standing.specs.Queries.{StandingQuery};
 ghost use Rattle.mm_standing.specs.ReadExamples.{AddsBesideFour, AddsThirdFive, LeavesTable, below_some_below_5, equal_pairs, equal_triples, row_of};
 ghost use Rattle.mm_standing.specs.Reads.{AreOfCyclicRows, RowTests, query_reads};
 
 /// A standing query reads nothing when none of its tables is edited.
 pub fn unedited_tables_are_not_read()
-    ensures { (store : Tables) (changes : List TableEdits) (skipped : RowTests) (standing : StandingQuery)
+    ensures { (store : Tables) (changes : List TableChange) (skipped : RowTests) (standing : StandingQuery)
         → All (LeavesTable store changes) standing.tables → query_reads store changes skipped standing ≡ 0 }
 {}
 
@@ -20,11 +20,11 @@ pub fn unedited_tables_are_not_read()
 /// (1, 5), (2, 5) and (4, 9) of a table with an index on `k`: at each place of FROM the new row and the two with its number. Without
 /// the index it reads 8: at each place the new row and all three. There are such tables, with the index and without it.
 pub fn pairs_of_equal_numbers_read_6_or_8()
-    ensures along_index { (store : Tables) (changes : List TableEdits) (skipped : RowTests) → AreOfCyclicRows skipped → AddsThirdFive store changes
+    ensures along_index { (store : Tables) (changes : List TableChange) (skipped : RowTests) → AreOfCyclicRows skipped → AddsThirdFive store changes
         → has_index store 0 1 ≡ true → query_reads store changes skipped equal_pairs ≡ 6 }
-    ensures without_index { (store : Tables) (changes : List TableEdits) (skipped : RowTests) → AreOfCyclicRows skipped → AddsThirdFive store changes
+    ensures without_index { (store : Tables) (changes : List TableChange) (skipped : RowTests) → AreOfCyclicRows skipped → AddsThirdFive store changes
         → has_index store 0 1 ≡ false → query_reads store changes skipped equal_pairs ≡ 8 }
-    ensures there_are { (indexed : Bool) → (store : Tables) × (changes : List TableEdits) × AddsThirdFive store changes × (has_index store 0 1 ≡ indexed) }
+    ensures there_are { (indexed : Bool) → (store : Tables) × (changes : List TableChange) × AddsThirdFive store changes × (has_index store 0 1 ≡ indexed) }
 {}
 
 /// A worked example of three places. `SELECT a.id, b.id, c.id FROM t a, t b, t c WHERE a.k = b.k AND b.k = c.k` reads 27 rows at most for
@@ -33,7 +33,7 @@ pub fn pairs_of_equal_numbers_read_6_or_8()
 /// `c`. At the third they are the new row, all three for `a`, since no number is known that `a` must have, and for each of them and
 /// for the new row those for `b` with its number: two, two, one and two.
 pub fn triples_of_equal_numbers_read_27()
-    ensures { (store : Tables) (changes : List TableEdits) (skipped : RowTests) → AreOfCyclicRows skipped → AddsThirdFive store changes
+    ensures { (store : Tables) (changes : List TableChange) (skipped : RowTests) → AreOfCyclicRows skipped → AddsThirdFive store changes
         → has_index store 0 1 ≡ true → query_reads store changes skipped equal_triples ≡ 27 }
 {}
 
@@ -42,9 +42,9 @@ pub fn triples_of_equal_numbers_read_27()
 /// is added, it reads 2 rows: the new one and that of `u`. There are such tables.
 pub fn irrelevant_rows_read_1_and_others_2()
     ensures cyclic { IsCyclic below_some_below_5.query 0 (row_of 1 4) }
-    ensures irrelevant { (store : Tables) (changes : List TableEdits) (skipped : RowTests) → AddsBesideFour store changes (row_of 1 4)
+    ensures irrelevant { (store : Tables) (changes : List TableChange) (skipped : RowTests) → AddsBesideFour store changes (row_of 1 4)
         → skipped below_some_below_5.query 0 (row_of 1 4) ≡ true → query_reads store changes skipped below_some_below_5 ≡ 1 }
-    ensures relevant { (store : Tables) (changes : List TableEdits) (skipped : RowTests) → AreOfCyclicRows skipped
+    ensures relevant { (store : Tables) (changes : List TableChange) (skipped : RowTests) → AreOfCyclicRows skipped
         → AddsBesideFour store changes (row_of 2 3) → query_reads store changes skipped below_some_below_5 ≡ 2 }
-    ensures there_are { (row : List Value) → (store : Tables) × (changes : List TableEdits) × AddsBesideFour store changes row }
+    ensures there_are { (row : List Value) → (store : Tables) × (changes : List TableChange) × AddsBesideFour store changes row }
 {}

@@ -1,7 +1,7 @@
 //! The standing queries and their lists.
 ghost use Rattle.std.specs.Prelude.{◌≡◌, ℕ, ◌++◌, ◌∷◌, ◌≤◌, ◌<◌, All, List, [], drop, length, map, pos, Some, slice_get, take, IfErr, IfOk, OnErr, OnOk};
 ghost use Rattle.std.specs.List.{remove, sum_by};
-ghost use Rattle.mm_bag.specs.Counts.{Counts as BagCounts, count_in};
+ghost use Rattle.mm_multiset.specs.Counts.{Counts as BagCounts, count_in};
 ghost use Rattle.mm_delta.specs.Edited.{after_at, before_at};
 ghost use Rattle.mm_delta.specs.Steps.{EachFit};
 ghost use Rattle.mm_query.specs.Queries.{bag_of};
@@ -21,9 +21,9 @@ use crate::bags::{make_all, purge, undo_behind};
 use crate::change::{ListChange, Logged, Prepared};
 use crate::listing::{count_shown, list_shown};
 use crate::prepare::{changes_of_lists, numbers, reserve_each, with_opposites};
-use crate::watched::Watched;
+use crate::watched::PlacedQuery;
 use crate::watching::bag_now;
-use mm_delta::{Counted, TableEdits};
+use mm_delta::{Counted, TableChange};
 use mm_query::BoundQuery;
 use mm_store::{Store, View};
 use mm_templist::ShownRows;
@@ -35,7 +35,7 @@ use std::marker::Model;
 /// list back as it was at a mark. A standing query goes by its place, counted from 0.
 #[derive(Drop)]
 pub struct Standing {
-    queries: Vec<Watched>,
+    queries: Vec<PlacedQuery>,
     bags: Vec<Counted>,
     prepared: Vec<Prepared>,
     log: Vec<Logged>,
@@ -183,7 +183,7 @@ impl Standing {
         self.queries.reserve(1)?;
         self.bags.reserve(1)?;
         let bag = bag_now(alloc, store, &query, tables.as_slice())?;
-        self.queries.push_reserved(Watched { query, tables });
+        self.queries.push_reserved(PlacedQuery { query, tables });
         self.bags.push_reserved(bag);
         Ok(())
     }
@@ -236,7 +236,7 @@ impl Standing {
         &mut self,
         alloc: Global,
         view: &mut View<'a>,
-        changes: &[TableEdits<'_>],
+        changes: &[TableChange<'_>],
     ) -> Result<(), Refusal>
         requires prepared { self.old.prepared ≡ [] }
         requires served { AreServed view.old.store self.old.queries }

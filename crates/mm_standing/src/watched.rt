@@ -7,12 +7,12 @@ use std::marker::Model;
 
 /// A standing query, which is bound once for all, and the place in the store of each table of its FROM list.
 #[derive(Drop)]
-pub(crate) struct Watched {
+pub(crate) struct PlacedQuery {
     pub(crate) query: BoundQuery,
     pub(crate) tables: Vec<usize>,
 }
 
-impl Model for Watched {
+impl Model for PlacedQuery {
     ghost use Rattle.mm_standing.specs.Queries.{StandingQuery};
 
     ghost Value = { StandingQuery };
@@ -20,7 +20,7 @@ impl Model for Watched {
     ghost view = { λ w. record { query = w.query; tables = w.tables.items } };
 }
 
-impl Watched {
+impl PlacedQuery {
     /// The table at a place of the store is gone, and those behind it have moved up by one.
     pub(crate) fn table_dropped(&mut self, gone: usize)
         ensures { self.new ≡ record self.old { tables = map (above gone) self.old.tables } }

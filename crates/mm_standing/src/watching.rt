@@ -1,6 +1,6 @@
 //! The bag of a query when it begins to stand.
 ghost use Rattle.std.specs.Prelude.{◌≡◌, ◌≢◌, ◌<◌, ◌≤◌, All, length, map, IfErr, IfOk};
-ghost use Rattle.mm_bag.specs.Counts.{IsOnce};
+ghost use Rattle.mm_multiset.specs.Counts.{IsOnce};
 ghost use Rattle.mm_query.specs.Queries.{bag_of};
 ghost use Rattle.mm_schema.specs.Refused.{AnswersDue, first_refusal};
 ghost use Rattle.mm_standing.specs.Bags.{ArePositive};

@@ -9,7 +9,7 @@ use Rattle.std.proofs.lemmas.List.Elements.{All-contains, All-head, All-set, All
 use Rattle.std.proofs.lemmas.List.Folds.{Any-from_list_any, list_any-append, list_any_at, list_any_none}
 use Rattle.std.proofs.lemmas.List.Sorted.{Contains-permutation, IsPermutation-sym, list_any-IsPermutation}
 use Rattle.std.proofs.lemmas.Option.{get_or_from_slice_get, slice_get_within}
-use Rattle.mm_foreign.specs.Ties.{Ties}
+use Rattle.mm_foreign_key.specs.Ties.{Ties}
 use Rattle.mm_partition.specs.Places.{Live, extent_of, slot_at}
 use Rattle.mm_relation.specs.Changes.{Changes}
 use Rattle.mm_relation.specs.Edits.{new_rows}

@@ -5,7 +5,7 @@ use Rattle.std.specs.List.{All, Contains}
 use Rattle.std.proofs.lemmas.Bool.{or_parts, false≢true}
 use Rattle.std.proofs.lemmas.List.Elements.{All-cons, All-contains, All-head, All-nil, All-tail}
 use Rattle.std.proofs.lemmas.List.Folds.{list_any_at}
-use Rattle.mm_foreign.specs.Ties.{KeepsTargets, Ties, target_at}
+use Rattle.mm_foreign_key.specs.Ties.{KeepsTargets, Ties, target_at}
 use Rattle.mm_partition.specs.Places.{Content, Free, Live, Hidden, extent_of, slot_at}
 use Rattle.mm_relation.specs.Changes.{AreHidden, Changes}
 use Rattle.mm_relation.specs.Kept.{SameButRoom, StoredRows}

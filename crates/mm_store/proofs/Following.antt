@@ -5,7 +5,7 @@ use Rattle.std.specs.List.{Contains}
 use Rattle.std.proofs.lemmas.Bool.{cases_lt, lt-ltb, le-ltb, cond-true, cond-false}
 use Rattle.std.proofs.lemmas.List.{get_or_past}
 use Rattle.std.proofs.lemmas.List.Elements.{All-head, All-tail}
-use Rattle.mm_foreign.specs.Ties.{ChangesTarget, Ties, target_at}
+use Rattle.mm_foreign_key.specs.Ties.{ChangesTarget, Ties, target_at}
 use Rattle.mm_partition.specs.Places.{Content, Free, Live, Hidden, Places, extent_of, slot_at, slot_index_of}
 use Rattle.mm_relation.specs.Refs.{HasRow, Slots, row_at, row_in}
 use Rattle.mm_relation.specs.declared.log.Entry.{Entry}

@@ -2,7 +2,7 @@
 use Rattle.std.proofs.Common.{◌≡◌, ◌≢◌, ℕ, zero, suc, ◌<◌, List, [], ◌∷◌, length, get_or, Some, ⊎_elim, refl, sym, ap, ◌∙◌, subst, arith}
 use Rattle.std.specs.Prelude.{slice_get, slice_set}
 use Rattle.std.proofs.lemmas.Option.{slice_get_read, slice_get_within}
-use Rattle.mm_foreign.specs.Ties.{Ties}
+use Rattle.mm_foreign_key.specs.Ties.{Ties}
 use Rattle.mm_partition.specs.Places.{slot_at}
 use Rattle.mm_relation.specs.Kept.{StoredRows}
 use Rattle.mm_relation.specs.declared.log.Entry.{Entry}

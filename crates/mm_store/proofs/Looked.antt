@@ -1,17 +1,17 @@
 -- Which index is the first on a column, and what is found along it.
 use Rattle.std.proofs.Common.{◌≡◌, ◌≢◌, ℕ, ◌+◌, ◌<◌, ◌≤◌, Bool, true, false, cond, ◌&&◌, List, [], ◌∷◌, ◌++◌, length, get_or, Option, Some, None, ⊎_elim, refl, sym, ap, ◌∙◌, subst, arith}
 use Rattle.std.specs.Prelude.{IfNone, IfSome, position}
-use Rattle.std.specs.List.{filter, position_or_len}
+use Rattle.std.specs.List.{All, filter, position_or_len}
 use Rattle.std.specs.List.Sorted.{IsPermutation}
 use Rattle.std.specs.Ordering.{is_eq, is_ge, is_le}
 use Rattle.std.specs.declared.cmp.Ordering.{Ordering}
 use Rattle.std.specs.declared.cmp.Ordering.TheVariants as ordering
 use Rattle.std.proofs.lemmas.Bool.{cases_lt, eq-eqb, false≢true}
-use Rattle.std.proofs.lemmas.List.Elements.{filter_agree}
-use Rattle.std.proofs.lemmas.List.Sorted.{IsPermutation-refl}
+use Rattle.std.proofs.lemmas.List.Elements.{All-append, All-filter, Contains-get_or, filter_agree}
+use Rattle.std.proofs.lemmas.List.Sorted.{All-permutation, IsPermutation-refl, IsPermutation-sym}
 use Rattle.std.proofs.lemmas.List.Sums.{fails_before_first}
 use Rattle.mm_order.specs.Probe.{entries_between, is_between}
-use Rattle.mm_partition.specs.Places.{slot_at}
+use Rattle.mm_partition.specs.Places.{IsLive, slot_at}
 use Rattle.mm_relation.proofs.Bags.{IsPermutation-filter}
 use Rattle.mm_relation.proofs.RefTests.{same_from_test, test_from_same}
 use Rattle.mm_relation.specs.Before.{same_ref}
@@ -174,6 +174,31 @@ matches_in_range column stored value found (walk, is_walk, is) =
     subst (λ (xs : List RowRef). IsPermutation xs (filter met stored.refs))
     (sym (is ∙ filter_agree (is_between place place) met (λ at. not_apart (place at)) walk))
     (IsPermutation-filter same_ref same_from_test (λ a. test_from_same a a refl) met walk stored.refs is_walk.same)
+
+-- What is found along an index is live, ..
+all_live : (stored : StoredRows) → IsKept stored.width stored.key (slot_at stored.places) stored.refs stored.indexes
+    → All (IsLive stored.places) stored.refs
+all_live stored kept = λ k d within. (kept.held (get_or stored.refs k d)).0 (Contains-get_or stored.refs k d within)
+
+-- .. of one value ..
+pub live_matches : (stored : StoredRows) → IsKept stored.width stored.key (slot_at stored.places) stored.refs stored.indexes
+    → (column : ℕ) (value : Value) (old new : List RowRef) → Appends (AreMatches column (slot_at stored.places) value stored.refs) old new
+    → All (IsLive stored.places) old → All (IsLive stored.places) new
+live_matches stored kept column value old new (found, is, are) live =
+    let met : RowRef → Bool = has_value column (slot_at stored.places) value in
+    subst (All (IsLive stored.places)) (sym is) (All-append (IsLive stored.places) old found live
+    (All-permutation (IsLive stored.places) (filter met stored.refs) found (IsPermutation-sym found (filter met stored.refs) are)
+    (All-filter met (IsLive stored.places) stored.refs (all_live stored kept))))
+
+-- .. or between two.
+pub live_range : (stored : StoredRows) → IsKept stored.width stored.key (slot_at stored.places) stored.refs stored.indexes
+    → (column : ℕ) (low high : Option Value) (old new : List RowRef) → Appends (IsRange column stored low high) old new
+    → All (IsLive stored.places) old → All (IsLive stored.places) new
+live_range stored kept column low high old new (found, is, (walk, is_walk, cut)) live =
+    let met : RowRef → Bool = is_between (end_place column (slot_at stored.places) low) (end_place column (slot_at stored.places) high) in
+    subst (All (IsLive stored.places)) (sym is) (All-append (IsLive stored.places) old found live
+    (subst (All (IsLive stored.places)) (sym cut) (All-filter met (IsLive stored.places) walk
+    (All-permutation (IsLive stored.places) stored.refs walk (IsPermutation-sym walk stored.refs is_walk.same) (all_live stored kept)))))
 
 -- The range along the key.
 pub range_of_keys : (stored : StoredRows) → IsKept stored.width stored.key (slot_at stored.places) stored.refs stored.indexes

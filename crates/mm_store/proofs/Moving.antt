@@ -6,7 +6,7 @@ use Rattle.std.specs.List.{All, filter, remove}
 use Rattle.std.proofs.lemmas.Bool.{cases_Bool, cases_order, cond-true, cond-false, eq-eqb, false≢true, lt-ltb, le-ltb}
 use Rattle.std.proofs.lemmas.List.{get_or-map, length-map}
 use Rattle.std.proofs.lemmas.List.Elements.{All-append, All-cons, All-head, All-nil, All-push, All-tail}
-use Rattle.mm_foreign.specs.Ties.{Ties, target_at as target_of}
+use Rattle.mm_foreign_key.specs.Ties.{Ties, target_at as target_of}
 use Rattle.mm_partition.specs.Places.{Content, Free, extent_of, slot_at}
 use Rattle.mm_relation.specs.Index.{EachTurns}
 use Rattle.mm_relation.specs.Kept.{StoredRows}

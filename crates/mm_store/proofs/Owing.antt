@@ -13,7 +13,7 @@ use Rattle.mm_relation.proofs.RefTests.{same_number}
 use Rattle.mm_store.specs.Tally.{IsCounted, IsTallied, noted_of}
 use Rattle.mm_store.specs.Undoing.{owed, owed_by}
 use Rattle.mm_store.specs.Worlds.{Noted}
-use Rattle.mm_store.specs.declared.undo.Command.{Command}
+use Rattle.mm_store.specs.declared.undo.UndoRecord.{UndoRecord}
 
 -- ---- what one command owes
 
@@ -42,7 +42,7 @@ filled (c ∷ cs) n zero = refl
 filled (c ∷ cs) n (suc place) = filled cs n place
 
 -- counts of the same numbers serve as well
-pub IsTallied-filled : (commands : List Command) (old new : List ℕ) (left : List Entry) → length old ≤ length new
+pub IsTallied-filled : (commands : List UndoRecord) (old new : List ℕ) (left : List Entry) → length old ≤ length new
     → ((place : ℕ) → slice_index new place ≡ slice_index old place) → IsTallied commands old left → IsTallied commands new left
 IsTallied-filled commands old new left longer same tallied = record {
   each =
@@ -51,7 +51,7 @@ IsTallied-filled commands old new left longer same tallied = record {
   idle = tallied.idle;
 }
 
-module _ (commands : List Command) (command : Command) (counts : List ℕ) where
+module _ (commands : List UndoRecord) (command : UndoRecord) (counts : List ℕ) where
   owed_more : (place : ℕ) → owed place (map noted_of (commands ++ command ∷ [])) ≡ owed place (map noted_of commands) + owed_by place (noted_of command)
   owed_more place = ap (owed place) (map-append noted_of commands (command ∷ [])) ∙ owed-push place (map noted_of commands) (noted_of command)
 
@@ -76,14 +76,14 @@ module _ (commands : List Command) (command : Command) (counts : List ℕ) where
     pub last_counted : IsCounted counts command
     last_counted = last commands tallied.each
       where
-        last : (cs : List Command) → All (IsCounted counts) (cs ++ command ∷ []) → IsCounted counts command
+        last : (cs : List UndoRecord) → All (IsCounted counts) (cs ++ command ∷ []) → IsCounted counts command
         last [] all = All-head (IsCounted counts) command [] all
         last (c ∷ cs) all = last cs (λ k d within. all (suc k) d (omega (arith, within)))
 
     older_counted : All (IsCounted counts) commands
     older_counted = older commands tallied.each
       where
-        older : (cs : List Command) → All (IsCounted counts) (cs ++ command ∷ []) → All (IsCounted counts) cs
+        older : (cs : List UndoRecord) → All (IsCounted counts) (cs ++ command ∷ []) → All (IsCounted counts) cs
         older [] all = All-nil (IsCounted counts)
         older (c ∷ cs) all =
             All-cons (IsCounted counts) c cs (All-head (IsCounted counts) c (cs ++ command ∷ []) all)

@@ -12,7 +12,7 @@ use Rattle.std.proofs.lemmas.Cmp.{tied_itself}
 use Rattle.std.proofs.lemmas.List.{get_or_default}
 use Rattle.std.proofs.lemmas.List.Folds.{Any-from_list_any, list_any_at, list_any_none}
 use Rattle.std.proofs.lemmas.Option.{slice_get_past, slice_get-get_or}
-use Rattle.mm_foreign.specs.Ties.{IsReferred, Ties, target_at}
+use Rattle.mm_foreign_key.specs.Ties.{IsReferred, Ties, target_at}
 use Rattle.mm_partition.specs.Places.{Content, Free, Live, Hidden}
 use Rattle.mm_relation.specs.Index.{KeysApart}
 use Rattle.mm_relation.specs.Kept.{IsKept}

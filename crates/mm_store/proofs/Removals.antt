@@ -13,7 +13,7 @@ use Rattle.mm_relation.specs.RowLists.{edit_pairs, rows_of}
 use Rattle.mm_relation.specs.declared.edits.Edit.{Edit}
 use Rattle.mm_relation.specs.declared.edits.Edit.TheVariants.{Add, Swap, Gone}
 use Rattle.mm_relation.proofs.RowLists.{in_key_order}
-use Rattle.mm_schema.specs.Rows.{Pair, changed, column_cmp, goes, has_twin_keys, same_in_column, unsorted}
+use Rattle.mm_schema.specs.Rows.{Pair, changed, column_cmp, goes, has_twin_keys, same_in_column, unsorted, most_rows}
 use Rattle.mm_schema.specs.Sorting.{in_order}
 use Rattle.mm_schema.proofs.InOrder.{IsPermutation-in_order}
 use Rattle.mm_schema.proofs.Twins.{Row, has_twin_keys-IsPermutation, no_twins_in_order}
@@ -99,7 +99,7 @@ module _ (stored : StoredRows) (is_table : IsTable stored) (edits : List Edit) (
   no_twins_with = no_twins_left stored.key (edit_pairs (slot_at stored.places) edits) (rows_of stored) none_comes
       (no_twins_in_order stored.key (rows_of stored) (in_key_order stored.key (slot_at stored.places) stored.refs is_table.kept.by_key))
 
-  pub few_with : length (rows_with stored edits) ≤ 1048576
+  pub few_with : length (rows_with stored edits) ≤ most_rows
   few_with =
       omega (
         arith,

@@ -4,7 +4,7 @@ use Rattle.std.specs.Prelude.{slice_get, slice_set}
 use Rattle.std.specs.List.{All, Contains}
 use Rattle.std.proofs.lemmas.List.{get_or-map, length-map}
 use Rattle.std.proofs.lemmas.List.Elements.{All-set}
-use Rattle.mm_foreign.specs.Ties.{target_at}
+use Rattle.mm_foreign_key.specs.Ties.{target_at}
 use Rattle.mm_partition.specs.Places.{Content, Live, extent_of, slot_at}
 use Rattle.mm_relation.specs.Index.{EachTurns}
 use Rattle.mm_relation.specs.Kept.{StoredRows}

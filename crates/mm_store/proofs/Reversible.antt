@@ -9,7 +9,7 @@ use Rattle.std.proofs.lemmas.Cmp.{tied_itself}
 use Rattle.std.proofs.lemmas.List.{length-append}
 use Rattle.std.proofs.lemmas.List.Elements.{All-head, All-tail}
 use Rattle.std.proofs.lemmas.List.Sorted.{length_permutation}
-use Rattle.mm_foreign.specs.Ties.{Ties, target_at}
+use Rattle.mm_foreign_key.specs.Ties.{Ties, target_at}
 use Rattle.mm_partition.specs.Places.{Live, slot_at}
 use Rattle.mm_relation.specs.Before.{StandsBack, before}
 use Rattle.mm_relation.specs.Differs.{Differs}
@@ -21,7 +21,7 @@ use Rattle.mm_relation.specs.declared.log.Entry.{Entry}
 use Rattle.mm_relation.specs.declared.names.Side.TheVariants.{New, Old}
 use Rattle.mm_relation.proofs.Phase.{split_off}
 use Rattle.mm_relation.proofs.Lawful.{IsLawful-kept}
-use Rattle.mm_schema.specs.Rows.{column_cmp}
+use Rattle.mm_schema.specs.Rows.{column_cmp, most_rows}
 use Rattle.mm_schema.specs.declared.reference.Reference.{Reference}
 use Rattle.mm_value.proofs.Orders.{value_cmp_total}
 use Rattle.mm_value.specs.Order.{value_cmp}
@@ -39,7 +39,7 @@ use Rattle.mm_store.proofs.Worlds.{heading_at, relation_at, world_here, world_ot
 
 -- ---- how many rows stand
 
-pub HasAtMost-table : (stored : StoredRows) → IsTable stored → HasAtMost 1048576 (slot_at stored.places)
+pub HasAtMost-table : (stored : StoredRows) → IsTable stored → HasAtMost most_rows (slot_at stored.places)
 HasAtMost-table stored is_table refs apart live =
     let among = split_off refs stored.refs apart (λ k d within. (is_table.kept.held (get_or refs k d)).1 (live k d within)) in
     omega (arith, is_table.few, length_permutation stored.refs _ among.1, length-append refs among.0)
@@ -122,7 +122,7 @@ module _ (before_it after_it : Tables) (links : List Link) (place : ℕ) (old ne
     lawful =
         subst (IsLawful old.width old.key) (sym stood_is)
         (IsLawful-kept old.width old.key (slot_at old.places) old.refs old.indexes (table_at before_it.tables place old all there).kept);
-    few = subst (HasAtMost 1048576) (sym stood_is) (HasAtMost-table old (table_at before_it.tables place old all there));
+    few = subst (HasAtMost most_rows) (sym stood_is) (HasAtMost-table old (table_at before_it.tables place old all there));
     targets = λ reference here from other other_there at row live.
         let found = joined_of before_it.tables links reference joined (subst (λ rs. Contains rs reference) listed here) in
         let j : IsJoined before_it.tables reference found.0 = found.1 in

@@ -3,7 +3,7 @@ use Rattle.std.proofs.Common.{◌≡◌, ℕ, zero, suc, ◌<◌, List, [], ◌�
 use Rattle.std.specs.Prelude.{map, slice_get, slice_set}
 use Rattle.std.specs.List.{All, Contains}
 use Rattle.std.proofs.lemmas.List.{get_or-map, length-map}
-use Rattle.mm_foreign.specs.Ties.{Ties, target_at}
+use Rattle.mm_foreign_key.specs.Ties.{Ties, target_at}
 use Rattle.mm_partition.specs.Places.{Content, Free, Live, Hidden, extent_of, slot_at}
 use Rattle.mm_relation.specs.Before.{StandsBack, before}
 use Rattle.mm_relation.specs.Differs.{Differs}
@@ -28,6 +28,7 @@ use Rattle.mm_store.proofs.Joining.{one_relation}
 use Rattle.mm_store.proofs.Retying.{CanRetie-turned, CanTurn, IsSound-turned}
 use Rattle.mm_store.proofs.Telling.{TellAll, TellAll-back}
 use Rattle.mm_store.proofs.Worlds.{heading_at}
+use Rattle.mm_schema.specs.Rows.{most_rows}
 
 -- where what rows refer to stays, the ties do
 module _ (column key : ℕ) (was is : Slots) where
@@ -93,7 +94,7 @@ module _ (tables : List StoredRows) (links : List Link) (sound : IsSound tables 
     pub IsTable-back : IsTable new
     IsTable-back = record {
       few =
-          subst (HasAtMost 1048576) stood_new reversible.few new.refs (distinct new.key (slot_at new.places) new.refs kept.by_key)
+          subst (HasAtMost most_rows) stood_new reversible.few new.refs (distinct new.key (slot_at new.places) new.refs kept.by_key)
           (λ k d within. (kept.held (get_or new.refs k d)).0 (k, within, at_own new.refs k d within));
       kept = kept;
     }

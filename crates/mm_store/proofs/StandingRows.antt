@@ -8,7 +8,7 @@ use Rattle.std.proofs.lemmas.List.Elements.{Contains-get_or, filter_map-append}
 use Rattle.std.proofs.lemmas.List.FromFn.{get_or-map-range_with_len, length-map-range_with_len, map-range_with_len_more}
 use Rattle.std.proofs.lemmas.List.Kept.{AllPairs-filter}
 use Rattle.std.proofs.lemmas.List.Sorted.{IsPermutation-map, length_permutation}
-use Rattle.mm_foreign.specs.Ties.{reference_at}
+use Rattle.mm_foreign_key.specs.Ties.{reference_at}
 use Rattle.mm_partition.specs.Places.{Content, Free, Live, Hidden, Places, extent_of, slot_at, slot_index_of}
 use Rattle.mm_relation.specs.Kept.{StoredRows}
 use Rattle.mm_relation.specs.RowLists.{rows_of}

@@ -7,7 +7,6 @@ use Rattle.mm_relation.specs.declared.index.Index.{Index}
 use Rattle.mm_relation.specs.declared.index.Index.TheVariants.{Tree, Hash}
 use Rattle.mm_relation.proofs.RefTests.{same_number}
 use Rattle.mm_relation.proofs.Rooms.{kind_same}
-use Rattle.mm_schema.specs.declared.index.IndexKind.{IndexKind}
 use Rattle.mm_schema.specs.declared.index.IndexKind.TheVariants as kind
 use Rattle.mm_store.specs.Spares.{HasFewSpares, HasFewSparesAt}
 use Rattle.mm_store.specs.Tables.{Tables, Turns}

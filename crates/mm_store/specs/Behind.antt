@@ -1,6 +1,6 @@
 -- Ties that are still those of the rows before some changes.
 use Rattle.std.specs.Prelude.{◌≡◌, ◌≢◌, ℕ, ◌⊎◌, List, map, Option, All, AllPairs, Contains}
-use Rattle.mm_foreign.specs.Ties.{ChangesTarget, Ties, target_at}
+use Rattle.mm_foreign_key.specs.Ties.{ChangesTarget, Ties, target_at}
 use Rattle.mm_partition.specs.Places.{Content, Free, Live, Hidden}
 use Rattle.mm_relation.specs.Refs.{HasRow, Slots}
 use Rattle.mm_relation.specs.declared.log.Entry.{Entry}

@@ -1,6 +1,6 @@
 -- Links among relations: each is between two of them, and its ties follow their rows.
 use Rattle.std.specs.Prelude.{◌≡◌, ◌≢◌, ℕ, ◌<◌, ◌≤◌, List, length, All, None, Some, slice_get}
-use Rattle.mm_foreign.specs.Ties.{KeepsTargets, Ties, target_at as target_of}
+use Rattle.mm_foreign_key.specs.Ties.{KeepsTargets, Ties, target_at as target_of}
 use Rattle.mm_partition.specs.Places.{extent_of, slot_at}
 use Rattle.mm_relation.specs.Kept.{IsKept, StoredRows}
 use Rattle.mm_relation.specs.declared.log.Entry.{Entry}
@@ -10,6 +10,7 @@ use Rattle.mm_value.specs.declared.row_ref.RowRef.{RowRef}
 use Rattle.mm_store.specs.Links.{Follows, HasRoom, Joins, SameSize}
 use Rattle.mm_store.specs.declared.link.Link.{Link}
 use Rattle.mm_schema.specs.declared.reference.Reference.{Reference}
+use Rattle.mm_schema.specs.Rows.{most_rows}
 
 -- The reference is from one of the relations to another, and the ties are those of its column.
 pub record IsJoined (tables : List StoredRows) (reference : Reference) (ties : Ties) : Type 0 where
@@ -26,7 +27,7 @@ AreJoined tables links = All (λ link. IsJoined tables link.reference link.ties)
 
 -- A table of a store is not too large, and its indexes are those of its rows.
 pub record IsTable (stored : StoredRows) : Type 0 where
-  pub few : length stored.refs ≤ 1048576
+  pub few : length stored.refs ≤ most_rows
   pub kept : IsKept stored.width stored.key (slot_at stored.places) stored.refs stored.indexes
 
 -- What always holds of a store: each of its tables is one, and all links are between them.

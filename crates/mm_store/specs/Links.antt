@@ -1,6 +1,6 @@
 -- Links between two relations: a column of the one whose values are keys of the other.
 use Rattle.std.specs.Prelude.{◌≡◌, ℕ, ◌<◌, ◌≤◌, ◌==◌, ◌&&◌, not, Bool, Contains, List, length, Option, Some, None, slice_get}
-use Rattle.mm_foreign.specs.Ties.{Ties, target_at}
+use Rattle.mm_foreign_key.specs.Ties.{Ties, target_at}
 use Rattle.mm_partition.specs.Places.{Content, Free, Live, Hidden, Places, extent_of, slot_at}
 use Rattle.mm_relation.specs.Kept.{StoredRows}
 use Rattle.mm_relation.specs.Refs.{HasRow, Slots, row_at}

@@ -1,7 +1,7 @@
 -- The rows of all tables as they stood at a mark of the log.
 use Rattle.std.specs.Prelude.{ℕ, suc, List, [], ◌∷◌, Option, None, Some, drop, map}
 use Rattle.std.specs.List.{filter_map, range_with_len}
-use Rattle.mm_foreign.specs.Ties.{reference_at}
+use Rattle.mm_foreign_key.specs.Ties.{reference_at}
 use Rattle.mm_partition.specs.Places.{Content, Free, Live, Hidden, extent_of}
 use Rattle.mm_relation.specs.Kept.{StoredRows}
 use Rattle.mm_relation.specs.Refs.{Slots}

@@ -5,7 +5,7 @@ use Rattle.mm_relation.specs.Kept.{StoredRows}
 use Rattle.mm_relation.specs.Reads.{HasIndex}
 use Rattle.mm_relation.specs.Refs.{row_at}
 use Rattle.mm_relation.specs.RowLists.{rows_of}
-use Rattle.mm_schema.specs.Rows.{rows_by}
+use Rattle.mm_schema.specs.Rows.{rows_by, most_rows}
 use Rattle.mm_schema.specs.Sorting.{in_order}
 use Rattle.mm_schema.specs.declared.index.IndexKind.TheVariants as kind
 use Rattle.mm_store.specs.declared.table_rows.Order.{Order}
@@ -24,6 +24,6 @@ ordered_rows stored (Made tree) = map (row_at (slot_at stored.places)) tree.refs
 
 -- They can be read in it: they are there, and few enough.
 abbrev pub IsOrder : StoredRows → Order → Type 0
-IsOrder stored Key = length stored.refs ≤ 1048576
-IsOrder stored (Tree place column) = (length stored.refs ≤ 1048576) × HasIndex stored.indexes place column kind.Tree
-IsOrder stored (Made tree) = All (IsLive stored.places) tree.refs × (length tree.refs ≤ 1048576)
+IsOrder stored Key = length stored.refs ≤ most_rows
+IsOrder stored (Tree place column) = (length stored.refs ≤ most_rows) × HasIndex stored.indexes place column kind.Tree
+IsOrder stored (Made tree) = All (IsLive stored.places) tree.refs × (length tree.refs ≤ most_rows)

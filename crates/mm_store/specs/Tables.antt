@@ -10,7 +10,7 @@ use Rattle.mm_relation.specs.Kept.{KeysStayApart, StoredRows}
 use Rattle.mm_relation.specs.RowLists.{edit_pairs, rows_of}
 use Rattle.mm_relation.specs.declared.edits.Edit.{Edit}
 use Rattle.mm_schema.specs.Refused.{Condition}
-use Rattle.mm_schema.specs.Rows.{Pair, changed, table_rows_conditions}
+use Rattle.mm_schema.specs.Rows.{Pair, changed, table_rows_conditions, most_rows}
 use Rattle.mm_value.specs.declared.values.Value.{Value}
 use Rattle.mm_schema.specs.References.{lacks_target_row, lose_targets, moved_up}
 use Rattle.mm_schema.specs.declared.reference.Reference.{Reference}
@@ -75,7 +75,7 @@ pub record AreLawful (store : Tables) (table : ℕ) (stored : StoredRows) (edits
   pub apart : KeysStayApart stored edits
   pub targets : has_orphans store table (rows_with stored edits) ≡ false
   pub referred : makes_orphans store table stored.key (edit_pairs (slot_at stored.places) edits) ≡ false
-  pub few : length (rows_with stored edits) ≤ 1048576
+  pub few : length (rows_with stored edits) ≤ most_rows
 
 -- A relation has the columns, the key and the indexes that it had.
 pub record SameForm (old new : StoredRows) : Type 0 where

@@ -15,6 +15,7 @@ use Rattle.mm_value.specs.declared.values.Value.{Value}
 use Rattle.mm_store.specs.Links.{HasTargetRow, RefersTo}
 use Rattle.mm_store.specs.Tables.{IsAt, Tables}
 use Rattle.mm_store.specs.Worlds.{Noted, World, back_all, stood, world_of}
+use Rattle.mm_schema.specs.Rows.{most_rows}
 
 -- How many columns a table has, and which of them is its key.
 pub record Heading : Type 0 where
@@ -41,7 +42,7 @@ pub record IsReversible (headings : List Heading) (links : List Reference) (comm
   pub stands : StandsBack command.entries (now command.table)
   pub differs : Differs (now command.table) (stood command now) (named entry_name New command.entries) (named entry_name Old command.entries)
   pub lawful : IsLawful heading.width heading.key (stood command now)
-  pub few : HasAtMost 1048576 (stood command now)
+  pub few : HasAtMost most_rows (stood command now)
   pub targets : (reference : Reference) → Contains links reference → reference.from ≡ command.table
       → (other : Heading) → slice_get headings reference.to ≡ Some other
       → (at : RowRef) (row : List Value) → stood command now at ≡ Live row → HasTargetRow reference.column other.key (now reference.to) row

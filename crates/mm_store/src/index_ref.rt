@@ -4,6 +4,7 @@ ghost use Rattle.std.specs.Option.{option_copied};
 ghost use Rattle.mm_partition.specs.Places.{IsLive, slot_at};
 ghost use Rattle.mm_relation.specs.Reads.{Appends, AreMatches, IsRange, IsWalk};
 ghost use Rattle.mm_store.specs.Looked.{IsFirstOn, IsFirstSuch, IsHash, IsIndexOn, IsTree};
+ghost use Rattle.mm_schema.specs.Rows.{most_rows};
 
 use mm_relation::Relation;
 use mm_schema::IndexKind;
@@ -86,8 +87,9 @@ pub(crate) fn append_matches(
 /// The references of all rows of a relation along a tree, without a copy, where there are at most 1,048,576.
 pub(crate) fn tree_walk(relation: &Relation, index: IndexRef) -> Iter<'_>
     requires tree { (column : ℕ) × IsIndexOn relation.now column index × IsTree index }
-    requires few { length relation.now.refs ≤ 1048576 }
+    requires few { length relation.now.refs ≤ most_rows }
     ensures walk { (column : ℕ) → IsIndexOn relation.now column index → IsWalk column relation.now result }
+    ensures keys { index ≡ IndexRef.Key → result ≡ relation.now.refs }
     ensures live { All (IsLive relation.now.places) result }
 {
     relation.is_kept();

@@ -1,9 +1,9 @@
-//! The rows of all tables: by references, in the order of their keys, and along further indexes.
+//! The rows of all tables. They are changed by a store's calls, and read by those of a view: by references, in the order of their
+//! keys, and along further indexes.
 //!
 //! A call that may take memory is handed the allocator; no other call takes any.
 #![tactic(auto)]
 
-mod access;
 mod index_ref;
 mod link;
 mod links;

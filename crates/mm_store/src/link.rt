@@ -1,6 +1,6 @@
 //! Foreign keys: a column of one table whose values are keys of another.
 ghost use Rattle.std.specs.Prelude.{◌≡◌, ◌<◌, ◌≤◌, ◌∷◌, List, None, Some, IfOk, OnOk};
-ghost use Rattle.mm_foreign.specs.Ties.{ChangesTarget, target_at};
+ghost use Rattle.mm_foreign_key.specs.Ties.{ChangesTarget, target_at};
 ghost use Rattle.mm_partition.specs.Places.{IsLive, Live, slot_at};
 ghost use Rattle.mm_relation.specs.Refs.{Slots, row_at};
 ghost use Rattle.mm_relation.specs.declared.log.Entry.{Entry as Change};
@@ -13,7 +13,7 @@ ghost use Rattle.mm_store.specs.Joined.{HasGrown, HasGrownTo, HasMovedUp};
 
 mod checks;
 
-use mm_foreign::ForeignKey;
+use mm_foreign_key::ForeignKey;
 use mm_relation::{Entry, Relation};
 use mm_schema::Reference;
 use mm_value::{Row, RowRef, compare};

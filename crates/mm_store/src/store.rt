@@ -13,6 +13,7 @@ ghost use Rattle.mm_store.specs.Marks.{rows_at_mark};
 ghost use Rattle.mm_store.specs.Tables.{IsAt, Turns, AreFit, AreLawful, HasRows, rows_with, IsFrom, links_without, edit_conditions, has_orphans, makes_orphans};
 ghost use Rattle.mm_store.specs.Undoing.{CanUndo};
 ghost use Rattle.mm_store.specs.Worlds.{Noted};
+ghost use Rattle.mm_schema.specs.Rows.{most_rows};
 
 mod apply;
 mod revert;
@@ -24,13 +25,10 @@ use crate::links::{
 };
 use crate::undo::Undo;
 use mm_relation::{Edit, Relation};
-use mm_schema::{IndexKind, Reference};
+use mm_schema::{IndexKind, MAX_ROWS, Reference};
 use mm_value::{Refusal, RowRef};
 use std::alloc::{AllocError, Global};
 use std::marker::Model;
-
-/// The most rows that a table has.
-const MAX_ROWS: usize = 1_048_576;
 
 /// The rows of all tables, a relation for each. A table is meant by its place, counted from 0 in the order of
 /// creation.
@@ -108,17 +106,17 @@ impl Store {
         drop_links(&mut self.links, table);
     }
 
-    /// The relation of the table at a place.
-    pub fn table(&self, table: usize) -> &Relation
+    /// The relation of the table at a place, where there are at most 1,048,576 rows.
+    pub(crate) fn table(&self, table: usize) -> &Relation
         requires { table < length self.now.tables }
         ensures at { IsAt self.now table result.now }
-        ensures few { length result.now.refs ≤ 1048576 }
+        ensures few { length result.now.refs ≤ most_rows }
     {
         &self.tables[table]
     }
 
     /// Whether a column of a table refers to another table, and to no further one.
-    pub fn refers_only_to(&self, table: usize, column: usize, to: usize) -> bool
+    pub(crate) fn refers_only_to(&self, table: usize, column: usize, to: usize) -> bool
         ensures { IsTrue result ↔ IsReference self.now.links table column to }
     {
         let reference = Reference {
@@ -131,7 +129,7 @@ impl Store {
     }
 
     /// The row that a row refers to by a column, without a search.
-    pub fn follow(&self, table: usize, column: usize, at: RowRef) -> RowRef
+    pub(crate) fn follow(&self, table: usize, column: usize, at: RowRef) -> RowRef
         requires refers { (to : ℕ) × Contains self.now.links (record { from = table; column = column; to = to }) }
         requires live { (stored : StoredRows) → IsAt self.now table stored → IsLive stored.places at }
         ensures { (stored : StoredRows) → IsAt self.now table stored

@@ -8,6 +8,7 @@ ghost use Rattle.mm_schema.specs.declared.index.IndexKind.TheVariants.{Tree};
 ghost use Rattle.mm_relation.specs.Refs.{row_at};
 ghost use Rattle.mm_store.specs.Ordered.{rows_in_order};
 ghost use Rattle.mm_store.specs.Tables.{IsAt, rows_at};
+ghost use Rattle.mm_schema.specs.Rows.{most_rows};
 
 use crate::view::View;
 use mm_order::OrderedRefs;
@@ -142,7 +143,7 @@ impl<'a> StoredRows<'a> {
 
 /// Reads the rows of a relation in the order of its key.
 fn along_key(relation: &Relation) -> StoredRows<'_>
-    requires { length relation.now.refs ≤ 1048576 }
+    requires { length relation.now.refs ≤ most_rows }
     ensures { result ≡ rows_of relation.now }
 {
     let walk = relation.by_key();
@@ -151,7 +152,7 @@ fn along_key(relation: &Relation) -> StoredRows<'_>
 
 /// Reads the rows of a relation along its TREE index at a place.
 fn along_index(relation: &Relation, place: usize) -> StoredRows<'_>
-    requires few { length relation.now.refs ≤ 1048576 }
+    requires few { length relation.now.refs ≤ most_rows }
     requires tree { (column : ℕ) × HasIndex relation.now.indexes place column Tree }
     ensures { (column : ℕ) → HasIndex relation.now.indexes place column Tree → result ≡ rows_in_order column relation.now }
 {
@@ -162,7 +163,7 @@ fn along_index(relation: &Relation, place: usize) -> StoredRows<'_>
 /// Reads the rows of a relation in the order of a tree.
 fn along_tree<'a>(relation: &'a Relation, tree: &'a TTree) -> StoredRows<'a>
     requires live { All (IsLive relation.now.places) tree.now.refs }
-    requires few { length tree.now.refs ≤ 1048576 }
+    requires few { length tree.now.refs ≤ most_rows }
     ensures { result ≡ map (row_at (slot_at relation.now.places)) tree.now.refs }
 {
     let walk = tree.iter();

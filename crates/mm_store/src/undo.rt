@@ -15,7 +15,7 @@ const MAX_KEPT: usize = 64;
 /// The commands of a store that can be taken back, the oldest first. Each is what one call changed in one table.
 #[derive(Drop)]
 pub struct Undo {
-    pub(crate) commands: Vec<Command>,
+    pub(crate) commands: Vec<UndoRecord>,
     /// For each table how many entries its commands put into each of its indexes when they are taken back.
     pub(crate) owed: Vec<usize>,
     /// An empty log for the next command.
@@ -24,7 +24,7 @@ pub struct Undo {
 
 /// What one command changed in one table.
 #[derive(Drop)]
-pub(crate) struct Command {
+pub(crate) struct UndoRecord {
     pub(crate) table: usize,
     /// How many entries it puts into each index of the table when it is taken back.
     pub(crate) owes: usize,
@@ -73,7 +73,7 @@ impl Undo {
     }
 
     /// Takes the newest command out.
-    pub(crate) fn pop(&mut self) -> Option<Command>
+    pub(crate) fn pop(&mut self) -> Option<UndoRecord>
         ensures { MatchOption result ((self.old ≡ []) × (self.new ≡ [])) (λ command. self.old ≡ self.new ++ noted_of command ∷ []) }
     {
         let command = self.commands.pop()?;
@@ -95,7 +95,7 @@ impl Undo {
 /// Makes room for one command more and for a count of each of so many tables, and gives the count of one of them. `AllocError`
 /// where memory is refused, or where the count and so many more are no `usize`. The commands and the counts stay.
 pub(crate) fn reserve(
-    commands: &mut Vec<Command>,
+    commands: &mut Vec<UndoRecord>,
     owed: &mut Vec<usize>,
     tables: usize,
     table: usize,

@@ -1,5 +1,5 @@
 //! What a query sees of a store.
-ghost use Rattle.std.specs.Prelude.{◌≡◌, ℕ, ◌+◌, ◌<◌, ◌≤◌, ◌↔◌, length, map, min, All, IfSome, IsTrue, OnOk, OnErr, Contains, Some, slice_get};
+ghost use Rattle.std.specs.Prelude.{◌≡◌, ℕ, ◌+◌, ◌<◌, ◌≤◌, ◌↔◌, length, min, All, IfSome, IsTrue, OnOk, OnErr, Contains, Some, slice_get};
 ghost use Rattle.std.specs.Option.{option_copied, option_map};
 ghost use Rattle.mm_partition.specs.Places.{AreRowsStorable, IsLive, Live, slot_at};
 ghost use Rattle.mm_relation.specs.Kept.{IsKept, StoredRows};
@@ -10,8 +10,11 @@ ghost use Rattle.mm_store.specs.Links.{IsReference, RefersTo};
 ghost use Rattle.mm_store.specs.Looked.{IsFirstOn, IsFirstSuch, IsHash, IsIndexOn, IsTree};
 ghost use Rattle.mm_store.specs.Tables.{IsAt};
 ghost use Rattle.mm_value.specs.Prefix.{order_prefix};
+ghost use Rattle.mm_schema.specs.Rows.{most_rows};
 
-use crate::index_ref::{IndexRef, append_range, first_hash, first_tree, tree_walk};
+use crate::index_ref::{
+    IndexRef, append_matches, append_range, first_hash, first_index, first_tree, tree_walk,
+};
 use crate::store::Store;
 use mm_relation::Relation;
 use mm_value::{Row, RowRef, Value};
@@ -19,7 +22,7 @@ use std::alloc::{AllocError, Global};
 use std::marker::Model;
 use ttree::Iter;
 
-/// The rows of a store, found by its access calls. It counts each that is looked at.
+/// The rows of a store, as all reading finds them: by their references and along indexes. It counts each that is looked at.
 #[derive(Drop)]
 pub struct View<'a> {
     store: &'a Store,
@@ -60,48 +63,56 @@ impl<'a> View<'a> {
     pub(crate) fn relation(&self, table: usize) -> &'a Relation
         requires { table < length self.now.store.tables }
         ensures at { IsAt self.now.store table result.now }
-        ensures few { length result.now.refs ≤ 1048576 }
+        ensures few { length result.now.refs ≤ most_rows }
     {
         self.store.table(table)
     }
 
-    /// The row of a live reference of a table. It is counted; the count stays where no greater one fits.
+    /// The row of a live reference of a table, which has a value for each column. It is counted; the count stays where no greater
+    /// one fits.
     pub fn row(&mut self, table: usize, at: RowRef) -> &'a Row
         requires there { table < length self.old.store.tables }
         requires live { (stored : StoredRows) → IsAt self.old.store table stored → IsLive stored.places at }
         ensures row { (stored : StoredRows) → IsAt self.old.store table stored → slot_at stored.places at ≡ Live result.now }
+        ensures wide { (stored : StoredRows) → IsAt self.old.store table stored → length result.now ≡ stored.width }
         ensures counted { self.new ≡ record self.old { reads = min (self.old.reads + 1) u64.MAX } }
     {
         let View { store, reads } = self;
         *reads = reads.saturating_add(1);
-        store.table(table).row(at)
+        let relation = store.table(table);
+        relation.is_kept();
+        relation.row(at)
     }
 
-    /// The `order_prefix` of what the row of a live reference of a table has in a column, without a look at the row: the meter
-    /// does not count it. None where the prefixes of the column are not kept.
+    /// The `order_prefix` of what the row of a live reference of a table has in a column, without a look at the row, so that
+    /// it is not counted. None where the prefixes of the column are not kept.
     pub fn prefix_of(&self, table: usize, column: usize, at: RowRef) -> Option<u64>
         requires there { table < length self.now.store.tables }
         requires live { (stored : StoredRows) → IsAt self.now.store table stored → IsLive stored.places at }
         ensures { (stored : StoredRows) → IsAt self.now.store table stored → IfSome result (λ prefix.
             option_map order_prefix (slice_get (row_at (slot_at stored.places) at) column) ≡ Some prefix) }
     {
-        self.store.prefix_of(table, column, at)
+        self.relation(table).prefix_of(column, at)
     }
 
-    /// How many rows a table has.
+    /// How many rows a table has: at most 1,048,576.
     pub fn len_of(&self, table: usize) -> usize
         requires { table < length self.now.store.tables }
-        ensures { (stored : StoredRows) → IsAt self.now.store table stored → result ≡ length (rows_of stored) }
+        ensures count { (stored : StoredRows) → IsAt self.now.store table stored → result ≡ length (rows_of stored) }
+        ensures few { result ≤ most_rows }
     {
-        self.store.len_of(table)
+        self.relation(table).len()
     }
 
     /// The place of a table's key column, counted from 0.
     pub fn key_of(&self, table: usize) -> usize
         requires { table < length self.now.store.tables }
-        ensures { (stored : StoredRows) → IsAt self.now.store table stored → result ≡ stored.key }
+        ensures key { (stored : StoredRows) → IsAt self.now.store table stored → result ≡ stored.key }
+        ensures within { (stored : StoredRows) → IsAt self.now.store table stored → result < stored.width }
     {
-        self.store.table(table).key()
+        let relation = self.relation(table);
+        relation.is_kept();
+        relation.key()
     }
 
     /// The references of a table's relation are those of its live rows, in key order and no two of one key; there are at most
@@ -111,10 +122,12 @@ impl<'a> View<'a> {
         requires { table < length self.now.store.tables }
         ensures kept { (stored : StoredRows) → IsAt self.now.store table stored
             → IsKept stored.width stored.key (slot_at stored.places) stored.refs stored.indexes }
-        ensures few { (stored : StoredRows) → IsAt self.now.store table stored → length stored.refs ≤ 1048576 }
+        ensures few { (stored : StoredRows) → IsAt self.now.store table stored → length stored.refs ≤ most_rows }
         ensures storable { (stored : StoredRows) → IsAt self.now.store table stored → AreRowsStorable stored.places }
     {
-        self.store.is_kept(table);
+        let relation = self.relation(table);
+        relation.is_kept();
+        relation.are_storable();
     }
 
     /// The index in which values of a column of a table are looked up: of those on the column the one that was created first,
@@ -123,7 +136,7 @@ impl<'a> View<'a> {
         requires { table < length self.now.store.tables }
         ensures { (stored : StoredRows) → IsAt self.now.store table stored → IsFirstOn stored column result }
     {
-        self.store.index_on(table, column)
+        first_index(self.relation(table), column)
     }
 
     /// The tree on a column of a table: of those on the column the one that was created first, where the key's own comes before
@@ -132,7 +145,7 @@ impl<'a> View<'a> {
         requires { table < length self.now.store.tables }
         ensures { (stored : StoredRows) → IsAt self.now.store table stored → IsFirstSuch IsTree stored column result }
     {
-        first_tree(self.store.table(table), column)
+        first_tree(self.relation(table), column)
     }
 
     /// The HASH index on a column of a table: of those on the column the one that was created first. None exactly where the
@@ -141,7 +154,7 @@ impl<'a> View<'a> {
         requires { table < length self.now.store.tables }
         ensures { (stored : StoredRows) → IsAt self.now.store table stored → IsFirstSuch IsHash stored column result }
     {
-        first_hash(self.store.table(table), column)
+        first_hash(self.relation(table), column)
     }
 
     /// Appends the references of the rows of a table that have this value in the column of an index of it, each once and in no
@@ -158,9 +171,13 @@ impl<'a> View<'a> {
         requires index { (stored : StoredRows) → IsAt self.now.store table stored → (column : ℕ) × IsIndexOn stored column index }
         ensures ok { OnOk result ((stored : StoredRows) (column : ℕ) → IsAt self.now.store table stored → IsIndexOn stored column index
             → Appends (AreMatches column (slot_at stored.places) value.now stored.refs) out.old.items out.new.items) }
+        ensures live { OnOk result ((stored : StoredRows) → IsAt self.now.store table stored
+            → All (IsLive stored.places) out.old.items → All (IsLive stored.places) out.new.items) }
         ensures err { OnErr result (out.new.items ≡ out.old.items) }
     {
-        self.store.matches(alloc, table, index, value, out)
+        let relation = self.relation(table);
+        relation.is_kept();
+        append_matches(alloc, relation, index, value, out)
     }
 
     /// Appends the references of the rows of a table whose values in the column of a tree of it are between two ends, these
@@ -180,19 +197,13 @@ impl<'a> View<'a> {
             → (column : ℕ) × IsIndexOn stored column index × IsTree index }
         ensures ok { OnOk result ((stored : StoredRows) (column : ℕ) → IsAt self.now.store table stored → IsIndexOn stored column index
             → Appends (IsRange column stored (option_copied low.entry) (option_copied high.entry)) out.old.items out.new.items) }
+        ensures live { OnOk result ((stored : StoredRows) → IsAt self.now.store table stored
+            → All (IsLive stored.places) out.old.items → All (IsLive stored.places) out.new.items) }
         ensures err { OnErr result (out.new.items ≡ out.old.items) }
     {
-        append_range(alloc, self.store.table(table), index, low, high, out)
-    }
-
-    /// The references of all rows of a table, in the order of their keys, without a copy. No row is counted.
-    pub fn key_walk(&self, table: usize) -> Iter<'a>
-        requires { table < length self.now.store.tables }
-        ensures rows { (stored : StoredRows) → IsAt self.now.store table stored
-            → map (row_at (slot_at stored.places)) result ≡ rows_of stored }
-        ensures live { (stored : StoredRows) → IsAt self.now.store table stored → All (IsLive stored.places) result }
-    {
-        self.store.key_walk(table)
+        let relation = self.relation(table);
+        relation.is_kept();
+        append_range(alloc, relation, index, low, high, out)
     }
 
     /// The references of all rows of a table along a tree of it, without a copy: in the order of its column, and those of one value
@@ -203,9 +214,10 @@ impl<'a> View<'a> {
             → (column : ℕ) × IsIndexOn stored column index × IsTree index }
         ensures walk { (stored : StoredRows) (column : ℕ) → IsAt self.now.store table stored → IsIndexOn stored column index
             → IsWalk column stored result }
+        ensures keys { index ≡ IndexRef.Key → (stored : StoredRows) → IsAt self.now.store table stored → result ≡ stored.refs }
         ensures live { (stored : StoredRows) → IsAt self.now.store table stored → All (IsLive stored.places) result }
     {
-        tree_walk(self.store.table(table), index)
+        tree_walk(self.relation(table), index)
     }
 
     /// Whether a column of a table refers to another table, and to no further one.

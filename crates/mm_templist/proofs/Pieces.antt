@@ -1,5 +1,5 @@
 -- Pieces of one width: how many there are, which one stands where, and one more behind them.
-use Rattle.std.proofs.Common.{◌≡◌, ℕ, zero, suc, ◌+◌, ◌*◌, ◌<◌, ◌≤◌, List, [], ◌∷◌, ◌++◌, Some, length, take, drop, refl, ap, ◌∙◌, arith, length-drop}
+use Rattle.std.proofs.Common.{◌≡◌, ℕ, zero, suc, ◌+◌, ◌*◌, ◌<◌, ◌≤◌, List, [], ◌∷◌, ◌++◌, Some, length, map, take, drop, refl, ap, ◌∙◌, arith, length-drop}
 use Rattle.std.specs.Prelude.{slice_get}
 use Rattle.std.proofs.Math.Nat.{mul-le-mul_right}
 use Rattle.std.proofs.lemmas.List.{drop-drop, drop-append-le, take-append-le, take_all}
@@ -39,3 +39,8 @@ module _ {X : Type 0} (width : ℕ) where
   piece_within count i xs all are whole below =
       let next : i + 1 ≤ count = omega (arith, below, length-pieces count xs, ap length are) in
       omega (arith, whole, mul-le-mul_right width next)
+
+-- Pieces of one element each.
+pub single_pieces : {X : Type 0} (xs : List X) → pieces 1 (length xs) xs ≡ map (λ x. x ∷ []) xs
+single_pieces [] = refl
+single_pieces (x ∷ xs) = ap (λ l. (x ∷ []) ∷ l) (single_pieces xs)

@@ -14,7 +14,11 @@ use crate::temp_list::TempList;
 use mm_query::FieldPlace;
 use mm_store::View;
 use mm_value::{Refusal, Row, RowRef, Value};
+use smallvec::SmallVec;
 use std::alloc::{AllocError, Global};
+
+/// The rows of a combination. A query has at most four tables.
+type Chosen<'s> = SmallVec<Option<&'s Row>, 4>;
 
 impl<'a> TempList<'a> {
     /// The rows of the result, a row of the values of the fields for each combination, sorted by their values in the columns of
@@ -76,12 +80,12 @@ impl<'a> TempList<'a> {
         ensures same { view.new.store ≡ view.old.store }
     {
         let descriptor = self.descriptor();
-        let mut chosen = Vec::with_capacity(alloc, descriptor.tables.len())?;
+        let mut chosen = SmallVec::with_capacity(alloc, descriptor.tables.len())?;
         let room = self.len().saturating_mul(descriptor.fields.len());
         let mut values = Vec::with_capacity(alloc, room)?;
         for i in 0..self.len() {
             choose_rows(view, descriptor.tables, self.combo(i), &mut chosen)?;
-            push_values(&mut values, descriptor.fields, &chosen, zero)?;
+            push_values(&mut values, descriptor.fields, chosen.as_slice(), zero)?;
         }
         Ok(values)
     }
@@ -143,7 +147,7 @@ fn choose_rows<'s>(
     view: &mut View<'s>,
     tables: &[usize],
     combo: &[RowRef],
-    chosen: &mut Vec<Option<&'s Row>>,
+    chosen: &mut Chosen<'s>,
 ) -> Result<(), AllocError>
     requires { AreLive view.old.store tables.now combo.now }
     ensures rows { OnOk result (map option_copied chosen.new.items ≡ map Some (rows_of_combo view.old.store tables.now combo.now)) }

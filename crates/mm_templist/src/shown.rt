@@ -9,6 +9,7 @@ ghost use Rattle.mm_templist.specs.Shown.{HasPrefix, in_shown_order, placed_cmp,
 
 use crate::row_order::{compare_by_columns, compare_values, leading_prefix};
 use mm_value::Value;
+use smallvec::SmallVec;
 use std::alloc::{AllocError, Global};
 use std::cmp::Ordering;
 use std::marker::Model;
@@ -16,6 +17,7 @@ use std::marker::Model;
 /// The rows of a result, each a run of references to values where they lie, in the order in which they are shown.
 ///
 /// No row takes a block of its own: the references of all rows stand in one vector, and what is sorted are the rows' places in it.
+/// The places of up to four rows take no block.
 #[derive(Drop)]
 pub struct ShownRows<'s> {
     /// How many values a row has.
@@ -23,15 +25,18 @@ pub struct ShownRows<'s> {
     /// The values of all rows, one behind the other, in the order in which the rows were made.
     values: Vec<&'s Value>,
     /// A place for each row, in the order in which the rows are shown.
-    places: Vec<Placed>,
+    places: Places,
 }
 
 /// A row: where its values begin, and the number of the one by which it is sorted first.
-#[derive(Clone, Copy, Drop)]
+#[derive(Clone, Copy, Default)]
 struct Placed {
     prefix: u64,
     start: usize,
 }
+
+/// Places of rows.
+type Places = SmallVec<Placed, 4>;
 
 impl<'s> Model for ShownRows<'s> {
     ghost use Rattle.std.specs.Prelude.{List, map};
@@ -101,12 +106,12 @@ fn placed_rows(
     width: usize,
     count: usize,
     order: &[usize],
-) -> Result<Vec<Placed>, AllocError>
+) -> Result<Places, AllocError>
     requires { length values.now ≡ count * width }
     ensures rows { IfOk result (λ places. map (placed_row width values.now) places.items ≡ pieces width count (referred values.now)) }
     ensures prefixes { IfOk result (λ places. All (HasPrefix order.now width values.now) places.items) }
 {
-    let mut places = Vec::with_capacity(alloc, count)?;
+    let mut places = SmallVec::with_capacity(alloc, count)?;
     for i in 0..count {
         let start = i * width;
         let prefix = leading_prefix(order, run_from(values, start, width));
@@ -135,7 +140,7 @@ fn compare_placed(
 }
 
 /// Sorts places by their rows. It takes no memory and O(n log n) comparisons for n places.
-fn sort_places(places: &mut Vec<Placed>, values: &[&Value], width: usize, order: &[usize])
+fn sort_places(places: &mut Places, values: &[&Value], width: usize, order: &[usize])
     ensures permutation { IsPermutation places.old.items places.new.items }
     ensures sorted { IsSorted (placed_cmp order.now width values.now) places.new.items }
 {
@@ -151,7 +156,7 @@ fn are_equal(values: &[&Value], width: usize, a: &Placed, b: &Placed) -> bool
 }
 
 /// Drops each place whose row is equal to that of the one before it.
-fn drop_equal_neighbours(places: &mut Vec<Placed>, values: &[&Value], width: usize)
+fn drop_equal_neighbours(places: &mut Places, values: &[&Value], width: usize)
     ensures { places.new.items ≡ dedup (λ a b. same_row (placed_row width values.now a) (placed_row width values.now b)) places.old.items }
 {
     places.dedup_by(|later, kept| are_equal(values, width, later, kept));

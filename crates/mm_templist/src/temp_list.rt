@@ -1,5 +1,5 @@
 //! Temporary lists.
-ghost use Rattle.std.specs.Prelude.{◌≡◌, ◌+◌, ◌++◌, ◌∷◌, ◌<◌, [], Some, length, slice_get, OnErr, OnOk};
+ghost use Rattle.std.specs.Prelude.{◌≡◌, ◌+◌, ◌++◌, ◌∷◌, ◌<◌, [], Some, length, map, slice_get, OnErr, OnOk};
 
 use mm_query::FieldPlace;
 use mm_value::RowRef;
@@ -67,6 +67,19 @@ impl<'a> TempList<'a> {
             },
             refs: Vec::new(alloc),
             len: 1,
+        }
+    }
+
+    /// A combination of one row for each of these references to rows of one table, in their order. It takes no memory.
+    pub fn of_refs(descriptor: Descriptor<'a>, refs: Vec<RowRef>) -> TempList<'a>
+        requires { length descriptor.tables.now ≡ 1 }
+        ensures { result ≡ record { tables = descriptor.entry.tables.now; fields = descriptor.entry.fields.now; combos = map (λ at. at ∷ []) refs.items } }
+    {
+        let len = refs.len();
+        TempList {
+            descriptor,
+            refs,
+            len,
         }
     }
 

@@ -28,7 +28,7 @@ use Rattle.mm_laws.proofs.Removals.{AreRemovals, none_comes, removals_remove}
 use Rattle.mm_store.specs.Tables.{Tables}
 use Rattle.mm_plan.specs.Kept.{AreOf, instance_of}
 use Rattle.mm_txn.specs.Kept.{state_of}
-use Rattle.mm_txn.specs.TableEdits.{AreEdits, AreEditsOf, AreOwnEditsOf, FitsAt, PlacedEdits, named, pairs_at}
+use Rattle.mm_txn.specs.PlacedEdits.{AreEdits, AreEditsOf, AreOwnEditsOf, FitsAt, PlacedEdits, named, pairs_at}
 use Rattle.mm_txn.proofs.DatabaseSteps.{rows_there, some_there}
 use Rattle.mm_txn.proofs.ReferenceRows.{found_passes}
 

@@ -30,8 +30,8 @@ use Rattle.mm_value.specs.declared.row_ref.RowRef.{RowRef}
 use Rattle.mm_txn.specs.Cascades.{Along, IsCascade, along_of, goes_by, goes_by_some}
 use Rattle.mm_txn.specs.declared.cascades.Cascade.{Cascade}
 use Rattle.mm_plan.specs.Kept.{AreKept, instance_of}
-use Rattle.mm_txn.specs.TableEdits.{AreEdits, FitsAt, PlacedEdits, edits_at, named, pairs_at, placed}
-use Rattle.mm_txn.specs.declared.edits.TableEdits.{TableEdits}
+use Rattle.mm_txn.specs.PlacedEdits.{AreEdits, FitsAt, PlacedEdits, edits_at, named, pairs_at, placed}
+use Rattle.mm_txn.specs.declared.edits.RelationEdits.{RelationEdits}
 use Rattle.mm_txn.proofs.CascadeSteps.{all_done, also_some, one_table, up_to_own}
 use Rattle.mm_txn.proofs.CascadePlaces.{some_at}
 use Rattle.mm_txn.proofs.CascadeTables.{as_many, fits_within, relation_at, rows_beside}
@@ -85,7 +85,7 @@ pub filter_push : (q : RowRef → Bool) (xs : List RowRef) (x : RowRef) (b : Boo
 filter_push q xs x b is = filter-append q xs (x ∷ []) ∙ ap (λ c. filter q xs ++ cond c (x ∷ []) []) is
 
 -- What is found at a place behind another.
-pub removals_found : (own : PlacedEdits) (along : List TableEdits) (place k : ℕ) (x : TableEdits) → k < length along → x ≡ get_or along k x
+pub removals_found : (own : PlacedEdits) (along : List RelationEdits) (place k : ℕ) (x : RelationEdits) → k < length along → x ≡ get_or along k x
     → x.table ≡ place → own.0 ≢ place → edits_at (map placed (drop k along)) place ≡ edits_at (map placed along) place
     → x.edits.items ≡ edits_at (own ∷ map placed along) place
 removals_found own along place k x within is here other rest =

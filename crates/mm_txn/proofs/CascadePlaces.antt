@@ -27,7 +27,7 @@ use Rattle.mm_store.proofs.Referring.{agree}
 use Rattle.mm_store.specs.Links.{IsReference}
 use Rattle.mm_store.specs.Tables.{key_at}
 use Rattle.mm_txn.specs.Cascades.{goes_by}
-use Rattle.mm_txn.specs.TableEdits.{PlacedEdits, edits_at, named, pairs_at}
+use Rattle.mm_txn.specs.PlacedEdits.{PlacedEdits, edits_at, named, pairs_at}
 
 -- ---- names at places
 

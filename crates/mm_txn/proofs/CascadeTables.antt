@@ -23,7 +23,7 @@ use Rattle.mm_store.specs.Links.{IsReference}
 use Rattle.mm_store.specs.Tables.{Tables, key_at}
 use Rattle.mm_txn.specs.Cascades.{Along, IsCascade, along_to, alongs_from, goes_by, goes_by_some, unless_none}
 use Rattle.mm_plan.specs.Kept.{AreKept, AreOf, IsOf, instance_of}
-use Rattle.mm_txn.specs.TableEdits.{AreEdits, FitsAt, PlacedEdits, edits_at, named}
+use Rattle.mm_txn.specs.PlacedEdits.{AreEdits, FitsAt, PlacedEdits, edits_at, named}
 use Rattle.mm_txn.proofs.CascadePlaces.{some_at, Ascends, among_references, ascends_from, goes_at_place, is_reference}
 
 -- ---- tables and relations at one place

@@ -46,8 +46,8 @@ use Rattle.mm_plan.specs.Finding.{meets}
 use Rattle.mm_plan.specs.Kept.{AreOf, instance_of}
 use Rattle.mm_txn.specs.Kept.{state_of, watched_state}
 use Rattle.mm_txn.specs.RowEdits.{updates_of}
-use Rattle.mm_txn.specs.TableEdits.{AreEditsOf, AreOwnEditsOf, FitsAt, HaveRows, PlacedEdits, edits_at, edits_conditions, leaves_orphan, leaves_orphans, named, pairs_at, rows_edited}
-use Rattle.mm_txn.specs.Watched.{IsPlaced, queries_of, rows_by_place}
+use Rattle.mm_txn.specs.PlacedEdits.{AreEditsOf, AreOwnEditsOf, FitsAt, HaveRows, PlacedEdits, edits_at, edits_conditions, leaves_orphan, leaves_orphans, named, pairs_at, rows_edited}
+use Rattle.mm_txn.specs.Listed.{IsPlaced, queries_of, rows_by_place}
 use Rattle.mm_txn.proofs.BackLinks.{IsOlder, first_of, older_at}
 use Rattle.mm_txn.proofs.DatabaseSteps.{key_is, rows_of_name, rows_there}
 use Rattle.mm_txn.proofs.ListedRows.{growth_placed, have_formed, rows_kept}

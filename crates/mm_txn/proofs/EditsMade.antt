@@ -96,7 +96,8 @@ module _ (stored : StoredRows) (kept : IsKept stored.width stored.key (slot_at s
   pub fit-gone : AreFit stored (map Gone passing)
   fit-gone = record {
     standing = Standing-of (slot_at stored.places) (map Gone passing) passing (olds-gone passing) (passing_live stored kept p) (passing_apart stored kept p);
-    wide = subst (All (λ (row : List Value). length row ≡ stored.width)) (sym (new_rows-gone passing)) (All-nil (λ (row : List Value). length row ≡ stored.width));
+    wide = subst (All (λ (row : List Value). length row ≡ stored.width)) (sym (new_rows-gone passing))
+        (All-nil (λ (row : List Value). length row ≡ stored.width));
   }
 
   pub fit-swapped : (assignments : List (Assignment ℕ)) → AreFit stored (map (swap_of (slot_at stored.places) assignments) passing)

@@ -13,7 +13,7 @@ use Rattle.mm_value.specs.declared.values.Value.{Value}
 use Rattle.mm_plan.specs.Kept.{instance_of}
 use Rattle.mm_txn.specs.Marks.{Ascend}
 use Rattle.mm_txn.specs.Saved.{AreSaved, CanGoBack, IsSaved, saved_of, savepoint_at}
-use Rattle.mm_txn.specs.Watched.{AreListed}
+use Rattle.mm_txn.specs.Listed.{AreListed}
 use Rattle.mm_txn.specs.declared.savepoints.Mark.{Mark}
 use Rattle.mm_txn.proofs.ListSteps.{saved_now, saved_through}
 use Rattle.mm_txn.proofs.LatestMarks.{Ascend-longer, Ascend-push, Ascend-take, each_within}

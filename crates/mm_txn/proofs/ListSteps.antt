@@ -1,6 +1,6 @@
 -- The lists of standing queries through changes of rows, and through what keeps or takes these back.
 use Rattle.std.proofs.Common.{◌≡◌, ℕ, ◌≤◌, pos, ◌+ℤ◌, List, [], ◌++◌, Some, None, Err, inl, inr, drop, length, map, slice_get, slice_index_or, sym, ap, subst, ◌∙◌, ⊎_elim, add-zero, arith}
-use Rattle.mm_bag.specs.Counts.{Counts, Entries, count_in}
+use Rattle.mm_multiset.specs.Counts.{Counts, Entries, count_in}
 use Rattle.mm_schema.specs.Instance.{Instance}
 use Rattle.mm_schema.specs.Refused.{AnswersDue, Condition, first_refusal}
 use Rattle.mm_schema.specs.Schema.{Schema}
@@ -11,7 +11,7 @@ use Rattle.mm_standing.specs.State.{FitPrepared, Lists, count_at, count_now}
 use Rattle.mm_value.specs.declared.refusal.Refusal.{Refusal}
 use Rattle.mm_value.specs.declared.values.Value.{Value}
 use Rattle.mm_txn.specs.Saved.{AreSaved}
-use Rattle.mm_txn.specs.Watched.{AreListed, ArePlaced, rows_by_place}
+use Rattle.mm_txn.specs.Listed.{AreListed, ArePlaced, rows_by_place}
 
 -- The entries of all bags.
 abbrev pub entries_of : List Counts → List Entries

@@ -8,7 +8,7 @@ use Rattle.std.proofs.lemmas.List.Elements.{All-head, All-tail, All-weaker, recu
 use Rattle.std.proofs.lemmas.Option.{get_or_from_slice_get, slice_get-get_or, slice_get_within}
 use Rattle.mm_delta.specs.Edited.{after_at, before_at, edits_at as told_at}
 use Rattle.mm_delta.specs.Steps.{EachFit}
-use Rattle.mm_delta.specs.declared.edited.TableEdits.{TableEdits}
+use Rattle.mm_delta.specs.declared.edited.TableChange.{TableChange}
 use Rattle.mm_query.specs.Standing.{growth_conditions, outgrows}
 use Rattle.mm_query.specs.State.{State}
 use Rattle.mm_relation.specs.Index.{EachTurns}
@@ -23,8 +23,8 @@ use Rattle.mm_store.proofs.Forms.{forms_same}
 use Rattle.mm_store.proofs.Joining.{one_relation, some_at}
 use Rattle.mm_value.specs.declared.refusal.Refusal.TheVariants.{StandingListTooLarge}
 use Rattle.mm_plan.specs.Kept.{AreOf, instance_of}
-use Rattle.mm_txn.specs.TableEdits.{FitsAt, HaveRows, PlacedEdits, edits_at, rows_edited, told}
-use Rattle.mm_txn.specs.Watched.{IsPlaced, queries_of, rows_by_place}
+use Rattle.mm_txn.specs.PlacedEdits.{FitsAt, HaveRows, PlacedEdits, edits_at, rows_edited, told}
+use Rattle.mm_txn.specs.Listed.{IsPlaced, queries_of, rows_by_place}
 use Rattle.mm_txn.proofs.Placed.{bag_by_place, rows_at_place}
 use Rattle.mm_txn.proofs.PlacedRows.{edited_have}
 use Rattle.mm_txn.proofs.Removals.{form_turned}
@@ -64,18 +64,18 @@ pub before_is : (store : Tables) → before_at store ≡ rows_by_place (instance
 before_is store = λ i place. rows_at_place store.tables place i
 
 -- The edits of a place are found alike.
-same_edits : (changes : List TableEdits) (place : ℕ) → told_at changes place ≡ edits_at (map told changes) place
+same_edits : (changes : List TableChange) (place : ℕ) → told_at changes place ≡ edits_at (map told changes) place
 same_edits [] place = refl
 same_edits (c ∷ cs) place = by (c.table == place) (same_edits cs place)
   where
     by : (b : Bool) → told_at cs place ≡ edits_at (map told cs) place
-        → option_map_or (λ (d : TableEdits). d.edits.now) (cond b (Some c) (find (λ (d : TableEdits). d.table == place) cs)) []
+        → option_map_or (λ (d : TableChange). d.edits.now) (cond b (Some c) (find (λ (d : TableChange). d.table == place) cs)) []
         ≡ option_map_or (λ (d : PlacedEdits). d.1) (cond b (Some (told c)) (find (λ (d : PlacedEdits). d.0 == place) (map told cs))) []
     by true rest = refl
     by false rest = rest
 
 -- Those after it are those with the edits made.
-pub after_is : (store : Tables) (changes : List TableEdits) → after_at store changes ≡ rows_edited store (map told changes)
+pub after_is : (store : Tables) (changes : List TableChange) → after_at store changes ≡ rows_edited store (map told changes)
 after_is store changes =
     λ i place. option_map_or (λ (stored : StoredRows). rows_with stored (same_edits changes place i)) (slice_get store.tables place) []
 
@@ -101,7 +101,7 @@ fit_found store (c ∷ cs) fit place stored there =
     by false other rest = rest
 
 -- Edits that fit their tables fit each.
-pub fit_each : (store : Tables) (changes : List TableEdits) → All (FitsAt store) (map told changes) → EachFit store changes
+pub fit_each : (store : Tables) (changes : List TableChange) → All (FitsAt store) (map told changes) → EachFit store changes
 fit_each store changes fit = λ place stored there.
     subst (AreFit stored) (sym (same_edits changes place)) (fit_found store (map told changes) fit place stored there)
 

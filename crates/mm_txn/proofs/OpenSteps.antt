@@ -21,7 +21,7 @@ use Rattle.mm_value.specs.declared.values.Value.{Value}
 use Rattle.mm_txn.specs.Contents.{Holdings, Makes}
 use Rattle.mm_plan.specs.Kept.{instance_of}
 use Rattle.mm_txn.specs.Saved.{CanGoBack, IsConsistent, IsSaved, IsSettled, kept_state, saved_of, saved_rows}
-use Rattle.mm_txn.specs.Watched.{AreListed, queries_of}
+use Rattle.mm_txn.specs.Listed.{AreListed, queries_of}
 use Rattle.mm_txn.specs.declared.savepoints.Mark.{Mark}
 use Rattle.mm_txn.proofs.GoingBack.{back_marked, back_through, back_to_mark, saved_same}
 use Rattle.mm_txn.proofs.LatestMarks.{Ascend-take, IsLatest, back_is, latest_rows, mark_within, saved_push}

@@ -19,7 +19,7 @@ use Rattle.mm_query.specs.declared.query.FromItem.{FromItem}
 use Rattle.mm_query.specs.Resolving.{places_in}
 use Rattle.mm_standing.specs.Queries.{StandingQuery, bag_over}
 use Rattle.mm_plan.specs.Kept.{instance_of}
-use Rattle.mm_txn.specs.Watched.{IsPlaced, rows_by_place}
+use Rattle.mm_txn.specs.Listed.{IsPlaced, rows_by_place}
 
 -- the table has the name
 abbrev pub has : List ℕ → Table → Bool

@@ -20,7 +20,7 @@ use Rattle.mm_store.specs.Tables.{AreFit, HasRows, IsAt, Tables, Turns, edit_con
 use Rattle.mm_value.specs.declared.values.Value.{Value}
 use Rattle.mm_store.proofs.Joining.{get_set_other, get_set_same, one_relation, some_at}
 use Rattle.mm_standing.specs.Queries.{RowsByPlace}
-use Rattle.mm_txn.specs.TableEdits.{AreEdits, FitsAt, HaveRows, PlacedEdits, edits_at, edits_conditions, leaves_orphan, leaves_orphans, pairs_at, rows_edited}
+use Rattle.mm_txn.specs.PlacedEdits.{AreEdits, FitsAt, HaveRows, PlacedEdits, edits_at, edits_conditions, leaves_orphan, leaves_orphans, pairs_at, rows_edited}
 
 -- ---- edits at a place
 

@@ -7,9 +7,9 @@ use Rattle.std.specs.Ordering.{is_eq}
 use Rattle.std.specs.Cmp.Lexicographic.{options_total}
 use Rattle.std.specs.declared.cmp.Ordering.TheVariants.{Equal}
 use Rattle.std.proofs.lemmas.Cmp.{tied_itself}
-use Rattle.std.proofs.lemmas.List.Elements.{All-append, All-filter, Contains-get_or, recursion_from_All}
+use Rattle.std.proofs.lemmas.List.Elements.{All-append, All-filter, recursion_from_All}
 use Rattle.std.proofs.lemmas.List.Folds.{list_any-append}
-use Rattle.std.proofs.lemmas.List.Sorted.{All-permutation, Contains-permutation, IsPermutation-sym}
+use Rattle.std.proofs.lemmas.List.Sorted.{Contains-permutation, IsPermutation-sym}
 use Rattle.mm_partition.specs.Places.{IsLive, slot_at}
 use Rattle.mm_relation.proofs.RefTests.{same_from_test, test_from_same}
 use Rattle.mm_relation.proofs.RowLists.{KeysApart-ordered}
@@ -106,14 +106,7 @@ none_taken now (Gone other) is = cc
 abbrev pub tests : ℕ → ℕ → List Row → Row → Bool
 tests column key rows row = list_any (refers column key row) rows
 
-module _ (stored : StoredRows) (kept : IsKept stored.width stored.key (slot_at stored.places) stored.refs stored.indexes) where
-  pub none_added : (column key : ℕ) (refs : List RowRef) → AddsReferrers stored (tests column key []) refs refs
-  none_added column key refs = record { live = λ live. live; found = λ at here. or_none (list_any (same_ref at) refs) }
-    where
-      or_none : (b : Bool) → b ≡ (b || false)
-      or_none true = refl
-      or_none false = refl
-
+module _ (stored : StoredRows) where
   module _ (column key : ℕ) (then : Slots) (done : List Edit) (edit : Edit) (old mid : List RowRef)
       (adds : AddsReferrers stored (tests column key (rows_taken then done)) old mid) where
     tests_push : (row : Row) → tests column key (rows_taken then (done ++ edit ∷ [])) row
@@ -135,13 +128,10 @@ module _ (stored : StoredRows) (kept : IsKept stored.width stored.key (slot_at s
 
     pub matches_added : (gone : RowRef) → edit_name edit Old ≡ Some gone → (value : Value) → slice_get (row_at then gone) key ≡ Some value
         → (found new : List RowRef) → new ≡ mid ++ found → AreMatches column (slot_at stored.places) value stored.refs found
+        → (All (IsLive stored.places) mid → All (IsLive stored.places) new)
         → AddsReferrers stored (tests column key (rows_taken then (done ++ edit ∷ []))) old new
-    matches_added gone taken value has found new is are = record {
-      live = λ live. subst (All (IsLive stored.places)) (sym is) (All-append (IsLive stored.places) mid found (adds.live live)
-          (All-permutation (IsLive stored.places) (filter (has_value column now value) stored.refs) found
-          (IsPermutation-sym found (filter (has_value column now value) stored.refs) are)
-          (All-filter (has_value column now value) (IsLive stored.places) stored.refs
-          (λ k d within. (kept.held _).0 (Contains-get_or stored.refs k d within)))));
+    matches_added gone taken value has found new is are alive = record {
+      live = λ live. alive (adds.live live);
       found = λ at here.
           let row : Row = row_at now at in
           ap (list_any (same_ref at)) is ∙ list_any-append (same_ref at) mid found
@@ -171,11 +161,11 @@ module _ (stored : StoredRows) (kept : IsKept stored.width stored.key (slot_at s
 -- ---- added by a pass over all rows
 
 -- The rows that pass were added.
-pub passing_added : (stored : StoredRows) → IsKept stored.width stored.key (slot_at stored.places) stored.refs stored.indexes → (test : Row → Bool)
+pub passing_added : (stored : StoredRows) → All (IsLive stored.places) stored.refs → (test : Row → Bool)
     → (old new : List RowRef) → new ≡ old ++ filter (λ at. test (row_at (slot_at stored.places) at)) stored.refs → AddsReferrers stored test old new
-passing_added stored kept test old new is = record {
+passing_added stored rows test old new is = record {
   live = λ live. subst (All (IsLive stored.places)) (sym is) (All-append (IsLive stored.places) old (filter q stored.refs) live
-      (All-filter q (IsLive stored.places) stored.refs (λ k d within. (kept.held _).0 (Contains-get_or stored.refs k d within))));
+      (All-filter q (IsLive stored.places) stored.refs rows));
   found = λ at here.
       ap (list_any (same_ref at)) is ∙ list_any-append (same_ref at) old (filter q stored.refs)
       ∙ ap (λ b. list_any (same_ref at) old || b)

@@ -25,8 +25,8 @@ use Rattle.mm_store.proofs.Joining.{one_relation, some_at}
 use Rattle.mm_value.specs.declared.refusal.Refusal.{Refusal}
 use Rattle.mm_value.specs.declared.refusal.Refusal.TheVariants.{RowIsReferenced}
 use Rattle.mm_value.specs.declared.values.Value.{Value}
-use Rattle.mm_txn.specs.TableEdits.{AreEdits, FitsAt, HaveRows, PlacedEdits, leaves_orphan, leaves_orphans, placed, rows_edited}
-use Rattle.mm_txn.specs.declared.edits.TableEdits.{TableEdits}
+use Rattle.mm_txn.specs.PlacedEdits.{AreEdits, FitsAt, HaveRows, PlacedEdits, leaves_orphan, leaves_orphans, placed, rows_edited}
+use Rattle.mm_txn.specs.declared.edits.RelationEdits.{RelationEdits}
 use Rattle.mm_txn.proofs.PlacedRows.{IsPartly, IsPartly-more, IsPartly-none, found_among, only_there, orphans_same, still_there}
 
 -- The refusal of a row that is referred.
@@ -136,19 +136,19 @@ module _ (old : Tables) (all front : List PlacedEdits) (c : PlacedEdits) (done :
 -- ---- lists of edits
 
 -- The edits of tables in front, of one table, and of those behind.
-in_three : (own : TableEdits) (along front : List TableEdits) (next : TableEdits) (done : List TableEdits) → along ≡ front ++ next ∷ done
+in_three : (own : RelationEdits) (along front : List RelationEdits) (next : RelationEdits) (done : List RelationEdits) → along ≡ front ++ next ∷ done
     → (placed own ∷ map placed along) ≡ ((placed own ∷ map placed front) ++ placed next ∷ map placed done)
 in_three own along front next done is =
-    ap (λ (xs : List TableEdits). placed own ∷ map placed xs) is
+    ap (λ (xs : List RelationEdits). placed own ∷ map placed xs) is
     ∙ ap (λ (xs : List PlacedEdits). placed own ∷ xs) (map-append placed front (next ∷ done))
 
 -- The removals that are left, and those that are made.
-pub record AreLeft (old : Tables) (own : TableEdits) (along left : List TableEdits) (mid : Tables) : Type 0 where
-  pub done : List TableEdits
+pub record AreLeft (old : Tables) (own : RelationEdits) (along left : List RelationEdits) (mid : Tables) : Type 0 where
+  pub done : List RelationEdits
   pub is : along ≡ left ++ done
   pub gone : AreGone old (placed own ∷ map placed along) (map placed done) mid
 
-module _ (old : Tables) (own : TableEdits) (along : List TableEdits) (are : AreEdits old (placed own ∷ map placed along))
+module _ (old : Tables) (own : RelationEdits) (along : List RelationEdits) (are : AreEdits old (placed own ∷ map placed along))
     (back : All (λ (r : Reference). r.to < r.from) old.links) (several : 0 < length along) where
   abbrev all : List PlacedEdits
   all = placed own ∷ map placed along
@@ -172,10 +172,10 @@ module _ (old : Tables) (own : TableEdits) (along : List TableEdits) (are : AreE
     gone = record { partly = IsPartly-none old; clear = refl };
   }
 
-  module _ (left : List TableEdits) (mid : Tables) (now : AreLeft old own along left mid) where
-    module _ (front : List TableEdits) (next : TableEdits) (is : left ≡ front ++ next ∷ []) where
+  module _ (left : List RelationEdits) (mid : Tables) (now : AreLeft old own along left mid) where
+    module _ (front : List RelationEdits) (next : RelationEdits) (is : left ≡ front ++ next ∷ []) where
       parts : along ≡ front ++ next ∷ now.done
-      parts = now.is ∙ (ap (λ (xs : List TableEdits). xs ++ now.done) is ∙ append_assoc front (next ∷ []) now.done)
+      parts = now.is ∙ (ap (λ (xs : List RelationEdits). xs ++ now.done) is ∙ append_assoc front (next ∷ []) now.done)
 
       three : all ≡ ((placed own ∷ map placed front) ++ placed next ∷ map placed now.done)
       three = in_three own along front next now.done parts
@@ -198,7 +198,7 @@ module _ (old : Tables) (own : TableEdits) (along : List TableEdits) (are : AreE
     module _ (none : left ≡ []) where
       gone_behind : AreGone old all (map placed along) mid
       gone_behind =
-          subst (λ (xs : List TableEdits). AreGone old all (map placed xs) mid) (sym (now.is ∙ ap (λ (xs : List TableEdits). xs ++ now.done) none)) now.gone
+          subst (λ (xs : List RelationEdits). AreGone old all (map placed xs) mid) (sym (now.is ∙ ap (λ (xs : List RelationEdits). xs ++ now.done) none)) now.gone
 
       pub last_can : CanGo mid (placed own)
       last_can = can_go old all [] (placed own) (map placed along) refl are back mid gone_behind many
@@ -227,7 +227,7 @@ both_due (Ok u) (Ok v) cs ds due is none later = due_behind cs ds (is ∙ none) 
 
 -- ---- forms
 
-pub nil_from_none : (xs : List TableEdits) → length xs ≡ 0 → xs ≡ []
+pub nil_from_none : (xs : List RelationEdits) → length xs ≡ 0 → xs ≡ []
 nil_from_none [] none = refl
 nil_from_none (x ∷ xs) none = absurd (omega (arith, none))
 

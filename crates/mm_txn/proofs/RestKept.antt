@@ -13,8 +13,8 @@ use Rattle.mm_txn.specs.Contents.{Makes}
 use Rattle.mm_plan.specs.Kept.{instance_of}
 use Rattle.mm_txn.specs.Rest.{AreAtRest}
 use Rattle.mm_txn.specs.Saved.{AreSaved}
-use Rattle.mm_txn.specs.TableEdits.{HaveRows}
-use Rattle.mm_txn.specs.Watched.{AreListed, rows_by_place}
+use Rattle.mm_txn.specs.PlacedEdits.{HaveRows}
+use Rattle.mm_txn.specs.Listed.{AreListed, rows_by_place}
 use Rattle.mm_txn.proofs.KeptReferences.{kept_by_rows}
 use Rattle.mm_txn.proofs.ListSteps.{listed_back, listed_still, placed_still}
 use Rattle.mm_txn.proofs.ListedRows.{have_formed}

@@ -21,7 +21,7 @@ use Rattle.mm_schema.proofs.Instances.{LackName, name_of, others_lack}
 use Rattle.mm_schema.proofs.NameLemmas.{same_bytes}
 use Rattle.mm_schema.proofs.Places.{place_from_some}
 use Rattle.mm_schema.proofs.References.{as_there, same_with, same_without, second_none, there_behind, there_still}
-use Rattle.mm_bag.specs.Counts.{count_of}
+use Rattle.mm_multiset.specs.Counts.{count_of}
 use Rattle.mm_store.specs.Tables.{Tables}
 use Rattle.mm_value.specs.declared.refusal.Refusal.{Refusal}
 use Rattle.mm_query.specs.Machine.{Outcome, after_definition, definition_conditions}
@@ -41,7 +41,7 @@ use Rattle.mm_standing.specs.State.{FitNow, Lists}
 use Rattle.mm_plan.specs.Kept.{AreKept, instance_of}
 use Rattle.mm_txn.specs.Kept.{state_of}
 use Rattle.mm_txn.specs.Rest.{AreAtRest, state_at_rest}
-use Rattle.mm_txn.specs.Watched.{AreListed, ArePlaced, IsPlaced, queries_of, rows_by_place}
+use Rattle.mm_txn.specs.Listed.{AreListed, ArePlaced, IsPlaced, queries_of, rows_by_place}
 use Rattle.mm_txn.proofs.Placed.{bag_by_place, first, has, lacks, place_is}
 
 -- ---- what a change of the catalog leaves bound

@@ -22,8 +22,8 @@ use Rattle.mm_laws.proofs.StillFound.{beside_still}
 use Rattle.mm_standing.specs.Queries.{RowsByPlace}
 use Rattle.mm_store.specs.Tables.{Tables, rows_with}
 use Rattle.mm_plan.specs.Kept.{AreOf, instance_of}
-use Rattle.mm_txn.specs.TableEdits.{AreEdits, FitsAt, HaveRows, PlacedEdits, edits_at, named, pairs_at, rows_edited}
-use Rattle.mm_txn.specs.Watched.{rows_by_place}
+use Rattle.mm_txn.specs.PlacedEdits.{AreEdits, FitsAt, HaveRows, PlacedEdits, edits_at, named, pairs_at, rows_edited}
+use Rattle.mm_txn.specs.Listed.{rows_by_place}
 use Rattle.mm_txn.proofs.DatabaseSteps.{some_there}
 use Rattle.mm_txn.proofs.IndexSteps.{own_place}
 use Rattle.mm_txn.proofs.Placed.{rows_at_place}

@@ -15,7 +15,7 @@ use Rattle.mm_schema.specs.declared.standing.StandingDef.{StandingDef}
 use Rattle.mm_schema.proofs.NameLemmas.{differs_back, same_name_refl}
 use Rattle.mm_schema.proofs.Places.{place_from_some, within_from_some}
 use Rattle.mm_schema.proofs.StandingLemmas.{names_of}
-use Rattle.mm_bag.specs.Counts.{count_in, count_of}
+use Rattle.mm_multiset.specs.Counts.{count_in, count_of}
 use Rattle.mm_value.specs.declared.refusal.Refusal.{Refusal}
 use Rattle.mm_value.specs.declared.refusal.Refusal.TheVariants.{Memory}
 use Rattle.mm_value.specs.declared.values.Value.{Value}
@@ -27,7 +27,7 @@ use Rattle.mm_query.specs.declared.bound_query.BoundQuery.{BoundQuery}
 use Rattle.mm_standing.specs.Bags.{entries_at}
 use Rattle.mm_standing.specs.Queries.{IsBagOf, StandingQuery, bag_over, shown_of}
 use Rattle.mm_standing.specs.State.{Lists}
-use Rattle.mm_txn.specs.Watched.{AreListed, ArePlaced, IsPlaced, queries_of, rows_by_place}
+use Rattle.mm_txn.specs.Listed.{AreListed, ArePlaced, IsPlaced, queries_of, rows_by_place}
 use Rattle.mm_txn.proofs.Placed.{bag_by_place}
 use Rattle.mm_txn.proofs.Resting.{at_place}
 

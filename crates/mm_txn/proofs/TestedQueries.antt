@@ -18,20 +18,20 @@ use Rattle.mm_query.specs.Resolving.{places_in}
 use Rattle.mm_relevance.specs.Relevance.{AddsToNumber, AddsToNumbers, is_text}
 use Rattle.mm_laws.specs.Typing.{AreTyped, ShiftsNumber, ShiftsNumbers, type_at}
 use Rattle.mm_laws.proofs.TypedNumbers.{adds_to_numbers}
-use Rattle.mm_delta.specs.declared.edited.TableEdits.{TableEdits}
+use Rattle.mm_delta.specs.declared.edited.TableChange.{TableChange}
 use Rattle.mm_standing.specs.Queries.{RowsByPlace, StandingQuery}
 use Rattle.mm_standing.specs.Reads.{AreTypeTested}
 use Rattle.mm_store.specs.Tables.{Tables}
 use Rattle.mm_plan.specs.Kept.{instance_of}
-use Rattle.mm_txn.specs.TableEdits.{rows_edited, told}
-use Rattle.mm_txn.specs.Watched.{IsPlaced, IsTested, queries_of, rows_by_place}
+use Rattle.mm_txn.specs.PlacedEdits.{rows_edited, told}
+use Rattle.mm_txn.specs.Listed.{IsPlaced, IsTested, queries_of, rows_by_place}
 use Rattle.mm_txn.proofs.ListedRows.{after_is, before_is}
 use Rattle.mm_txn.proofs.Placed.{rows_by_name}
 
 -- ---- for the lists
 
 -- What is tested of the rows by their places is tested of a store and the edits of its tables.
-pub type_tested : (store : Tables) (changes : List TableEdits) (queries : List StandingQuery)
+pub type_tested : (store : Tables) (changes : List TableChange) (queries : List StandingQuery)
     → All (IsTested (rows_by_place (instance_of store.tables)) (rows_edited store (map told changes))) queries
     → AreTypeTested store changes queries
 type_tested store changes queries tested = λ k d within. record {

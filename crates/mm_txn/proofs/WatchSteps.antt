@@ -16,7 +16,7 @@ use Rattle.mm_schema.proofs.Dues.{due_behind, due_in_front}
 use Rattle.mm_schema.proofs.NameLemmas.{same_bytes, same_name_refl}
 use Rattle.mm_schema.proofs.Places.{find_at_place, find_nowhere, place_from_some, within_from_some}
 use Rattle.mm_schema.proofs.StandingLemmas.{names_of}
-use Rattle.mm_bag.specs.Counts.{Counts, Entries, count_in, count_of}
+use Rattle.mm_multiset.specs.Counts.{Counts, Entries, count_in, count_of}
 use Rattle.mm_store.specs.Tables.{Tables, rows_at}
 use Rattle.mm_value.specs.declared.refusal.Refusal.{Refusal}
 use Rattle.mm_value.specs.declared.refusal.Refusal.TheVariants.{NoSuchStandingQuery, StandingListTooLarge}
@@ -36,7 +36,7 @@ use Rattle.mm_standing.specs.Queries.{IsBagOf, RowsByPlace, StandingQuery, bag_o
 use Rattle.mm_standing.specs.State.{Lists}
 use Rattle.mm_plan.specs.Kept.{AreKept, instance_of}
 use Rattle.mm_txn.specs.Rest.{AreAtRest, naming_conditions, state_at_rest}
-use Rattle.mm_txn.specs.Watched.{AreListed, ArePlaced, IsPlaced, queries_of, rows_by_place}
+use Rattle.mm_txn.specs.Listed.{AreListed, ArePlaced, IsPlaced, queries_of, rows_by_place}
 use Rattle.mm_txn.proofs.Placed.{lists_by_place, places_within, rows_at_place}
 use Rattle.mm_txn.proofs.Resting.{bound_all, placed_kept, watched_after}
 use Rattle.mm_txn.proofs.RowsBeside.{as_many_rows}

@@ -16,7 +16,7 @@ use Rattle.mm_store.specs.Links.{IsReference}
 use Rattle.mm_store.specs.Tables.{IsAt, Tables, key_at}
 use Rattle.mm_value.specs.declared.row_ref.RowRef.{RowRef}
 use Rattle.mm_value.specs.declared.values.Value.{Value}
-use Rattle.mm_txn.specs.TableEdits.{FitsAt, PlacedEdits, edits_at, pairs_at}
+use Rattle.mm_txn.specs.PlacedEdits.{FitsAt, PlacedEdits, edits_at, pairs_at}
 use Rattle.mm_txn.specs.declared.cascades.Cascade.{Cascade}
 
 -- A column, and the edits of the table that it refers to.

@@ -15,8 +15,8 @@ use Rattle.mm_value.specs.declared.refusal.Refusal.{Refusal}
 use Rattle.mm_value.specs.declared.values.Value.{Value}
 use Rattle.mm_plan.specs.Kept.{instance_of}
 use Rattle.mm_txn.specs.Rest.{AreAtRest, state_at_rest}
-use Rattle.mm_txn.specs.TableEdits.{AreEdits, HaveRows, PlacedEdits, edits_conditions, rows_edited}
-use Rattle.mm_txn.specs.Watched.{AreListed, IsTested, rows_by_place}
+use Rattle.mm_txn.specs.PlacedEdits.{AreEdits, HaveRows, PlacedEdits, edits_conditions, rows_edited}
+use Rattle.mm_txn.specs.Listed.{AreListed, IsTested, rows_by_place}
 
 -- A catalog, the rows of its tables, and the lists of its standing queries.
 pub record Holdings : Type 0 where

@@ -10,5 +10,5 @@ pub mod RowEdits
 pub mod Saved
 pub mod Sources
 pub mod Steps
-pub mod TableEdits
-pub mod Watched
+pub mod PlacedEdits
+pub mod Listed

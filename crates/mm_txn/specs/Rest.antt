@@ -17,7 +17,7 @@ use Rattle.mm_query.specs.declared.listing.ListedQuery.{ListedQuery}
 use Rattle.mm_query.specs.declared.listing.ListedTable.{ListedTable}
 use Rattle.mm_query.specs.declared.query.Query.{Query}
 use Rattle.mm_plan.specs.Kept.{AreKept, instance_of}
-use Rattle.mm_txn.specs.Watched.{AreListed, ArePlaced, queries_of}
+use Rattle.mm_txn.specs.Listed.{AreListed, ArePlaced, queries_of}
 
 -- There is a relation for each table of the catalog and a list for each standing query, the lists fit the rows, and no change of
 -- them is ready.

@@ -11,7 +11,7 @@ use Rattle.mm_laws.specs.Typing.{IsTyped}
 use Rattle.mm_txn.specs.Contents.{Holdings}
 use Rattle.mm_plan.specs.Kept.{instance_of}
 use Rattle.mm_txn.specs.Marks.{Ascend}
-use Rattle.mm_txn.specs.Watched.{queries_of, rows_by_place}
+use Rattle.mm_txn.specs.Listed.{queries_of, rows_by_place}
 use Rattle.mm_txn.specs.declared.savepoints.Mark.{Mark}
 
 -- The rows at a mark are those that stood when the log had so many commands.

@@ -12,14 +12,14 @@ ghost use Rattle.mm_query.specs.Edits.{goes_along, removals_of, with_cascades};
 ghost use Rattle.mm_value.specs.declared.refusal.Refusal.TheVariants.{Memory};
 ghost use Rattle.mm_txn.specs.Cascades.{AddsGoing, IsCascade, along_of, along_to, alongs_from};
 ghost use Rattle.mm_plan.specs.Kept.{AreKept, instance_of};
-ghost use Rattle.mm_txn.specs.TableEdits.{AreEdits, FitsAt, edits_at, named, pairs_at, placed};
+ghost use Rattle.mm_txn.specs.PlacedEdits.{AreEdits, FitsAt, edits_at, named, pairs_at, placed};
 
-use crate::edits::TableEdits;
+use crate::edits::RelationEdits;
 use crate::row_edits::removals_at;
 use mm_delta::{references_of_gone, row_gone};
 use mm_relation::Edit;
 use mm_schema::{Catalog, Column, Name};
-use mm_store::{IndexRef, Store};
+use mm_store::{IndexRef, Store, View};
 use mm_value::{Refusal, RowRef};
 use std::alloc::Global;
 
@@ -41,8 +41,8 @@ pub(crate) fn cascades(
     alloc: Global,
     catalog: &Catalog,
     store: &Store,
-    own: &TableEdits,
-) -> Result<Vec<TableEdits>, Refusal>
+    own: &RelationEdits,
+) -> Result<Vec<RelationEdits>, Refusal>
     requires kept { AreKept catalog.now store.now }
     requires distinct { HasDistinctNames catalog.now }
     requires fit { FitsAt store.now (placed own.now) }
@@ -57,7 +57,7 @@ pub(crate) fn cascades(
     for table in own.table + 1..count {
         let edits = going_along(alloc, catalog, store, table, own, along.as_slice())?;
         if !edits.is_empty() {
-            along.push(TableEdits { table, edits })?;
+            along.push(RelationEdits { table, edits })?;
         }
     }
     Ok(along)
@@ -69,8 +69,8 @@ fn going_along(
     catalog: &Catalog,
     store: &Store,
     table: usize,
-    own: &TableEdits,
-    along: &[TableEdits],
+    own: &RelationEdits,
+    along: &[RelationEdits],
 ) -> Result<Vec<Edit>, Refusal>
     requires kept { AreKept catalog.now store.now }
     requires distinct { HasDistinctNames catalog.now }
@@ -85,11 +85,11 @@ fn going_along(
     ensures memory { IfErr result (λ refusal. refusal ≡ Memory) }
 {
     let columns = cascading_columns(alloc, catalog, table, own, along)?;
+    let mut view = store.view();
     let mut found = Vec::new(alloc);
     for cascade in &columns {
-        add_referrers(alloc, store, table, cascade, &mut found)?;
+        add_referrers(alloc, &mut view, table, cascade, &mut found)?;
     }
-    let mut view = store.view();
     Ok(removals_at(alloc, &mut view, table, found)?)
 }
 
@@ -98,8 +98,8 @@ fn cascading_columns<'a>(
     alloc: Global,
     catalog: &Catalog,
     table: usize,
-    own: &'a TableEdits,
-    along: &'a [TableEdits],
+    own: &'a RelationEdits,
+    along: &'a [RelationEdits],
 ) -> Result<Vec<Cascade<'a>>, Refusal>
     requires there { table < length catalog.now.tables }
     ensures found { IfOk result (λ found. (t : Table) → slice_get catalog.now.tables table ≡ Some t
@@ -121,8 +121,8 @@ fn cascade_of<'a>(
     catalog: &Catalog,
     place: usize,
     column: &Column,
-    own: &'a TableEdits,
-    along: &'a [TableEdits],
+    own: &'a RelationEdits,
+    along: &'a [RelationEdits],
 ) -> Option<Cascade<'a>>
     ensures { option_map along_of result
         ≡ along_to catalog.now (placed own.entry.now ∷ map placed along.entry.now) place (cascading_target column.now) }
@@ -152,7 +152,7 @@ fn cascading_target(column: &Column) -> Option<&Name>
 }
 
 /// What is taken out of the table at a place.
-fn removals_of<'a>(own: &'a TableEdits, along: &'a [TableEdits], place: usize) -> &'a [Edit]
+fn removals_of<'a>(own: &'a RelationEdits, along: &'a [RelationEdits], place: usize) -> &'a [Edit]
     ensures { result.now ≡ edits_at (placed own.entry.now ∷ map placed along.entry.now) place }
 {
     if own.table == place {
@@ -170,70 +170,68 @@ fn removals_of<'a>(own: &'a TableEdits, along: &'a [TableEdits], place: usize) -
 /// one, else by one pass over the rows. `Memory` is the only refusal.
 fn add_referrers(
     alloc: Global,
-    store: &Store,
+    view: &mut View<'_>,
     table: usize,
     cascade: &Cascade,
     found: &mut Vec<RowRef>,
 ) -> Result<(), Refusal>
-    requires there { table < length store.now.tables }
-    requires cascade { IsCascade store.now table cascade.now.column (cascade.now.to, cascade.now.gone.now) }
-    ensures found { OnOk result (AddsGoing store.now table (along_of cascade.now) found.old.items found.new.items) }
+    requires there { table < length view.old.store.tables }
+    requires cascade { IsCascade view.old.store table cascade.now.column (cascade.now.to, cascade.now.gone.now) }
+    ensures found { OnOk result (AddsGoing view.old.store table (along_of cascade.now) found.old.items found.new.items) }
+    ensures same { view.new.store ≡ view.old.store }
     ensures memory { IfErr result (λ refusal. refusal ≡ Memory) }
 {
-    match store.index_on(table, cascade.column) {
-        Some(index) => add_by_index(alloc, store, table, index, cascade, found),
-        None => add_by_scan(alloc, store, table, cascade, found),
+    match view.index_on(table, cascade.column) {
+        Some(index) => add_by_index(alloc, view, table, index, cascade, found),
+        None => add_by_scan(alloc, view, table, cascade, found),
     }
 }
 
 /// The same by an index of the column: for each row that goes those that have its key there. `Memory` is the only refusal.
 fn add_by_index(
     alloc: Global,
-    store: &Store,
+    view: &mut View<'_>,
     table: usize,
     index: IndexRef,
     cascade: &Cascade,
     found: &mut Vec<RowRef>,
 ) -> Result<(), Refusal>
-    requires there { table < length store.now.tables }
-    requires cascade { IsCascade store.now table cascade.now.column (cascade.now.to, cascade.now.gone.now) }
-    requires index { (stored : StoredRows) → IsAt store.now table stored → IsIndexOn stored cascade.now.column index }
-    ensures found { OnOk result (AddsGoing store.now table (along_of cascade.now) found.old.items found.new.items) }
+    requires there { table < length view.old.store.tables }
+    requires cascade { IsCascade view.old.store table cascade.now.column (cascade.now.to, cascade.now.gone.now) }
+    requires index { (stored : StoredRows) → IsAt view.old.store table stored → IsIndexOn stored cascade.now.column index }
+    ensures found { OnOk result (AddsGoing view.old.store table (along_of cascade.now) found.old.items found.new.items) }
+    ensures same { view.new.store ≡ view.old.store }
     ensures memory { IfErr result (λ refusal. refusal ≡ Memory) }
 {
-    store.is_kept(table);
-    store.is_kept(cascade.to);
-    let target = store.table(cascade.to);
+    let column = view.key_of(cascade.to);
     for edit in cascade.gone {
         if let Some(at) = row_gone(edit) {
-            let key = target.row(at).value(target.key());
-            store.matches(alloc, table, index, key, found)?;
+            let key = view.row(cascade.to, at).value(column);
+            view.matches(alloc, table, index, key, found)?;
         }
     }
     Ok(())
 }
 
-/// The same where the column has none: each row of the table is asked once whether the row that it refers to goes. `Memory` is the
-/// only refusal.
+/// The same where the column has none: each row of the table is asked once whether the row that it refers to goes, with no look at
+/// either. `Memory` is the only refusal.
 fn add_by_scan(
     alloc: Global,
-    store: &Store,
+    view: &View<'_>,
     table: usize,
     cascade: &Cascade,
     found: &mut Vec<RowRef>,
 ) -> Result<(), Refusal>
-    requires there { table < length store.now.tables }
-    requires cascade { IsCascade store.now table cascade.now.column (cascade.now.to, cascade.now.gone.now) }
-    requires unindexed { (stored : StoredRows) → IsAt store.now table stored → IsFirstOn stored cascade.now.column None }
-    ensures found { OnOk result (AddsGoing store.now table (along_of cascade.now) found.old.items found.new.items) }
+    requires there { table < length view.now.store.tables }
+    requires cascade { IsCascade view.now.store table cascade.now.column (cascade.now.to, cascade.now.gone.now) }
+    requires unindexed { (stored : StoredRows) → IsAt view.now.store table stored → IsFirstOn stored cascade.now.column None }
+    ensures found { OnOk result (AddsGoing view.now.store table (along_of cascade.now) found.old.items found.new.items) }
     ensures memory { IfErr result (λ refusal. refusal ≡ Memory) }
 {
-    store.is_kept(table);
-    store.is_kept(cascade.to);
+    view.is_kept(cascade.to);
     let gone = references_of_gone(alloc, cascade.gone)?;
-    let relation = store.table(table);
-    for at in relation.by_key() {
-        let target = store.follow(table, cascade.column, at);
+    for at in view.walk(table, IndexRef::Key) {
+        let target = view.follow(table, cascade.column, at);
         if gone.contains(&(target.part, target.slot)) {
             found.push(at)?;
         }

@@ -6,7 +6,7 @@ ghost use Rattle.mm_relation.specs.Index.{EachTurns};
 ghost use Rattle.mm_relation.specs.Kept.{StoredRows};
 ghost use Rattle.mm_relation.specs.RowLists.{edit_pairs};
 ghost use Rattle.mm_schema.specs.Refused.{AnswersDue, first_refusal};
-ghost use Rattle.mm_bag.specs.Counts.{Counts};
+ghost use Rattle.mm_multiset.specs.Counts.{Counts};
 ghost use Rattle.mm_standing.specs.Queries.{change_conditions as list_conditions};
 ghost use Rattle.mm_standing.specs.State.{AreServed, FitPrepared};
 ghost use Rattle.mm_store.specs.Marks.{rows_at_mark};
@@ -17,12 +17,12 @@ ghost use Rattle.mm_value.specs.declared.refusal.Refusal.TheVariants.{RowIsRefer
 ghost use Rattle.mm_value.specs.declared.values.Value.{Value};
 ghost use Rattle.mm_txn.specs.Contents.{IsDue, Makes, MayMake};
 ghost use Rattle.mm_plan.specs.Kept.{instance_of};
-ghost use Rattle.mm_txn.specs.TableEdits.{AreEdits, FitsAt, HaveRows, leaves_orphans, placed, rows_edited, told};
-ghost use Rattle.mm_txn.specs.Watched.{AreListed, IsTested, rows_by_place};
+ghost use Rattle.mm_txn.specs.PlacedEdits.{AreEdits, FitsAt, HaveRows, leaves_orphans, placed, rows_edited, told};
+ghost use Rattle.mm_txn.specs.Listed.{AreListed, IsTested, rows_by_place};
 
 use crate::contents::Contents;
-use crate::edits::{ChangeEdits, TableEdits};
-use mm_delta::TableEdits as TableChange;
+use crate::edits::{ChangeEdits, RelationEdits};
+use mm_delta::TableChange;
 use mm_standing::Standing;
 use mm_store::{Store, Undo};
 use mm_value::Refusal;
@@ -58,7 +58,7 @@ fn edit_table(
     alloc: Global,
     store: &mut Store,
     standing: &mut Standing,
-    own: TableEdits,
+    own: RelationEdits,
     undo: &mut Undo,
 ) -> Result<(), Refusal>
     requires { MayMake store.old standing.old undo.old (placed own ∷ []) }
@@ -82,8 +82,8 @@ fn remove_rows(
     alloc: Global,
     store: &mut Store,
     standing: &mut Standing,
-    own: TableEdits,
-    along: Vec<TableEdits>,
+    own: RelationEdits,
+    along: Vec<RelationEdits>,
     undo: &mut Undo,
 ) -> Result<(), Refusal>
     requires may { MayMake store.old standing.old undo.old (placed own ∷ map placed along.items) }
@@ -113,8 +113,8 @@ fn remove_rows(
 fn remove_each(
     alloc: Global,
     store: &mut Store,
-    own: TableEdits,
-    mut along: Vec<TableEdits>,
+    own: RelationEdits,
+    mut along: Vec<RelationEdits>,
     undo: &mut Undo,
 ) -> Result<(), Refusal>
     requires are { AreEdits store.old (placed own ∷ map placed along.items) }
@@ -140,7 +140,7 @@ fn remove_each(
 fn remove_from(
     alloc: Global,
     store: &mut Store,
-    removals: TableEdits,
+    removals: RelationEdits,
     undo: &mut Undo,
 ) -> Result<(), Refusal>
     requires there { removals.table < length store.old.tables }
@@ -157,7 +157,7 @@ fn remove_from(
     ensures fits { CanUndo store.new undo.new }
     ensures saved { (mark : ℕ) → mark ≤ length undo.old → rows_at_mark mark undo.new store.new ≡ rows_at_mark mark undo.old store.old }
 {
-    let TableEdits { table, edits } = removals;
+    let RelationEdits { table, edits } = removals;
     store.removals_may_be_made(table);
     store.check(alloc, table, edits.as_slice())?;
     store.apply(alloc, table, edits, undo)?;
@@ -169,8 +169,8 @@ fn prepare_removals(
     alloc: Global,
     store: &Store,
     standing: &mut Standing,
-    own: &TableEdits,
-    along: &[TableEdits],
+    own: &RelationEdits,
+    along: &[RelationEdits],
 ) -> Result<(), Refusal>
     requires fit { All (FitsAt store.now) (placed own.now ∷ map placed along.now) }
     requires served { AreServed store.now standing.old.queries }
@@ -190,8 +190,8 @@ fn prepare_removals(
 /// The edits of several tables for the lists of standing queries. `AllocError` where memory is refused.
 fn as_changes<'e>(
     alloc: Global,
-    own: &'e TableEdits,
-    along: &'e [TableEdits],
+    own: &'e RelationEdits,
+    along: &'e [RelationEdits],
 ) -> Result<Vec<TableChange<'e>>, AllocError>
     ensures { IfOk result (λ changes. map told changes.items ≡ placed own.now ∷ map placed along.now) }
 {

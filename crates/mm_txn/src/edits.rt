@@ -6,12 +6,12 @@ ghost use Rattle.mm_query.specs.Binding.{binding_conditions};
 ghost use Rattle.mm_query.specs.Edits.{value_conditions};
 ghost use Rattle.mm_plan.specs.Kept.{AreKept, AreOf};
 ghost use Rattle.mm_txn.specs.Kept.{state_of};
-ghost use Rattle.mm_txn.specs.TableEdits.{AreEditsOf, AreOwnEditsOf, placed, told};
+ghost use Rattle.mm_txn.specs.PlacedEdits.{AreEditsOf, AreOwnEditsOf, placed, told};
 
 use crate::cascades::cascades;
 use crate::contents::Contents;
 use crate::row_edits::{additions, removals, updates};
-use mm_delta::TableEdits as TableChange;
+use mm_delta::TableChange;
 use mm_query::{BoundChange, Mutation, bind_change};
 use mm_relation::Edit;
 use mm_schema::Catalog;
@@ -21,14 +21,14 @@ use std::alloc::Global;
 
 /// Edits of the relation of one table.
 #[derive(Drop)]
-pub(crate) struct TableEdits {
+pub(crate) struct RelationEdits {
     /// The table's place in the order of creation.
     pub(crate) table: usize,
     /// The edits, of which each names another row.
     pub(crate) edits: Vec<Edit>,
 }
 
-impl TableEdits {
+impl RelationEdits {
     /// The same for the lists of standing queries.
     pub(crate) fn as_change(&self) -> TableChange<'_>
         ensures { told result ≡ placed self.now }
@@ -44,9 +44,9 @@ impl TableEdits {
 #[derive(Drop)]
 pub(crate) struct ChangeEdits {
     /// Those of the table that it names.
-    pub(crate) own: TableEdits,
+    pub(crate) own: RelationEdits,
     /// Those of the rows that go along with a DELETE, in the order of the tables' creation. There are none with another change.
-    pub(crate) along: Vec<TableEdits>,
+    pub(crate) along: Vec<RelationEdits>,
 }
 
 impl Contents {
@@ -75,7 +75,7 @@ fn own_edits(
     catalog: &Catalog,
     store: &Store,
     mutation: Mutation,
-) -> Result<TableEdits, Refusal>
+) -> Result<RelationEdits, Refusal>
     requires { AreOf catalog.now.tables store.now.tables }
     ensures due { AnswersDue (first_refusal (binding_conditions mutation catalog.now
         ++ value_conditions mutation (state_of catalog.now store.now.tables))) result }
@@ -85,7 +85,7 @@ fn own_edits(
     match bind_change(alloc, catalog, mutation)? {
         BoundChange::Insert { table, tuples } => {
             let edits = additions(alloc, tuples.into_vec())?;
-            Ok(TableEdits { table, edits })
+            Ok(RelationEdits { table, edits })
         }
         BoundChange::Update {
             table,
@@ -100,12 +100,12 @@ fn own_edits(
                 assignments.as_slice(),
                 tests.as_slice(),
             )?;
-            Ok(TableEdits { table, edits })
+            Ok(RelationEdits { table, edits })
         }
         BoundChange::Delete { table, tests } => {
             let mut view = store.view();
             let edits = removals(alloc, &mut view, table, tests.as_slice())?;
-            Ok(TableEdits { table, edits })
+            Ok(RelationEdits { table, edits })
         }
     }
 }

@@ -7,7 +7,7 @@ ghost use Rattle.mm_plan.specs.Kept.{AreKept, AreOf, instance_of};
 ghost use Rattle.mm_txn.specs.Kept.{state_of};
 ghost use Rattle.mm_schema.specs.Schema.{lacks_table};
 ghost use Rattle.mm_txn.specs.Rest.{state_at_rest, told_state, told_table};
-ghost use Rattle.mm_txn.specs.Watched.{AreListed, ArePlaced};
+ghost use Rattle.mm_txn.specs.Listed.{AreListed, ArePlaced};
 
 use mm_query::{ItemList, ListedQuery, ListedTable, Listing};
 use mm_schema::{Catalog, Table};
@@ -68,7 +68,7 @@ fn listed_table(
     let place = catalog.place_of(&table.definition.name).unwrap_or(0);
     Ok(ListedTable {
         table: table.copy(alloc)?,
-        rows: store.len_of(place),
+        rows: store.view().len_of(place),
     })
 }
 

@@ -13,7 +13,7 @@ use crate::contents::Contents;
 use mm_query::{Bound, FromItem, NamedQuery, Query, bind_query};
 use mm_schema::{Catalog, Name, TableNames};
 use mm_value::Refusal;
-use std::alloc::Global;
+use std::alloc::{AllocError, Global};
 
 impl Contents {
     /// Keeps a query as a standing query, which comes last. The first refusal that is due is answered, or `Memory` in its place or in
@@ -29,8 +29,8 @@ impl Contents {
         let NamedQuery { name, query } = named;
         let bound = bind_named(alloc, &self.catalog, &name, query)?;
         let names = names_of(alloc, bound.query.from.as_slice())?;
+        let tables = copy_places(alloc, bound.tables.as_slice())?;
         self.catalog.add_standing(name.copy(), names)?;
-        let tables = bound.tables.into_vec();
         if let Err(refusal) = self.standing.watch(alloc, &self.store, bound.query, tables) {
             let _ = self.catalog.drop_standing(&name);
             return Err(refusal);
@@ -97,4 +97,11 @@ fn names_of(alloc: Global, from: &[FromItem]) -> Result<TableNames, Refusal>
         names.push(item.table.copy())?;
     }
     Ok(TableNames::new(names))
+}
+
+/// These places, in their order. `AllocError` where memory is refused.
+fn copy_places(alloc: Global, places: &[usize]) -> Result<Vec<usize>, AllocError>
+    ensures { IfOk result (λ copied. copied.items ≡ places.now) }
+{
+    places.iter().copied().collect(alloc)
 }

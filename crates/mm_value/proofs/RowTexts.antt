@@ -1,8 +1,8 @@
 -- The text of values that stand one after another.
-use Rattle.std.proofs.Common.{◌≡◌, ◌<◌, ◌≤◌, ℕ, ◌+◌, List, [], ◌∷◌, ◌++◌, Bor, length, map, get_or, take, drop, refl, sym, ap, ◌∙◌}
+use Rattle.std.proofs.Common.{◌≡◌, ◌<◌, ◌≤◌, ℕ, ◌+◌, List, [], ◌∷◌, ◌++◌, length, map, get_or, take, drop, refl, sym, ap, ◌∙◌}
 use Rattle.std.proofs.Common.{append-nil, append_assoc, take-append-drop}
 use Rattle.std.specs.List.{flat_map}
-use Rattle.std.proofs.lemmas.List.{drop_more, take_all}
+use Rattle.std.proofs.lemmas.List.{drop_more, take_all, take_more}
 use Rattle.std.proofs.lemmas.List.Concat.{flat_map-append}
 use Rattle.mm_value.specs.declared.values.Value.{Value}
 use Rattle.mm_value.specs.Written.{value_text, values_text}
@@ -32,45 +32,43 @@ texts_all : {T : Type 0} (text : T → List ℕ) (first : List ℕ) (others : Li
     → first ++ flat_map text others ≡ first ++ flat_map text (take i others)
 texts_all text first others i end = ap (λ l. first ++ flat_map text l) (sym (take_all i others end))
 
--- the first value, the i values after it, the next one, and the rest of them
-pub values_text_at : (values : List Value) (first : Value) (others : List Value) (i : ℕ) (v : Value) → values ≡ first ∷ others → i < length others
-    → v ≡ get_or others i v
-    → values_text values ≡ ((value_text first ++ flat_map next_text (take i others)) ++ next_text v) ++ flat_map next_text (drop (i + 1) others)
-values_text_at values first others i v e lt at =
-    ap values_text e ∙ values_text-cons first others ∙ texts_at next_text (value_text first) others i v lt at
+-- a value after another one, read from where it is
+abbrev pub next_text_of : {T : Type 0} → (T → Value) → T → List ℕ
+next_text_of value v = next_text (value v)
 
--- the first value, and all after it
-pub values_text_all : (values : List Value) (first : Value) (others : List Value) (i : ℕ) → values ≡ first ∷ others → length others ≤ i
-    → values_text values ≡ value_text first ++ flat_map next_text (take i others)
-values_text_all values first others i e end = ap values_text e ∙ values_text-cons first others ∙ texts_all next_text (value_text first) others i end
+pub next_texts : {T : Type 0} (value : T → Value) (vs : List T) → flat_map next_text (map value vs) ≡ flat_map (next_text_of value) vs
+next_texts value [] = refl
+next_texts value (v ∷ vs) = ap (λ l. next_text (value v) ++ l) (next_texts value vs)
 
--- values that lie elsewhere
-abbrev pub values_of : List (Bor Value) → List Value
-values_of values = map (λ v. v.now) values
+-- i values, and the next one
+pub next_value : {T : Type 0} (value : T → Value) (others : List T) (i : ℕ) (v : T) → i < length others → v ≡ get_or others i v
+    → flat_map (next_text_of value) (take (i + 1) others) ≡ flat_map (next_text_of value) (take i others) ++ next_text_of value v
+next_value value others i v lt at =
+    ap (flat_map (next_text_of value)) (take_more others i v lt ∙ ap (λ w. take i others ++ w ∷ []) (sym at))
+    ∙ flat_map-append (next_text_of value) (take i others) (v ∷ [])
+    ∙ ap (λ l. flat_map (next_text_of value) (take i others) ++ l) (append-nil (next_text_of value v))
 
--- a value that lies elsewhere, after another one
-abbrev pub borrowed_next_text : Bor Value → List ℕ
-borrowed_next_text v = next_text v.now
+module _ {T : Type 0} (value : T → Value) (values : List T) (first : T) (others : List T) (split : values ≡ first ∷ others) where
+  -- the first value, and all after it
+  pub values_text-split : values_text (map value values) ≡ value_text (value first) ++ flat_map (next_text_of value) others
+  values_text-split =
+      ap (λ l. values_text (map value l)) split
+      ∙ values_text-cons (value first) (map value others)
+      ∙ ap (λ l. value_text (value first) ++ l) (next_texts value others)
 
-borrowed_next_texts : (vs : List (Bor Value)) → flat_map next_text (values_of vs) ≡ flat_map borrowed_next_text vs
-borrowed_next_texts [] = refl
-borrowed_next_texts (v ∷ vs) = ap (λ l. next_text v.now ++ l) (borrowed_next_texts vs)
+  -- the first value, the i values after it, the next one, and the rest of them
+  pub values_text_at : (i : ℕ) (v : T) → i < length others → v ≡ get_or others i v
+      → values_text (map value values)
+      ≡ ((value_text (value first) ++ flat_map (next_text_of value) (take i others)) ++ next_text_of value v)
+      ++ flat_map (next_text_of value) (drop (i + 1) others)
+  values_text_at i v lt at = values_text-split ∙ texts_at (next_text_of value) (value_text (value first)) others i v lt at
 
-borrowed_text-cons : (values : List (Bor Value)) (first : Bor Value) (others : List (Bor Value)) → values ≡ first ∷ others
-    → values_text (values_of values) ≡ value_text first.now ++ flat_map borrowed_next_text others
-borrowed_text-cons values first others e =
-    ap (λ l. values_text (values_of l)) e ∙ values_text-cons first.now (values_of others) ∙ ap (λ l. value_text first.now ++ l) (borrowed_next_texts others)
+  -- the first value, and all i after it
+  pub values_text_all : (i : ℕ) → length others ≤ i
+      → values_text (map value values) ≡ value_text (value first) ++ flat_map (next_text_of value) (take i others)
+  values_text_all i end = values_text-split ∙ texts_all (next_text_of value) (value_text (value first)) others i end
 
--- as `values_text_at`, of values that lie elsewhere
-pub borrowed_text_at : (values : List (Bor Value)) (first : Bor Value) (others : List (Bor Value)) (i : ℕ) (v : Bor Value) → values ≡ first ∷ others
-    → i < length others → v ≡ get_or others i v
-    → values_text (values_of values) ≡ ((value_text first.now ++ flat_map borrowed_next_text (take i others)) ++ next_text v.now)
-    ++ flat_map borrowed_next_text (drop (i + 1) others)
-borrowed_text_at values first others i v e lt at =
-    borrowed_text-cons values first others e ∙ texts_at borrowed_next_text (value_text first.now) others i v lt at
-
--- as `values_text_all`, of values that lie elsewhere
-pub borrowed_text_all : (values : List (Bor Value)) (first : Bor Value) (others : List (Bor Value)) (i : ℕ) → values ≡ first ∷ others → length others ≤ i
-    → values_text (values_of values) ≡ value_text first.now ++ flat_map borrowed_next_text (take i others)
-borrowed_text_all values first others i e end =
-    borrowed_text-cons values first others e ∙ texts_all borrowed_next_text (value_text first.now) others i end
+-- values that are read from themselves
+pub values_themselves : (values : List Value) → map (λ (v : Value). v) values ≡ values
+values_themselves [] = refl
+values_themselves (v ∷ vs) = ap (λ l. v ∷ l) (values_themselves vs)

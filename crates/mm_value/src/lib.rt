@@ -1,6 +1,7 @@
 //! Values and rows: their order, their text both ways, and the refusals of a command.
 #![tactic(auto)]
 
+mod as_value;
 mod col_type;
 mod device;
 mod equality;
@@ -13,12 +14,13 @@ mod short_text;
 mod tuple;
 mod values;
 
+pub use as_value::AsValue;
 pub use col_type::ColType;
 pub use device::{MAX_RETRIES, Watched, WriteFault, put_all};
 pub use equality::equality_is_exact;
 pub use literals::{literals_are_exact, read_int, read_literal};
 pub use prefix::{order_prefix, prefixes_keep_order};
-pub use printed::{write_row, write_tuple};
+pub use printed::write_row;
 pub use refusal::Refusal;
 pub use row_ref::RowRef;
 pub use short_text::{MAX_TEXT_BYTES, Text};

@@ -10,7 +10,7 @@ mod lists;
 mod plans;
 mod runs;
 
-use mm_query::{Atom, BoundQuery, FieldPlace, ItemList};
+use mm_query::{Atom, BoundQuery, Few, FieldPlace, ShortList};
 use mm_value::{Row, Value, compare};
 use std::alloc::{AllocError, Global};
 use std::io;
@@ -32,10 +32,10 @@ fn query_of<const N: usize>(
     let atoms = Vec::from_array(alloc, atoms)?;
     Ok(BoundQuery {
         distinct: false,
-        fields: ItemList::new(fields),
-        from: ItemList::new(Vec::new(alloc)),
-        atoms: ItemList::new(atoms),
-        order: ItemList::new(Vec::new(alloc)),
+        fields: ShortList::from_vec(fields),
+        from: Few::from_vec(Vec::new(alloc)),
+        atoms: ShortList::from_vec(atoms),
+        order: ShortList::from_vec(Vec::new(alloc)),
     })
 }
 

@@ -8,7 +8,7 @@ use crate::atoms::{
 };
 use crate::samples::{Values, sample};
 use mm_plan::{Step, plan_steps, run_plan};
-use mm_query::{Atom, BoundQuery, Comparison, FieldPlace, ItemList};
+use mm_query::{Atom, BoundQuery, Comparison, Few, FieldPlace, ShortList};
 use mm_schema::IndexKind;
 use mm_store::{IndexRef, Store};
 use mm_value::Refusal;
@@ -32,10 +32,10 @@ fn query_of<const N: usize>(
     }
     Ok(BoundQuery {
         distinct: false,
-        fields: ItemList::new(Vec::new(alloc)),
-        from: ItemList::new(Vec::new(alloc)),
-        atoms: ItemList::new(atoms),
-        order: ItemList::new(Vec::new(alloc)),
+        fields: ShortList::from_vec(Vec::new(alloc)),
+        from: Few::from_vec(Vec::new(alloc)),
+        atoms: ShortList::from_vec(atoms),
+        order: ShortList::from_vec(Vec::new(alloc)),
     })
 }
 
@@ -43,7 +43,7 @@ fn query_of<const N: usize>(
 #[derive(Drop)]
 struct Ran {
     /// The steps of its plan.
-    steps: Vec<Step>,
+    steps: ShortList<Step, 4>,
     /// How many combinations of rows are in its answer.
     found: usize,
     /// How many rows were read to find them.

@@ -1,4 +1,4 @@
-//! Searches for a cycle whose growths of memory are refused, as `tests/refused_growths` of the repository does: in each run of a test one
+//! Searches for a cycle whose growths of memory are refused, as `tests/refused_growths.py` does: in each run of a test one
 //! growth, or all from one to the line that tells of a refused search. Then it is made again.
 //!
 //! So whatever else may be refused before that line ends the test, as passed.

@@ -1,5 +1,5 @@
 //! Queries and rows for tests.
-use mm_query::{Atom, BoundQuery, Comparison, FieldPlace, FromItem, ItemList, Operand};
+use mm_query::{Atom, BoundQuery, Comparison, Few, FieldPlace, FromItem, Operand, ShortList};
 use mm_relevance::CycleEdge;
 use mm_schema::Name;
 use mm_value::{Refusal, Row, Text, Value};
@@ -47,10 +47,10 @@ pub fn query(
     }
     Ok(BoundQuery {
         distinct: false,
-        fields: ItemList::new(Vec::new(alloc)),
-        from: ItemList::new(from),
-        atoms: ItemList::new(atoms),
-        order: ItemList::new(Vec::new(alloc)),
+        fields: ShortList::from_vec(Vec::new(alloc)),
+        from: Few::from_vec(from),
+        atoms: ShortList::from_vec(atoms),
+        order: ShortList::from_vec(Vec::new(alloc)),
     })
 }
 

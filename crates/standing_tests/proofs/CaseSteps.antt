@@ -2,7 +2,7 @@
 use Rattle.std.proofs.Common.{◌≡◌, ℕ, pos, ◌≤◌, List, [], ◌∷◌, ◌++◌, Some, drop, length, map, slice_get, slice_index_or, take, refl, sym, ap, subst, ◌∙◌, arith}
 use Rattle.std.specs.List.{All, remove}
 use Rattle.std.proofs.lemmas.List.Elements.{All-nil, All-push}
-use Rattle.mm_bag.specs.Counts.{Counts}
+use Rattle.mm_multiset.specs.Counts.{Counts}
 use Rattle.mm_delta.specs.Edited.{before_at}
 use Rattle.mm_relation.specs.Index.{EachTurns}
 use Rattle.mm_relation.specs.Kept.{StoredRows}

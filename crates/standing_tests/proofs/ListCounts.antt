@@ -4,7 +4,7 @@ use Rattle.std.specs.List.{All, AllByRecursion, list_any, remove}
 use Rattle.std.proofs.lemmas.Bool.{ltb-false, or_parts}
 use Rattle.std.proofs.lemmas.Bool.Decides.{nat_tests}
 use Rattle.std.proofs.lemmas.List.Elements.{All-cons, All-from_recursion, All-nil, All-weaker, recursion_from_All}
-use Rattle.mm_bag.specs.Counts.{Counts, Entries, count_in, count_of}
+use Rattle.mm_multiset.specs.Counts.{Counts, Entries, count_in, count_of}
 use Rattle.mm_schema.specs.Refused.{AnswersDue, first_refusal}
 use Rattle.mm_standing.specs.Bags.{Made, count_with, entries_at, row_change, sum_over}
 use Rattle.mm_standing.specs.Queries.{AreCounts, IsBagOf, IsServed, RowsByPlace, StandingQuery, bag_over, change_conditions, is_too_large, list_conditions}

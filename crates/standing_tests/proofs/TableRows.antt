@@ -8,7 +8,7 @@ use Rattle.std.proofs.lemmas.List.Elements.{All-cons, All-nil}
 use Rattle.mm_delta.specs.Edited.{after_at, before_at}
 use Rattle.mm_delta.specs.Skipping.{IsTypeTested}
 use Rattle.mm_delta.specs.Steps.{EachFit}
-use Rattle.mm_delta.specs.declared.edited.TableEdits.{TableEdits}
+use Rattle.mm_delta.specs.declared.edited.TableChange.{TableChange}
 use Rattle.mm_query.specs.Queries.{bag_of}
 use Rattle.mm_query.specs.declared.atom.Atom.{Atom}
 use Rattle.mm_query.specs.declared.atom.Operand.{Operand}
@@ -97,11 +97,11 @@ rows_made store new table within edits each = λ i place. rows_turned store new 
 -- ---- the edits of one table
 
 -- The rows after a change of one table are those with its edits made.
-pub after_is : (store : Tables) (change : TableEdits) → after_at store (change ∷ []) ≡ rows_edited store change.table change.edits.now
+pub after_is : (store : Tables) (change : TableChange) → after_at store (change ∷ []) ≡ rows_edited store change.table change.edits.now
 after_is store change = λ i place. by (change.table == place) (slice_get store.tables place) i
   where
     by : (b : Bool) (found : Option StoredRows)
-        → option_map_or (λ stored. rows_with stored (option_map_or (λ (c : TableEdits). c.edits.now) (cond b (Some change) None) [])) found []
+        → option_map_or (λ stored. rows_with stored (option_map_or (λ (c : TableChange). c.edits.now) (cond b (Some change) None) [])) found []
         ≡ cond b (option_map_or (λ stored. rows_with stored change.edits.now) found []) (option_map_or rows_of found [])
     by true found = refl
     by false None = refl
@@ -114,12 +114,12 @@ fit_none stored = record {
 }
 
 -- Edits that fit their table fit each.
-pub fit_each : (store : Tables) (change : TableEdits) → ((stored : StoredRows) → IsAt store change.table stored → AreFit stored change.edits.now)
+pub fit_each : (store : Tables) (change : TableChange) → ((stored : StoredRows) → IsAt store change.table stored → AreFit stored change.edits.now)
     → EachFit store (change ∷ [])
 fit_each store change fit = λ place stored there. by place stored there (change.table == place) refl
   where
     by : (place : ℕ) (stored : StoredRows) → slice_get store.tables place ≡ Some stored → (b : Bool) → (change.table == place) ≡ b
-        → AreFit stored (option_map_or (λ (c : TableEdits). c.edits.now) (cond b (Some change) None) [])
+        → AreFit stored (option_map_or (λ (c : TableChange). c.edits.now) (cond b (Some change) None) [])
     by place stored there true own =
         let same : change.table ≡ place = eqb-true change.table place own in
         fit stored (subst (λ p. slice_get store.tables p ≡ Some stored) (sym same) there)
@@ -140,7 +140,7 @@ adds_to_numbers rows (a ∷ others) none =
     All-cons (λ (atom : Atom FieldPlace). AddsToNumber rows atom.right) a others (adds_one rows a.right parts.0) (adds_to_numbers rows others parts.1)
 
 -- They add none to a text, whatever the rows are.
-pub tested_one : (store : Tables) (changes : List TableEdits) (query : BoundQuery) (tables : List ℕ) → length tables ≡ length query.from
+pub tested_one : (store : Tables) (changes : List TableChange) (query : BoundQuery) (tables : List ℕ) → length tables ≡ length query.from
     → is_unshifted query ≡ true → IsTypeTested query store changes tables
 tested_one store changes query tables whole unshifted = record {
   whole = whole;
@@ -148,7 +148,7 @@ tested_one store changes query tables whole unshifted = record {
   after = adds_to_numbers (λ j. after_at store changes (get_or tables j 0)) query.atoms unshifted;
 }
 
-pub type_tested : (store : Tables) (changes : List TableEdits) (queries : List StandingQuery) → All IsWhole queries → AreTypeTested store changes queries
+pub type_tested : (store : Tables) (changes : List TableChange) (queries : List StandingQuery) → All IsWhole queries → AreTypeTested store changes queries
 type_tested store changes queries whole = λ k d within.
     let s = get_or queries k d in tested_one store changes s.query s.tables (whole k d within).whole (whole k d within).unshifted
 

@@ -1,7 +1,7 @@
 //! Queries and rows for tests. Each table has a key and a number.
 ghost use Rattle.std.specs.Prelude.{◌≡◌, length, IfOk};
 
-use mm_query::{Atom, BoundQuery, Comparison, FieldPlace, FromItem, ItemList, Operand};
+use mm_query::{Atom, BoundQuery, Comparison, Few, FieldPlace, FromItem, Operand, ShortList};
 use mm_schema::Name;
 use mm_templist::ShownRows;
 use mm_value::{Refusal, Row, Value, compare};
@@ -49,10 +49,10 @@ pub fn query<const N: usize>(
     let from = from_tables(alloc, tables)?;
     Ok(BoundQuery {
         distinct: false,
-        fields: ItemList::new(fields),
-        from: ItemList::new(from),
-        atoms: ItemList::new(Vec::new(alloc)),
-        order: ItemList::new(Vec::new(alloc)),
+        fields: ShortList::from_vec(fields),
+        from: Few::from_vec(from),
+        atoms: ShortList::from_vec(Vec::new(alloc)),
+        order: ShortList::from_vec(Vec::new(alloc)),
     })
 }
 
@@ -64,7 +64,7 @@ pub fn pairs<const N: usize, const M: usize>(
 ) -> Result<BoundQuery, Refusal> {
     let atoms = Vec::from_array(alloc, atoms)?;
     let mut query = query(alloc, 2, fields)?;
-    query.atoms = ItemList::new(atoms);
+    query.atoms = ShortList::from_vec(atoms);
     Ok(query)
 }
 

@@ -1,6 +1,6 @@
 //! What is done to two tables and to the lists of standing queries over them.
 ghost use Rattle.std.specs.Prelude.{◌≡◌, ℕ, ◌<◌, ◌≤◌, All, List, [], ◌∷◌, length, map, true, IfOk, IfSome, OnErr, OnOk};
-ghost use Rattle.mm_bag.specs.Counts.{Counts};
+ghost use Rattle.mm_multiset.specs.Counts.{Counts};
 ghost use Rattle.mm_delta.specs.Edited.{before_at};
 ghost use Rattle.mm_query.specs.Queries.{bag_of};
 ghost use Rattle.mm_relation.specs.Edits.{edit_name, named, new_rows};
@@ -14,12 +14,12 @@ ghost use Rattle.mm_value.specs.declared.values.Value.{Value as Val};
 ghost use Rattle.store_tests.specs.SampleStore.{ArePlain};
 
 use crate::samples::row;
-use mm_delta::{Signed, TableEdits, delta};
+use mm_delta::{Signed, TableChange, delta};
 use mm_query::{BoundQuery, FieldPlace, Operand};
 use mm_relation::Edit;
 use mm_schema::IndexKind;
 use mm_standing::Standing;
-use mm_store::{Store, Undo};
+use mm_store::{IndexRef, Store, Undo};
 use mm_value::{Refusal, RowRef, Value};
 use std::alloc::{AllocError, Global};
 
@@ -86,14 +86,30 @@ pub fn replacement(
     Ok(vec![in alloc; Edit::Swap(at, row(alloc, key, number)?)]?)
 }
 
-/// The reference of the row of a key.
+/// Whether the row of a reference has a key.
+fn has_key(store: &Store, table: usize, at: RowRef, key: i64) -> bool
+    requires there { table < length store.now.tables }
+    requires live { (stored : StoredRows) → IsAt store.now table stored → IsLive stored.places at }
+{
+    let mut view = store.view();
+    match view.row(table, at).values().first() {
+        Some(Value::Int(number)) => *number == key,
+        _ => false,
+    }
+}
+
+/// The reference of the row of a key, found by a walk along the keys.
 fn at_key(store: &Store, table: usize, key: i64) -> Option<RowRef>
     requires { table < length store.now.tables }
     ensures { IfSome result (λ at. (stored : StoredRows) → IsAt store.now table stored → IsLive stored.places at) }
 {
-    let relation = store.table(table);
-    relation.is_kept();
-    relation.find(&Value::Int(key))
+    let view = store.view();
+    for at in view.walk(table, IndexRef::Key) {
+        if has_key(store, table, at, key) {
+            return Some(at);
+        }
+    }
+    None
 }
 
 /// Makes edits of a table, and of each list what they change of it, or neither.
@@ -171,7 +187,7 @@ fn prepare(
     ensures log { standing.new.log ≡ standing.old.log }
 {
     let mut view = store.view();
-    let changes = [TableEdits { table, edits }];
+    let changes = [TableChange { table, edits }];
     standing.prepare(alloc, &mut view, &changes)
 }
 
@@ -191,7 +207,7 @@ pub fn changes_of(
     requires unshifted { is_unshifted query.now ≡ true }
 {
     let mut view = store.view();
-    let changes = [TableEdits { table, edits }];
+    let changes = [TableChange { table, edits }];
     delta(alloc, &mut view, query, tables, &changes)
 }
 
@@ -261,7 +277,7 @@ pub fn is_first_empty(store: &Store) -> bool
     requires { length store.now.tables ≡ 2 }
     ensures { result ≡ true → rows_at store.now.tables 0 ≡ [] }
 {
-    store.len_of(0) == 0
+    store.view().len_of(0) == 0
 }
 
 /// Whether each of the places is 0 or 1.

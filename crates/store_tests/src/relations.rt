@@ -97,7 +97,7 @@ fn put(relation: &mut Relation, alloc: Global, keys: &[i64]) -> Result<bool, All
 }
 
 /// The reference of the row that has a key.
-pub fn at_key(relation: &Relation, key: i64) -> Option<RowRef>
+fn at_key(relation: &Relation, key: i64) -> Option<RowRef>
     ensures { IfSome result (Contains relation.now.refs) }
 {
     relation.find(&Value::Int(key))
@@ -138,7 +138,7 @@ fn turn(
 }
 
 /// The digit that stands beside a key, none where no row has the key.
-pub fn digit_of(relation: &Relation, key: i64) -> Option<i64> {
+fn digit_of(relation: &Relation, key: i64) -> Option<i64> {
     relation.is_kept();
     let at = at_key(relation, key)?;
     match relation.row(at).values().get(1) {

@@ -158,14 +158,35 @@ fn empty_log(store: &Store, alloc: Global) -> Undo
     Undo::new(alloc)
 }
 
-/// The reference of the row of a key.
+/// The whole number that a row has in a column, if it has one there.
+pub fn number_of(row: &Row, column: usize) -> Option<i64> {
+    match row.values().get(column) {
+        Some(Value::Int(number)) => Some(*number),
+        _ => None,
+    }
+}
+
+/// The same of the row of a reference.
+fn number_at(store: &Store, table: usize, at: RowRef, column: usize) -> Option<i64>
+    requires there { table < length store.now.tables }
+    requires live { (stored : StoredRows) → IsAt store.now table stored → IsLive stored.places at }
+{
+    let mut view = store.view();
+    number_of(view.row(table, at), column)
+}
+
+/// The reference of the row of a key, found by a walk along the keys.
 pub fn at_key(store: &Store, table: usize, key: i64) -> Option<RowRef>
     requires { table < length store.now.tables }
     ensures { IfSome result (λ at. (stored : StoredRows) → IsAt store.now table stored → IsLive stored.places at) }
 {
-    let relation = store.table(table);
-    relation.is_kept();
-    relation.find(&Value::Int(key))
+    let view = store.view();
+    for at in view.walk(table, IndexRef::Key) {
+        if number_at(store, table, at, 0) == Some(key) {
+            return Some(at);
+        }
+    }
+    None
 }
 
 /// A change of one row, or the addition of rows.
@@ -282,7 +303,7 @@ pub fn put(store: &mut Store, alloc: Global, table: usize, keys: &[i64]) -> Resu
 fn has_key(store: &Store, table: usize, key: i64) -> bool
     requires { table < length store.now.tables }
 {
-    store.table(table).find(&Value::Int(key)).is_some()
+    at_key(store, table, key).is_some()
 }
 
 #[test]
@@ -313,12 +334,20 @@ fn drop_first(rt: &impl Abort, store: &mut Store)
     requires none { store.old.links ≡ [] }
 {
     store.drop_table(0);
-    assert_same(rt, [store.len(), store.table(0).len()], [1, 2]);
+    assert_same(rt, [store.len(), store.view().len_of(0)], [1, 2]);
     assert_same(
         rt,
         [has_key(store, 0, 14), has_key(store, 0, 1)],
         [true, false],
     );
+}
+
+/// How many rows each of two tables has.
+fn lengths(store: &Store) -> [usize; 2]
+    requires { length store.now.tables ≡ 2 }
+{
+    let view = store.view();
+    [view.len_of(0), view.len_of(1)]
 }
 
 /// Adds rows to two tables, and drops the first.
@@ -329,7 +358,7 @@ fn keep_apart(rt: &(impl Abort + AllocGlobal), store: &mut Store) -> Result<(), 
 {
     assert_same(rt, store.len(), 2);
     assert_same(rt, put_apart(store, rt.alloc())?, [true, true, false, true]);
-    assert_same(rt, [store.table(0).len(), store.table(1).len()], [4, 2]);
+    assert_same(rt, lengths(store), [4, 2]);
     assert_that(rt, !has_key(store, 1, 5));
     drop_first(rt, store);
     Ok(())
@@ -349,14 +378,11 @@ const LAST_DIGIT: Reference = Reference {
 };
 
 /// What stands in the second column beside a key, and none where no row has the key.
-fn value_at(store: &Store, table: usize, key: i64) -> Option<i64>
+pub fn value_at(store: &Store, table: usize, key: i64) -> Option<i64>
     requires { table < length store.now.tables }
 {
     let at = at_key(store, table, key)?;
-    match store.table(table).row(at).values().get(1) {
-        Some(Value::Int(number)) => Some(*number),
-        _ => None,
-    }
+    number_at(store, table, at, 1)
 }
 
 /// The row that the row of a key of the second table refers to.
@@ -454,7 +480,7 @@ fn count_and_first(store: &Store, table: usize) -> (usize, Option<RowRef>)
     requires { table < length store.now.tables }
 {
     let view = store.view();
-    let mut walk = view.key_walk(table);
+    let mut walk = view.walk(table, IndexRef::Key);
     (view.len_of(table), walk.next())
 }
 

@@ -2,7 +2,7 @@
 use Rattle.std.proofs.Common.{◌≡◌, ◌≢◌, Option, ap, ◌∙◌}
 use Rattle.mm_value.specs.declared.row_ref.RowRef.{RowRef}
 use Rattle.mm_partition.specs.Places.{slot_index_of}
-use Rattle.mm_foreign.specs.Ties.{Ties, target_at, ChangesTarget}
+use Rattle.mm_foreign_key.specs.Ties.{Ties, target_at, ChangesTarget}
 
 pub stays : {old new : Ties} {from : RowRef} {target : Option RowRef} → ChangesTarget old new from target → (other : RowRef)
     → slot_index_of other ≢ slot_index_of from → {was : Option RowRef} → target_at old other ≡ was → target_at new other ≡ was

@@ -1,10 +1,10 @@
 //! Foreign keys.
 ghost use Rattle.std.specs.Prelude.{◌≡◌, ◌≤◌, None, length, IfOk, OnOk};
 ghost use Rattle.mm_value.specs.declared.row_ref.RowRef.{RowRef};
-ghost use Rattle.mm_foreign.specs.Ties.{target_at, KeepsTargets};
+ghost use Rattle.mm_foreign_key.specs.Ties.{target_at, KeepsTargets};
 
 use crate::assertions::{assert_same, assert_that};
-use mm_foreign::ForeignKey;
+use mm_foreign_key::ForeignKey;
 use mm_value::RowRef;
 use std::alloc::Global;
 use std::process::Abort;

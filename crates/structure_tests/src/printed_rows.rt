@@ -1,7 +1,7 @@
 //! The text of rows.
 use crate::assertions::{assert_same, assert_that};
 use crate::samples::text;
-use mm_value::{Refusal, Row, Value, Watched, write_row, write_tuple};
+use mm_value::{Refusal, Row, Value, Watched, write_row};
 use std::alloc::Global;
 use std::process::Abort;
 use std::test::Fail;
@@ -26,7 +26,7 @@ fn row_of_four(alloc: Global) -> Result<Row, Refusal> {
 fn assert_written(rt: &(impl Abort + AllocGlobal), row: &Row, want: &[u8]) {
     let mut out = Vec::new(rt.alloc());
     let mut writer = Watched::new(&mut out);
-    assert_that(rt, write_row(row, &mut writer).is_ok());
+    assert_that(rt, write_row(row.values(), &mut writer).is_ok());
     assert_that(rt, !writer.failed());
     assert_same(rt, out.as_slice(), want);
 }
@@ -51,8 +51,8 @@ fn assert_written_from_references(
 ) {
     let mut out = Vec::new(rt.alloc());
     let mut writer = Watched::new(&mut out);
-    assert_that(rt, write_tuple(&[name, number, name], &mut writer).is_ok());
-    assert_that(rt, write_tuple(&[], &mut writer).is_ok());
+    assert_that(rt, write_row(&[name, number, name], &mut writer).is_ok());
+    assert_that(rt, write_row::<&Value, _>(&[], &mut writer).is_ok());
     assert_that(rt, !writer.failed());
     assert_same(rt, out.as_slice(), want);
 }

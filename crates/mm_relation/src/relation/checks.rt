@@ -1,6 +1,6 @@
 //! Edits by the rows that there would be.
 ghost use Rattle.std.specs.Prelude.{◌≡◌, ◌≤◌, false, length, IfOk};
-ghost use Rattle.mm_schema.specs.Rows.{changed, has_twin_keys};
+ghost use Rattle.mm_schema.specs.Rows.{changed, has_twin_keys, most_rows};
 ghost use Rattle.mm_partition.specs.Places.{slot_at};
 ghost use Rattle.mm_relation.specs.Changes.{Standing};
 ghost use Rattle.mm_relation.specs.Kept.{KeysStayApart};
@@ -26,7 +26,7 @@ impl Relation {
     /// How many rows there would be with the edits made, where there are at most 1,048,576 now.
     pub fn len_with(&self, edits: &[Edit]) -> usize
         requires standing { Standing (slot_at self.now.places) edits.now }
-        requires few { length self.now.refs ≤ 1048576 }
+        requires few { length self.now.refs ≤ most_rows }
         ensures { result ≡ length (changed self.now.key (edit_pairs (slot_at self.now.places) edits.now) (rows_of self.now)) }
     {
         let _ = &self.width;

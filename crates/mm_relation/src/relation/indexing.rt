@@ -3,6 +3,7 @@ ghost use Rattle.std.specs.Prelude.{◌≡◌, ◌<◌, ◌≤◌, All, length, 
 ghost use Rattle.std.specs.List.{remove};
 ghost use Rattle.mm_relation.specs.Index.{spare_of};
 ghost use Rattle.mm_relation.specs.Reads.{AddsIndex};
+ghost use Rattle.mm_schema.specs.Rows.{most_rows};
 
 use super::Relation;
 use crate::index::Index;
@@ -23,7 +24,7 @@ impl Relation {
         owed: usize,
     ) -> Result<(), AllocError>
         requires column { column < self.old.width }
-        requires few { length self.old.refs ≤ 1048576 }
+        requires few { length self.old.refs ≤ most_rows }
         ensures added { OnOk result (AddsIndex column kind self.old.indexes self.new.indexes) }
         ensures rest { OnOk result (self.new ≡ record self.old { indexes = self.new.indexes }) }
         ensures owed { OnOk result (All (λ x. owed ≤ spare_of x) self.old.indexes → All (λ x. owed ≤ spare_of x) self.new.indexes) }

@@ -2,7 +2,7 @@
 ghost use Rattle.std.specs.Prelude.{◌≡◌, ℕ, ◌<◌, ◌≤◌, length, map, All, IfOk, OnOk, OnErr};
 ghost use Rattle.std.specs.Option.{option_copied};
 ghost use Rattle.mm_partition.specs.Places.{IsLive, slot_at};
-ghost use Rattle.mm_schema.specs.Rows.{rows_by};
+ghost use Rattle.mm_schema.specs.Rows.{rows_by, most_rows};
 ghost use Rattle.mm_schema.specs.Sorting.{in_order};
 ghost use Rattle.mm_schema.specs.declared.index.IndexKind.TheVariants as kind;
 ghost use Rattle.mm_relation.specs.Reads.{HasIndex, IsWalk, IsRange, AreMatches, Appends};
@@ -24,7 +24,7 @@ impl Relation {
     /// 1,048,576 rows.
     pub fn tree_walk(&self, index: usize) -> Iter<'_>
         requires tree { (column : ℕ) × HasIndex self.now.indexes index column kind.Tree }
-        requires few { length self.now.refs ≤ 1048576 }
+        requires few { length self.now.refs ≤ most_rows }
         ensures walk { (column : ℕ) → HasIndex self.now.indexes index column kind.Tree → IsWalk column self.now result }
         ensures rows { (column : ℕ) → HasIndex self.now.indexes index column kind.Tree
             → map (row_at (slot_at self.now.places)) result ≡ in_order (rows_by column self.now.key) (rows_of self.now) }
@@ -40,11 +40,11 @@ impl Relation {
     /// their keys, in a tree of their own. It takes O(n log n) comparisons for n rows. `AllocError` where memory is refused.
     pub fn ordered_by(&self, alloc: Global, column: usize) -> Result<TTree, AllocError>
         requires column { column < self.now.width }
-        requires few { length self.now.refs ≤ 1048576 }
+        requires few { length self.now.refs ≤ most_rows }
         ensures rows { IfOk result (λ tree. map (row_at (slot_at self.now.places)) tree.refs
             ≡ in_order (rows_by column self.now.key) (rows_of self.now)) }
         ensures live { IfOk result (λ tree. All (IsLive self.now.places) tree.refs) }
-        ensures few { IfOk result (λ tree. length tree.refs ≤ 1048576) }
+        ensures few { IfOk result (λ tree. length tree.refs ≤ most_rows) }
     {
         let refs = copy_refs(alloc, &self.by_key)?;
         let sorted = sorted_refs(alloc, &self.rows, column, self.key, refs.as_slice())?;

@@ -2,7 +2,7 @@
 ghost use Rattle.std.specs.Prelude.{◌≡◌, ◌&&◌, ◌≤◌, List, length, map, not, IfOk};
 ghost use Rattle.std.specs.List.{list_any};
 ghost use Rattle.mm_value.specs.declared.row_ref.RowRef.{RowRef};
-ghost use Rattle.mm_schema.specs.Rows.{has_twin_keys, same_in_column};
+ghost use Rattle.mm_schema.specs.Rows.{has_twin_keys, same_in_column, most_rows};
 ghost use Rattle.mm_partition.specs.Places.{slot_at};
 ghost use Rattle.mm_relation.specs.KeyRows.{rows_of, AreByKey};
 ghost use Rattle.mm_relation.specs.Kept.{Stay, rows_after};
@@ -46,7 +46,7 @@ impl Relation {
     /// there are at most 1,048,576 now.
     pub(crate) fn len_after(&self, edits: &[Edit]) -> usize
         requires stay { (kept : List RowRef) × Stay self.now.refs edits.now kept }
-        requires few { length self.now.refs ≤ 1048576 }
+        requires few { length self.now.refs ≤ most_rows }
         ensures { (kept : List RowRef) → Stay self.now.refs edits.now kept
             → result ≡ length (rows_after (slot_at self.now.places) edits.now kept) }
     {

@@ -12,7 +12,7 @@ ghost use Rattle.mm_store.specs.Worlds.{back_all, world_of};
 
 use super::Store;
 use crate::links::{reserve_all, retie_all};
-use crate::undo::{Command, Undo, count_old, reserve};
+use crate::undo::{Undo, UndoRecord, count_old, reserve};
 use mm_relation::{Edit, Log, count_added};
 use std::alloc::{AllocError, Global};
 use std::mem;
@@ -59,7 +59,7 @@ impl Store {
         self.edit(alloc, table, edits, owed, &mut undo.idle)?;
         let log = mem::replace(&mut undo.idle, Log::new(alloc));
         undo.owed[table] = owed + owes;
-        undo.commands.push_reserved(Command { table, owes, log });
+        undo.commands.push_reserved(UndoRecord { table, owes, log });
         Ok(())
     }
 

@@ -6,7 +6,7 @@ use crate::assertions::assert_same;
 use crate::atoms::{INNER_KEY, INNER_VALUE, OUTER_KEY, OUTER_VALUE, equal};
 use crate::samples::empty;
 use mm_plan::{Step, plan_steps};
-use mm_query::BoundQuery;
+use mm_query::{BoundQuery, ShortList};
 use mm_store::Store;
 use std::alloc::Global;
 use std::process::Abort;
@@ -18,7 +18,7 @@ fn plan_again(
     alloc: Global,
     store: &Store,
     query: &BoundQuery,
-) -> Result<Vec<Step>, Fail>
+) -> Result<ShortList<Step, 4>, Fail>
     requires { length store.now.tables ≡ 2 }
 {
     let view = store.view();

@@ -31,7 +31,7 @@ impl Case {
 
     /// Whether the second table shows this.
     pub fn second_shows(&self, alloc: Global, all: Shows) -> Result<bool, AllocError> {
-        table_shows(self.store.table(1), alloc, all)
+        table_shows(&self.store, 1, alloc, all)
     }
 }
 

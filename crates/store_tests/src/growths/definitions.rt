@@ -1,5 +1,5 @@
 //! Tables and indexes, added.
-ghost use Rattle.std.specs.Prelude.{◌≡◌, [], length, IfOk, OnOk};
+ghost use Rattle.std.specs.Prelude.{◌≡◌, ◌<◌, [], length, IfOk, OnOk};
 ghost use Rattle.store_tests.specs.SampleStore.{ArePlain};
 
 use super::asked_again;
@@ -80,7 +80,7 @@ fn adds_table_again(rt: &(impl Abort + Print), alloc: Global, store: &mut Store)
 {
     asked_again(rt)?;
     assert_same(rt, store.len(), 4);
-    assert_that(rt, !store.refers_only_to(4, 1, 0));
+    assert_that(rt, !store.view().refers_only_to(4, 1, 0));
     store.add_table(alloc, 2, 0, &[TO_FIRST])?;
     Ok(())
 }
@@ -93,9 +93,10 @@ fn adds_table(rt: &(impl Abort + Print), alloc: Global, store: &mut Store) -> Re
         adds_table_again(rt, alloc, store)?;
     }
     assert_same(rt, store.len(), 5);
-    assert_that(rt, store.refers_only_to(4, 1, 0));
-    assert_same(rt, store.table(4).len(), 0);
-    let Ok(is_kept) = table_shows(store.table(0), alloc, BARE) else {
+    let view = store.view();
+    assert_that(rt, view.refers_only_to(4, 1, 0));
+    assert_same(rt, view.len_of(4), 0);
+    let Ok(is_kept) = table_shows(store, 0, alloc, BARE) else {
         return Ok(());
     };
     assert_that(rt, is_kept);
@@ -111,6 +112,17 @@ fn add_table_growths(rt: HostRuntime) -> Result<(), Fail> {
     adds_table(&rt, alloc, &mut store)
 }
 
+/// Whether the first table has an index of a kind on its second column.
+fn has_index(store: &Store, kind: IndexKind) -> bool
+    requires { 0 < length store.now.tables }
+{
+    let view = store.view();
+    match kind {
+        IndexKind::Tree => view.tree_on(0, 1).is_some(),
+        IndexKind::Hash => view.hash_on(0, 1).is_some(),
+    }
+}
+
 /// Adds the index again, which was refused memory: till then all is as it was.
 fn adds_index_again(
     rt: &(impl Abort + Print),
@@ -122,8 +134,8 @@ fn adds_index_again(
     requires plain { ArePlain store.old }
 {
     asked_again(rt)?;
-    assert_that(rt, store.table(0).index_of(1, kind).is_none());
-    assert_that(rt, table_shows(store.table(0), alloc, BARE)?);
+    assert_that(rt, !has_index(store, kind));
+    assert_that(rt, table_shows(store, 0, alloc, BARE)?);
     add_index(store, alloc, 0, kind)?;
     Ok(())
 }
@@ -143,7 +155,7 @@ fn adds_index(
         adds_index_again(rt, alloc, store, kind)?;
     }
     assert_same(rt, store.len(), 4);
-    let Ok(is_made) = table_shows(store.table(0), alloc, after) else {
+    let Ok(is_made) = table_shows(store, 0, alloc, after) else {
         return Ok(());
     };
     assert_that(rt, is_made);

@@ -1,9 +1,8 @@
 //! What a table shows.
-ghost use Rattle.std.specs.Prelude.{◌≤◌, length};
+ghost use Rattle.std.specs.Prelude.{◌<◌, length};
 
-use crate::relations::{at_key, digit_of};
-use mm_relation::Relation;
-use mm_schema::IndexKind;
+use crate::stores::{at_key, value_at};
+use mm_store::{IndexRef, Store};
 use mm_value::Value;
 use std::alloc::{AllocError, Global};
 use ttree::Iter;
@@ -19,35 +18,53 @@ pub struct Shows<'a> {
     pub by_hash: &'a [(i64, usize)],
 }
 
-/// Whether a table of at most 1,000 rows shows this.
-pub fn table_shows(relation: &Relation, alloc: Global, all: Shows) -> Result<bool, AllocError> {
-    if relation.len() > 1000 {
+/// Whether a table shows this.
+pub fn table_shows(
+    store: &Store,
+    table: usize,
+    alloc: Global,
+    all: Shows,
+) -> Result<bool, AllocError>
+    requires { table < length store.now.tables }
+{
+    if !has_rows(store, table, alloc, all.rows)? || !has_walk(store, table, all.along_tree) {
         return Ok(false);
     }
-    if !has_rows(relation, all.rows) || !has_walk(relation, all.along_tree) {
-        return Ok(false);
-    }
-    has_matches(relation, alloc, all.by_hash)
+    has_matches(store, table, alloc, all.by_hash)
 }
 
-/// Whether the rows of a table are these, in the order of the keys.
-fn has_rows(relation: &Relation, rows: &[(i64, i64)]) -> bool
-    requires { length relation.now.refs ≤ 1048576 }
+/// Whether the rows of a table are these, in the order of the keys, and each is found by its key.
+fn has_rows(
+    store: &Store,
+    table: usize,
+    alloc: Global,
+    rows: &[(i64, i64)],
+) -> Result<bool, AllocError>
+    requires { table < length store.now.tables }
 {
-    let mut walk = relation.by_key();
+    let view = store.view();
+    let mut walk = view.walk(table, IndexRef::Key);
+    let mut found = Vec::new(alloc);
     for (key, value) in rows {
-        if walk.next() != at_key(relation, *key) || digit_of(relation, *key) != Some(*value) {
-            return false;
+        let Some(at) = walk.next() else {
+            return Ok(false);
+        };
+        found.clear();
+        view.matches(alloc, table, IndexRef::Key, &Value::Int(*key), &mut found)?;
+        if found.as_slice() != [at].as_slice() || value_at(store, table, *key) != Some(*value) {
+            return Ok(false);
         }
     }
-    walk.next().is_none()
+    Ok(walk.next().is_none())
 }
 
 /// Whether rows of a table are those of these keys, in this order.
-pub fn goes_along(relation: &Relation, walk: Iter, keys: &[i64]) -> bool {
+fn goes_along(store: &Store, table: usize, walk: Iter, keys: &[i64]) -> bool
+    requires { table < length store.now.tables }
+{
     let mut walk = walk;
     for key in keys {
-        let at = at_key(relation, *key);
+        let at = at_key(store, table, *key);
         if at.is_none() || walk.next() != at {
             return false;
         }
@@ -56,27 +73,32 @@ pub fn goes_along(relation: &Relation, walk: Iter, keys: &[i64]) -> bool {
 }
 
 /// Whether the rows along the TREE index are those of these keys.
-fn has_walk(relation: &Relation, keys: &[i64]) -> bool
-    requires { length relation.now.refs ≤ 1048576 }
+fn has_walk(store: &Store, table: usize, keys: &[i64]) -> bool
+    requires { table < length store.now.tables }
 {
-    let Some(index) = relation.index_of(1, IndexKind::Tree) else {
+    let view = store.view();
+    let Some(index) = view.tree_on(table, 1) else {
         return keys.is_empty();
     };
-    goes_along(relation, relation.tree_walk(index), keys)
+    goes_along(store, table, view.walk(table, index), keys)
 }
 
 /// Whether the HASH index finds so many rows for each of these values.
 fn has_matches(
-    relation: &Relation,
+    store: &Store,
+    table: usize,
     alloc: Global,
     counts: &[(i64, usize)],
-) -> Result<bool, AllocError> {
-    let Some(index) = relation.index_of(1, IndexKind::Hash) else {
+) -> Result<bool, AllocError>
+    requires { table < length store.now.tables }
+{
+    let view = store.view();
+    let Some(index) = view.hash_on(table, 1) else {
         return Ok(counts.is_empty());
     };
     for (value, count) in counts {
         let mut found = Vec::new(alloc);
-        relation.hash_matches(alloc, index, &Value::Int(*value), &mut found)?;
+        view.matches(alloc, table, index, &Value::Int(*value), &mut found)?;
         if found.len() != *count {
             return Ok(false);
         }

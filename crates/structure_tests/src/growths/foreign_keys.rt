@@ -1,10 +1,10 @@
 //! Foreign keys.
 ghost use Rattle.std.specs.Prelude.{◌≤◌, length, OnOk};
-ghost use Rattle.mm_foreign.specs.Ties.{KeepsTargets};
+ghost use Rattle.mm_foreign_key.specs.Ties.{KeepsTargets};
 
 use crate::assertions::{assert_same, assert_that};
 use crate::growths::asked_again;
-use mm_foreign::ForeignKey;
+use mm_foreign_key::ForeignKey;
 use mm_value::RowRef;
 use std::process::Abort;
 use std::test::Fail;

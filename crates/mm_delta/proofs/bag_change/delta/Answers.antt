@@ -4,9 +4,9 @@ use Rattle.std.proofs.lemmas.Result.{IfOk-weaker}
 use Rattle.mm_query.specs.Queries.{bag_of}
 use Rattle.mm_store.proofs.Joining.{some_at}
 use Rattle.mm_store.specs.Tables.{IsAt, Tables}
-use Rattle.mm_bag.specs.Counts.{count_in, count_of, signed_count}
+use Rattle.mm_multiset.specs.Counts.{count_in, count_of, signed_count}
 use Rattle.mm_delta.specs.Edited.{after_at, before_at, come_at, gone_at}
-use Rattle.mm_delta.specs.declared.edited.TableEdits.{TableEdits}
+use Rattle.mm_delta.specs.declared.edited.TableChange.{TableChange}
 use Rattle.mm_delta.specs.Skipping.{IsTypeTested}
 use Rattle.mm_delta.specs.Steps.{EachFit, term_reads}
 use Rattle.mm_delta.specs.Terms.{lists_around}
@@ -55,7 +55,7 @@ loop-place-preserved c = record {
       ≡ count_in row c.add_term.new.goes.entries + count_in row c.loop-place.comes.entries
       + count_of row (bag_of c.args.query.now (lists_around 0 (after_at s c.args.changes.now) (come_at c.args.changes.now) (before_at s) c.args.tables.now k)))
       same
-      (subst (λ (es : List TableEdits). count_in row c.add_term.new.comes.entries + count_in row c.loop-place.goes.entries
+      (subst (λ (es : List TableChange). count_in row c.add_term.new.comes.entries + count_in row c.loop-place.goes.entries
       + count_of row (bag_of c.args.query.now (lists_around 0 (after_at c.loop-place.view.store es) (gone_at c.loop-place.view.store es) (before_at c.loop-place.view.store) c.args.tables.now k))
       ≡ count_in row c.add_term.new.goes.entries + count_in row c.loop-place.comes.entries
       + count_of row (bag_of c.args.query.now (lists_around 0 (after_at c.loop-place.view.store es) (come_at es) (before_at c.loop-place.view.store) c.args.tables.now k)))

@@ -56,7 +56,7 @@ loop-at-init c =
       spare = omega (
         arith,
         c.in_ok-reserve.ensures.ok,
-        c.len_of.ensures stored here,
+        c.len_of.ensures.count stored here,
         ap length c.into_iter-at-iterator.ensures.into_iter_gives,
         length_permutation c.walk-at-items.result stored.refs is_walk.same,
         length-map stored.refs (row_at (slot_at stored.places)),

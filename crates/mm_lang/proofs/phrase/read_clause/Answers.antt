@@ -6,7 +6,7 @@ use Rattle.mm_lang.proofs.phrase.read_clause.Goals as goal
 pub returns-then-not-skip_keyword : goal.returns-then-not-skip_keyword
 returns-then-not-skip_keyword g c =
     clause_none c.args.keyword (the_separator c.args.separator) g.P.Phrase.reading g.P.Phrase.literals c.args.reader.now c.skip_keyword.new.self
-    c.if-not-skip_keyword.ensures c.new-then-not-skip_keyword.result (c.new-then-not-skip_keyword.ensures ∙ c.new.ensures.items)
+    c.if-not-skip_keyword.ensures c.from_vec.result (c.from_vec.ensures ∙ c.new.ensures.items)
 
 pub returns : goal.returns
 returns g c =

@@ -1,6 +1,6 @@
 use Rattle.std.proofs.Common.{◌≡◌, ◌++◌, take}
 use Rattle.std.specs.List.{flat_map}
-use Rattle.mm_lang.proofs.ShortLines.{next_text_of}
+use Rattle.mm_value.proofs.RowTexts.{next_text_of}
 use Rattle.mm_lang.specs.Late.{KeepsFront}
 use Rattle.mm_lang.proofs.row_line.put_line.Given as goal
 

@@ -3,4 +3,4 @@ use Rattle.mm_lang.proofs.WordBytes.{at_byte}
 use Rattle.mm_lang.proofs.token.is_word_byte.Goals as goal
 
 pub returns : goal.returns
-returns c = c.told_of.ensures ∙ at_byte c.args.byte false (omega arith)
+returns c = c.is_marked.ensures ∙ at_byte c.args.byte false (omega arith)

@@ -1,4 +1,12 @@
-use Rattle.std.proofs.Common.{subst}
+use Rattle.std.proofs.Common.{◌≡◌, ℕ, Option, refl, sym, ap, ◌∙◌, subst}
+use Rattle.std.specs.Borrow.{Bor}
+use Rattle.mm_plan.specs.Finding.{finds_in_key_order}
+use Rattle.mm_plan.specs.declared.step.Step.TheVariants as step
+use Rattle.mm_select.specs.Accesses.{is_in_key_order}
+use Rattle.mm_select.specs.declared.access.Access.TheVariants as access
+use Rattle.mm_store.specs.declared.index_ref.IndexRef.{IndexRef}
+use Rattle.mm_store.specs.declared.index_ref.IndexRef.TheVariants.{Key, Tree, Hash}
+use Rattle.mm_value.specs.declared.values.Value.{Value}
 use Rattle.mm_plan.proofs.SetEnds.{high_end_set, low_end_set, range_along}
 use Rattle.mm_plan.proofs.beginning.access_by.Goals as goal
 use Rattle.mm_plan.specs.Steps.{Reaches}
@@ -14,3 +22,12 @@ returns-in-Range-clause-along c = λ row.
     let reached = subst (λ (s : Step). Reaches c.requires.0 atoms s) c.in-Range.is c.requires.1 in
     range_along c.requires.0 atoms c.in-Range.index c.in-Range.atom reached c.index-atoms-atom-in-Range.result c.args.step c.in-Range.is
     _ _ c.low_end.ensures c.high_end.ensures row
+
+same_order : (index : IndexRef) (atom column : ℕ) (low high : Option (Bor Value))
+    → is_in_key_order (access.Range index column low high) ≡ finds_in_key_order (step.Range index atom)
+same_order Key atom column low high = refl
+same_order (Tree place) atom column low high = refl
+same_order (Hash place) atom column low high = refl
+
+pub returns-in-Range-clause-ordered : goal.returns-in-Range-clause-ordered
+returns-in-Range-clause-ordered c = same_order c.in-Range.index c.in-Range.atom _ _ _ ∙ ap finds_in_key_order (sym c.in-Range.is)

@@ -24,4 +24,4 @@ loop-table-preserved c =
     let table = get_or tables i 0 in
     one_more (λ (t : ℕ). 0 < length (rows_at c.args.view.now.store.tables t)) tables i c.loop-table.invariant table here
     (get_or_default tables i 0 table here)
-    (has_row c.args.view.now.store table c.len_of.result (c.requires i 0 here) c.len_of.ensures c.if-len_of-eq0.false)
+    (has_row c.args.view.now.store table c.len_of.result (c.requires i 0 here) c.len_of.ensures.count c.if-len_of-eq0.false)

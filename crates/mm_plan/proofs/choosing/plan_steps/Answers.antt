@@ -10,5 +10,5 @@ returns-clause-allowed c =
     let store = c.args.view.now.store in
     let atoms = c.args.query.now.atoms in
     let tables = c.args.tables.now in
-    let is : c.loop-place.steps.items ≡ steps_of store atoms tables = grind (arith, common_steps) in
+    let is : c.loop-place.steps ≡ steps_of store atoms tables = grind (arith, common_steps) in
     subst (AreSteps store atoms tables) (sym is) (allowed store atoms tables)

@@ -5,4 +5,4 @@ use Rattle.mm_plan.proofs.choosing.plan_steps.Given as goal
 -- The steps so far, and then those of the tables that are left, are those of the query.
 abbrev pub invariant-loop-place : goal.invariant-loop-place
 invariant-loop-place l =
-    l.steps.items ++ steps_behind l.view.store l.query.atoms (take l.place l.tables) (drop l.place l.tables) ≡ steps_of l.view.store l.query.atoms l.tables
+    l.steps ++ steps_behind l.view.store l.query.atoms (take l.place l.tables) (drop l.place l.tables) ≡ steps_of l.view.store l.query.atoms l.tables

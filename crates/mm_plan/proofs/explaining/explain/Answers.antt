@@ -19,9 +19,9 @@ lines-requires-clause-there c = λ place own at.
     let store = c.args.view.now.store in
     let query = c.args.query.now in
     let tables = c.args.tables.now in
-    let steps = c.in_ok-steps.steps.items in
+    let steps = c.in_ok-steps.steps in
     let there = all_there schema store query tables c.requires.kept c.requires.within c.requires.tables steps c.in_ok-steps.ensures.allowed place own
-    (subst (λ (ss : List Step). slice_get ss place ≡ Some own) c.as_slice-3.ensures.value at) in
+    (subst (λ (ss : List Step). slice_get ss place ≡ Some own) c.as_slice-3.ensures at) in
     subst (λ (from : List FromItem). AreNamesThere (record { schema = schema; from = from; tables = tables }) c.as_slice-2.result.now place own)
     (sym c.as_slice.ensures)
     (subst (λ (atoms : List (Atom FieldPlace)). AreNamesThere (record { schema = schema; from = query.from; tables = tables }) atoms place own)
@@ -42,5 +42,5 @@ returns c =
     (named_steps (record { schema = schema; from = c.as_slice.result.now; tables = tables }) c.as_slice-2.result.now c.as_slice-3.result.now) _ c.lines.ensures
     (λ written due is.
     ((λ i. named_steps (record { schema = schema; from = c.as_slice.ensures i; tables = tables }) (c.as_slice-2.ensures i)
-    ((c.as_slice-3.ensures.value ∙ c.in_ok-steps.ensures.steps) i))
+    ((c.as_slice-3.ensures ∙ c.in_ok-steps.ensures.steps) i))
     ∙ lines_are schema store query tables c.requires.kept c.requires.within c.requires.tables c.have_one_key.ensures written due is))

@@ -6,7 +6,6 @@ use Rattle.std.proofs.lemmas.List.Elements.{All-get_or, All-push}
 use Rattle.mm_partition.specs.Places.{IsLive}
 use Rattle.mm_plan.specs.Finding.{IsKeyed}
 use Rattle.mm_plan.specs.declared.finding.Keyed.{Keyed}
-use Rattle.mm_relation.specs.Kept.{StoredRows}
 use Rattle.mm_relation.specs.Refs.{row_in}
 use Rattle.mm_store.proofs.Joining.{some_at}
 use Rattle.mm_store.proofs.Lists.{take_more}
@@ -31,7 +30,7 @@ value-requires c =
     let (stored, here) = some_at c.args.view.now.store.tables c.args.table c.requires.there in
     let is = c.row-row.ensures.row stored (subst (λ (s : Tables). IsAt s c.args.table stored) (sym c.loop-at.invariant.same) here) in
     let kept = c.is_kept.ensures.kept stored here in
-    omega (arith, c.key_of-key.ensures stored here, kept.key_in, kept.wide _ _ is)
+    omega (arith, c.key_of-key.ensures.key stored here, kept.key_in, kept.wide _ _ is)
 
 pub loop-at-preserved : goal.loop-at-preserved
 loop-at-preserved c =
@@ -49,7 +48,7 @@ loop-at-preserved c =
           let is = c.row-row.ensures.row stored (subst (λ (s : Tables). IsAt s c.args.table stored) (sym c.loop-at.invariant.same) here) in
           let keyed : IsKeyed stored new =
           ap (λ content. slice_get (row_in content) stored.key) is
-          ∙ (ap (slice_get c.row-row.result.now) (sym (c.key_of-key.ensures stored here)) ∙ c.value.ensures) in
+          ∙ (ap (slice_get c.row-row.result.now) (sym (c.key_of-key.ensures.key stored here)) ∙ c.value.ensures) in
           subst (All (IsKeyed stored)) (sym c.in_ok-push.ensures.items)
           (All-push (IsKeyed stored) c.loop-at.rows.items new (c.loop-at.invariant.keys stored here) keyed);
       reads = omega (arith, ap (λ (seen : Seen). seen.reads) c.row-row.ensures.counted, c.loop-at.invariant.reads);

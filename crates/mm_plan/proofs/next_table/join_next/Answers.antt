@@ -14,10 +14,11 @@ use Rattle.mm_store.proofs.Joining.{some_at}
 use Rattle.mm_store.specs.Tables.{IsAt, Tables, rows_at}
 use Rattle.mm_templist.specs.Combos.{Combos, combo_rows}
 use Rattle.mm_value.specs.declared.refusal.Refusal.{Refusal}
+use Rattle.mm_schema.specs.Rows.{most_rows}
 
 few_there : (store : Tables) (tables : List ℕ) (place : ℕ) → All (λ t. t < length store.tables) tables → place < length tables
-    → ((stored : StoredRows) → IsAt store (get_or tables place 0) stored → length stored.refs ≤ 1048576)
-    → length (rows_at store.tables (get_or tables place 0)) ≤ 1048576
+    → ((stored : StoredRows) → IsAt store (get_or tables place 0) stored → length stored.refs ≤ most_rows)
+    → length (rows_at store.tables (get_or tables place 0)) ≤ most_rows
 few_there store tables place there within few =
     let some = some_at store.tables (get_or tables place 0) (there place 0 within) in
     few_at store (get_or tables place 0) some.0 some.1 (few some.0 some.1)
@@ -35,7 +36,7 @@ returns-clause-due c =
     let list = c.args.list.now in
     let joins = c.descriptor.ensures.tables in
     let few = few_there store tables (length list.tables) c.requires.there c.requires.left
-    (subst (λ (ts : List ℕ). (stored : StoredRows) → IsAt store (get_or tables (length ts) 0) stored → length stored.refs ≤ 1048576) joins
+    (subst (λ (ts : List ℕ). (stored : StoredRows) → IsAt store (get_or tables (length ts) 0) stored → length stored.refs ≤ most_rows) joins
     c.is_kept.ensures.few) in
     let s = split store query tables list c.requires.begun c.requires.there c.requires.few c.requires.left few in
     let front : take (length c.descriptor.result.tables.now + 1) tables ≡ list.tables ++ s.next ∷ [] =
@@ -56,7 +57,7 @@ returns-clause-begun c =
     let list = c.args.list.now in
     let joins = c.descriptor.ensures.tables in
     let few = few_there store tables (length list.tables) c.requires.there c.requires.left
-    (subst (λ (ts : List ℕ). (stored : StoredRows) → IsAt store (get_or tables (length ts) 0) stored → length stored.refs ≤ 1048576) joins
+    (subst (λ (ts : List ℕ). (stored : StoredRows) → IsAt store (get_or tables (length ts) 0) stored → length stored.refs ≤ most_rows) joins
     c.is_kept.ensures.few) in
     let s = split store query tables list c.requires.begun c.requires.there c.requires.few c.requires.left few in
     let front : take (length c.descriptor.result.tables.now + 1) tables ≡ list.tables ++ s.next ∷ [] =
@@ -83,7 +84,7 @@ returns-clause-longer c =
     let list = c.args.list.now in
     let joins = c.descriptor.ensures.tables in
     let few = few_there store tables (length list.tables) c.requires.there c.requires.left
-    (subst (λ (ts : List ℕ). (stored : StoredRows) → IsAt store (get_or tables (length ts) 0) stored → length stored.refs ≤ 1048576) joins
+    (subst (λ (ts : List ℕ). (stored : StoredRows) → IsAt store (get_or tables (length ts) 0) stored → length stored.refs ≤ most_rows) joins
     c.is_kept.ensures.few) in
     let s = split store query tables list c.requires.begun c.requires.there c.requires.few c.requires.left few in
     let front : take (length c.descriptor.result.tables.now + 1) tables ≡ list.tables ++ s.next ∷ [] =
@@ -100,7 +101,7 @@ returns-clause-reads c = λ table at.
     let list = c.args.list.now in
     let joins = c.descriptor.ensures.tables in
     let few = few_there store tables (length list.tables) c.requires.there c.requires.left
-    (subst (λ (ts : List ℕ). (stored : StoredRows) → IsAt store (get_or tables (length ts) 0) stored → length stored.refs ≤ 1048576) joins
+    (subst (λ (ts : List ℕ). (stored : StoredRows) → IsAt store (get_or tables (length ts) 0) stored → length stored.refs ≤ most_rows) joins
     c.is_kept.ensures.few) in
     let s = split store query tables list c.requires.begun c.requires.there c.requires.few c.requires.left few in
     let front : take (length c.descriptor.result.tables.now + 1) tables ≡ list.tables ++ s.next ∷ [] =

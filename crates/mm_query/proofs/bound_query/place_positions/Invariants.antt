@@ -2,4 +2,4 @@ use Rattle.std.proofs.Common.{◌≡◌, ◌-◌, map, take}
 use Rattle.mm_query.proofs.bound_query.place_positions.Given as goal
 
 abbrev pub invariant-loop-position : goal.invariant-loop-position
-invariant-loop-position l = l.columns.items ≡ map (λ position. position - 1) (take l.position-index l.positions)
+invariant-loop-position l = l.columns ≡ map (λ position. position - 1) (take l.position-index l.positions)

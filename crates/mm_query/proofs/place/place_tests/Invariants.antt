@@ -1,4 +1,4 @@
-use Rattle.std.proofs.Common.{◌≡◌, ◌++◌, ℕ, List, false, length, map}
+use Rattle.std.proofs.Common.{◌≡◌, ◌++◌, ℕ, List, false, map}
 use Rattle.std.specs.List.{list_any}
 use Rattle.mm_query.specs.Binding.{at_first}
 use Rattle.mm_query.specs.Faults.{noted}
@@ -8,9 +8,9 @@ use Rattle.mm_query.proofs.place.place_tests.Given as goal
 
 abbrev pub invariant-loop-test : goal.invariant-loop-test
 invariant-loop-test l = record {
-  size : length l.test-iterator.rest.items ≡ l.test-iterator.rest.len;
-  split : l.fn.tests ≡ l.yielded ++ l.test-iterator.rest.items;
-  placed : l.atoms.items ≡ map (mapped_atom at_first) (map (placed_atom l.columns) l.yielded);
-  faults : l.faults ≡ noted (list_any (atom_lacks_column l.columns) l.yielded) false
-      (list_any (λ (x : Atom (List ℕ)). mismatches (type_named l.columns) x.left x.right) l.yielded) l.initial.faults;
+  placed : map (mapped_atom at_first) (map (placed_atom l.columns) l.fn.tests) ≡ l.atoms ++ map (mapped_atom at_first) (map (placed_atom l.columns) l.test-iterator);
+  faults : noted (list_any (atom_lacks_column l.columns) l.fn.tests) false
+      (list_any (λ (x : Atom (List ℕ)). mismatches (type_named l.columns) x.left x.right) l.fn.tests) l.initial.faults
+      ≡ noted (list_any (atom_lacks_column l.columns) l.test-iterator) false
+      (list_any (λ (x : Atom (List ℕ)). mismatches (type_named l.columns) x.left x.right) l.test-iterator) l.faults;
 }

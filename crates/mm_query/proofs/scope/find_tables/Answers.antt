@@ -10,9 +10,9 @@ returns-in_default-clause-due c =
 
 pub loop-item-preserved : goal.loop-item-preserved
 loop-item-preserved c = record {
-  places = c.in_ok-push.ensures.items
+  places = c.in_ok-push.ensures.ok
       ∙ places_more c.args.catalog.now c.args.from.now c.loop-item.item-index c.item-item.result c.loop-item-test.true c.item-item.is
-      c.loop-item.tables.items c.in-Some.place (sym c.in-Some.ensures.place) c.loop-item.invariant.places;
+      c.loop-item.tables c.in-Some.place (sym c.in-Some.ensures.place) c.loop-item.invariant.places;
   there = there_more c.args.catalog.now c.args.from.now c.loop-item.item-index c.item-item.result c.loop-item-test.true c.item-item.is
       c.in-Some.place (sym c.in-Some.ensures.place) c.loop-item.invariant.there;
 }

@@ -8,6 +8,6 @@ use Rattle.mm_query.proofs.scope.find_tables.Given as goal
 -- the tables so far are there, at these places
 abbrev pub invariant-loop-item : goal.invariant-loop-item
 invariant-loop-item l = record {
-  places : l.tables.items ≡ places_in l.catalog (take l.item-index l.from);
+  places : l.tables ≡ places_in l.catalog (take l.item-index l.from);
   there : list_any (λ (item : FromItem). lacks_table item.table l.catalog) (take l.item-index l.from) ≡ false;
 }

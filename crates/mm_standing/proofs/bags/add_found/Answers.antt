@@ -1,6 +1,6 @@
 -- The bag of the change's list has it added, and the others are as they were.
 use Rattle.std.proofs.Common.{pos, ◌+ℤ◌, ◌≤ℤ◌, ◌<ℤ◌, ◌^◌, sym, ap, ◌∙◌, subst, arith}
-use Rattle.mm_bag.specs.Counts.{Entries, count_in, has_entry, total_of}
+use Rattle.mm_multiset.specs.Counts.{Entries, count_in, has_entry, total_of}
 use Rattle.mm_standing.proofs.Adding.{added, count_here, entries_here, total_here}
 use Rattle.mm_standing.proofs.bags.add_found.Goals as goal
 

@@ -1,7 +1,7 @@
 use Rattle.std.proofs.Common.{◌≡◌, ℕ, List, length, vec_len}
 use Rattle.std.specs.Prelude.{All, ◌<◌}
 use Rattle.mm_value.specs.declared.values.Value.{Value}
-use Rattle.mm_bag.specs.Counts.{count_in, total_of}
+use Rattle.mm_multiset.specs.Counts.{count_in, total_of}
 use Rattle.mm_standing.specs.Bags.{IsLean, entries_at, undos}
 use Rattle.mm_standing.specs.declared.change.ListChange.{ListChange}
 use Rattle.mm_standing.proofs.bags.purge.Given as goal

@@ -6,14 +6,15 @@ use Rattle.mm_value.specs.declared.refusal.Refusal.TheVariants.{StandingListTooL
 use Rattle.mm_value.specs.declared.values.Value.{Value}
 use Rattle.mm_query.specs.declared.bound_query.BoundQuery.{BoundQuery}
 use Rattle.mm_delta.specs.Change.{change_between}
-use Rattle.mm_bag.specs.Counts.{count_of, signed_count}
+use Rattle.mm_multiset.specs.Counts.{count_of, signed_count}
 use Rattle.mm_delta.specs.Edited.{after_at, before_at}
-use Rattle.mm_bag.specs.declared.signed.Signed.{Signed}
+use Rattle.mm_multiset.specs.declared.signed.Signed.{Signed}
 use Rattle.mm_standing.specs.Queries.{RowsByPlace, StandingQuery, bag_over}
 use Rattle.mm_standing.proofs.Gains.{brings}
 use Rattle.mm_standing.proofs.Net.{sum_of, total_after}
 use Rattle.mm_standing.proofs.prepare.changes_of_list.Goals as goal
 use Rattle.mm_standing.proofs.prepare.changes_of_list.Goals.{After-new_total}
+use Rattle.mm_schema.specs.Rows.{most_rows}
 
 changed_by : (query : BoundQuery) (tables read : List ℕ) (standing : StandingQuery) (before after : RowsByPlace) (changes : List Signed)
     → read ≡ tables → record { query = query; tables = tables } ≡ standing
@@ -49,13 +50,13 @@ pub returns-then-new_total-clause-due : goal.returns-then-new_total-clause-due
 returns-then-new_total-clause-due c =
     let is = rows (goal.at.returns-then-new_total-clause-due c).After-new_total in
     let more = c.if-new_total.true in
-    inl (due _ (lt-ltb 1048576 _ (omega (arith, ints, is, more))))
+    inl (due _ (lt-ltb most_rows _ (omega (arith, ints, is, more))))
 
 pub returns-clause-due : goal.returns-clause-due
 returns-clause-due c =
     let is = rows (goal.at.returns-clause-due c).After-new_total in
     let few = c.if-new_total.false in
-    not_due _ (le-ltb 1048576 _ (omega (arith, ints, is, few)))
+    not_due _ (le-ltb most_rows _ (omega (arith, ints, is, few)))
 
 pub returns-clause-brings : goal.returns-clause-brings
 returns-clause-brings c =

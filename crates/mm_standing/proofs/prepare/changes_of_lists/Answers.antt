@@ -11,7 +11,7 @@ use Rattle.mm_value.specs.declared.refusal.Refusal.{Refusal}
 use Rattle.mm_value.specs.declared.refusal.Refusal.TheVariants.{Memory, StandingListTooLarge}
 use Rattle.mm_value.specs.declared.values.Value.{Value}
 use Rattle.mm_store.specs.Tables.{IsAt, Tables}
-use Rattle.mm_bag.specs.Counts.{Entries, count_in, count_of, total_of}
+use Rattle.mm_multiset.specs.Counts.{Entries, count_in, count_of, total_of}
 use Rattle.mm_delta.specs.Edited.{after_at, before_at}
 use Rattle.mm_delta.specs.Skipping.{IsTypeTested}
 use Rattle.mm_standing.specs.Bags.{Brings, entries_at}
@@ -20,6 +20,7 @@ use Rattle.mm_standing.specs.Reads.{query_reads}
 use Rattle.mm_standing.proofs.Adding.{entries_here}
 use Rattle.mm_standing.proofs.Segments.{All_more, IsStage, stage_more}
 use Rattle.mm_standing.proofs.prepare.changes_of_lists.Goals as goal
+use Rattle.mm_schema.specs.Rows.{most_rows}
 
 same_number : (a b : ℕ) → pos a ≡ pos b → a ≡ b
 same_number a b e = omega (arith, ints, e)
@@ -40,7 +41,7 @@ changes_of_list-requires-clause-fits c =
     ∙ same_number _ _ (c.requires.fits list query at row)
     ∙ ap (λ (s : Tables). count_of row (bag_over (before_at s) query)) (sym c.loop-list.invariant.same)
 
-few_now : (n : ℕ) → (pos n +ℤ pos 0) ≤ℤ pos 1048576 → n ≤ 1048576
+few_now : (n : ℕ) → (pos n +ℤ pos 0) ≤ℤ pos most_rows → n ≤ most_rows
 few_now n h = omega (arith, ints)
 
 pub changes_of_list-requires-clause-few : goal.changes_of_list-requires-clause-few
@@ -51,7 +52,7 @@ changes_of_list-requires-clause-few c =
     let inside = c.loop-list-test.true in
     let sizes = c.requires.size in
     let there : list < length bags = omega (arith, inside, sizes) in
-    subst (λ (es : Entries). total_of es ≤ 1048576) (entries_here bags list bag bag there c.index-bags-list.is)
+    subst (λ (es : Entries). total_of es ≤ most_rows) (entries_here bags list bag bag there c.index-bags-list.is)
     (few_now (total_of (entries_at bags list)) ((c.requires.within 0).totals list))
 
 -- What is read for one list more.

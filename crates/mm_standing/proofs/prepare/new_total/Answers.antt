@@ -1,7 +1,7 @@
 -- One change more is in the sum.
 use Rattle.std.proofs.Common.{◌≡◌, ◌+◌, ◌^◌, ◌+ℤ◌, ◌<ℤ◌, neg_ℤ, pos, take, sym, ap, ◌∙◌, subst, arith, add-one}
 use Rattle.std.proofs.lemmas.Int.{ints}
-use Rattle.mm_bag.specs.declared.signed.Signed.{Signed}
+use Rattle.mm_multiset.specs.declared.signed.Signed.{Signed}
 use Rattle.mm_standing.proofs.Net.{sum_of}
 use Rattle.mm_standing.proofs.Segments.{sum_more}
 use Rattle.mm_standing.proofs.prepare.new_total.Goals as goal

@@ -1,5 +1,5 @@
 use Rattle.std.proofs.Common.{◌≡◌, ◌+◌, ◌*◌, ◌^◌, ◌+ℤ◌, ◌≤ℤ◌, neg_ℤ, pos, take}
-use Rattle.mm_bag.specs.declared.signed.Signed.{Signed}
+use Rattle.mm_multiset.specs.declared.signed.Signed.{Signed}
 use Rattle.mm_standing.specs.Bags.{sum_over}
 use Rattle.mm_standing.proofs.prepare.new_total.Given as goal
 

@@ -1,5 +1,5 @@
 use Rattle.std.proofs.Common.{◌≡◌, ◌++◌, map}
-use Rattle.mm_bag.specs.declared.signed.Signed.{Signed}
+use Rattle.mm_multiset.specs.declared.signed.Signed.{Signed}
 use Rattle.mm_standing.proofs.prepare.push_changes.Given as goal
 
 -- the changes so far stand at the end

@@ -3,7 +3,7 @@ use Rattle.std.proofs.Common.{◌≡◌, ◌<◌, ◌≤ℤ◌, pos, length, get
 use Rattle.std.proofs.lemmas.Int.{ints}
 use Rattle.std.proofs.lemmas.List.{get_or_default}
 use Rattle.std.proofs.lemmas.List.Sorted.{IsPermutation-refl, IsPermutation-swap, IsPermutation-trans, length_permutation}
-use Rattle.mm_bag.specs.declared.signed.Signed.{Signed}
+use Rattle.mm_multiset.specs.declared.signed.Signed.{Signed}
 use Rattle.mm_standing.proofs.Gains.{parted_all, parted_gain, parted_loss, parted_none}
 use Rattle.mm_standing.proofs.prepare.put_gains_first.Goals as goal
 

@@ -1,7 +1,7 @@
 -- One bag has more room, and its entries stay.
 use Rattle.std.proofs.Common.{◌<◌, length, ap, ◌∙◌, arith}
 use Rattle.std.proofs.Math.Seq.{map-set_same}
-use Rattle.mm_bag.specs.Counts.{Counts}
+use Rattle.mm_multiset.specs.Counts.{Counts}
 use Rattle.mm_standing.proofs.Preparing.{room_grown, room_more, size}
 use Rattle.mm_standing.proofs.prepare.reserve_each.Goals as goal
 

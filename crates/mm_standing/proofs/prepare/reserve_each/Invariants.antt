@@ -1,5 +1,5 @@
 use Rattle.std.proofs.Common.{◌≡◌, ℕ, ◌≤◌, ◌<◌, map, slice_index}
-use Rattle.mm_bag.specs.Counts.{Counts}
+use Rattle.mm_multiset.specs.Counts.{Counts}
 use Rattle.mm_standing.specs.Bags.{room_at}
 use Rattle.mm_standing.proofs.prepare.reserve_each.Given as goal
 

@@ -6,7 +6,7 @@ use Rattle.mm_value.specs.declared.values.Value.{Value}
 use Rattle.mm_query.specs.Queries.{bag_of}
 use Rattle.mm_store.specs.Tables.{Tables, rows_at}
 use Rattle.mm_templist.specs.Results.{result_rows}
-use Rattle.mm_bag.specs.Counts.{Counts}
+use Rattle.mm_multiset.specs.Counts.{Counts}
 use Rattle.mm_standing.specs.Queries.{IsBagOf}
 use Rattle.mm_standing.proofs.Found.{bag_moved, result_bag}
 use Rattle.mm_standing.proofs.watching.bag_now.Goals as goal

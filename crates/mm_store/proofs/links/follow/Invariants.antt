@@ -1,5 +1,5 @@
 use Rattle.std.proofs.Common.{◌≡◌, ℕ, ◌<◌, None, get_or}
-use Rattle.mm_foreign.specs.Ties.{target_at}
+use Rattle.mm_foreign_key.specs.Ties.{target_at}
 use Rattle.mm_store.specs.declared.link.Link.{Link}
 use Rattle.mm_store.proofs.links.follow.Given as goal
 

@@ -37,7 +37,7 @@ loop-i-preserved c =
     (λ stored is. c.row.ensures.row stored (subst (λ (s : Tables). IsAt s table stored) (sym c.loop-i.invariant.same) is))) in
     let counted = ap (λ (seen : Seen). seen.reads) c.row.ensures.counted in
     let more : c.row.new.self.reads ≤ c.args.view.now.reads + (c.loop-i.i + 1) = omega (arith, counted, c.loop-i.invariant.reads) in
-    let pushed = pushed_front c.loop-i.chosen.items c.loop-i.chosen.items c.push.new.self.items (Some c.row.result) c.in_ok-push.ensures.items refl in
+    let pushed = pushed_front c.loop-i.chosen.items c.loop-i.chosen.items c.push.new.self.items (Some c.row.result) c.in_ok-push.ensures.ok refl in
     record {
       same = ap (λ (seen : Seen). seen.store) c.row.ensures.counted ∙ c.loop-i.invariant.same;
       rows = pushed ∙ (ap (λ l. l ++ Some c.row.result.now ∷ []) c.loop-i.invariant.rows ∙ sym (next_row rows c.loop-i.i c.row.result.now here));

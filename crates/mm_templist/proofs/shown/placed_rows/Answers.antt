@@ -26,10 +26,10 @@ loop-i-preserved c =
     let numbered : HasPrefix c.args.order.now width refs placed =
     c.leading_prefix-prefix.ensures ∙ ap (λ run. leading_prefix (sort_key c.args.order.now run)) c.run_from.ensures in
     record {
-      rows = ap (map row) c.in_ok-push.ensures.items
+      rows = ap (map row) c.in_ok-push.ensures.ok
           ∙ (map_push row c.loop-i.places.items placed
           ∙ (ap (λ rows. rows ++ row placed ∷ []) c.loop-i.invariant.rows ∙ sym (next_of all c.loop-i.i (row placed) here)));
-      prefixes = subst (All (HasPrefix c.args.order.now width refs)) (sym c.in_ok-push.ensures.items)
+      prefixes = subst (All (HasPrefix c.args.order.now width refs)) (sym c.in_ok-push.ensures.ok)
           (All-push (HasPrefix c.args.order.now width refs) c.loop-i.places.items placed c.loop-i.invariant.prefixes numbered);
     }
 

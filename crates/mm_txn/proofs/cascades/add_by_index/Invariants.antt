@@ -1,4 +1,4 @@
-use Rattle.std.proofs.Common.{take}
+use Rattle.std.proofs.Common.{◌≡◌, take}
 use Rattle.mm_partition.specs.Places.{slot_at}
 use Rattle.mm_relation.specs.Kept.{StoredRows}
 use Rattle.mm_store.specs.Tables.{IsAt}
@@ -8,6 +8,9 @@ use Rattle.mm_txn.proofs.cascades.add_by_index.Given as goal
 
 -- the references were added of the rows that have the key of a row of the edits so far
 abbrev pub invariant-loop-edit : goal.invariant-loop-edit
-invariant-loop-edit l = (stored : StoredRows) → IsAt l.store l.table stored
-    → AddsReferrers stored (tests l.cascade.column l.target.key (rows_taken (slot_at l.target.places) (take l.edit-index l.cascade.gone.now)))
-    l.initial.found.items l.found.items
+invariant-loop-edit l = record {
+  same : l.view.store ≡ l.fn.view.store;
+  added : (stored target : StoredRows) → IsAt l.fn.view.store l.table stored → IsAt l.fn.view.store l.cascade.to target
+      → AddsReferrers stored (tests l.cascade.column target.key (rows_taken (slot_at target.places) (take l.edit-index l.cascade.gone.now)))
+      l.initial.found.items l.found.items;
+}

@@ -1,24 +1,34 @@
 -- Each row is asked whether the row that it refers to goes.
-use Rattle.std.proofs.Common.{◌≡◌, true, false, List, [], ◌∷◌, ◌++◌, append_assoc, append-nil, ap, ◌∙◌, rules, sym, arith}
-use Rattle.std.proofs.lemmas.Grind.{common_steps}
-use Rattle.std.specs.List.{filter}
-use Rattle.mm_partition.specs.Places.{slot_at}
+use Rattle.std.proofs.Common.{◌≡◌, true, false, List, [], ◌∷◌, ◌++◌, append_assoc, append-nil, ap, ◌∙◌, refl, subst, sym}
+use Rattle.std.specs.List.{All, filter}
+use Rattle.mm_partition.specs.Places.{IsLive, slot_at}
 use Rattle.mm_relation.specs.Refs.{row_at}
+use Rattle.mm_select.proofs.Walks.{holds_next, split_all, split_next}
 use Rattle.mm_value.specs.declared.row_ref.RowRef.{RowRef}
 use Rattle.mm_txn.specs.Cascades.{goes_by}
 use Rattle.mm_txn.proofs.CascadeFinds.{filter_push, scan_goes}
 use Rattle.mm_txn.proofs.Referrers.{passing_added}
 use Rattle.mm_txn.proofs.cascades.add_by_scan.Goals as goal
 
+pub walk-at-items-requires-clause-tree : goal.walk-at-items-requires-clause-tree
+walk-at-items-requires-clause-tree c = λ stored at. (stored.key, refl, tt)
+
+pub follow-target-requires-clause-live : goal.follow-target-requires-clause-live
+follow-target-requires-clause-live c = λ stored at.
+    holds_next (IsLive stored.places) c.walk-at-items.result c.loop-at.yielded c.next.new.self c.in-Some.at
+    (sym c.into_iter-at-iterator.ensures.into_iter_gives ∙ (c.loop-at.invariant.split ∙ ap (λ l. c.loop-at.yielded ++ l) c.in-Some.ensures.steps))
+    (c.walk-at-items.ensures.live stored at)
+
 pub loop-at-preserved-in-Continue-branch-2 : goal.loop-at-preserved-in-Continue-branch-2
 loop-at-preserved-in-Continue-branch-2 c = record {
-  split = λ stored at. let split = c.loop-at.invariant.split stored at in first_of (search rules, grind (arith, common_steps));
+  split = split_next c.into_iter-at-iterator.result c.loop-at.yielded c.loop-at.at-iterator c.next.new.self c.in-Some.at
+      c.loop-at.invariant.split c.in-Some.ensures.steps;
   added = λ stored at.
       let cascade = c.args.cascade.now in
       let row = row_at (slot_at stored.places) c.in-Some.at in
-      let goes : goes_by c.args.store.now.tables cascade.column (cascade.to, cascade.gone.now) row ≡ true =
-      sym (scan_goes c.args.store.now c.args.table cascade.column (cascade.to, cascade.gone.now) c.requires.cascade row c.follow-target.result
-      (c.follow-target.ensures stored at) c.is_kept-2.ensures.kept)
+      let goes : goes_by c.args.view.now.store.tables cascade.column (cascade.to, cascade.gone.now) row ≡ true =
+      sym (scan_goes c.args.view.now.store c.args.table cascade.column (cascade.to, cascade.gone.now) c.requires.cascade row c.follow-target.result
+      (c.follow-target.ensures stored at) c.is_kept.ensures.kept)
       ∙ sym (c.contains.ensures ∙ c.in_ok-gone.ensures.ok c.follow-target.result) ∙ c.if-contains.true in
       c.in_ok-push.ensures.items ∙ ap (λ (xs : List RowRef). xs ++ c.in-Some.at ∷ []) (c.loop-at.invariant.added stored at)
       ∙ append_assoc c.args.found.now.items _ (c.in-Some.at ∷ [])
@@ -27,13 +37,14 @@ loop-at-preserved-in-Continue-branch-2 c = record {
 
 pub loop-at-preserved : goal.loop-at-preserved
 loop-at-preserved c = record {
-  split = λ stored at. let split = c.loop-at.invariant.split stored at in first_of (search rules, grind (arith, common_steps));
+  split = split_next c.into_iter-at-iterator.result c.loop-at.yielded c.loop-at.at-iterator c.next.new.self c.in-Some.at
+      c.loop-at.invariant.split c.in-Some.ensures.steps;
   added = λ stored at.
       let cascade = c.args.cascade.now in
       let row = row_at (slot_at stored.places) c.in-Some.at in
-      let stays : goes_by c.args.store.now.tables cascade.column (cascade.to, cascade.gone.now) row ≡ false =
-      sym (scan_goes c.args.store.now c.args.table cascade.column (cascade.to, cascade.gone.now) c.requires.cascade row c.follow-target.result
-      (c.follow-target.ensures stored at) c.is_kept-2.ensures.kept)
+      let stays : goes_by c.args.view.now.store.tables cascade.column (cascade.to, cascade.gone.now) row ≡ false =
+      sym (scan_goes c.args.view.now.store c.args.table cascade.column (cascade.to, cascade.gone.now) c.requires.cascade row c.follow-target.result
+      (c.follow-target.ensures stored at) c.is_kept.ensures.kept)
       ∙ sym (c.contains.ensures ∙ c.in_ok-gone.ensures.ok c.follow-target.result) ∙ c.if-contains.false in
       c.loop-at.invariant.added stored at
       ∙ ap (λ (xs : List RowRef). c.args.found.now.items ++ xs) (sym (filter_push _ c.loop-at.yielded c.in-Some.at false stays ∙ append-nil _));
@@ -42,9 +53,12 @@ loop-at-preserved c = record {
 pub returns-clause-found : goal.returns-clause-found
 returns-clause-found c = λ stored at.
     let cascade = c.args.cascade.now in
-    let all : stored.refs ≡ c.loop-at.yielded =
-    c.loop-at.invariant.split stored at ∙ ap (λ (rest : List RowRef). c.loop-at.yielded ++ rest) c.in-None.ensures.steps.0 ∙ append-nil c.loop-at.yielded in
-    passing_added stored (c.is_kept.ensures.kept stored at) (goes_by c.args.store.now.tables cascade.column (cascade.to, cascade.gone.now))
+    let all : c.walk-at-items.result ≡ c.loop-at.yielded =
+    sym c.into_iter-at-iterator.ensures.into_iter_gives
+    ∙ split_all c.into_iter-at-iterator.result c.loop-at.yielded c.loop-at.at-iterator c.loop-at.invariant.split c.in-None.ensures.steps.0 in
+    let refs = c.walk-at-items.ensures.keys refl stored at in
+    passing_added stored (subst (All (IsLive stored.places)) refs (c.walk-at-items.ensures.live stored at))
+    (goes_by c.args.view.now.store.tables cascade.column (cascade.to, cascade.gone.now))
     c.args.found.now.items c.loop-at.found.items (c.loop-at.invariant.added stored at
-    ∙ ap (λ (refs : List RowRef). c.args.found.now.items ++ filter (λ x. goes_by c.args.store.now.tables cascade.column (cascade.to, cascade.gone.now)
-    (row_at (slot_at stored.places) x)) refs) (sym all))
+    ∙ ap (λ (refs : List RowRef). c.args.found.now.items ++ filter (λ x. goes_by c.args.view.now.store.tables cascade.column
+    (cascade.to, cascade.gone.now) (row_at (slot_at stored.places) x)) refs) (sym all ∙ refs))

@@ -10,7 +10,7 @@ use Rattle.mm_txn.proofs.cascades.add_by_scan.Given as goal
 -- of the references so far, those of the rows that go along were added
 abbrev pub invariant-loop-at : goal.invariant-loop-at
 invariant-loop-at l = record {
-  split : (stored : StoredRows) → IsAt l.store l.table stored → stored.refs ≡ l.yielded ++ l.at-iterator;
-  added : (stored : StoredRows) → IsAt l.store l.table stored → l.found.items ≡ l.initial.found.items
-      ++ filter (λ at. goes_by l.store.tables l.cascade.column (l.cascade.to, l.cascade.gone.now) (row_at (slot_at stored.places) at)) l.yielded;
+  split : l.initial.at-iterator ≡ l.yielded ++ l.at-iterator;
+  added : (stored : StoredRows) → IsAt l.view.store l.table stored → l.found.items ≡ l.initial.found.items
+      ++ filter (λ at. goes_by l.view.store.tables l.cascade.column (l.cascade.to, l.cascade.gone.now) (row_at (slot_at stored.places) at)) l.yielded;
 }

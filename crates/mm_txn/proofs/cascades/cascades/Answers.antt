@@ -11,8 +11,8 @@ use Rattle.mm_schema.specs.declared.table.Table.{Table}
 use Rattle.mm_query.specs.Edits.{goes_along, removals_of, with_cascades}
 use Rattle.mm_store.specs.Tables.{rows_at}
 use Rattle.mm_plan.specs.Kept.{instance_of}
-use Rattle.mm_txn.specs.TableEdits.{AreEdits, PlacedEdits, named, pairs_at, placed}
-use Rattle.mm_txn.specs.declared.edits.TableEdits.{TableEdits}
+use Rattle.mm_txn.specs.PlacedEdits.{AreEdits, PlacedEdits, named, pairs_at, placed}
+use Rattle.mm_txn.specs.declared.edits.RelationEdits.{RelationEdits}
 use Rattle.mm_txn.proofs.CascadeFinds.{none_more, one_edited, one_more, rest_at_first, rest_at_last, some_more}
 use Rattle.mm_txn.proofs.CascadeTables.{as_many, fits_within}
 use Rattle.mm_txn.proofs.cascades.cascades.Goals.{then-not-is_empty+in_ok-push, else-not-is_empty}
@@ -53,14 +53,14 @@ loop-table-preserved c =
     let pairs : (t : Table) → slice_get schema.tables table ≡ Some t → pairs_at store.tables (table, edits)
     ≡ removals_of (filter (goes_along schema (map (named schema store.tables) cs) t.definition.columns) (rows_at store.tables table)) =
     λ t at. c.in_ok-edits.ensures.pairs t at
-    ∙ ap (λ (xs : List TableEdits). removals_of (filter (goes_along schema (map (named schema store.tables) (own ∷ map placed xs)) t.definition.columns)
+    ∙ ap (λ (xs : List RelationEdits). removals_of (filter (goes_along schema (map (named schema store.tables) (own ∷ map placed xs)) t.definition.columns)
     (rows_at store.tables table))) c.as_slice.ensures.value in
     let before : All (λ (d : PlacedEdits). d.0 < table + 1) cs =
     All-weaker (λ (d : PlacedEdits). d.0 < table) (λ (d : PlacedEdits). d.0 < table + 1) (λ d below. omega (arith, below)) cs c.loop-table.invariant.before in
     elim c.if-not-is_empty.branch [
       | then-not-is_empty+in_ok-push w ↦
           let more : own ∷ map placed c.if-not-is_empty.along.items ≡ cs ++ (table, edits) ∷ [] =
-          ap (λ along. own ∷ map placed along.items) w.along-is ∙ ap (λ (xs : List TableEdits). own ∷ map placed xs) w.in_ok-push.ensures.items
+          ap (λ along. own ∷ map placed along.items) w.along-is ∙ ap (λ (xs : List RelationEdits). own ∷ map placed xs) w.in_ok-push.ensures.items
           ∙ ap (λ (xs : List PlacedEdits). own ∷ xs) (map-append placed c.loop-table.along.items _) in
           let some : edits ≢ [] = λ none.
           let size : length edits ≡ 0 = ap length none in

@@ -3,7 +3,7 @@ use Rattle.std.specs.List.{All}
 use Rattle.mm_relation.specs.Edits.{new_rows}
 use Rattle.mm_query.specs.Edits.{with_cascades}
 use Rattle.mm_plan.specs.Kept.{instance_of}
-use Rattle.mm_txn.specs.TableEdits.{AreEdits, PlacedEdits, named, placed}
+use Rattle.mm_txn.specs.PlacedEdits.{AreEdits, PlacedEdits, named, placed}
 use Rattle.mm_txn.proofs.cascades.cascades.Given as goal
 
 -- what the tables so far add was found

@@ -1,7 +1,7 @@
 use Rattle.std.proofs.Common.{◌≡◌, ◌∷◌, ◌++◌, Some, drop, map, slice_get}
 use Rattle.mm_schema.specs.declared.table.Table.{Table}
 use Rattle.mm_txn.specs.Cascades.{along_of, alongs_from}
-use Rattle.mm_txn.specs.TableEdits.{placed}
+use Rattle.mm_txn.specs.PlacedEdits.{placed}
 use Rattle.mm_txn.proofs.cascades.cascading_columns.Given as goal
 
 -- of the columns so far those that cascade were found

@@ -14,8 +14,8 @@ use Rattle.mm_schema.proofs.Twins.{Row}
 use Rattle.mm_query.specs.Edits.{goes_along, removals_of}
 use Rattle.mm_value.specs.declared.row_ref.RowRef.{RowRef}
 use Rattle.mm_store.specs.Tables.{IsAt, Tables}
-use Rattle.mm_txn.specs.Cascades.{Along, IsCascade, along_of, alongs_from, goes_by, goes_by_some}
-use Rattle.mm_txn.specs.TableEdits.{PlacedEdits, named, placed}
+use Rattle.mm_txn.specs.Cascades.{AddsGoing, Along, IsCascade, along_of, alongs_from, goes_by, goes_by_some}
+use Rattle.mm_txn.specs.PlacedEdits.{PlacedEdits, named, placed}
 use Rattle.mm_txn.proofs.CascadeFinds.{along_push, cascade_so}
 use Rattle.mm_txn.proofs.CascadeSteps.{pairs_filtered}
 use Rattle.mm_txn.proofs.CascadePlaces.{some_at}
@@ -25,7 +25,8 @@ use Rattle.mm_txn.proofs.cascades.going_along.Goals as goal
 
 pub add_referrers-requires-clause-there : goal.add_referrers-requires-clause-there
 add_referrers-requires-clause-there c =
-    subst (λ n. c.args.table < n) (as_many c.args.catalog.now.tables c.args.store.now.tables c.requires.kept.relations) c.requires.there
+    subst (λ (s : Tables). c.args.table < length s.tables) (sym c.loop-cascade.invariant.same)
+    (subst (λ n. c.args.table < n) (as_many c.args.catalog.now.tables c.args.store.now.tables c.requires.kept.relations) c.requires.there)
 
 pub add_referrers-requires-clause-cascade : goal.add_referrers-requires-clause-cascade
 add_referrers-requires-clause-cascade c =
@@ -33,28 +34,35 @@ add_referrers-requires-clause-cascade c =
     let store = c.args.store.now in
     let cs : List PlacedEdits = placed c.args.own.now ∷ map placed c.args.along.now in
     let (t, at) = some_at schema.tables c.args.table c.requires.there in
-    cascade_so (λ (a : Along). IsCascade store c.args.table a.0 a.1) (alongs_from schema cs 0 t.definition.columns)
+    let item = c.cascade-item.result in
+    subst (λ (s : Tables). IsCascade s c.args.table item.column (item.to, item.gone.now)) (sym c.loop-cascade.invariant.same)
+    (cascade_so (λ (a : Along). IsCascade store c.args.table a.0 a.1) (alongs_from schema cs 0 t.definition.columns)
     (alongs_are schema store c.requires.kept c.requires.distinct cs c.requires.are c.args.table t at) c.deref-cascade-items.result.now
-    (ap (map along_of) c.deref-cascade-items.ensures.value ∙ c.in_ok-columns.ensures.found t at) c.loop-cascade.cascade-index c.cascade-item.result
-    c.loop-cascade-test.true c.cascade-item.is
+    (ap (map along_of) c.deref-cascade-items.ensures.value ∙ c.in_ok-columns.ensures.found t at) c.loop-cascade.cascade-index item
+    c.loop-cascade-test.true c.cascade-item.is)
 
 pub loop-cascade-preserved : goal.loop-cascade-preserved
-loop-cascade-preserved c = λ stored at.
-    let rs = c.args.store.now.tables in
-    let items = c.deref-cascade-items.result.now in
-    let k = c.loop-cascade.cascade-index in
-    let item = c.cascade-item.result in
-    adds_same stored (λ row. goes_by_some rs (map along_of (take k items)) row || goes_by rs item.column (item.to, item.gone.now) row) _
-    (along_push rs items k item c.loop-cascade-test.true c.cascade-item.is) [] c.add_referrers.new.found.items
-    (adds_both stored (goes_by_some rs (map along_of (take k items))) (goes_by rs item.column (item.to, item.gone.now)) [] c.loop-cascade.found.items
-    c.add_referrers.new.found.items (c.loop-cascade.invariant stored at) (c.in_ok-add_referrers.ensures.found stored at))
+loop-cascade-preserved c = record {
+  same = c.add_referrers.ensures.same ∙ c.loop-cascade.invariant.same;
+  found = λ stored at.
+      let rs = c.args.store.now.tables in
+      let items = c.deref-cascade-items.result.now in
+      let k = c.loop-cascade.cascade-index in
+      let item = c.cascade-item.result in
+      let adds = subst (λ (s : Tables). AddsGoing s c.args.table (along_of item) c.loop-cascade.found.items c.add_referrers.new.found.items)
+      c.loop-cascade.invariant.same c.in_ok-add_referrers.ensures.found in
+      adds_same stored (λ row. goes_by_some rs (map along_of (take k items)) row || goes_by rs item.column (item.to, item.gone.now) row) _
+      (along_push rs items k item c.loop-cascade-test.true c.cascade-item.is) [] c.add_referrers.new.found.items
+      (adds_both stored (goes_by_some rs (map along_of (take k items))) (goes_by rs item.column (item.to, item.gone.now)) [] c.loop-cascade.found.items
+      c.add_referrers.new.found.items (c.loop-cascade.invariant.found stored at) (adds stored at));
+}
 
 pub removals_at-requires : goal.removals_at-requires
 removals_at-requires c = record {
-  there = subst (λ (s : Tables). c.args.table < length s.tables) (sym c.view-view.ensures.store)
+  there = subst (λ (s : Tables). c.args.table < length s.tables) (sym c.loop-cascade.invariant.same)
       (subst (λ n. c.args.table < n) (as_many c.args.catalog.now.tables c.args.store.now.tables c.requires.kept.relations) c.requires.there);
   live = λ stored at.
-      (c.loop-cascade.invariant stored (subst (λ (s : Tables). IsAt s c.args.table stored) c.view-view.ensures.store at)).live
+      (c.loop-cascade.invariant.found stored (subst (λ (s : Tables). IsAt s c.args.table stored) c.loop-cascade.invariant.same at)).live
       (All-nil (IsLive stored.places));
 }
 
@@ -62,7 +70,7 @@ pub returns-clause-fit : goal.returns-clause-fit
 returns-clause-fit c =
     let within = subst (λ n. c.args.table < n) (as_many c.args.catalog.now.tables c.args.store.now.tables c.requires.kept.relations) c.requires.there in
     let (stored, here) = some_at c.args.store.now.tables c.args.table within in
-    (stored, here, c.in_ok-removals_at.ensures.fit stored (subst (λ (s : Tables). IsAt s c.args.table stored) (sym c.view-view.ensures.store) here))
+    (stored, here, c.in_ok-removals_at.ensures.fit stored (subst (λ (s : Tables). IsAt s c.args.table stored) (sym c.loop-cascade.invariant.same) here))
 
 pub returns-clause-pairs : goal.returns-clause-pairs
 returns-clause-pairs c = λ t at.
@@ -70,7 +78,7 @@ returns-clause-pairs c = λ t at.
     let store = c.args.store.now in
     let within = subst (λ n. c.args.table < n) (as_many schema.tables store.tables c.requires.kept.relations) c.requires.there in
     let (stored, here) = some_at store.tables c.args.table within in
-    let seen = subst (λ (s : Tables). IsAt s c.args.table stored) (sym c.view-view.ensures.store) here in
+    let seen = subst (λ (s : Tables). IsAt s c.args.table stored) (sym c.loop-cascade.invariant.same) here in
     let now = slot_at stored.places in
     let cs : List PlacedEdits = placed c.args.own.now ∷ map placed c.args.along.now in
     let items = c.deref-cascade-items.result.now in
@@ -84,5 +92,5 @@ returns-clause-pairs c = λ t at.
     ap (λ o. option_map_or (λ (s : StoredRows). edit_pairs (slot_at s.places) c.in_ok-removals_at.field-0.items) o []) here
     ∙ ap (edit_pairs now) (c.in_ok-removals_at.ensures.items stored seen)
     ∙ pairs_filtered now q p stored.refs (λ x among.
-    (c.loop-cascade.invariant stored here).found x (Contains-from_IsIn stored.refs x among) ∙ goes (row_at now x))
+    (c.loop-cascade.invariant.found stored here).found x (Contains-from_IsIn stored.refs x among) ∙ goes (row_at now x))
     ∙ ap (λ rows. removals_of (filter p rows)) (sym (ap (λ o. option_map_or rows_of o []) here))

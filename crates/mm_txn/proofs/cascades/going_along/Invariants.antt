@@ -1,4 +1,4 @@
-use Rattle.std.proofs.Common.{[], map, take}
+use Rattle.std.proofs.Common.{◌≡◌, [], map, take}
 use Rattle.mm_relation.specs.Kept.{StoredRows}
 use Rattle.mm_store.specs.Tables.{IsAt}
 use Rattle.mm_txn.specs.Cascades.{AddsReferrers, along_of, goes_by_some}
@@ -6,5 +6,8 @@ use Rattle.mm_txn.proofs.cascades.going_along.Given as goal
 
 -- the references of the rows that go along by the columns so far were found
 abbrev pub invariant-loop-cascade : goal.invariant-loop-cascade
-invariant-loop-cascade l = (stored : StoredRows) → IsAt l.store l.table stored
-    → AddsReferrers stored (goes_by_some l.store.tables (map along_of (take l.cascade-index l.cascade-items))) [] l.found.items
+invariant-loop-cascade l = record {
+  same : l.view.store ≡ l.store;
+  found : (stored : StoredRows) → IsAt l.store l.table stored
+      → AddsReferrers stored (goes_by_some l.store.tables (map along_of (take l.cascade-index l.cascade-items))) [] l.found.items;
+}

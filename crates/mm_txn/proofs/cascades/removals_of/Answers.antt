@@ -1,5 +1,5 @@
 use Rattle.std.proofs.Common.{◌∙◌}
-use Rattle.mm_txn.specs.TableEdits.{placed}
+use Rattle.mm_txn.specs.PlacedEdits.{placed}
 use Rattle.mm_txn.proofs.CascadeFinds.{removals_found}
 use Rattle.mm_txn.proofs.cascades.removals_of.Goals as goal
 

@@ -1,5 +1,5 @@
 use Rattle.std.proofs.Common.{◌≡◌, drop, map}
-use Rattle.mm_txn.specs.TableEdits.{edits_at, placed}
+use Rattle.mm_txn.specs.PlacedEdits.{edits_at, placed}
 use Rattle.mm_txn.proofs.cascades.removals_of.Given as goal
 
 -- none of the tables so far is at the place

@@ -11,8 +11,8 @@ use Rattle.mm_standing.specs.Queries.{change_conditions as list_conditions}
 use Rattle.mm_standing.specs.State.{FitPrepared, Lists, count_now}
 use Rattle.mm_store.specs.Tables.{AreFit, edit_conditions}
 use Rattle.mm_plan.specs.Kept.{instance_of}
-use Rattle.mm_txn.specs.TableEdits.{FitsAt, PlacedEdits, edits_conditions, placed, rows_edited}
-use Rattle.mm_txn.specs.Watched.{AreListed, IsTested, rows_by_place}
+use Rattle.mm_txn.specs.PlacedEdits.{FitsAt, PlacedEdits, edits_conditions, placed, rows_edited}
+use Rattle.mm_txn.specs.Listed.{AreListed, IsTested, rows_by_place}
 use Rattle.mm_txn.proofs.ListSteps.{behind_due, front_due, listed_made, listed_still, longer_made, same_counts, undone_made}
 use Rattle.mm_txn.proofs.ListedRows.{rows_as_they_were, rows_kept, rows_made, rows_put_back}
 use Rattle.mm_txn.proofs.PlacedRows.{one_fits, one_made, one_refused, one_there}

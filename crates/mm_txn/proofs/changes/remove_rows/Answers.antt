@@ -10,9 +10,9 @@ use Rattle.mm_standing.specs.State.{FitPrepared, Lists, count_at, count_now}
 use Rattle.mm_store.proofs.Forms.{forms_twice}
 use Rattle.mm_value.specs.declared.refusal.Refusal.{Refusal}
 use Rattle.mm_plan.specs.Kept.{instance_of}
-use Rattle.mm_txn.specs.TableEdits.{FitsAt, edits_conditions, leaves_orphans, placed, rows_edited}
-use Rattle.mm_txn.specs.Watched.{AreListed}
-use Rattle.mm_txn.specs.declared.edits.TableEdits.{TableEdits}
+use Rattle.mm_txn.specs.PlacedEdits.{FitsAt, edits_conditions, leaves_orphans, placed, rows_edited}
+use Rattle.mm_txn.specs.Listed.{AreListed}
+use Rattle.mm_txn.specs.declared.edits.RelationEdits.{RelationEdits}
 use Rattle.mm_txn.proofs.ListSteps.{listed_made, listed_still, same_at, same_counts}
 use Rattle.mm_txn.proofs.ListedRows.{rows_as_they_were, rows_formed, rows_made}
 use Rattle.mm_txn.proofs.Removals.{both_due, first_ok, own_fit, own_removals, referred_due, rows_reverted, second_ok}
@@ -20,7 +20,7 @@ use Rattle.mm_txn.proofs.changes.remove_rows.Goals as goal
 
 pub prepare_removals-prepared-requires-clause-fit : goal.prepare_removals-prepared-requires-clause-fit
 prepare_removals-prepared-requires-clause-fit c =
-    subst (λ (es : List TableEdits). All (FitsAt c.args.store.now) (placed c.args.own ∷ map placed es)) (sym c.as_slice.ensures.value) c.requires.may.are.fit
+    subst (λ (es : List RelationEdits). All (FitsAt c.args.store.now) (placed c.args.own ∷ map placed es)) (sym c.as_slice.ensures.value) c.requires.may.are.fit
 
 pub returns-in-Err-clause-due : goal.returns-in-Err-clause-due
 returns-in-Err-clause-due c =
@@ -36,7 +36,7 @@ returns-in-Err-clause-due c =
     (own_fit store c.args.own c.args.along.items c.requires.may.are c.requires.may.back c.requires.several stored at)
     (own_removals store c.args.own c.args.along.items c.requires.may.are c.requires.may.back c.requires.several) (leaves_orphans store all))
     c.remove_each.ensures.due
-    (subst (λ (es : List TableEdits). AnswersDue {T = Unit {0}} (first_refusal (list_conditions (rows_edited store (placed c.args.own ∷ map placed es)) queries))
+    (subst (λ (es : List RelationEdits). AnswersDue {T = Unit {0}} (first_refusal (list_conditions (rows_edited store (placed c.args.own ∷ map placed es)) queries))
     c.prepare_removals-prepared.result) c.as_slice.ensures.value c.prepare_removals-prepared.ensures.due))
 
 pub returns-clause-due : goal.returns-clause-due
@@ -53,7 +53,7 @@ returns-clause-due c =
     (own_fit store c.args.own c.args.along.items c.requires.may.are c.requires.may.back c.requires.several stored at)
     (own_removals store c.args.own c.args.along.items c.requires.may.are c.requires.may.back c.requires.several) (leaves_orphans store all))
     c.remove_each.ensures.due
-    (subst (λ (es : List TableEdits). AnswersDue {T = Unit {0}} (first_refusal (list_conditions (rows_edited store (placed c.args.own ∷ map placed es)) queries))
+    (subst (λ (es : List RelationEdits). AnswersDue {T = Unit {0}} (first_refusal (list_conditions (rows_edited store (placed c.args.own ∷ map placed es)) queries))
     c.prepare_removals-prepared.result) c.as_slice.ensures.value c.prepare_removals-prepared.ensures.due))
 
 pub returns-in-Err-Memory-clause-made : goal.returns-in-Err-Memory-clause-made
@@ -125,7 +125,7 @@ returns-clause-made c = record {
       (instance_of c.remove_each.new.store.tables) after
       (rows_made store c.remove_each.new.store all (first_ok removed prepared u both c.remove_each.ensures.ok))
       (second_ok removed prepared u both
-      (subst (λ (es : List TableEdits). OnOk prepared (FitPrepared (rows_edited store (placed c.args.own ∷ map placed es)) lists)) c.as_slice.ensures.value
+      (subst (λ (es : List RelationEdits). OnOk prepared (FitPrepared (rows_edited store (placed c.args.own ∷ map placed es)) lists)) c.as_slice.ensures.value
       c.prepare_removals-prepared.ensures.ok))
       c.apply_prepared.ensures.queries
       c.apply_prepared.ensures.prepared;

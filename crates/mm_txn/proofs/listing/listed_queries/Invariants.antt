@@ -1,7 +1,7 @@
 use Rattle.std.proofs.Common.{◌≡◌, map, take}
 use Rattle.mm_schema.specs.Instance.{Instance}
 use Rattle.mm_txn.specs.Rest.{told_query, told_state}
-use Rattle.mm_txn.specs.Watched.{AreListed}
+use Rattle.mm_txn.specs.Listed.{AreListed}
 use Rattle.mm_txn.proofs.listing.listed_queries.Given as goal
 
 -- the standing queries so far were told

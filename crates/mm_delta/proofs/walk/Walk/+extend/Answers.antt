@@ -1,7 +1,7 @@
 use Rattle.std.proofs.Common.{◌≡◌, ◌+◌, ◌∙◌, Some, get_or, map, set, subst, sym, arith}
 use Rattle.mm_query.specs.Queries.{none_fails}
 use Rattle.mm_delta.specs.Candidates.{having, required}
-use Rattle.mm_bag.specs.Counts.{count_in, count_of}
+use Rattle.mm_multiset.specs.Counts.{count_in, count_of}
 use Rattle.mm_delta.specs.Edited.{before_at, has_index, walked}
 use Rattle.mm_delta.specs.Steps.{AreAlike, EachFit, reads_for}
 use Rattle.mm_delta.specs.Walk.{found}

@@ -1,7 +1,7 @@
 use Rattle.std.proofs.Common.{◌≡◌, ◌+◌, ◌≤◌, Some, List, set, length, map, take}
 use Rattle.std.specs.List.{sum_by}
 use Rattle.mm_value.specs.declared.values.Value.{Value}
-use Rattle.mm_bag.specs.Counts.{count_in, count_of}
+use Rattle.mm_multiset.specs.Counts.{count_in, count_of}
 use Rattle.mm_delta.specs.Edited.{walked}
 use Rattle.mm_delta.specs.Steps.{reads_for}
 use Rattle.mm_delta.specs.Walk.{found}

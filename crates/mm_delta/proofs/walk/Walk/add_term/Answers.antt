@@ -4,7 +4,7 @@ use Rattle.std.proofs.lemmas.Result.{on_ok_weaker}
 use Rattle.mm_partition.specs.Places.{slot_at}
 use Rattle.mm_store.proofs.Joining.{some_at}
 use Rattle.mm_store.specs.Tables.{AreFit}
-use Rattle.mm_bag.specs.Counts.{count_in}
+use Rattle.mm_multiset.specs.Counts.{count_in}
 use Rattle.mm_delta.specs.Edited.{come_at, edits_at, gone_at}
 use Rattle.mm_delta.specs.Skipping.{IsRowOf, IsTypeTested}
 use Rattle.mm_delta.specs.Steps.{EachFit, HasTables, row_reads}

@@ -1,6 +1,6 @@
 use Rattle.std.proofs.Common.{◌≡◌, ◌+◌, ◌∙◌, Some, true≢false, inr, ap, sym, length, set, arith}
 use Rattle.std.proofs.lemmas.Result.{on_ok_weaker}
-use Rattle.mm_bag.specs.Counts.{count_in, count_of}
+use Rattle.mm_multiset.specs.Counts.{count_in, count_of}
 use Rattle.mm_delta.specs.Edited.{after_at, before_at, walked}
 use Rattle.mm_delta.specs.Steps.{reads_for}
 use Rattle.mm_delta.specs.Walk.{found, one_row, other_places}

@@ -2,7 +2,7 @@ use Rattle.std.proofs.Common.{◌≡◌, ℕ, ◌+◌, ◌≤◌, Bool, List, []
 use Rattle.std.specs.List.{sum_by}
 use Rattle.mm_value.specs.declared.values.Value.{Value}
 use Rattle.mm_query.specs.Queries.{bag_of}
-use Rattle.mm_bag.specs.Counts.{count_in, count_of}
+use Rattle.mm_multiset.specs.Counts.{count_in, count_of}
 use Rattle.mm_delta.specs.Edited.{after_at, before_at}
 use Rattle.mm_delta.specs.Skipping.{IsOfCyclicRows}
 use Rattle.mm_delta.specs.Steps.{row_reads}

@@ -1,4 +1,4 @@
-use Rattle.std.proofs.Common.{◌≡◌, ◌++◌, length, map}
+use Rattle.std.proofs.Common.{◌≡◌, ◌++◌, map}
 use Rattle.std.specs.List.{list_any}
 use Rattle.mm_query.specs.Faults.{noted}
 use Rattle.mm_query.specs.Placing.{mapped_atom, mismatches}
@@ -9,11 +9,9 @@ use Rattle.mm_query.proofs.scope.Scope.place_atoms.Given as goal
 
 abbrev pub invariant-loop-atom : goal.invariant-loop-atom
 invariant-loop-atom l = record {
-  size : length l.atom-iterator.rest.items ≡ l.atom-iterator.rest.len;
-  split : l.fn.atoms ≡ l.yielded ++ l.atom-iterator.rest.items;
-  placed : l.placed.items ≡ map (mapped_atom (placed_field l.self.catalog.now l.self.from)) l.yielded;
-  faults : l.faults ≡ noted (list_any (some_side (field_lacks_column l.self.catalog.now l.self.from)) l.yielded)
-      (list_any (some_side (lacks_alias l.self.from)) l.yielded)
-      (list_any (λ (a : Atom FieldName). mismatches (field_type l.self.catalog.now l.self.from) a.left a.right) l.yielded)
-      l.initial.faults;
+  placed : map (mapped_atom (placed_field l.self.catalog.now l.self.from)) l.fn.atoms ≡ l.placed ++ map (mapped_atom (placed_field l.self.catalog.now l.self.from)) l.atom-iterator;
+  faults : noted (list_any (some_side (field_lacks_column l.self.catalog.now l.self.from)) l.fn.atoms) (list_any (some_side (lacks_alias l.self.from)) l.fn.atoms)
+      (list_any (λ (a : Atom FieldName). mismatches (field_type l.self.catalog.now l.self.from) a.left a.right) l.fn.atoms) l.initial.faults
+      ≡ noted (list_any (some_side (field_lacks_column l.self.catalog.now l.self.from)) l.atom-iterator) (list_any (some_side (lacks_alias l.self.from)) l.atom-iterator)
+      (list_any (λ (a : Atom FieldName). mismatches (field_type l.self.catalog.now l.self.from) a.left a.right) l.atom-iterator) l.faults;
 }

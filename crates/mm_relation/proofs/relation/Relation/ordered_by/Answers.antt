@@ -13,6 +13,7 @@ use Rattle.mm_relation.proofs.Made.{apart_refs, live_refs, wide_refs}
 use Rattle.mm_relation.proofs.WalkRows.{walk_rows}
 use Rattle.mm_relation.proofs.SmallRefs.{small_refs}
 use Rattle.mm_relation.proofs.relation.Relation.ordered_by.Goals as goal
+use Rattle.mm_schema.specs.Rows.{most_rows}
 
 pub sorted_refs-requires-clause-wide : goal.sorted_refs-requires-clause-wide
 sorted_refs-requires-clause-wide c =
@@ -72,7 +73,7 @@ returns-clause-few c =
     let same : IsPermutation sorted refs =
     subst (IsPermutation sorted) (c.as_slice.ensures.value ∙ c.in_ok-refs.ensures) c.in_ok-sorted.ensures.same
     in
-    let few : length refs ≤ 1048576 = subst (λ (v : StoredRows). length v.refs ≤ 1048576) (sym c.self.view_is) c.requires.few in
+    let few : length refs ≤ most_rows = subst (λ (v : StoredRows). length v.refs ≤ most_rows) (sym c.self.view_is) c.requires.few in
     IfOk-weaker c.from_sorted.result _ _
     (λ tree made. omega (arith, few, length_permutation sorted refs same, ap (λ (xs : List RowRef). length xs) (made ∙ c.as_slice-2.ensures.value)))
     c.from_sorted.ensures.refs

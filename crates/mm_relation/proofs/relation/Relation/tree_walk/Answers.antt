@@ -10,6 +10,7 @@ use Rattle.mm_relation.specs.declared.index.Index.TheVariants.{Tree}
 use Rattle.mm_relation.proofs.Made.{live_refs}
 use Rattle.mm_relation.proofs.WalkRows.{kept_walk, walk_rows}
 use Rattle.mm_relation.proofs.relation.Relation.tree_walk.Goals as goal
+use Rattle.mm_schema.specs.Rows.{most_rows}
 
 pub iter-requires : goal.iter-requires
 iter-requires c =
@@ -22,7 +23,7 @@ iter-requires c =
     subst (Keeps c.self.inside.key now refs) (sym c.index.ensures) (c.self.invariant.keep c.args.index c.index.result.now within)
     in
     let held : Keeps c.self.inside.key now refs (Tree c.in-Tree.column c.in-Tree.refs) = subst (Keeps c.self.inside.key now refs) c.in-Tree.is keeps in
-    let few : length refs ≤ 1048576 = subst (λ (v : StoredRows). length v.refs ≤ 1048576) (sym c.self.view_is) c.requires.few in
+    let few : length refs ≤ most_rows = subst (λ (v : StoredRows). length v.refs ≤ most_rows) (sym c.self.view_is) c.requires.few in
     omega (arith, few, length_permutation c.in-Tree.refs.refs refs held.1)
 
 pub returns-clause-rows : goal.returns-clause-rows

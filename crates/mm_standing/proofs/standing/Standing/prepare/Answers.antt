@@ -1,6 +1,6 @@
 -- The changes that are ready bring the lists to the rows after the edits.
 use Rattle.std.proofs.Common.{◌≡◌, List, sym, ap, ◌∙◌, subst}
-use Rattle.mm_bag.specs.Counts.{Counts}
+use Rattle.mm_multiset.specs.Counts.{Counts}
 use Rattle.mm_delta.specs.Edited.{after_at}
 use Rattle.mm_standing.specs.Bags.{count_with}
 use Rattle.mm_standing.specs.Queries.{AreCounts, RowsByPlace, StandingQuery}

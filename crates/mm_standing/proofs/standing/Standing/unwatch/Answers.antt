@@ -2,11 +2,11 @@
 use Rattle.std.proofs.Common.{◌<◌, [], List, length, sym, ap, ◌∙◌, subst, arith}
 use Rattle.std.specs.List.{remove}
 use Rattle.std.proofs.lemmas.List.Edits.{length-remove}
-use Rattle.mm_bag.specs.Counts.{Counts}
+use Rattle.mm_multiset.specs.Counts.{Counts}
 use Rattle.mm_standing.specs.Bags.{IsLean, IsSound, IsTold, undos}
 use Rattle.mm_standing.specs.State.{Lists}
 use Rattle.mm_standing.specs.declared.change.Prepared.{Prepared}
-use Rattle.mm_standing.specs.declared.watched.Watched.{Watched}
+use Rattle.mm_standing.specs.declared.watched.PlacedQuery.{PlacedQuery}
 use Rattle.mm_standing.proofs.Rest.{lean_less, sound_less}
 use Rattle.mm_standing.proofs.Told.{told_none}
 use Rattle.mm_standing.proofs.standing.Standing.unwatch.Goals as goal
@@ -24,12 +24,12 @@ invariant_of-self c =
     let same = c.self.invariant.2 in
     let q = length-remove old.queries.items place within in
     let b = length-remove old.bags.items place (omega (arith, within, same)) in
-    let queries = ap (λ (ws : List Watched). length ws) c.remove.ensures.items in
-    let bags = ap (λ (bs : List Counts). length bs) c.remove-2.ensures.items in (
-      subst (λ (bs : List Counts). IsSound bs old.prepared.items (undos old.log.items)) (sym c.remove-2.ensures.items)
+    let queries = ap (λ (ws : List PlacedQuery). length ws) c.remove.ensures.items in
+    let bags = ap (λ (bs : List Counts). length bs) c.remove-10.ensures.items in (
+      subst (λ (bs : List Counts). IsSound bs old.prepared.items (undos old.log.items)) (sym c.remove-10.ensures.items)
           (subst (λ (ps : List Prepared). IsSound (remove old.bags.items place) ps (undos old.log.items)) (sym prepared)
           (subst (IsSound (remove old.bags.items place) []) (sym log) (sound_less old.bags.items place sound))),
       c.self.invariant.1,
       omega (arith, same, q, b, queries, bags),
-      subst (λ (bs : List Counts). IsTold bs old.log.items) (sym c.remove-2.ensures.items) (told_none (remove old.bags.items place) old.log.items log (lean_less old.bags.items place lean)),
+      subst (λ (bs : List Counts). IsTold bs old.log.items) (sym c.remove-10.ensures.items) (told_none (remove old.bags.items place) old.log.items log (lean_less old.bags.items place lean)),
     )

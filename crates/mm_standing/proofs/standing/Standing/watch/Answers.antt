@@ -1,7 +1,7 @@
 -- The query and its bag come; with an empty log all is sound.
 use Rattle.std.proofs.Common.{◌≡◌, ◌++◌, ◌∷◌, [], List, length, map, sym, ap, ◌∙◌, subst, arith}
 use Rattle.std.proofs.lemmas.List.{length_push}
-use Rattle.mm_bag.specs.Counts.{Counts}
+use Rattle.mm_multiset.specs.Counts.{Counts}
 use Rattle.mm_query.specs.Queries.{bag_of}
 use Rattle.mm_store.specs.Tables.{rows_at}
 use Rattle.mm_standing.specs.Bags.{IsLean, IsSound, IsTold, undos}

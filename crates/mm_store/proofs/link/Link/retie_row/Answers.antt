@@ -1,5 +1,5 @@
 use Rattle.std.proofs.Common.{◌∷◌, subst}
-use Rattle.mm_foreign.specs.Ties.{target_at}
+use Rattle.mm_foreign_key.specs.Ties.{target_at}
 use Rattle.mm_partition.specs.Places.{slot_at}
 use Rattle.mm_relation.specs.declared.log.Entry.{Entry}
 use Rattle.mm_relation.specs.declared.log.Entry.TheVariants.{Added, Changed, Removed}

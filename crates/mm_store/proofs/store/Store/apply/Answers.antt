@@ -13,7 +13,7 @@ use Rattle.mm_store.specs.Tables.{IsAt, Turns}
 use Rattle.mm_store.specs.Tally.{IsTallied, noted_of}
 use Rattle.mm_store.specs.Undoing.{CanUndo, HasSpare, headings_of, owed}
 use Rattle.mm_store.specs.Worlds.{Noted, back_all, world_of}
-use Rattle.mm_store.specs.declared.undo.Command.{Command}
+use Rattle.mm_store.specs.declared.undo.UndoRecord.{UndoRecord}
 use Rattle.mm_store.proofs.Applied.{set_own}
 use Rattle.mm_store.proofs.Applying.{HasRows-same, SameButRoom-refl}
 use Rattle.mm_store.proofs.Joining.{some_at}
@@ -127,7 +127,7 @@ module _ (c : In_ok-edit) where
 noted_is : (c : After-push_reserved) → map noted_of c.push_reserved.new.self.items
     ≡ c.args.undo.now ++ record { table = c.args.table; entries = c.edit.new.log.entries } ∷ []
 noted_is c =
-    let last : Command = record { table = c.args.table; owes = c.count_old-owes.result; log = c.replace-log.result } in
+    let last : UndoRecord = record { table = c.args.table; owes = c.count_old-owes.result; log = c.replace-log.result } in
     ap (map noted_of) c.push_reserved.ensures.items
     ∙ (map-append noted_of c.reserve.new.commands.items (last ∷ [])
     ∙ (ap (λ (l : List Noted). l ++ noted_of last ∷ []) (ap (map noted_of) c.reserve.ensures.commands ∙ c.undo.view_is)
@@ -161,18 +161,18 @@ pub invariant_of-undo-2 : goal.invariant_of-undo-2
 invariant_of-undo-2 c =
     let commands = c.reserve.new.commands.items in
     let counts = c.reserve.new.owed.items in
-    let last : Command = record { table = c.args.table; owes = c.count_old-owes.result; log = c.replace-log.result } in
+    let last : UndoRecord = record { table = c.args.table; owes = c.count_old-owes.result; log = c.replace-log.result } in
     let left = c.undo.inside.idle.entries in
     let tallied : IsTallied commands counts left =
     IsTallied-filled commands c.undo.inside.owed.items counts left c.reserve.ensures.longer c.reserve.ensures.counts
-    (subst (λ (cs : List Command). IsTallied cs c.undo.inside.owed.items left) (sym c.reserve.ensures.commands) c.undo.invariant) in
+    (subst (λ (cs : List UndoRecord). IsTallied cs c.undo.inside.owed.items left) (sym c.reserve.ensures.commands) c.undo.invariant) in
     let owes : last.owes ≡ length (named entry_name Old last.log.entries) =
     noted_owes (goal.at.invariant_of-undo-2 c).In_ok-edit
     ∙ ap (λ (es : List Entry). length (named entry_name Old es)) (sym (ap (λ log. log.entries) c.replace-log.ensures.value)) in
     let emptied : c.replace-log.new.dest.entries ≡ [] = ap (λ log. log.entries) (c.replace-log.ensures.after ∙ c.new.ensures) in
     let sum : c.in_ok-owed.owed + c.count_old-owes.result ≡ slice_index counts c.args.table + c.count_old-owes.result =
     ap (λ (n : ℕ). n + c.count_old-owes.result) c.in_ok-owed.ensures.count in
-    subst (λ (cs : List Command). IsTallied cs (slice_set counts c.args.table (c.in_ok-owed.owed + c.count_old-owes.result)) c.replace-log.new.dest.entries)
+    subst (λ (cs : List UndoRecord). IsTallied cs (slice_set counts c.args.table (c.in_ok-owed.owed + c.count_old-owes.result)) c.replace-log.new.dest.entries)
     (sym c.push_reserved.ensures.items)
     (subst (IsTallied (commands ++ last ∷ []) (slice_set counts c.args.table (c.in_ok-owed.owed + c.count_old-owes.result))) (sym emptied)
     (IsTallied-push commands last counts left tallied c.in_ok-owed.ensures.there owes (c.in_ok-owed.owed + c.count_old-owes.result) sum))

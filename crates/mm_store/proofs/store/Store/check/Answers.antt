@@ -6,7 +6,7 @@ use Rattle.mm_partition.specs.Places.{slot_at}
 use Rattle.mm_relation.specs.Kept.{StoredRows}
 use Rattle.mm_relation.specs.RowLists.{edit_pairs}
 use Rattle.mm_schema.specs.Refused.{AnswersDue, first_refusal}
-use Rattle.mm_schema.specs.Rows.{has_twin_keys}
+use Rattle.mm_schema.specs.Rows.{has_twin_keys, most_rows}
 use Rattle.mm_value.specs.declared.refusal.Refusal.{Refusal}
 use Rattle.mm_value.specs.declared.refusal.Refusal.TheVariants.{DuplicateKey, NoTargetRow, RowIsReferenced, TableFull}
 use Rattle.mm_store.specs.Tables.{AreLawful, edit_conditions, has_orphans, makes_orphans, rows_with}
@@ -47,7 +47,7 @@ returns-then-branch-clause-due c =
     let twins = has_twin_keys relation.key rows in
     let orphans = has_orphans view c.args.table rows in
     let losses = makes_orphans view c.args.table relation.key (edit_pairs (slot_at relation.places) edits) in
-    let full = nat_lt 1048576 (length rows) in
+    let full = nat_lt most_rows (length rows) in
     each (λ (s : StoredRows). AnswersDue {T = Unit {0}} (first_refusal (edit_conditions view c.args.table s edits)) (Err DuplicateKey))
     view c.args.table relation c.table-relation.ensures.at
     (inl (twins_due twins orphans losses full (sym c.in_ok-has_twins_with.ensures.twins ∙ c.if-branch.true)))
@@ -61,7 +61,7 @@ returns-then-has_orphans_with-clause-due c =
     let twins = has_twin_keys relation.key rows in
     let orphans = has_orphans view c.args.table rows in
     let losses = makes_orphans view c.args.table relation.key (edit_pairs (slot_at relation.places) edits) in
-    let full = nat_lt 1048576 (length rows) in
+    let full = nat_lt most_rows (length rows) in
     each (λ (s : StoredRows). AnswersDue {T = Unit {0}} (first_refusal (edit_conditions view c.args.table s edits)) (Err NoTargetRow))
     view c.args.table relation c.table-relation.ensures.at
     (inl (orphans_due twins orphans losses full (sym c.in_ok-has_twins_with.ensures.twins ∙ c.if-branch.false) (sym (c.has_orphans_with.ensures relation c.table-relation.ensures.at) ∙ c.if-has_orphans_with.true)))
@@ -75,7 +75,7 @@ returns-then-makes_orphans_with-clause-due c =
     let twins = has_twin_keys relation.key rows in
     let orphans = has_orphans view c.args.table rows in
     let losses = makes_orphans view c.args.table relation.key (edit_pairs (slot_at relation.places) edits) in
-    let full = nat_lt 1048576 (length rows) in
+    let full = nat_lt most_rows (length rows) in
     each (λ (s : StoredRows). AnswersDue {T = Unit {0}} (first_refusal (edit_conditions view c.args.table s edits)) (Err RowIsReferenced))
     view c.args.table relation c.table-relation.ensures.at
     (inl (losses_due twins orphans losses full (sym c.in_ok-has_twins_with.ensures.twins ∙ c.if-branch.false) (sym (c.has_orphans_with.ensures relation c.table-relation.ensures.at) ∙ c.if-has_orphans_with.false) (sym (c.makes_orphans_with.ensures relation c.table-relation.ensures.at) ∙ c.if-makes_orphans_with.true)))
@@ -89,17 +89,17 @@ returns-then-len_with-gt-MAX_ROWS-clause-due c =
     let twins = has_twin_keys relation.key rows in
     let orphans = has_orphans view c.args.table rows in
     let losses = makes_orphans view c.args.table relation.key (edit_pairs (slot_at relation.places) edits) in
-    let full = nat_lt 1048576 (length rows) in
+    let full = nat_lt most_rows (length rows) in
     each (λ (s : StoredRows). AnswersDue {T = Unit {0}} (first_refusal (edit_conditions view c.args.table s edits)) (Err TableFull))
     view c.args.table relation c.table-relation.ensures.at
     (inl (full_due twins orphans losses full (sym c.in_ok-has_twins_with.ensures.twins ∙ c.if-branch.false) (sym (c.has_orphans_with.ensures relation c.table-relation.ensures.at) ∙ c.if-has_orphans_with.false) (sym (c.makes_orphans_with.ensures relation c.table-relation.ensures.at) ∙ c.if-makes_orphans_with.false)
-    (ap (nat_lt 1048576) (sym c.len_with.ensures) ∙ lt-ltb 1048576 c.len_with.result c.if-len_with-gt-MAX_ROWS.true)))
+    (ap (nat_lt most_rows) (sym c.len_with.ensures) ∙ lt-ltb most_rows c.len_with.result c.if-len_with-gt-MAX_ROWS.true)))
 
 pub returns-clause-lawful : goal.returns-clause-lawful
 returns-clause-lawful c =
     let relation = c.table-relation.result.now in
     let edits = c.args.edits.now in
-    let few : length (rows_with relation edits) ≤ 1048576 = omega (arith, c.len_with.ensures, c.if-len_with-gt-MAX_ROWS.false) in
+    let few : length (rows_with relation edits) ≤ most_rows = omega (arith, c.len_with.ensures, c.if-len_with-gt-MAX_ROWS.false) in
     each (λ (s : StoredRows). AreLawful c.args.self.now c.args.table s edits) c.args.self.now c.args.table relation c.table-relation.ensures.at
     (record {
       fit = c.requires.fit relation c.table-relation.ensures.at;

@@ -6,7 +6,7 @@ use Rattle.std.specs.List.{list_any}
 use Rattle.std.proofs.lemmas.Bool.{le-ltb}
 use Rattle.mm_relation.specs.Edits.{new_rows}
 use Rattle.mm_relation.specs.Kept.{StoredRows}
-use Rattle.mm_schema.specs.Rows.{has_twin_keys}
+use Rattle.mm_schema.specs.Rows.{has_twin_keys, most_rows}
 use Rattle.mm_schema.specs.declared.reference.Reference.{Reference}
 use Rattle.mm_store.specs.Joined.{IsTable}
 use Rattle.mm_store.specs.Tables.{Tables, finds_orphan, has_orphans, rows_with}
@@ -49,5 +49,5 @@ returns c =
     sym (ap (λ (v : Tables). has_orphans v place (rows_with stored edits)) c.self.view_is)
     ∙ (sym (has_orphans_new items place stored there c.self.invariant.all edits fit links c.self.invariant.joined) ∙ none) in
     only_third (has_twin_keys stored.key (rows_with stored edits)) (has_orphans view place (rows_with stored edits)) referred
-    (nat_lt 1048576 (length (rows_with stored edits))) (no_twins_with stored is_table edits removals) no_orphans
-    (le-ltb 1048576 (length (rows_with stored edits)) (few_with stored is_table edits removals))
+    (nat_lt most_rows (length (rows_with stored edits))) (no_twins_with stored is_table edits removals) no_orphans
+    (le-ltb most_rows (length (rows_with stored edits)) (few_with stored is_table edits removals))

@@ -1,7 +1,5 @@
-use Rattle.std.proofs.Common.{◌≡◌, sym, ap, subst, ◌∙◌}
-use Rattle.mm_relation.specs.Reads.{HasIndex}
-use Rattle.mm_schema.specs.declared.index.IndexKind.TheVariants.{Tree}
-use Rattle.mm_store.specs.Ordered.{IsOrder, ordered_rows}
+use Rattle.std.proofs.Common.{subst}
+use Rattle.mm_store.specs.Ordered.{IsOrder}
 use Rattle.mm_store.proofs.table_rows.TableRows.reader.Goals as goal
 
 pub along_index-requires-clause-tree : goal.along_index-requires-clause-tree

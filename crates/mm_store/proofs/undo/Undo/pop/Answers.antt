@@ -1,7 +1,7 @@
 use Rattle.std.proofs.Common.{◌≡◌, ◌++◌, ◌∷◌, [], List, slice_index, ◌∙◌, subst, arith}
 use Rattle.std.proofs.lemmas.List.{get_or_default}
 use Rattle.mm_store.specs.Tally.{IsTallied}
-use Rattle.mm_store.specs.declared.undo.Command.{Command}
+use Rattle.mm_store.specs.declared.undo.UndoRecord.{UndoRecord}
 use Rattle.mm_store.proofs.Owing.{IsTallied-pop, last_counted, last_covered}
 use Rattle.mm_store.proofs.undo.Undo.pop.Goals as goal
 
@@ -12,7 +12,7 @@ overflow_sub-index_mut c =
     let counts = c.self.inside.owed.items in
     let left = c.self.inside.idle.entries in
     let tallied : IsTallied (commands ++ command ∷ []) counts left =
-    subst (λ (cs : List Command). IsTallied cs counts left) c.in_ok-command.ensures.items c.self.invariant in
+    subst (λ (cs : List UndoRecord). IsTallied cs counts left) c.in_ok-command.ensures.items c.self.invariant in
     let read : c.index_mut.result.now ≡ slice_index counts command.table =
     c.index_mut.ensures.value
     ∙ get_or_default counts command.table c.index_mut.result.now 0 (last_counted commands command counts left tallied).within in
@@ -25,7 +25,7 @@ invariant_of-self-2 c =
     let counts = c.self.inside.owed.items in
     let left = c.self.inside.idle.entries in
     let tallied : IsTallied (commands ++ command ∷ []) counts left =
-    subst (λ (cs : List Command). IsTallied cs counts left) c.in_ok-command.ensures.items c.self.invariant in
+    subst (λ (cs : List UndoRecord). IsTallied cs counts left) c.in_ok-command.ensures.items c.self.invariant in
     let read : c.index_mut.result.now ≡ slice_index counts command.table =
     c.index_mut.ensures.value
     ∙ get_or_default counts command.table c.index_mut.result.now 0 (last_counted commands command counts left tallied).within in

@@ -5,18 +5,19 @@ use Rattle.mm_relation.specs.Kept.{StoredRows}
 use Rattle.mm_relation.specs.Reads.{IsWalk}
 use Rattle.mm_store.proofs.Joining.{one_relation}
 use Rattle.mm_store.specs.Looked.{IsIndexOn}
-use Rattle.mm_store.specs.Seen.{Seen}
-use Rattle.mm_store.specs.Tables.{IsAt}
 use Rattle.mm_store.proofs.view.View.walk.Goals as goal
 
 pub returns-clause-walk : goal.returns-clause-walk
 returns-clause-walk c = λ stored column at on.
-    let there = subst (λ (seen : Seen). IsAt seen.store c.args.table c.table.result.now) c.self.view_is c.table.ensures.at in
-    let same : c.table.result.now ≡ stored = one_relation c.table.result.now stored (sym there ∙ at) in
+    let same : c.relation.result.now ≡ stored = one_relation c.relation.result.now stored (sym c.relation.ensures.at ∙ at) in
     subst (λ (s : StoredRows). IsWalk column s c.tree_walk.result) same
     (c.tree_walk.ensures.walk column (subst (λ (s : StoredRows). IsIndexOn s column c.args.index) (sym same) on))
 
+pub returns-clause-keys : goal.returns-clause-keys
+returns-clause-keys c = λ is stored at.
+    subst (λ (s : StoredRows). c.tree_walk.result ≡ s.refs) (one_relation c.relation.result.now stored (sym c.relation.ensures.at ∙ at)) (c.tree_walk.ensures.keys is)
+
 pub returns-clause-live : goal.returns-clause-live
 returns-clause-live c = λ stored at.
-    let there = subst (λ (seen : Seen). IsAt seen.store c.args.table c.table.result.now) c.self.view_is c.table.ensures.at in
-    subst (λ (s : StoredRows). All (IsLive s.places) c.tree_walk.result) (one_relation c.table.result.now stored (sym there ∙ at)) c.tree_walk.ensures.live
+    subst (λ (s : StoredRows). All (IsLive s.places) c.tree_walk.result) (one_relation c.relation.result.now stored (sym c.relation.ensures.at ∙ at))
+    c.tree_walk.ensures.live

@@ -22,7 +22,7 @@ loop-i-preserved c =
     let row : List Value = values_of list.fields (map Some (rows_of_combo store list.tables combo)) in
     let shown : after ≡ before ++ row =
     c.in_ok-push_values.ensures
-    ∙ ((λ k. before ++ values_of (c.descriptor-descriptor.ensures.fields k) (map option_copied (c.deref.ensures.value k)))
+    ∙ ((λ k. before ++ values_of (c.descriptor-descriptor.ensures.fields k) (map option_copied (c.as_slice.ensures k)))
     ∙ ap (λ rows. before ++ values_of list.fields rows)
     (c.in_ok-choose_rows.ensures.rows ∙ (λ k. map Some (rows_of_combo (c.loop-i.invariant.same k) (c.descriptor-descriptor.ensures.tables k) combo)))) in
     let wide : length row ≡ width = values_are_as_many list.fields (map Some (rows_of_combo store list.tables combo)) in

@@ -1,7 +1,7 @@
 -- The edits of the table that a change names, and with a DELETE those of the rows that go along.
 use Rattle.std.proofs.Common.{◌≡◌, List, map, sym, ap, subst, ◌∙◌}
 use Rattle.mm_txn.specs.Contents.{Holdings}
-use Rattle.mm_txn.specs.TableEdits.{AreEditsOf, PlacedEdits, placed}
+use Rattle.mm_txn.specs.PlacedEdits.{AreEditsOf, PlacedEdits, placed}
 use Rattle.mm_txn.proofs.AllEdits.{edits_alone, edits_with_others, is_delete, not_delete, own_fit, own_removes}
 use Rattle.mm_txn.proofs.contents.Contents.edits_of.Goals as goal
 use Rattle.mm_txn.proofs.contents.Contents.edits_of.Goals.{in-Delete, in_default, then-cascades_rows+in_ok-along, else-cascades_rows}

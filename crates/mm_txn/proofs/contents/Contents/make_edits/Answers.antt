@@ -2,8 +2,8 @@
 use Rattle.std.proofs.Common.{◌∷◌, [], List, map, sym, ap, subst, ◌∙◌, arith}
 use Rattle.std.proofs.lemmas.Bool.{eqb-true}
 use Rattle.mm_txn.specs.Contents.{Holdings, IsDue, Makes, MayMake}
-use Rattle.mm_txn.specs.TableEdits.{placed, rows_edited}
-use Rattle.mm_txn.specs.declared.edits.TableEdits.{TableEdits}
+use Rattle.mm_txn.specs.PlacedEdits.{placed, rows_edited}
+use Rattle.mm_txn.specs.declared.edits.RelationEdits.{RelationEdits}
 use Rattle.mm_txn.proofs.Removals.{nil_from_none}
 use Rattle.mm_txn.proofs.RestKept.{rest_made}
 use Rattle.mm_txn.proofs.contents.Contents.make_edits.Goals as goal
@@ -13,7 +13,7 @@ edit_table-requires c =
     let along = c.args.edits.along in
     let none = nil_from_none along.items (omega (arith, eqb-true _ 0 (sym c.is_empty.ensures ∙ c.if-is_empty.true), along.ok)) in
     subst (λ (h : Holdings). MayMake h.store h.lists c.args.undo.now (placed c.args.edits.own ∷ [])) (sym c.self.view_is)
-    (subst (λ (es : List TableEdits). MayMake c.args.self.now.store c.args.self.now.lists c.args.undo.now (placed c.args.edits.own ∷ map placed es)) none
+    (subst (λ (es : List RelationEdits). MayMake c.args.self.now.store c.args.self.now.lists c.args.undo.now (placed c.args.edits.own ∷ map placed es)) none
     c.requires)
 
 pub remove_rows-requires-clause-may : goal.remove_rows-requires-clause-may
@@ -36,14 +36,14 @@ pub returns-then-is_empty-clause-due : goal.returns-then-is_empty-clause-due
 returns-then-is_empty-clause-due c =
     let along = c.args.edits.along in
     let none = nil_from_none along.items (omega (arith, eqb-true _ 0 (sym c.is_empty.ensures ∙ c.if-is_empty.true), along.ok)) in
-    subst (λ (es : List TableEdits). IsDue c.args.self.now.store c.args.self.now.lists (placed c.args.edits.own) (map placed es) c.edit_table.result) (sym none)
+    subst (λ (es : List RelationEdits). IsDue c.args.self.now.store c.args.self.now.lists (placed c.args.edits.own) (map placed es) c.edit_table.result) (sym none)
     (subst (λ (h : Holdings). IsDue h.store h.lists (placed c.args.edits.own) [] c.edit_table.result) c.self.view_is c.edit_table.ensures.due)
 
 pub returns-then-is_empty-clause-made : goal.returns-then-is_empty-clause-made
 returns-then-is_empty-clause-made c =
     let along = c.args.edits.along in
     let none = nil_from_none along.items (omega (arith, eqb-true _ 0 (sym c.is_empty.ensures ∙ c.if-is_empty.true), along.ok)) in
-    subst (λ (es : List TableEdits). Makes (rows_edited c.args.self.now.store (placed c.args.edits.own ∷ map placed es)) c.args.self.now.store
+    subst (λ (es : List RelationEdits). Makes (rows_edited c.args.self.now.store (placed c.args.edits.own ∷ map placed es)) c.args.self.now.store
     c.edit_table.new.store c.args.self.now.lists c.edit_table.new.standing c.args.undo.now c.edit_table.new.undo c.edit_table.result) (sym none)
     (subst (λ (h : Holdings). Makes (rows_edited h.store (placed c.args.edits.own ∷ [])) h.store c.edit_table.new.store h.lists c.edit_table.new.standing
     c.args.undo.now c.edit_table.new.undo c.edit_table.result) c.self.view_is c.edit_table.ensures.made)

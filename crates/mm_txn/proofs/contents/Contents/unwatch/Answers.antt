@@ -11,7 +11,7 @@ use Rattle.mm_standing.specs.State.{Lists}
 use Rattle.mm_txn.specs.Contents.{Holdings, state_held}
 use Rattle.mm_plan.specs.Kept.{instance_of}
 use Rattle.mm_txn.specs.Rest.{AreAtRest}
-use Rattle.mm_txn.specs.Watched.{queries_of}
+use Rattle.mm_txn.specs.Listed.{queries_of}
 use Rattle.mm_txn.proofs.WatchSteps.{place_of_list, queries_left, rest_left, standing_missing}
 use Rattle.mm_txn.proofs.contents.Contents.unwatch.Goals as goal
 

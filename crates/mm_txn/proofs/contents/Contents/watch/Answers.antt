@@ -52,9 +52,9 @@ watch-requires-clause-there c =
     let name = c.args.named.name in
     let query = c.args.named.query in
     let bound = c.in_ok-bound.bound.query in
-    let tables_are : c.into_vec-tables.result.items ≡ places_in schema bound.from =
-    c.into_vec-tables.ensures ∙ c.in_ok-bound.ensures.tables ∙ sym (ap (λ (b : BoundQuery). places_in schema b.from) c.in_ok-bound.ensures.ok) in
-    watch_served schema store lists c.self.invariant name query c.in_ok-bound.ensures.due bound c.in_ok-bound.ensures.ok c.into_vec-tables.result.items tables_are
+    let tables_are : c.in_ok-tables.tables.items ≡ places_in schema bound.from =
+    c.in_ok-tables.ensures ∙ c.as_slice-2.ensures ∙ c.in_ok-bound.ensures.tables ∙ sym (ap (λ (b : BoundQuery). places_in schema b.from) c.in_ok-bound.ensures.ok) in
+    watch_served schema store lists c.self.invariant name query c.in_ok-bound.ensures.due bound c.in_ok-bound.ensures.ok c.in_ok-tables.tables.items tables_are
 
 pub watch-requires-clause-few : goal.watch-requires-clause-few
 watch-requires-clause-few c =
@@ -64,9 +64,9 @@ watch-requires-clause-few c =
     let name = c.args.named.name in
     let query = c.args.named.query in
     let bound = c.in_ok-bound.bound.query in
-    let tables_are : c.into_vec-tables.result.items ≡ places_in schema bound.from =
-    c.into_vec-tables.ensures ∙ c.in_ok-bound.ensures.tables ∙ sym (ap (λ (b : BoundQuery). places_in schema b.from) c.in_ok-bound.ensures.ok) in
-    watch_few schema store lists c.self.invariant name query c.in_ok-bound.ensures.due bound c.in_ok-bound.ensures.ok c.into_vec-tables.result.items tables_are
+    let tables_are : c.in_ok-tables.tables.items ≡ places_in schema bound.from =
+    c.in_ok-tables.ensures ∙ c.as_slice-2.ensures ∙ c.in_ok-bound.ensures.tables ∙ sym (ap (λ (b : BoundQuery). places_in schema b.from) c.in_ok-bound.ensures.ok) in
+    watch_few schema store lists c.self.invariant name query c.in_ok-bound.ensures.due bound c.in_ok-bound.ensures.ok c.in_ok-tables.tables.items tables_are
 
 pub returns-in-Err-clause-due : goal.returns-in-Err-clause-due
 returns-in-Err-clause-due c =
@@ -77,9 +77,9 @@ returns-in-Err-clause-due c =
     let name = c.args.named.name in
     let query = c.args.named.query in
     let bound = c.in_ok-bound.bound.query in
-    let tables_are : c.into_vec-tables.result.items ≡ places_in schema bound.from =
-    c.into_vec-tables.ensures ∙ c.in_ok-bound.ensures.tables ∙ sym (ap (λ (b : BoundQuery). places_in schema b.from) c.in_ok-bound.ensures.ok) in
-    let due = watch_due schema store lists c.self.invariant name query c.in_ok-bound.ensures.due bound c.in_ok-bound.ensures.ok c.into_vec-tables.result.items tables_are in
+    let tables_are : c.in_ok-tables.tables.items ≡ places_in schema bound.from =
+    c.in_ok-tables.ensures ∙ c.as_slice-2.ensures ∙ c.in_ok-bound.ensures.tables ∙ sym (ap (λ (b : BoundQuery). places_in schema b.from) c.in_ok-bound.ensures.ok) in
+    let due = watch_due schema store lists c.self.invariant name query c.in_ok-bound.ensures.due bound c.in_ok-bound.ensures.ok c.in_ok-tables.tables.items tables_are in
     ⊎_elim (λ h. inl (sym seen ∙ (sym due ∙ h))) (λ m. inr m) c.in-Err.ensures.due
 
 pub returns-in-Err-clause-err : goal.returns-in-Err-clause-err
@@ -115,10 +115,10 @@ returns-clause-due c =
     let name = c.args.named.name in
     let query = c.args.named.query in
     let bound = c.in_ok-bound.bound.query in
-    let tables_are : c.into_vec-tables.result.items ≡ places_in schema bound.from =
-    c.into_vec-tables.ensures ∙ c.in_ok-bound.ensures.tables ∙ sym (ap (λ (b : BoundQuery). places_in schema b.from) c.in_ok-bound.ensures.ok) in
+    let tables_are : c.in_ok-tables.tables.items ≡ places_in schema bound.from =
+    c.in_ok-tables.ensures ∙ c.as_slice-2.ensures ∙ c.in_ok-bound.ensures.tables ∙ sym (ap (λ (b : BoundQuery). places_in schema b.from) c.in_ok-bound.ensures.ok) in
     sym seen
-    ∙ (sym (watch_due schema store lists c.self.invariant name query c.in_ok-bound.ensures.due bound c.in_ok-bound.ensures.ok c.into_vec-tables.result.items tables_are)
+    ∙ (sym (watch_due schema store lists c.self.invariant name query c.in_ok-bound.ensures.due bound c.in_ok-bound.ensures.ok c.in_ok-tables.tables.items tables_are)
     ∙ c.in_default.ensures.due)
 
 pub returns-clause-ok : goal.returns-clause-ok
@@ -129,12 +129,12 @@ returns-clause-ok c =
     let name = c.args.named.name in
     let query = c.args.named.query in
     let bound = c.in_ok-bound.bound.query in
-    let tables_are : c.into_vec-tables.result.items ≡ places_in schema bound.from =
-    c.into_vec-tables.ensures ∙ c.in_ok-bound.ensures.tables ∙ sym (ap (λ (b : BoundQuery). places_in schema b.from) c.in_ok-bound.ensures.ok) in
+    let tables_are : c.in_ok-tables.tables.items ≡ places_in schema bound.from =
+    c.in_ok-tables.ensures ∙ c.as_slice-2.ensures ∙ c.in_ok-bound.ensures.tables ∙ sym (ap (λ (b : BoundQuery). places_in schema b.from) c.in_ok-bound.ensures.ok) in
     let names_are : c.in_ok-names.names ≡ tables_read bound =
     c.in_ok-names.ensures.names ∙ ap (map (λ (item : FromItem). item.table)) c.as_slice.ensures in
     let new = c.in_default.ensures.ok in
-    state_by_watch schema store lists c.self.invariant name query c.in_ok-bound.ensures.due bound c.in_ok-bound.ensures.ok c.into_vec-tables.result.items tables_are
+    state_by_watch schema store lists c.self.invariant name query c.in_ok-bound.ensures.due bound c.in_ok-bound.ensures.ok c.in_ok-tables.tables.items tables_are
     c.in_ok-names.names names_are c.copy.result c.copy.ensures new.0 new.1 c.add_standing.new.self c.in_ok-add_standing.ensures.ok
     c.watch.new.self new.2
     ∙ ap (λ (h : Holdings). after_watch name query (state_held h)) c.self.view_is
@@ -147,13 +147,13 @@ invariant_of-self-in_default c =
     let name = c.args.named.name in
     let query = c.args.named.query in
     let bound = c.in_ok-bound.bound.query in
-    let tables_are : c.into_vec-tables.result.items ≡ places_in schema bound.from =
-    c.into_vec-tables.ensures ∙ c.in_ok-bound.ensures.tables ∙ sym (ap (λ (b : BoundQuery). places_in schema b.from) c.in_ok-bound.ensures.ok) in
+    let tables_are : c.in_ok-tables.tables.items ≡ places_in schema bound.from =
+    c.in_ok-tables.ensures ∙ c.as_slice-2.ensures ∙ c.in_ok-bound.ensures.tables ∙ sym (ap (λ (b : BoundQuery). places_in schema b.from) c.in_ok-bound.ensures.ok) in
     let names_are : c.in_ok-names.names ≡ tables_read bound =
     c.in_ok-names.ensures.names ∙ ap (map (λ (item : FromItem). item.table)) c.as_slice.ensures in
     let new = c.in_default.ensures.ok in
-    let due = sym (watch_due schema store lists c.self.invariant name query c.in_ok-bound.ensures.due bound c.in_ok-bound.ensures.ok c.into_vec-tables.result.items tables_are)
+    let due = sym (watch_due schema store lists c.self.invariant name query c.in_ok-bound.ensures.due bound c.in_ok-bound.ensures.ok c.in_ok-tables.tables.items tables_are)
     ∙ c.in_default.ensures.due in
-    rest_by_watch schema store lists c.self.invariant name query c.in_ok-bound.ensures.due bound c.in_ok-bound.ensures.ok c.into_vec-tables.result.items tables_are
+    rest_by_watch schema store lists c.self.invariant name query c.in_ok-bound.ensures.due bound c.in_ok-bound.ensures.ok c.in_ok-tables.tables.items tables_are
     c.in_ok-names.names names_are c.copy.result c.copy.ensures new.0 new.1 c.add_standing.new.self c.in_ok-add_standing.ensures.ok
     c.watch.new.self new.2 (sym c.len.ensures.queries ∙ c.len.ensures.bags) due c.in_ok-bound.ensures.within

@@ -11,8 +11,8 @@ use Rattle.mm_laws.specs.Typing.{AreTyped}
 use Rattle.mm_plan.specs.Kept.{instance_of}
 use Rattle.mm_txn.specs.Kept.{state_of, watched_state}
 use Rattle.mm_txn.specs.Saved.{saved_rows}
-use Rattle.mm_txn.specs.TableEdits.{placed, rows_edited}
-use Rattle.mm_txn.specs.Watched.{IsTested, queries_of, rows_by_place}
+use Rattle.mm_txn.specs.PlacedEdits.{placed, rows_edited}
+use Rattle.mm_txn.specs.Listed.{IsTested, queries_of, rows_by_place}
 use Rattle.mm_txn.proofs.BackLinks.{references_back}
 use Rattle.mm_txn.proofs.ChangeSteps.{change_done, change_due, change_refused, early_due, edited_after, edits_counted}
 use Rattle.mm_txn.proofs.KeptReferences.{all_to_others}

@@ -1,8 +1,0 @@
-use Rattle.std.proofs.Common.{pos, ◌-ℤ◌}
-use Rattle.mm_bag.specs.Counts.{count_in}
-use Rattle.mm_bag.proofs.Passing.{Passes, without_entry_in}
-use Rattle.mm_bag.proofs.differing.push_gone.Given as goal
-
--- the changes so far, and what the entries that are left bring
-abbrev pub invariant-loop-row : goal.invariant-loop-row
-invariant-loop-row l = Passes (without_entry_in l.comes.entries) (λ row. pos (count_in row l.comes.entries) -ℤ pos (count_in row l.fn.goes.entries)) l.found.items l.row-iterator

@@ -1,6 +1,0 @@
-use Rattle.mm_bag.proofs.Turning.{AreTurned}
-use Rattle.mm_bag.proofs.few.turn.Given as goal
-
--- the changes so far are turned, and the others are as before
-abbrev pub invariant-loop-change : goal.invariant-loop-change
-invariant-loop-change l = AreTurned l.change-index l.initial.change-items l.change-items
