@@ -1,7 +1,7 @@
 #!/usr/bin/env python3
 """Prints a script of commands that fills a table of two columns, and then may scan or change it.
 
-  bench/generate WORKLOAD [ROWS]
+  bench/generate.py WORKLOAD [ROWS]
 
 ROWS is 100000 if it is left out. A WORKLOAD is one of
   empty             the table with no rows

@@ -1,7 +1,7 @@
 #!/usr/bin/env python3
 """Gives the program hostile input over the whole language, and compares each reply.
 
-    tests/hostile [PROGRAM]
+    tests/hostile.py [PROGRAM]
 
 - Each command in its forms is changed at each of its bytes: it is cut there, the byte is left out, and each of some bytes is put in
   before it and in its place. Then each of its tokens is left out, given twice and exchanged with the next one, and each keyword,

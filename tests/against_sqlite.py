@@ -1,7 +1,7 @@
 #!/usr/bin/env python3
 """Runs random scripts through the program and through SQLite, and compares the rows and the counts.
 
-    tests/against_sqlite [PROGRAM [FIRST_SEED [SEEDS]]]
+    tests/against_sqlite.py [PROGRAM [FIRST_SEED [SEEDS]]]
 
 Each seed makes tables with whole numbers, texts and foreign keys, plain ones and such that cascade, with indexes of both kinds, fills
 and changes them, and asks queries over one to four tables. Some of these queries are kept as standing queries; what they show, after

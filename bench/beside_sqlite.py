@@ -1,7 +1,7 @@
 #!/usr/bin/env python3
 """Measures transactions with savepoints, and deletes that cascade, beside SQLite.
 
-  bench/beside_sqlite [PROGRAM [RUNS [ROWS]]]
+  bench/beside_sqlite.py [PROGRAM [RUNS [ROWS]]]
 
 PROGRAM is crates/mmdb/out/mmdb if it is left out, RUNS is 3, ROWS is 100000. It needs Python's sqlite3.
 

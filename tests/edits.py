@@ -1,8 +1,8 @@
 #!/usr/bin/env python3
 """Tries the wrong bodies that crates keep in edits/: the prover must refuse each.
 
-    tests/edits [--all] [CRATE..]
-    tests/edits --check
+    tests/edits.py [--all] [CRATE..]
+    tests/edits.py --check
 
 An edit is a file CRATE/edits/NAME.edit or CRATE/must-fail/NAME.edit below crates/: a line 'file: src/lib.rt' (or a file of specs/ or
 proofs/), and behind it pairs of lines 'old: TEXT' and 'new: TEXT'. The gate tries those of must-fail/, and this script the others.

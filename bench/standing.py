@@ -1,7 +1,7 @@
 #!/usr/bin/env python3
 """Measures what changes cost under standing queries, beside SQLite, where triggers keep the same lists.
 
-  bench/standing [PROGRAM [RUNS [ROWS]]]
+  bench/standing.py [PROGRAM [RUNS [ROWS]]]
 
 PROGRAM is crates/mmdb/out/mmdb if it is left out, RUNS is 3, ROWS is 100000. It needs Python's sqlite3.
 There are two tables: d (id, v) with a tenth of ROWS rows, and e (id, d, k) with ROWS rows, where d refers to the first. e has a HASH

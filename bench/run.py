@@ -1,7 +1,7 @@
 #!/usr/bin/env python3
-"""Measures the program on the scripts of bench/generate.
+"""Measures the program on the scripts of bench/generate.py.
 
-  bench/run [PROGRAM [RUNS]]
+  bench/run.py [PROGRAM [RUNS]]
 
 PROGRAM is crates/mmdb/out/mmdb if it is left out, RUNS is 5. It needs /usr/bin/time for the peak of memory.
 Each script is run once with its replies read, to see that none is an error and how many rows they tell of,
@@ -79,7 +79,7 @@ def timed_run(program, script):
 def measure(program, workload, runs, folder):
     script = folder / workload
     with script.open("wb") as taken:
-        subprocess.run([BENCH / "generate", workload, str(ROWS)], stdout=taken, check=True)
+        subprocess.run([BENCH / "generate.py", workload, str(ROWS)], stdout=taken, check=True)
     rows, output, peak = checked_run(program, script)
     if workload != "empty" and rows < ROWS:
         sys.exit(f"{workload}: the replies tell of {rows} rows")

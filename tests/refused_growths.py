@@ -1,14 +1,15 @@
 #!/usr/bin/env python3
 """Runs scripts through the program, and typed tests, where in each run one growth of memory is refused.
 
-    tests/refused_growths [PROGRAM]
-    tests/refused_growths --tests CRATE..
+    tests/refused_growths.py [PROGRAM]
+    tests/refused_growths.py --tests CRATE..
 
 The second form runs the typed tests of some crates alone.
 
-The scripts are those of tests/rows and examples, and for transactions and standing queries some that are made here. Each is run
-as many times as its run has growths of memory, and in the nth run the nth of them is refused. The replies must be those of the
-run in which none is refused, but that the line whose growth it was may be answered by 'error 90 memory', if it is a line that takes memory. Then
+The scripts are those of tests/rows, in all its folders, and of examples, and for transactions and standing queries some that are
+made here. Each is run as many times as its run has growths of memory, and in the nth run the nth of them is refused. The replies
+must be those of the run in which none is refused, but that the line whose growth it was may be answered by 'error 90 memory', if it
+is a line that takes memory. Then
 
 - the lines behind it must be answered as if it did not stand in the script: it has changed nothing;
 - in one run more it stands there twice, and all replies but the 90 must be right: it can be given again.
@@ -429,8 +430,8 @@ def divisions(script, queries):
 
 
 def kept_scripts(program):
-    """The scripts of tests/rows and examples."""
-    for path in sorted(glob.glob(f"{TOP}/tests/rows/*.in")) + sorted(glob.glob(f"{TOP}/examples/*.mmdb")):
+    """The scripts of tests/rows, in all its folders, and of examples."""
+    for path in sorted(glob.glob(f"{TOP}/tests/rows/**/*.in", recursive=True)) + sorted(glob.glob(f"{TOP}/examples/*.mmdb")):
         with open(path, "rb") as file:
             yield Script(program, os.path.relpath(path, TOP), file.read().split(b"\n"))
 

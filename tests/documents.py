@@ -1,7 +1,7 @@
 #!/usr/bin/env python3
 """Tells which links and which code words of the documents have nothing behind them.
 
-    tests/documents [FILE ...]
+    tests/documents.py [FILE ...]
 
 It reads README.md, CONTRIBUTING.md, CHANGELOG.md, docs/*.md, crates/*/README.md and tests/README.md, or only the files that are given.
 
@@ -25,7 +25,7 @@ A code word is what stands between backticks on a line, outside fenced blocks. B
   name of a table of an example is. A placeholder, NUMBER, NAME, CRATE or FILE, may stand for one.
 
 The code is src/, specs/, proofs/, edits/ and must-fail/ of the crates without their comments, tests/, bench/ and tools/, and the names of these
-files and folders, but for the two scripts that look at the repository alone, tests/documents and tests/definitions.
+files and folders, but for documents and for the programs that look at the repository alone (NO_CODE).
 
 Where code words stand beside a path, as in "`Order.antt`: `value_cmp`, `row_cmp`" or "`value_cmp` in `Order.antt`", each of them
 stands in a file of that path. Where the heading above names a crate and the path none, it is one of the heading's or the line's crates.
@@ -43,7 +43,7 @@ import sys
 TOP = os.path.dirname(os.path.dirname(os.path.abspath(__file__)))
 DOCUMENTS = ["README.md", "CONTRIBUTING.md", "CHANGELOG.md", "docs/*.md", "crates/*/README.md", "tests/README.md"]
 CODE = re.compile(r"crates/[^/]+/(src|specs|proofs|edits|must-fail)/|tests/|bench/|tools/")
-NO_CODE = {"tests/documents", "tests/definitions"}
+NO_CODE = {"tests/documents.py", "tests/definitions.py", "tests/form.py"}
 COMMENTS = {".rt": r"//.*", ".rs": r"//.*", ".antt": r"--.*"}
 FOLDERS = ("bench/", "crates/", "docs/", "examples/", "tests/", "tools/")
 SHELL = {"apt-get", "bash", "cargo", "cat", "cc", "cd", "curl", "git", "make", "python3", "rt", "rustc", "sh", "ulimit", "valgrind"}
@@ -97,7 +97,7 @@ def words_by_file():
     """The words of each file of the code, those of its own path, and `fn NAME` or `struct NAME` for what it declares."""
     found = {}
     for path in files():
-        if CODE.match(path) and path not in NO_CODE:
+        if CODE.match(path) and path not in NO_CODE and not path.endswith(".md"):
             text = re.sub(COMMENTS.get(os.path.splitext(path)[1], r"(?!)"), "", read(path))
             found[path] = frozenset(WORD.findall(text) + WORD.findall(path) + re.findall(r"\b(?:fn|struct|enum|trait) \w+", text))
     return found
@@ -125,7 +125,7 @@ def refusals():
 @functools.cache
 def files_of(path):
     """The files that have a path or lie in it."""
-    made = re.match(r"(.*?)/?\bout(/|$)", path)
+    made = re.match(r"(?:(.*?)/)?out(/|$)", path)
     path = (made[1] if made and made[1] else path).rstrip("/").removeprefix("./")
     pattern = re.sub(r"\b[A-Z][A-Z_]*\b(?!\.md)", "*", path)
     if "*" not in pattern:

@@ -1,7 +1,7 @@
 #!/usr/bin/env python3
 """Counts the lines that a reader has to believe who wants to know what the contract of a run promises.
 
-    tests/definitions [--list] [--std]
+    tests/definitions.py [--list] [--std]
 
 It begins with the contract of `run` in crates/mmdb_core/src/run_script.rt: its signature and all its clauses. From there it goes to each
 definition of crates/*/specs that is cited, to those that these cite, and so on, and to the types and constants of crates/*/src.
@@ -38,7 +38,7 @@ IMPORT = re.compile(r"^\s*(?:ghost )?(?:pub )?use\s+([^{};]+?)(?:\.?(?:::)?\{([^
 OPENING = re.compile(
     r"(?:(?:abbrev|pub|unfoldable|axiom) +)+(?:(?:record|data) +)?(\S+)|(?:record|data|module) +(\S+)|([^\s(){}:]+)(?: +\{[^}]*\})* +:(?: |$)"
 )
-NAME_INSIDE = re.compile(r"^\s+(?:pub )?([^\s(){}:]+) :(?: |$)", re.M)
+NAME_INSIDE = re.compile(r"^\s+(?:(?:abbrev|pub|unfoldable) )*([^\s(){}:]+) :(?: |$)", re.M)
 TOKEN = re.compile(r"[^\s(){}\[\],;λ\"]+")
 TYPE = r"^(?:pub(?:\([a-z]+\))? )?(?:struct|enum|const|static|trait|type) (?!fn )"
 
