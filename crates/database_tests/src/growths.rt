@@ -212,15 +212,27 @@ fn catalog_standing_growths(rt: HostRuntime) -> Result<(), Fail> {
     }
 }
 
-/// A query of all clauses but DISTINCT.
+/// A query of all clauses but DISTINCT, with more fields, tests and positions than a bound query has without a block.
 const QUERY: &str =
-    "SELECT b.s, a.id FROM a a, b b WHERE a.id = b.r AND b.s = 'of eighteen bytes.' ORDER 2, 1";
+    "SELECT b.s, a.id, b.id, b.r, a.id FROM a a, b b WHERE a.id = b.r AND b.s = 'of eighteen bytes.' AND b.id > 0 ORDER 2, 1, 3, 4, 5";
 
 /// The fields of that query.
-const FIELDS: [FieldPlace; 2] = [
+const FIELDS: [FieldPlace; 5] = [
     FieldPlace {
         place: 1,
         column: 2,
+    },
+    FieldPlace {
+        place: 0,
+        column: 0,
+    },
+    FieldPlace {
+        place: 1,
+        column: 0,
+    },
+    FieldPlace {
+        place: 1,
+        column: 1,
     },
     FieldPlace {
         place: 0,
@@ -231,9 +243,9 @@ const FIELDS: [FieldPlace; 2] = [
 /// Asserts that the query is bound to the tables.
 fn assert_bound(rt: &impl Abort, bound: &BoundQuery) {
     assert_same(rt, bound.fields.as_slice(), FIELDS.as_slice());
-    assert_same(rt, bound.order.as_slice(), [1, 0].as_slice());
+    assert_same(rt, bound.order.as_slice(), [1, 0, 2, 3, 4].as_slice());
     let sizes = [bound.from.as_slice().len(), bound.atoms.as_slice().len()];
-    assert_same(rt, sizes, [2, 2]);
+    assert_same(rt, sizes, [2, 3]);
 }
 
 /// Binds the query of all clauses but DISTINCT, again where memory is refused, and looks at it.
@@ -290,15 +302,16 @@ fn bind_again(
     Ok(true)
 }
 
-/// Changes, with the place of the table that each is bound to, and the sizes of its lists.
+/// Changes, with the place of the table that each is bound to, and the sizes of its lists: more assignments and tests than a bound
+/// change has without a block.
 const CHANGES: [(&str, [usize; 3]); 3] = [
     (
-        "UPDATE b SET s = 'of eighteen bytes.', r = r + 1 WHERE id > 5",
-        [1, 2, 1],
+        "UPDATE b SET s = 'of eighteen bytes.', r = r + 1, id = id + 1 WHERE id > 5 AND id < 9 AND r > 0",
+        [1, 3, 3],
     ),
     (
-        "DELETE b WHERE s = 'of eighteen bytes.' AND r = id",
-        [1, 0, 2],
+        "DELETE b WHERE s = 'of eighteen bytes.' AND r = id AND id > 5",
+        [1, 0, 3],
     ),
     ("INSERT a (7)", [0, 1, 0]),
 ];

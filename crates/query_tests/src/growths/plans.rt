@@ -12,7 +12,7 @@ use std::alloc::Global;
 use std::process::Abort;
 use std::test::Fail;
 
-/// The steps of a query over two tables, asked for again where memory is refused.
+/// The steps of a query over five tables, which are more than have no block, asked for again where memory is refused.
 fn plan_again(
     rt: &(impl Abort + Print),
     alloc: Global,
@@ -22,16 +22,17 @@ fn plan_again(
     requires { length store.now.tables ≡ 2 }
 {
     let view = store.view();
-    match plan_steps(alloc, &view, query, &[0, 1]) {
+    match plan_steps(alloc, &view, query, &[0, 1, 0, 1, 0]) {
         Ok(steps) => Ok(steps),
         Err(_) => {
             asked_again(rt)?;
-            Ok(plan_steps(alloc, &view, query, &[0, 1])?)
+            Ok(plan_steps(alloc, &view, query, &[0, 1, 0, 1, 0])?)
         }
     }
 }
 
-/// Asks for the steps of a query over two tables. The values have no index, so a hash table is to be built over those of the second.
+/// Asks for the steps of a query that compares the values of the first two of its tables. These have no index, so a hash table is to be
+/// built over those of the second, and nothing leads to the rows of the others.
 fn ask_for_plan(rt: &(impl Abort + Print), alloc: Global, store: &Store) -> Result<(), Fail>
     requires { length store.now.tables ≡ 2 }
 {
@@ -40,7 +41,13 @@ fn ask_for_plan(rt: &(impl Abort + Print), alloc: Global, store: &Store) -> Resu
         return Ok(());
     };
     let steps = plan_again(rt, alloc, store, &query)?;
-    let wanted = [Step::Scan, Step::BuiltHash { atom: 0 }];
+    let wanted = [
+        Step::Scan,
+        Step::BuiltHash { atom: 0 },
+        Step::NestedLoops,
+        Step::NestedLoops,
+        Step::NestedLoops,
+    ];
     assert_same(rt, steps.as_slice(), wanted.as_slice());
     Ok(())
 }
