@@ -394,7 +394,7 @@ fn eval_over(
 fn eval_over_tuples(
     rt: &(impl Abort + AllocGlobal + Print),
     bound: &BoundQuery,
-    insert: &Command,
+    insert: &Command<'_>,
 ) -> Result<(), Fail> {
     eval_over(rt, bound, inserted(insert)?)
 }

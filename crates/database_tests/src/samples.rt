@@ -15,12 +15,12 @@ use mm_value::{Refusal, Row, Watched, WriteFault};
 use std::alloc::Global;
 
 /// The command of a line.
-pub fn command(alloc: Global, line: &str) -> Result<Command, Refusal> {
+pub fn command(alloc: Global, line: &str) -> Result<Command<'_>, Refusal> {
     parse(alloc, line.as_bytes())
 }
 
 /// The question of a line.
-pub fn question(alloc: Global, line: &str) -> Result<Question, Refusal> {
+pub fn question(alloc: Global, line: &str) -> Result<Question<'_>, Refusal> {
     match Request::of(command(alloc, line)?) {
         Request::Ask(question) => Ok(question),
         other => {
@@ -52,7 +52,7 @@ pub fn index(name: &Name) -> Option<IndexDef> {
 }
 
 /// The query of a `SELECT`.
-pub fn selected(alloc: Global, line: &str) -> Result<Query, Refusal> {
+pub fn selected(alloc: Global, line: &str) -> Result<Query<'_>, Refusal> {
     match command(alloc, line)? {
         Command::Select(query) => Ok(query),
         other => {
@@ -63,7 +63,7 @@ pub fn selected(alloc: Global, line: &str) -> Result<Query, Refusal> {
 }
 
 /// The change of an `INSERT`, an `UPDATE` or a `DELETE`.
-pub fn change(alloc: Global, line: &str) -> Result<Mutation, Refusal> {
+pub fn change(alloc: Global, line: &str) -> Result<Mutation<'_>, Refusal> {
     match command(alloc, line)? {
         Command::Change(mutation) => Ok(mutation),
         other => {
@@ -74,7 +74,7 @@ pub fn change(alloc: Global, line: &str) -> Result<Mutation, Refusal> {
 }
 
 /// The rows of an `INSERT`.
-pub fn inserted(command: &Command) -> Result<&RowList, Refusal> {
+pub fn inserted<'c>(command: &'c Command<'_>) -> Result<&'c RowList, Refusal> {
     match command {
         Command::Change(Mutation::Insert { tuples, .. }) => Ok(tuples),
         _other => Err(Refusal::Syntax),
@@ -197,7 +197,7 @@ pub fn give_line(alloc: Global, database: &mut Db, line: &str) -> Result<usize, 
 }
 
 /// Gives a command that is no question to a database, and tells how many rows it changed.
-pub fn give(alloc: Global, database: &mut Db, command: Command) -> Result<usize, Refusal> {
+pub fn give(alloc: Global, database: &mut Db, command: Command<'_>) -> Result<usize, Refusal> {
     match Request::of(command) {
         Request::Change(change) => make(alloc, database, change),
         other => {
@@ -208,7 +208,7 @@ pub fn give(alloc: Global, database: &mut Db, command: Command) -> Result<usize,
 }
 
 /// Makes a change of a database, and tells how many rows it changed.
-pub fn make(alloc: Global, database: &mut Db, change: Change) -> Result<usize, Refusal> {
+pub fn make(alloc: Global, database: &mut Db, change: Change<'_>) -> Result<usize, Refusal> {
     match database.execute(alloc, change) {
         Reply::Done => Ok(0),
         Reply::Count(count) => Ok(count),
@@ -221,7 +221,11 @@ pub fn make(alloc: Global, database: &mut Db, change: Change) -> Result<usize, R
 }
 
 /// Asks a database a question.
-pub fn ask<'s>(alloc: Global, database: &'s Db, question: Question) -> Result<Answer<'s>, Refusal> {
+pub fn ask<'s>(
+    alloc: Global,
+    database: &'s Db,
+    question: Question<'_>,
+) -> Result<Answer<'s>, Refusal> {
     match database.ask(alloc, question) {
         Answer::Refused(refusal) => Err(refusal),
         answer => Ok(answer),
@@ -309,7 +313,7 @@ fn write_shown(rows: &ShownRows<'_>, told: &mut Vec<u8>) -> Result<(), WriteFaul
 }
 
 /// How many items the lists of a command have, from left to right.
-pub fn sizes(command: &Command) -> [usize; 4] {
+pub fn sizes(command: &Command<'_>) -> [usize; 4] {
     match command {
         Command::Define(Definition::Table(table)) => [count(&table.columns), 0, 0, 0],
         Command::Define(Definition::Watch(named)) => sizes_of_query(&named.query),
@@ -323,7 +327,7 @@ fn count(columns: &Columns) -> usize {
     columns.as_slice().len()
 }
 
-fn sizes_of_change(mutation: &Mutation) -> [usize; 4] {
+fn sizes_of_change(mutation: &Mutation<'_>) -> [usize; 4] {
     match mutation {
         Mutation::Insert { tuples, .. } => {
             let tuples = tuples.as_slice();
@@ -339,7 +343,7 @@ fn sizes_of_change(mutation: &Mutation) -> [usize; 4] {
     }
 }
 
-fn sizes_of_query(query: &Query) -> [usize; 4] {
+fn sizes_of_query(query: &Query<'_>) -> [usize; 4] {
     [
         query.fields.as_slice().len(),
         query.from.as_slice().len(),

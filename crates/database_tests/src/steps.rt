@@ -34,7 +34,10 @@ pub fn tell_refused(rt: &(impl Abort + Print), refusal: Refusal) -> io::Result<(
 }
 
 /// Reads a line, and once more where memory is refused.
-fn read_again(rt: &(impl Abort + AllocGlobal + Print), line: &str) -> Result<Command, Fail> {
+fn read_again<'l>(
+    rt: &(impl Abort + AllocGlobal + Print),
+    line: &'l str,
+) -> Result<Command<'l>, Fail> {
     match command(rt.alloc(), line) {
         Ok(command) => Ok(command),
         Err(refusal) => {

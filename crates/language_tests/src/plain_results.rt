@@ -4,6 +4,7 @@ use crate::samples::{catalog, field, number, put, query, text, with_atom};
 use mm_query::{
     BoundQuery, Comparison, FieldName, Operand, PlainRows, Query, bind_query, plain_eval,
 };
+use mm_schema::NameRef;
 use mm_value::{Refusal, Row, Value};
 use std::process::Abort;
 
@@ -20,7 +21,7 @@ fn pairs(rt: &(impl Abort + AllocGlobal), pairs: &[(i64, i64)]) -> Vec<Row> {
 }
 
 /// A query that is bound.
-fn bound(rt: &(impl Abort + AllocGlobal), query: Query) -> BoundQuery {
+fn bound(rt: &(impl Abort + AllocGlobal), query: Query<'_>) -> BoundQuery {
     let catalog = catalog(rt);
     bind_query(rt.alloc(), &catalog, query)
         .expect(rt, "a query")
@@ -91,17 +92,17 @@ fn expect_found(
 }
 
 /// The query where the field `a.k` compares so with another.
-fn asked(
+fn asked<'l>(
     rt: &(impl Abort + AllocGlobal),
-    query: Query,
+    query: Query<'l>,
     comparison: Comparison,
-    right: Operand<FieldName>,
-) -> Query {
+    right: Operand<FieldName<NameRef<'l>>>,
+) -> Query<'l> {
     with_atom(rt, query, field(rt, b"a", b"k"), comparison, right)
 }
 
 /// The query of each two rows of a table that have the same k.
-fn twice(rt: &(impl Abort + AllocGlobal)) -> Query {
+fn twice(rt: &(impl Abort + AllocGlobal)) -> Query<'static> {
     let pairs = query(
         rt,
         &[(b"t", b"a"), (b"t", b"b")],
@@ -133,7 +134,7 @@ fn adds_shifts_without_bound(rt: HostRuntime) {
 }
 
 /// The query of the keys of each row of t and each of u.
-fn both(rt: &(impl Abort + AllocGlobal)) -> Query {
+fn both(rt: &(impl Abort + AllocGlobal)) -> Query<'static> {
     query(
         rt,
         &[(b"t", b"a"), (b"u", b"b")],
@@ -142,7 +143,7 @@ fn both(rt: &(impl Abort + AllocGlobal)) -> Query {
 }
 
 /// The field v of u.
-fn v(rt: &impl Abort) -> Operand<FieldName> {
+fn v(rt: &impl Abort) -> Operand<FieldName<NameRef<'static>>> {
     Operand::Column(field(rt, b"b", b"v"))
 }
 
@@ -177,7 +178,7 @@ fn joins_by_equal_and_by_bounds(rt: HostRuntime) {
 }
 
 /// The query of the rows of t whose key is greater by nine than the key 1 of u.
-fn nine_more(rt: &(impl Abort + AllocGlobal)) -> Query {
+fn nine_more(rt: &(impl Abort + AllocGlobal)) -> Query<'static> {
     let both = query(rt, &[(b"u", b"b"), (b"t", b"a")], &[(b"a", b"id")]);
     let nine_more = Operand::Shifted(field(rt, b"b", b"id"), 9);
     let both = with_atom(

@@ -8,7 +8,7 @@ use std::process::Abort;
 use std::test::Fail;
 
 /// The name of the savepoint that a command makes or goes back to, and whether it goes back.
-fn savepoint_of(command: &Command) -> Option<(&Name, bool)> {
+fn savepoint_of<'c>(command: &'c Command<'_>) -> Option<(&'c Name, bool)> {
     match command {
         Command::Savepoint(name) => Some((name, false)),
         Command::RollbackTo(name) => Some((name, true)),
@@ -19,7 +19,7 @@ fn savepoint_of(command: &Command) -> Option<(&Name, bool)> {
 /// Tests that the command of a line makes the savepoint of a name, or goes back to it.
 fn expect_savepoint(
     rt: &impl Abort,
-    command: &Command,
+    command: &Command<'_>,
     line: &[u8],
     name: &[u8],
     goes_back: bool,

@@ -2,7 +2,7 @@
 use crate::assertions::assert_same;
 use crate::put_again::put_again;
 use mm_query::{Atom, Comparison, Few, FieldName, FromItem, Operand, Query};
-use mm_schema::{Catalog, Column, Columns, Name, Role, TableDef};
+use mm_schema::{Catalog, Column, Columns, Name, NameRef, Role, TableDef};
 use mm_value::{ColType, Refusal, Text, Value};
 use std::process::Abort;
 
@@ -64,14 +64,18 @@ pub fn catalog(rt: &(impl Abort + AllocGlobal)) -> Catalog {
     catalog
 }
 
-pub fn field(rt: &impl Abort, alias: &[u8], column: &[u8]) -> FieldName {
+fn name_ref<'l>(rt: &impl Abort, bytes: &'l [u8]) -> NameRef<'l> {
+    NameRef::new(bytes).expect(rt, "a name")
+}
+
+pub fn field<'l>(rt: &impl Abort, alias: &'l [u8], column: &'l [u8]) -> FieldName<NameRef<'l>> {
     FieldName {
-        alias: name(rt, alias),
-        column: name(rt, column),
+        alias: name_ref(rt, alias),
+        column: name_ref(rt, column),
     }
 }
 
-pub fn number(number: i64) -> Operand<FieldName> {
+pub fn number<'l>(number: i64) -> Operand<FieldName<NameRef<'l>>> {
     Operand::Literal(Value::Int(number))
 }
 
@@ -80,11 +84,11 @@ pub fn text(rt: &(impl Abort + AllocGlobal), bytes: &[u8]) -> Value {
 }
 
 /// A query of these tables and fields, with no atoms and no ORDER.
-pub fn query(
+pub fn query<'l>(
     rt: &(impl Abort + AllocGlobal),
     from: &[(&[u8], &[u8])],
-    fields: &[(&[u8], &[u8])],
-) -> Query {
+    fields: &[(&'l [u8], &'l [u8])],
+) -> Query<'l> {
     let mut items = Vec::new(rt.alloc());
     for (table, alias) in from {
         let item = FromItem {
@@ -107,13 +111,13 @@ pub fn query(
 }
 
 /// The query with one more atom.
-pub fn with_atom(
+pub fn with_atom<'l>(
     rt: &(impl Abort + AllocGlobal),
-    query: Query,
-    left: FieldName,
+    query: Query<'l>,
+    left: FieldName<NameRef<'l>>,
     comparison: Comparison,
-    right: Operand<FieldName>,
-) -> Query {
+    right: Operand<FieldName<NameRef<'l>>>,
+) -> Query<'l> {
     let Query {
         distinct,
         fields,

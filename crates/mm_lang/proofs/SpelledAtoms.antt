@@ -16,7 +16,7 @@ use Rattle.mm_query.specs.declared.atom.Operand.TheVariants as kind_of
 use Rattle.mm_query.specs.declared.command.Command.{Command}
 use Rattle.mm_query.specs.declared.command.Command.TheVariants as command
 use Rattle.mm_query.specs.declared.command.Mutation.TheVariants as change
-use Rattle.mm_query.specs.declared.query.FieldName.{FieldName}
+use Rattle.mm_query.specs.Fields.{FieldName}
 use Rattle.mm_lang.specs.declared.keyword.Keyword.TheVariants as keyword
 use Rattle.mm_lang.specs.declared.phrase.Separator.TheVariants.{And}
 use Rattle.mm_lang.specs.declared.token.Symbol.{Symbol}

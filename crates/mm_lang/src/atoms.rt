@@ -11,23 +11,23 @@ use crate::phrase::{Phrase, Separator, read_clause};
 use crate::reader::Reader;
 use crate::token::Symbol;
 use mm_query::{Assignment, Atom, Few, Operand};
-use mm_schema::Name;
+use mm_schema::NameRef;
 use mm_value::Refusal;
 use std::marker::PhantomData;
 
-/// How a command names a column.
-pub(crate) trait ColumnName: Sized + Drop {
+/// How a command names a column, in a line that lives for `'l`.
+pub(crate) trait ColumnName<'l>: Sized + Drop {
     ghost column: { Phr Self };
 
     /// Reads a column. `Syntax` where none stands first in the rest.
-    fn read(reader: &mut Reader<'_>) -> Result<Self, Refusal>
+    fn read(reader: &mut Reader<'l>) -> Result<Self, Refusal>
         ensures { ReadsPhrase column no_literals reader.old reader.new result };
 
     ghost never_longer: { NeverLonger column };
 }
 
 /// By its name alone, where the command names one table.
-impl ColumnName for Name {
+impl<'l> ColumnName<'l> for NameRef<'l> {
     ghost use Rattle.mm_lang.specs.Grammar.{name};
     ghost use Rattle.mm_lang.specs.steps.Shrinking.{name_never_longer};
 
@@ -36,8 +36,8 @@ impl ColumnName for Name {
     ghost never_longer = { name_never_longer };
 
     /// Reads a name. `Syntax` where none stands first in the rest.
-    fn read(reader: &mut Reader<'_>) -> Result<Name, Refusal> {
-        reader.name()
+    fn read(reader: &mut Reader<'l>) -> Result<NameRef<'l>, Refusal> {
+        reader.name_ref()
     }
 }
 
@@ -47,7 +47,7 @@ struct TestPhrase<C> {
     names: PhantomData<C>,
 }
 
-impl<C: ColumnName> Phrase for TestPhrase<C> {
+impl<'l, C: ColumnName<'l>> Phrase<'l> for TestPhrase<C> {
     ghost use Rattle.mm_lang.specs.Grammar.{test_on};
     ghost use Rattle.mm_lang.specs.Reading.{test_literals};
     ghost use Rattle.mm_lang.specs.steps.Shrinking.{test_never_longer};
@@ -62,7 +62,7 @@ impl<C: ColumnName> Phrase for TestPhrase<C> {
 
     /// Reads a test. `Syntax` where none stands first in the rest, `Memory` where memory was refused for a text. A literal
     /// or a shift past its limit is no error yet: it is noted in the reader.
-    fn read(&mut self, reader: &mut Reader<'_>) -> Result<Atom<C>, Refusal> {
+    fn read(&mut self, reader: &mut Reader<'l>) -> Result<Atom<C>, Refusal> {
         let left = C::read(reader)?;
         let comparison = reader.comparison()?;
         let right = read_operand(reader)?;
@@ -78,12 +78,12 @@ impl<C: ColumnName> Phrase for TestPhrase<C> {
 #[derive(Drop)]
 pub(crate) struct AssignmentPhrase;
 
-impl Phrase for AssignmentPhrase {
+impl<'l> Phrase<'l> for AssignmentPhrase {
     ghost use Rattle.mm_lang.specs.Grammar.{assignment};
     ghost use Rattle.mm_lang.specs.Reading.{assignment_literals};
     ghost use Rattle.mm_lang.specs.steps.Shrinking.{assignment_never_longer};
 
-    type Item = Assignment<Name>;
+    type Item = Assignment<NameRef<'l>>;
 
     ghost reading = { assignment };
 
@@ -93,8 +93,8 @@ impl Phrase for AssignmentPhrase {
 
     /// Reads an assignment. `Syntax` where none stands first in the rest, `Memory` where memory was refused for a text. A
     /// literal or a shift past its limit is no error yet: it is noted in the reader.
-    fn read(&mut self, reader: &mut Reader<'_>) -> Result<Assignment<Name>, Refusal> {
-        let column = reader.name()?;
+    fn read(&mut self, reader: &mut Reader<'l>) -> Result<Assignment<NameRef<'l>>, Refusal> {
+        let column = reader.name_ref()?;
         reader.symbol(Symbol::Equal)?;
         let source = read_operand(reader)?;
         Ok(Assignment { column, source })
@@ -103,7 +103,9 @@ impl Phrase for AssignmentPhrase {
 
 /// Reads `WHERE` and the tests behind it, with `AND` between each two, or nothing where no `WHERE` stands there: then there
 /// are no tests. `Syntax` where no test stands behind `WHERE` or `AND`, `Memory` where memory was refused.
-pub(crate) fn read_tests<C: ColumnName>(reader: &mut Reader<'_>) -> Result<Few<Atom<C>>, Refusal>
+pub(crate) fn read_tests<'l, C: ColumnName<'l>>(
+    reader: &mut Reader<'l>,
+) -> Result<Few<Atom<C>>, Refusal>
     ensures { ReadsPhrase (tests_on C.column) (flat_map test_literals) reader.old reader.new result }
 {
     let mut test = TestPhrase { names: PhantomData };
@@ -111,7 +113,7 @@ pub(crate) fn read_tests<C: ColumnName>(reader: &mut Reader<'_>) -> Result<Few<A
 }
 
 // Reads a literal, or a column and its shift if one stands there.
-fn read_operand<C: ColumnName>(reader: &mut Reader<'_>) -> Result<Operand<C>, Refusal>
+fn read_operand<'l, C: ColumnName<'l>>(reader: &mut Reader<'l>) -> Result<Operand<C>, Refusal>
     ensures { ReadsPhrase (operand_on C.column) operand_literals reader.old reader.new result }
 {
     match reader.skip_literal()? {

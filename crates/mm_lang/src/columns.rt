@@ -14,7 +14,7 @@ use mm_value::Refusal;
 #[derive(Drop)]
 pub(crate) struct ColumnPhrase;
 
-impl Phrase for ColumnPhrase {
+impl<'l> Phrase<'l> for ColumnPhrase {
     ghost use Rattle.mm_lang.specs.Grammar.{column};
     ghost use Rattle.mm_lang.specs.steps.Parsing.{no_literals};
     ghost use Rattle.mm_lang.specs.steps.Shrinking.{column_never_longer};
@@ -28,7 +28,7 @@ impl Phrase for ColumnPhrase {
     ghost never_longer = { column_never_longer };
 
     /// Reads a column. `Syntax` where no name stands first in the rest, no type behind it, or no name behind `REF`.
-    fn read(&mut self, reader: &mut Reader<'_>) -> Result<Column, Refusal> {
+    fn read(&mut self, reader: &mut Reader<'l>) -> Result<Column, Refusal> {
         let name = reader.name()?;
         let col_type = reader.col_type()?;
         let role = read_role(reader)?;

@@ -21,8 +21,8 @@ pub(crate) enum Separator {
     And,
 }
 
-/// How an item of a list is read.
-pub(crate) trait Phrase {
+/// How an item of a list is read from a line, which lives for `'l`.
+pub(crate) trait Phrase<'l> {
     /// What the item says.
     type Item: Drop;
 
@@ -32,7 +32,7 @@ pub(crate) trait Phrase {
 
     /// Reads an item. `Syntax` where none stands there, `Memory` where that was refused. A literal past its limit is
     /// noted in the reader.
-    fn read(&mut self, reader: &mut Reader<'_>) -> Result<Self::Item, Refusal>
+    fn read(&mut self, reader: &mut Reader<'l>) -> Result<Self::Item, Refusal>
         ensures { ReadsPhrase reading literals reader.old reader.new result };
 
     ghost never_longer: { NeverLonger reading };
@@ -40,10 +40,10 @@ pub(crate) trait Phrase {
 
 /// Reads one or more items, with the separator between each two, and puts them behind those that are there. `Syntax` where
 /// no item stands there or behind a separator, `Memory` where memory was refused.
-pub(crate) fn read_list<P: Phrase>(
+pub(crate) fn read_list<'l, P: Phrase<'l>>(
     phrase: &mut P,
     separator: Separator,
-    reader: &mut Reader<'_>,
+    reader: &mut Reader<'l>,
     items: &mut Vec<P::Item>,
 ) -> Result<(), Refusal>
     ensures { ReadsItems (list_of (the_separator separator) P.reading) (flat_map P.literals) reader.old reader.new items.old.items items.new.items result }
@@ -58,10 +58,10 @@ pub(crate) fn read_list<P: Phrase>(
 
 /// Reads one or more items, with the separator between each two, as `read_list` does, and gives their list. An only item
 /// takes no block.
-pub(crate) fn read_items<P: Phrase>(
+pub(crate) fn read_items<'l, P: Phrase<'l>>(
     phrase: &mut P,
     separator: Separator,
-    reader: &mut Reader<'_>,
+    reader: &mut Reader<'l>,
 ) -> Result<Few<P::Item>, Refusal>
     ensures { ReadsPhrase (list_of (the_separator separator) P.reading) (flat_map P.literals) reader.old reader.new result }
 {
@@ -77,11 +77,11 @@ pub(crate) fn read_items<P: Phrase>(
 
 /// Reads a keyword and the items behind it, as `read_items` does, or nothing where the keyword does not stand there: then
 /// the list is empty.
-pub(crate) fn read_clause<P: Phrase>(
+pub(crate) fn read_clause<'l, P: Phrase<'l>>(
     keyword: Keyword,
     phrase: &mut P,
     separator: Separator,
-    reader: &mut Reader<'_>,
+    reader: &mut Reader<'l>,
 ) -> Result<Few<P::Item>, Refusal>
     ensures { ReadsPhrase (clause keyword (the_separator separator) P.reading) (flat_map P.literals) reader.old reader.new result }
 {
@@ -93,9 +93,9 @@ pub(crate) fn read_clause<P: Phrase>(
 
 /// Reads a list with commas in parentheses, as `read_list` does. `Syntax` also where one of the parentheses does not stand
 /// there.
-pub(crate) fn read_in_parentheses<P: Phrase>(
+pub(crate) fn read_in_parentheses<'l, P: Phrase<'l>>(
     phrase: &mut P,
-    reader: &mut Reader<'_>,
+    reader: &mut Reader<'l>,
     items: &mut Vec<P::Item>,
 ) -> Result<(), Refusal>
     ensures { ReadsItems (in_parentheses (comma_list P.reading)) (flat_map P.literals) reader.old reader.new items.old.items items.new.items result }

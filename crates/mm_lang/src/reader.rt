@@ -13,7 +13,7 @@ use crate::keyword::Keyword;
 use crate::phrase::Separator;
 use crate::token::{Symbol, Token};
 use mm_query::Comparison;
-use mm_schema::{IndexKind, Name};
+use mm_schema::{IndexKind, Name, NameRef};
 use mm_value::{ColType, Refusal, Value, read_int, read_literal};
 use std::alloc::Global;
 
@@ -133,12 +133,20 @@ impl<'a> Reader<'a> {
         Keyword::named(word).ok_or(Refusal::Syntax)
     }
 
-    /// Reads a name, and gives it. `Syntax` where no word stands there, or one that is no name.
+    /// Reads a name, and gives a copy of it. `Syntax` where no word stands there, or one that is no name.
     pub(crate) fn name(&mut self) -> Result<Name, Refusal>
         ensures { ReadsWithoutMemory name no_literals self.old self.new result }
     {
         let word = self.word()?;
         Name::new(word).ok_or(Refusal::Syntax)
+    }
+
+    /// Reads a name, and gives it as it lies in the line. `Syntax` where no word stands there, or one that is no name.
+    pub(crate) fn name_ref(&mut self) -> Result<NameRef<'a>, Refusal>
+        ensures { ReadsWithoutMemory name no_literals self.old self.new result }
+    {
+        let word = self.word()?;
+        NameRef::new(word).ok_or(Refusal::Syntax)
     }
 
     /// Reads a name in parentheses, and gives it. `Syntax` where one of the three does not stand there.

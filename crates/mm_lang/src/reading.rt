@@ -36,8 +36,9 @@ pub const MAX_LINE_BYTES: usize = 4096;
 /// `LineTooLong` where the line has more than 4,096 bytes, `Syntax` where it has no reading, else `NumberOutOfRange` or
 /// `TextTooLong` where its first literal from the left past its limit is a number or a text; digits behind a minus count
 /// as the negative number, and digits of ORDER are numbers too. `Memory` may come in place of any answer but `LineTooLong`,
-/// `Nothing`, `Begin`, `Commit`, `Rollback` and `RollbackTo`. Nothing is taken but what the command keeps.
-pub fn parse(alloc: Global, line: &[u8]) -> Result<Command, Refusal>
+/// `Nothing`, `Begin`, `Commit`, `Rollback` and `RollbackTo`. Nothing is taken but what the command keeps: the names of fields and of
+/// columns that are tested or assigned lie in the line.
+pub fn parse(alloc: Global, line: &[u8]) -> Result<Command<'_>, Refusal>
     ensures { Reads line.now result }
 {
     if line.len() > MAX_LINE_BYTES {
@@ -67,7 +68,7 @@ fn is_comment(line: &[u8]) -> bool
     matches!(line, [b'-', b'-', ..])
 }
 
-fn read_command(alloc: Global, line: &[u8]) -> Result<Command, Refusal>
+fn read_command(alloc: Global, line: &[u8]) -> Result<Command<'_>, Refusal>
     ensures { AnswersReading (read_as (command_of (tokens line.now))) result }
 {
     let mut reader = Reader::new(alloc, line);
@@ -79,7 +80,7 @@ fn read_command(alloc: Global, line: &[u8]) -> Result<Command, Refusal>
 
 // What stands behind the keyword that a command begins with. One that begins or ends a transaction, or goes back in it, takes no memory.
 #[tactic(auto, using(crate::proofs::CommandReadings::whole_given))]
-fn read_behind(keyword: Keyword, reader: &mut Reader<'_>) -> Result<Command, Refusal>
+fn read_behind<'l>(keyword: Keyword, reader: &mut Reader<'l>) -> Result<Command<'l>, Refusal>
     ensures reads { ReadsPhrase (command_behind keyword) literals_of reader.old reader.new result }
     ensures memory { result ≡ Err Memory → is_control_keyword keyword ≡ false }
 {
@@ -105,7 +106,7 @@ fn read_behind(keyword: Keyword, reader: &mut Reader<'_>) -> Result<Command, Ref
     }
 }
 
-fn read_delete(reader: &mut Reader<'_>) -> Result<Command, Refusal>
+fn read_delete<'l>(reader: &mut Reader<'l>) -> Result<Command<'l>, Refusal>
     ensures { ReadsPhrase delete literals_of reader.old reader.new result }
 {
     let table = reader.name()?;
@@ -113,7 +114,7 @@ fn read_delete(reader: &mut Reader<'_>) -> Result<Command, Refusal>
     Ok(Command::Change(Mutation::Delete { table, tests }))
 }
 
-fn read_update(reader: &mut Reader<'_>) -> Result<Command, Refusal>
+fn read_update<'l>(reader: &mut Reader<'l>) -> Result<Command<'l>, Refusal>
     ensures { ReadsPhrase update literals_of reader.old reader.new result }
 {
     let table = reader.name()?;
@@ -127,7 +128,7 @@ fn read_update(reader: &mut Reader<'_>) -> Result<Command, Refusal>
     }))
 }
 
-fn read_drop(reader: &mut Reader<'_>) -> Result<Command, Refusal>
+fn read_drop<'l>(reader: &mut Reader<'l>) -> Result<Command<'l>, Refusal>
     ensures { ReadsPhrase drop literals_of reader.old reader.new result }
 {
     let keyword = reader.keyword()?;
@@ -135,7 +136,7 @@ fn read_drop(reader: &mut Reader<'_>) -> Result<Command, Refusal>
 }
 
 // What stands behind the keyword that says what is dropped.
-fn read_dropped(keyword: Keyword, reader: &mut Reader<'_>) -> Result<Command, Refusal>
+fn read_dropped<'l>(keyword: Keyword, reader: &mut Reader<'l>) -> Result<Command<'l>, Refusal>
     ensures { ReadsPhrase (dropped keyword) literals_of reader.old reader.new result }
 {
     match keyword {
@@ -145,7 +146,7 @@ fn read_dropped(keyword: Keyword, reader: &mut Reader<'_>) -> Result<Command, Re
     }
 }
 
-fn read_index(reader: &mut Reader<'_>) -> Result<Command, Refusal>
+fn read_index<'l>(reader: &mut Reader<'l>) -> Result<Command<'l>, Refusal>
     ensures { ReadsPhrase index literals_of reader.old reader.new result }
 {
     let name = reader.name()?;
@@ -162,7 +163,7 @@ fn read_index(reader: &mut Reader<'_>) -> Result<Command, Refusal>
     Ok(Command::Define(Definition::Index(index)))
 }
 
-fn read_insert(reader: &mut Reader<'_>) -> Result<Command, Refusal>
+fn read_insert<'l>(reader: &mut Reader<'l>) -> Result<Command<'l>, Refusal>
     ensures { ReadsPhrase insert literals_of reader.old reader.new result }
 {
     let table = reader.name()?;
@@ -177,7 +178,7 @@ fn read_insert(reader: &mut Reader<'_>) -> Result<Command, Refusal>
     Ok(Command::Change(Mutation::Insert { table, tuples }))
 }
 
-fn read_scan(reader: &mut Reader<'_>) -> Result<Command, Refusal>
+fn read_scan<'l>(reader: &mut Reader<'l>) -> Result<Command<'l>, Refusal>
     ensures { ReadsPhrase scan literals_of reader.old reader.new result }
 {
     let by_index = reader.skip_keyword(Keyword::Index);
@@ -189,14 +190,14 @@ fn read_scan(reader: &mut Reader<'_>) -> Result<Command, Refusal>
     }
 }
 
-fn read_savepoint(reader: &mut Reader<'_>) -> Result<Command, Refusal>
+fn read_savepoint<'l>(reader: &mut Reader<'l>) -> Result<Command<'l>, Refusal>
     ensures { ReadsPhrase savepoint literals_of reader.old reader.new result }
 {
     let name = reader.name()?;
     Ok(Command::Savepoint(name))
 }
 
-fn read_rollback(reader: &mut Reader<'_>) -> Result<Command, Refusal>
+fn read_rollback<'l>(reader: &mut Reader<'l>) -> Result<Command<'l>, Refusal>
     ensures { ReadsWithoutMemory rollback literals_of reader.old reader.new result }
 {
     if !reader.skip_keyword(Keyword::To) {
@@ -206,21 +207,21 @@ fn read_rollback(reader: &mut Reader<'_>) -> Result<Command, Refusal>
     Ok(Command::RollbackTo(name))
 }
 
-fn read_show(reader: &mut Reader<'_>) -> Result<Command, Refusal>
+fn read_show<'l>(reader: &mut Reader<'l>) -> Result<Command<'l>, Refusal>
     ensures { ReadsPhrase show literals_of reader.old reader.new result }
 {
     let name = reader.name()?;
     Ok(Command::Show(name))
 }
 
-fn read_unwatch(reader: &mut Reader<'_>) -> Result<Command, Refusal>
+fn read_unwatch<'l>(reader: &mut Reader<'l>) -> Result<Command<'l>, Refusal>
     ensures { ReadsPhrase unwatch literals_of reader.old reader.new result }
 {
     let name = reader.name()?;
     Ok(Command::Define(Definition::Unwatch(name)))
 }
 
-fn read_table(reader: &mut Reader<'_>) -> Result<Command, Refusal>
+fn read_table<'l>(reader: &mut Reader<'l>) -> Result<Command<'l>, Refusal>
     ensures { ReadsPhrase table literals_of reader.old reader.new result }
 {
     let name = reader.name()?;

@@ -9,10 +9,11 @@ use crate::phrase::{Phrase, Separator, read_clause, read_items};
 use crate::reader::Reader;
 use crate::token::Symbol;
 use mm_query::{Command, Definition, FieldName, FromItem, NamedQuery, Query};
+use mm_schema::NameRef;
 use mm_value::Refusal;
 
 /// By its table's alias and its name, with a dot between them.
-impl ColumnName for FieldName {
+impl<'l> ColumnName<'l> for FieldName<NameRef<'l>> {
     ghost use Rattle.mm_lang.specs.Grammar.{field};
     ghost use Rattle.mm_lang.specs.steps.Shrinking.{field_never_longer};
 
@@ -21,10 +22,10 @@ impl ColumnName for FieldName {
     ghost never_longer = { field_never_longer };
 
     /// Reads an alias, a dot and a name. `Syntax` where one of the three does not stand there.
-    fn read(reader: &mut Reader<'_>) -> Result<FieldName, Refusal> {
-        let alias = reader.name()?;
+    fn read(reader: &mut Reader<'l>) -> Result<FieldName<NameRef<'l>>, Refusal> {
+        let alias = reader.name_ref()?;
         reader.symbol(Symbol::Dot)?;
-        let column = reader.name()?;
+        let column = reader.name_ref()?;
         Ok(FieldName { alias, column })
     }
 }
@@ -33,12 +34,12 @@ impl ColumnName for FieldName {
 #[derive(Drop)]
 struct FieldPhrase;
 
-impl Phrase for FieldPhrase {
+impl<'l> Phrase<'l> for FieldPhrase {
     ghost use Rattle.mm_lang.specs.Grammar.{field};
     ghost use Rattle.mm_lang.specs.steps.Parsing.{no_literals};
     ghost use Rattle.mm_lang.specs.steps.Shrinking.{field_never_longer};
 
-    type Item = FieldName;
+    type Item = FieldName<NameRef<'l>>;
 
     ghost reading = { field };
 
@@ -47,7 +48,7 @@ impl Phrase for FieldPhrase {
     ghost never_longer = { field_never_longer };
 
     /// Reads a field. `Syntax` where none stands first in the rest.
-    fn read(&mut self, reader: &mut Reader<'_>) -> Result<FieldName, Refusal> {
+    fn read(&mut self, reader: &mut Reader<'l>) -> Result<FieldName<NameRef<'l>>, Refusal> {
         FieldName::read(reader)
     }
 }
@@ -56,7 +57,7 @@ impl Phrase for FieldPhrase {
 #[derive(Drop)]
 struct FromPhrase;
 
-impl Phrase for FromPhrase {
+impl<'l> Phrase<'l> for FromPhrase {
     ghost use Rattle.mm_lang.specs.Grammar.{from_item};
     ghost use Rattle.mm_lang.specs.steps.Parsing.{no_literals};
     ghost use Rattle.mm_lang.specs.steps.Shrinking.{from_never_longer};
@@ -70,7 +71,7 @@ impl Phrase for FromPhrase {
     ghost never_longer = { from_never_longer };
 
     /// Reads two names. `Syntax` where one of them does not stand there.
-    fn read(&mut self, reader: &mut Reader<'_>) -> Result<FromItem, Refusal> {
+    fn read(&mut self, reader: &mut Reader<'l>) -> Result<FromItem, Refusal> {
         let table = reader.name()?;
         let alias = reader.name()?;
         Ok(FromItem { table, alias })
@@ -81,7 +82,7 @@ impl Phrase for FromPhrase {
 #[derive(Drop)]
 struct PositionPhrase;
 
-impl Phrase for PositionPhrase {
+impl<'l> Phrase<'l> for PositionPhrase {
     ghost use Rattle.mm_lang.specs.Grammar.{position};
     ghost use Rattle.mm_lang.specs.Reading.{position_literals};
     ghost use Rattle.mm_lang.specs.steps.Shrinking.{position_never_longer};
@@ -96,13 +97,13 @@ impl Phrase for PositionPhrase {
 
     /// Reads digits. `Syntax` where none stand first in the rest. A number past its limit is no error yet: it is noted in
     /// the reader.
-    fn read(&mut self, reader: &mut Reader<'_>) -> Result<usize, Refusal> {
+    fn read(&mut self, reader: &mut Reader<'l>) -> Result<usize, Refusal> {
         reader.position()
     }
 }
 
 /// Reads what stands behind `SELECT`, a query. The errors are those of [`read_query`].
-pub(crate) fn read_select(reader: &mut Reader<'_>) -> Result<Command, Refusal>
+pub(crate) fn read_select<'l>(reader: &mut Reader<'l>) -> Result<Command<'l>, Refusal>
     ensures { ReadsPhrase select literals_of reader.old reader.new result }
 {
     let query = read_query(reader)?;
@@ -111,7 +112,7 @@ pub(crate) fn read_select(reader: &mut Reader<'_>) -> Result<Command, Refusal>
 
 /// Reads what stands behind `EXPLAIN`: `SELECT` and a query. `Syntax` where the keyword does not stand there; the other errors
 /// are those of [`read_query`].
-pub(crate) fn read_explain(reader: &mut Reader<'_>) -> Result<Command, Refusal>
+pub(crate) fn read_explain<'l>(reader: &mut Reader<'l>) -> Result<Command<'l>, Refusal>
     ensures { ReadsPhrase explain literals_of reader.old reader.new result }
 {
     reader.expect_keyword(Keyword::Select)?;
@@ -121,7 +122,7 @@ pub(crate) fn read_explain(reader: &mut Reader<'_>) -> Result<Command, Refusal>
 
 /// Reads what stands behind `WATCH`: a name, `SELECT` and a query. `Syntax` where the name or the keyword does not stand there;
 /// the other errors are those of [`read_query`].
-pub(crate) fn read_watch(reader: &mut Reader<'_>) -> Result<Command, Refusal>
+pub(crate) fn read_watch<'l>(reader: &mut Reader<'l>) -> Result<Command<'l>, Refusal>
     ensures { ReadsPhrase watch literals_of reader.old reader.new result }
 {
     let name = reader.name()?;
@@ -134,7 +135,7 @@ pub(crate) fn read_watch(reader: &mut Reader<'_>) -> Result<Command, Refusal>
 /// Reads a query: `DISTINCT` if it is there, fields, `FROM` and tables, and then the tests of a WHERE
 /// and the positions of an ORDER if these are there. `Syntax` where one of the parts does not stand there, `Memory` where
 /// memory was refused. A literal or a position past its limit is no error yet: it is noted in the reader.
-fn read_query(reader: &mut Reader<'_>) -> Result<Query, Refusal>
+fn read_query<'l>(reader: &mut Reader<'l>) -> Result<Query<'l>, Refusal>
     ensures { ReadsPhrase query query_literals reader.old reader.new result }
 {
     let distinct = reader.skip_keyword(Keyword::Distinct);

@@ -10,7 +10,7 @@ use std::alloc::{AllocError, Global};
 #[derive(Drop)]
 pub(crate) struct LiteralPhrase;
 
-impl Phrase for LiteralPhrase {
+impl<'l> Phrase<'l> for LiteralPhrase {
     ghost use Rattle.mm_lang.specs.Grammar.{literal_of};
     ghost use Rattle.mm_lang.specs.Phrases.{one};
     ghost use Rattle.mm_lang.specs.steps.Parsing.{only_literal};
@@ -26,7 +26,7 @@ impl Phrase for LiteralPhrase {
 
     /// Reads a literal. `Syntax` where none stands first in the rest, `Memory` where memory was refused for a text. A
     /// literal past its limit is no error yet: it is noted in the reader, and a zero stands in its place.
-    fn read(&mut self, reader: &mut Reader<'_>) -> Result<Value, Refusal> {
+    fn read(&mut self, reader: &mut Reader<'l>) -> Result<Value, Refusal> {
         reader.literal()
     }
 }
@@ -47,7 +47,7 @@ impl TuplePhrase {
     }
 }
 
-impl Phrase for TuplePhrase {
+impl<'l> Phrase<'l> for TuplePhrase {
     ghost use Rattle.mm_lang.specs.Grammar.{tuple};
     ghost use Rattle.mm_lang.specs.steps.Shrinking.{tuple_never_longer};
 
@@ -61,7 +61,7 @@ impl Phrase for TuplePhrase {
 
     /// Reads a tuple. `Syntax` where none stands first in the rest, `Memory` where memory was refused for a text, for
     /// the values or for the row. A literal past its limit is no error yet: it is noted in the reader.
-    fn read(&mut self, reader: &mut Reader<'_>) -> Result<Row, Refusal> {
+    fn read(&mut self, reader: &mut Reader<'l>) -> Result<Row, Refusal> {
         self.values.clear();
         read_in_parentheses(&mut LiteralPhrase, reader, &mut self.values)?;
         Ok(take_row(reader.alloc(), &mut self.values)?)

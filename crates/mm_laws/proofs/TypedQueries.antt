@@ -20,7 +20,7 @@ use Rattle.mm_query.specs.declared.atom.Operand.{Operand}
 use Rattle.mm_query.specs.declared.atom.Operand.TheVariants as operand
 use Rattle.mm_query.specs.declared.bound_query.BoundQuery.{BoundQuery}
 use Rattle.mm_query.specs.declared.bound_query.FieldPlace.{FieldPlace}
-use Rattle.mm_query.specs.declared.query.FieldName.{FieldName}
+use Rattle.mm_query.specs.Fields.{FieldName}
 use Rattle.mm_query.specs.declared.query.FromItem.{FromItem}
 use Rattle.mm_laws.specs.Typing.{ShiftsNumber, ShiftsNumbers, type_at}
 use Rattle.mm_laws.proofs.TypedPlaces.{at_place, column_placed, no_text}

@@ -12,7 +12,7 @@ use Rattle.mm_query.specs.Resolving.{alias_place, field_lacks_column, lacks_alia
 use Rattle.mm_query.specs.Placing.{lacks_column, placed}
 use Rattle.mm_query.specs.Serving.{serves}
 use Rattle.mm_query.specs.Serving as serving
-use Rattle.mm_query.specs.declared.query.FieldName.{FieldName}
+use Rattle.mm_query.specs.Fields.{FieldName}
 use Rattle.mm_query.specs.declared.query.FromItem.{FromItem}
 use Rattle.mm_relation.specs.Index.{column_of, kind_of}
 use Rattle.mm_relation.specs.Kept.{StoredRows}

@@ -34,7 +34,7 @@ use Rattle.mm_query.specs.declared.bound_query.FieldPlace.{FieldPlace}
 use Rattle.mm_query.specs.declared.plan_line.JoinEquality.{JoinEquality}
 use Rattle.mm_query.specs.declared.plan_line.PlanLine.{PlanLine}
 use Rattle.mm_query.specs.declared.plan_line.PlanLine.TheVariants as line
-use Rattle.mm_query.specs.declared.query.FieldName.{FieldName}
+use Rattle.mm_query.specs.Fields.{FieldName}
 use Rattle.mm_query.specs.declared.query.FromItem.{FromItem}
 use Rattle.mm_query.specs.declared.query.Query.{Query}
 use Rattle.mm_relation.specs.RowLists.{rows_of}

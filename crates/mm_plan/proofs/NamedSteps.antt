@@ -13,7 +13,7 @@ use Rattle.mm_query.proofs.PlacedQueries.{none_hold}
 use Rattle.mm_query.specs.Plans.{plan_of}
 use Rattle.mm_query.specs.Resolving.{column_of, field_lacks_column, has_twin_aliases, lacks_alias, lacks_position, placed_query, places_in, query_conditions, some_field, some_side}
 use Rattle.mm_query.specs.declared.atom.Atom.{Atom}
-use Rattle.mm_query.specs.declared.query.FieldName.{FieldName}
+use Rattle.mm_query.specs.Fields.{FieldName}
 use Rattle.mm_query.specs.declared.query.FromItem.{FromItem}
 use Rattle.mm_query.specs.declared.query.Query.{Query}
 use Rattle.mm_schema.specs.Refused.{Condition, first_refusal}

@@ -135,7 +135,7 @@ impl Naming<'_> {
     }
 
     /// A field by its alias and its column.
-    fn field(&self, field: FieldPlace) -> FieldName
+    fn field(&self, field: FieldPlace) -> FieldName<Name>
         requires { IsFieldThere (names_in self.now) field }
         ensures { result ≡ field_named (names_in self.now) field }
     {

@@ -13,7 +13,7 @@ use Rattle.mm_query.specs.Placing.{mismatches}
 use Rattle.mm_query.specs.Resolving.{field_lacks_column, field_type, has_twin_aliases, lacks_alias, lacks_position, passes_query_limits, places_in, query_conditions, some_side}
 use Rattle.mm_query.specs.declared.atom.Atom.{Atom}
 use Rattle.mm_query.specs.declared.faults.Faults.{Faults}
-use Rattle.mm_query.specs.declared.query.FieldName.{FieldName}
+use Rattle.mm_query.specs.Fields.{FieldName}
 use Rattle.mm_query.specs.declared.query.FromItem.{FromItem}
 use Rattle.mm_query.specs.declared.query.Query.{Query}
 

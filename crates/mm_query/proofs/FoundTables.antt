@@ -14,7 +14,7 @@ use Rattle.mm_query.specs.Faults.{noted}
 use Rattle.mm_query.specs.Placing.{lacks_column, placed, type_named}
 use Rattle.mm_query.specs.Resolving.{alias_place, field_lacks_column, field_type, lacks_alias, placed_field, places_in, table_of}
 use Rattle.mm_query.specs.declared.faults.Faults.{Faults}
-use Rattle.mm_query.specs.declared.query.FieldName.{FieldName}
+use Rattle.mm_query.specs.Fields.{FieldName}
 use Rattle.mm_query.specs.declared.query.FromItem.{FromItem}
 use Rattle.mm_query.proofs.FoundTargets.{found_among, none_among}
 use Rattle.mm_query.proofs.Noted.{noted_alias}

@@ -5,6 +5,7 @@ pub mod Counting
 pub mod Edits
 pub mod Faults
 pub mod Few
+pub mod Fields
 pub mod Machine
 pub mod Placing
 pub mod Plans

@@ -11,7 +11,7 @@ use Rattle.mm_schema.specs.declared.index.IndexId.TheVariants as id
 use Rattle.mm_schema.specs.declared.index.IndexKind.{IndexKind}
 use Rattle.mm_schema.specs.declared.index.IndexKind.TheVariants.{Tree, Hash}
 use Rattle.mm_query.specs.Resolving.{table_of}
-use Rattle.mm_query.specs.declared.query.FieldName.{FieldName}
+use Rattle.mm_query.specs.Fields.{FieldName}
 use Rattle.mm_query.specs.declared.query.FromItem.{FromItem}
 
 -- The column of a field, where its alias, its table and its column are there.

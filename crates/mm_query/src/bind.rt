@@ -15,7 +15,7 @@ use crate::few::Few;
 use crate::place::{form_faults, place_assignments, place_tests};
 use crate::row_list::RowList;
 use crate::short_list::ShortList;
-use mm_schema::{Catalog, Column, Name};
+use mm_schema::{Catalog, Column, Name, NameRef};
 use mm_value::{Refusal, Row, Value};
 use std::alloc::Global;
 
@@ -54,10 +54,10 @@ pub enum BoundChange {
 pub fn bind_change(
     alloc: Global,
     catalog: &Catalog,
-    mutation: Mutation,
+    mutation: Mutation<'_>,
 ) -> Result<BoundChange, Refusal>
-    ensures due { AnswersDue (first_refusal (binding_conditions mutation catalog.now)) result }
-    ensures ok { IfOk result (Binds catalog.now mutation) }
+    ensures due { AnswersDue (first_refusal (binding_conditions mutation.entry catalog.now)) result }
+    ensures ok { IfOk result (Binds catalog.now mutation.entry) }
     ensures distinct { HasDistinctNames catalog.now }
 {
     match mutation {
@@ -76,11 +76,11 @@ fn bind_update(
     alloc: Global,
     catalog: &Catalog,
     name: &Name,
-    assignments: Few<Assignment<Name>>,
-    tests: Few<Atom<Name>>,
+    assignments: Few<Assignment<NameRef<'_>>>,
+    tests: Few<Atom<NameRef<'_>>>,
 ) -> Result<BoundChange, Refusal>
-    ensures due { AnswersDue (first_refusal (binding_conditions (Update name.now assignments tests) catalog.now)) result }
-    ensures ok { IfOk result (Binds catalog.now (Update name.now assignments tests)) }
+    ensures due { AnswersDue (first_refusal (binding_conditions (Update name.now assignments.entry tests.entry) catalog.now)) result }
+    ensures ok { IfOk result (Binds catalog.now (Update name.now assignments.entry tests.entry)) }
     ensures distinct { HasDistinctNames catalog.now }
 {
     let Some(table) = catalog.place_of(name) else {
@@ -105,10 +105,10 @@ fn bind_delete(
     alloc: Global,
     catalog: &Catalog,
     name: &Name,
-    tests: Few<Atom<Name>>,
+    tests: Few<Atom<NameRef<'_>>>,
 ) -> Result<BoundChange, Refusal>
-    ensures due { AnswersDue (first_refusal (binding_conditions (Delete name.now tests) catalog.now)) result }
-    ensures ok { IfOk result (Binds catalog.now (Delete name.now tests)) }
+    ensures due { AnswersDue (first_refusal (binding_conditions (Delete name.now tests.entry) catalog.now)) result }
+    ensures ok { IfOk result (Binds catalog.now (Delete name.now tests.entry)) }
     ensures distinct { HasDistinctNames catalog.now }
 {
     let Some(table) = catalog.place_of(name) else {

@@ -51,10 +51,10 @@ pub struct Bound {
 /// `NoSuchColumn` for a column that isn't in its table or a position of ORDER that is 0 or past the fields, `AliasTaken`,
 /// `NoSuchAlias`, `TypeMismatch`, `TooMany` for more than 4 tables or more than 16 fields, atoms or positions: the first whose
 /// condition holds, over the whole query. `Memory` may come in their place and in that of success.
-pub fn bind_query(alloc: Global, catalog: &Catalog, query: Query) -> Result<Bound, Refusal>
-    ensures due { AnswersDue (first_refusal (query_conditions query catalog.now)) result }
-    ensures ok { IfOk result (λ bound. bound.query ≡ placed_query catalog.now query) }
-    ensures tables { IfOk result (λ bound. bound.tables ≡ places_in catalog.now query.from) }
+pub fn bind_query(alloc: Global, catalog: &Catalog, query: Query<'_>) -> Result<Bound, Refusal>
+    ensures due { AnswersDue (first_refusal (query_conditions query.entry catalog.now)) result }
+    ensures ok { IfOk result (λ bound. bound.query ≡ placed_query catalog.now query.entry) }
+    ensures tables { IfOk result (λ bound. bound.tables ≡ places_in catalog.now query.entry.from) }
     ensures within { IfOk result (λ bound. IsQueryWithin catalog.now bound.query) }
     ensures there { IfOk result (λ bound. All (λ place. place < length catalog.now.tables) bound.tables) }
     ensures few { IfOk result (λ bound. length bound.tables ≤ 4) }

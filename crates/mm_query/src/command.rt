@@ -3,11 +3,11 @@ use crate::atom::{Assignment, Atom};
 use crate::few::Few;
 use crate::query::Query;
 use crate::row_list::RowList;
-use mm_schema::{IndexDef, Name, TableDef};
+use mm_schema::{IndexDef, Name, NameRef, TableDef};
 
-/// A change of the rows of tables.
+/// A change of the rows of tables. The names of its columns lie in the line that it was read from.
 #[derive(Debug, Drop)]
-pub enum Mutation {
+pub enum Mutation<'l> {
     /// Adds all these rows to a table, or none.
     Insert {
         /// The name of the table.
@@ -20,31 +20,31 @@ pub enum Mutation {
         /// The name of the table.
         table: Name,
         /// The columns that get new values.
-        assignments: Few<Assignment<Name>>,
+        assignments: Few<Assignment<NameRef<'l>>>,
         /// What a row is asked, as it was before the change.
-        tests: Few<Atom<Name>>,
+        tests: Few<Atom<NameRef<'l>>>,
     },
     /// Takes the rows that meet all tests out of a table.
     Delete {
         /// The name of the table.
         table: Name,
         /// What a row is asked.
-        tests: Few<Atom<Name>>,
+        tests: Few<Atom<NameRef<'l>>>,
     },
 }
 
 /// A query, and the name that it is kept under.
 #[derive(Debug, Drop)]
-pub struct NamedQuery {
+pub struct NamedQuery<'l> {
     /// The name.
     pub name: Name,
     /// The query.
-    pub query: Query,
+    pub query: Query<'l>,
 }
 
 /// A change of the catalog.
 #[derive(Debug, Drop)]
-pub enum Definition {
+pub enum Definition<'l> {
     /// Makes a new table, which has no rows.
     Table(TableDef),
     /// Drops the table of this name, with its rows and its indexes.
@@ -54,29 +54,29 @@ pub enum Definition {
     /// Drops the index of this name.
     DropIndex(Name),
     /// Keeps a query as a standing query.
-    Watch(NamedQuery),
+    Watch(NamedQuery<'l>),
     /// Drops the standing query of this name.
     Unwatch(Name),
 }
 
 /// A command: what a line reads as.
 #[derive(Debug, Drop)]
-pub enum Command {
+pub enum Command<'l> {
     /// An empty line or a comment. It has no reply.
     Nothing,
     /// A change of the catalog.
-    Define(Definition),
+    Define(Definition<'l>),
     /// A change of rows.
-    Change(Mutation),
+    Change(Mutation<'l>),
     /// Asks for all rows of the table of this name, in key order.
     Scan(Name),
     /// Asks for all rows of the table of the index of this name, in the order of the values in the index's column, and by
     /// key where these are equal.
     ScanIndex(Name),
     /// Asks for the rows that a query gives.
-    Select(Query),
+    Select(Query<'l>),
     /// Asks for the plan of a query, a line for each of its tables.
-    Explain(Query),
+    Explain(Query<'l>),
     /// Asks for the rows that the standing query of this name shows.
     Show(Name),
     /// Asks what tables, indexes and standing queries there are, and how many rows the tables and the standing queries have.

@@ -14,7 +14,7 @@ use crate::bound_query::FieldPlace;
 use crate::faults::{Faults, Resolved};
 use crate::few::Few;
 use crate::short_list::ShortList;
-use mm_schema::{Columns, Name};
+use mm_schema::{Columns, NameRef};
 use mm_value::{ColType, Refusal};
 use std::alloc::Global;
 
@@ -22,7 +22,10 @@ use std::alloc::Global;
 pub const MAX_TESTS: usize = 16;
 
 /// What is amiss with a change apart from its columns: twins in SET and the count of its tests. A DELETE has no assignments.
-pub(crate) fn form_faults(assignments: &[Assignment<Name>], tests: &[Atom<Name>]) -> Faults
+pub(crate) fn form_faults(
+    assignments: &[Assignment<NameRef<'_>>],
+    tests: &[Atom<NameRef<'_>>],
+) -> Faults
     ensures { result ≡ record {
       column = false;
       twin = has_twin_targets assignments.now;
@@ -41,7 +44,7 @@ pub(crate) fn form_faults(assignments: &[Assignment<Name>], tests: &[Atom<Name>]
 }
 
 /// Whether some column stands twice in SET.
-fn has_twin_targets(assignments: &[Assignment<Name>]) -> bool
+fn has_twin_targets(assignments: &[Assignment<NameRef<'_>>]) -> bool
     ensures { result ≡ has_twin_targets assignments.now }
 {
     for (i, assignment) in assignments.iter().enumerate() {
@@ -53,7 +56,7 @@ fn has_twin_targets(assignments: &[Assignment<Name>]) -> bool
 }
 
 /// Whether some assignment is to the column of a name.
-fn assigns_to(assignments: &[Assignment<Name>], name: &Name) -> bool
+fn assigns_to(assignments: &[Assignment<NameRef<'_>>], name: &NameRef<'_>) -> bool
     ensures { result ≡ list_any (λ (a : Assigned (List ℕ)). same_name name.now a.column) assignments.now }
 {
     assignments
@@ -62,7 +65,11 @@ fn assigns_to(assignments: &[Assignment<Name>], name: &Name) -> bool
 }
 
 /// What the name of a column stands for. One that is missing is noted.
-pub(crate) fn resolve_column(columns: &Columns, name: &Name, faults: &mut Faults) -> Resolved<usize>
+pub(crate) fn resolve_column(
+    columns: &Columns,
+    name: &NameRef<'_>,
+    faults: &mut Faults,
+) -> Resolved<usize>
     ensures place { result.place ≡ placed columns.now name.now }
     ensures col_type { result.col_type ≡ type_named columns.now name.now }
     ensures faults { faults.new ≡ noted (lacks_column columns.now name.now) false false faults.old }
@@ -83,13 +90,13 @@ pub(crate) fn resolve_column(columns: &Columns, name: &Name, faults: &mut Faults
 /// An operand with a place for its column, beside a side of this type, and what is amiss with it.
 fn place_operand(
     columns: &Columns,
-    operand: Operand<Name>,
+    operand: Operand<NameRef<'_>>,
     left: Option<ColType>,
     faults: &mut Faults,
 ) -> Operand<usize>
-    ensures place { result ≡ placed_operand columns.now operand }
-    ensures faults { faults.new ≡ noted (operand_lacks_column columns.now operand) false
-        (differ left (operand_type (type_named columns.now) operand) || shifts_text (type_named columns.now) operand) faults.old }
+    ensures place { result ≡ placed_operand columns.now operand.entry }
+    ensures faults { faults.new ≡ noted (operand_lacks_column columns.now operand.entry) false
+        (differ left (operand_type (type_named columns.now) operand.entry) || shifts_text (type_named columns.now) operand.entry) faults.old }
 {
     match operand {
         Operand::Literal(value) => {
@@ -112,12 +119,12 @@ fn place_operand(
 /// An assignment with places for its columns, and what is amiss with it.
 fn place_assignment(
     columns: &Columns,
-    assignment: Assignment<Name>,
+    assignment: Assignment<NameRef<'_>>,
     faults: &mut Faults,
 ) -> Assignment<usize>
-    ensures place { result ≡ placed_assignment columns.now assignment }
-    ensures faults { faults.new ≡ noted (assignment_lacks_column columns.now assignment) false
-        (mismatches (type_named columns.now) assignment.column assignment.source) faults.old }
+    ensures place { result ≡ placed_assignment columns.now assignment.entry }
+    ensures faults { faults.new ≡ noted (assignment_lacks_column columns.now assignment.entry) false
+        (mismatches (type_named columns.now) assignment.entry.column assignment.entry.source) faults.old }
 {
     let column = resolve_column(columns, &assignment.column, faults);
     Assignment {
@@ -145,10 +152,10 @@ fn operand_at_first(operand: Operand<usize>) -> Operand<FieldPlace>
 }
 
 /// A test as an atom of a query of the table alone, and what is amiss with it.
-fn place_test(columns: &Columns, test: Atom<Name>, faults: &mut Faults) -> Atom<FieldPlace>
-    ensures place { result ≡ mapped_atom at_first (placed_atom columns.now test) }
-    ensures faults { faults.new ≡ noted (atom_lacks_column columns.now test) false
-        (mismatches (type_named columns.now) test.left test.right) faults.old }
+fn place_test(columns: &Columns, test: Atom<NameRef<'_>>, faults: &mut Faults) -> Atom<FieldPlace>
+    ensures place { result ≡ mapped_atom at_first (placed_atom columns.now test.entry) }
+    ensures faults { faults.new ≡ noted (atom_lacks_column columns.now test.entry) false
+        (mismatches (type_named columns.now) test.entry.left test.entry.right) faults.old }
 {
     let left = resolve_column(columns, &test.left, faults);
     let right = place_operand(columns, test.right, left.col_type, faults);
@@ -163,12 +170,12 @@ fn place_test(columns: &Columns, test: Atom<Name>, faults: &mut Faults) -> Atom<
 pub(crate) fn place_tests(
     alloc: Global,
     columns: &Columns,
-    tests: Few<Atom<Name>>,
+    tests: Few<Atom<NameRef<'_>>>,
     faults: &mut Faults,
 ) -> Result<ShortList<Atom<FieldPlace>, 2>, Refusal>
-    ensures ok { IfOk result (λ atoms. atoms ≡ map (mapped_atom at_first) (map (placed_atom columns.now) tests)) }
-    ensures faults { OnOk result (faults.new ≡ noted (list_any (atom_lacks_column columns.now) tests) false
-        (list_any (λ (t : Test (List ℕ)). mismatches (type_named columns.now) t.left t.right) tests) faults.old) }
+    ensures ok { IfOk result (λ atoms. atoms ≡ map (mapped_atom at_first) (map (placed_atom columns.now) tests.entry)) }
+    ensures faults { OnOk result (faults.new ≡ noted (list_any (atom_lacks_column columns.now) tests.entry) false
+        (list_any (λ (t : Test (List ℕ)). mismatches (type_named columns.now) t.left t.right) tests.entry) faults.old) }
     ensures memory { IfErr result (λ refusal. refusal ≡ Memory) }
 {
     let mut atoms = ShortList::with_capacity(alloc, tests.as_slice().len())?;
@@ -182,12 +189,12 @@ pub(crate) fn place_tests(
 pub(crate) fn place_assignments(
     alloc: Global,
     columns: &Columns,
-    assignments: Few<Assignment<Name>>,
+    assignments: Few<Assignment<NameRef<'_>>>,
     faults: &mut Faults,
 ) -> Result<ShortList<Assignment<usize>, 2>, Refusal>
-    ensures ok { IfOk result (λ placed. placed ≡ map (placed_assignment columns.now) assignments) }
-    ensures faults { OnOk result (faults.new ≡ noted (list_any (assignment_lacks_column columns.now) assignments) false
-        (list_any (λ (a : Assigned (List ℕ)). mismatches (type_named columns.now) a.column a.source) assignments) faults.old) }
+    ensures ok { IfOk result (λ placed. placed ≡ map (placed_assignment columns.now) assignments.entry) }
+    ensures faults { OnOk result (faults.new ≡ noted (list_any (assignment_lacks_column columns.now) assignments.entry) false
+        (list_any (λ (a : Assigned (List ℕ)). mismatches (type_named columns.now) a.column a.source) assignments.entry) faults.old) }
     ensures memory { IfErr result (λ refusal. refusal ≡ Memory) }
 {
     let mut placed = ShortList::with_capacity(alloc, assignments.as_slice().len())?;

@@ -40,7 +40,7 @@ pub enum PlanLine {
         /// The table.
         alias: Name,
         /// The REF column of an earlier table that refers to it.
-        field: FieldName,
+        field: FieldName<Name>,
     },
     /// The rows of the first two tables are found in the order of the values that are compared, along two trees side by side.
     TreeMerge {
@@ -98,9 +98,9 @@ impl PlanLine {
 #[derive(Debug, Drop)]
 pub struct JoinEquality {
     /// The column of the table.
-    pub own: FieldName,
+    pub own: FieldName<Name>,
     /// The column of the earlier table.
-    pub earlier: FieldName,
+    pub earlier: FieldName<Name>,
     /// Whether a number is added to one of them; it may be 0.
     pub is_shifted: bool,
 }

@@ -7,6 +7,7 @@ ghost use Rattle.mm_schema.specs.Refused.{AnswersDue, first_refusal};
 ghost use Rattle.mm_schema.specs.Schema.{lacks_table};
 ghost use Rattle.mm_value.specs.declared.refusal.Refusal.TheVariants.{Memory, NoSuchTable};
 ghost use Rattle.mm_query.specs.Faults.{noted};
+ghost use Rattle.mm_query.specs.Fields.{FieldName as Field};
 ghost use Rattle.mm_query.specs.Placing.{differ, mapped_atom, mapped_operand, mismatches, operand_type, shifts_text};
 ghost use Rattle.mm_query.specs.Resolving.{alias_place, column_of, field_lacks_column, field_type, has_twin_aliases, lacks_alias, lacks_position, passes_query_limits, placed_field, places_in, some_side};
 ghost use Rattle.mm_query.specs.declared.atom.Atom.{Atom as Test};
@@ -19,7 +20,7 @@ use crate::few::Few;
 use crate::place::resolve_column;
 use crate::query::{FieldName, FromItem, Query};
 use crate::short_list::ShortList;
-use mm_schema::{Catalog, Name};
+use mm_schema::{Catalog, Name, NameRef};
 use mm_value::{ColType, Refusal};
 use std::alloc::Global;
 
@@ -83,17 +84,17 @@ impl<'a> Scope<'a> {
     }
 
     /// The place of an alias in FROM, counted from 0. Where it stands twice it means the first.
-    fn place_of(&self, alias: &Name) -> Option<usize>
+    fn place_of(&self, alias: &NameRef<'_>) -> Option<usize>
         ensures { result ≡ alias_place self.now.from alias.now }
     {
         self.from
             .as_slice()
             .iter()
-            .position(|item| *alias == item.alias)
+            .position(|item| *alias == item.alias.as_ref())
     }
 
     /// What a field stands for. An alias or a column that is missing is noted.
-    fn resolve(&self, field: &FieldName, faults: &mut Faults) -> Resolved<FieldPlace>
+    fn resolve(&self, field: &FieldName<NameRef<'_>>, faults: &mut Faults) -> Resolved<FieldPlace>
         ensures place { result.place ≡ placed_field self.now.catalog.now self.now.from field.now }
         ensures col_type { result.col_type ≡ field_type self.now.catalog.now self.now.from field.now }
         ensures faults { faults.new ≡ noted (field_lacks_column self.now.catalog.now self.now.from field.now)
@@ -124,7 +125,7 @@ impl<'a> Scope<'a> {
     pub(crate) fn place_fields(
         &self,
         alloc: Global,
-        fields: &[FieldName],
+        fields: &[FieldName<NameRef<'_>>],
         faults: &mut Faults,
     ) -> Result<ShortList<FieldPlace, 4>, Refusal>
         ensures ok { IfOk result (λ placed. placed ≡ map (placed_field self.now.catalog.now self.now.from) fields.now) }
@@ -142,16 +143,16 @@ impl<'a> Scope<'a> {
     /// An operand with a place for its field, beside a side of this type, and what is amiss with it.
     fn place_operand(
         &self,
-        operand: Operand<FieldName>,
+        operand: Operand<FieldName<NameRef<'_>>>,
         left: Option<ColType>,
         faults: &mut Faults,
     ) -> Operand<FieldPlace>
-        ensures place { result ≡ mapped_operand (placed_field self.now.catalog.now self.now.from) operand }
+        ensures place { result ≡ mapped_operand (placed_field self.now.catalog.now self.now.from) operand.entry }
         ensures faults { faults.new ≡ noted
-            (option_map_or (field_lacks_column self.now.catalog.now self.now.from) (column_of operand) false)
-            (option_map_or (lacks_alias self.now.from) (column_of operand) false)
-            (differ left (operand_type (field_type self.now.catalog.now self.now.from) operand)
-            || shifts_text (field_type self.now.catalog.now self.now.from) operand)
+            (option_map_or (field_lacks_column self.now.catalog.now self.now.from) (column_of operand.entry) false)
+            (option_map_or (lacks_alias self.now.from) (column_of operand.entry) false)
+            (differ left (operand_type (field_type self.now.catalog.now self.now.from) operand.entry)
+            || shifts_text (field_type self.now.catalog.now self.now.from) operand.entry)
             faults.old }
     {
         match operand {
@@ -173,11 +174,15 @@ impl<'a> Scope<'a> {
     }
 
     /// An atom with places for its fields, and what is amiss with it.
-    fn place_atom(&self, atom: Atom<FieldName>, faults: &mut Faults) -> Atom<FieldPlace>
-        ensures place { result ≡ mapped_atom (placed_field self.now.catalog.now self.now.from) atom }
-        ensures faults { faults.new ≡ noted (some_side (field_lacks_column self.now.catalog.now self.now.from) atom)
-            (some_side (lacks_alias self.now.from) atom)
-            (mismatches (field_type self.now.catalog.now self.now.from) atom.left atom.right) faults.old }
+    fn place_atom(
+        &self,
+        atom: Atom<FieldName<NameRef<'_>>>,
+        faults: &mut Faults,
+    ) -> Atom<FieldPlace>
+        ensures place { result ≡ mapped_atom (placed_field self.now.catalog.now self.now.from) atom.entry }
+        ensures faults { faults.new ≡ noted (some_side (field_lacks_column self.now.catalog.now self.now.from) atom.entry)
+            (some_side (lacks_alias self.now.from) atom.entry)
+            (mismatches (field_type self.now.catalog.now self.now.from) atom.entry.left atom.entry.right) faults.old }
     {
         let left = self.resolve(&atom.left, faults);
         Atom {
@@ -191,14 +196,14 @@ impl<'a> Scope<'a> {
     pub(crate) fn place_atoms(
         &self,
         alloc: Global,
-        atoms: Few<Atom<FieldName>>,
+        atoms: Few<Atom<FieldName<NameRef<'_>>>>,
         faults: &mut Faults,
     ) -> Result<ShortList<Atom<FieldPlace>, 2>, Refusal>
-        ensures ok { IfOk result (λ placed. placed ≡ map (mapped_atom (placed_field self.now.catalog.now self.now.from)) atoms) }
+        ensures ok { IfOk result (λ placed. placed ≡ map (mapped_atom (placed_field self.now.catalog.now self.now.from)) atoms.entry) }
         ensures faults { OnOk result (faults.new ≡ noted
-            (list_any (some_side (field_lacks_column self.now.catalog.now self.now.from)) atoms)
-            (list_any (some_side (lacks_alias self.now.from)) atoms)
-            (list_any (λ (a : Test FieldName). mismatches (field_type self.now.catalog.now self.now.from) a.left a.right) atoms)
+            (list_any (some_side (field_lacks_column self.now.catalog.now self.now.from)) atoms.entry)
+            (list_any (some_side (lacks_alias self.now.from)) atoms.entry)
+            (list_any (λ (a : Test Field). mismatches (field_type self.now.catalog.now self.now.from) a.left a.right) atoms.entry)
             faults.old) }
         ensures memory { IfErr result (λ refusal. refusal ≡ Memory) }
     {
@@ -211,7 +216,7 @@ impl<'a> Scope<'a> {
 }
 
 /// What is amiss with a query apart from its tables and fields: positions of ORDER, twin aliases and counts.
-pub(crate) fn form_faults(query: &Query) -> Faults
+pub(crate) fn form_faults(query: &Query<'_>) -> Faults
     ensures { result ≡ record {
       column = list_any (lacks_position query.now.fields) query.now.order;
       twin = has_twin_aliases query.now.from;
@@ -249,7 +254,7 @@ fn has_alias(from: &[FromItem], alias: &Name) -> bool
 }
 
 /// Whether some position of ORDER is 0 or past the fields.
-fn misses_position(query: &Query) -> bool
+fn misses_position(query: &Query<'_>) -> bool
     ensures { result ≡ list_any (lacks_position query.now.fields) query.now.order }
 {
     let count = query.fields.as_slice().len();
@@ -260,7 +265,7 @@ fn misses_position(query: &Query) -> bool
 }
 
 /// Whether a query has too many tables, fields, atoms or positions of ORDER.
-fn passes_limits(query: &Query) -> bool
+fn passes_limits(query: &Query<'_>) -> bool
     ensures { result ≡ passes_query_limits query.now }
 {
     query.from.as_slice().len() > MAX_FROM

@@ -212,7 +212,8 @@ impl Catalog {
         requires { table_named index.now.table self.now ≡ Some table.now }
         ensures { result ≡ first_refusal (index_conditions index.now self.now) }
     {
-        if table.definition.columns.place_of(&index.column).is_none() {
+        let column = index.column.as_ref();
+        if table.definition.columns.place_of(&column).is_none() {
             return Some(Refusal::NoSuchColumn);
         }
         if self.find_index(&index.name).is_some() {

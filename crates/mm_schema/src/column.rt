@@ -5,7 +5,7 @@ ghost use Rattle.mm_schema.specs.Name.{same_name};
 ghost use Rattle.std.specs.Option.{option_copied};
 ghost use Rattle.mm_schema.specs.Columns.{cascades, column_place, differs_from_key, has_twin_names, is_cascade, is_key, key_count, key_place, refers_to, target_of};
 
-use crate::name::Name;
+use crate::name::{Name, NameRef};
 use mm_value::ColType;
 use std::alloc::{AllocError, Global};
 use std::marker::Model;
@@ -202,10 +202,12 @@ impl Columns {
     }
 
     /// The place of the column of a name, counted from 0, or none where no column has it.
-    pub fn place_of(&self, name: &Name) -> Option<usize>
+    pub fn place_of(&self, name: &NameRef<'_>) -> Option<usize>
         ensures { result ≡ column_place name.now self.now }
     {
-        self.items.iter().position(|column| *name == column.name)
+        self.items
+            .iter()
+            .position(|column| *name == column.name.as_ref())
     }
 
     /// Whether the key column is of another type.

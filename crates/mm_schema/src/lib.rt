@@ -17,7 +17,7 @@ pub use laws::{
     changes_are_exact, in_order_sorts, references_have_targets, standing_queries_read_tables,
     tables_refer_to_others,
 };
-pub use name::Name;
+pub use name::{Name, NameRef};
 pub use reference::Reference;
 pub use standing::{StandingDef, TableNames};
 pub use table::{Table, TableDef};

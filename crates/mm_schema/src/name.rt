@@ -1,10 +1,13 @@
 //! Names.
 ghost use Rattle.std.specs.Prelude.{◌≡◌, ◌↔◌, IsSome, IfSome};
 ghost use Rattle.std.specs.List.{list_all};
-ghost use Rattle.mm_schema.specs.Name.{IsName, is_name_byte, is_name_text};
+ghost use Rattle.mm_schema.specs.Name.{IsName, is_name, is_name_byte, is_name_text};
 
 use arrayvec::ArrayVec;
 use std::marker::Model;
+
+/// The most bytes of a name.
+const MAX_NAME_BYTES: usize = 32;
 
 /// A name: `a` to `z`, then `a` to `z`, `0` to `9` and `_`, at most 32 bytes in all. It lies in the value itself.
 #[derive(Debug, PartialEq, Eq, Hash, Drop)]
@@ -25,25 +28,90 @@ impl Model for Name {
     ghost inverse = { λ bytes. record { bytes = record { items = bytes } } };
 }
 
+/// A name that lies elsewhere, as in a line. It is `a` to `z`, then `a` to `z`, `0` to `9` and `_`, at most 32 bytes in all.
+#[derive(Debug, Drop)]
+pub struct NameRef<'l> {
+    bytes: &'l [u8],
+}
+
+impl<'l> Model for NameRef<'l> {
+    ghost use Rattle.std.specs.Prelude.{List, ℕ};
+    ghost use Rattle.mm_schema.specs.Name.{IsName};
+
+    ghost Value = { List ℕ };
+
+    ghost view = { λ n. n.bytes.now };
+
+    ghost invariant = { λ n. IsName n.bytes.now };
+}
+
+impl<'l> PartialEq for NameRef<'l> {
+    ghost use Rattle.std.specs.Cmp.{partial_equiv_from_equiv};
+    ghost use Rattle.std.specs.Cmp.Lexicographic.{nat_list_eq_equiv};
+    ghost use Rattle.mm_schema.specs.Name.{same_name};
+
+    ghost eq = { same_name };
+
+    ghost laws = { partial_equiv_from_equiv nat_list_eq_equiv };
+
+    fn eq(&self, other: &NameRef<'l>) -> bool {
+        self.bytes == other.bytes
+    }
+}
+
+impl<'l> NameRef<'l> {
+    /// The name of these bytes, or none where they are no name. Nothing is copied.
+    pub fn new(bytes: &'l [u8]) -> Option<NameRef<'l>>
+        ensures variant { IsSome result ↔ IsName bytes.now }
+        ensures value { IfSome result (λ name. name ≡ bytes.now) }
+    {
+        if !is_name(bytes) {
+            return None;
+        }
+        Some(NameRef { bytes })
+    }
+
+    /// The bytes of the name: 1 to 32.
+    pub fn bytes(&self) -> &'l [u8]
+        ensures value { result.now ≡ self.now }
+        ensures is_name { IsName self.now }
+    {
+        self.bytes
+    }
+
+    /// A copy of the name, which lies in the value itself. It takes no memory.
+    pub fn to_name(&self) -> Name
+        ensures { result ≡ self.now }
+    {
+        let bytes = ArrayVec::try_from(self.bytes()).unwrap();
+        Name { bytes }
+    }
+}
+
 impl Name {
     /// The name of these bytes, or none where they are no name.
     pub fn new(bytes: &[u8]) -> Option<Name>
         ensures variant { IsSome result ↔ IsName bytes.now }
         ensures value { IfSome result (λ name. name ≡ bytes.now) }
     {
-        if !is_name_text(bytes) {
-            return None;
+        let name = NameRef::new(bytes)?;
+        Some(name.to_name())
+    }
+
+    /// The name where it lies.
+    pub fn as_ref(&self) -> NameRef<'_>
+        ensures { result ≡ self.now }
+    {
+        NameRef {
+            bytes: self.bytes(),
         }
-        let bytes = ArrayVec::try_from(bytes).ok()?;
-        Some(Name { bytes })
     }
 
     /// A name of the same bytes. It takes no memory.
     pub fn copy(&self) -> Name
         ensures { result ≡ self.now }
     {
-        let bytes = ArrayVec::try_from(self.bytes()).unwrap();
-        Name { bytes }
+        self.as_ref().to_name()
     }
 
     /// The bytes of the name: 1 to 32.
@@ -53,6 +121,13 @@ impl Name {
     {
         self.bytes.as_slice()
     }
+}
+
+/// Whether bytes are a name.
+fn is_name(bytes: &[u8]) -> bool
+    ensures { result ≡ is_name bytes.now }
+{
+    is_name_text(bytes) && bytes.len() <= MAX_NAME_BYTES
 }
 
 /// Whether a letter comes first, and then letters, digits and `_`.

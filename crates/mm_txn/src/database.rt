@@ -162,9 +162,9 @@ impl Db {
     }
 
     /// Changes the catalog. The refusals are those of [`Change::Define`](crate::Change::Define).
-    fn define(&mut self, alloc: Global, definition: Definition) -> Result<(), Refusal>
-        ensures due { AnswersDue (first_refusal (conditions (Define definition) self.old)) result }
-        ensures ok { OnOk result (self.new ≡ state_after (Define definition) self.old) }
+    fn define(&mut self, alloc: Global, definition: Definition<'_>) -> Result<(), Refusal>
+        ensures due { AnswersDue (first_refusal (conditions (Define definition.entry) self.old)) result }
+        ensures ok { OnOk result (self.new ≡ state_after (Define definition.entry) self.old) }
         ensures err { OnErr result (self.new ≡ self.old) }
     {
         if self.is_open && !is_of_index(&definition) {
@@ -176,10 +176,10 @@ impl Db {
 
     /// Changes the rows of a table, and tells how many rows of it that concerned. The refusals are those of
     /// [`Change::Edit`](crate::Change::Edit).
-    fn change(&mut self, alloc: Global, mutation: Mutation) -> Result<usize, Refusal>
-        ensures due { AnswersDue (first_refusal (conditions (Change mutation) self.old)) result }
-        ensures ok { OnOk result (self.new ≡ state_after (Change mutation) self.old) }
-        ensures count { IfOk result (λ count. count ≡ length (own_pairs mutation self.old)) }
+    fn change(&mut self, alloc: Global, mutation: Mutation<'_>) -> Result<usize, Refusal>
+        ensures due { AnswersDue (first_refusal (conditions (Change mutation.entry) self.old)) result }
+        ensures ok { OnOk result (self.new ≡ state_after (Change mutation.entry) self.old) }
+        ensures count { IfOk result (λ count. count ≡ length (own_pairs mutation.entry self.old)) }
         ensures err { OnErr result (self.new ≡ self.old) }
     {
         self.contents.is_at_rest();
@@ -201,9 +201,9 @@ impl Db {
 
     /// The rows that a query gives, in their order, found by its plan; no value is copied. The refusals are those of
     /// [`Question::Select`](crate::Question::Select).
-    fn select(&self, alloc: Global, query: Query) -> Result<ShownRows<'_>, Refusal>
-        ensures due { AnswersDue (first_refusal (conditions (Select query) self.now)) result }
-        ensures rows { IfOk result (λ rows. rows ≡ selected query self.now) }
+    fn select(&self, alloc: Global, query: Query<'_>) -> Result<ShownRows<'_>, Refusal>
+        ensures due { AnswersDue (first_refusal (conditions (Select query.entry) self.now)) result }
+        ensures rows { IfOk result (λ rows. rows ≡ selected query.entry self.now) }
     {
         let contents = &self.contents;
         select_rows(
@@ -217,9 +217,9 @@ impl Db {
 
     /// The plan of a query, by the row counts of the tables as they are: a line for each table of FROM, in their order. The
     /// refusals are those of [`Db::select`] but for `ResultTooLarge`.
-    fn explain(&self, alloc: Global, query: Query) -> Result<ItemList<PlanLine>, Refusal>
-        ensures due { AnswersDue (first_refusal (conditions (Explain query) self.now)) result }
-        ensures lines { IfOk result (λ lines. lines ≡ plan_in self.now query) }
+    fn explain(&self, alloc: Global, query: Query<'_>) -> Result<ItemList<PlanLine>, Refusal>
+        ensures due { AnswersDue (first_refusal (conditions (Explain query.entry) self.now)) result }
+        ensures lines { IfOk result (λ lines. lines ≡ plan_in self.now query.entry) }
     {
         self.contents.explain(alloc, query)
     }

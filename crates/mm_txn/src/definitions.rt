@@ -22,7 +22,7 @@ use mm_value::Refusal;
 use std::alloc::{AllocError, Global};
 
 /// Whether a change of the catalog concerns an index alone, and so no row.
-pub(crate) fn is_of_index(definition: &Definition) -> bool
+pub(crate) fn is_of_index(definition: &Definition<'_>) -> bool
     ensures { result ≡ is_of_index definition.now }
 {
     matches!(definition, Definition::Index(_) | Definition::DropIndex(_))
@@ -35,17 +35,17 @@ impl Contents {
         &mut self,
         alloc: Global,
         undo: &Undo,
-        definition: Definition,
+        definition: Definition<'_>,
     ) -> Result<(), Refusal>
         requires fits { CanUndo self.old.store undo.now }
         requires settled { is_of_index definition ≡ false → IsSettled undo.now self.old.lists }
-        ensures due { AnswersDue (first_refusal (definition_conditions definition (state_held self.old))) result }
-        ensures ok { OnOk result (state_held self.new ≡ after_definition definition (state_held self.old)) }
+        ensures due { AnswersDue (first_refusal (definition_conditions definition.entry (state_held self.old))) result }
+        ensures ok { OnOk result (state_held self.new ≡ after_definition definition.entry (state_held self.old)) }
         ensures err { OnErr result (state_held self.new ≡ state_held self.old) }
         ensures fits { CanUndo self.new.store undo.now }
-        ensures settled { is_of_index definition ≡ false → IsSettled undo.now self.new.lists }
-        ensures lists { is_of_index definition ≡ true → self.new.lists ≡ self.old.lists }
-        ensures rows_before { is_of_index definition ≡ true
+        ensures settled { is_of_index definition.entry ≡ false → IsSettled undo.now self.new.lists }
+        ensures lists { is_of_index definition.entry ≡ true → self.new.lists ≡ self.old.lists }
+        ensures rows_before { is_of_index definition.entry ≡ true
             → (mark : ℕ) → rows_at_mark mark undo.now self.new.store ≡ rows_at_mark mark undo.now self.old.store }
     {
         match definition {
@@ -127,7 +127,7 @@ fn add_index(
     let place = catalog.place_of(&index.table).ok_or(Refusal::NoSuchTable)?;
     let columns = &catalog.table_at(place).definition.columns;
     let column = columns
-        .place_of(&index.column)
+        .place_of(&index.column.as_ref())
         .ok_or(Refusal::NoSuchColumn)?;
     let (name, kind) = (index.name.copy(), index.kind);
     catalog.add_index(index)?;

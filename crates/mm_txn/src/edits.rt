@@ -52,10 +52,14 @@ pub(crate) struct ChangeEdits {
 impl Contents {
     /// The edits that a change asks for. Of what the catalog and the new values refuse the first is answered: the refusals are
     /// those of [`bind_change`] and [`updates`]; or `Memory` in its place or in that of success.
-    pub(crate) fn edits_of(&self, alloc: Global, mutation: Mutation) -> Result<ChangeEdits, Refusal>
-        ensures due { AnswersDue (first_refusal (binding_conditions mutation self.now.schema
-            ++ value_conditions mutation (state_of self.now.schema self.now.store.tables))) result }
-        ensures ok { IfOk result (λ e. AreEditsOf mutation self.now.schema self.now.store (placed e.own) (map placed e.along.items)) }
+    pub(crate) fn edits_of(
+        &self,
+        alloc: Global,
+        mutation: Mutation<'_>,
+    ) -> Result<ChangeEdits, Refusal>
+        ensures due { AnswersDue (first_refusal (binding_conditions mutation.entry self.now.schema
+            ++ value_conditions mutation.entry (state_of self.now.schema self.now.store.tables))) result }
+        ensures ok { IfOk result (λ e. AreEditsOf mutation.entry self.now.schema self.now.store (placed e.own) (map placed e.along.items)) }
         ensures distinct { HasDistinctNames self.now.schema }
     {
         let cascades_rows = matches!(mutation, Mutation::Delete { .. });
@@ -74,12 +78,12 @@ fn own_edits(
     alloc: Global,
     catalog: &Catalog,
     store: &Store,
-    mutation: Mutation,
+    mutation: Mutation<'_>,
 ) -> Result<RelationEdits, Refusal>
     requires { AreOf catalog.now.tables store.now.tables }
-    ensures due { AnswersDue (first_refusal (binding_conditions mutation catalog.now
-        ++ value_conditions mutation (state_of catalog.now store.now.tables))) result }
-    ensures ok { IfOk result (λ e. AreOwnEditsOf mutation catalog.now store.now.tables e.table e.edits.items) }
+    ensures due { AnswersDue (first_refusal (binding_conditions mutation.entry catalog.now
+        ++ value_conditions mutation.entry (state_of catalog.now store.now.tables))) result }
+    ensures ok { IfOk result (λ e. AreOwnEditsOf mutation.entry catalog.now store.now.tables e.table e.edits.items) }
     ensures distinct { HasDistinctNames catalog.now }
 {
     match bind_change(alloc, catalog, mutation)? {

@@ -14,9 +14,13 @@ use std::alloc::Global;
 impl Contents {
     /// The plan of a query, by the row counts of the tables as they are: a line for each table of FROM. The first refusal that is
     /// due is answered, those of [`bind_query`]; or `Memory` in its place or in that of success.
-    pub(crate) fn explain(&self, alloc: Global, query: Query) -> Result<ItemList<PlanLine>, Refusal>
-        ensures due { AnswersDue (first_refusal (query_conditions query self.now.schema)) result }
-        ensures lines { IfOk result (λ lines. lines ≡ plan_in (state_held self.now) query) }
+    pub(crate) fn explain(
+        &self,
+        alloc: Global,
+        query: Query<'_>,
+    ) -> Result<ItemList<PlanLine>, Refusal>
+        ensures due { AnswersDue (first_refusal (query_conditions query.entry self.now.schema)) result }
+        ensures lines { IfOk result (λ lines. lines ≡ plan_in (state_held self.now) query.entry) }
     {
         let bound = bind_query(alloc, &self.catalog, query)?;
         let view = self.store.view();

@@ -7,7 +7,7 @@ use mm_schema::Name;
 
 /// A change of a database.
 #[derive(Debug, Drop)]
-pub enum Change {
+pub enum Change<'l> {
     /// Changes the catalog. A new table comes last and has no rows; a table that is dropped takes its rows and its indexes with
     /// it, and those behind it move up; a new index is one over the rows that are there; a new standing query comes last, and its
     /// list has the rows that it gives now. No rollback undoes it.
@@ -23,7 +23,7 @@ pub enum Change {
     /// behind `NoSuchColumn` comes `NameTaken` where a standing query has its name; `TooMany` also where there are 32 standing
     /// queries already; and last `StandingListTooLarge` where more than 1,048,576 combinations of rows fit. To a standing query
     /// that is dropped: `NoSuchStandingQuery` where none has the name. `Memory` may come in their place and in that of success.
-    Define(Definition),
+    Define(Definition<'l>),
     /// Changes the rows of a table, and tells how many rows of it that concerned: those that came, that meet the tests of an
     /// UPDATE, or that went. With a row that a DELETE takes out go the rows that have its key in a CASCADE column, of whichever
     /// table.
@@ -36,7 +36,7 @@ pub enum Change {
     /// `RowIsReferenced` where a row would be gone, or its key, to which a row of another table refers that stays; `TableFull`
     /// where there would be more than 1,048,576 rows. By the standing queries: `StandingListTooLarge` where over the rows after
     /// the change more than 1,048,576 combinations fit one of them. `Memory` may come in their place and in that of success.
-    Edit(Mutation),
+    Edit(Mutation<'l>),
     /// Begins a transaction. `TransactionOpen` where one is open. It takes no memory and no time that grows with the rows.
     Begin,
     /// Ends a transaction and keeps what it changed. `NoTransaction` where none is open. It takes no memory, and looks at each
@@ -57,7 +57,7 @@ pub enum Change {
 
 /// A question to a database, which leaves it as it is.
 #[derive(Debug, Drop)]
-pub enum Question {
+pub enum Question<'l> {
     /// All rows of the table of this name, in key order. `NoSuchTable` where none has the name.
     Scan(Name),
     /// All rows of the table of the index of this name, in the order of the values in the index's column, and by key where these
@@ -71,10 +71,10 @@ pub enum Question {
     /// where two sides differ in type or a text is shifted; `TooMany` for more than 4 tables or more than 16 fields, tests or
     /// positions; `ResultTooLarge` where more than 1,048,576 combinations of rows fit. `Memory` may come in their place and in
     /// that of success.
-    Select(Query),
+    Select(Query<'l>),
     /// The plan of a query, by the row counts of the tables as they are: a line for each table of FROM, in their order. The
     /// refusals are those of [`Question::Select`] but for `ResultTooLarge`.
-    Explain(Query),
+    Explain(Query<'l>),
     /// The rows that the standing query of this name shows, in their order; no row of a table is looked at.
     /// `NoSuchStandingQuery` where none has the name; `Memory` may come in its place and in that of success.
     Show(Name),
@@ -85,19 +85,19 @@ pub enum Question {
 
 /// What a command asks of a database.
 #[derive(Debug, Drop)]
-pub enum Request {
+pub enum Request<'l> {
     /// Nothing, and it has no reply.
     Nothing,
     /// To make a change.
-    Change(Change),
+    Change(Change<'l>),
     /// To answer a question.
-    Ask(Question),
+    Ask(Question<'l>),
 }
 
-impl Request {
+impl<'l> Request<'l> {
     /// What this command asks.
-    pub fn of(command: Command) -> Request
-        ensures { command_of result ≡ command }
+    pub fn of(command: Command<'l>) -> Request<'l>
+        ensures { command_of result ≡ command.entry }
     {
         match command {
             Command::Nothing => Request::Nothing,

@@ -44,7 +44,9 @@ impl Contents {
         let table = self.catalog.table_at(at);
         let place = table.indexes.place_of(name).ok_or(Refusal::NoSuchIndex)?;
         let columns = &table.definition.columns;
-        let column = columns.place_of(&index.column).ok_or(Refusal::NoSuchIndex)?;
+        let column = columns
+            .place_of(&index.column.as_ref())
+            .ok_or(Refusal::NoSuchIndex)?;
         Ok(IndexPlace {
             table: at,
             place,

@@ -21,13 +21,13 @@ pub(crate) fn select_rows<'s>(
     alloc: Global,
     catalog: &Catalog,
     store: &'s Store,
-    query: Query,
+    query: Query<'_>,
     zero: &'s Value,
 ) -> Result<ShownRows<'s>, Refusal>
     requires zero { zero.now ≡ Int (pos 0) }
     requires kept { AreOf catalog.now.tables store.now.tables }
-    ensures due { AnswersDue (first_refusal (select_conditions query (state_of catalog.now store.now.tables))) result }
-    ensures rows { IfOk result (λ rows. rows ≡ selected query (state_of catalog.now store.now.tables)) }
+    ensures due { AnswersDue (first_refusal (select_conditions query.entry (state_of catalog.now store.now.tables))) result }
+    ensures rows { IfOk result (λ rows. rows ≡ selected query.entry (state_of catalog.now store.now.tables)) }
 {
     let bound = bind_query(alloc, catalog, query)?;
     let mut view = store.view();

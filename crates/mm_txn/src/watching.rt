@@ -18,10 +18,10 @@ use std::alloc::{AllocError, Global};
 impl Contents {
     /// Keeps a query as a standing query, which comes last. The first refusal that is due is answered, or `Memory` in its place or in
     /// that of success.
-    pub(crate) fn watch(&mut self, alloc: Global, named: NamedQuery) -> Result<(), Refusal>
+    pub(crate) fn watch(&mut self, alloc: Global, named: NamedQuery<'_>) -> Result<(), Refusal>
         requires { self.old.lists.log ≡ [] }
-        ensures due { AnswersDue (first_refusal (watch_conditions named.name named.query (state_held self.old))) result }
-        ensures ok { OnOk result (state_held self.new ≡ after_watch named.name named.query (state_held self.old)) }
+        ensures due { AnswersDue (first_refusal (watch_conditions named.entry.name named.entry.query (state_held self.old))) result }
+        ensures ok { OnOk result (state_held self.new ≡ after_watch named.entry.name named.entry.query (state_held self.old)) }
         ensures err { OnErr result (state_held self.new ≡ state_held self.old) }
         ensures log { self.new.lists.log ≡ [] }
     {
@@ -59,10 +59,15 @@ impl Contents {
 /// The query of a new standing query, with its fields resolved. Of what refuses it by the catalog the first is answered: a name
 /// that is taken stands behind tables, columns and positions that are missing, and before all else. `Memory` may come in its place
 /// and in that of success.
-fn bind_named(alloc: Global, catalog: &Catalog, name: &Name, query: Query) -> Result<Bound, Refusal>
-    ensures due { AnswersDue (first_refusal (naming_conditions name.now query catalog.now)) result }
-    ensures ok { IfOk result (λ bound. bound.query ≡ placed_query catalog.now query) }
-    ensures tables { IfOk result (λ bound. bound.tables ≡ places_in catalog.now query.from) }
+fn bind_named(
+    alloc: Global,
+    catalog: &Catalog,
+    name: &Name,
+    query: Query<'_>,
+) -> Result<Bound, Refusal>
+    ensures due { AnswersDue (first_refusal (naming_conditions name.now query.entry catalog.now)) result }
+    ensures ok { IfOk result (λ bound. bound.query ≡ placed_query catalog.now query.entry) }
+    ensures tables { IfOk result (λ bound. bound.tables ≡ places_in catalog.now query.entry.from) }
     ensures within { IfOk result (λ bound. IsQueryWithin catalog.now bound.query) }
     ensures free { OnOk result (first_refusal (standing_conditions name.now catalog.now) ≡ None) }
 {

@@ -45,11 +45,11 @@ pub(crate) fn answer_line<W: Write>(
 fn respond<W: Write>(
     alloc: Global,
     database: &mut Db,
-    command: Result<Command, Refusal>,
+    command: Result<Command<'_>, Refusal>,
     writer: &mut Watched<W>,
 ) -> Result<bool, WriteFault>
     requires { has_failed writer.old ≡ false }
-    ensures { RepliesToReading W.contents writer.old writer.new command database.old database.new result }
+    ensures { RepliesToReading W.contents writer.old writer.new command.entry database.old database.new result }
 {
     match command {
         Ok(command) => answer_request(alloc, database, Request::of(command), writer),
@@ -61,11 +61,11 @@ fn respond<W: Write>(
 fn answer_request<W: Write>(
     alloc: Global,
     database: &mut Db,
-    request: Request,
+    request: Request<'_>,
     writer: &mut Watched<W>,
 ) -> Result<bool, WriteFault>
     requires { has_failed writer.old ≡ false }
-    ensures { RepliesToReading W.contents writer.old writer.new (Ok (command_of request)) database.old database.new result }
+    ensures { RepliesToReading W.contents writer.old writer.new (Ok (command_of request.entry)) database.old database.new result }
 {
     match request {
         Request::Nothing => Ok(false),

@@ -16,8 +16,8 @@ use std::alloc::Global;
 impl Db {
     /// Answers a question; [`Question`] says when each refusal comes. No row is copied. It is one step of the machine of row
     /// lists, which changes nothing; only `Memory` may come in place of that step.
-    pub fn ask(&self, alloc: Global, question: Question) -> Answer<'_>
-        ensures { IsStep (command_of_question question) self.now (record { reply = Some (reply_of result); state = self.now }) }
+    pub fn ask(&self, alloc: Global, question: Question<'_>) -> Answer<'_>
+        ensures { IsStep (command_of_question question.entry) self.now (record { reply = Some (reply_of result); state = self.now }) }
     {
         match self.answer(alloc, question) {
             Ok(answer) => answer,
@@ -26,9 +26,9 @@ impl Db {
     }
 
     /// What is answered to a question that nothing refuses.
-    fn answer(&self, alloc: Global, question: Question) -> Result<Answer<'_>, Refusal>
-        ensures due { AnswersDue (first_refusal (conditions (command_of_question question) self.now)) result }
-        ensures reply { IfOk result (λ answer. reply_to (command_of_question question) self.now ≡ Some (reply_of answer)) }
+    fn answer(&self, alloc: Global, question: Question<'_>) -> Result<Answer<'_>, Refusal>
+        ensures due { AnswersDue (first_refusal (conditions (command_of_question question.entry) self.now)) result }
+        ensures reply { IfOk result (λ answer. reply_to (command_of_question question.entry) self.now ≡ Some (reply_of answer)) }
     {
         match question {
             Question::Scan(table) => Ok(Answer::Rows(Rows::stored(self.scan(&table)?))),

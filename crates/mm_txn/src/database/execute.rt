@@ -14,8 +14,8 @@ impl Db {
     /// Makes a change, and replies `Done`, `Count` to an [`Edit`](Change::Edit), or `Refused`; [`Change`] says when each refusal
     /// comes. A refused change changes nothing. It is one step of the machine of row lists; only where it takes memory may it be
     /// refused with `Memory` in place of that step.
-    pub fn execute(&mut self, alloc: Global, change: Change) -> Reply
-        ensures { IsStep (command_of_change change) self.old (record { reply = Some result; state = self.new }) }
+    pub fn execute(&mut self, alloc: Global, change: Change<'_>) -> Reply
+        ensures { IsStep (command_of_change change.entry) self.old (record { reply = Some result; state = self.new }) }
     {
         match change {
             Change::Define(definition) => done(self.define(alloc, definition)),

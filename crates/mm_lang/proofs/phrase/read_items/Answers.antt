@@ -1,4 +1,4 @@
-use Rattle.std.proofs.Common.{[], ◌∷◌, ◌++◌, refl, sym, subst, ◌∙◌}
+use Rattle.std.proofs.Common.{rules, [], ◌∷◌, ◌++◌, refl, sym, subst, ◌∙◌}
 use Rattle.std.specs.List.{flat_map}
 use Rattle.std.proofs.lemmas.Result.{err_from_is_err_and}
 use Rattle.mm_lang.specs.Phrases.{list_of, the_separator}
@@ -32,7 +32,7 @@ returns-in_err-read_list g c =
     (items_fail_behind c.args.separator g.P.Phrase.reading g.P.Phrase.literals old [] c.skip_separator.new.self (first ∷ [])
     (items_more c.args.separator g.P.Phrase.reading g.P.Phrase.literals old [] old []
     (items_begin c.args.separator g.P.Phrase.reading g.P.Phrase.literals old []) c.read.new.reader first c.in_ok-first.ensures (first ∷ []) refl
-    g.met.P.Phrase.never_longer c.skip_separator.new.self c.if-not-skip_separator.ensures)
+    (g.met.P.Phrase c.lifetimes (search rules)).never_longer c.skip_separator.new.self c.if-not-skip_separator.ensures)
     _ c.in_err-read_list.ensures)
 
 pub returns : goal.returns
@@ -46,5 +46,5 @@ returns g c =
     (items_more c.args.separator g.P.Phrase.reading g.P.Phrase.literals old [] old []
     (items_begin c.args.separator g.P.Phrase.reading g.P.Phrase.literals old []) c.read.new.reader first c.in_ok-first.ensures
     c.push.new.self.items (c.in_ok-push.ensures.items ∙ (λ i. c.new-items.ensures.items i ++ first ∷ []))
-    g.met.P.Phrase.never_longer c.skip_separator.new.self c.if-not-skip_separator.ensures)
+    (g.met.P.Phrase c.lifetimes (search rules)).never_longer c.skip_separator.new.self c.if-not-skip_separator.ensures)
     c.read_list.new.reader c.read_list.new.items.items c.in_ok-read_list.ensures))

@@ -1,3 +1,4 @@
+use Rattle.std.proofs.Common.{rules}
 use Rattle.std.proofs.lemmas.Result.{err_from_is_err_and}
 use Rattle.mm_lang.proofs.Lists.{items_begin, items_fail, items_end, items_more}
 use Rattle.mm_lang.proofs.phrase.read_list.Goals as goal
@@ -24,5 +25,5 @@ pub loop-reader-preserved : goal.loop-reader-preserved
 loop-reader-preserved g c =
     items_more c.args.separator g.P.Phrase.reading g.P.Phrase.literals c.args.reader.now c.args.items.now.items c.loop-reader.reader c.loop-reader.items.items
     c.loop-reader.invariant
-    c.read.new.reader c.in_ok-read.field-0 c.in_ok-read.ensures c.push.new.self.items c.in_ok-push.ensures.items g.met.P.Phrase.never_longer
-    c.skip_separator.new.self c.if-not-skip_separator.ensures
+    c.read.new.reader c.in_ok-read.field-0 c.in_ok-read.ensures c.push.new.self.items c.in_ok-push.ensures.items
+    (g.met.P.Phrase c.lifetimes (search rules)).never_longer c.skip_separator.new.self c.if-not-skip_separator.ensures

@@ -3,7 +3,7 @@ use Rattle.std.specs.List.{list_any}
 use Rattle.mm_query.specs.Placing.{mapped_atom, mismatches}
 use Rattle.mm_query.specs.Resolving.{field_lacks_column, field_type, lacks_alias, placed_field, some_side}
 use Rattle.mm_query.specs.declared.atom.Atom.{Atom}
-use Rattle.mm_query.specs.declared.query.FieldName.{FieldName}
+use Rattle.mm_query.specs.Fields.{FieldName}
 use Rattle.mm_query.proofs.Fews.{noted_all, noted_next, placed_all, placed_next}
 use Rattle.mm_query.proofs.scope.Scope.place_atoms.Goals as goal
 

@@ -4,7 +4,7 @@ use Rattle.mm_query.specs.Faults.{noted}
 use Rattle.mm_query.specs.Placing.{mapped_atom, mismatches}
 use Rattle.mm_query.specs.Resolving.{field_lacks_column, field_type, lacks_alias, placed_field, some_side}
 use Rattle.mm_query.specs.declared.atom.Atom.{Atom}
-use Rattle.mm_query.specs.declared.query.FieldName.{FieldName}
+use Rattle.mm_query.specs.Fields.{FieldName}
 use Rattle.mm_query.proofs.scope.Scope.place_atoms.Given as goal
 
 abbrev pub invariant-loop-atom : goal.invariant-loop-atom
