@@ -37,7 +37,6 @@ fn having_value(
         → IsFoundOf (Some (look_up.now.column, value.now)) stored found.items) }
     ensures memory { IfErr result (λ refusal. refusal ≡ Memory) }
 {
-    view.is_kept(table);
     let mut found = Vec::new(alloc);
     view.matches(alloc, table, look_up.index, value, &mut found)?;
     Ok(found)
@@ -88,7 +87,6 @@ fn all_of(alloc: Global, view: &View<'_>, table: usize) -> Result<Vec<RowRef>, R
     ensures found { IfOk result (λ found. (stored : StoredRows) → IsAt view.now.store table stored → IsFoundOf None stored found.items) }
     ensures memory { IfErr result (λ refusal. refusal ≡ Memory) }
 {
-    view.is_kept(table);
     let mut found = Vec::new(alloc);
     view.range(alloc, table, IndexRef::Key, None, None, &mut found)?;
     Ok(found)

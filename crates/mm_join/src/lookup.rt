@@ -95,7 +95,6 @@ impl Lookup {
             → Finds stored self.old.key.column self.old.among value.now found.new.items) }
         ensures same { self.new ≡ self.old }
     {
-        view.is_kept(table);
         found.clear();
         match &mut self.among {
             Among::Index(index) => view.matches(alloc, table, *index, value, found),

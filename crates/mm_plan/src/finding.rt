@@ -7,6 +7,7 @@ ghost use Rattle.mm_plan.specs.Choosing.{first_step};
 ghost use Rattle.mm_plan.specs.Finding.{IsKeyed, among, finds_in_key_order, is_again, meeting, meets, once};
 ghost use Rattle.mm_plan.specs.Steps.{may_look};
 ghost use Rattle.mm_relation.specs.Kept.{StoredRows};
+ghost use Rattle.mm_store.specs.HasTable.{HasTable};
 ghost use Rattle.mm_store.specs.Tables.{IsAt, rows_at};
 ghost use Rattle.mm_value.specs.Order.{value_cmp};
 
@@ -65,35 +66,37 @@ pub fn in_key_order(
     requires live { (stored : StoredRows) → IsAt view.old.store table stored → All (IsLive stored.places) refs.items }
     ensures found { IfOk result (λ found. (stored : StoredRows) → IsAt view.old.store table stored → found.items ≡ among refs.items stored) }
     ensures reads { view.new.reads ≤ view.old.reads + length refs.items }
+    ensures kept { HasTable view.old.store table }
     ensures same { view.new.store ≡ view.old.store }
 {
-    view.is_kept(table);
+    let key = view.key_of(table);
     if refs.len() < 2 {
         return Ok(refs);
     }
-    let mut rows = with_keys(alloc, view, table, refs.as_slice())?;
+    let mut rows = with_keys(alloc, view, table, key, refs.as_slice())?;
     sort_by_key(&mut rows);
     refs.clear();
     append_once(rows.as_slice(), &mut refs)?;
     Ok(refs)
 }
 
-/// The rows of these references, in their order. Each is looked at once. `AllocError` where memory is refused.
+/// The rows of these references, in their order, with what they have in the key's column. Each is looked at once. `AllocError` where
+/// memory is refused.
 fn with_keys<'v>(
     alloc: Global,
     view: &mut View<'v>,
     table: usize,
+    key: usize,
     refs: &[RowRef],
 ) -> Result<Vec<Keyed<'v>>, AllocError>
     requires there { table < length view.old.store.tables }
+    requires key { (stored : StoredRows) → IsAt view.old.store table stored → (key ≡ stored.key) × (key < stored.width) }
     requires live { (stored : StoredRows) → IsAt view.old.store table stored → All (IsLive stored.places) refs.now }
     ensures refs { IfOk result (λ rows. map (λ row. row.at) rows.items ≡ refs.now) }
     ensures keys { IfOk result (λ rows. (stored : StoredRows) → IsAt view.old.store table stored → All (IsKeyed stored) rows.items) }
     ensures reads { view.new.reads ≤ view.old.reads + length refs.now }
     ensures same { view.new.store ≡ view.old.store }
 {
-    view.is_kept(table);
-    let key = view.key_of(table);
     let mut rows = Vec::with_capacity(alloc, refs.len())?;
     for at in refs {
         let row = view.row(table, *at);

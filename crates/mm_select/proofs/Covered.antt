@@ -13,12 +13,12 @@ use Rattle.mm_query.specs.Queries.{none_fails}
 use Rattle.mm_query.specs.declared.atom.Atom.{Atom}
 use Rattle.mm_query.specs.declared.bound_query.FieldPlace.{FieldPlace}
 use Rattle.mm_relation.proofs.Matches.{Keeping}
-use Rattle.mm_relation.specs.Kept.{IsKept, StoredRows}
+use Rattle.mm_relation.specs.Kept.{StoredRows}
 use Rattle.mm_relation.specs.Refs.{row_at}
 use Rattle.mm_relation.specs.RowLists.{rows_of}
-use Rattle.mm_select.proofs.Along.{all_live, filter_moved, filter_within}
+use Rattle.mm_select.proofs.Along.{filter_moved, filter_within}
 use Rattle.mm_select.proofs.Asking.{told_equal, told_high, told_low}
-use Rattle.mm_select.proofs.Found.{found_live, lie_along}
+use Rattle.mm_select.proofs.Found.{lie_along}
 use Rattle.mm_select.proofs.Fits.{filter-map, row_here}
 use Rattle.mm_select.proofs.Meeting.{all_admit}
 use Rattle.mm_select.specs.Accesses.{AreAlong, Asks, asks_along, is_along, is_from, is_up_to, refs_along}
@@ -66,13 +66,6 @@ filter_whole p (x ∷ xs) all =
     (λ i. cond (All-head (λ y. p y ≡ true) x xs all i) (x ∷ filter p xs) (filter p xs))
     ∙ ap (λ l. x ∷ l) (filter_whole p xs (All-tail (λ y. p y ≡ true) x xs all))
 
--- Those that match of all are live.
-pub matching_live : (store : Tables) (table : ℕ) (atoms : List (Atom FieldPlace)) (stored : StoredRows)
-    → IsKept stored.width stored.key (slot_at stored.places) stored.refs stored.indexes
-    → All (IsLive stored.places) (matching store table atoms [] stored.refs)
-matching_live store table atoms stored kept =
-    All-filter (λ at. none_fails atoms (Some (row_of store table at) ∷ [])) (IsLive stored.places) stored.refs (all_live stored kept)
-
 -- Where no atom asks more than the access, all candidates match.
 pub all_match : (store : Tables) (table : ℕ) (a : Access) (atoms : List (Atom FieldPlace)) (found : List RowRef) → All (IsCandidate store table a) found
     → list_any (asks_along a) atoms ≡ false → matching store table atoms [] found ≡ found
@@ -109,9 +102,9 @@ module _ (store : Tables) (table : ℕ) (stored : StoredRows) (here : IsAt store
       ∙ ap (λ o. count_by (is_along a) (option_map_or rows_of o [])) (sym here)
 
   -- .. and each is a candidate.
-  pub candidates : IsKept stored.width stored.key (slot_at stored.places) stored.refs stored.indexes → All (IsCandidate store table a) found
-  candidates kept k d within = (
-    λ other at. live_there store table stored here found (found_live stored kept a found along) other at k d within,
+  pub candidates : All (IsLive stored.places) found → All (IsCandidate store table a) found
+  candidates live k d within = (
+    λ other at. live_there store table stored here found live other at k d within,
     subst (λ row. is_along a row ≡ true) (sym (row_here store table stored here (get_or found k d))) (lie_along stored a found along k d within),
   )
 
@@ -124,11 +117,11 @@ module _ (store : Tables) (table : ℕ) (stored : StoredRows) (here : IsAt store
     pub selected_in_order : found ≡ refs_along stored a → new ≡ matching store table atoms [] stored.refs
     selected_in_order same = is ∙ (ap (matching store table atoms []) same ∙ matching_along store table stored here a atoms asks)
 
-    -- .. and live.
-    pub selected_live : IsKept stored.width stored.key (slot_at stored.places) stored.refs stored.indexes → All (IsLive stored.places) new
-    selected_live kept =
+    -- .. and live, if these are.
+    pub selected_live : All (IsLive stored.places) found → All (IsLive stored.places) new
+    selected_live live =
         subst (All (IsLive stored.places)) (sym is)
-        (All-filter (λ at. none_fails atoms (Some (row_of store table at) ∷ [])) (IsLive stored.places) found (found_live stored kept a found along))
+        (All-filter (λ at. none_fails atoms (Some (row_of store table at) ∷ [])) (IsLive stored.places) found live)
 
 -- Along a scan lie all rows.
 all_along : (rows : List (List Value)) → filter (is_along access.Scan) rows ≡ rows

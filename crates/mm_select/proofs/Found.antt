@@ -6,11 +6,11 @@ use Rattle.std.specs.List.Sorted.{IsPermutation}
 use Rattle.std.specs.Option.{option_cmp, option_copied}
 use Rattle.std.specs.Borrow.{Bor}
 use Rattle.std.specs.Ordering.{is_eq, is_ge, is_le}
-use Rattle.std.proofs.lemmas.List.Elements.{All-filter, filter_passes}
+use Rattle.std.proofs.lemmas.List.Elements.{filter_passes}
 use Rattle.std.proofs.lemmas.List.Sorted.{All-permutation, IsPermutation-sym}
 use Rattle.std.proofs.lemmas.Option.{slice_get-get_or}
 use Rattle.mm_order.specs.Probe.{entries_between, is_between}
-use Rattle.mm_partition.specs.Places.{IsLive, slot_at}
+use Rattle.mm_partition.specs.Places.{slot_at}
 use Rattle.mm_query.specs.Atoms.{value_in}
 use Rattle.mm_relation.specs.Kept.{IsKept, StoredRows}
 use Rattle.mm_relation.specs.Reads.{Appends, AreMatches, IsRange, end_place, has_value}
@@ -88,14 +88,7 @@ module _ (stored : StoredRows) (kept : IsKept stored.width stored.key (slot_at s
       is ∙ (ap (entries_between (end_place column now (option_copied low)) (end_place column now (option_copied high))) all
       ∙ between_same column (on_column stored kept column index on.0) (option_copied low) (option_copied high))
 
-  -- They are live, ..
-  pub found_live : (a : Access) (found : List RowRef) → AreAlong stored a found → All (IsLive stored.places) found
-  found_live a found same =
-      All-permutation (IsLive stored.places) (filter (λ at. is_along a (row_at now at)) stored.refs) found
-      (IsPermutation-sym found (filter (λ at. is_along a (row_at now at)) stored.refs) same)
-      (All-filter (λ at. is_along a (row_at now at)) (IsLive stored.places) stored.refs (all_live stored kept))
-
--- .. and their rows lie along the access.
+-- Their rows lie along the access.
 pub lie_along : (stored : StoredRows) (a : Access) (found : List RowRef) → AreAlong stored a found
     → All (λ at. is_along a (row_at (slot_at stored.places) at) ≡ true) found
 lie_along stored a found same =

@@ -1,6 +1,7 @@
 //! Ways to the rows of a table.
-ghost use Rattle.std.specs.Prelude.{◌≡◌, ◌<◌, true, IfOk, filter, length};
+ghost use Rattle.std.specs.Prelude.{◌≡◌, ◌<◌, true, All, IfOk, filter, length};
 ghost use Rattle.std.specs.Option.{option_copied};
+ghost use Rattle.mm_partition.specs.Places.{IsLive};
 ghost use Rattle.mm_relation.specs.Kept.{StoredRows};
 ghost use Rattle.mm_select.specs.Accesses.{AreAlong, IsServed, all_stand, all_stand_to, is_in_key_order, is_met_along, refs_along, stand_from, stand_up_to};
 ghost use Rattle.mm_select.specs.declared.access.Access.TheVariants as access;
@@ -115,10 +116,10 @@ pub(crate) fn equal_to(
 ) -> Result<Vec<RowRef>, AllocError>
     requires there { table < length view.now.store.tables }
     requires served { (stored : StoredRows) → IsAt view.now.store table stored → IsServed stored (access.Equal index column value) }
-    ensures { (stored : StoredRows) → IsAt view.now.store table stored
+    ensures along { (stored : StoredRows) → IsAt view.now.store table stored
         → IfOk result (λ found. AreAlong stored (access.Equal index column value.entry) found.items) }
+    ensures live { (stored : StoredRows) → IsAt view.now.store table stored → IfOk result (λ found. All (IsLive stored.places) found.items) }
 {
-    view.is_kept(table);
     let mut found = Vec::new(alloc);
     view.matches(alloc, table, index, value, &mut found)?;
     Ok(found)
@@ -139,10 +140,10 @@ pub(crate) fn between(
     requires served { (stored : StoredRows) → IsAt view.now.store table stored → IsServed stored (access.Range index column low high) }
     ensures along { (stored : StoredRows) → IsAt view.now.store table stored
         → IfOk result (λ found. AreAlong stored (access.Range index column low.entry high.entry) found.items) }
+    ensures live { (stored : StoredRows) → IsAt view.now.store table stored → IfOk result (λ found. All (IsLive stored.places) found.items) }
     ensures ordered { (stored : StoredRows) → IsAt view.now.store table stored → is_in_key_order (access.Range index column low.entry high.entry) ≡ true
         → IfOk result (λ found. found.items ≡ refs_along stored (access.Range index column low.entry high.entry)) }
 {
-    view.is_kept(table);
     let mut found = Vec::new(alloc);
     view.range(alloc, table, index, low, high, &mut found)?;
     Ok(found)

@@ -68,7 +68,6 @@ pub fn select_refs(
     ensures unread { list_any (asks_along access.entry) atoms.now ≡ false → view.new.reads ≡ view.old.reads }
     ensures same { view.new.store ≡ view.old.store }
 {
-    view.is_kept(table);
     match access {
         Access::Scan => scan(alloc, view, table, atoms),
         Access::Equal {
@@ -103,11 +102,11 @@ fn scan(
     requires { table < length view.old.store.tables }
     ensures found { IfOk result (λ found. (stored : StoredRows) → IsAt view.old.store table stored
         → found.items ≡ matching view.old.store table atoms.now [] stored.refs) }
+    ensures live { IfOk result (λ found. (stored : StoredRows) → IsAt view.old.store table stored → All (IsLive stored.places) found.items) }
     ensures reads { view.new.reads ≤ view.old.reads + length (rows_at view.old.store.tables table) }
     ensures unread { list_any (asks_along access.Scan) atoms.now ≡ false → view.new.reads ≡ view.old.reads }
     ensures same { view.new.store ≡ view.old.store }
 {
-    view.is_kept(table);
     let mut found = Vec::new(alloc);
     let test = RowTest {
         table,
@@ -133,12 +132,12 @@ fn keep_fitting(
 )
     requires there { table < length view.old.store.tables }
     requires along { (stored : StoredRows) → IsAt view.old.store table stored → AreAlong stored access found.old.items }
+    requires live { (stored : StoredRows) → IsAt view.old.store table stored → All (IsLive stored.places) found.old.items }
     ensures found { found.new.items ≡ matching view.old.store table atoms.now [] found.old.items }
     ensures reads { view.new.reads ≤ view.old.reads + length found.old.items }
     ensures unread { list_any (asks_along access.entry) atoms.now ≡ false → view.new.reads ≡ view.old.reads }
     ensures same { view.new.store ≡ view.old.store }
 {
-    view.is_kept(table);
     let asks = some_asks_along(access, atoms);
     if !asks {
         return;

@@ -1,5 +1,6 @@
 pub mod Behind
 pub mod Commands
+pub mod HasTable
 pub mod Joined
 pub mod Links
 pub mod Looked

@@ -6,6 +6,7 @@ ghost use Rattle.mm_relation.specs.Kept.{IsKept, StoredRows};
 ghost use Rattle.mm_relation.specs.Reads.{Appends, AreMatches, IsRange, IsWalk};
 ghost use Rattle.mm_relation.specs.Refs.{row_at};
 ghost use Rattle.mm_relation.specs.RowLists.{rows_of};
+ghost use Rattle.mm_store.specs.HasTable.{HasTable};
 ghost use Rattle.mm_store.specs.Links.{IsReference, RefersTo};
 ghost use Rattle.mm_store.specs.Looked.{IsFirstOn, IsFirstSuch, IsHash, IsIndexOn, IsTree};
 ghost use Rattle.mm_store.specs.Tables.{IsAt};
@@ -109,6 +110,7 @@ impl<'a> View<'a> {
         requires { table < length self.now.store.tables }
         ensures key { (stored : StoredRows) → IsAt self.now.store table stored → result ≡ stored.key }
         ensures within { (stored : StoredRows) → IsAt self.now.store table stored → result < stored.width }
+        ensures kept { HasTable self.now.store table }
     {
         let relation = self.relation(table);
         relation.is_kept();
@@ -173,6 +175,7 @@ impl<'a> View<'a> {
             → Appends (AreMatches column (slot_at stored.places) value.now stored.refs) out.old.items out.new.items) }
         ensures live { OnOk result ((stored : StoredRows) → IsAt self.now.store table stored
             → All (IsLive stored.places) out.old.items → All (IsLive stored.places) out.new.items) }
+        ensures kept { HasTable self.now.store table }
         ensures err { OnErr result (out.new.items ≡ out.old.items) }
     {
         let relation = self.relation(table);
@@ -199,6 +202,7 @@ impl<'a> View<'a> {
             → Appends (IsRange column stored (option_copied low.entry) (option_copied high.entry)) out.old.items out.new.items) }
         ensures live { OnOk result ((stored : StoredRows) → IsAt self.now.store table stored
             → All (IsLive stored.places) out.old.items → All (IsLive stored.places) out.new.items) }
+        ensures kept { HasTable self.now.store table }
         ensures err { OnErr result (out.new.items ≡ out.old.items) }
     {
         let relation = self.relation(table);

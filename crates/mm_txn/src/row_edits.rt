@@ -72,7 +72,6 @@ fn swaps(
     ensures made { IfOk result (λ edits. (stored : StoredRows) → IsAt view.old.store table stored
         → edits.items ≡ map (swap_of (slot_at stored.places) assignments.now) refs.now) }
 {
-    view.is_kept(table);
     let mut edits = Vec::with_capacity(alloc, refs.len())?;
     for at in refs {
         edits.push(swap(alloc, *at, view.row(table, *at), assignments)?)?;
@@ -127,7 +126,6 @@ pub(crate) fn removals_at(
     ensures fit { IfOk result (λ edits. (stored : StoredRows) → IsAt view.old.store table stored → AreFit stored edits.items) }
     ensures none_comes { IfOk result (λ edits. new_rows edits.items ≡ []) }
 {
-    view.is_kept(table);
     let gone = in_key_order(alloc, view, table, refs)?;
     gone.into_iter().map(Edit::Gone).collect(alloc)
 }

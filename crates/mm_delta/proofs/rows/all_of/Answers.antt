@@ -7,5 +7,5 @@ range-requires-clause-tree c = λ stored here. (stored.key, refl, tt)
 
 pub returns-clause-found : goal.returns-clause-found
 returns-clause-found c = λ stored at.
-    found_by_key stored (c.is_kept.ensures.kept stored at) c.new-found.result.items c.range.new.out.items c.new-found.ensures.items
+    found_by_key stored (c.in_ok-range.ensures.kept stored at).kept c.new-found.result.items c.range.new.out.items c.new-found.ensures.items
     (c.in_ok-range.ensures.ok stored stored.key at refl)

@@ -6,6 +6,6 @@ matches-requires-clause-index c = λ stored at. (c.args.look_up.now.column, c.re
 
 pub returns-clause-found : goal.returns-clause-found
 returns-clause-found c = λ stored at.
-    found_by_value stored (c.is_kept.ensures.kept stored at) c.args.look_up.now.column c.args.look_up.now.index c.args.value.now
+    found_by_value stored (c.in_ok-matches.ensures.kept stored at).kept c.args.look_up.now.column c.args.look_up.now.index c.args.value.now
     c.new-found.result.items c.matches.new.out.items (c.requires.served stored at) c.new-found.ensures.items
     (c.in_ok-matches.ensures.ok stored c.args.look_up.now.column at (c.requires.served stored at))

@@ -11,8 +11,11 @@ use Rattle.mm_plan.proofs.finding.in_key_order.Goals as goal
 
 pub returns-then-len-lt2-clause-found : goal.returns-then-len-lt2-clause-found
 returns-then-len-lt2-clause-found c = λ stored here.
-    few_in_order stored (c.is_kept.ensures.kept stored here) c.args.refs.items (c.requires.live stored here)
+    few_in_order stored (c.key_of-key.ensures.kept stored here).kept c.args.refs.items (c.requires.live stored here)
     (omega (arith, c.len.ensures, c.if-len-lt2.true))
+
+pub with_keys-requires-clause-key : goal.with_keys-requires-clause-key
+with_keys-requires-clause-key c = λ stored here. (c.key_of-key.ensures.key stored here, c.key_of-key.ensures.within stored here)
 
 pub with_keys-requires-clause-live : goal.with_keys-requires-clause-live
 with_keys-requires-clause-live c = λ stored here. subst (All (IsLive stored.places)) (sym c.as_slice.ensures.value) (c.requires.live stored here)
@@ -30,4 +33,5 @@ returns-clause-found c = λ stored here.
     (c.in_ok-rows.ensures.keys stored here) in
     c.in_ok-append_once.ensures ∙ ap (λ (xs : List RowRef). xs ++ once None (ats c.as_slice-2.result.now)) c.clear.ensures.items
     ∙ ap (λ rs. once None (ats rs)) c.as_slice-2.ensures.value
-    ∙ once_in_order stored (c.is_kept.ensures.kept stored here) c.args.refs.items (c.requires.live stored here) sorted keys c.sort_by_key.ensures.sorted same
+    ∙ once_in_order stored (c.key_of-key.ensures.kept stored here).kept c.args.refs.items (c.requires.live stored here) sorted keys
+    c.sort_by_key.ensures.sorted same

@@ -28,9 +28,8 @@ row-row-requires-clause-live c = λ stored at.
 pub value-requires : goal.value-requires
 value-requires c =
     let (stored, here) = some_at c.args.view.now.store.tables c.args.table c.requires.there in
-    let is = c.row-row.ensures.row stored (subst (λ (s : Tables). IsAt s c.args.table stored) (sym c.loop-at.invariant.same) here) in
-    let kept = c.is_kept.ensures.kept stored here in
-    omega (arith, c.key_of-key.ensures.key stored here, kept.key_in, kept.wide _ _ is)
+    let wide = c.row-row.ensures.wide stored (subst (λ (s : Tables). IsAt s c.args.table stored) (sym c.loop-at.invariant.same) here) in
+    omega (arith, wide, (c.requires.key stored here).1)
 
 pub loop-at-preserved : goal.loop-at-preserved
 loop-at-preserved c =
@@ -48,7 +47,7 @@ loop-at-preserved c =
           let is = c.row-row.ensures.row stored (subst (λ (s : Tables). IsAt s c.args.table stored) (sym c.loop-at.invariant.same) here) in
           let keyed : IsKeyed stored new =
           ap (λ content. slice_get (row_in content) stored.key) is
-          ∙ (ap (slice_get c.row-row.result.now) (sym (c.key_of-key.ensures.key stored here)) ∙ c.value.ensures) in
+          ∙ (ap (slice_get c.row-row.result.now) (sym (c.requires.key stored here).0) ∙ c.value.ensures) in
           subst (All (IsKeyed stored)) (sym c.in_ok-push.ensures.items)
           (All-push (IsKeyed stored) c.loop-at.rows.items new (c.loop-at.invariant.keys stored here) keyed);
       reads = omega (arith, ap (λ (seen : Seen). seen.reads) c.row-row.ensures.counted, c.loop-at.invariant.reads);

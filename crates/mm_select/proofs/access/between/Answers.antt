@@ -1,3 +1,7 @@
+use Rattle.std.proofs.Common.{subst, sym}
+use Rattle.std.specs.List.{All}
+use Rattle.std.proofs.lemmas.List.Elements.{All-nil}
+use Rattle.mm_partition.specs.Places.{IsLive}
 use Rattle.mm_select.proofs.Along.{appended}
 use Rattle.mm_select.proofs.Found.{range_along}
 use Rattle.mm_select.proofs.KeyWalks.{range_in_order}
@@ -10,12 +14,17 @@ range-requires-clause-tree c = λ stored at. let on = c.requires.served stored a
 
 pub returns-clause-along : goal.returns-clause-along
 returns-clause-along c = λ stored at.
-    range_along stored (c.is_kept.ensures.kept stored at) c.args.index c.args.column c.args.low c.args.high c.new-found.result.items c.range.new.out.items
+    range_along stored ((c.in_ok-range.ensures.kept stored at).kept) c.args.index c.args.column c.args.low c.args.high c.new-found.result.items
+    c.range.new.out.items
     (c.requires.served stored at) c.new-found.ensures.items (c.in_ok-range.ensures.ok stored c.args.column at (c.requires.served stored at).0)
 
 pub returns-clause-ordered : goal.returns-clause-ordered
 returns-clause-ordered c = λ stored at ordered.
     let on = c.requires.served stored at in
-    range_in_order stored (c.is_kept.ensures.kept stored at) c.args.index c.args.column c.args.low c.args.high c.range.new.out.items on
+    range_in_order stored ((c.in_ok-range.ensures.kept stored at).kept) c.args.index c.args.column c.args.low c.args.high c.range.new.out.items on
     (appended (IsRange c.args.column stored (option_copied c.args.low) (option_copied c.args.high)) c.new-found.result.items c.range.new.out.items
     c.new-found.ensures.items (c.in_ok-range.ensures.ok stored c.args.column at on.0)) ordered
+
+pub returns-clause-live : goal.returns-clause-live
+returns-clause-live c = λ stored at.
+    c.in_ok-range.ensures.live stored at (subst (All (IsLive stored.places)) (sym c.new-found.ensures.items) (All-nil (IsLive stored.places)))

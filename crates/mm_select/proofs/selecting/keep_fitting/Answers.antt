@@ -1,21 +1,26 @@
-use Rattle.std.proofs.Common.{rules, ◌≡◌, ◌<◌, [], ◌∷◌, Bool, true, Some, length, refl, sym, ap, ◌∙◌, subst, arith}
+use Rattle.std.proofs.Common.{rules, ◌≡◌, ℕ, ◌<◌, List, [], ◌∷◌, Bool, true, Some, length, refl, sym, ap, ◌∙◌, subst, arith}
 use Rattle.std.specs.List.{All}
+use Rattle.mm_partition.specs.Places.{IsLive}
 use Rattle.mm_query.specs.Queries.{none_fails}
 use Rattle.mm_relation.proofs.Matches.{Keeping-kept, Keeping-skipped, first_held}
+use Rattle.mm_relation.specs.Kept.{StoredRows}
 use Rattle.mm_store.proofs.Joining.{some_at}
 use Rattle.mm_store.specs.Tables.{IsAt, Tables}
 use Rattle.mm_templist.specs.Combos.{row_of}
 use Rattle.mm_value.specs.declared.row_ref.RowRef.{RowRef}
-use Rattle.mm_select.specs.Accesses.{is_along}
+use Rattle.mm_select.specs.Accesses.{AreAlong, is_along}
+use Rattle.mm_select.specs.declared.access.Access.{Access}
 use Rattle.mm_select.proofs.Covered.{IsCandidate, all_match, candidates, kept_match}
-use Rattle.mm_select.proofs.selecting.keep_fitting.Goals.{After-is_kept, After-index-at, then-admits, else-admits}
+use Rattle.mm_select.proofs.selecting.keep_fitting.Goals.{After-index-at, then-admits, else-admits}
 use Rattle.mm_select.proofs.selecting.keep_fitting.Goals as goal
 
-all_candidates : (c : After-is_kept) → All (IsCandidate c.args.view.now.store c.args.table c.args.access) c.args.found.now.items
-all_candidates c =
-    let store = c.args.view.now.store in
-    let (stored, here) = some_at store.tables c.args.table c.requires.there in
-    candidates store c.args.table stored here c.args.access c.args.found.now.items (c.requires.along stored here) (c.is_kept.ensures.kept stored here)
+-- What is found along an access, all of it live, are candidates.
+all_candidates : (store : Tables) (table : ℕ) (access : Access) (found : List RowRef) → table < length store.tables
+    → ((stored : StoredRows) → IsAt store table stored → AreAlong stored access found)
+    → ((stored : StoredRows) → IsAt store table stored → All (IsLive stored.places) found) → All (IsCandidate store table access) found
+all_candidates store table access found there along live =
+    let (stored, here) = some_at store.tables table there in
+    candidates store table stored here access found (along stored here) (live stored here)
 
 next_candidate : (c : After-index-at) → IsCandidate c.args.view.now.store c.args.table c.args.access c.index-at.result.now
 next_candidate c =
@@ -27,7 +32,12 @@ next_candidate c =
 pub loop-i-init : goal.loop-i-init
 loop-i-init c = record {
   same = refl;
-  keeping = record { size = refl; behind = omega arith; held = all_candidates (goal.at.loop-i-init c).After-is_kept; result = refl };
+  keeping = record {
+    size = refl;
+    behind = omega arith;
+    held = all_candidates c.args.view.now.store c.args.table c.args.access c.args.found.now.items c.requires.there c.requires.along c.requires.live;
+    result = refl;
+  };
   reads = omega arith;
 }
 
@@ -70,7 +80,7 @@ loop-i-preserved c =
 pub returns-then-not-asks-clause-found : goal.returns-then-not-asks-clause-found
 returns-then-not-asks-clause-found c =
     sym (all_match c.args.view.now.store c.args.table c.args.access c.args.atoms.now c.args.found.now.items
-    (all_candidates (goal.at.returns-then-not-asks-clause-found c).After-is_kept) (search rules))
+    (all_candidates c.args.view.now.store c.args.table c.args.access c.args.found.now.items c.requires.there c.requires.along c.requires.live) (search rules))
 
 pub returns-clause-found : goal.returns-clause-found
 returns-clause-found c =

@@ -1,9 +1,13 @@
-use Rattle.std.proofs.Common.{arith, ◌≡◌, [], ◌∷◌, ◌++◌, length, map, refl, sym, ap, ◌∙◌, subst}
+use Rattle.std.proofs.Common.{arith, ◌≡◌, [], ◌∷◌, ◌++◌, Some, length, map, refl, sym, ap, ◌∙◌, subst}
+use Rattle.std.specs.List.{All}
 use Rattle.std.proofs.lemmas.List.{length-append, length_push}
+use Rattle.std.proofs.lemmas.List.Elements.{All-filter}
 use Rattle.mm_partition.specs.Places.{IsLive, slot_at}
+use Rattle.mm_query.specs.Queries.{none_fails}
 use Rattle.mm_relation.specs.Refs.{row_at}
 use Rattle.mm_store.proofs.Joining.{some_at}
 use Rattle.mm_store.specs.Tables.{IsAt, Tables}
+use Rattle.mm_templist.specs.Combos.{row_of}
 use Rattle.mm_select.specs.Matches.{matching}
 use Rattle.mm_select.proofs.KeyWalks.{walk_counted}
 use Rattle.mm_select.proofs.Walks.{holds_next, matching_more, matching_still, split_all, split_next}
@@ -81,3 +85,12 @@ returns-in_err-push-clause-reads c =
       c.loop-at.invariant.reads,
       c.admits.ensures.reads,
     )
+
+pub returns-clause-live : goal.returns-clause-live
+returns-clause-live c = λ stored here.
+    let all : c.walk-at-items.result ≡ c.loop-at.yielded =
+    sym c.into_iter-at-iterator.ensures.into_iter_gives
+    ∙ split_all c.into_iter-at-iterator.result c.loop-at.yielded c.loop-at.at-iterator c.loop-at.invariant.split c.in-None.ensures.steps.0 in
+    subst (All (IsLive stored.places)) (sym c.loop-at.invariant.found)
+    (All-filter (λ at. none_fails c.args.atoms.now (Some (row_of c.args.view.now.store c.args.table at) ∷ [])) (IsLive stored.places) c.loop-at.yielded
+    (subst (All (IsLive stored.places)) all (c.walk-at-items.ensures.live stored here)))

@@ -1,16 +1,15 @@
 use Rattle.std.proofs.Common.{◌≡◌, ◌+◌, ◌≤◌, [], true, sym, subst, arith}
-use Rattle.std.specs.List.{All, count_by}
+use Rattle.std.specs.List.{count_by}
 use Rattle.std.specs.List.Sorted.{IsPermutation}
 use Rattle.std.proofs.lemmas.Bool.{false≢true}
 use Rattle.std.proofs.lemmas.List.Sorted.{IsPermutation-refl}
 use Rattle.std.proofs.lemmas.Result.{IfOk-weaker}
-use Rattle.mm_partition.specs.Places.{IsLive}
 use Rattle.mm_store.proofs.Joining.{some_at}
 use Rattle.mm_store.specs.Tables.{rows_at}
 use Rattle.mm_select.specs.Accesses.{AreAlong, is_along, is_in_key_order, refs_along}
 use Rattle.mm_select.specs.Matches.{matching}
 use Rattle.mm_select.specs.declared.access.Access.{Access}
-use Rattle.mm_select.proofs.Covered.{counted, matching_live, scan_counted, selected, selected_in_order, selected_live}
+use Rattle.mm_select.proofs.Covered.{counted, scan_counted, selected, selected_in_order, selected_live}
 use Rattle.mm_select.proofs.selecting.select_refs.Goals as goal
 
 pub returns-in-Scan-clause-found : goal.returns-in-Scan-clause-found
@@ -19,13 +18,6 @@ returns-in-Scan-clause-found c =
     (λ found is stored here.
     let all = matching c.args.view.now.store c.args.table c.args.atoms.now [] stored.refs in
     subst (λ l. IsPermutation l all) (sym (is stored here)) (IsPermutation-refl all)) c.scan.ensures.found
-
-pub returns-in-Scan-clause-live : goal.returns-in-Scan-clause-live
-returns-in-Scan-clause-live c =
-    IfOk-weaker c.scan.result _ _
-    (λ found is stored here.
-    subst (All (IsLive stored.places)) (sym (is stored here))
-    (matching_live c.args.view.now.store c.args.table c.args.atoms.now stored (c.is_kept.ensures.kept stored here))) c.scan.ensures.found
 
 pub returns-in-Scan-clause-reads : goal.returns-in-Scan-clause-reads
 returns-in-Scan-clause-reads c =
@@ -36,7 +28,7 @@ returns-in-Scan-clause-reads c =
 pub returns-in_ok-found-in-Equal-clause-found : goal.returns-in_ok-found-in-Equal-clause-found
 returns-in_ok-found-in-Equal-clause-found c = λ stored here.
     let found = c.in_ok-found-in-Equal.found.items in
-    let along = subst (λ (a : Access). AreAlong stored a found) (sym c.in-Equal.is) (c.in_ok-found-in-Equal.ensures stored here) in
+    let along = subst (λ (a : Access). AreAlong stored a found) (sym c.in-Equal.is) (c.in_ok-found-in-Equal.ensures.along stored here) in
     selected c.args.view.now.store c.args.table stored here c.args.access found along c.args.atoms.now c.requires.asked
     c.keep_fitting.new.found.items c.keep_fitting.ensures.found
 
@@ -46,16 +38,16 @@ returns-in_ok-found-in-Equal-clause-ordered c = λ ordered. absurd (false≢true
 pub returns-in_ok-found-in-Equal-clause-live : goal.returns-in_ok-found-in-Equal-clause-live
 returns-in_ok-found-in-Equal-clause-live c = λ stored here.
     let found = c.in_ok-found-in-Equal.found.items in
-    let along = subst (λ (a : Access). AreAlong stored a found) (sym c.in-Equal.is) (c.in_ok-found-in-Equal.ensures stored here) in
+    let along = subst (λ (a : Access). AreAlong stored a found) (sym c.in-Equal.is) (c.in_ok-found-in-Equal.ensures.along stored here) in
     selected_live c.args.view.now.store c.args.table stored here c.args.access found along c.args.atoms.now c.requires.asked
-    c.keep_fitting.new.found.items c.keep_fitting.ensures.found (c.is_kept.ensures.kept stored here)
+    c.keep_fitting.new.found.items c.keep_fitting.ensures.found (c.in_ok-found-in-Equal.ensures.live stored here)
 
 pub returns-in_ok-found-in-Equal-clause-reads : goal.returns-in_ok-found-in-Equal-clause-reads
 returns-in_ok-found-in-Equal-clause-reads c =
     let store = c.args.view.now.store in
     let (stored, here) = some_at store.tables c.args.table c.requires.there in
     let found = c.in_ok-found-in-Equal.found.items in
-    let along = subst (λ (a : Access). AreAlong stored a found) (sym c.in-Equal.is) (c.in_ok-found-in-Equal.ensures stored here) in
+    let along = subst (λ (a : Access). AreAlong stored a found) (sym c.in-Equal.is) (c.in_ok-found-in-Equal.ensures.along stored here) in
     omega (arith, c.keep_fitting.ensures.reads, counted store c.args.table stored here c.args.access found along)
 
 pub returns-in_ok-found-in-Range-clause-found : goal.returns-in_ok-found-in-Range-clause-found
@@ -79,7 +71,7 @@ returns-in_ok-found-in-Range-clause-live c = λ stored here.
     let found = c.in_ok-found-in-Range.found.items in
     let along = subst (λ (a : Access). AreAlong stored a found) (sym c.in-Range.is) (c.in_ok-found-in-Range.ensures.along stored here) in
     selected_live c.args.view.now.store c.args.table stored here c.args.access found along c.args.atoms.now c.requires.asked
-    c.keep_fitting-in-Range.new.found.items c.keep_fitting-in-Range.ensures.found (c.is_kept.ensures.kept stored here)
+    c.keep_fitting-in-Range.new.found.items c.keep_fitting-in-Range.ensures.found (c.in_ok-found-in-Range.ensures.live stored here)
 
 pub returns-in_ok-found-in-Range-clause-reads : goal.returns-in_ok-found-in-Range-clause-reads
 returns-in_ok-found-in-Range-clause-reads c =

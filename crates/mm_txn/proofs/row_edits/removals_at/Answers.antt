@@ -19,7 +19,7 @@ returns c =
       fit = IfOk-weaker c.collect.result (λ edits. edits.items ≡ map Gone c.in_ok-gone.gone.items) _
           (λ edits is stored here.
           subst (AreFit stored) (sym (is ∙ ap (map Gone) (c.in_ok-gone.ensures.found stored here)))
-          (fit-gone stored (c.is_kept.ensures.kept stored here) (λ at. list_any (same_ref at) refs))) collected;
+          (fit-gone stored (c.in_ok-gone.ensures.kept stored here).kept (λ at. list_any (same_ref at) refs))) collected;
       none_comes = IfOk-weaker c.collect.result (λ edits. edits.items ≡ map Gone c.in_ok-gone.gone.items) _
           (λ edits is. ap new_rows is ∙ new_rows-gone c.in_ok-gone.gone.items) collected;
     }

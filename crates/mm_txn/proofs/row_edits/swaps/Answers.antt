@@ -33,8 +33,8 @@ row-requires-clause-live c = λ stored at.
 pub swap-requires : goal.swap-requires
 swap-requires c =
     let (stored, here) = some_at c.args.view.now.store.tables c.args.table c.requires.there in
-    let is = c.row.ensures.row stored (subst (λ (s : Tables). IsAt s c.args.table stored) (sym c.loop-at.invariant.same) here) in
-    subst (λ n. AssignmentsWithin n c.args.assignments.now) (sym ((c.is_kept.ensures.kept stored here).wide _ _ is)) (c.requires.assignments stored here)
+    let wide = c.row.ensures.wide stored (subst (λ (s : Tables). IsAt s c.args.table stored) (sym c.loop-at.invariant.same) here) in
+    subst (λ n. AssignmentsWithin n c.args.assignments.now) (sym wide) (c.requires.assignments stored here)
 
 pub loop-at-preserved : goal.loop-at-preserved
 loop-at-preserved c =

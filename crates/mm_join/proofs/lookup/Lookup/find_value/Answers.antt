@@ -29,7 +29,7 @@ returns-in-Index-clause-found c =
     on_success _ _ c.matches.result c.matches.ensures.ok (λ ok. λ stored here.
     let column = c.args.self.now.key.column in
     let value = c.args.value.now in
-    let kept = c.is_kept.ensures.kept stored here in
+    let kept = (c.matches.ensures.kept stored here).kept in
     let on = subst (IsAmong stored column) c.in-Index.is (c.requires.among stored here) in
     subst (λ a. Finds stored column a value c.matches.new.out.items) (sym c.in-Index.is)
     (finds_matches stored kept c.in-Index.index column (column_there stored kept c.in-Index.index column on) value c.matches.new.out.items

@@ -6,6 +6,7 @@ use Rattle.mm_relation.specs.Kept.{StoredRows}
 use Rattle.mm_relation.specs.Reads.{Appends, AreMatches}
 use Rattle.mm_store.proofs.Joining.{one_relation}
 use Rattle.mm_store.proofs.Looked.{live_matches}
+use Rattle.mm_store.specs.Joined.{IsTable}
 use Rattle.mm_store.specs.Looked.{IsIndexOn}
 use Rattle.mm_store.proofs.view.View.matches.Goals as goal
 
@@ -28,3 +29,8 @@ returns-clause-live c =
     (live_matches c.relation-relation.result.now c.is_kept.ensures column c.args.value.now c.args.out.now.items c.append_matches.new.out.items
     (each column (subst (λ (s : StoredRows). IsIndexOn s column c.args.index) (sym same) on))))
     c.append_matches.ensures.ok
+
+pub returns-clause-kept : goal.returns-clause-kept
+returns-clause-kept c = λ stored at.
+    subst IsTable (one_relation c.relation-relation.result.now stored (sym c.relation-relation.ensures.at ∙ at))
+    (record { few = c.relation-relation.ensures.few; kept = c.is_kept.ensures })

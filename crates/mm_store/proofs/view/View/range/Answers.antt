@@ -7,6 +7,7 @@ use Rattle.mm_relation.specs.Kept.{StoredRows}
 use Rattle.mm_relation.specs.Reads.{Appends, IsRange}
 use Rattle.mm_store.proofs.Joining.{one_relation}
 use Rattle.mm_store.proofs.Looked.{live_range}
+use Rattle.mm_store.specs.Joined.{IsTable}
 use Rattle.mm_store.specs.Looked.{IsIndexOn}
 use Rattle.mm_store.proofs.view.View.range.Goals as goal
 
@@ -29,3 +30,8 @@ returns-clause-live c =
     (live_range c.relation-relation.result.now c.is_kept.ensures column (option_copied c.args.low) (option_copied c.args.high) c.args.out.now.items c.append_range.new.out.items
     (each column (subst (λ (s : StoredRows). IsIndexOn s column c.args.index) (sym same) on))))
     c.append_range.ensures.ok
+
+pub returns-clause-kept : goal.returns-clause-kept
+returns-clause-kept c = λ stored at.
+    subst IsTable (one_relation c.relation-relation.result.now stored (sym c.relation-relation.ensures.at ∙ at))
+    (record { few = c.relation-relation.ensures.few; kept = c.is_kept.ensures })
