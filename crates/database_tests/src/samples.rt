@@ -11,7 +11,7 @@ use mm_query::{
 };
 use mm_schema::{Catalog, Columns, IndexDef, IndexKind, Name, TableDef, TableNames};
 use mm_txn::{Answer, Change, Db, Question, Request, RowReader, Rows, ShownRows, StoredRows};
-use mm_value::{Refusal, Row, Watched, WriteFault};
+use mm_value::{Refusal, Row, Watched, WriteError};
 use std::alloc::Global;
 
 /// The command of a line.
@@ -142,12 +142,12 @@ pub fn text_of_rows(alloc: Global, rows: &[Row]) -> Result<Vec<u8>, Refusal> {
     let mut text = Vec::new(alloc);
     match write_rows(rows, &mut text) {
         Ok(()) => Ok(text),
-        Err(WriteFault) => Err(Refusal::Memory),
+        Err(WriteError) => Err(Refusal::Memory),
     }
 }
 
 /// Writes the lines of rows, and how many they are.
-fn write_rows(rows: &[Row], told: &mut Vec<u8>) -> Result<(), WriteFault> {
+fn write_rows(rows: &[Row], told: &mut Vec<u8>) -> Result<(), WriteError> {
     let mut lines = RowLines::new();
     for row in rows {
         lines.add_row(row, &mut Watched::new(&mut *told))?;
@@ -275,12 +275,12 @@ fn write(answer: Answer<'_>, told: &mut Vec<u8>) -> Result<(), Refusal> {
     };
     match written {
         Ok(()) => Ok(()),
-        Err(WriteFault) => Err(Refusal::Memory),
+        Err(WriteError) => Err(Refusal::Memory),
     }
 }
 
 /// Writes the rows of an answer, and how many they are.
-fn write_answered(rows: &Rows<'_>, told: &mut Vec<u8>) -> Result<(), WriteFault> {
+fn write_answered(rows: &Rows<'_>, told: &mut Vec<u8>) -> Result<(), WriteError> {
     match rows.reader() {
         RowReader::Stored(stored) => write_stored(stored, rows.len(), told),
         RowReader::Shown(shown) => write_shown(shown, told),
@@ -292,7 +292,7 @@ fn write_stored(
     mut rows: StoredRows<'_>,
     count: usize,
     told: &mut Vec<u8>,
-) -> Result<(), WriteFault> {
+) -> Result<(), WriteError> {
     let mut lines = RowLines::new();
     for _ in 0..count {
         let Some(row) = rows.next() else {
@@ -304,7 +304,7 @@ fn write_stored(
 }
 
 /// Writes rows that are shown, and how many they are.
-fn write_shown(rows: &ShownRows<'_>, told: &mut Vec<u8>) -> Result<(), WriteFault> {
+fn write_shown(rows: &ShownRows<'_>, told: &mut Vec<u8>) -> Result<(), WriteError> {
     let mut lines = RowLines::new();
     for i in 0..rows.len() {
         lines.add_tuple(rows.row(i), &mut Watched::new(&mut *told))?;

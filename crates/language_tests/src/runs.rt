@@ -2,7 +2,7 @@
 //! never refused.
 use crate::assertions::{assert_same, assert_that};
 use mm_value::Watched;
-use mmdb_core::{Limits, MAX_MAX_INPUT, RunFault, Totals, exit_status, run};
+use mmdb_core::{Limits, MAX_MAX_INPUT, RunError, Totals, exit_status, run};
 use std::alloc::Global;
 use std::io;
 use std::io::{Read, Write};
@@ -115,7 +115,7 @@ const NO_RUN: &str = "no such limit";
 // How a run ended, and what its writer had then.
 #[derive(Drop)]
 struct Ran {
-    ended: Result<Totals, RunFault>,
+    ended: Result<Totals, RunError>,
     sink: Sink,
 }
 
@@ -136,11 +136,11 @@ impl Ran {
     }
 
     fn failed_reading(&self) -> bool {
-        matches!(self.ended, Err(RunFault::Read))
+        matches!(self.ended, Err(RunError::Read))
     }
 
     fn failed_writing(&self) -> bool {
-        matches!(self.ended, Err(RunFault::Write))
+        matches!(self.ended, Err(RunError::Write))
     }
 }
 
@@ -397,7 +397,7 @@ fn a_writer_that_takes_nothing_ends_a_run(rt: HostRuntime) -> Result<(), Fail> {
     let mut reader = Watched::new(SCRIPT);
     let mut writer = Watched::new(&mut sink);
     let ended = run(rt.alloc(), &mut reader, &mut writer, limits);
-    assert_that(&rt, matches!(ended, Err(RunFault::Write)));
+    assert_that(&rt, matches!(ended, Err(RunError::Write)));
     assert_same(&rt, sink.taken.as_slice(), b"ok\no".as_slice());
     Ok(())
 }
@@ -463,7 +463,7 @@ const TWO_SCANS: &[u8] = b"SCAN t\nSCAN t\n";
 fn expect_cut(rt: &(impl Abort + AllocGlobal), step: usize) -> Result<(), Fail> {
     let cut = run_input(rt.alloc(), TWO_SCANS, step, 10).ok_or(NO_RUN)?;
     assert_that(rt, cut.wrote(b"error 20 no such table\n"));
-    assert_that(rt, matches!(cut.ended, Err(RunFault::TooLong)));
+    assert_that(rt, matches!(cut.ended, Err(RunError::TooLong)));
     assert_same(rt, exit_status(&cut.ended), 3);
     Ok(())
 }

@@ -1,11 +1,11 @@
 //! The edits of tables, with what is found among them by hash.
 ghost use Rattle.std.specs.Prelude.{◌≡◌, ◌<◌, length, All, IfErr, IfOk};
 ghost use Rattle.mm_value.specs.declared.refusal.Refusal.TheVariants.{Memory};
-ghost use Rattle.mm_delta.specs.Beside.{edits_beside};
+ghost use Rattle.mm_delta.specs.Overlay.{overlay_edits};
 ghost use Rattle.mm_delta.specs.Edited.{edits_at};
 
 use crate::asked_columns::asked_columns;
-use crate::beside::Beside;
+use crate::overlay::Overlay;
 use crate::edit_index::EditIndex;
 use crate::edited::{TableChange, edits_of};
 use mm_query::BoundQuery;
@@ -80,15 +80,15 @@ impl<'c> IndexedChanges<'c> {
     }
 
     /// The edits of a table, by hash indexes if it has them.
-    pub(crate) fn beside(&self, table: usize) -> Beside<'_, 'c>
-        ensures { edits_beside result ≡ edits_at self.now table }
+    pub(crate) fn overlay(&self, table: usize) -> Overlay<'_, 'c>
+        ensures { overlay_edits result ≡ edits_at self.now table }
     {
         for found in &self.indexes {
             if found.table == table {
-                return Beside::Indexed(&found.index);
+                return Overlay::Indexed(&found.index);
             }
         }
-        Beside::Listed(self.edits_of(table))
+        Overlay::Listed(self.edits_of(table))
     }
 }
 

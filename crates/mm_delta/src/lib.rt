@@ -3,7 +3,6 @@
 
 mod asked_columns;
 mod bag_change;
-mod beside;
 mod chosen;
 mod coming_index;
 mod counting;
@@ -13,6 +12,7 @@ mod indexed_changes;
 mod known;
 mod law;
 mod look_up;
+mod overlay;
 mod read_laws;
 mod rows;
 mod skipped;

@@ -3,7 +3,7 @@ ghost use Rattle.std.specs.Prelude.{◌≡◌, ◌↔◌, ◌⊎◌, ℕ, ◌+�
 ghost use Rattle.mm_value.specs.declared.refusal.Refusal.TheVariants.{Memory};
 ghost use Rattle.mm_value.specs.declared.values.Value.{Value as AnyValue};
 ghost use Rattle.mm_query.specs.Queries.{bag_of, none_fails as none_fails_lem};
-ghost use Rattle.mm_delta.specs.Beside.{edits_beside};
+ghost use Rattle.mm_delta.specs.Overlay.{overlay_edits};
 ghost use Rattle.mm_delta.specs.Candidates.{having, required};
 ghost use Rattle.mm_multiset.specs.Counts.{count_in, count_of};
 ghost use Rattle.mm_delta.specs.Edited.{after_at, before_at, has_index, walked};
@@ -13,7 +13,7 @@ ghost use Rattle.mm_delta.specs.Terms.{lists_around};
 ghost use Rattle.mm_delta.specs.Walk.{AreOpen, found, other_places as other_places_lem};
 ghost use Rattle.mm_relevance.specs.Relevance.{IsCyclic};
 
-use crate::beside::Beside;
+use crate::overlay::Overlay;
 use crate::chosen::Chosen;
 use crate::counting::count_row;
 use crate::indexed_changes::IndexedChanges;
@@ -42,13 +42,13 @@ pub(crate) struct Walk<'w, 'c> {
 
 impl<'w, 'c> Walk<'w, 'c> {
     /// The edits that count at a place of FROM: those of its table before the place of the edited row, and none behind it.
-    fn edits_at(&self, place: usize, table: usize) -> Beside<'w, 'c>
-        ensures { edits_beside result ≡ edits_walked self.now.changes.now self.now.place place table }
+    fn edits_at(&self, place: usize, table: usize) -> Overlay<'w, 'c>
+        ensures { overlay_edits result ≡ edits_walked self.now.changes.now self.now.place place table }
     {
         if place < self.place {
-            self.changes.beside(table)
+            self.changes.overlay(table)
         } else {
-            Beside::Listed(&[])
+            Overlay::Listed(&[])
         }
     }
 

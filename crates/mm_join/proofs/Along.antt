@@ -16,10 +16,10 @@ use Rattle.mm_join.proofs.JoinSteps.{Row}
 use Rattle.mm_join.proofs.Progress.{Progress, candidates_step, due_on_way, one_more, one_more_within}
 use Rattle.mm_join.specs.Caps.{cap_conditions}
 use Rattle.mm_join.specs.Joins.{Joins, found}
-use Rattle.mm_join.specs.Ways.{AreCandidates, found_behind, inner_of, reads_along}
+use Rattle.mm_join.specs.AccessMethods.{AreCandidates, found_behind, inner_of, reads_along}
 use Rattle.mm_join.specs.declared.inner.Inner.{Inner}
 use Rattle.mm_join.specs.declared.join.Join.{Join}
-use Rattle.mm_join.specs.declared.ways.Way.{Way}
+use Rattle.mm_join.specs.declared.access_methods.AccessMethod.{AccessMethod}
 
 -- A join that is refused says why.
 pub refused : (store : Tables) (join : Join) (table : ℕ) (refusal : Refusal)
@@ -38,9 +38,9 @@ module _ (store : Tables) (join : Join) (table : ℕ) (inner : Inner) (is : inne
         (subst (λ (atoms : List (Atom FieldPlace)). AreCandidates store inner.table atoms (rows_of_combo s ts front) most candidates) (λ j. (is j).atoms.now)
         (subst (λ (st : Tables). AreCandidates st inner.table inner.atoms.now (rows_of_combo s ts front) most candidates) same are))
 
-    pub few_here : (way w : Way) → w ≡ way → (n : ℕ) → n ≤ found_behind w (rows_at s.tables inner.table) (rows_of_combo s ts front)
-        → n ≤ found_behind way (rows_at store.tables inner.table) (rows_of_combo store join.outer.now.tables front)
-    few_here way w kept n few =
+    pub few_here : (method w : AccessMethod) → w ≡ method → (n : ℕ) → n ≤ found_behind w (rows_at s.tables inner.table) (rows_of_combo s ts front)
+        → n ≤ found_behind method (rows_at store.tables inner.table) (rows_of_combo store join.outer.now.tables front)
+    few_here method w kept n few =
         subst (λ k. n ≤ k) (λ j. found_behind (kept j) (rows_at (same j).tables inner.table) (rows_of_combo (same j) (own j) front)) few
 
   -- With what is found behind it a join is a combination further.
@@ -68,20 +68,20 @@ module _ (store : Tables) (join : Join) (table : ℕ) (inner : Inner) (is : inne
 
 -- ---- what it costs
 
-module _ (way : Way) (rows : List Row) (store : Tables) (outer : Combos) (i : ℕ) (front : List RowRef) (at : slice_get outer.combos i ≡ Some front)
+module _ (method : AccessMethod) (rows : List Row) (store : Tables) (outer : Combos) (i : ℕ) (front : List RowRef) (at : slice_get outer.combos i ≡ Some front)
     (live : AreLive store outer.tables front) where
-  own_cost : reads_along way rows (rows_of_combo store outer.tables front)
-      ≡ length outer.tables + found_behind way rows (rows_of_combo store outer.tables front)
-  own_cost = ap (λ n. n + found_behind way rows (rows_of_combo store outer.tables front)) (length_rows store outer.tables front live)
+  own_cost : reads_along method rows (rows_of_combo store outer.tables front)
+      ≡ length outer.tables + found_behind method rows (rows_of_combo store outer.tables front)
+  own_cost = ap (λ n. n + found_behind method rows (rows_of_combo store outer.tables front)) (length_rows store outer.tables front live)
 
-  pub spent_more : sum_by (reads_along way rows) (take (i + 1) (combo_rows store outer))
-      ≡ sum_by (reads_along way rows) (take i (combo_rows store outer))
-      + (length outer.tables + found_behind way rows (rows_of_combo store outer.tables front))
+  pub spent_more : sum_by (reads_along method rows) (take (i + 1) (combo_rows store outer))
+      ≡ sum_by (reads_along method rows) (take i (combo_rows store outer))
+      + (length outer.tables + found_behind method rows (rows_of_combo store outer.tables front))
   spent_more =
-      one_more (reads_along way rows) store outer i front at ∙ ap (λ n. sum_by (reads_along way rows) (take i (combo_rows store outer)) + n) own_cost
+      one_more (reads_along method rows) store outer i front at ∙ ap (λ n. sum_by (reads_along method rows) (take i (combo_rows store outer)) + n) own_cost
 
-  pub spent_within : sum_by (reads_along way rows) (take i (combo_rows store outer))
-      + (length outer.tables + found_behind way rows (rows_of_combo store outer.tables front)) ≤ sum_by (reads_along way rows) (combo_rows store outer)
+  pub spent_within : sum_by (reads_along method rows) (take i (combo_rows store outer))
+      + (length outer.tables + found_behind method rows (rows_of_combo store outer.tables front)) ≤ sum_by (reads_along method rows) (combo_rows store outer)
   spent_within =
-      subst (λ n. sum_by (reads_along way rows) (take i (combo_rows store outer)) + n ≤ sum_by (reads_along way rows) (combo_rows store outer)) own_cost
-      (one_more_within (reads_along way rows) store outer i front at)
+      subst (λ n. sum_by (reads_along method rows) (take i (combo_rows store outer)) + n ≤ sum_by (reads_along method rows) (combo_rows store outer)) own_cost
+      (one_more_within (reads_along method rows) store outer i front at)

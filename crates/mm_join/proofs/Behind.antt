@@ -26,9 +26,9 @@ use Rattle.mm_join.proofs.Found.{all_live, counted, have_live}
 use Rattle.mm_join.proofs.JoinSteps.{Row}
 use Rattle.mm_join.specs.Equated.{HaveMatches, IsJoin, sought}
 use Rattle.mm_join.specs.Reads.{any_row}
-use Rattle.mm_join.specs.Ways.{AreCandidates, Finds, may_be}
+use Rattle.mm_join.specs.AccessMethods.{AreCandidates, Finds, may_be}
 use Rattle.mm_join.specs.declared.key.JoinKey.{JoinKey}
-use Rattle.mm_join.specs.declared.lookup.Among.{Among}
+use Rattle.mm_join.specs.declared.look_up.Among.{Among}
 
 -- A filter behind one that lets through whatever it does.
 module _ {X : Type 0} (p q : X → Bool) where

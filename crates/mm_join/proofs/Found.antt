@@ -40,10 +40,10 @@ use Rattle.mm_value.specs.declared.values.Value.{Value}
 use Rattle.mm_value.specs.declared.values.Value.TheVariants.{Int}
 use Rattle.mm_join.specs.Entries.{entry_of}
 use Rattle.mm_join.specs.Equated.{HaveMatches}
-use Rattle.mm_join.specs.Ways.{Finds, hashed_row, may_be}
+use Rattle.mm_join.specs.AccessMethods.{Finds, hashed_row, may_be}
 use Rattle.mm_join.specs.declared.entries.Entry.{Entry}
-use Rattle.mm_join.specs.declared.lookup.Among.{Among}
-use Rattle.mm_join.specs.declared.lookup.Among.TheVariants as among
+use Rattle.mm_join.specs.declared.look_up.Among.{Among}
+use Rattle.mm_join.specs.declared.look_up.Among.TheVariants as among
 
 -- ---- lists
 

@@ -27,7 +27,7 @@ use Rattle.mm_join.proofs.Caps.{due_of_longer, within_cap}
 use Rattle.mm_join.specs.Caps.{cap_conditions}
 use Rattle.mm_join.proofs.JoinSteps.{Row, fits, fitting_behind, joined_each}
 use Rattle.mm_join.specs.Joined.{joined}
-use Rattle.mm_join.specs.Ways.{AreCandidates}
+use Rattle.mm_join.specs.AccessMethods.{AreCandidates}
 
 -- ---- an element that is there
 

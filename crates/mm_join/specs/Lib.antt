@@ -1,3 +1,4 @@
+pub mod AccessMethods
 pub mod Caps
 pub mod Entries
 pub mod Equated
@@ -5,4 +6,3 @@ pub mod Joined
 pub mod Joins
 pub mod Keys
 pub mod Reads
-pub mod Ways

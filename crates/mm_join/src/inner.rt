@@ -17,7 +17,7 @@ use std::alloc::AllocError;
 
 /// A combination of the outer list.
 #[derive(Clone, Copy)]
-pub(crate) struct Front<'f> {
+pub(crate) struct Outer<'f> {
     /// The places in the store of the tables of the outer list.
     pub tables: &'f [usize],
     /// A reference for each of them.
@@ -35,25 +35,25 @@ pub(crate) struct Inner<'q> {
 }
 
 impl Inner<'_> {
-    /// Adds the combination of `front` and a candidate behind it, if it fits, where `rows` are the rows of `front`. The candidate is
-    /// read. `ResultTooLarge` where one more than `cap` fits; `Memory` where memory is refused.
+    /// Adds the combination of `outer` and a candidate behind it, if it fits, where `rows` are the rows of `outer`. The
+    /// candidate is read. `ResultTooLarge` where one more than `cap` fits; `Memory` where memory is refused.
     fn add_fitting<'s>(
         &self,
         view: &mut View<'s>,
         rows: &mut Vec<Option<&'s Row>>,
-        front: &[RowRef],
+        outer: &[RowRef],
         at: RowRef,
         list: &mut TempList<'_>,
     ) -> Result<(), Refusal>
         requires there { self.now.table < length view.old.store.tables }
         requires live { (stored : StoredRows) → IsAt view.old.store self.now.table stored → IsLive stored.places at }
-        requires wide { length front.now + 1 ≡ length list.old.tables }
+        requires wide { length outer.now + 1 ≡ length list.old.tables }
         requires few { length list.old.combos ≤ self.now.cap }
         ensures due { AnswersDue (first_refusal (cap_conditions self.now.cap (list.old.combos
-            ++ matches view.old.store self.now.table self.now.atoms.now (map option_copied rows.old.items) front.now (at ∷ [])))) result }
+            ++ matches view.old.store self.now.table self.now.atoms.now (map option_copied rows.old.items) outer.now (at ∷ [])))) result }
         ensures list { OnOk result (list.new ≡ record list.old {
           combos = list.old.combos
-              ++ matches view.old.store self.now.table self.now.atoms.now (map option_copied rows.old.items) front.now (at ∷ []);
+              ++ matches view.old.store self.now.table self.now.atoms.now (map option_copied rows.old.items) outer.now (at ∷ []);
         }) }
         ensures rows { OnOk result (rows.new.items ≡ rows.old.items) }
         ensures reads { view.new.reads ≤ view.old.reads + 1 }
@@ -68,36 +68,37 @@ impl Inner<'_> {
         if list.len() as u64 >= self.cap {
             return Err(Refusal::ResultTooLarge);
         }
-        list.push(front, at)?;
+        list.push(outer, at)?;
         Ok(())
     }
 
-    /// Adds the combinations of `front` and each candidate behind it that fit, where `rows` are the rows of `front`. Each candidate
-    /// is read at most once. `ResultTooLarge` where more than `cap` fit; `Memory` where memory is refused.
+    /// Adds the combinations of `outer` and each candidate behind it that fit, where `rows` are the rows of `outer`.
+    /// Each candidate is read at most once. `ResultTooLarge` where more than `cap` fit; `Memory` where memory is
+    /// refused.
     pub fn add_all<'s>(
         &self,
         view: &mut View<'s>,
         rows: &mut Vec<Option<&'s Row>>,
-        front: &[RowRef],
+        outer: &[RowRef],
         candidates: &[RowRef],
         list: &mut TempList<'_>,
     ) -> Result<(), Refusal>
         requires there { self.now.table < length view.old.store.tables }
         requires live { (stored : StoredRows) → IsAt view.old.store self.now.table stored → All (IsLive stored.places) candidates.now }
-        requires wide { length front.now + 1 ≡ length list.old.tables }
+        requires wide { length outer.now + 1 ≡ length list.old.tables }
         requires few { length list.old.combos ≤ self.now.cap }
         ensures due { AnswersDue (first_refusal (cap_conditions self.now.cap (list.old.combos
-            ++ matches view.old.store self.now.table self.now.atoms.now (map option_copied rows.old.items) front.now candidates.now))) result }
+            ++ matches view.old.store self.now.table self.now.atoms.now (map option_copied rows.old.items) outer.now candidates.now))) result }
         ensures list { OnOk result (list.new ≡ record list.old {
           combos = list.old.combos
-              ++ matches view.old.store self.now.table self.now.atoms.now (map option_copied rows.old.items) front.now candidates.now;
+              ++ matches view.old.store self.now.table self.now.atoms.now (map option_copied rows.old.items) outer.now candidates.now;
         }) }
         ensures rows { OnOk result (rows.new.items ≡ rows.old.items) }
         ensures reads { view.new.reads ≤ view.old.reads + length candidates.now }
         ensures same { view.new.store ≡ view.old.store }
     {
         for at in candidates {
-            self.add_fitting(view, rows, front, *at, list)?;
+            self.add_fitting(view, rows, outer, *at, list)?;
         }
         Ok(())
     }
@@ -106,18 +107,18 @@ impl Inner<'_> {
 /// Puts the rows of a combination in the place of those that `rows` has. Each is read once. `AllocError` where memory is refused.
 pub(crate) fn choose<'s>(
     view: &mut View<'s>,
-    front: Front<'_>,
+    outer: Outer<'_>,
     rows: &mut Vec<Option<&'s Row>>,
 ) -> Result<(), AllocError>
-    requires { AreLive view.old.store front.tables.now front.refs.now }
+    requires { AreLive view.old.store outer.tables.now outer.refs.now }
     ensures rows { OnOk result (map option_copied rows.new.items
-        ≡ map Some (rows_of_combo view.old.store front.entry.tables.now front.entry.refs.now)) }
-    ensures reads { view.new.reads ≤ view.old.reads + length front.entry.tables.now }
+        ≡ map Some (rows_of_combo view.old.store outer.entry.tables.now outer.entry.refs.now)) }
+    ensures reads { view.new.reads ≤ view.old.reads + length outer.entry.tables.now }
     ensures same { view.new.store ≡ view.old.store }
 {
     rows.clear();
-    for (place, at) in front.refs.iter().enumerate() {
-        rows.push(Some(view.row(front.tables[place], *at)))?;
+    for (place, at) in outer.refs.iter().enumerate() {
+        rows.push(Some(view.row(outer.tables[place], *at)))?;
     }
     Ok(())
 }

@@ -5,7 +5,7 @@ ghost use Rattle.mm_join.specs.Equated.{IsJoin, plain_key};
 ghost use Rattle.mm_join.specs.Joined.{IsNext};
 ghost use Rattle.mm_join.specs.Joins.{CanJoin, Joins};
 ghost use Rattle.mm_join.specs.Reads.{any_row, has_hash, has_prefix, has_sought, reads_of};
-ghost use Rattle.mm_join.specs.Ways.{IsWay, inner_of, reads_along};
+ghost use Rattle.mm_join.specs.AccessMethods.{IsAccessMethod, inner_of, reads_along};
 ghost use Rattle.mm_relation.specs.Kept.{StoredRows};
 ghost use Rattle.mm_store.specs.Links.{IsReference};
 ghost use Rattle.mm_store.specs.Looked.{IsIndexOn, IsTree};
@@ -14,10 +14,10 @@ ghost use Rattle.mm_templist.specs.Combos.{combo_rows};
 
 use crate::built::hashed_rows;
 use crate::cursor::Cursor;
-use crate::inner::{Front, Inner, choose};
+use crate::inner::{Inner, Outer, choose};
 use crate::key::JoinKey;
-use crate::lookup::Among;
-use crate::ways::Way;
+use crate::look_up::Among;
+use crate::access_methods::AccessMethod;
 use mm_query::{Atom, FieldPlace};
 use mm_store::{IndexRef, View};
 use mm_templist::{Descriptor, TempList};
@@ -50,7 +50,7 @@ impl<'j, 'a> Join<'j, 'a> {
         ensures same { view.new.store ≡ view.old.store }
     {
         let all = copy_refs(alloc, view.walk(self.inner().table, IndexRef::Key))?;
-        self.along(alloc, view, &mut Way::All(all))
+        self.along(alloc, view, &mut AccessMethod::All(all))
     }
 
     /// The join along a foreign key, where one of the atoms says that the key of the further table equals a field of the outer
@@ -74,7 +74,7 @@ impl<'j, 'a> Join<'j, 'a> {
             → view.new.reads ≤ view.old.reads + sum_by (λ combination. length combination + 1) (combo_rows view.old.store self.now.outer.now) }
         ensures same { view.new.store ≡ view.old.store }
     {
-        self.along(alloc, view, &mut Way::Followed(field))
+        self.along(alloc, view, &mut AccessMethod::Followed(field))
     }
 
     /// The join by a look-up in an index of the further table for each combination (the hash join over an index that is there and
@@ -96,7 +96,7 @@ impl<'j, 'a> Join<'j, 'a> {
             → view.new.reads ≤ view.old.reads + reads_of view.old.store self.now table (has_sought key) }
         ensures same { view.new.store ≡ view.old.store }
     {
-        self.along(alloc, view, &mut Way::sought(Among::Index(index), key))
+        self.along(alloc, view, &mut AccessMethod::by(Among::Index(index), key))
     }
 
     /// The join by one walk along a tree of the further table, beside the outer list (the tree merge join of Lehman and Carey,
@@ -122,7 +122,7 @@ impl<'j, 'a> Join<'j, 'a> {
         ensures same { view.new.store ≡ view.old.store }
     {
         let cursor = Cursor::new(alloc, view, self.inner().table, index, key.column)?;
-        self.along(alloc, view, &mut Way::sought(Among::Walk(cursor), key))
+        self.along(alloc, view, &mut AccessMethod::by(Among::Walk(cursor), key))
     }
 
     /// The join by a hash table that is built over a column of the further table, in which each combination is looked up (the hash
@@ -144,7 +144,7 @@ impl<'j, 'a> Join<'j, 'a> {
         ensures same { view.new.store ≡ view.old.store }
     {
         let pairs = hashed_rows(alloc, view, self.inner().table, key.column)?;
-        self.along(alloc, view, &mut Way::sought(Among::Built(pairs), key))
+        self.along(alloc, view, &mut AccessMethod::by(Among::Built(pairs), key))
     }
 
     /// The inner side: the table that comes behind those of the outer list.
@@ -159,20 +159,21 @@ impl<'j, 'a> Join<'j, 'a> {
         }
     }
 
-    /// The join in which a way leads to the rows of the further table that may stand behind each combination.
+    /// The join in which an access method leads to the rows of the further table that may stand behind each
+    /// combination.
     fn along(
         &self,
         alloc: Global,
         view: &mut View<'_>,
-        way: &mut Way,
+        method: &mut AccessMethod,
     ) -> Result<TempList<'a>, Refusal>
         requires next { (table : ℕ) × CanJoin view.old.store self.now table
-            × IsWay view.old.store self.now.outer.now.tables (inner_of self.now table) way.old }
+            × IsAccessMethod view.old.store self.now.outer.now.tables (inner_of self.now table) method.old }
         ensures joins { (table : ℕ) → IsNext view.old.store self.now.outer.now.tables self.now.descriptor.tables.now table
             → Joins view.old.store self.now table result }
         ensures reads { (table : ℕ) → IsNext view.old.store self.now.outer.now.tables self.now.descriptor.tables.now table
             → view.new.reads ≤ view.old.reads
-            + sum_by (reads_along way.old (rows_at view.old.store.tables table)) (combo_rows view.old.store self.now.outer.now) }
+            + sum_by (reads_along method.old (rows_at view.old.store.tables table)) (combo_rows view.old.store self.now.outer.now) }
         ensures same { view.new.store ≡ view.old.store }
     {
         let inner = self.inner();
@@ -182,13 +183,13 @@ impl<'j, 'a> Join<'j, 'a> {
         let mut list = TempList::new(alloc, self.descriptor);
         for i in 0..self.outer.len() {
             let refs = self.outer.combo(i);
-            let front = Front { tables, refs };
-            if way.has_none(view, &inner, front) {
+            let outer = Outer { tables, refs };
+            if method.has_none(view, &inner, outer) {
                 continue;
             }
-            choose(view, front, &mut rows)?;
-            way.find(alloc, view, &inner, front, &rows, &mut found)?;
-            let candidates = way.candidates(found.as_slice());
+            choose(view, outer, &mut rows)?;
+            method.find(alloc, view, &inner, outer, &rows, &mut found)?;
+            let candidates = method.candidates(found.as_slice());
             inner.add_all(view, &mut rows, refs, candidates, &mut list)?;
         }
         Ok(list)

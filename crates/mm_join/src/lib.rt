@@ -1,6 +1,7 @@
 //! Joins: each combination of a temporary list with the rows of a further table that fit it.
 #![tactic(auto)]
 
+mod access_methods;
 mod built;
 mod column;
 mod cursor;
@@ -9,8 +10,7 @@ mod inner;
 mod join;
 mod key;
 mod laws;
-mod lookup;
-mod ways;
+mod look_up;
 
 pub use join::Join;
 pub use key::{JoinKey, Shift, join_key};

@@ -3,7 +3,7 @@ pub mod Commands
 mod Exactness
 mod Fronts
 mod Keywords
-pub mod LateLines
+pub mod BufferedLines
 mod Lexing
 mod ListingTexts
 mod Lists
@@ -21,6 +21,6 @@ mod SpelledSelect
 mod SpelledWords
 mod StepTexts
 mod Texts
-mod ToldAgain
+mod ReadAgain
 mod TupleValues
 mod WordBytes

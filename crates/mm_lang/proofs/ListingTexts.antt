@@ -1,4 +1,4 @@
--- The text of what is told of a catalog in the parts in which it is written.
+-- The text of what is listed of a catalog in the parts in which it is written.
 use Rattle.std.proofs.Common.{◌≡◌, ◌≢◌, ◌<◌, ◌≤◌, ℕ, ◌+◌, List, [], ◌∷◌, ◌++◌, Option, Result, codes, decimal, length, get_or, take, drop, sym, ap, subst, ◌∙◌, append-nil, append_assoc, take-append-drop, arith}
 use Rattle.std.specs.List.{flat_map}
 use Rattle.std.proofs.lemmas.List.{drop_more, take_all}
@@ -10,7 +10,7 @@ use Rattle.mm_value.specs.declared.device.Watched.{Watched}
 use Rattle.mm_query.specs.declared.listing.ListedQuery.{ListedQuery}
 use Rattle.mm_query.specs.declared.listing.ListedTable.{ListedTable}
 use Rattle.mm_query.specs.declared.listing.Listing.{Listing}
-use Rattle.mm_lang.specs.ReplyText.{column_text, columns_text, index_line, listing_text, query_line, role_text, rows_told, table_line, table_lines}
+use Rattle.mm_lang.specs.ReplyText.{column_text, columns_text, index_line, listing_text, query_line, role_text, rows_listed, table_line, table_lines}
 use Rattle.mm_lang.specs.Spelling.{kind_word, type_word}
 use Rattle.mm_lang.specs.Words.{keyword_text}
 
@@ -88,11 +88,11 @@ index_parts index name table column kind named on by is =
 -- a table in the parts in which its line is written
 pub table_parts : (listed : ListedTable) (name : List ℕ) (columns : List Column) → name ≡ listed.table.definition.name
     → columns ≡ listed.table.definition.columns
-    → table_line listed ≡ ((codes "TABLE " ++ name) ++ (codes " (" ++ columns_text columns ++ codes ")")) ++ rows_told listed.rows
+    → table_line listed ≡ ((codes "TABLE " ++ name) ++ (codes " (" ++ columns_text columns ++ codes ")")) ++ rows_listed listed.rows
 table_parts listed name columns named are =
-    λ i. codes "TABLE " ++ sym named i ++ (codes " (" ++ columns_text (sym are i) ++ codes ")") ++ rows_told listed.rows
+    λ i. codes "TABLE " ++ sym named i ++ (codes " (" ++ columns_text (sym are i) ++ codes ")") ++ rows_listed listed.rows
 
--- what is told of a catalog in the parts in which it is written
+-- what is listed of a catalog in the parts in which it is written
 pub listing_parts : (listing : Listing) (tables : List ListedTable) (standing : List ListedQuery) → tables ≡ listing.tables → standing ≡ listing.standing
     → listing_text listing ≡ (flat_map table_lines tables ++ flat_map query_line standing) ++ (codes "tables " ++ decimal (length tables) ++ 10 ∷ [])
 listing_parts listing tables standing are watched =

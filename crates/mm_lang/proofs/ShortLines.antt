@@ -9,7 +9,7 @@ use Rattle.mm_value.specs.Literal.{doubled, quoted}
 use Rattle.mm_value.specs.Written.{value_text, row_text}
 use Rattle.mm_value.proofs.Quotes.{doubled_unfound}
 use Rattle.mm_value.proofs.RowTexts.{next_text_of, next_value, values_text_all}
-use Rattle.mm_lang.specs.Late.{KeepsFront}
+use Rattle.mm_lang.specs.Buffered.{KeepsFront}
 
 pub on_some_weaker : {T P Q : Type 0} (r : Option T) → (P → Q) → OnSome r P → OnSome r Q
 on_some_weaker None f h = h

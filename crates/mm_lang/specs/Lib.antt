@@ -1,5 +1,5 @@
+pub mod Buffered
 pub mod Grammar
-pub mod Late
 pub mod Lines
 pub mod Phrases
 pub mod Reading

@@ -19,7 +19,7 @@ use Rattle.mm_schema.specs.declared.table.TableDef.{TableDef}
 use Rattle.mm_query.specs.Plans.{line_alias}
 use Rattle.mm_query.specs.declared.listing.ListedQuery.{ListedQuery}
 use Rattle.mm_query.specs.declared.listing.ListedTable.{ListedTable}
-use Rattle.mm_query.specs.declared.listing.Listing.{Listing as Told}
+use Rattle.mm_query.specs.declared.listing.Listing.{Listing as Listed}
 use Rattle.mm_query.specs.declared.plan_line.PlanLine.{PlanLine}
 use Rattle.mm_query.specs.declared.plan_line.PlanLine.TheVariants as line
 use Rattle.mm_query.specs.declared.reply.Reply.{Reply}
@@ -42,21 +42,21 @@ index_text id.Key = codes "#key"
 index_text (id.Named name) = name
 
 -- how the rows of a table are reached
-abbrev pub way_text : PlanLine → List ℕ
-way_text (line.Scan alias) = codes " scan"
-way_text (line.Hash alias index) = codes " hash " ++ index
-way_text (line.TreeEqual alias index) = codes " tree " ++ index_text index ++ codes " ="
-way_text (line.TreeRange alias index) = codes " tree " ++ index_text index ++ codes " range"
-way_text (line.Precomputed alias field) = codes " precomputed " ++ field.alias ++ 46 ∷ field.column
-way_text (line.TreeMerge alias outer inner) = codes " tree merge " ++ index_text outer ++ 32 ∷ index_text inner
-way_text (line.TreeJoin alias index) = codes " tree join " ++ index_text index
-way_text (line.HashJoin alias index) = codes " hash join " ++ index
-way_text (line.BuiltHash alias column) = codes " built hash " ++ column
-way_text (line.NestedLoops alias) = codes " nested loops"
+abbrev pub access_method_text : PlanLine → List ℕ
+access_method_text (line.Scan alias) = codes " scan"
+access_method_text (line.Hash alias index) = codes " hash " ++ index
+access_method_text (line.TreeEqual alias index) = codes " tree " ++ index_text index ++ codes " ="
+access_method_text (line.TreeRange alias index) = codes " tree " ++ index_text index ++ codes " range"
+access_method_text (line.Precomputed alias field) = codes " precomputed " ++ field.alias ++ 46 ∷ field.column
+access_method_text (line.TreeMerge alias outer inner) = codes " tree merge " ++ index_text outer ++ 32 ∷ index_text inner
+access_method_text (line.TreeJoin alias index) = codes " tree join " ++ index_text index
+access_method_text (line.HashJoin alias index) = codes " hash join " ++ index
+access_method_text (line.BuiltHash alias column) = codes " built hash " ++ column
+access_method_text (line.NestedLoops alias) = codes " nested loops"
 
 -- a line of a plan, without its line feed
 abbrev pub line_text : PlanLine → List ℕ
-line_text step = line_alias step ++ way_text step
+line_text step = line_alias step ++ access_method_text step
 
 -- a line for each line of a plan, and then their number
 abbrev pub steps_text : List PlanLine → List ℕ
@@ -83,26 +83,26 @@ columns_text [] = []
 columns_text (c ∷ []) = column_text c
 columns_text (c ∷ d ∷ cs) = column_text c ++ 44 ∷ 32 ∷ columns_text (d ∷ cs)
 
--- the end of a line that tells how many rows there are
-abbrev pub rows_told : ℕ → List ℕ
-rows_told n = codes " rows " ++ decimal n ++ 10 ∷ []
+-- the end of a line that says how many rows there are
+abbrev pub rows_listed : ℕ → List ℕ
+rows_listed n = codes " rows " ++ decimal n ++ 10 ∷ []
 
 -- an index as the INDEX that makes it: INDEX name ON name (name) kind
-abbrev pub index_told : IndexDef → List ℕ
-index_told index =
+abbrev pub index_listed : IndexDef → List ℕ
+index_listed index =
     codes "INDEX " ++ index.name ++ codes " ON " ++ index.table ++ codes " (" ++ index.column ++ codes ") " ++ keyword_text (kind_word index.kind)
 
 -- the line of an index
 abbrev pub index_line : IndexDef → List ℕ
-index_line index = index_told index ++ 10 ∷ []
+index_line index = index_listed index ++ 10 ∷ []
 
 -- a table as the TABLE that makes it: TABLE name (column, ..)
-abbrev pub table_told : TableDef → List ℕ
-table_told definition = codes "TABLE " ++ definition.name ++ (codes " (" ++ columns_text definition.columns ++ codes ")")
+abbrev pub table_listed : TableDef → List ℕ
+table_listed definition = codes "TABLE " ++ definition.name ++ (codes " (" ++ columns_text definition.columns ++ codes ")")
 
 -- the line of a table
 abbrev pub table_line : ListedTable → List ℕ
-table_line listed = table_told listed.table.definition ++ rows_told listed.rows
+table_line listed = table_listed listed.table.definition ++ rows_listed listed.rows
 
 -- the line of a table, and then one for each of its indexes
 abbrev pub table_lines : ListedTable → List ℕ
@@ -110,10 +110,10 @@ table_lines listed = table_line listed ++ flat_map index_line listed.table.index
 
 -- the line of a standing query: WATCH name rows n
 abbrev pub query_line : ListedQuery → List ℕ
-query_line listed = codes "WATCH " ++ listed.name ++ rows_told listed.rows
+query_line listed = codes "WATCH " ++ listed.name ++ rows_listed listed.rows
 
 -- the lines of all tables, then those of all standing queries, and then how many tables there are
-abbrev pub listing_text : Told → List ℕ
+abbrev pub listing_text : Listed → List ℕ
 listing_text listing =
     flat_map table_lines listing.tables ++ flat_map query_line listing.standing ++ (codes "tables " ++ decimal (length listing.tables) ++ 10 ∷ [])
 

@@ -3,10 +3,10 @@
 
 mod atoms;
 mod columns;
-mod front;
 mod grammar;
 mod keyword;
 mod listing_text;
+mod lookahead;
 mod phrase;
 mod reader;
 mod reading;
@@ -20,6 +20,6 @@ pub use grammar::{grammar_is_exact, literals_are_in_written_order};
 pub use keyword::Keyword;
 pub use mm_query::{Command, Reply};
 pub use reading::{MAX_LINE_BYTES, parse};
-pub use reply_text::{definitions_are_told_as_written, replies_are_told_apart, write_reply};
+pub use reply_text::{definitions_are_listed_as_written, refusals_are_recognized, write_reply};
 pub use row_line::RowLines;
 pub use token::Symbol;

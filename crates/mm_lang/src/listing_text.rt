@@ -12,16 +12,16 @@ use crate::keyword::Keyword;
 use crate::reply_text::{write_after_space, write_count, write_four, write_two};
 use mm_query::{ListedQuery, ListedTable, Listing};
 use mm_schema::{Column, IndexDef, IndexKind, OnDelete, Role};
-use mm_value::{ColType, Watched, WriteFault, put_all};
+use mm_value::{ColType, Watched, WriteError, put_all};
 use std::io::Write;
 
-/// Writes what is told of a catalog: a line for each table with its columns and its number of rows, and behind it one for each
-/// of its indexes; then a line for each standing query with the number of rows that it shows; and then the number of tables.
-/// Takes no memory. After `WriteFault` the writer has failed, and a front of the text was written.
+/// Writes the listing of a catalog: a line for each table with its columns and its number of rows, and behind it one
+/// for each of its indexes; then a line for each standing query with the number of rows that it shows; and then the
+/// number of tables. Takes no memory. After `WriteError` the writer has failed, and a front of the text was written.
 pub(crate) fn write_listing<W: Write>(
     listing: &Listing,
     writer: &mut Watched<W>,
-) -> Result<(), WriteFault>
+) -> Result<(), WriteError>
     requires { has_failed writer.old ≡ false }
     ensures { Writes W.contents writer.old writer.new result (listing_text listing.now) }
 {
@@ -32,7 +32,7 @@ pub(crate) fn write_listing<W: Write>(
 }
 
 /// Writes the lines of tables and of their indexes.
-fn write_tables<W: Write>(tables: &[ListedTable], writer: &mut Watched<W>) -> Result<(), WriteFault>
+fn write_tables<W: Write>(tables: &[ListedTable], writer: &mut Watched<W>) -> Result<(), WriteError>
     requires { has_failed writer.old ≡ false }
     ensures { Writes W.contents writer.old writer.new result (flat_map table_lines tables.now) }
 {
@@ -43,7 +43,7 @@ fn write_tables<W: Write>(tables: &[ListedTable], writer: &mut Watched<W>) -> Re
 }
 
 /// Writes the line of a table, and those of its indexes.
-fn write_table<W: Write>(listed: &ListedTable, writer: &mut Watched<W>) -> Result<(), WriteFault>
+fn write_table<W: Write>(listed: &ListedTable, writer: &mut Watched<W>) -> Result<(), WriteError>
     requires { has_failed writer.old ≡ false }
     ensures { Writes W.contents writer.old writer.new result (table_lines listed.now) }
 {
@@ -55,7 +55,7 @@ fn write_table<W: Write>(listed: &ListedTable, writer: &mut Watched<W>) -> Resul
 fn write_table_line<W: Write>(
     listed: &ListedTable,
     writer: &mut Watched<W>,
-) -> Result<(), WriteFault>
+) -> Result<(), WriteError>
     requires { has_failed writer.old ≡ false }
     ensures { Writes W.contents writer.old writer.new result (table_line listed.now) }
 {
@@ -66,7 +66,7 @@ fn write_table_line<W: Write>(
 }
 
 /// Writes columns in parentheses, behind a space.
-fn write_columns<W: Write>(columns: &[Column], writer: &mut Watched<W>) -> Result<(), WriteFault>
+fn write_columns<W: Write>(columns: &[Column], writer: &mut Watched<W>) -> Result<(), WriteError>
     requires { has_failed writer.old ≡ false }
     ensures { Writes W.contents writer.old writer.new result (codes " (" ++ columns_text columns.now ++ codes ")") }
 {
@@ -79,7 +79,7 @@ fn write_columns<W: Write>(columns: &[Column], writer: &mut Watched<W>) -> Resul
 fn write_column_list<W: Write>(
     columns: &[Column],
     writer: &mut Watched<W>,
-) -> Result<(), WriteFault>
+) -> Result<(), WriteError>
     requires { has_failed writer.old ≡ false }
     ensures { Writes W.contents writer.old writer.new result (columns_text columns.now) }
 {
@@ -94,7 +94,7 @@ fn write_column_list<W: Write>(
 }
 
 /// Writes a column that stands after another one.
-fn write_next_column<W: Write>(column: &Column, writer: &mut Watched<W>) -> Result<(), WriteFault>
+fn write_next_column<W: Write>(column: &Column, writer: &mut Watched<W>) -> Result<(), WriteError>
     requires { has_failed writer.old ≡ false }
     ensures { Writes W.contents writer.old writer.new result (44 ∷ 32 ∷ column_text column.now) }
 {
@@ -103,7 +103,7 @@ fn write_next_column<W: Write>(column: &Column, writer: &mut Watched<W>) -> Resu
 }
 
 /// Writes a column as TABLE has it.
-fn write_column<W: Write>(column: &Column, writer: &mut Watched<W>) -> Result<(), WriteFault>
+fn write_column<W: Write>(column: &Column, writer: &mut Watched<W>) -> Result<(), WriteError>
     requires { has_failed writer.old ≡ false }
     ensures { Writes W.contents writer.old writer.new result (column_text column.now) }
 {
@@ -113,7 +113,7 @@ fn write_column<W: Write>(column: &Column, writer: &mut Watched<W>) -> Result<()
 }
 
 /// Writes what a column is for, as TABLE has it.
-fn write_role<W: Write>(role: &Role, writer: &mut Watched<W>) -> Result<(), WriteFault>
+fn write_role<W: Write>(role: &Role, writer: &mut Watched<W>) -> Result<(), WriteError>
     requires { has_failed writer.old ≡ false }
     ensures { Writes W.contents writer.old writer.new result (role_text role.now) }
 {
@@ -129,7 +129,7 @@ fn write_reference<W: Write>(
     table: &[u8],
     on_delete: OnDelete,
     writer: &mut Watched<W>,
-) -> Result<(), WriteFault>
+) -> Result<(), WriteError>
     requires { has_failed writer.old ≡ false }
     ensures { Writes W.contents writer.old writer.new result (32 ∷ keyword_text Ref ++ 32 ∷ table.now ++ on_delete_text on_delete) }
 {
@@ -139,7 +139,7 @@ fn write_reference<W: Write>(
 }
 
 /// Writes what becomes of the rows that refer to a row that is deleted, as TABLE has it.
-fn write_on_delete<W: Write>(on_delete: OnDelete, writer: &mut Watched<W>) -> Result<(), WriteFault>
+fn write_on_delete<W: Write>(on_delete: OnDelete, writer: &mut Watched<W>) -> Result<(), WriteError>
     requires { has_failed writer.old ≡ false }
     ensures { Writes W.contents writer.old writer.new result (on_delete_text on_delete) }
 {
@@ -160,7 +160,7 @@ fn type_text(col_type: ColType) -> &'static [u8]
 }
 
 /// Writes the lines of indexes.
-fn write_indexes<W: Write>(indexes: &[IndexDef], writer: &mut Watched<W>) -> Result<(), WriteFault>
+fn write_indexes<W: Write>(indexes: &[IndexDef], writer: &mut Watched<W>) -> Result<(), WriteError>
     requires { has_failed writer.old ≡ false }
     ensures { Writes W.contents writer.old writer.new result (flat_map index_line indexes.now) }
 {
@@ -171,7 +171,7 @@ fn write_indexes<W: Write>(indexes: &[IndexDef], writer: &mut Watched<W>) -> Res
 }
 
 /// Writes the line of an index.
-fn write_index<W: Write>(index: &IndexDef, writer: &mut Watched<W>) -> Result<(), WriteFault>
+fn write_index<W: Write>(index: &IndexDef, writer: &mut Watched<W>) -> Result<(), WriteError>
     requires { has_failed writer.old ≡ false }
     ensures { Writes W.contents writer.old writer.new result (index_line index.now) }
 {
@@ -206,7 +206,7 @@ fn kind_text(kind: IndexKind) -> &'static [u8]
 fn write_queries<W: Write>(
     queries: &[ListedQuery],
     writer: &mut Watched<W>,
-) -> Result<(), WriteFault>
+) -> Result<(), WriteError>
     requires { has_failed writer.old ≡ false }
     ensures { Writes W.contents writer.old writer.new result (flat_map query_line queries.now) }
 {
@@ -217,7 +217,7 @@ fn write_queries<W: Write>(
 }
 
 /// Writes the line of a standing query.
-fn write_query<W: Write>(listed: &ListedQuery, writer: &mut Watched<W>) -> Result<(), WriteFault>
+fn write_query<W: Write>(listed: &ListedQuery, writer: &mut Watched<W>) -> Result<(), WriteError>
     requires { has_failed writer.old ≡ false }
     ensures { Writes W.contents writer.old writer.new result (query_line listed.now) }
 {

@@ -8,7 +8,7 @@ ghost use Rattle.mm_lang.specs.steps.Splitting.{Shows};
 ghost use Rattle.mm_lang.specs.Reading.{checked, literal_fault, position_literals};
 ghost use Rattle.mm_lang.specs.Tokens.{Token as Tok};
 
-use crate::front::Front;
+use crate::lookahead::Lookahead;
 use crate::keyword::Keyword;
 use crate::phrase::Separator;
 use crate::token::{Symbol, Token};
@@ -22,7 +22,7 @@ use std::alloc::Global;
 #[derive(Drop)]
 pub(crate) struct Reader<'a> {
     alloc: Global,
-    rest: Front<'a>,
+    rest: Lookahead<'a>,
     fault: Option<Refusal>,
 }
 
@@ -34,7 +34,7 @@ impl<'a> Reader<'a> {
     {
         Reader {
             alloc,
-            rest: Front::new(line),
+            rest: Lookahead::new(line),
             fault: None,
         }
     }
@@ -50,7 +50,7 @@ impl<'a> Reader<'a> {
     {
         match self.rest.behind(symbol) {
             Some(rest) => {
-                self.rest = Front::new(rest);
+                self.rest = Lookahead::new(rest);
                 true
             }
             None => false,
@@ -63,7 +63,7 @@ impl<'a> Reader<'a> {
     {
         match self.rest.word() {
             Some((word, rest)) if keyword.is_word(word) => {
-                self.rest = Front::new(rest);
+                self.rest = Lookahead::new(rest);
                 true
             }
             _ => false,
@@ -90,11 +90,11 @@ impl<'a> Reader<'a> {
         };
         match literal(self.alloc, token) {
             Ok(value) => {
-                self.rest = Front::new(rest);
+                self.rest = Lookahead::new(rest);
                 Ok(Some(value))
             }
             Err(fault) if is_limit(fault) => {
-                self.rest = Front::new(rest);
+                self.rest = Lookahead::new(rest);
                 self.fault = self.fault.or(Some(fault));
                 Ok(Some(Value::Int(0)))
             }
@@ -187,7 +187,7 @@ impl<'a> Reader<'a> {
     {
         let (symbol, rest) = self.rest.symbol().ok_or(Refusal::Syntax)?;
         let comparison = comparison_of(symbol).ok_or(Refusal::Syntax)?;
-        self.rest = Front::new(rest);
+        self.rest = Lookahead::new(rest);
         Ok(comparison)
     }
 
@@ -205,7 +205,7 @@ impl<'a> Reader<'a> {
         }
         match self.rest.signed() {
             Some((word, rest)) => {
-                self.rest = Front::new(rest);
+                self.rest = Lookahead::new(rest);
                 self.number(true, word)
             }
             None => Ok(None),
@@ -279,7 +279,7 @@ impl<'a> Reader<'a> {
     {
         match self.rest.word() {
             Some((word, rest)) => {
-                self.rest = Front::new(rest);
+                self.rest = Lookahead::new(rest);
                 Ok(word)
             }
             None => Err(Refusal::Syntax),

@@ -13,7 +13,7 @@ ghost use Rattle.mm_schema.specs.Columns.{key_count};
 ghost use Rattle.mm_schema.specs.declared.index.IndexDef.{IndexDef};
 ghost use Rattle.mm_schema.specs.declared.table.TableDef.{TableDef};
 ghost use Rattle.mm_lang.specs.Grammar.{command_of};
-ghost use Rattle.mm_lang.specs.ReplyText.{HasIndexNames, HasNames, HasTableNames, index_text, index_told, line_text, reply_text, rows_text, steps_text, table_told, way_text};
+ghost use Rattle.mm_lang.specs.ReplyText.{HasIndexNames, HasNames, HasTableNames, access_method_text, index_listed, index_text, line_text, reply_text, rows_text, steps_text, table_listed};
 ghost use Rattle.mm_lang.specs.Tokens.{tokens};
 
 use crate::listing_text::write_listing;
@@ -21,14 +21,14 @@ use crate::row_line::RowLines;
 use itoa::Buffer;
 use mm_query::{PlanLine, Reply};
 use mm_schema::IndexId;
-use mm_value::{Refusal, Row, Watched, WriteFault, put_all};
+use mm_value::{Refusal, Row, Watched, WriteError, put_all};
 use std::io::Write;
 
 /// Writes a reply, each line of it with its line feed: `ok`, `ok` and a count, a line for each row and then their
 /// number, a line for each table of a plan and then their number, a line for each table, for each of its indexes and for each
 /// standing query and then the number of tables, or `error` with the number and the text of a refusal. Takes no memory.
-/// After `WriteFault` the writer has failed, and a front of the reply's text was written.
-pub fn write_reply<W: Write>(reply: &Reply, writer: &mut Watched<W>) -> Result<(), WriteFault>
+/// After `WriteError` the writer has failed, and a front of the reply's text was written.
+pub fn write_reply<W: Write>(reply: &Reply, writer: &mut Watched<W>) -> Result<(), WriteError>
     requires { has_failed writer.old ≡ false }
     ensures { Writes W.contents writer.old writer.new result (reply_text reply.now) }
 {
@@ -42,8 +42,9 @@ pub fn write_reply<W: Write>(reply: &Reply, writer: &mut Watched<W>) -> Result<(
     }
 }
 
-/// Writes the reply of rows: a line for each, and then their number. Takes no memory. After `WriteFault` the writer has failed, and a front of the reply's text was written.
-fn write_rows<W: Write>(rows: &[Row], writer: &mut Watched<W>) -> Result<(), WriteFault>
+/// Writes the reply of rows: a line for each, and then their number. Takes no memory. After `WriteError` the writer has
+/// failed, and a front of the reply's text was written.
+fn write_rows<W: Write>(rows: &[Row], writer: &mut Watched<W>) -> Result<(), WriteError>
     requires { has_failed writer.old ≡ false }
     ensures { Writes W.contents writer.old writer.new result (rows_text rows.now) }
 {
@@ -54,10 +55,10 @@ fn write_rows<W: Write>(rows: &[Row], writer: &mut Watched<W>) -> Result<(), Wri
     lines.finish(rows.len(), writer)
 }
 
-/// A reader of replies can tell lines and refusals: each reply ends with a line feed, and just the refusals begin
+/// A reader of replies recognizes lines and refusals: each reply ends with a line feed, and exactly the refusals begin
 /// with `error ` and a digit. Of other replies only a plan may begin with `error `, where its first alias is that; behind it
 /// stands a letter.
-pub fn replies_are_told_apart()
+pub fn refusals_are_recognized()
     ensures line_feed { (reply : Reply) → (front : List ℕ) × (reply_text reply ≡ front ++ 10 ∷ []) }
     ensures refusals { (refusal : Refusal) → (digit : ℕ) × (rest : List ℕ) × IsTrue (is_ascii_digit digit)
         × (reply_text (Refused refusal) ≡ codes "error " ++ digit ∷ rest) }
@@ -67,29 +68,29 @@ pub fn replies_are_told_apart()
         → ((refusal : Refusal) × (reply ≡ Refused refusal)) ⊎ ((steps : List AnyLine) × (reply ≡ Steps steps)) }
 {}
 
-/// What is told of a table, up to the number of its rows, is a line that reads as the TABLE that makes it, and the line of an
-/// index is one that reads as the INDEX that makes it.
-pub fn definitions_are_told_as_written()
+/// What is listed of a table, up to the number of its rows, reads as the TABLE that makes it, and the line of an index
+/// as the INDEX that makes it.
+pub fn definitions_are_listed_as_written()
     ensures table { (definition : TableDef) → HasTableNames definition → key_count definition.columns ≡ 1
-        → command_of (tokens (table_told definition)) ≡ Some (Define (MakeTable definition)) }
-    ensures index { (index : IndexDef) → HasIndexNames index → command_of (tokens (index_told index)) ≡ Some (Define (MakeIndex index)) }
+        → command_of (tokens (table_listed definition)) ≡ Some (Define (MakeTable definition)) }
+    ensures index { (index : IndexDef) → HasIndexNames index → command_of (tokens (index_listed index)) ≡ Some (Define (MakeIndex index)) }
 {}
 
-/// Writes the line that stands behind the rows of a reply: how many there are. Takes no memory. After `WriteFault` the
+/// Writes the line that stands behind the rows of a reply: how many there are. Takes no memory. After `WriteError` the
 /// writer has failed, and a front of the line was written.
 pub(crate) fn write_row_count<W: Write>(
     count: usize,
     writer: &mut Watched<W>,
-) -> Result<(), WriteFault>
+) -> Result<(), WriteError>
     requires { has_failed writer.old ≡ false }
     ensures { Writes W.contents writer.old writer.new result (codes "rows " ++ decimal count ++ 10 ∷ []) }
 {
     write_count(b"rows ", count, writer)
 }
 
-/// Writes the reply of a plan: a line for each table, and then their number. Takes no memory. After `WriteFault` the writer
-/// has failed, and a front of the reply's text was written.
-fn write_steps<W: Write>(steps: &[PlanLine], writer: &mut Watched<W>) -> Result<(), WriteFault>
+/// Writes the reply of a plan: a line for each table, and then their number. Takes no memory. After `WriteError` the
+/// writer has failed, and a front of the reply's text was written.
+fn write_steps<W: Write>(steps: &[PlanLine], writer: &mut Watched<W>) -> Result<(), WriteError>
     requires { has_failed writer.old ≡ false }
     ensures { Writes W.contents writer.old writer.new result (steps_text steps.now) }
 {
@@ -100,19 +101,19 @@ fn write_steps<W: Write>(steps: &[PlanLine], writer: &mut Watched<W>) -> Result<
 }
 
 /// Writes a line of a plan.
-fn write_step<W: Write>(step: &PlanLine, writer: &mut Watched<W>) -> Result<(), WriteFault>
+fn write_step<W: Write>(step: &PlanLine, writer: &mut Watched<W>) -> Result<(), WriteError>
     requires { has_failed writer.old ≡ false }
     ensures { Writes W.contents writer.old writer.new result (line_text step.now ++ 10 ∷ []) }
 {
     put_all(writer, step.alias().bytes())?;
-    write_way(step, writer)?;
+    write_access_method(step, writer)?;
     put_all(writer, b"\n")
 }
 
 /// Writes how the rows of a table are reached.
-fn write_way<W: Write>(step: &PlanLine, writer: &mut Watched<W>) -> Result<(), WriteFault>
+fn write_access_method<W: Write>(step: &PlanLine, writer: &mut Watched<W>) -> Result<(), WriteError>
     requires { has_failed writer.old ≡ false }
-    ensures { Writes W.contents writer.old writer.new result (way_text step.now) }
+    ensures { Writes W.contents writer.old writer.new result (access_method_text step.now) }
 {
     match step {
         PlanLine::Scan { .. } => put_all(writer, b" scan"),
@@ -149,7 +150,7 @@ fn write_tree<W: Write>(
     index: &IndexId,
     what: &[u8],
     writer: &mut Watched<W>,
-) -> Result<(), WriteFault>
+) -> Result<(), WriteError>
     requires { has_failed writer.old ≡ false }
     ensures { Writes W.contents writer.old writer.new result ((codes " tree " ++ index_text index.now) ++ 32 ∷ what.now) }
 {
@@ -171,7 +172,7 @@ pub(crate) fn write_two<W: Write>(
     first: &[u8],
     second: &[u8],
     writer: &mut Watched<W>,
-) -> Result<(), WriteFault>
+) -> Result<(), WriteError>
     requires { has_failed writer.old ≡ false }
     ensures { Writes W.contents writer.old writer.new result (first.now ++ second.now) }
 {
@@ -186,7 +187,7 @@ pub(crate) fn write_four<W: Write>(
     third: &[u8],
     fourth: &[u8],
     writer: &mut Watched<W>,
-) -> Result<(), WriteFault>
+) -> Result<(), WriteError>
     requires { has_failed writer.old ≡ false }
     ensures { Writes W.contents writer.old writer.new result ((first.now ++ second.now) ++ (third.now ++ fourth.now)) }
 {
@@ -199,7 +200,7 @@ pub(crate) fn write_count<W: Write>(
     label: &[u8],
     count: usize,
     writer: &mut Watched<W>,
-) -> Result<(), WriteFault>
+) -> Result<(), WriteError>
     requires { has_failed writer.old ≡ false }
     ensures { Writes W.contents writer.old writer.new result (label.now ++ decimal count ++ 10 ∷ []) }
 {
@@ -211,7 +212,7 @@ fn write_labelled<W: Write>(
     label: &[u8],
     number: usize,
     writer: &mut Watched<W>,
-) -> Result<(), WriteFault>
+) -> Result<(), WriteError>
     requires { has_failed writer.old ≡ false }
     ensures { Writes W.contents writer.old writer.new result (label.now ++ decimal number) }
 {
@@ -220,7 +221,7 @@ fn write_labelled<W: Write>(
     put_all(writer, buffer.format(number).as_bytes())
 }
 
-fn write_refusal<W: Write>(refusal: Refusal, writer: &mut Watched<W>) -> Result<(), WriteFault>
+fn write_refusal<W: Write>(refusal: Refusal, writer: &mut Watched<W>) -> Result<(), WriteError>
     requires { has_failed writer.old ≡ false }
     ensures { Writes W.contents writer.old writer.new result (reply_text (Refused refusal)) }
 {
@@ -233,7 +234,7 @@ fn write_refusal<W: Write>(refusal: Refusal, writer: &mut Watched<W>) -> Result<
 pub(crate) fn write_after_space<W: Write>(
     text: &[u8],
     writer: &mut Watched<W>,
-) -> Result<(), WriteFault>
+) -> Result<(), WriteError>
     requires { has_failed writer.old ≡ false }
     ensures { Writes W.contents writer.old writer.new result (32 ∷ text.now) }
 {

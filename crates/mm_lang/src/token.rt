@@ -78,7 +78,7 @@ pub(crate) fn split_token(bytes: &[u8]) -> Option<(Token<'_>, &[u8])>
     if bytes.is_empty() {
         return None;
     }
-    Some(split_front(bytes))
+    Some(split_first_token(bytes))
 }
 
 fn skip_blanks(bytes: &[u8]) -> &[u8]
@@ -97,7 +97,7 @@ fn blank_len(bytes: &[u8]) -> usize
     bytes.iter().take_while(|b| is_blank(**b)).count()
 }
 
-fn split_front(bytes: &[u8]) -> (Token<'_>, &[u8])
+fn split_first_token(bytes: &[u8]) -> (Token<'_>, &[u8])
     requires nonempty { 0 < length bytes.now }
     requires visible { begins_blank bytes.now ≡ false }
     ensures { Splits (tokens bytes.now) (length bytes.now) result.0 result.1.now }

@@ -22,8 +22,8 @@ use Rattle.mm_schema.proofs.Instances.{AreBeside, LackName, name_of}
 use Rattle.mm_schema.proofs.NameLemmas.{differs_back, same_bytes, same_name_refl}
 use Rattle.mm_schema.proofs.References.{lacks}
 use Rattle.mm_schema.proofs.StrictOrder.{AllByRecursion-IsIn, AllByRecursion-append, Contains-from_IsIn, IsIn, IsIn-from_Contains}
-use Rattle.mm_schema.proofs.Twins.{Row, column_cmp_total}
-use Rattle.mm_query.specs.Edits.{also, goes_along, old_rows, removals_of, with_cascades}
+use Rattle.mm_schema.proofs.Duplicates.{Row, column_cmp_total}
+use Rattle.mm_query.specs.Edits.{also, is_cascaded, old_rows, removals_of, with_cascades}
 use Rattle.mm_query.specs.Machine.{after_edits}
 use Rattle.mm_query.proofs.FoundTargets.{some_among}
 use Rattle.mm_laws.proofs.NamedRows.{has, rows_changed}
@@ -69,14 +69,14 @@ module _ (schema : Schema) where
   old_rows_kept name [] rows es lack = refl
   old_rows_kept name (t ∷ ts) [] es lack = refl
   old_rows_kept name (t ∷ ts) (r ∷ rs) es lack =
-      let along : List Pair = removals_of (filter (goes_along schema es t.definition.columns) r) in
-      old_rows_kept name ts rs (also es (name_of t) along) lack.1
-      ∙ ap (filter_map (λ (p : Pair). p.0)) (pairs_of-also_other name es (name_of t) along (differs_back name (name_of t) lack.0))
+      let cascaded : List Pair = removals_of (filter (is_cascaded schema es t.definition.columns) r) in
+      old_rows_kept name ts rs (also es (name_of t) cascaded) lack.1
+      ∙ ap (filter_map (λ (p : Pair). p.0)) (pairs_of-also_other name es (name_of t) cascaded (differs_back name (name_of t) lack.0))
 
-  -- What goes along depends on what goes of the tables that are referred to alone.
-  along_kept : (columns : List Column) (row : Row) (es fs : List TableEdits)
-      → ((r : ℕ × List ℕ) → IsIn r (cascading_of columns) → old_rows r.1 es ≡ old_rows r.1 fs) → goes_along schema es columns row ≡ goes_along schema fs columns row
-  along_kept columns row es fs same = by (cascading_of columns) same
+  -- What is cascaded depends on what goes of the tables that are referred to alone.
+  cascaded_kept : (columns : List Column) (row : Row) (es fs : List TableEdits)
+      → ((r : ℕ × List ℕ) → IsIn r (cascading_of columns) → old_rows r.1 es ≡ old_rows r.1 fs) → is_cascaded schema es columns row ≡ is_cascaded schema fs columns row
+  cascaded_kept columns row es fs same = by (cascading_of columns) same
     where
       by : (rs : List (ℕ × List ℕ)) → ((r : ℕ × List ℕ) → IsIn r rs → old_rows r.1 es ≡ old_rows r.1 fs)
           → list_any (λ (r : ℕ × List ℕ). list_any (refers r.0 (key_named r.1 schema) row) (old_rows r.1 es)) rs
@@ -190,7 +190,8 @@ abbrev Closed : Schema → List TableEdits → List Table → Instance → Type 
 Closed schema gone [] rows = Unit {0}
 Closed schema gone (t ∷ ts) [] = Unit {0}
 Closed schema gone (t ∷ ts) (r ∷ rs) =
-    ((row : Row) → IsIn row r → (IsIn row (old_rows (name_of t) gone) → ⊥) → goes_along schema gone t.definition.columns row ≡ false) × Closed schema gone ts rs
+    ((row : Row) → IsIn row r → (IsIn row (old_rows (name_of t) gone) → ⊥) → is_cascaded schema gone t.definition.columns row ≡ false)
+        × Closed schema gone ts rs
 
 not_true : (b : Bool) → (b ≡ true → ⊥) → b ≡ false
 not_true true none = absurd (none refl)
@@ -216,41 +217,41 @@ module _ (schema : Schema) where
   each_closed names (t ∷ ts) [] es back lack distinct gone is = tt
   each_closed names (t ∷ ts) (r ∷ rs) es back lack distinct gone is = (
     λ row here stays.
-        let same : goes_along schema gone t.definition.columns row ≡ goes_along schema es t.definition.columns row =
-        along_kept schema t.definition.columns row gone es (λ q column.
+        let same : is_cascaded schema gone t.definition.columns row ≡ is_cascaded schema es t.definition.columns row =
+        cascaded_kept schema t.definition.columns row gone es (λ q column.
         ap (old_rows q.1) is ∙ old_rows_kept schema q.1 (t ∷ ts) (r ∷ rs) es
         (lacking names (t ∷ ts) q.1
         (AllByRecursion-IsIn (λ (p : ℕ × List ℕ). list_any (same_name p.1) names ≡ true) (references_of t.definition.columns) q back.0
         (among_references 0 t.definition.columns q column)) lack)) in
-        same ∙ not_true (goes_along schema es t.definition.columns row) (λ goes. stays (went row here goes)),
+        same ∙ not_true (is_cascaded schema es t.definition.columns row) (λ goes. stays (went row here goes)),
     each_closed (names ++ name_of t ∷ []) ts rs later back.1
         (AllByRecursion-append (λ n. LackName n ts) names (name_of t ∷ []) (lack_tail t ts names lack) (first, tt))
         (IsDistinct-tail same_name (name_of t) (map name_of ts) distinct) gone is,
   )
     where
-      along : List Pair
-      along = removals_of (filter (goes_along schema es t.definition.columns) r)
+      cascaded : List Pair
+      cascaded = removals_of (filter (is_cascaded schema es t.definition.columns) r)
 
       later : List TableEdits
-      later = also es (name_of t) along
+      later = also es (name_of t) cascaded
 
       first : LackName (name_of t) ts
       first = IsDistinct-head same_name (name_of t) (map name_of ts) distinct
 
-      went : (row : Row) → IsIn row r → goes_along schema es t.definition.columns row ≡ true → IsIn row (old_rows (name_of t) gone)
+      went : (row : Row) → IsIn row r → is_cascaded schema es t.definition.columns row ≡ true → IsIn row (old_rows (name_of t) gone)
       went row here goes =
           subst (IsIn row) (sym (ap (old_rows (name_of t)) is ∙ (old_rows_kept schema (name_of t) ts rs later first
-          ∙ ap (filter_map (λ (p : Pair). p.0)) (pairs_of-also_own (name_of t) es along))))
-          (in_behind (pairs_of (name_of t) es) along row (passes (goes_along schema es t.definition.columns) r row here goes))
+          ∙ ap (filter_map (λ (p : Pair). p.0)) (pairs_of-also_own (name_of t) es cascaded))))
+          (in_behind (pairs_of (name_of t) es) cascaded row (passes (is_cascaded schema es t.definition.columns) r row here goes))
 
   at_table : (gone : List TableEdits) (ts : List Table) (rows : Instance) → IsDistinct same_name (map name_of ts) → Closed schema gone ts rows → (t : Table) → IsIn t ts
-      → (row : Row) → IsIn row (rows_named (name_of t) ts rows) → (IsIn row (old_rows (name_of t) gone) → ⊥) → goes_along schema gone t.definition.columns row ≡ false
+      → (row : Row) → IsIn row (rows_named (name_of t) ts rows) → (IsIn row (old_rows (name_of t) gone) → ⊥) → is_cascaded schema gone t.definition.columns row ≡ false
   at_table gone [] rows distinct closed t there row here stays = absurd there
   at_table gone (u ∷ us) [] distinct closed t there row here stays = absurd here
   at_table gone (u ∷ us) (r ∷ rs) distinct closed t (inl same) row here stays =
       let own : same_name (name_of t) (name_of u) ≡ true = ap (λ (v : Table). same_name (name_of t) (name_of v)) same ∙ same_name_refl (name_of t) in
       let in_first : IsIn row r = subst (λ (b : Bool). IsIn row (cond b r (rows_named (name_of t) us rs))) own here in
-      ap (λ (v : Table). goes_along schema gone v.definition.columns row) (sym same)
+      ap (λ (v : Table). is_cascaded schema gone v.definition.columns row) (sym same)
       ∙ closed.0 row in_first (subst (λ (v : Table). IsIn row (old_rows (name_of v) gone) → ⊥) (sym same) stays)
   at_table gone (u ∷ us) (r ∷ rs) distinct closed t (inr later) row here stays =
       let apart : same_name (name_of u) (name_of t) ≡ false =
@@ -263,12 +264,12 @@ module _ (schema : Schema) where
       other_name (w ∷ ws) lack v (inl same) = ap (λ (x : Table). same_name (name_of u) (name_of x)) (sym same) ∙ lack.0
       other_name (w ∷ ws) lack v (inr rest) = other_name ws lack.1 v rest
 
-  -- No row that is there once removals and what goes along with them are made goes along with what went.
-  pub none_goes_along : (rows : Instance) (es : List TableEdits) → EachRemoves es → AreBeside schema.tables rows → RefersBack [] schema.tables
+  -- Once removals and their cascades are made, no row that is left is cascaded by what went.
+  pub none_is_cascaded : (rows : Instance) (es : List TableEdits) → EachRemoves es → AreBeside schema.tables rows → RefersBack [] schema.tables
       → IsDistinct same_name (map name_of schema.tables) → (t : Table) → IsIn t schema.tables
       → let gone = with_cascades schema schema.tables rows es in
-      (row : Row) → IsIn row (rows_named (name_of t) schema.tables (after_edits schema.tables gone rows)) → goes_along schema gone t.definition.columns row ≡ false
-  none_goes_along rows es each beside back distinct t there row here =
+      (row : Row) → IsIn row (rows_named (name_of t) schema.tables (after_edits schema.tables gone rows)) → is_cascaded schema gone t.definition.columns row ≡ false
+  none_is_cascaded rows es each beside back distinct t there row here =
       let gone : List TableEdits = with_cascades schema schema.tables rows es in
       let removes : EachRemoves gone = cascades_remove schema schema.tables rows es each in
       at_table gone schema.tables rows distinct (each_closed [] schema.tables rows es back tt distinct gone refl) t there row

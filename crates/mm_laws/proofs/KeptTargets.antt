@@ -11,7 +11,7 @@ use Rattle.mm_schema.specs.Instance.{Instance}
 use Rattle.mm_schema.specs.Name.{same_name}
 use Rattle.mm_schema.specs.References.{HasTargets}
 use Rattle.mm_schema.specs.Refused.{Condition, first_refusal}
-use Rattle.mm_schema.specs.Rows.{has_twin_keys, table_rows_conditions}
+use Rattle.mm_schema.specs.Rows.{has_duplicate_keys, table_rows_conditions}
 use Rattle.mm_schema.specs.Schema.{Schema, drop_table_conditions, is_other_referring_to, key_named, lacks_table, reads_table}
 use Rattle.mm_schema.specs.declared.column.Column.{Column}
 use Rattle.mm_schema.specs.declared.table.Table.{Table}
@@ -20,7 +20,7 @@ use Rattle.mm_schema.proofs.Instances.{AreBeside, beside_from_order, name_of}
 use Rattle.mm_schema.proofs.NameLemmas.{same_bytes}
 use Rattle.mm_schema.proofs.References.{same_with, same_without, second_none, targets_added, targets_indexed, targets_left, targets_unindexed}
 use Rattle.mm_schema.proofs.StrictOrder.{IsIn}
-use Rattle.mm_schema.proofs.Twins.{Row}
+use Rattle.mm_schema.proofs.Duplicates.{Row}
 use Rattle.mm_value.specs.declared.refusal.Refusal.{Refusal}
 use Rattle.mm_query.specs.Binding.{tests_for}
 use Rattle.mm_query.specs.Edits.{changed_table, edits, meets, own_edits}
@@ -113,7 +113,8 @@ third_none false b c r s q rest h = second_none b c s q rest h
 
 neither_refused : (key : ℕ) (rows : List Row) (lacks referred : Bool) (behind : List Condition)
     → first_refusal (table_rows_conditions key rows lacks referred ++ behind) ≡ None → (lacks ≡ false) × (referred ≡ false)
-neither_refused key rows lacks referred behind due = (second_none (has_twin_keys key rows) _ _ _ _ due, third_none (has_twin_keys key rows) _ _ _ _ _ _ due)
+neither_refused key rows lacks referred behind due = (second_none (has_duplicate_keys key rows) _ _ _ _ due,
+    third_none (has_duplicate_keys key rows) _ _ _ _ _ _ due)
 
 -- ---- every step
 

@@ -7,7 +7,7 @@ use Rattle.mm_schema.specs.Indexes.{table_with_index, table_without_index}
 use Rattle.mm_schema.specs.Instance.{AreInKeyOrder, Instance, TableEdits}
 use Rattle.mm_schema.specs.Name.{same_name}
 use Rattle.mm_schema.specs.Refused.{Condition, ascend, first_refusal}
-use Rattle.mm_schema.specs.Rows.{has_twin_keys, table_rows_conditions}
+use Rattle.mm_schema.specs.Rows.{has_duplicate_keys, table_rows_conditions}
 use Rattle.mm_schema.specs.Schema.{HasDistinctNames, Schema, key_named}
 use Rattle.mm_schema.specs.declared.table.Table.{Table}
 use Rattle.mm_schema.specs.declared.table.TableDef.{TableDef}
@@ -16,7 +16,7 @@ use Rattle.mm_schema.proofs.Instances.{AreInKeyOrder-changed, AreInKeyOrder-kept
 use Rattle.mm_schema.proofs.References.{first_none, same_with, same_without}
 use Rattle.mm_schema.proofs.Places.{new_name_is_free}
 use Rattle.mm_schema.proofs.StrictOrder.{IsStrictlySortedBy-nil}
-use Rattle.mm_schema.proofs.Twins.{Row, column_cmp_total}
+use Rattle.mm_schema.proofs.Duplicates.{Row, column_cmp_total}
 use Rattle.mm_value.specs.declared.refusal.Refusal.TheVariants.{DuplicateKey}
 use Rattle.mm_query.specs.Binding.{binding_conditions, tests_for}
 use Rattle.mm_query.specs.Edits.{changed_table, edits, meets, own_edits, own_pairs, value_conditions}
@@ -96,9 +96,9 @@ kept_by_definition (define.DropIndex name) state due kept = kept_with_definition
 kept_by_definition (define.Watch watched) state due kept = record { distinct = kept.distinct; order = kept.order }
 kept_by_definition (define.Unwatch name) state due kept = record { distinct = kept.distinct; order = kept.order }
 
-no_twins : (key : ℕ) (rows : List Row) (lacks referred : Bool) (behind : List Condition)
-    → first_refusal (table_rows_conditions key rows lacks referred ++ behind) ≡ None → has_twin_keys key rows ≡ false
-no_twins key rows lacks referred behind due = first_none (has_twin_keys key rows) DuplicateKey _ due
+no_duplicates : (key : ℕ) (rows : List Row) (lacks referred : Bool) (behind : List Condition)
+    → first_refusal (table_rows_conditions key rows lacks referred ++ behind) ≡ None → has_duplicate_keys key rows ≡ false
+no_duplicates key rows lacks referred behind due = first_none (has_duplicate_keys key rows) DuplicateKey _ due
 
 -- Where nothing refuses a change, neither its rows nor the standing queries do.
 pub none_due_by_rows : (mutation : Mutation) (state : State) → first_refusal (change_conditions mutation state) ≡ None
@@ -118,9 +118,9 @@ module _ (mutation : Mutation) (state : State) (due : first_refusal (change_cond
   order_of_one =
       subst (λ (es : List TableEdits). AreInKeyOrder state.schema.tables (after_edits state.schema.tables es state.rows)) (sym one)
       (AreInKeyOrder-changed (changed_table mutation) (own_pairs mutation state) state.schema.tables state.rows kept.order kept.distinct
-      (subst (λ (es : List TableEdits). has_twin_keys (key_named (changed_table mutation) state.schema)
+      (subst (λ (es : List TableEdits). has_duplicate_keys (key_named (changed_table mutation) state.schema)
       (rows_in (record state { rows = after_edits state.schema.tables es state.rows }) (changed_table mutation)) ≡ false) one
-      (no_twins (key_named (changed_table mutation) state.schema) (rows_in (after_change mutation state) (changed_table mutation))
+      (no_duplicates (key_named (changed_table mutation) state.schema) (rows_in (after_change mutation state) (changed_table mutation))
       (some_lacks_target (changed_table mutation) (after_change mutation state)) (some_is_referred (edits mutation state) (after_change mutation state))
       (growth_conditions (after_change mutation state))
       (none_due_by_rows mutation state due))))

@@ -1,4 +1,4 @@
-mod Along
+mod Cascaded
 mod ClosedCascades
 mod Commands
 mod KeptTargets

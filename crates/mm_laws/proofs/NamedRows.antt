@@ -11,7 +11,7 @@ use Rattle.mm_schema.specs.declared.table.TableDef.{TableDef}
 use Rattle.mm_schema.proofs.Instances.{AreBeside, edits_of_one, name_of, pairs_of-other, pairs_of-own}
 use Rattle.mm_schema.proofs.NameLemmas.{same_bytes}
 use Rattle.mm_schema.proofs.References.{lacks}
-use Rattle.mm_schema.proofs.Twins.{Row}
+use Rattle.mm_schema.proofs.Duplicates.{Row}
 
 -- the table has the name
 abbrev pub has : List ℕ → Table → Bool

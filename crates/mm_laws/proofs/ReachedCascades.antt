@@ -10,9 +10,9 @@ use Rattle.mm_schema.specs.declared.table.Table.{Table}
 use Rattle.mm_schema.proofs.Instances.{beside_from_order}
 use Rattle.mm_schema.proofs.References.{same_with, same_without}
 use Rattle.mm_schema.proofs.StrictOrder.{Contains-from_IsIn, IsIn-from_Contains}
-use Rattle.mm_schema.proofs.Twins.{Row}
+use Rattle.mm_schema.proofs.Duplicates.{Row}
 use Rattle.mm_query.specs.Binding.{tests_for}
-use Rattle.mm_query.specs.Edits.{edits, goes_along, meets, old_rows, own_edits}
+use Rattle.mm_query.specs.Edits.{edits, is_cascaded, meets, old_rows, own_edits}
 use Rattle.mm_query.specs.Machine.{after_all, after_change, after_definition, change_conditions, definition_conditions}
 use Rattle.mm_query.specs.State.{State, first_state, rows_in}
 use Rattle.mm_query.specs.declared.atom.Atom.{Atom}
@@ -21,8 +21,8 @@ use Rattle.mm_query.specs.declared.command.Definition.{Definition}
 use Rattle.mm_query.specs.declared.command.Definition.TheVariants as define
 use Rattle.mm_query.specs.declared.command.Mutation.{Mutation}
 use Rattle.mm_query.specs.declared.command.Mutation.TheVariants.{Delete}
-use Rattle.mm_laws.proofs.Along.{cascades_hold, each_old, filter_holds}
-use Rattle.mm_laws.proofs.ClosedCascades.{none_goes_along}
+use Rattle.mm_laws.proofs.Cascaded.{cascades_hold, each_old, filter_holds}
+use Rattle.mm_laws.proofs.ClosedCascades.{none_is_cascaded}
 use Rattle.mm_laws.proofs.KeyOrder.{IsKept, kept_at_first, kept_by_change, kept_by_definition}
 use Rattle.mm_laws.proofs.OlderTables.{older_with_definitions, older_with_table, older_without_table}
 use Rattle.mm_laws.proofs.Removals.{removals_remove}
@@ -59,15 +59,15 @@ reached commands =
 
 -- ---- the laws
 
--- No row that stays goes along with one that went.
+-- No row that stays is cascaded by one that went.
 pub none_left : (commands : List Command) (name : List ℕ) (tests : List (Atom (List ℕ))) (table : Table) (row : Row)
     → let state = after_all commands first_state in
     Contains state.schema.tables table → Contains (rows_in (after_change (Delete name tests) state) table.definition.name) row
-    → goes_along state.schema (edits (Delete name tests) state) table.definition.columns row ≡ false
+    → is_cascaded state.schema (edits (Delete name tests) state) table.definition.columns row ≡ false
 none_left commands name tests table row there here =
     let state = after_all commands first_state in
     let is = (reached commands).rows in
-    none_goes_along state.schema state.rows (own_edits (Delete name tests) state ∷ [])
+    none_is_cascaded state.schema state.rows (own_edits (Delete name tests) state ∷ [])
     (removals_remove (filter (meets (tests_for name state.schema tests)) (rows_in state name)), tt)
     (beside_from_order state.schema.tables state.rows is.kept.order) is.back is.kept.distinct table (IsIn-from_Contains state.schema.tables table there) row
     (IsIn-from_Contains (rows_in (after_change (Delete name tests) state) table.definition.name) row here)

@@ -6,7 +6,7 @@ use Rattle.std.proofs.lemmas.List.{append-nil}
 use Rattle.mm_schema.specs.Columns.{key_place}
 use Rattle.mm_schema.specs.Instance.{AreInKeyOrder, Instance, TableEdits, changed_instance}
 use Rattle.mm_schema.specs.Name.{same_name}
-use Rattle.mm_schema.specs.Rows.{IsInKeyOrder, Pair, changed, column_cmp, goes, has_twin_keys, same_in_column, unsorted}
+use Rattle.mm_schema.specs.Rows.{IsInKeyOrder, Pair, changed, column_cmp, goes, has_duplicate_keys, same_in_column, unsorted}
 use Rattle.mm_schema.specs.Schema.{Schema}
 use Rattle.mm_schema.specs.Sorting.{in_order}
 use Rattle.mm_schema.specs.declared.table.Table.{Table}
@@ -14,8 +14,8 @@ use Rattle.mm_schema.proofs.ChangedRows.{IsInKeyOrder-changed}
 use Rattle.mm_schema.proofs.InOrder.{IsPermutation-in_order}
 use Rattle.mm_schema.proofs.Instances.{edits_of_one, name_of, pairs_of-other, pairs_of-own}
 use Rattle.mm_schema.proofs.StrictOrder.{AllByRecursion-append}
-use Rattle.mm_schema.proofs.Twins.{Row, has_twin_keys-IsPermutation, no_twins_in_order}
-use Rattle.mm_query.specs.Edits.{also, goes_along, removals_of, with_cascades}
+use Rattle.mm_schema.proofs.Duplicates.{Row, has_duplicate_keys-IsPermutation, no_duplicates_in_order}
+use Rattle.mm_query.specs.Edits.{also, is_cascaded, removals_of, with_cascades}
 use Rattle.mm_query.specs.Machine.{after_edits}
 
 -- ---- what a filter leaves
@@ -28,14 +28,14 @@ none_in_filter q p (r ∷ rs) none = by (p r) (none_in_filter q p rs (or_parts (
     by true later = or_from _ _ (or_parts (q r) (list_any q rs) none).0 later
     by false later = later
 
-apart_in_filter : (key : ℕ) (p : Row → Bool) (rows : List Row) → has_twin_keys key rows ≡ false → has_twin_keys key (filter p rows) ≡ false
+apart_in_filter : (key : ℕ) (p : Row → Bool) (rows : List Row) → has_duplicate_keys key rows ≡ false → has_duplicate_keys key (filter p rows) ≡ false
 apart_in_filter key p [] none = refl
 apart_in_filter key p (r ∷ rs) none =
-    by (p r) (none_in_filter (same_in_column key r) p rs (or_parts (list_any (same_in_column key r) rs) (has_twin_keys key rs) none).0)
-    (apart_in_filter key p rs (or_parts (list_any (same_in_column key r) rs) (has_twin_keys key rs) none).1)
+    by (p r) (none_in_filter (same_in_column key r) p rs (or_parts (list_any (same_in_column key r) rs) (has_duplicate_keys key rs) none).0)
+    (apart_in_filter key p rs (or_parts (list_any (same_in_column key r) rs) (has_duplicate_keys key rs) none).1)
   where
-    by : (b : Bool) → list_any (same_in_column key r) (filter p rs) ≡ false → has_twin_keys key (filter p rs) ≡ false
-        → has_twin_keys key (cond b (r ∷ filter p rs) (filter p rs)) ≡ false
+    by : (b : Bool) → list_any (same_in_column key r) (filter p rs) ≡ false → has_duplicate_keys key (filter p rs) ≡ false
+        → has_duplicate_keys key (cond b (r ∷ filter p rs) (filter p rs)) ≡ false
     by true first later = or_from _ _ first later
     by false first later = later
 
@@ -57,10 +57,10 @@ IsInKeyOrder-removed key (p ∷ ps) rows none order =
     let left : List Row = filter (λ row. not (list_any (λ q. goes key row q.0) pairs)) rows in
     let just_left : unsorted key pairs rows ≡ left = ap (λ fresh. left ++ fresh) (none_comes pairs none) ∙ append-nil left in
     IsInKeyOrder-changed key pairs rows order
-    (sym (has_twin_keys-IsPermutation key (unsorted key pairs rows) (in_order (column_cmp key) (unsorted key pairs rows))
+    (sym (has_duplicate_keys-IsPermutation key (unsorted key pairs rows) (in_order (column_cmp key) (unsorted key pairs rows))
     (IsPermutation-in_order (column_cmp key) (unsorted key pairs rows)))
-    ∙ (ap (has_twin_keys key) just_left
-    ∙ apart_in_filter key (λ row. not (list_any (λ q. goes key row q.0) pairs)) rows (no_twins_in_order key rows order)))
+    ∙ (ap (has_duplicate_keys key) just_left
+    ∙ apart_in_filter key (λ row. not (list_any (λ q. goes key row q.0) pairs)) rows (no_duplicates_in_order key rows order)))
 
 -- All tables are in key order where rows of one go.
 AreInKeyOrder-removed : (name : List ℕ) (pairs : List Pair) → AreRemovals pairs → (ts : List Table) (rows : Instance) → AreInKeyOrder ts rows
@@ -106,5 +106,6 @@ pub cascades_remove : (schema : Schema) (ts : List Table) (rows : Instance) (es 
 cascades_remove schema [] rows es none = none
 cascades_remove schema (t ∷ ts) [] es none = none
 cascades_remove schema (t ∷ ts) (r ∷ rs) es none =
-    let along : List Row = filter (goes_along schema es t.definition.columns) r in
-    cascades_remove schema ts rs (also es (name_of t) (removals_of along)) (also_removes es (name_of t) (removals_of along) none (removals_remove along))
+    let cascaded : List Row = filter (is_cascaded schema es t.definition.columns) r in
+    cascades_remove schema ts rs (also es (name_of t) (removals_of cascaded))
+        (also_removes es (name_of t) (removals_of cascaded) none (removals_remove cascaded))

@@ -17,7 +17,7 @@ use Rattle.mm_schema.proofs.Instances.{AreBeside, edits_of_one, name_of}
 use Rattle.mm_schema.proofs.NameLemmas.{differs_back, same_bytes}
 use Rattle.mm_schema.proofs.References.{lacks}
 use Rattle.mm_schema.proofs.StrictOrder.{AllByRecursion-IsIn, Contains-from_IsIn, IsIn, IsIn-from_Contains}
-use Rattle.mm_schema.proofs.Twins.{Row}
+use Rattle.mm_schema.proofs.Duplicates.{Row}
 use Rattle.mm_query.specs.Machine.{after_edits, is_referred_to, some_is_referred, some_lacks_target}
 use Rattle.mm_query.specs.State.{State, rows_in}
 use Rattle.mm_query.proofs.FoundTargets.{found_among, none_among, none_by_each, refers_still}

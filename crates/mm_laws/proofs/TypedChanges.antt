@@ -8,7 +8,7 @@ use Rattle.mm_schema.specs.Instance.{Instance, TableEdits, changed_instance}
 use Rattle.mm_schema.specs.Refused.{first_refusal}
 use Rattle.mm_schema.specs.Schema.{HasDistinctNames, Schema, columns_named}
 use Rattle.mm_schema.specs.declared.table.Table.{Table}
-use Rattle.mm_schema.proofs.Twins.{Row}
+use Rattle.mm_schema.proofs.Duplicates.{Row}
 use Rattle.mm_query.specs.Binding.{assignments_for, binding_conditions, has_other_length, has_type_mismatch, tests_for}
 use Rattle.mm_query.specs.Edits.{edits, meets, own_edits, own_pairs}
 use Rattle.mm_query.specs.Atoms.{updated_row}

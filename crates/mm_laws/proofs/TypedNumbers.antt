@@ -6,7 +6,7 @@ use Rattle.std.proofs.lemmas.List.Elements.{All-weaker}
 use Rattle.mm_schema.specs.Instance.{Instance, rows_named}
 use Rattle.mm_schema.specs.Schema.{Schema, columns_named}
 use Rattle.mm_schema.specs.declared.column.Column.{Column}
-use Rattle.mm_schema.proofs.Twins.{Row}
+use Rattle.mm_schema.proofs.Duplicates.{Row}
 use Rattle.mm_value.specs.Types.{type_of}
 use Rattle.mm_value.specs.declared.col_type.ColType.TheVariants as type
 use Rattle.mm_value.specs.declared.values.Value.{Value}

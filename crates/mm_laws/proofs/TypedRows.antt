@@ -9,7 +9,7 @@ use Rattle.mm_schema.specs.Columns.{same_type}
 use Rattle.mm_schema.specs.Rows.{Pair, additions, changed, column_cmp, unsorted}
 use Rattle.mm_schema.specs.declared.column.Column.{Column}
 use Rattle.mm_schema.proofs.InOrder.{IsPermutation-in_order}
-use Rattle.mm_schema.proofs.Twins.{Row}
+use Rattle.mm_schema.proofs.Duplicates.{Row}
 use Rattle.mm_value.specs.Types.{type_of}
 use Rattle.mm_query.specs.Atoms.{value_in}
 use Rattle.mm_query.specs.Binding.{has_other_length, has_type_mismatch}

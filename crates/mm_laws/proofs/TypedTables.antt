@@ -9,7 +9,7 @@ use Rattle.mm_schema.specs.Name.{same_name}
 use Rattle.mm_schema.specs.Rows.{Pair, changed}
 use Rattle.mm_schema.specs.declared.table.Table.{Table}
 use Rattle.mm_schema.proofs.Instances.{AreBeside, changed_instance-others, edits_of_one, name_of, others_lack, pairs_of-other, pairs_of-own}
-use Rattle.mm_schema.proofs.Twins.{Row}
+use Rattle.mm_schema.proofs.Duplicates.{Row}
 use Rattle.mm_laws.specs.Typing.{AreTyped, HasTypes}
 use Rattle.mm_laws.proofs.TypedPlaces.{columns_in, has}
 use Rattle.mm_laws.proofs.TypedRows.{coming, held_by_changed}

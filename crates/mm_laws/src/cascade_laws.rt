@@ -5,7 +5,7 @@ ghost use Rattle.mm_schema.specs.Schema.{key_named};
 ghost use Rattle.mm_schema.specs.declared.table.Table.{Table};
 ghost use Rattle.mm_value.specs.declared.values.Value.{Value};
 ghost use Rattle.mm_query.specs.Binding.{tests_for};
-ghost use Rattle.mm_query.specs.Edits.{edits, goes_along, meets, old_rows};
+ghost use Rattle.mm_query.specs.Edits.{edits, is_cascaded, meets, old_rows};
 ghost use Rattle.mm_query.specs.Machine.{after_all, after_change};
 ghost use Rattle.mm_query.specs.State.{State, first_state, rows_in};
 ghost use Rattle.mm_query.specs.declared.atom.Atom.{Atom};
@@ -18,7 +18,7 @@ pub fn cascades_leave_none_behind()
     ensures { (commands : List Command) (name : List ℕ) (tests : List (Atom (List ℕ))) (table : Table) (row : List Value)
         → let state = after_all commands first_state in
         Contains state.schema.tables table → Contains (rows_in (after_change (Delete name tests) state) table.definition.name) row
-        → goes_along state.schema (edits (Delete name tests) state) table.definition.columns row ≡ false }
+        → is_cascaded state.schema (edits (Delete name tests) state) table.definition.columns row ≡ false }
 {}
 
 /// A DELETE takes no others with it: whatever holds of the rows that meet its tests, and of each row that has in a CASCADE column the

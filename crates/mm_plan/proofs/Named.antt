@@ -17,7 +17,7 @@ use Rattle.mm_plan.specs.declared.step.Step.TheVariants as step
 use Rattle.mm_query.specs.Choosing.{first_given, first_there}
 use Rattle.mm_query.specs.Placing.{mapped_atom, mapped_operand}
 use Rattle.mm_query.specs.Plans.{compared_field, first_line, hash_line, is_equality, is_of, range_line, tree_line}
-use Rattle.mm_query.specs.Resolving.{alias_place, has_twin_aliases, placed_field, places_in}
+use Rattle.mm_query.specs.Resolving.{alias_place, has_duplicate_aliases, placed_field, places_in}
 use Rattle.mm_query.specs.Serving.{created_index, hash_on, is_key_field, serves, tree_on}
 use Rattle.mm_query.specs.declared.atom.Atom.{Atom}
 use Rattle.mm_query.specs.declared.atom.Operand.{Operand}
@@ -90,14 +90,14 @@ module _ {X Y Z : Type 0} (g : Y → Z) (f : X → Y) where
 
 -- Each alias of FROM stands at its own place.
 module _ (from : List FromItem) where
-  first_alias : (items : List FromItem) (place : ℕ) (item : FromItem) → has_twin_aliases items ≡ false → slice_get items place ≡ Some item
+  first_alias : (items : List FromItem) (place : ℕ) (item : FromItem) → has_duplicate_aliases items ≡ false → slice_get items place ≡ Some item
       → position_or_len (λ (x : FromItem). same_name item.alias x.alias) items ≡ place
-  first_alias [] place item twins at = cc
-  first_alias (x ∷ items) zero item twins at =
+  first_alias [] place item duplicates at = cc
+  first_alias (x ∷ items) zero item duplicates at =
       ap (λ b. cond (not b) (1 + position_or_len (λ (x : FromItem). same_name item.alias x.alias) items) 0)
       (ap (λ (y : FromItem). same_name item.alias y.alias) (same_Some x item at) ∙ same_name_refl item.alias)
-  first_alias (x ∷ items) (suc place) item twins at =
-      let parts = or_parts (list_any (λ (other : FromItem). same_name x.alias other.alias) items) (has_twin_aliases items) twins in
+  first_alias (x ∷ items) (suc place) item duplicates at =
+      let parts = or_parts (list_any (λ (other : FromItem). same_name x.alias other.alias) items) (has_duplicate_aliases items) duplicates in
       let differs = differs_back x.alias item.alias (fails_at (λ (other : FromItem). same_name x.alias other.alias) items place item parts.0 at) in
       let rest = first_alias items place item parts.1 at in
       let counted : 1 + place ≡ suc place = omega arith in
@@ -106,9 +106,10 @@ module _ (from : List FromItem) where
   within_test : (m n : ℕ) → m < n → nat_lt m n ≡ true
   within_test m n within = grind (arith, nat_tests)
 
-  pub alias_first : (place : ℕ) (item : FromItem) → has_twin_aliases from ≡ false → slice_get from place ≡ Some item → alias_place from item.alias ≡ Some place
-  alias_first place item twins at =
-      let is = first_alias from place item twins at in
+  pub alias_first : (place : ℕ) (item : FromItem) → has_duplicate_aliases from ≡ false → slice_get from place ≡ Some item
+      → alias_place from item.alias ≡ Some place
+  alias_first place item duplicates at =
+      let is = first_alias from place item duplicates at in
       (λ i. cond (nat_lt (is i) (length from)) (Some (is i)) None)
       ∙ ap (λ b. cond b (Some place) None) (within_test place (length from) (slice_get_within from place item at))
 
@@ -191,15 +192,15 @@ module _ (schema : Schema) (store : Tables) (from : List FromItem) (kept : AreKe
     field_is = λ i. record { alias = alias_name i; column = column_name i }
 
     -- It is of the table at a place just where its alias is that one's.
-    pub is_here : (place : ℕ) (item : FromItem) → has_twin_aliases from ≡ false → slice_get from place ≡ Some item
+    pub is_here : (place : ℕ) (item : FromItem) → has_duplicate_aliases from ≡ false → slice_get from place ≡ Some item
         → (own.place == place) ≡ is_of item.alias field
-    is_here place item twins at =
+    is_here place item duplicates at =
         eq_back own.place place
-        ∙ same_place (λ (x : FromItem). x.alias) from item.alias field.alias place own.place item (alias_first from place item twins at) own.alias_is
+        ∙ same_place (λ (x : FromItem). x.alias) from item.alias field.alias place own.place item (alias_first from place item duplicates at) own.alias_is
 
   -- ---- the first table
 
-  module _ (twins : has_twin_aliases from ≡ false) (item : FromItem) (at : slice_get from 0 ≡ Some item) (of : Stands schema store.tables item) where
+  module _ (duplicates : has_duplicate_aliases from ≡ false) (item : FromItem) (at : slice_get from 0 ≡ Some item) (of : Stands schema store.tables item) where
     -- A field that is compared with a value, by what is found on it.
     module _ {X : Type 0} (give : ℕ → Option IndexRef) (on : FieldName → Option X) (name : IndexRef → PlanLine) (make : X → PlanLine) (field : FieldName)
         (own : IsField schema store.tables from field) (agree : own.place ≡ 0 → option_map name (give own.number) ≡ option_map make (on field)) where
@@ -208,12 +209,12 @@ module _ (schema : Schema) (store : Tables) (from : List FromItem) (kept : AreKe
           ≡ option_map make (option_and_then on (compared_field item.alias field right))
       compared (Literal value) =
           ap (λ (p : FieldPlace). option_map name (option_and_then give (cond (p.place == 0) (Some p.column) None))) (placed_is own)
-          ∙ (ap (λ b. option_map name (option_and_then give (cond b (Some own.number) None))) (is_here field own 0 item twins at)
+          ∙ (ap (λ b. option_map name (option_and_then give (cond b (Some own.number) None))) (is_here field own 0 item duplicates at)
           ∙ by (is_of item.alias field) refl)
         where
           by : (b : Bool) → is_of item.alias field ≡ b → option_map name (option_and_then give (cond b (Some own.number) None))
               ≡ option_map make (option_and_then on (cond b (Some field) None))
-          by true is = agree (eqb-true own.place 0 (is_here field own 0 item twins at ∙ is))
+          by true is = agree (eqb-true own.place 0 (is_here field own 0 item duplicates at ∙ is))
           by false is = refl
       compared (Other right) = refl
       compared (Shifted right by) = refl
@@ -293,7 +294,7 @@ module _ (schema : Schema) (store : Tables) (from : List FromItem) (kept : AreKe
           ∙ sym (ap (option_map (line.TreeRange item.alias))
           (then_unequal (is_equality atom.comparison) (tree_on schema from) (compared_field item.alias atom.left atom.right)))))
 
-  module _ (twins : has_twin_aliases from ≡ false) (item : FromItem) (at : slice_get from 0 ≡ Some item) (of : Stands schema store.tables item)
+  module _ (duplicates : has_duplicate_aliases from ≡ false) (item : FromItem) (at : slice_get from 0 ≡ Some item) (of : Stands schema store.tables item)
       (atoms : List (Atom FieldName)) (fields : (i : ℕ) (atom : Atom FieldName) → slice_get atoms i ≡ Some atom → IsField schema store.tables from atom.left) where
     abbrev placed_atoms : List (Atom FieldPlace)
     placed_atoms = map (mapped_atom (placed_field schema from)) atoms
@@ -303,15 +304,15 @@ module _ (schema : Schema) (store : Tables) (from : List FromItem) (kept : AreKe
 
     hashes : option_map name (first_from (first_rule first.Hash store of.place) 0 placed_atoms) ≡ first_given (hash_line schema from item.alias) atoms
     hashes = first_named name (placed_field schema from) (first_rule first.Hash store of.place) (hash_line schema from item.alias) 0 atoms
-        (λ i place atom is found. hash_line_is twins item at of placed_atoms atom (fields i atom found) place)
+        (λ i place atom is found. hash_line_is duplicates item at of placed_atoms atom (fields i atom found) place)
 
     trees : option_map name (first_from (first_rule first.Tree store of.place) 0 placed_atoms) ≡ first_given (tree_line schema from item.alias) atoms
     trees = first_named name (placed_field schema from) (first_rule first.Tree store of.place) (tree_line schema from item.alias) 0 atoms
-        (λ i place atom is found. tree_line_is twins item at of placed_atoms atom (fields i atom found) place)
+        (λ i place atom is found. tree_line_is duplicates item at of placed_atoms atom (fields i atom found) place)
 
     ranges : option_map name (first_from (first_rule first.Range store of.place) 0 placed_atoms) ≡ first_given (range_line schema from item.alias) atoms
     ranges = first_named name (placed_field schema from) (first_rule first.Range store of.place) (range_line schema from item.alias) 0 atoms
-        (λ i place atom is found. range_line_is twins item at of placed_atoms atom (fields i atom found) place)
+        (λ i place atom is found. range_line_is duplicates item at of placed_atoms atom (fields i atom found) place)
 
     abbrev steps : List (Option Step)
     steps = first_from (first_rule first.Hash store of.place) 0 placed_atoms
@@ -325,7 +326,7 @@ module _ (schema : Schema) (store : Tables) (from : List FromItem) (kept : AreKe
     first_step_named query from_is atoms_are =
         else_named name (first_there steps) step.Scan
         ∙ (ap (λ o. unwrap_or o (line.Scan (alias_at names 0))) (first_there_named name steps)
-        ∙ ((λ i. unwrap_or (first_there (hashes i ∷ trees i ∷ ranges i ∷ [])) (line.Scan (first_alias_is twins item at of i)))
+        ∙ ((λ i. unwrap_or (first_there (hashes i ∷ trees i ∷ ranges i ∷ [])) (line.Scan (first_alias_is duplicates item at of i)))
         ∙ λ i. unwrap_or (first_there (
         first_given (hash_line schema (sym from_is i) item.alias) (sym atoms_are i)
         ∷ first_given (tree_line schema (sym from_is i) item.alias) (sym atoms_are i)

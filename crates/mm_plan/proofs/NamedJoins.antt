@@ -25,7 +25,7 @@ use Rattle.mm_query.specs.Choosing.{first_given, first_there}
 use Rattle.mm_query.specs.Placing.{mapped_atom, mapped_operand}
 use Rattle.mm_query.specs.Plans.{built_hash_line, count_of, hash_join_line, is_equality, is_of, is_of_some, is_precomputed, join_equalities, join_equality, joined_fields, joined_line, joined_sides, line_for, lines_behind, precomputed_line, tree_join_line, tree_merge_line}
 use Rattle.mm_query.specs.Plans as plans
-use Rattle.mm_query.specs.Resolving.{column_of, has_twin_aliases, placed_field, places_in}
+use Rattle.mm_query.specs.Resolving.{column_of, has_duplicate_aliases, placed_field, places_in}
 use Rattle.mm_query.specs.Serving.{is_key_field, refers_to_table, tree_on}
 use Rattle.mm_query.specs.declared.atom.Atom.{Atom}
 use Rattle.mm_query.specs.declared.atom.Operand.{Operand}
@@ -136,7 +136,7 @@ one_and_two false b c = refl
 -- ---- a further table
 
 module _ (schema : Schema) (store : Tables) (kept : AreKept schema store) (keys : HaveOneKey schema.tables) (query : Query)
-    (tables : list_any (λ (item : FromItem). lacks_table item.table schema) query.from ≡ false) (twins : has_twin_aliases query.from ≡ false)
+    (tables : list_any (λ (item : FromItem). lacks_table item.table schema) query.from ≡ false) (duplicates : has_duplicate_aliases query.from ≡ false)
     (lefts : (i : ℕ) (atom : Atom FieldName) → slice_get query.atoms i ≡ Some atom → IsField schema store.tables query.from atom.left)
     (rights : (i : ℕ) (atom : Atom FieldName) (field : FieldName) → slice_get query.atoms i ≡ Some atom → column_of atom.right ≡ Some field
     → IsField schema store.tables query.from field) where
@@ -178,7 +178,7 @@ module _ (schema : Schema) (store : Tables) (kept : AreKept schema store) (keys 
       let of = stands_at 0 x at in
       ap (λ t. is_scan (first_step store atoms t)) (ap (λ (o : Option ℕ). unwrap_or o 0) of.place_is)
       ∙ (sym (scan_named all_names atoms 0 (first_step store atoms of.place))
-      ∙ ap plans.is_scan (first_step_named schema store query.from kept keys twins x at of query.atoms lefts query refl refl))
+      ∙ ap plans.is_scan (first_step_named schema store query.from kept keys duplicates x at of query.atoms lefts query refl refl))
   scan_is (x ∷ y ∷ ys) others split = refl
 
   shorter_is : (earlier others : List FromItem) (item : FromItem) (of : Stands schema store.tables item) → earlier ++ others ≡ query.from
@@ -217,7 +217,7 @@ module _ (schema : Schema) (store : Tables) (kept : AreKept schema store) (keys 
         ∙ some_before field.alias (item ∷ others) earlier
 
     here : (field : FieldName) (own : IsOwn field) → (own.place == q) ≡ is_of item.alias field
-    here field own = is_here schema store query.from kept keys field own q item twins at
+    here field own = is_here schema store query.from kept keys field own q item duplicates at
 
     -- A join equality by places and by names.
     pub record Matches (plain : Bool) (key : JoinKey) (equality : JoinEquality) : Type 0 where
@@ -502,7 +502,7 @@ module _ (schema : Schema) (store : Tables) (kept : AreKept schema store) (keys 
   step_named : (earlier : List FromItem) (item : FromItem) (others : List FromItem) → earlier ++ item ∷ others ≡ query.from
       → slice_get query.from (length earlier) ≡ Some item → (of : Stands schema store.tables item)
       → named all_names atoms (length earlier) (step_for store atoms (places_in schema earlier) of.place) ≡ line_for schema counts query earlier item
-  step_named [] item others split at of = first_step_named schema store query.from kept keys twins item at of query.atoms lefts query refl refl
+  step_named [] item others split at of = first_step_named schema store query.from kept keys duplicates item at of query.atoms lefts query refl refl
   step_named (x ∷ xs) item others split at of = next_named (x ∷ xs) item others split at of
 
   get_behind : {X : Type 0} (xs : List X) (x : X) (ys : List X) → slice_get (xs ++ x ∷ ys) (length xs) ≡ Some x

@@ -11,7 +11,7 @@ use Rattle.mm_plan.specs.Kept.{AreKept, HaveOneKey, instance_of}
 use Rattle.mm_plan.specs.Naming.{named_steps, names_of}
 use Rattle.mm_query.proofs.PlacedQueries.{none_hold}
 use Rattle.mm_query.specs.Plans.{plan_of}
-use Rattle.mm_query.specs.Resolving.{column_of, field_lacks_column, has_twin_aliases, lacks_alias, lacks_position, placed_query, places_in, query_conditions, some_field, some_side}
+use Rattle.mm_query.specs.Resolving.{column_of, field_lacks_column, has_duplicate_aliases, lacks_alias, lacks_position, placed_query, places_in, query_conditions, some_field, some_side}
 use Rattle.mm_query.specs.declared.atom.Atom.{Atom}
 use Rattle.mm_query.specs.Fields.{FieldName}
 use Rattle.mm_query.specs.declared.query.FromItem.{FromItem}
@@ -28,8 +28,8 @@ module _ (schema : Schema) (store : Tables) (query : Query) (kept : AreKept sche
   tables : list_any (λ (item : FromItem). lacks_table item.table schema) query.from ≡ false
   tables = none.0
 
-  twins : has_twin_aliases query.from ≡ false
-  twins = none.1.1.0
+  duplicates : has_duplicate_aliases query.from ≡ false
+  duplicates = none.1.1.0
 
   module _ (test : FieldName → Bool) (passed : some_field test query ≡ false) (i : ℕ) (atom : Atom FieldName) (found : slice_get query.atoms i ≡ Some atom) where
     sides : (test atom.left ≡ false) × (option_map_or test (column_of atom.right) false ≡ false)
@@ -59,4 +59,4 @@ module _ (schema : Schema) (store : Tables) (query : Query) (kept : AreKept sche
   pub plan_named : named_steps (names_of schema query.from) (placed_query schema query).atoms
       (steps_of store (placed_query schema query).atoms (places_in schema query.from))
       ≡ plan_of schema (map length (instance_of store.tables)) query
-  plan_named = steps_named schema store kept keys query tables twins lefts rights
+  plan_named = steps_named schema store kept keys query tables duplicates lefts rights

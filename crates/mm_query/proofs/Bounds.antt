@@ -10,7 +10,7 @@ use Rattle.mm_schema.specs.Schema.{Schema, lacks_table, table_place}
 use Rattle.mm_value.specs.declared.refusal.Refusal.TheVariants.{AliasTaken, NoSuchTable}
 use Rattle.mm_query.specs.Faults.{fault_conditions, noted}
 use Rattle.mm_query.specs.Placing.{mismatches}
-use Rattle.mm_query.specs.Resolving.{field_lacks_column, field_type, has_twin_aliases, lacks_alias, lacks_position, passes_query_limits, places_in, query_conditions, some_side}
+use Rattle.mm_query.specs.Resolving.{field_lacks_column, field_type, has_duplicate_aliases, lacks_alias, lacks_position, passes_query_limits, places_in, query_conditions, some_side}
 use Rattle.mm_query.specs.declared.atom.Atom.{Atom}
 use Rattle.mm_query.specs.declared.faults.Faults.{Faults}
 use Rattle.mm_query.specs.Fields.{FieldName}
@@ -41,7 +41,7 @@ module _ (schema : Schema) (query : Query) (catalog : Schema) (catalog_is : cata
   pub due_by_faults : are_missing catalog from ≡ false → (form first all : Faults)
       → form ≡ record {
         column = list_any (lacks_position query.fields) query.order;
-        twin = has_twin_aliases query.from;
+        duplicate = has_duplicate_aliases query.from;
         alias = false;
         mismatch = false;
         too_many = passes_query_limits query;
@@ -57,7 +57,7 @@ module _ (schema : Schema) (query : Query) (catalog : Schema) (catalog_is : cata
             ∙ λ j. (list_any (field_lacks_column (catalog_is j) (from_is j)) (fields_are j)
             || list_any (some_side (field_lacks_column (catalog_is j) (from_is j))) query.atoms)
             || list_any (lacks_position query.fields) query.order) i;
-        twin = has_twin_aliases query.from;
+        duplicate = has_duplicate_aliases query.from;
         alias = list_any (lacks_alias (from_is i)) (fields_are i) || list_any (some_side (lacks_alias (from_is i))) query.atoms;
         mismatch = list_any (λ (a : Atom FieldName). mismatches (field_type (catalog_is i) (from_is i)) a.left a.right) query.atoms;
         too_many = passes_query_limits query;

@@ -10,7 +10,7 @@ use Rattle.mm_schema.specs.Rows.{Pair, changed, goes, same_in_column}
 use Rattle.mm_schema.proofs.ChangedRows.{row_comes, row_stays}
 use Rattle.mm_schema.proofs.Orderings.{equal_from_is_eq}
 use Rattle.mm_schema.proofs.StrictOrder.{Contains-from_IsIn, IsIn, IsIn-from_Contains}
-use Rattle.mm_schema.proofs.Twins.{Row}
+use Rattle.mm_schema.proofs.Duplicates.{Row}
 
 -- ---- elements that pass a test
 

@@ -12,7 +12,7 @@ use Rattle.mm_value.specs.declared.refusal.Refusal.{Refusal}
 use Rattle.mm_value.specs.declared.refusal.Refusal.TheVariants.{NameTaken, NoSuchColumn, NoSuchTable}
 use Rattle.mm_query.specs.Binding.{AssignmentsWithin, BindsDelete, BindsUpdate, TestsWithin, assignments_for, at_first, atoms_for, tests_for}
 use Rattle.mm_query.specs.Faults.{fault_conditions, noted}
-use Rattle.mm_query.specs.Placing.{assignment_lacks_column, atom_lacks_column, column_conditions, has_twin_targets, mapped_atom, mismatches, placed_assignment, placed_atom, type_named}
+use Rattle.mm_query.specs.Placing.{assignment_lacks_column, atom_lacks_column, column_conditions, has_duplicate_targets, mapped_atom, mismatches, placed_assignment, placed_atom, type_named}
 use Rattle.mm_query.specs.declared.atom.Assignment.{Assignment}
 use Rattle.mm_query.specs.declared.atom.Atom.{Atom}
 use Rattle.mm_query.specs.declared.bound_query.FieldPlace.{FieldPlace}
@@ -50,7 +50,7 @@ module _ (columns : List Column) (tests read : List (Atom (List ℕ))) (read_is 
 
   abbrev form_of : List (Assignment (List ℕ)) → List (Atom (List ℕ)) → Faults
   form_of assignments tests =
-      record { column = false; twin = has_twin_targets assignments; alias = false; mismatch = false; too_many = nat_lt 16 (length tests) }
+      record { column = false; duplicate = has_duplicate_targets assignments; alias = false; mismatch = false; too_many = nat_lt 16 (length tests) }
 
   pub due_of_update : (assignments first : List (Assignment (List ℕ))) → first ≡ assignments → (form then all : Faults) → form ≡ form_of first read
       → then ≡ noted (list_any (assignment_lacks_column columns) assignments) false

@@ -57,15 +57,15 @@ value_conditions (Insert table tuples) state = []
 value_conditions (Update table assignments tests) state = range_conditions (new_values (own_pairs (Update table assignments tests) state))
 value_conditions (Delete table tests) state = []
 
--- ---- rows that go along (the CASCADE of SQL's referential actions)
+-- ---- cascaded rows (the CASCADE of SQL's referential actions)
 
 -- The rows of the table of a name that edits take away or change.
 abbrev pub old_rows : List ℕ → List TableEdits → List (List Value)
 old_rows name edits = filter_map (λ (p : Pair). p.0) (pairs_of name edits)
 
--- A row goes along with the rows of some removals: it has in a CASCADE column the key of one of them.
-abbrev pub goes_along : Schema → List TableEdits → List Column → List Value → Bool
-goes_along schema edits columns row =
+-- A row is cascaded by some removals: it has in a CASCADE column the key of a row that they remove.
+abbrev pub is_cascaded : Schema → List TableEdits → List Column → List Value → Bool
+is_cascaded schema edits columns row =
     list_any (λ (r : ℕ × List ℕ). list_any (refers r.0 (key_named r.1 schema) row) (old_rows r.1 edits)) (cascading_of columns)
 
 -- Edits with those of one table more, unless these are none.
@@ -73,12 +73,12 @@ abbrev pub also : List TableEdits → List ℕ → List Pair → List TableEdits
 also edits table [] = edits
 also edits table (pair ∷ pairs) = edits ++ record { table = table; pairs = pair ∷ pairs } ∷ []
 
--- Removals, and behind them, table by table in the order of creation, those of the rows that go along with what goes by then. A
+-- Removals, and behind them, table by table in the order of creation, those of the rows that are cascaded by what goes by then. A
 -- column refers to an older table, so none is missed.
 abbrev pub with_cascades : Schema → List Table → Instance → List TableEdits → List TableEdits
 with_cascades schema (table ∷ tables) (rows ∷ others) edits =
     with_cascades schema tables others
-    (also edits table.definition.name (removals_of (filter (goes_along schema edits table.definition.columns) rows)))
+    (also edits table.definition.name (removals_of (filter (is_cascaded schema edits table.definition.columns) rows)))
 with_cascades schema (table ∷ tables) [] edits = edits
 with_cascades schema [] rows edits = edits
 
@@ -86,7 +86,7 @@ with_cascades schema [] rows edits = edits
 abbrev pub own_edits : Mutation → State → TableEdits
 own_edits mutation state = record { table = changed_table mutation; pairs = own_pairs mutation state }
 
--- The pairs of each table that a change concerns, those of the table that it names first. DELETE takes with it the rows that go along.
+-- The pairs of each table that a change concerns, those of the table that it names first. DELETE takes the cascaded rows with it.
 abbrev pub edits : Mutation → State → List TableEdits
 edits (Insert table tuples) state = own_edits (Insert table tuples) state ∷ []
 edits (Update table assignments tests) state = own_edits (Update table assignments tests) state ∷ []

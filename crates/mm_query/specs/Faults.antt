@@ -14,7 +14,7 @@ noted column alias mismatch faults =
 abbrev pub fault_conditions : Refusal → Faults → List Condition
 fault_conditions taken faults =
     record { holds = faults.column; refusal = NoSuchColumn }
-    ∷ record { holds = faults.twin; refusal = taken }
+    ∷ record { holds = faults.duplicate; refusal = taken }
     ∷ record { holds = faults.alias; refusal = NoSuchAlias }
     ∷ record { holds = faults.mismatch; refusal = TypeMismatch }
     ∷ record { holds = faults.too_many; refusal = TooMany }

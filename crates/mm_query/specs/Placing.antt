@@ -91,16 +91,16 @@ mismatches type_at name operand = differ (type_at name) (operand_type type_at op
 -- ---- conditions
 
 -- A column stands twice in SET.
-abbrev pub has_twin_targets : List (Assignment (List ℕ)) → Bool
-has_twin_targets [] = false
-has_twin_targets (a ∷ others) = list_any (λ (b : Assignment (List ℕ)). same_name a.column b.column) others || has_twin_targets others
+abbrev pub has_duplicate_targets : List (Assignment (List ℕ)) → Bool
+has_duplicate_targets [] = false
+has_duplicate_targets (a ∷ others) = list_any (λ (b : Assignment (List ℕ)). same_name a.column b.column) others || has_duplicate_targets others
 
 -- What refuses an UPDATE by the columns of its table, in the one order: there are at most 16 tests. A DELETE is an UPDATE without
 -- assignments here.
 abbrev pub column_conditions : List Column → List (Assignment (List ℕ)) → List (Atom (List ℕ)) → List Condition
 column_conditions columns assignments tests =
     record { holds = list_any (assignment_lacks_column columns) assignments || list_any (atom_lacks_column columns) tests; refusal = NoSuchColumn }
-    ∷ record { holds = has_twin_targets assignments; refusal = NameTaken }
+    ∷ record { holds = has_duplicate_targets assignments; refusal = NameTaken }
     ∷ record {
       holds = list_any (λ (a : Assignment (List ℕ)). mismatches (type_named columns) a.column a.source) assignments
           || list_any (λ (t : Atom (List ℕ)). mismatches (type_named columns) t.left t.right) tests;

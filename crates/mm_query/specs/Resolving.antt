@@ -85,9 +85,9 @@ abbrev pub some_field : (FieldName → Bool) → Query → Bool
 some_field test query = list_any test query.fields || list_any (some_side test) query.atoms
 
 -- Some alias stands twice.
-abbrev pub has_twin_aliases : List FromItem → Bool
-has_twin_aliases [] = false
-has_twin_aliases (item ∷ items) = list_any (λ other. same_name item.alias other.alias) items || has_twin_aliases items
+abbrev pub has_duplicate_aliases : List FromItem → Bool
+has_duplicate_aliases [] = false
+has_duplicate_aliases (item ∷ items) = list_any (λ other. same_name item.alias other.alias) items || has_duplicate_aliases items
 
 -- No field stands at the position.
 abbrev pub lacks_position : List FieldName → ℕ → Bool
@@ -111,7 +111,7 @@ missing_conditions query schema =
 -- What refuses a query by its aliases and its types, in the one order.
 abbrev pub ill_formed_conditions : Query → Schema → List Condition
 ill_formed_conditions query schema =
-    record { holds = has_twin_aliases query.from; refusal = AliasTaken }
+    record { holds = has_duplicate_aliases query.from; refusal = AliasTaken }
     ∷ record { holds = some_field (lacks_alias query.from) query; refusal = NoSuchAlias }
     ∷ record {
       holds = list_any (λ (a : Atom FieldName). mismatches (field_type schema query.from) a.left a.right) query.atoms;

@@ -24,7 +24,7 @@ pub(crate) struct Faults {
     /// Some column or position of ORDER isn't there.
     pub column: bool,
     /// Some alias, or some column of SET, stands twice.
-    pub twin: bool,
+    pub duplicate: bool,
     /// Some alias isn't there.
     pub alias: bool,
     /// Two sides differ in type, or a text is shifted.
@@ -40,7 +40,7 @@ impl Faults {
     {
         if self.column {
             Some(Refusal::NoSuchColumn)
-        } else if self.twin {
+        } else if self.duplicate {
             Some(taken)
         } else if self.alias {
             Some(Refusal::NoSuchAlias)

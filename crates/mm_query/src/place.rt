@@ -5,7 +5,7 @@ ghost use Rattle.mm_schema.specs.Name.{same_name};
 ghost use Rattle.mm_value.specs.declared.refusal.Refusal.TheVariants.{Memory};
 ghost use Rattle.mm_query.specs.Binding.{at_first};
 ghost use Rattle.mm_query.specs.Faults.{noted};
-ghost use Rattle.mm_query.specs.Placing.{assignment_lacks_column, atom_lacks_column, differ, has_twin_targets, lacks_column, mapped_atom, mapped_operand, mismatches, operand_lacks_column, operand_type, placed, placed_assignment, placed_atom, placed_operand, shifts_text, type_named};
+ghost use Rattle.mm_query.specs.Placing.{assignment_lacks_column, atom_lacks_column, differ, has_duplicate_targets, lacks_column, mapped_atom, mapped_operand, mismatches, operand_lacks_column, operand_type, placed, placed_assignment, placed_atom, placed_operand, shifts_text, type_named};
 ghost use Rattle.mm_query.specs.declared.atom.Assignment.{Assignment as Assigned};
 ghost use Rattle.mm_query.specs.declared.atom.Atom.{Atom as Test};
 
@@ -21,14 +21,15 @@ use std::alloc::Global;
 /// The most tests of a change.
 pub const MAX_TESTS: usize = 16;
 
-/// What is amiss with a change apart from its columns: twins in SET and the count of its tests. A DELETE has no assignments.
+/// What is amiss with a change apart from its columns: duplicates in SET and the count of its tests. A DELETE has no
+/// assignments.
 pub(crate) fn form_faults(
     assignments: &[Assignment<NameRef<'_>>],
     tests: &[Atom<NameRef<'_>>],
 ) -> Faults
     ensures { result ≡ record {
       column = false;
-      twin = has_twin_targets assignments.now;
+      duplicate = has_duplicate_targets assignments.now;
       alias = false;
       mismatch = false;
       too_many = nat_lt 16 (length tests.now);
@@ -36,7 +37,7 @@ pub(crate) fn form_faults(
 {
     Faults {
         column: false,
-        twin: has_twin_targets(assignments),
+        duplicate: has_duplicate_targets(assignments),
         alias: false,
         mismatch: false,
         too_many: tests.len() > MAX_TESTS,
@@ -44,8 +45,8 @@ pub(crate) fn form_faults(
 }
 
 /// Whether some column stands twice in SET.
-fn has_twin_targets(assignments: &[Assignment<NameRef<'_>>]) -> bool
-    ensures { result ≡ has_twin_targets assignments.now }
+fn has_duplicate_targets(assignments: &[Assignment<NameRef<'_>>]) -> bool
+    ensures { result ≡ has_duplicate_targets assignments.now }
 {
     for (i, assignment) in assignments.iter().enumerate() {
         if assigns_to(&assignments[i + 1..], &assignment.column) {

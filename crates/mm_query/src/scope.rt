@@ -9,7 +9,7 @@ ghost use Rattle.mm_value.specs.declared.refusal.Refusal.TheVariants.{Memory, No
 ghost use Rattle.mm_query.specs.Faults.{noted};
 ghost use Rattle.mm_query.specs.Fields.{FieldName as Field};
 ghost use Rattle.mm_query.specs.Placing.{differ, mapped_atom, mapped_operand, mismatches, operand_type, shifts_text};
-ghost use Rattle.mm_query.specs.Resolving.{alias_place, column_of, field_lacks_column, field_type, has_twin_aliases, lacks_alias, lacks_position, passes_query_limits, placed_field, places_in, some_side};
+ghost use Rattle.mm_query.specs.Resolving.{alias_place, column_of, field_lacks_column, field_type, has_duplicate_aliases, lacks_alias, lacks_position, passes_query_limits, placed_field, places_in, some_side};
 ghost use Rattle.mm_query.specs.declared.atom.Atom.{Atom as Test};
 ghost use Rattle.mm_query.specs.declared.query.FromItem.{FromItem as Item};
 
@@ -215,11 +215,11 @@ impl<'a> Scope<'a> {
     }
 }
 
-/// What is amiss with a query apart from its tables and fields: positions of ORDER, twin aliases and counts.
+/// What is amiss with a query apart from its tables and fields: positions of ORDER, duplicate aliases and counts.
 pub(crate) fn form_faults(query: &Query<'_>) -> Faults
     ensures { result ≡ record {
       column = list_any (lacks_position query.now.fields) query.now.order;
-      twin = has_twin_aliases query.now.from;
+      duplicate = has_duplicate_aliases query.now.from;
       alias = false;
       mismatch = false;
       too_many = passes_query_limits query.now;
@@ -227,7 +227,7 @@ pub(crate) fn form_faults(query: &Query<'_>) -> Faults
 {
     Faults {
         column: misses_position(query),
-        twin: has_twin_aliases(query.from.as_slice()),
+        duplicate: has_duplicate_aliases(query.from.as_slice()),
         alias: false,
         mismatch: false,
         too_many: passes_limits(query),
@@ -235,8 +235,8 @@ pub(crate) fn form_faults(query: &Query<'_>) -> Faults
 }
 
 /// Whether some alias stands twice.
-fn has_twin_aliases(from: &[FromItem]) -> bool
-    ensures { result ≡ has_twin_aliases from.now }
+fn has_duplicate_aliases(from: &[FromItem]) -> bool
+    ensures { result ≡ has_duplicate_aliases from.now }
 {
     for (i, item) in from.iter().enumerate() {
         if has_alias(&from[i + 1..], &item.alias) {

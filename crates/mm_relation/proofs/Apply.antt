@@ -14,12 +14,12 @@ use Rattle.mm_value.specs.declared.values.Value.{Value}
 use Rattle.mm_schema.specs.Rows.{column_cmp}
 use Rattle.mm_partition.specs.Places.{Live}
 use Rattle.mm_relation.specs.Refs.{Slots, HasRow, row_in, row_at, IsWide}
-use Rattle.mm_relation.specs.Edits.{Among, edit_name, edit_other, entry_name, entry_other, new_rows}
+use Rattle.mm_relation.specs.Edits.{Among, edit_name, edit_other, new_rows, record_name, record_other}
 use Rattle.mm_relation.specs.Changes.{Changes, Standing}
 use Rattle.mm_relation.specs.Differs.{Differs}
 use Rattle.mm_relation.specs.Index.{InOrder, KeysApart, Keeps, Taken, Put, EachTurns, column_of, spare_of, unmoved}
 use Rattle.mm_relation.specs.Kept.{IsKept, Stay, rows_after, RowsApart}
-use Rattle.mm_relation.specs.declared.log.Entry.{Entry}
+use Rattle.mm_relation.specs.declared.log.UndoRecord.{UndoRecord}
 use Rattle.mm_relation.specs.declared.edits.Edit.{Edit}
 use Rattle.mm_relation.specs.declared.index.Index.{Index}
 use Rattle.mm_relation.specs.declared.names.Side.TheVariants.{Old, New}
@@ -49,11 +49,11 @@ sized width new (x ∷ xs) (r ∷ rs) e all at row is here =
     (Contains-append_cases (x ∷ []) xs at here)
 
 -- as many references come as there are new rows
-pub length-news : (es : List Edit) (ns : List Entry) (old new : Slots) → Standing old es → Changes es old ns new → length (news ns) ≡ length (new_rows es)
+pub length-news : (es : List Edit) (ns : List UndoRecord) (old new : Slots) → Standing old es → Changes es old ns new → length (news ns) ≡ length (new_rows es)
 length-news es ns old new standing changes = length_same new (news ns) (new_rows es) (new_rows_stand es ns old new standing changes)
 
 -- from the rows before the edits to those after them
-pub Differs-changes : (es : List Edit) (ns : List Entry) (old new : Slots) → Standing old es → Changes es old ns new → Differs old new (olds es) (news ns)
+pub Differs-changes : (es : List Edit) (ns : List UndoRecord) (old new : Slots) → Standing old es → Changes es old ns new → Differs old new (olds es) (news ns)
 Differs-changes es ns old new standing changes = record {
   out_live = standing.live;
   out_apart = standing.apart;
@@ -76,15 +76,15 @@ module _ (width key : ℕ) (old : Slots) (refs : List RowRef) (indexes : List In
   pub wide_olds : All (λ x. All (IsWide (column_of x) key old) (olds edits)) indexes
   wide_olds = wide_outs width key old refs indexes was (olds edits) standing.live standing.apart
 
-  module _ (new : Slots) (noted : List Entry) (changes : Changes edits old noted new) (left : List RowRef) (stay : Stay refs edits left) where
-    stand : map new (news noted) ≡ map Live (new_rows edits)
-    stand = new_rows_stand edits noted old new standing changes
+  module _ (new : Slots) (logged : List UndoRecord) (changes : Changes edits old logged new) (left : List RowRef) (stay : Stay refs edits left) where
+    stand : map new (news logged) ≡ map Live (new_rows edits)
+    stand = new_rows_stand edits logged old new standing changes
 
-    differs : Differs old new (olds edits) (news noted)
-    differs = Differs-changes edits noted old new standing changes
+    differs : Differs old new (olds edits) (news logged)
+    differs = Differs-changes edits logged old new standing changes
 
-    paired : EditsPaired old new edits noted
-    paired = EditsPaired-changes old new edits noted standing changes
+    paired : EditsPaired old new edits logged
+    paired = EditsPaired-changes old new edits logged standing changes
 
     rows_left : (xs : List RowRef) → Same old new xs → map (row_at new) xs ≡ map (row_at old) xs
     rows_left [] same = refl
@@ -93,22 +93,22 @@ module _ (width key : ℕ) (old : Slots) (refs : List RowRef) (indexes : List In
         ap (λ (c : List Value). c ∷ map (row_at new) xs) one
         ∙ ap (λ (cs : List (List Value)). row_at old x ∷ cs) (rows_left xs (All-tail (λ r. new r ≡ old r) x xs same))
 
-    pub rows : map (row_at new) (news noted ++ left) ≡ rows_after old edits left
-    rows = map-append (row_at new) (news noted) left
-        ∙ (ap (λ (xs : List (List Value)). xs ++ map (row_at new) left) (rows_from new (news noted) (new_rows edits) stand)
+    pub rows : map (row_at new) (news logged ++ left) ≡ rows_after old edits left
+    rows = map-append (row_at new) (news logged) left
+        ∙ (ap (λ (xs : List (List Value)). xs ++ map (row_at new) left) (rows_from new (news logged) (new_rows edits) stand)
         ∙ ap (λ (xs : List (List Value)). new_rows edits ++ xs)
-        (rows_left left (stays width key old refs indexes was new (olds edits) (news noted) differs left stay)))
+        (rows_left left (stays width key old refs indexes was new (olds edits) (news logged) differs left stay)))
 
-    pub keys_apart : RowsApart key (rows_after old edits left) → KeysApart key new (news noted ++ left)
+    pub keys_apart : RowsApart key (rows_after old edits left) → KeysApart key new (news logged ++ left)
     keys_apart all i j d before within =
         let f = row_at new in
-        let xs : List RowRef = news noted ++ left in
+        let xs : List RowRef = news logged ++ left in
         let mapped : RowsApart key (map f xs) = subst (RowsApart key) (sym rows) all in
         let there : column_cmp key (get_or (map f xs) i (f d)) (get_or (map f xs) j (f d)) ≢ Equal = mapped i j (f d) before (omega (arith, length-map xs f)) in
         rw (← get_or-map f xs i d, ← get_or-map f xs j d) there
 
     -- the rows after the edits, however the references that stay are listed
-    pub rows_moved : (kept more : List RowRef) → Stay refs edits kept → IsPermutation (news noted ++ left) more
+    pub rows_moved : (kept more : List RowRef) → Stay refs edits kept → IsPermutation (news logged ++ left) more
         → IsPermutation (rows_after old edits kept) (map (row_at new) more)
     rows_moved kept more same moved =
         let other : IsPermutation kept left = refs_cancel (olds edits) kept left
@@ -116,55 +116,55 @@ module _ (width key : ℕ) (old : Slots) (refs : List RowRef) (indexes : List In
         let first : IsPermutation (rows_after old edits kept) (rows_after old edits left) = IsPermutation-append_right (new_rows edits)
         (map (row_at old) kept) (map (row_at old) left) (IsPermutation-map (row_at old) kept left other) in
         IsPermutation-trans (rows_after old edits kept) (rows_after old edits left) (map (row_at new) more) first
-        (subst (λ (xs : List (List Value)). IsPermutation xs (map (row_at new) more)) rows (IsPermutation-map (row_at new) (news noted ++ left) more moved))
+        (subst (λ (xs : List (List Value)). IsPermutation xs (map (row_at new) more)) rows (IsPermutation-map (row_at new) (news logged ++ left) more moved))
 
     module _ (sizes : All (λ row. length row ≡ width) (new_rows edits)) where
       wide_after : (at : RowRef) (row : List Value) → new at ≡ Live row → length row ≡ width
       wide_after at row is =
           let live : HasRow new at = (row, is) in
           ⊎_elim
-          (λ (h : Contains (news noted) at). sized width new (news noted) (new_rows edits) stand sizes at row is h)
-          (λ (h : HasRow old at × (Contains (olds edits) at → ⊥)). let same : new at ≡ old at = row_stays edits noted old new at changes h.0 h.1 in
+          (λ (h : Contains (news logged) at). sized width new (news logged) (new_rows edits) stand sizes at row is h)
+          (λ (h : HasRow old at × (Contains (olds edits) at → ⊥)). let same : new at ≡ old at = row_stays edits logged old new at changes h.0 h.1 in
           was.wide at row (sym same ∙ is))
-          (came edits noted old new at changes live)
+          (came edits logged old new at changes live)
 
-      pub wide_news : (column : ℕ) → column < width → All (IsWide column key new) (news noted)
+      pub wide_news : (column : ℕ) → column < width → All (IsWide column key new) (news logged)
       wide_news column within =
-          wide_ins edit_name edit_other Old entry_name entry_other New width key old new refs indexes was edits noted differs paired wide_after left stay
+          wide_ins edit_name edit_other Old record_name record_other New width key old new refs indexes was edits logged differs paired wide_after left stay
           column within
 
       module _ (held : List RowRef) (holds : IsPermutation held (staying edit_name edit_other key key old Old edits ++ left)) where
         pub order_stands : InOrder key key old held → InOrder key key new held
         order_stands ordered =
-            phase.order_stands edit_name edit_other Old entry_name entry_other New width key old new refs indexes was edits noted differs paired
+            phase.order_stands edit_name edit_other Old record_name record_other New width key old new refs indexes was edits logged differs paired
             wide_after left stay held holds ordered
 
-        pub held_beside : IsPermutation held (staying entry_name entry_other key key new New noted ++ left)
+        pub held_beside : IsPermutation held (staying record_name record_other key key new New logged ++ left)
         held_beside =
-            phase.held_beside edit_name edit_other Old entry_name entry_other New width key old new refs indexes was edits noted differs paired
+            phase.held_beside edit_name edit_other Old record_name record_other New width key old new refs indexes was edits logged differs paired
             wide_after left stay held holds
 
       module _ (some : List Index)
           (taken : EachTurns (λ x. Taken key old (olds edits) (unmoved edit_name edit_other key old Old edits x) x) indexes some) where
-        pub keep_some : All (λ y. Keeps key new (unmoved entry_name entry_other key new New noted y ++ left) y) some
+        pub keep_some : All (λ y. Keeps key new (unmoved record_name record_other key new New logged y ++ left) y) some
         keep_some =
-            phase.keep_some edit_name edit_other Old entry_name entry_other New width key old new refs indexes was edits noted differs paired wide_after
+            phase.keep_some edit_name edit_other Old record_name record_other New width key old new refs indexes was edits logged differs paired wide_after
             left stay some taken
 
-        pub wide_some : All (λ x. All (IsWide (column_of x) key new) (news noted)) some
+        pub wide_some : All (λ x. All (IsWide (column_of x) key new) (news logged)) some
         wide_some =
-            phase.wide_some edit_name edit_other Old entry_name entry_other New width key old new refs indexes was edits noted differs paired wide_after
+            phase.wide_some edit_name edit_other Old record_name record_other New width key old new refs indexes was edits logged differs paired wide_after
             left stay some taken
 
-        pub spare_some : All (λ x. length (new_rows edits) ≤ spare_of x) indexes → All (λ x. length (news noted) ≤ spare_of x) some
+        pub spare_some : All (λ x. length (new_rows edits) ≤ spare_of x) indexes → All (λ x. length (news logged) ≤ spare_of x) some
         spare_some all =
-            subst (λ (n : ℕ). All (λ x. n ≤ spare_of x) some) (sym (length-news edits noted old new standing changes))
-            (phase.spare_some edit_name edit_other Old entry_name entry_other New width key old new refs indexes was edits noted differs paired wide_after
+            subst (λ (n : ℕ). All (λ x. n ≤ spare_of x) some) (sym (length-news edits logged old new standing changes))
+            (phase.spare_some edit_name edit_other Old record_name record_other New width key old new refs indexes was edits logged differs paired wide_after
             left stay some taken (length (new_rows edits)) all)
 
-        module _ (more : List RowRef) (moved : IsPermutation (news noted ++ left) more) (full : List Index)
-            (put : EachTurns (λ x. Put key new (news noted) (unmoved entry_name entry_other key new New noted x) x) some full) where
+        module _ (more : List RowRef) (moved : IsPermutation (news logged ++ left) more) (full : List Index)
+            (put : EachTurns (λ x. Put key new (news logged) (unmoved record_name record_other key new New logged x) x) some full) where
           pub after : InOrder key key new more → IsKept width key new more full
           after ordered =
-              phase.after edit_name edit_other Old entry_name entry_other New width key old new refs indexes was edits noted differs paired wide_after
+              phase.after edit_name edit_other Old record_name record_other New width key old new refs indexes was edits logged differs paired wide_after
               left stay some taken more moved full put ordered

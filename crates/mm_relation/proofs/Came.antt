@@ -8,21 +8,21 @@ use Rattle.mm_value.specs.declared.row_ref.RowRef.{RowRef}
 use Rattle.mm_value.specs.declared.values.Value.{Value}
 use Rattle.mm_partition.specs.Places.{Live, Hidden}
 use Rattle.mm_relation.specs.Refs.{Slots, HasRow, IsWide}
-use Rattle.mm_relation.specs.Edits.{entry_name, named, new_rows}
+use Rattle.mm_relation.specs.Edits.{named, new_rows, record_name}
 use Rattle.mm_relation.specs.Changes.{Step, Changes}
-use Rattle.mm_relation.specs.declared.log.Entry.{Entry}
-use Rattle.mm_relation.specs.declared.log.Entry.TheVariants.{Added, Changed, Removed}
+use Rattle.mm_relation.specs.declared.log.UndoRecord.{UndoRecord}
+use Rattle.mm_relation.specs.declared.log.UndoRecord.TheVariants.{Added, Changed, Removed}
 use Rattle.mm_relation.specs.declared.edits.Edit.{Edit}
 use Rattle.mm_relation.specs.declared.edits.Edit.TheVariants.{Add, Swap, Gone}
 use Rattle.mm_relation.specs.declared.names.Side.TheVariants.{New}
 use Rattle.mm_relation.proofs.RefTests.{same_or_apart, only}
 use Rattle.mm_relation.proofs.Changed.{olds, olds_split, single}
 
-abbrev pub news : List Entry → List RowRef
-news ns = named entry_name New ns
+abbrev pub news : List UndoRecord → List RowRef
+news ns = named record_name New ns
 
-pub news_split : (n : Entry) (ns : List Entry) → news (n ∷ ns) ≡ news (n ∷ []) ++ news ns
-news_split n ns = filter_map-append (λ (x : Entry). entry_name x New) (n ∷ []) ns
+pub news_split : (n : UndoRecord) (ns : List UndoRecord) → news (n ∷ ns) ≡ news (n ∷ []) ++ news ns
+news_split n ns = filter_map-append (λ (x : UndoRecord). record_name x New) (n ∷ []) ns
 
 pub empty : (x : RowRef) → Contains [] x → ⊥
 empty x here = let no : ⊥ = omega arith in no
@@ -31,7 +31,7 @@ empty x here = let no : ⊥ = omega arith in no
 abbrev Old : List Edit → Slots → RowRef → Type 0
 Old es old x = HasRow old x × (Contains (olds es) x → ⊥)
 
-step_came : (old mid : Slots) (e : Edit) (n : Entry) (x : RowRef) → Step e old n mid → HasRow mid x → Contains (news (n ∷ [])) x ⊎ Old (e ∷ []) old x
+step_came : (old mid : Slots) (e : Edit) (n : UndoRecord) (x : RowRef) → Step e old n mid → HasRow mid x → Contains (news (n ∷ [])) x ⊎ Old (e ∷ []) old x
 step_came old mid (Add row) (Added r) x step live =
     ⊎_elim (λ (same : x ≡ r). inl (single r x same))
     (λ (apart : x ≢ r). let was : HasRow old x = (live.0, sym (step.turns.others x apart) ∙ live.1) in inr (was, empty x)) (same_or_apart x r)
@@ -51,7 +51,7 @@ step_came old mid (Gone at) (Removed r) x step live =
     inr (was, λ (h : Contains (at ∷ []) x). apart (sym (only at x h)))) (same_or_apart x at)
 
 -- a row that stands is a new one, or it was there and no edit names it
-pub came : (es : List Edit) (ns : List Entry) (old new : Slots) (x : RowRef) → Changes es old ns new → HasRow new x → Contains (news ns) x ⊎ Old es old x
+pub came : (es : List Edit) (ns : List UndoRecord) (old new : Slots) (x : RowRef) → Changes es old ns new → HasRow new x → Contains (news ns) x ⊎ Old es old x
 came [] [] old new x changes live = let was : HasRow old x = (live.0, sym (ap (λ (f : Slots). f x) changes) ∙ live.1) in inr (was, empty x)
 came [] (n ∷ ns) old new x changes live = absurd changes
 came (e ∷ es) [] old new x changes live = absurd changes

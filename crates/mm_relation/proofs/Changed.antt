@@ -11,10 +11,10 @@ use Rattle.mm_partition.specs.Places.{Content, Free, Live, Hidden}
 use Rattle.mm_order.proofs.Pairs.{All-append_left, All-append_right, AllPairs-append_left, AllPairs-append_right, AllPairs-append_across}
 use Rattle.mm_relation.specs.Refs.{Slots, HasRow, Turns, row_in, row_at}
 use Rattle.mm_relation.specs.Before.{same_ref, shown, step_back, before}
-use Rattle.mm_relation.specs.Edits.{edit_name, entry_name, named, new_rows, is_addition, added_count}
+use Rattle.mm_relation.specs.Edits.{edit_name, record_name, named, new_rows, is_addition, added_count}
 use Rattle.mm_relation.specs.Changes.{Moves, Step, Changes, Standing}
-use Rattle.mm_relation.specs.declared.log.Entry.{Entry}
-use Rattle.mm_relation.specs.declared.log.Entry.TheVariants.{Added, Changed, Removed}
+use Rattle.mm_relation.specs.declared.log.UndoRecord.{UndoRecord}
+use Rattle.mm_relation.specs.declared.log.UndoRecord.TheVariants.{Added, Changed, Removed}
 use Rattle.mm_relation.specs.declared.edits.Edit.{Edit}
 use Rattle.mm_relation.specs.declared.edits.Edit.TheVariants.{Add, Swap, Gone}
 use Rattle.mm_relation.specs.declared.names.Side.TheVariants.{Old, New}
@@ -62,7 +62,7 @@ turned now mid es at to standing turns absent = record {
 }
 
 -- after the first edit the old rows of the others still stand
-pub Standing-rest : (now mid : Slots) (e : Edit) (n : Entry) (es : List Edit) → Standing now (e ∷ es) → Step e now n mid → Standing mid es
+pub Standing-rest : (now mid : Slots) (e : Edit) (n : UndoRecord) (es : List Edit) → Standing now (e ∷ es) → Step e now n mid → Standing mid es
 Standing-rest now mid (Add row) (Added r) es all step = turned now mid es r (Live row) (Standing-behind now (Add row) es all) step.turns
     (free_absent now es r (Standing-behind now (Add row) es all) step.was)
 Standing-rest now mid (Add row) (Changed r was) es all step = absurd step
@@ -85,7 +85,7 @@ back_at old mid at from to back moves is x =
     ap (λ y. back (mid y)) (sym same) ∙ (ap back moves.turns.changed ∙ (is ∙ (sym moves.was ∙ ap old same))))
     (λ skips. moves.turns.others x (λ same. let both : true ≡ false = sym (test_from_same at x (sym same)) ∙ skips in cc))
 
-step_back_is : (old mid : Slots) (e : Edit) (n : Entry) → Step e old n mid → step_back n mid ≡ old
+step_back_is : (old mid : Slots) (e : Edit) (n : UndoRecord) → Step e old n mid → step_back n mid ≡ old
 step_back_is old mid (Add row) (Added r) step = alike (step_back (Added r) mid) old (back_at old mid r Free (Live row) (λ c. Free) step refl)
 step_back_is old mid (Add row) (Changed r was) step = absurd step
 step_back_is old mid (Add row) (Removed r) step = absurd step
@@ -98,8 +98,8 @@ step_back_is old mid (Gone at) (Changed r was) step = absurd step
 step_back_is old mid (Gone at) (Removed r) step = ap (λ (x : RowRef). step_back (Removed x) mid) step.0
     ∙ alike (step_back (Removed at) mid) old (back_at old mid at (Live step.1.0) (Hidden step.1.0) shown step.1.1 refl)
 
--- the entries take all edits back
-pub before_changes : (es : List Edit) (ns : List Entry) (old new : Slots) → Changes es old ns new → before ns new ≡ old
+-- the undo records take all edits back
+pub before_changes : (es : List Edit) (ns : List UndoRecord) (old new : Slots) → Changes es old ns new → before ns new ≡ old
 before_changes [] [] old new changes = changes
 before_changes [] (n ∷ ns) old new changes = absurd changes
 before_changes (e ∷ es) [] old new changes = absurd changes
@@ -108,7 +108,8 @@ before_changes (e ∷ es) (n ∷ ns) old new changes = ap (step_back n) (before_
 pub single : (at x : RowRef) → x ≡ at → Contains (at ∷ []) x
 single at x same = subst (Contains (at ∷ [])) (sym same) (Contains-push [] at)
 
-pub step_others : (old mid : Slots) (e : Edit) (n : Entry) (x : RowRef) → Step e old n mid → HasRow old x → (Contains (olds (e ∷ [])) x → ⊥) → mid x ≡ old x
+pub step_others : (old mid : Slots) (e : Edit) (n : UndoRecord) (x : RowRef) → Step e old n mid → HasRow old x → (Contains (olds (e ∷ [])) x → ⊥)
+    → mid x ≡ old x
 step_others old mid (Add row) (Added r) x step live absent = step.turns.others x
     (λ same. let both : Live live.0 ≡ Free = sym live.1 ∙ (ap old same ∙ step.was) in cc)
 step_others old mid (Add row) (Changed r was) x step live absent = absurd step
@@ -121,7 +122,7 @@ step_others old mid (Gone at) (Changed r was) x step live absent = absurd step
 step_others old mid (Gone at) (Removed r) x step live absent = step.1.1.turns.others x (λ same. absent (single at x same))
 
 -- a row that no edit names stays
-pub row_stays : (es : List Edit) (ns : List Entry) (old new : Slots) (x : RowRef) → Changes es old ns new → HasRow old x → (Contains (olds es) x → ⊥)
+pub row_stays : (es : List Edit) (ns : List UndoRecord) (old new : Slots) (x : RowRef) → Changes es old ns new → HasRow old x → (Contains (olds es) x → ⊥)
     → new x ≡ old x
 row_stays [] [] old new x changes live absent = ap (λ (f : Slots). f x) changes
 row_stays [] (n ∷ ns) old new x changes live absent = absurd changes
@@ -134,29 +135,29 @@ row_stays (e ∷ es) (n ∷ ns) old new x changes live absent =
     (λ here. absent (subst (λ (xs : List RowRef). Contains xs x) (sym (olds_split e es)) (Contains-append_right (olds (e ∷ [])) (olds es) x here)))
     ∙ first
 
--- the entries name the new rows, each where it stands now
-pub new_rows_stand : (es : List Edit) (ns : List Entry) (old new : Slots) → Standing old es → Changes es old ns new
-    → map new (named entry_name New ns) ≡ map Live (new_rows es)
+-- the undo records name the new rows, each where it stands now
+pub new_rows_stand : (es : List Edit) (ns : List UndoRecord) (old new : Slots) → Standing old es → Changes es old ns new
+    → map new (named record_name New ns) ≡ map Live (new_rows es)
 new_rows_stand [] [] old new standing changes = refl
 new_rows_stand [] (n ∷ ns) old new standing changes = absurd changes
 new_rows_stand (e ∷ es) [] old new standing changes = absurd changes
 new_rows_stand (Add row ∷ es) (Added r ∷ ns) old new standing changes =
-    let rest : map new (named entry_name New ns) ≡ map Live (new_rows es) = new_rows_stand es ns changes.0 new
+    let rest : map new (named record_name New ns) ≡ map Live (new_rows es) = new_rows_stand es ns changes.0 new
     (Standing-rest old changes.0 (Add row) (Added r) es standing changes.1) changes.2 in
     let here : HasRow changes.0 r = (row, changes.1.turns.changed) in
     let stays : new r ≡ Live row = row_stays es ns changes.0 new r changes.2 here
     (free_absent old es r (Standing-behind old (Add row) es standing) changes.1.was) ∙ changes.1.turns.changed in
-    ap (λ (c : Content). c ∷ map new (named entry_name New ns)) stays ∙ ap (λ (cs : List Content). Live row ∷ cs) rest
+    ap (λ (c : Content). c ∷ map new (named record_name New ns)) stays ∙ ap (λ (cs : List Content). Live row ∷ cs) rest
 new_rows_stand (Add row ∷ es) (Changed r was ∷ ns) old new standing changes = absurd changes.1
 new_rows_stand (Add row ∷ es) (Removed r ∷ ns) old new standing changes = absurd changes.1
 new_rows_stand (Swap at row ∷ es) (Added r ∷ ns) old new standing changes = absurd changes.1
 new_rows_stand (Swap at row ∷ es) (Changed r was ∷ ns) old new standing changes =
-    let rest : map new (named entry_name New ns) ≡ map Live (new_rows es) = new_rows_stand es ns changes.0 new
+    let rest : map new (named record_name New ns) ≡ map Live (new_rows es) = new_rows_stand es ns changes.0 new
     (Standing-rest old changes.0 (Swap at row) (Changed r was) es standing changes.1) changes.2 in
     let here : HasRow changes.0 at = (row, changes.1.1.turns.changed) in
     let stays : new r ≡ Live row = ap new changes.1.0
     ∙ (row_stays es ns changes.0 new at changes.2 here (first_absent at (olds es) standing.apart) ∙ changes.1.1.turns.changed) in
-    ap (λ (c : Content). c ∷ map new (named entry_name New ns)) stays ∙ ap (λ (cs : List Content). Live row ∷ cs) rest
+    ap (λ (c : Content). c ∷ map new (named record_name New ns)) stays ∙ ap (λ (cs : List Content). Live row ∷ cs) rest
 new_rows_stand (Swap at row ∷ es) (Removed r ∷ ns) old new standing changes = absurd changes.1
 new_rows_stand (Gone at ∷ es) (Added r ∷ ns) old new standing changes = absurd changes.1
 new_rows_stand (Gone at ∷ es) (Changed r was ∷ ns) old new standing changes = absurd changes.1

@@ -6,7 +6,7 @@ pub mod Checks
 pub mod Gathered
 pub mod InColumn
 pub mod Indexing
-pub mod KeyLookups
+pub mod KeyLookUps
 pub mod Lawful
 pub mod Made
 pub mod OneKey
@@ -27,8 +27,8 @@ pub mod Steps
 pub mod Storables
 pub mod TakenBack
 pub mod Turning
-pub mod Twins
-pub mod TwinsAfter
+pub mod Duplicates
+pub mod DuplicatesAfter
 pub mod Unmoved
 pub mod WalkRows
 pub mod WaysBack

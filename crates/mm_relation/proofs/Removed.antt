@@ -12,8 +12,8 @@ use Rattle.mm_relation.specs.Edits.{removed}
 use Rattle.mm_relation.specs.Changes.{Step, Changes, Standing, AreHidden}
 use Rattle.mm_relation.specs.Index.{Keeps}
 use Rattle.mm_relation.specs.Kept.{IsKept}
-use Rattle.mm_relation.specs.declared.log.Entry.{Entry}
-use Rattle.mm_relation.specs.declared.log.Entry.TheVariants.{Added, Changed, Removed}
+use Rattle.mm_relation.specs.declared.log.UndoRecord.{UndoRecord}
+use Rattle.mm_relation.specs.declared.log.UndoRecord.TheVariants.{Added, Changed, Removed}
 use Rattle.mm_relation.specs.declared.edits.Edit.{Edit}
 use Rattle.mm_relation.specs.declared.edits.Edit.TheVariants.{Add, Swap, Gone}
 use Rattle.mm_relation.specs.declared.index.Index.{Index}
@@ -29,7 +29,7 @@ abbrev IsKeptHidden : Slots → RowRef → Type 0
 IsKeptHidden now at = (row : List Value) × (now at ≡ Hidden row)
 
 -- a step changes no slot of a hidden row
-step_hidden : (old mid : Slots) (e : Edit) (n : Entry) (x : RowRef) (row : List Value) → Step e old n mid
+step_hidden : (old mid : Slots) (e : Edit) (n : UndoRecord) (x : RowRef) (row : List Value) → Step e old n mid
     → old x ≡ Hidden row → mid x ≡ Hidden row
 step_hidden old mid (Add new) (Added r) x row step is =
     step.turns.others x (λ same. let both : Hidden row ≡ Free = sym is ∙ (ap old same ∙ step.was) in cc) ∙ is
@@ -45,7 +45,7 @@ step_hidden old mid (Gone at) (Removed r) x row step is =
     step.1.1.turns.others x (λ same. let both : Hidden row ≡ Live step.1.0 = sym is ∙ (ap old same ∙ step.1.1.was) in cc) ∙ is
 
 -- nor do the edits
-pub hidden_stays : (es : List Edit) (ns : List Entry) (old new : Slots) (x : RowRef) (row : List Value) → Changes es old ns new
+pub hidden_stays : (es : List Edit) (ns : List UndoRecord) (old new : Slots) (x : RowRef) (row : List Value) → Changes es old ns new
     → old x ≡ Hidden row → new x ≡ Hidden row
 hidden_stays [] [] old new x row changes is = ap (λ (f : Slots). f x) changes ∙ is
 hidden_stays [] (n ∷ ns) old new x row changes is = absurd changes
@@ -54,7 +54,7 @@ hidden_stays (e ∷ es) (n ∷ ns) old new x row changes is =
     hidden_stays es ns changes.0 new x row changes.2 (step_hidden old changes.0 e n x row changes.1 is)
 
 -- what is removed is named by an edit
-removed_named : (es : List Edit) (ns : List Entry) (old new : Slots) (x : RowRef) → Changes es old ns new
+removed_named : (es : List Edit) (ns : List UndoRecord) (old new : Slots) (x : RowRef) → Changes es old ns new
     → Contains (removed ns) x → Contains (olds es) x
 removed_named [] [] old new x changes here = here
 removed_named [] (n ∷ ns) old new x changes here = absurd changes
@@ -75,7 +75,7 @@ removed_named (Gone at ∷ es) (Removed r ∷ ns) old new x changes here =
     (Contains-append_cases (r ∷ []) (removed ns) x here)
 
 -- the removed rows are hidden after the edits
-pub removed_hidden : (es : List Edit) (ns : List Entry) (old new : Slots) → Standing old es → Changes es old ns new
+pub removed_hidden : (es : List Edit) (ns : List UndoRecord) (old new : Slots) → Standing old es → Changes es old ns new
     → AreHidden new (removed ns)
 removed_hidden [] [] old new standing changes = record { hidden = All-nil (IsKeptHidden new); apart = λ i j d before within. absurd (omega arith) }
 removed_hidden [] (n ∷ ns) old new standing changes = absurd changes

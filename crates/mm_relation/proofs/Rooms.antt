@@ -10,7 +10,7 @@ use Rattle.mm_relation.specs.RowLists.{edit_pairs, rows_of}
 use Rattle.mm_relation.specs.Differs.{Differs}
 use Rattle.mm_relation.specs.Changes.{Changes, Standing}
 use Rattle.mm_relation.specs.declared.edits.Edit.{Edit}
-use Rattle.mm_relation.specs.declared.log.Entry.{Entry}
+use Rattle.mm_relation.specs.declared.log.UndoRecord.{UndoRecord}
 use Rattle.mm_relation.specs.HashedPairs.{hashed_pair}
 use Rattle.mm_relation.specs.Index.{InOrder, Keeps, EachTurns, Taken, Put, SameIndex, SameEntries, Grown, column_of, kind_of, spare_of}
 use Rattle.mm_relation.specs.Kept.{StoredRows, IsKept, SameButRoom, KeysStayApart, HasRowsAfter, Stay, rows_after, RowsApart}
@@ -84,7 +84,7 @@ module _ (old mid : StoredRows) (same : SameButRoom old mid) where
   pub Standing-same : (edits : List Edit) → Standing (slot_at old.places) edits → Standing (slot_at mid.places) edits
   Standing-same edits standing = subst (λ (now : Slots). Standing now edits) (sym slots_same) standing
 
-  pub Changes-same : (edits : List Edit) (entries : List Entry) (then : Slots) → Changes edits (slot_at mid.places) entries then
+  pub Changes-same : (edits : List Edit) (entries : List UndoRecord) (then : Slots) → Changes edits (slot_at mid.places) entries then
       → Changes edits (slot_at old.places) entries then
   Changes-same edits entries then changes = subst (λ (now : Slots). Changes edits now entries then) slots_same changes
 

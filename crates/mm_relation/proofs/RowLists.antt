@@ -16,10 +16,10 @@ use Rattle.std.proofs.lemmas.List.Sorted.{IsPermutation-append_comm, IsPermutati
 use Rattle.std.proofs.lemmas.List.Sorted.{IsPermutation-sym, IsPermutation-trans}
 use Rattle.mm_value.specs.declared.row_ref.RowRef.{RowRef}
 use Rattle.mm_value.specs.declared.values.Value.{Value}
-use Rattle.mm_schema.specs.Rows.{IsInKeyOrder, Pair, changed, column_cmp, goes, has_twin_keys, same_in_column, unsorted}
+use Rattle.mm_schema.specs.Rows.{IsInKeyOrder, Pair, changed, column_cmp, goes, has_duplicate_keys, same_in_column, unsorted}
 use Rattle.mm_schema.proofs.InOrder.{IsPermutation-in_order, in_order_is}
 use Rattle.mm_schema.proofs.StrictOrder.{IsStrictlySortedBy-from_neighbours}
-use Rattle.mm_schema.proofs.Twins.{column_cmp_total, has_twin_keys-IsPermutation}
+use Rattle.mm_schema.proofs.Duplicates.{column_cmp_total, has_duplicate_keys-IsPermutation}
 use Rattle.mm_order.proofs.Filtered.{filter-all, filter-none}
 use Rattle.mm_order.proofs.Pairs.{AllPairs-append_across}
 use Rattle.mm_relation.specs.Refs.{Slots, row_in, row_at}
@@ -81,14 +81,14 @@ module _ (key : ℕ) (now : Slots) (refs : List RowRef) (ordered : InOrder key k
       let r : RowRef = record { part = 0; slot = 0 } in
       rw (at_place now refs r k d (omega (arith, below)), at_place now refs r (suc k) d below) (key_less k (suc k) r (omega arith) below))
 
--- rows without twins have keys that are apart
-pub RowsApart-from_twins : (key : ℕ) (rows : List (List Value)) → has_twin_keys key rows ≡ false → RowsApart key rows
-RowsApart-from_twins key [] none = λ i j d before within. absurd (omega arith)
-RowsApart-from_twins key (r ∷ rs) none =
-    let parts = or_parts (list_any (same_in_column key r) rs) (has_twin_keys key rs) none in
+-- rows without duplicates have keys that are apart
+pub RowsApart-from_duplicates : (key : ℕ) (rows : List (List Value)) → has_duplicate_keys key rows ≡ false → RowsApart key rows
+RowsApart-from_duplicates key [] none = λ i j d before within. absurd (omega arith)
+RowsApart-from_duplicates key (r ∷ rs) none =
+    let parts = or_parts (list_any (same_in_column key r) rs) (has_duplicate_keys key rs) none in
     AllPairs-cons (λ x y. column_cmp key x y ≢ Equal) r rs
     (λ k d within same. false≢true (sym parts.0 ∙ list_any_at (same_in_column key r) rs k d within (ap is_eq same)))
-    (RowsApart-from_twins key rs parts.1)
+    (RowsApart-from_duplicates key rs parts.1)
 
 -- where the slots of all references stay, the rows do
 pub rows_same : (old new : Slots) (refs : List RowRef) → Same old new refs → map (row_at new) refs ≡ map (row_at old) refs
@@ -190,10 +190,10 @@ module _ (key : ℕ) (now : Slots) where
         IsPermutation-trans _ _ _ (before_sorting refs ordered (e ∷ es) kept stay)
         (IsPermutation-in_order (column_cmp key) (unsorted key (edit_pairs now (e ∷ es)) (map (row_at now) refs)))
 
-    -- .. so they have twins where these have, ..
-    pub twins_after : (edits : List Edit) (kept : List RowRef) → Stay refs edits kept
-        → has_twin_keys key (rows_after now edits kept) ≡ has_twin_keys key (changed key (edit_pairs now edits) (map (row_at now) refs))
-    twins_after edits kept stay = has_twin_keys-IsPermutation key _ _ (IsPermutation-changed edits kept stay)
+    -- .. so they have duplicates where these have, ..
+    pub duplicates_after : (edits : List Edit) (kept : List RowRef) → Stay refs edits kept
+        → has_duplicate_keys key (rows_after now edits kept) ≡ has_duplicate_keys key (changed key (edit_pairs now edits) (map (row_at now) refs))
+    duplicates_after edits kept stay = has_duplicate_keys-IsPermutation key _ _ (IsPermutation-changed edits kept stay)
 
     -- .. and rows in key order that are these in some order are just the changed ones.
     pub changed_is : (edits : List Edit) (kept : List RowRef) → Stay refs edits kept → (rows : List (List Value))

@@ -13,20 +13,20 @@ use Rattle.mm_value.specs.declared.values.Value.{Value}
 use Rattle.mm_value.proofs.Orders.{value_cmp_exact}
 use Rattle.mm_schema.specs.Rows.{column_cmp, same_in_column}
 use Rattle.mm_schema.proofs.Orderings.{equal_from_is_eq}
-use Rattle.mm_schema.proofs.Twins.{same_in_column_comm}
+use Rattle.mm_schema.proofs.Duplicates.{same_in_column_comm}
 use Rattle.mm_partition.specs.Places.{Live}
 use Rattle.mm_order.proofs.Pairs.{All-append_right, AllPairs-append_across}
 use Rattle.mm_relation.specs.Refs.{Slots, HasRow, IsWide, row_in, row_at, refs_by}
 use Rattle.mm_relation.specs.HashedPairs.{hash_of, hashed_pair}
-use Rattle.mm_relation.specs.Edits.{edit_name, edit_other, entry_name, entry_other}
+use Rattle.mm_relation.specs.Edits.{edit_name, edit_other, record_name, record_other}
 use Rattle.mm_relation.specs.Changes.{Step, Changes, Standing}
 use Rattle.mm_relation.specs.Index.{InOrder, Keeps, column_of, kind_of, tie_column, unmoved}
 use Rattle.mm_relation.specs.Moves.{agree, moves, passed}
 use Rattle.mm_relation.specs.declared.index.Index.{Index}
 use Rattle.mm_relation.specs.declared.index.Index.TheVariants.{Tree, Hash}
 use Rattle.mm_schema.specs.declared.index.IndexKind.TheVariants as kind
-use Rattle.mm_relation.specs.declared.log.Entry.{Entry}
-use Rattle.mm_relation.specs.declared.log.Entry.TheVariants.{Added, Changed, Removed}
+use Rattle.mm_relation.specs.declared.log.UndoRecord.{UndoRecord}
+use Rattle.mm_relation.specs.declared.log.UndoRecord.TheVariants.{Added, Changed, Removed}
 use Rattle.mm_relation.specs.declared.edits.Edit.{Edit}
 use Rattle.mm_relation.specs.declared.edits.Edit.TheVariants.{Add, Swap, Gone}
 use Rattle.mm_relation.specs.declared.names.Side.{Side}
@@ -54,16 +54,16 @@ module _ {T U : Type 0} (name : T → Side → Option RowRef) (other : T → Opt
   ArePaired (t ∷ ts) [] = ⊥
   ArePaired (t ∷ ts) (u ∷ us) = IsPair old new (name t side) (other t) (later u end) (former u) × ArePaired ts us
 
--- ---- edits beside their entries
+-- ---- edits beside their undo records
 
-abbrev pub EditsPaired : Slots → Slots → List Edit → List Entry → Type 0
-EditsPaired old new es ns = ArePaired edit_name edit_other Old entry_name entry_other New old new es ns
+abbrev pub EditsPaired : Slots → Slots → List Edit → List UndoRecord → Type 0
+EditsPaired old new es ns = ArePaired edit_name edit_other Old record_name record_other New old new es ns
 
-abbrev EditPaired : Slots → Slots → Edit → Entry → Type 0
-EditPaired old new e n = IsPair old new (edit_name e Old) (edit_other e) (entry_name n New) (entry_other n)
+abbrev EditPaired : Slots → Slots → Edit → UndoRecord → Type 0
+EditPaired old new e n = IsPair old new (edit_name e Old) (edit_other e) (record_name n New) (record_other n)
 
 -- what the other edits name stands after the first edit as it did
-stand_still : (start mid next : Slots) (e : Edit) (n : Entry) (es : List Edit) → Standing mid (e ∷ es) → Step e mid n next
+stand_still : (start mid next : Slots) (e : Edit) (n : UndoRecord) (es : List Edit) → Standing mid (e ∷ es) → Step e mid n next
     → All (λ r. start r ≡ mid r) (olds (e ∷ es)) → All (λ r. start r ≡ next r) (olds es)
 stand_still start mid next e n es standing step same k d within =
     let at : RowRef = get_or (olds es) k d in
@@ -78,7 +78,7 @@ stand_still start mid next e n es standing step same k d within =
     was ∙ sym (step_others mid next e n at step live
     (λ first. All-contains (λ y. at ≢ y) (olds es) at (All-contains (λ x. All (λ y. x ≢ y) (olds es)) (olds (e ∷ [])) at across first) here refl))
 
-first_pair : (start mid next new : Slots) (e : Edit) (n : Entry) (es : List Edit) (ns : List Entry) → Standing mid (e ∷ es) → Step e mid n next
+first_pair : (start mid next new : Slots) (e : Edit) (n : UndoRecord) (es : List Edit) (ns : List UndoRecord) → Standing mid (e ∷ es) → Step e mid n next
     → Changes es next ns new → All (λ r. start r ≡ mid r) (olds (e ∷ es)) → EditPaired start new e n
 first_pair start mid next new (Add row) (Added r) es ns standing step changes same = tt
 first_pair start mid next new (Add row) (Changed r was) es ns standing step changes same = absurd step
@@ -95,7 +95,7 @@ first_pair start mid next new (Gone at) (Added r) es ns standing step changes sa
 first_pair start mid next new (Gone at) (Changed r was) es ns standing step changes same = absurd step
 first_pair start mid next new (Gone at) (Removed r) es ns standing step changes same = tt
 
-pairs_from : (start mid new : Slots) (es : List Edit) (ns : List Entry) → Standing mid es → Changes es mid ns new
+pairs_from : (start mid new : Slots) (es : List Edit) (ns : List UndoRecord) → Standing mid es → Changes es mid ns new
     → All (λ r. start r ≡ mid r) (olds es) → EditsPaired start new es ns
 pairs_from start mid new [] [] standing changes same = tt
 pairs_from start mid new [] (n ∷ ns) standing changes same = absurd changes
@@ -106,7 +106,7 @@ pairs_from start mid new (e ∷ es) (n ∷ ns) standing changes same = (
       (stand_still start mid changes.0 e n es standing changes.1 same),
 )
 
-pub EditsPaired-changes : (old new : Slots) (es : List Edit) (ns : List Entry) → Standing old es → Changes es old ns new → EditsPaired old new es ns
+pub EditsPaired-changes : (old new : Slots) (es : List Edit) (ns : List UndoRecord) → Standing old es → Changes es old ns new → EditsPaired old new es ns
 EditsPaired-changes old new es ns standing changes = pairs_from old old new es ns standing changes (λ k d within. refl)
 
 -- ---- what stays is the same on both sides, and its values are

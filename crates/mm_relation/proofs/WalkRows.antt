@@ -15,7 +15,7 @@ use Rattle.mm_schema.specs.Sorting.{in_order}
 use Rattle.mm_schema.proofs.InOrder.{IsPermutation-in_order, IsSorted-in_order}
 use Rattle.mm_schema.proofs.Orderings.{less_from_no_tie}
 use Rattle.mm_schema.proofs.StrictOrder.{Contains-from_IsIn, IsIn, IsIn-from_Contains, IsStrictlySortedBy-from_neighbours, same_from_elements}
-use Rattle.mm_schema.proofs.Twins.{column_cmp_total}
+use Rattle.mm_schema.proofs.Duplicates.{column_cmp_total}
 use Rattle.mm_schema.specs.declared.index.IndexKind.TheVariants as kind
 use Rattle.ttree.specs.Held.{Held}
 use Rattle.mm_relation.specs.Index.{InOrder, Keeps, KeysApart, column_of}

@@ -1,4 +1,4 @@
--- What edits of the slots noted can be taken back.
+-- What edits of the slots logged can be taken back.
 use Rattle.std.proofs.Common.{◌≡◌, ◌≢◌, ◌⊎◌, inl, inr, ⊎_elim, List, [], ◌∷◌, refl, sym, ap, ◌∙◌, subst, arith}
 use Rattle.std.specs.List.{AllPairs, Contains}
 use Rattle.std.proofs.lemmas.List.Elements.{Contains-get_or, Contains-append_left, Contains-append_right, Contains-append_cases}
@@ -9,10 +9,10 @@ use Rattle.mm_relation.specs.Refs.{Slots, HasRow}
 use Rattle.mm_relation.specs.Before.{Stands}
 use Rattle.mm_relation.specs.Before.{StandsBack}
 use Rattle.mm_relation.specs.Differs.{Differs}
-use Rattle.mm_relation.specs.Edits.{entry_name, named, new_rows}
+use Rattle.mm_relation.specs.Edits.{named, new_rows, record_name}
 use Rattle.mm_relation.specs.Changes.{Step, Changes, Standing}
-use Rattle.mm_relation.specs.declared.log.Entry.{Entry}
-use Rattle.mm_relation.specs.declared.log.Entry.TheVariants.{Added, Changed, Removed}
+use Rattle.mm_relation.specs.declared.log.UndoRecord.{UndoRecord}
+use Rattle.mm_relation.specs.declared.log.UndoRecord.TheVariants.{Added, Changed, Removed}
 use Rattle.mm_relation.specs.declared.edits.Edit.{Edit}
 use Rattle.mm_relation.specs.declared.edits.Edit.TheVariants.{Add, Swap, Gone}
 use Rattle.mm_relation.specs.declared.names.Side.TheVariants.{Old}
@@ -21,7 +21,7 @@ use Rattle.mm_relation.proofs.Changed.{olds, olds_split, single, first_absent, f
 use Rattle.mm_relation.proofs.Changed.{new_rows_stand}
 use Rattle.mm_relation.proofs.Came.{news, news_split, empty, came, live_from}
 
-step_stands : (old mid : Slots) (e : Edit) (n : Entry) → Step e old n mid → Stands mid n
+step_stands : (old mid : Slots) (e : Edit) (n : UndoRecord) → Step e old n mid → Stands mid n
 step_stands old mid (Add row) (Added r) step = (row, step.turns.changed)
 step_stands old mid (Add row) (Changed r was) step = absurd step
 step_stands old mid (Add row) (Removed r) step = absurd step
@@ -32,8 +32,8 @@ step_stands old mid (Gone at) (Added r) step = absurd step
 step_stands old mid (Gone at) (Changed r was) step = absurd step
 step_stands old mid (Gone at) (Removed r) step = (step.1.0, ap mid step.0 ∙ step.1.1.turns.changed)
 
--- each entry tells of what its edit left
-pub StandsBack-changes : (es : List Edit) (ns : List Entry) (old new : Slots) → Changes es old ns new → StandsBack ns new
+-- each undo record fits what its edit left
+pub StandsBack-changes : (es : List Edit) (ns : List UndoRecord) (old new : Slots) → Changes es old ns new → StandsBack ns new
 StandsBack-changes [] [] old new changes = tt
 StandsBack-changes [] (n ∷ ns) old new changes = absurd changes
 StandsBack-changes (e ∷ es) [] old new changes = absurd changes
@@ -43,8 +43,8 @@ StandsBack-changes (e ∷ es) (n ∷ ns) old new changes = (
       (step_stands old changes.0 e n changes.1),
 )
 
--- the entries name the old rows of the edits
-pub old_names : (es : List Edit) (ns : List Entry) (old new : Slots) → Changes es old ns new → named entry_name Old ns ≡ olds es
+-- the undo records name the old rows of the edits
+pub old_names : (es : List Edit) (ns : List UndoRecord) (old new : Slots) → Changes es old ns new → named record_name Old ns ≡ olds es
 old_names [] [] old new changes = refl
 old_names [] (n ∷ ns) old new changes = absurd changes
 old_names (e ∷ es) [] old new changes = absurd changes
@@ -52,16 +52,16 @@ old_names (Add row ∷ es) (Added r ∷ ns) old new changes = old_names es ns ch
 old_names (Add row ∷ es) (Changed r was ∷ ns) old new changes = absurd changes.1
 old_names (Add row ∷ es) (Removed r ∷ ns) old new changes = absurd changes.1
 old_names (Swap at row ∷ es) (Added r ∷ ns) old new changes = absurd changes.1
-old_names (Swap at row ∷ es) (Changed r was ∷ ns) old new changes = ap (λ (x : RowRef). x ∷ named entry_name Old ns) changes.1.0
+old_names (Swap at row ∷ es) (Changed r was ∷ ns) old new changes = ap (λ (x : RowRef). x ∷ named record_name Old ns) changes.1.0
     ∙ ap (λ (xs : List RowRef). at ∷ xs) (old_names es ns changes.0 new changes.2)
 old_names (Swap at row ∷ es) (Removed r ∷ ns) old new changes = absurd changes.1
 old_names (Gone at ∷ es) (Added r ∷ ns) old new changes = absurd changes.1
 old_names (Gone at ∷ es) (Changed r was ∷ ns) old new changes = absurd changes.1
-old_names (Gone at ∷ es) (Removed r ∷ ns) old new changes = ap (λ (x : RowRef). x ∷ named entry_name Old ns) changes.1.0
+old_names (Gone at ∷ es) (Removed r ∷ ns) old new changes = ap (λ (x : RowRef). x ∷ named record_name Old ns) changes.1.0
     ∙ ap (λ (xs : List RowRef). at ∷ xs) (old_names es ns changes.0 new changes.2)
 
 -- a row is named by the first edit, or stands after it
-step_keeps : (old mid : Slots) (e : Edit) (n : Entry) (x : RowRef) → Step e old n mid → HasRow old x → Contains (olds (e ∷ [])) x ⊎ HasRow mid x
+step_keeps : (old mid : Slots) (e : Edit) (n : UndoRecord) (x : RowRef) → Step e old n mid → HasRow old x → Contains (olds (e ∷ [])) x ⊎ HasRow mid x
 step_keeps old mid (Add row) (Added r) x step live = let is : mid x ≡ old x = step.turns.others x
     (λ same. let both : Live live.0 ≡ Free = sym live.1 ∙ (ap old same ∙ step.was) in cc) in let it : HasRow mid x = (live.0, is ∙ live.1) in inr it
 step_keeps old mid (Add row) (Changed r was) x step live = absurd step
@@ -75,7 +75,8 @@ step_keeps old mid (Gone at) (Changed r was) x step live = absurd step
 step_keeps old mid (Gone at) (Removed r) x step live = ⊎_elim (λ (same : x ≡ at). inl (single at x same))
     (λ (apart : x ≢ at). let it : HasRow mid x = (live.0, step.1.1.turns.others x apart ∙ live.1) in inr it) (same_or_apart x at)
 
-step_fresh : (old mid : Slots) (e : Edit) (n : Entry) (x : RowRef) → Step e old n mid → Contains (news (n ∷ [])) x → HasRow old x → Contains (olds (e ∷ [])) x
+step_fresh : (old mid : Slots) (e : Edit) (n : UndoRecord) (x : RowRef) → Step e old n mid → Contains (news (n ∷ [])) x → HasRow old x
+    → Contains (olds (e ∷ [])) x
 step_fresh old mid (Add row) (Added r) x step here live = let both : Live live.0 ≡ Free = sym live.1 ∙ (ap old (sym (only r x here)) ∙ step.was) in cc
 step_fresh old mid (Add row) (Changed r was) x step here live = absurd step
 step_fresh old mid (Add row) (Removed r) x step here live = absurd step
@@ -87,7 +88,7 @@ step_fresh old mid (Gone at) (Changed r was) x step here live = absurd step
 step_fresh old mid (Gone at) (Removed r) x step here live = absurd (empty x here)
 
 -- a new row stands where none stood, or where an edit names the old one
-pub fresh : (es : List Edit) (ns : List Entry) (old new : Slots) (x : RowRef) → Changes es old ns new → Contains (news ns) x → HasRow old x
+pub fresh : (es : List Edit) (ns : List UndoRecord) (old new : Slots) (x : RowRef) → Changes es old ns new → Contains (news ns) x → HasRow old x
     → Contains (olds es) x
 fresh [] [] old new x changes here live = here
 fresh [] (n ∷ ns) old new x changes here live = absurd changes
@@ -110,7 +111,7 @@ first_news : (at : RowRef) (xs : List RowRef) → (Contains xs at → ⊥) → A
 first_news at xs absent apart = AllPairs-cons (λ (a b : RowRef). a ≢ b) at xs
     (λ k d within same. absent (subst (Contains xs) (sym same) (Contains-get_or xs k d within))) apart
 
-pub news_apart : (es : List Edit) (ns : List Entry) (old new : Slots) → Standing old es → Changes es old ns new → AllPairs (λ a b. a ≢ b) (news ns)
+pub news_apart : (es : List Edit) (ns : List UndoRecord) (old new : Slots) → Standing old es → Changes es old ns new → AllPairs (λ a b. a ≢ b) (news ns)
 news_apart [] [] old new standing changes = λ i j d before within. let no : ⊥ = omega arith in absurd no
 news_apart [] (n ∷ ns) old new standing changes = absurd changes
 news_apart (e ∷ es) [] old new standing changes = absurd changes
@@ -145,7 +146,7 @@ among (y ∷ ys) x =
     (same_or_apart x y)
 
 -- the way back from what the edits left to what stood
-pub Differs-back : (es : List Edit) (ns : List Entry) (old new : Slots) → Standing old es → Changes es old ns new → Differs new old (news ns) (olds es)
+pub Differs-back : (es : List Edit) (ns : List UndoRecord) (old new : Slots) → Standing old es → Changes es old ns new → Differs new old (news ns) (olds es)
 Differs-back es ns old new standing changes = record {
   out_live = live_from new (news ns) (new_rows es) (new_rows_stand es ns old new standing changes);
   out_apart = news_apart es ns old new standing changes;

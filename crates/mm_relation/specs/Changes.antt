@@ -1,12 +1,12 @@
--- What edits do to the slots, and what is noted of them.
+-- What edits do to the slots, and what is logged of them.
 use Rattle.std.specs.Prelude.{◌≡◌, ◌≢◌, List, [], ◌∷◌, All, AllPairs}
 use Rattle.mm_value.specs.declared.row_ref.RowRef.{RowRef}
 use Rattle.mm_value.specs.declared.values.Value.{Value}
 use Rattle.mm_partition.specs.Places.{Content, Free, Live, Hidden}
 use Rattle.mm_relation.specs.Refs.{Slots, HasRow, Turns}
 use Rattle.mm_relation.specs.Edits.{edit_name, named}
-use Rattle.mm_relation.specs.declared.log.Entry.{Entry}
-use Rattle.mm_relation.specs.declared.log.Entry.TheVariants.{Added, Changed, Removed}
+use Rattle.mm_relation.specs.declared.log.UndoRecord.{UndoRecord}
+use Rattle.mm_relation.specs.declared.log.UndoRecord.TheVariants.{Added, Changed, Removed}
 use Rattle.mm_relation.specs.declared.edits.Edit.{Edit}
 use Rattle.mm_relation.specs.declared.edits.Edit.TheVariants.{Add, Swap, Gone}
 use Rattle.mm_relation.specs.declared.names.Side.TheVariants.{Old}
@@ -16,8 +16,8 @@ pub record Moves (old new : Slots) (at : RowRef) (from to : Content) : Type 0 wh
   pub was : old at ≡ from
   pub turns : Turns old new at to
 
--- one edit, and its entry
-abbrev pub Step : Edit → Slots → Entry → Slots → Type 0
+-- one edit, and its undo record
+abbrev pub Step : Edit → Slots → UndoRecord → Slots → Type 0
 Step (Add row) old (Added r) new = Moves old new r Free (Live row)
 Step (Add row) old (Changed r was) new = ⊥
 Step (Add row) old (Removed r) new = ⊥
@@ -28,8 +28,8 @@ Step (Gone at) old (Added r) new = ⊥
 Step (Gone at) old (Changed r was) new = ⊥
 Step (Gone at) old (Removed r) new = (r ≡ at) × ((was : List Value) × Moves old new at (Live was) (Hidden was))
 
--- edits in their order, each with its entry
-abbrev pub Changes : List Edit → Slots → List Entry → Slots → Type 0
+-- edits in their order, each with its undo record
+abbrev pub Changes : List Edit → Slots → List UndoRecord → Slots → Type 0
 Changes [] old [] new = new ≡ old
 Changes [] old (n ∷ ns) new = ⊥
 Changes (e ∷ es) old [] new = ⊥

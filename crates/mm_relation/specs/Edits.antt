@@ -1,9 +1,9 @@
--- Edits of a table, and the references that they and the log's entries name.
+-- Edits of a table, and the references that they and undo records name.
 use Rattle.std.specs.Prelude.{ℕ, Bool, true, false, List, ◌++◌, Option, Some, None, filter_map, count_by, IsPermutation}
 use Rattle.mm_value.specs.declared.row_ref.RowRef.{RowRef}
 use Rattle.mm_value.specs.declared.values.Value.{Value}
-use Rattle.mm_relation.specs.declared.log.Entry.{Entry}
-use Rattle.mm_relation.specs.declared.log.Entry.TheVariants.{Added, Changed, Removed}
+use Rattle.mm_relation.specs.declared.log.UndoRecord.{UndoRecord}
+use Rattle.mm_relation.specs.declared.log.UndoRecord.TheVariants.{Added, Changed, Removed}
 use Rattle.mm_relation.specs.declared.edits.Edit.{Edit}
 use Rattle.mm_relation.specs.declared.edits.Edit.TheVariants.{Add, Swap, Gone}
 use Rattle.mm_relation.specs.declared.names.Side.{Side}
@@ -16,28 +16,28 @@ edit_name (Swap at row) side = Some at
 edit_name (Gone at) Old = Some at
 edit_name (Gone at) New = None
 
--- the reference of the old or of the new row of an entry
-abbrev pub entry_name : Entry → Side → Option RowRef
-entry_name (Added at) Old = None
-entry_name (Added at) New = Some at
-entry_name (Changed at was) side = Some at
-entry_name (Removed at) Old = Some at
-entry_name (Removed at) New = None
+-- the reference of the old or of the new row of an undo record
+abbrev pub record_name : UndoRecord → Side → Option RowRef
+record_name (Added at) Old = None
+record_name (Added at) New = Some at
+record_name (Changed at was) side = Some at
+record_name (Removed at) Old = Some at
+record_name (Removed at) New = None
 
 -- the reference itself, on both sides
 abbrev pub ref_name : RowRef → Side → Option RowRef
 ref_name at side = Some at
 
--- the row on the other side of a change that an edit keeps before it, an entry after it, and a reference never
+-- the row on the other side of a change that an edit keeps before it, an undo record after it, and a reference never
 abbrev pub edit_other : Edit → Option (List Value)
 edit_other (Add row) = None
 edit_other (Swap at row) = Some row
 edit_other (Gone at) = None
 
-abbrev pub entry_other : Entry → Option (List Value)
-entry_other (Added at) = None
-entry_other (Changed at was) = Some was
-entry_other (Removed at) = None
+abbrev pub record_other : UndoRecord → Option (List Value)
+record_other (Added at) = None
+record_other (Changed at was) = Some was
+record_other (Removed at) = None
 
 abbrev pub ref_other : RowRef → Option (List Value)
 ref_other at = None
@@ -70,12 +70,12 @@ is_addition (Gone at) = false
 abbrev pub added_count : List Edit → ℕ
 added_count edits = count_by is_addition edits
 
--- the reference of the row that an entry removed
-abbrev pub removed_by : Entry → Option RowRef
+-- the reference of the row that was removed, if the undo record is of a removal
+abbrev pub removed_by : UndoRecord → Option RowRef
 removed_by (Added at) = None
 removed_by (Changed at was) = None
 removed_by (Removed at) = Some at
 
--- the references of the rows that the entries removed
-abbrev pub removed : List Entry → List RowRef
+-- the references of the rows that were removed
+abbrev pub removed : List UndoRecord → List RowRef
 removed entries = filter_map removed_by entries

@@ -4,10 +4,10 @@ pub mod Differs
 pub mod Edits
 pub mod HashedPairs
 pub mod Index
+pub mod Inverted
 pub mod Kept
 pub mod KeyRows
 pub mod Lawful
-pub mod LogEntries
 pub mod Moves
 pub mod Orders
 pub mod Reads
@@ -15,4 +15,4 @@ pub mod Refs
 pub mod RowLists
 pub mod Served
 pub mod Sorting
-pub mod Turned
+pub mod UndoRecords

@@ -1,4 +1,4 @@
-//! Edits of the slots, noted so that they can be taken back.
+//! Edits of the slots, logged so that they can be taken back.
 ghost use Rattle.std.specs.Prelude.{◌≡◌, ◌≢◌, ◌+◌, ◌≤◌, [], ◌∷◌, length, AllPairs};
 ghost use Rattle.mm_partition.specs.Places.{slot_at, extent_of};
 ghost use Rattle.std.specs.Prelude.{Contains};
@@ -7,17 +7,17 @@ ghost use Rattle.mm_partition.specs.Places.{Free};
 ghost use Rattle.mm_relation.specs.declared.names.Side.TheVariants.{New, Old};
 ghost use Rattle.mm_relation.specs.Before.{Stands, StandsBack, step_back, before};
 ghost use Rattle.mm_relation.specs.Changes.{Standing, Step, Changes, AreHidden};
-ghost use Rattle.mm_relation.specs.Edits.{added_count, entry_name, named, removed};
+ghost use Rattle.mm_relation.specs.Edits.{added_count, named, record_name, removed};
 ghost use Rattle.mm_relation.specs.Index.{EachTurns};
-ghost use Rattle.mm_relation.specs.Turned.{Turned};
+ghost use Rattle.mm_relation.specs.Inverted.{Inverted};
 
 use crate::edits::Edit;
-use crate::log::{Entry, Log};
+use crate::log::{Log, UndoRecord};
 use mm_partition::Partitions;
 use mm_value::RowRef;
 
 /// Makes one edit of the slots.
-fn change(rows: &mut Partitions, edit: Edit) -> Entry
+fn change(rows: &mut Partitions, edit: Edit) -> UndoRecord
     requires room { added_count (edit ∷ []) ≤ rows.old.room }
     requires standing { Standing (slot_at rows.old) (edit ∷ []) }
     ensures step { Step edit (slot_at rows.old) result (slot_at rows.new) }
@@ -25,16 +25,16 @@ fn change(rows: &mut Partitions, edit: Edit) -> Entry
     ensures extent { extent_of rows.new ≤ extent_of rows.old + added_count (edit ∷ []) }
 {
     match edit {
-        Edit::Add(row) => Entry::Added(rows.place(row)),
-        Edit::Swap(at, row) => Entry::Changed(at, rows.replace(at, row)),
+        Edit::Add(row) => UndoRecord::Added(rows.place(row)),
+        Edit::Swap(at, row) => UndoRecord::Changed(at, rows.replace(at, row)),
         Edit::Gone(at) => {
             rows.hide(at);
-            Entry::Removed(at)
+            UndoRecord::Removed(at)
         }
     }
 }
 
-/// Makes all edits of the slots, and notes them.
+/// Makes all edits of the slots, and logs them.
 pub fn change_each(rows: &mut Partitions, edits: Vec<Edit>, log: &mut Log)
     requires room { added_count edits.items ≤ rows.old.room }
     requires log { length edits.items ≤ log.old.room }
@@ -44,12 +44,12 @@ pub fn change_each(rows: &mut Partitions, edits: Vec<Edit>, log: &mut Log)
     ensures extent { extent_of rows.new ≤ extent_of rows.old + added_count edits.items }
 {
     for edit in edits {
-        log.note(change(rows, edit));
+        log.append(change(rows, edit));
     }
 }
 
-/// Frees the slots of the rows that the entries say were removed.
-pub fn release_each(rows: &mut Partitions, entries: &[Entry])
+/// Frees the slots of the rows that the undo records say were removed.
+pub fn release_each(rows: &mut Partitions, entries: &[UndoRecord])
     requires { AreHidden (slot_at rows.old) (removed entries.now) }
     ensures freed { (at : RowRef) → Contains (removed entries.now) at → slot_at rows.new at ≡ Free }
     ensures others { (at : RowRef) → (Contains (removed entries.now) at → ⊥)
@@ -63,40 +63,40 @@ pub fn release_each(rows: &mut Partitions, entries: &[Entry])
     }
 }
 
-/// Takes one change of the slots back. Its entry keeps the row that was taken away.
-fn take_back(rows: &mut Partitions, entry: Entry) -> Entry
+/// Takes one change of the slots back. Its undo record keeps the row that was taken away.
+fn take_back(rows: &mut Partitions, entry: UndoRecord) -> UndoRecord
     requires { Stands (slot_at rows.old) entry }
     ensures slots { slot_at rows.new ≡ step_back entry (slot_at rows.old) }
-    ensures turned { Turned (slot_at rows.old) entry result }
+    ensures inverted { Inverted (slot_at rows.old) entry result }
     ensures extent { extent_of rows.new ≡ extent_of rows.old }
 {
     match entry {
-        Entry::Added(at) => {
+        UndoRecord::Added(at) => {
             rows.hide(at);
             rows.release(at);
-            Entry::Added(at)
+            UndoRecord::Added(at)
         }
-        Entry::Changed(at, row) => Entry::Changed(at, rows.replace(at, row)),
-        Entry::Removed(at) => {
+        UndoRecord::Changed(at, row) => UndoRecord::Changed(at, rows.replace(at, row)),
+        UndoRecord::Removed(at) => {
             rows.unhide(at);
-            Entry::Removed(at)
+            UndoRecord::Removed(at)
         }
     }
 }
 
-/// Takes all changes of the slots back, the newest first. Each entry of a row that was changed keeps the row that was
-/// taken away. It takes no memory.
+/// Takes all changes of the slots back, the newest first. Each undo record of a row that was changed keeps the row that
+/// was taken away. It takes no memory.
 pub fn take_back_each(rows: &mut Partitions, log: &mut Log)
     requires stands { StandsBack log.old.entries (slot_at rows.old) }
-    requires new_apart { AllPairs (λ a b. a ≢ b) (named entry_name New log.old.entries) }
-    requires old_apart { AllPairs (λ a b. a ≢ b) (named entry_name Old log.old.entries) }
+    requires new_apart { AllPairs (λ a b. a ≢ b) (named record_name New log.old.entries) }
+    requires old_apart { AllPairs (λ a b. a ≢ b) (named record_name Old log.old.entries) }
     ensures slots { slot_at rows.new ≡ before log.old.entries (slot_at rows.old) }
-    ensures turned { EachTurns (Turned (slot_at rows.old)) log.old.entries log.new.entries }
+    ensures inverted { EachTurns (Inverted (slot_at rows.old)) log.old.entries log.new.entries }
     ensures extent { extent_of rows.new ≡ extent_of rows.old }
 {
     for index in (0..log.entries().len()).rev() {
-        // Another entry stands in for this one while it is with the rows.
-        let none = Entry::Added(RowRef { part: 0, slot: 0 });
+        // Another undo record stands in for this one while it is with the rows.
+        let none = UndoRecord::Added(RowRef { part: 0, slot: 0 });
         let entry = log.replace(index, none);
         log.replace(index, take_back(rows, entry));
     }

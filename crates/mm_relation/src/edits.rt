@@ -62,14 +62,14 @@ pub fn count_removals(edits: &[Edit]) -> usize
         .count()
 }
 
-/// How many spare places an index needs for the edits beside those that are owed: one for each reference that comes in
-/// with a new row, and one for each that comes in again with an old row when the edits are taken back. None where that
-/// is no `usize`.
-pub fn count_places(edits: &[Edit], owed: usize) -> Option<usize>
-    ensures some { IfSome result (λ n. n ≡ owed + (length (named edit_name side.Old edits.now) + length (new_rows edits.now))) }
-    ensures none { IsNone result → 2 ^ 64 ≤ owed + (length (named edit_name side.Old edits.now) + length (new_rows edits.now)) }
+/// How many spare places an index needs: `undo_room` of them for the commands before, one for each reference that comes
+/// in with a new row, and one for each that comes in again with an old row when the edits are taken back. None where
+/// that is no `usize`.
+pub fn count_places(edits: &[Edit], undo_room: usize) -> Option<usize>
+    ensures some { IfSome result (λ n. n ≡ undo_room + (length (named edit_name side.Old edits.now) + length (new_rows edits.now))) }
+    ensures none { IsNone result → 2 ^ 64 ≤ undo_room + (length (named edit_name side.Old edits.now) + length (new_rows edits.now)) }
 {
     let old = edits.len() - count_added(edits);
     let new = edits.len() - count_removals(edits);
-    old.checked_add(new)?.checked_add(owed)
+    old.checked_add(new)?.checked_add(undo_room)
 }

@@ -3,7 +3,7 @@ ghost use Rattle.std.specs.Prelude.{◌≡◌, [], ◌∷◌, All, IfOk};
 ghost use Rattle.std.specs.List.{list_any};
 ghost use Rattle.std.specs.List.Sorted.{IsPermutation};
 ghost use Rattle.std.specs.Option.{option_copied};
-ghost use Rattle.mm_schema.specs.Rows.{same_in_column, has_twin_keys};
+ghost use Rattle.mm_schema.specs.Rows.{same_in_column, has_duplicate_keys};
 ghost use Rattle.mm_partition.specs.Places.{slot_at};
 ghost use Rattle.mm_relation.specs.declared.names.Side.TheVariants as side;
 ghost use Rattle.mm_relation.specs.Edits.{edit_name, named};
@@ -81,7 +81,7 @@ pub fn sort_by_key(rows: &mut Vec<&Row>, key: usize)
 /// Whether two of the sorted rows have one key, which then are neighbours.
 pub fn has_equal_neighbours(rows: &[&Row], key: usize) -> bool
     requires { AreByKey key rows.now }
-    ensures { result ≡ has_twin_keys key (rows_of rows.now) }
+    ensures { result ≡ has_duplicate_keys key (rows_of rows.now) }
 {
     !rows.is_sorted_by(|a, b| compare_in(a, b, key).is_lt())
 }

@@ -1,7 +1,7 @@
 //! What one command changed, so that it can be taken back.
 ghost use Rattle.std.specs.Prelude.{◌≡◌, ◌+◌, ◌<◌, ◌≤◌, [], ◌∷◌, ◌++◌, length, slice_get, slice_set, IsOk, OnOk, Some};
 ghost use Rattle.mm_relation.specs.declared.names.Side.TheVariants.{Old};
-ghost use Rattle.mm_relation.specs.Edits.{entry_name, entry_other, named, removed_by};
+ghost use Rattle.mm_relation.specs.Edits.{named, record_name, record_other, removed_by};
 
 use crate::names::{Names, Side};
 use mm_value::{Row, RowRef};
@@ -9,9 +9,9 @@ use std::alloc::{AllocError, Global};
 use std::marker::Model;
 use std::mem;
 
-/// One change of a row.
+/// An undo record: one change of a row.
 #[derive(Drop)]
-pub enum Entry {
+pub enum UndoRecord {
     /// A row was added.
     Added(RowRef),
     /// A row was changed, from this one.
@@ -20,31 +20,31 @@ pub enum Entry {
     Removed(RowRef),
 }
 
-impl Entry {
+impl UndoRecord {
     /// The reference of the row that it removed.
     pub(crate) fn removed(&self) -> Option<RowRef>
         ensures { result ≡ removed_by self.now }
     {
         match self {
-            Entry::Added(_) | Entry::Changed(..) => None,
-            Entry::Removed(at) => Some(*at),
+            UndoRecord::Added(_) | UndoRecord::Changed(..) => None,
+            UndoRecord::Removed(at) => Some(*at),
         }
     }
 }
 
-impl Names for Entry {
-    ghost name = { entry_name };
+impl Names for UndoRecord {
+    ghost name = { record_name };
 
-    ghost other = { entry_other };
+    ghost other = { record_other };
 
     fn name(&self, side: Side) -> Option<RowRef> {
         match self {
-            Entry::Added(at) => match side {
+            UndoRecord::Added(at) => match side {
                 Side::Old => None,
                 Side::New => Some(*at),
             },
-            Entry::Changed(at, _) => Some(*at),
-            Entry::Removed(at) => match side {
+            UndoRecord::Changed(at, _) => Some(*at),
+            UndoRecord::Removed(at) => match side {
                 Side::Old => Some(*at),
                 Side::New => None,
             },
@@ -53,8 +53,8 @@ impl Names for Entry {
 
     fn other_side(&self) -> Option<&Row> {
         match self {
-            Entry::Changed(_, old) => Some(old),
-            Entry::Added(_) | Entry::Removed(_) => None,
+            UndoRecord::Changed(_, old) => Some(old),
+            UndoRecord::Added(_) | UndoRecord::Removed(_) => None,
         }
     }
 }
@@ -62,15 +62,15 @@ impl Names for Entry {
 /// The changes of one command, the oldest first.
 #[derive(Drop)]
 pub struct Log {
-    entries: Vec<Entry>,
+    entries: Vec<UndoRecord>,
 }
 
 impl Model for Log {
     ghost use Rattle.std.specs.Prelude.{◌-◌, vec_len};
     ghost use Rattle.std.specs.Vec.{vec_capacity};
-    ghost use Rattle.mm_relation.specs.LogEntries.{LogEntries};
+    ghost use Rattle.mm_relation.specs.UndoRecords.{UndoRecords};
 
-    ghost Value = { LogEntries };
+    ghost Value = { UndoRecords };
 
     ghost view = { λ u. record { entries = u.entries.items; room = vec_capacity u.entries - vec_len u.entries } };
 }
@@ -86,16 +86,16 @@ impl Log {
     }
 
     /// The changes, the oldest first.
-    pub fn entries(&self) -> &[Entry]
+    pub fn entries(&self) -> &[UndoRecord]
         ensures { result.now ≡ self.now.entries }
     {
         self.entries.as_slice()
     }
 
     /// How many references come in again to each index when the command is taken back: one for each row that was changed
-    /// or removed. So many places an index has to have to spare until then.
-    pub fn owed(&self) -> usize
-        ensures { result ≡ length (named entry_name Old self.now.entries) }
+    /// or removed. Each index keeps so many places free until then.
+    pub fn undo_room(&self) -> usize
+        ensures { result ≡ length (named record_name Old self.now.entries) }
     {
         self.entries
             .iter()
@@ -113,8 +113,8 @@ impl Log {
         self.entries.reserve(n)
     }
 
-    /// Notes a change.
-    pub(crate) fn note(&mut self, entry: Entry)
+    /// Appends the record of a change.
+    pub(crate) fn append(&mut self, entry: UndoRecord)
         requires { 1 ≤ self.old.room }
         ensures entries { self.new.entries ≡ self.old.entries ++ entry ∷ [] }
         ensures room { self.old.room ≤ self.new.room + 1 }
@@ -123,7 +123,7 @@ impl Log {
     }
 
     /// Puts another change in the place of one, and gives that one.
-    pub(crate) fn replace(&mut self, index: usize, entry: Entry) -> Entry
+    pub(crate) fn replace(&mut self, index: usize, entry: UndoRecord) -> UndoRecord
         requires { index < length self.old.entries }
         ensures was { slice_get self.old.entries index ≡ Some result }
         ensures entries { self.new.entries ≡ slice_set self.old.entries index entry }

@@ -8,14 +8,14 @@ mod apply;
 mod checks;
 mod indexing;
 mod laws;
-mod lookup;
+mod look_up;
 mod prefix;
 mod reads;
 mod revert;
 mod served;
 mod settle;
 mod spares;
-mod twins;
+mod duplicates;
 
 use crate::index::Index;
 use mm_order::OrderedRefs;

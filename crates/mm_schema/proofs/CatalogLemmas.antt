@@ -9,7 +9,7 @@ use Rattle.indexmap.specs.IndexMap.{insert_entry, shift_remove_entry}
 use Rattle.indexmap.proofs.CallerLemmas.{insert_entry-new}
 use Rattle.mm_schema.specs.Name.{same_name}
 use Rattle.mm_schema.specs.Catalog.{Tables, IsKeyedByName, IsSound, tables_of}
-use Rattle.mm_schema.specs.Indexes.{HasOwnIndexes, has_twin_indexes, indexes_of}
+use Rattle.mm_schema.specs.Indexes.{HasOwnIndexes, has_duplicate_indexes, indexes_of}
 use Rattle.mm_schema.specs.Refused.{first_refusal}
 use Rattle.mm_schema.specs.Schema.{HasDistinctNames, Schema, table_conditions, table_named, table_place, with_table, without_table}
 use Rattle.mm_schema.specs.declared.standing.StandingDef.{StandingDef}
@@ -17,7 +17,7 @@ use Rattle.mm_schema.specs.declared.table.Table.{Table}
 use Rattle.mm_schema.specs.declared.table.TableDef.{TableDef}
 use Rattle.mm_schema.proofs.Instances.{LackName, name_of, others_lack}
 use Rattle.mm_schema.proofs.Places.{new_name_is_free}
-use Rattle.mm_schema.proofs.TwinIndexes.{distinct_in_fewer}
+use Rattle.mm_schema.proofs.DuplicateIndexes.{distinct_in_fewer}
 
 abbrev pub Entry : Type 0
 Entry = List ℕ × Table
@@ -95,7 +95,7 @@ indexes_pushed definition (t ∷ ts) = ap (λ is. t.indexes ++ is) (indexes_push
 pub sound_push : (definition : TableDef) (old new : Tables) → IsPushed definition old new → IsSound old → IsSound new
 sound_push definition old new pushed sound = record {
   keyed = subst (All IsKeyed) (sym pushed) (All-push IsKeyed old.entries _ sound.keyed refl);
-  distinct = ap has_twin_indexes (ap indexes_of (tables_pushed definition old new pushed) ∙ indexes_pushed definition (tables_of old)) ∙ sound.distinct;
+  distinct = ap has_duplicate_indexes (ap indexes_of (tables_pushed definition old new pushed) ∙ indexes_pushed definition (tables_of old)) ∙ sound.distinct;
   in_place = subst (All HasOwnIndexes) (sym (tables_pushed definition old new pushed))
       (All-push HasOwnIndexes (tables_of old) (new_table definition) sound.in_place (All-nil _));
 }
@@ -155,7 +155,7 @@ module _ (name : List ℕ) where
     sound_without = record {
       keyed = subst (All IsKeyed) (sym removed)
           (All-from_recursion IsKeyed _ (keyed_left old.entries (recursion_from_All IsKeyed old.entries sound.keyed)));
-      distinct = ap (λ ts. has_twin_indexes (indexes_of ts)) left ∙ distinct_in_fewer other (tables_of old) sound.distinct;
+      distinct = ap (λ ts. has_duplicate_indexes (indexes_of ts)) left ∙ distinct_in_fewer other (tables_of old) sound.distinct;
       in_place = subst (All HasOwnIndexes) (sym left) (All-filter other HasOwnIndexes (tables_of old) sound.in_place);
     }
 

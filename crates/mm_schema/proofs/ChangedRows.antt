@@ -8,12 +8,12 @@ use Rattle.std.proofs.lemmas.Bool.{or_parts, or_from, cases_Bool, false≢true}
 use Rattle.std.proofs.lemmas.List.{append-nil}
 use Rattle.std.proofs.lemmas.List.Elements.{Contains-append_left, Contains-append_right, Contains-append_cases}
 use Rattle.std.proofs.lemmas.List.Sorted.{Contains-permutation, IsPermutation-refl, IsPermutation-sym}
-use Rattle.mm_schema.specs.Rows.{IsInKeyOrder, Pair, additions, changed, column_cmp, goes, has_twin_keys, same_in_column, unsorted}
+use Rattle.mm_schema.specs.Rows.{IsInKeyOrder, Pair, additions, changed, column_cmp, goes, has_duplicate_keys, same_in_column, unsorted}
 use Rattle.mm_schema.specs.Sorting.{in_order}
 use Rattle.mm_schema.proofs.InOrder.{IsPermutation-in_order, IsStrictlySortedBy-in_order, in_order_is}
 use Rattle.mm_schema.proofs.Orderings.{equal_from_is_eq}
 use Rattle.mm_schema.proofs.StrictOrder.{IsIn, IsIn-from_Contains, Contains-from_IsIn}
-use Rattle.mm_schema.proofs.Twins.{Row, has_twin_keys-IsPermutation}
+use Rattle.mm_schema.proofs.Duplicates.{Row, has_duplicate_keys-IsPermutation}
 
 -- ---- what a filter leaves
 
@@ -188,9 +188,9 @@ changed-additions key (f ∷ fs) rows ordered order moved ascends =
 -- ---- in key order
 
 -- Rows in key order that are changed are in key order again, unless two of them have one key.
-pub IsInKeyOrder-changed : (key : ℕ) (pairs : List Pair) (rows : List Row) → IsInKeyOrder key rows → has_twin_keys key (changed key pairs rows) ≡ false
+pub IsInKeyOrder-changed : (key : ℕ) (pairs : List Pair) (rows : List Row) → IsInKeyOrder key rows → has_duplicate_keys key (changed key pairs rows) ≡ false
     → IsInKeyOrder key (changed key pairs rows)
 IsInKeyOrder-changed key [] rows order none = order
 IsInKeyOrder-changed key (p ∷ ps) rows order none =
     IsStrictlySortedBy-in_order key (unsorted key (p ∷ ps) rows)
-    (has_twin_keys-IsPermutation key _ _ (IsPermutation-in_order (column_cmp key) (unsorted key (p ∷ ps) rows)) ∙ none)
+    (has_duplicate_keys-IsPermutation key _ _ (IsPermutation-in_order (column_cmp key) (unsorted key (p ∷ ps) rows)) ∙ none)

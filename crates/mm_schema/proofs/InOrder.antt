@@ -1,4 +1,4 @@
--- Lists put in order: the same elements, sorted; and rows without twins, which are strictly in key order.
+-- Lists put in order: the same elements, sorted; and rows without duplicates, which are strictly in key order.
 use Rattle.std.proofs.Common.{◌≡◌, ℕ, zero, suc, ◌<◌, true, false, List, [], ◌∷◌, length, get_or, inl, inr, sym, refl, ap, ◌∙◌, arith, add-one}
 use Rattle.std.specs.Cmp.{IsTotalOrder}
 use Rattle.std.specs.List.{AllByRecursion, list_any}
@@ -8,11 +8,11 @@ use Rattle.std.specs.declared.cmp.Ordering.{Ordering}
 use Rattle.std.specs.declared.cmp.Ordering.TheVariants.{Less, Equal, Greater}
 use Rattle.std.proofs.lemmas.Bool.{or_parts, cases_Bool}
 use Rattle.std.proofs.lemmas.List.Sorted.{IsPermutation-refl, IsPermutation-cons, IsPermutation-sym, IsPermutation-trans, IsPermutation-middle, Contains-permutation, list_any-IsPermutation}
-use Rattle.mm_schema.specs.Rows.{column_cmp, same_in_column, has_twin_keys}
+use Rattle.mm_schema.specs.Rows.{column_cmp, same_in_column, has_duplicate_keys}
 use Rattle.mm_schema.specs.Sorting.{put_in_order, in_order}
 use Rattle.mm_schema.proofs.StrictOrder.{IsStrictlySortedBy-nil, IsStrictlySortedBy-cons, IsStrictlySortedBy-head, IsStrictlySortedBy-tail, IsStrictlySortedBy-before, IsIn, IsIn-from_Contains, Contains-from_IsIn, same_from_elements, less_from_greater}
 use Rattle.mm_schema.proofs.Orderings.{less_from_neither, greater_from_is_gt}
-use Rattle.mm_schema.proofs.Twins.{Row, column_cmp_total, has_twin_keys-IsPermutation, no_twins_in_order, same_in_column_comm}
+use Rattle.mm_schema.proofs.Duplicates.{Row, column_cmp_total, has_duplicate_keys-IsPermutation, no_duplicates_in_order, same_in_column_comm}
 
 -- ---- the same elements
 
@@ -123,11 +123,12 @@ module _ (key : ℕ) where
             (IsStrictlySortedBy-put_in_order row rs parts.1 (IsStrictlySortedBy-tail (column_cmp_total key) r rs order)))
       ]
 
-  -- without twins the sorted rows are in key order
-  pub IsStrictlySortedBy-in_order : (rows : List Row) → has_twin_keys key rows ≡ false → IsStrictlySortedBy (column_cmp key) (in_order (column_cmp key) rows)
+  -- without duplicates the sorted rows are in key order
+  pub IsStrictlySortedBy-in_order : (rows : List Row) → has_duplicate_keys key rows ≡ false
+      → IsStrictlySortedBy (column_cmp key) (in_order (column_cmp key) rows)
   IsStrictlySortedBy-in_order [] none = IsStrictlySortedBy-nil (column_cmp_total key)
   IsStrictlySortedBy-in_order (r ∷ rs) none =
-      let parts = or_parts (list_any (same_in_column key r) rs) (has_twin_keys key rs) none in
+      let parts = or_parts (list_any (same_in_column key r) rs) (has_duplicate_keys key rs) none in
       let moved : list_any (same_in_column key r)
       (in_order (column_cmp key) rs) ≡ false = sym (list_any-IsPermutation (same_in_column key r) rs (in_order (column_cmp key) rs)
       (IsPermutation-in_order (column_cmp key) rs)) ∙ parts.0 in
@@ -141,7 +142,7 @@ module _ (key : ℕ) where
   pub in_order_is : (rows ordered : List Row) → IsPermutation rows ordered → IsStrictlySortedBy (column_cmp key) ordered
       → in_order (column_cmp key) rows ≡ ordered
   in_order_is rows ordered moved order =
-      let none : has_twin_keys key rows ≡ false = has_twin_keys-IsPermutation key rows ordered moved ∙ no_twins_in_order key ordered order in
+      let none : has_duplicate_keys key rows ≡ false = has_duplicate_keys-IsPermutation key rows ordered moved ∙ no_duplicates_in_order key ordered order in
       let between : IsPermutation (in_order (column_cmp key) rows) ordered = IsPermutation-trans _ _ _
       (IsPermutation-sym _ _ (IsPermutation-in_order (column_cmp key) rows)) moved in
       same_from_elements (column_cmp_total key) (in_order (column_cmp key) rows) ordered (IsStrictlySortedBy-in_order rows none) order

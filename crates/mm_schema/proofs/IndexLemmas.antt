@@ -6,7 +6,7 @@ use Rattle.std.proofs.lemmas.List.Folds.{list_any-append}
 use Rattle.std.proofs.lemmas.Map.Keys.{IsDistinct-tail}
 use Rattle.indexmap.specs.IndexMap.{set_value_at}
 use Rattle.mm_schema.specs.Catalog.{Tables, IsSound, tables_of}
-use Rattle.mm_schema.specs.Indexes.{HasOwnIndexes, has_twin_indexes, index_conditions, index_named, indexes_of, lacks_index, table_with_index, table_without_index, with_index, without_index}
+use Rattle.mm_schema.specs.Indexes.{HasOwnIndexes, has_duplicate_indexes, index_conditions, index_named, indexes_of, lacks_index, table_with_index, table_without_index, with_index, without_index}
 use Rattle.mm_schema.specs.Name.{same_name}
 use Rattle.mm_schema.specs.Refused.{AnswersDue, first_refusal}
 use Rattle.mm_schema.specs.Schema.{HasDistinctNames, Schema, table_place}
@@ -19,7 +19,8 @@ use Rattle.mm_schema.proofs.CatalogLemmas.{Entry, IsKeyed, seconds}
 use Rattle.mm_schema.proofs.Instances.{name_of, others_lack}
 use Rattle.mm_schema.proofs.NameLemmas.{same_bytes}
 use Rattle.mm_schema.proofs.Places.{find_at_place, find_nowhere, place_from_some}
-use Rattle.mm_schema.proofs.TwinIndexes.{distinct_with, distinct_without, free_behind, is_taken, others_stay, stay_without, stays_without, twins_behind}
+use Rattle.mm_schema.proofs.DuplicateIndexes.{distinct_with, distinct_without, duplicates_behind, free_behind, is_taken, others_stay, stay_without}
+use Rattle.mm_schema.proofs.DuplicateIndexes.{stays_without}
 
 -- ---- one table changed
 
@@ -71,13 +72,13 @@ changes_named index (t ∷ ts) distinct = (
   changes_named index ts (IsDistinct-tail same_name (name_of t) (map name_of ts) distinct),
 )
 
-changes_having : (name : List ℕ) (ts : List Table) → has_twin_indexes (indexes_of ts) ≡ false
+changes_having : (name : List ℕ) (ts : List Table) → has_duplicate_indexes (indexes_of ts) ≡ false
     → ChangesFirst (λ t. is_taken name t.indexes) (table_without_index name) ts
 changes_having name [] none = tt
 changes_having name (t ∷ ts) none = (
   λ taken. stay_without name ts (free_behind name t.indexes (indexes_of ts) taken none),
   λ free. stays_without name t free,
-  changes_having name ts (twins_behind t.indexes (indexes_of ts) none),
+  changes_having name ts (duplicates_behind t.indexes (indexes_of ts) none),
 )
 
 -- Other indexes of a table leave each under its own name.
@@ -186,7 +187,7 @@ module _ {standing : List StandingDef} (index : IndexDef) (old : Tables) (schema
     pub sound_after_push : {T : Type 0} (result : Result T Refusal) → OnOk result (is ≡ t.indexes ++ index ∷ []) → OnErr result (is ≡ t.indexes) → IsSound new
     sound_after_push (Ok value) ok err = record {
       keyed = keyed_with old new place t is here set sound.keyed;
-      distinct = ap (λ ts. has_twin_indexes (indexes_of ts)) (tables_with ok)
+      distinct = ap (λ ts. has_duplicate_indexes (indexes_of ts)) (tables_with ok)
           ∙ distinct_with index (tables_of old) names_differ
           (ap (λ (s : Schema). is_taken index.name (indexes_of s.tables)) view ∙ new_index_is_free index schema due) sound.distinct;
       in_place = subst (All HasOwnIndexes) (sym (tables_with ok))
@@ -195,7 +196,7 @@ module _ {standing : List StandingDef} (index : IndexDef) (old : Tables) (schema
     }
     sound_after_push (Err refusal) ok err = record {
       keyed = keyed_with old new place t is here set sound.keyed;
-      distinct = ap (λ ts. has_twin_indexes (indexes_of ts)) (tables_same err) ∙ sound.distinct;
+      distinct = ap (λ ts. has_duplicate_indexes (indexes_of ts)) (tables_same err) ∙ sound.distinct;
       in_place = subst (All HasOwnIndexes) (sym (tables_same err)) sound.in_place;
     }
 
@@ -234,7 +235,7 @@ module _ {standing : List StandingDef} (name : List ℕ) (old : Tables) (schema 
     pub sound_without_index : IsSound new
     sound_without_index = record {
       keyed = keyed_with old new place t is here set sound.keyed;
-      distinct = ap (λ ts. has_twin_indexes (indexes_of ts)) tables_without ∙ distinct_without name (tables_of old) sound.distinct;
+      distinct = ap (λ ts. has_duplicate_indexes (indexes_of ts)) tables_without ∙ distinct_without name (tables_of old) sound.distinct;
       in_place = subst (All HasOwnIndexes) (sym tables_without)
           (All-map HasOwnIndexes (table_without_index name) (tables_of old)
           (All-weaker HasOwnIndexes (λ u. HasOwnIndexes (table_without_index name u))

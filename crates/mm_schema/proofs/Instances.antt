@@ -7,11 +7,11 @@ use Rattle.std.proofs.lemmas.Map.Keys.{IsDistinct-cons, IsDistinct-head, IsDisti
 use Rattle.mm_schema.specs.Columns.{key_place}
 use Rattle.mm_schema.specs.Instance.{AreInKeyOrder, Instance, TableEdits, changed_instance, pairs_of, rows_named, without_rows}
 use Rattle.mm_schema.specs.Name.{same_name}
-use Rattle.mm_schema.specs.Rows.{IsInKeyOrder, Pair, changed, has_twin_keys}
+use Rattle.mm_schema.specs.Rows.{IsInKeyOrder, Pair, changed, has_duplicate_keys}
 use Rattle.mm_schema.specs.declared.table.Table.{Table}
 use Rattle.mm_schema.proofs.ChangedRows.{IsInKeyOrder-changed}
 use Rattle.mm_schema.proofs.NameLemmas.{differs_back, same_bytes}
-use Rattle.mm_schema.proofs.Twins.{Row}
+use Rattle.mm_schema.proofs.Duplicates.{Row}
 
 abbrev pub name_of : Table → List ℕ
 name_of table = table.definition.name
@@ -82,15 +82,15 @@ key_of table = option_map_or (λ t. key_place t.definition.columns) table 0
 
 module _ (name : List ℕ) (pairs : List Pair) where
   -- the rows and the key of the name, where the first table has it or the others are asked
-  abbrev NoTwins : List Table → Instance → Type 0
-  NoTwins tables rows = has_twin_keys (key_of (find (λ t. same_name name (name_of t)) tables)) (rows_named name tables rows) ≡ false
+  abbrev NoDuplicates : List Table → Instance → Type 0
+  NoDuplicates tables rows = has_duplicate_keys (key_of (find (λ t. same_name name (name_of t)) tables)) (rows_named name tables rows) ≡ false
 
   first_or_others : (t : Table) (ts : List Table) (r : List Row) (rs : Instance) (b : Bool) → same_name name (name_of t) ≡ b
       → AreInKeyOrder (t ∷ ts) (r ∷ rs) → IsDistinct same_name (map name_of (t ∷ ts))
-      → has_twin_keys (key_of (cond b (Some t) (find (λ u. same_name name (name_of u)) ts)))
+      → has_duplicate_keys (key_of (cond b (Some t) (find (λ u. same_name name (name_of u)) ts)))
       (cond b (changed (key_place t.definition.columns) (pairs_of (name_of t) (edits_of_one name pairs)) r)
       (rows_named name ts (changed_instance ts (edits_of_one name pairs) rs))) ≡ false
-      → (NoTwins ts (changed_instance ts (edits_of_one name pairs) rs) → AreInKeyOrder ts (changed_instance ts (edits_of_one name pairs) rs))
+      → (NoDuplicates ts (changed_instance ts (edits_of_one name pairs) rs) → AreInKeyOrder ts (changed_instance ts (edits_of_one name pairs) rs))
       → AreInKeyOrder (t ∷ ts) (changed_instance (t ∷ ts) (edits_of_one name pairs) (r ∷ rs))
   first_or_others t ts r rs true own order distinct none rest = (
     IsInKeyOrder-changed (key_place t.definition.columns) (pairs_of (name_of t) (edits_of_one name pairs)) r order.0 none,
@@ -104,7 +104,8 @@ module _ (name : List ℕ) (pairs : List Pair) where
 
   -- Rows in key order are so after a change of one table, unless two of its rows have one key then.
   pub AreInKeyOrder-changed : (tables : List Table) (rows : Instance) → AreInKeyOrder tables rows → IsDistinct same_name (map name_of tables)
-      → NoTwins tables (changed_instance tables (edits_of_one name pairs) rows) → AreInKeyOrder tables (changed_instance tables (edits_of_one name pairs) rows)
+      → NoDuplicates tables (changed_instance tables (edits_of_one name pairs) rows)
+          → AreInKeyOrder tables (changed_instance tables (edits_of_one name pairs) rows)
   AreInKeyOrder-changed [] [] order distinct none = tt
   AreInKeyOrder-changed (t ∷ ts) (r ∷ rs) order distinct none =
       first_or_others t ts r rs (same_name name (name_of t)) refl order distinct none

@@ -2,6 +2,8 @@ pub mod AllReferences
 mod CatalogLemmas
 pub mod ChangedRows
 pub mod Dues
+pub mod DuplicateIndexes
+pub mod Duplicates
 pub mod InOrder
 pub mod IndexLemmas
 pub mod Instances
@@ -12,5 +14,3 @@ pub mod Places
 pub mod References
 pub mod StandingLemmas
 pub mod StrictOrder
-pub mod TwinIndexes
-pub mod Twins

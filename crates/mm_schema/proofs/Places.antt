@@ -50,13 +50,13 @@ place_within name schema place h = within_from_some _ schema.tables place h
 pub no_table : (name : List ℕ) (schema : Schema) → table_place name schema ≡ None → table_named name schema ≡ None
 no_table name schema h = find_nowhere _ schema.tables h
 
-free : (lacks : Bool) (named : Option Table) (twins mismatch limits : Bool)
-    → first_refusal (record { holds = lacks; refusal = NoSuchTable } ∷ record { holds = is_some named || twins; refusal = NameTaken }
+free : (lacks : Bool) (named : Option Table) (duplicates mismatch limits : Bool)
+    → first_refusal (record { holds = lacks; refusal = NoSuchTable } ∷ record { holds = is_some named || duplicates; refusal = NameTaken }
     ∷ record { holds = mismatch; refusal = TypeMismatch } ∷ record { holds = limits; refusal = TooMany } ∷ []) ≡ None
     → named ≡ None
-free true named twins mismatch limits h = cc
-free false None twins mismatch limits h = refl
-free false (Some table) twins mismatch limits h = cc
+free true named duplicates mismatch limits h = cc
+free false None duplicates mismatch limits h = refl
+free false (Some table) duplicates mismatch limits h = cc
 
 -- A table that nothing refuses has a new name.
 pub new_name_is_free : (definition : TableDef) (schema : Schema) → first_refusal (table_conditions definition schema) ≡ None

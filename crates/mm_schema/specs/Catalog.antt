@@ -3,7 +3,7 @@ use Rattle.std.specs.Prelude.{◌≡◌, ℕ, false, List, map, All}
 use Rattle.std.specs.declared.hash.FoldHasher.{FoldHasher}
 use Rattle.std.specs.declared.hash.BuildHasherDefault.{BuildHasherDefault}
 use Rattle.indexmap.specs.IndexMap.{IndexMap}
-use Rattle.mm_schema.specs.Indexes.{HasOwnIndexes, has_twin_indexes, indexes_of}
+use Rattle.mm_schema.specs.Indexes.{HasOwnIndexes, has_duplicate_indexes, indexes_of}
 use Rattle.mm_schema.specs.declared.table.Table.{Table}
 
 abbrev pub Tables : Type 0
@@ -20,5 +20,5 @@ IsKeyedByName tables = All (λ entry. entry.0 ≡ entry.1.definition.name) table
 -- Each table stands under its own name, no two indexes have one name, and each stands in the table that it names.
 pub record IsSound (tables : Tables) : Type 0 where
   pub keyed : IsKeyedByName tables
-  pub distinct : has_twin_indexes (indexes_of (tables_of tables)) ≡ false
+  pub distinct : has_duplicate_indexes (indexes_of (tables_of tables)) ≡ false
   pub in_place : All HasOwnIndexes (tables_of tables)

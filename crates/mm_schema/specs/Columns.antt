@@ -29,9 +29,9 @@ abbrev pub key_place : List Column → ℕ
 key_place columns = position_or_len is_key columns
 
 -- Some column stands twice.
-abbrev pub has_twin_names : List Column → Bool
-has_twin_names [] = false
-has_twin_names (c ∷ cs) = list_any (λ d. same_name c.name d.name) cs || has_twin_names cs
+abbrev pub has_duplicate_names : List Column → Bool
+has_duplicate_names [] = false
+has_duplicate_names (c ∷ cs) = list_any (λ d. same_name c.name d.name) cs || has_duplicate_names cs
 
 -- The column of a name.
 abbrev pub column_named : List ℕ → List Column → Option Column

@@ -22,13 +22,13 @@ abbrev pub lacks_index : List ℕ → Schema → Bool
 lacks_index name schema = is_none (index_named name schema)
 
 -- Some two of the indexes have one name.
-abbrev pub has_twin_indexes : List IndexDef → Bool
-has_twin_indexes [] = false
-has_twin_indexes (i ∷ is) = list_any (λ j. same_name i.name j.name) is || has_twin_indexes is
+abbrev pub has_duplicate_indexes : List IndexDef → Bool
+has_duplicate_indexes [] = false
+has_duplicate_indexes (i ∷ is) = list_any (λ j. same_name i.name j.name) is || has_duplicate_indexes is
 
 -- No two indexes have one name.
 abbrev pub HasDistinctIndexes : Schema → Type 0
-HasDistinctIndexes schema = has_twin_indexes (indexes_of schema.tables) ≡ false
+HasDistinctIndexes schema = has_duplicate_indexes (indexes_of schema.tables) ≡ false
 
 -- Each index of the table names that table.
 abbrev pub HasOwnIndexes : Table → Type 0

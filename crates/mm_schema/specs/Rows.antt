@@ -52,9 +52,9 @@ changed key [] rows = rows
 changed key (p ∷ ps) rows = in_order (column_cmp key) (unsorted key (p ∷ ps) rows)
 
 -- Two of the rows have one key.
-abbrev pub has_twin_keys : ℕ → List (List Value) → Bool
-has_twin_keys key [] = false
-has_twin_keys key (r ∷ rs) = list_any (same_in_column key r) rs || has_twin_keys key rs
+abbrev pub has_duplicate_keys : ℕ → List (List Value) → Bool
+has_duplicate_keys key [] = false
+has_duplicate_keys key (r ∷ rs) = list_any (same_in_column key r) rs || has_duplicate_keys key rs
 
 -- The most rows that a table has, and the most combinations that may fit a query.
 abbrev pub most_rows : ℕ
@@ -64,7 +64,7 @@ most_rows = 1048576
 -- row that another one refers to would go or have another key; or there would be too many rows.
 abbrev pub table_rows_conditions : ℕ → List (List Value) → Bool → Bool → List Condition
 table_rows_conditions key rows some_lacks_target some_is_referred =
-    record { holds = has_twin_keys key rows; refusal = DuplicateKey }
+    record { holds = has_duplicate_keys key rows; refusal = DuplicateKey }
     ∷ record { holds = some_lacks_target; refusal = NoTargetRow }
     ∷ record { holds = some_is_referred; refusal = RowIsReferenced }
     ∷ record { holds = nat_lt most_rows (length rows); refusal = TableFull }

@@ -3,7 +3,7 @@ use Rattle.std.specs.Prelude.{ℕ, Bool, false, not, List, [], ◌∷◌, ◌++�
 use Rattle.std.specs.List.{IsDistinct, list_any}
 use Rattle.std.specs.Option.{option_map_or, unwrap_or}
 use Rattle.mm_schema.specs.Name.{same_name}
-use Rattle.mm_schema.specs.Columns.{column_place, differs_from_key, has_twin_names, key_place, refers_to, target_of}
+use Rattle.mm_schema.specs.Columns.{column_place, differs_from_key, has_duplicate_names, key_place, refers_to, target_of}
 use Rattle.mm_schema.specs.Refused.{Condition}
 use Rattle.mm_schema.specs.declared.column.Column.{Column}
 use Rattle.mm_schema.specs.declared.standing.StandingDef.{StandingDef}
@@ -65,7 +65,7 @@ mismatches_target schema column =
 abbrev pub table_conditions : TableDef → Schema → List Condition
 table_conditions definition schema =
     record { holds = list_any (lacks_target schema) definition.columns; refusal = NoSuchTable }
-    ∷ record { holds = is_some (table_named definition.name schema) || has_twin_names definition.columns; refusal = NameTaken }
+    ∷ record { holds = is_some (table_named definition.name schema) || has_duplicate_names definition.columns; refusal = NameTaken }
     ∷ record { holds = list_any (mismatches_target schema) definition.columns; refusal = TypeMismatch }
     ∷ record { holds = passes_table_limits definition schema; refusal = TooMany }
     ∷ []

@@ -2,7 +2,7 @@
 ghost use Rattle.std.specs.Prelude.{◌≡◌, ◌<◌, ◌||◌, false, is_some, [], Some, None, length, map, position, slice_get, IfOk, MatchResult, OnOk, OnErr};
 ghost use Rattle.std.specs.List.{list_any};
 ghost use Rattle.std.specs.Option.{option_copied};
-ghost use Rattle.mm_schema.specs.Columns.{has_twin_names};
+ghost use Rattle.mm_schema.specs.Columns.{has_duplicate_names};
 ghost use Rattle.mm_schema.specs.Indexes.{HasDistinctIndexes, HasIndexesInPlace, drop_index_conditions, index_conditions, index_named, with_index, without_index};
 ghost use Rattle.mm_schema.specs.Name.{same_name};
 ghost use Rattle.mm_schema.specs.References.{reference_at, references_of};
@@ -124,9 +124,9 @@ impl Catalog {
 
     /// Whether the catalog has the table's name, or a column stands twice.
     fn has_taken_name(&self, definition: &TableDef) -> bool
-        ensures { result ≡ (is_some (table_named definition.now.name self.now) || has_twin_names definition.now.columns) }
+        ensures { result ≡ (is_some (table_named definition.now.name self.now) || has_duplicate_names definition.now.columns) }
     {
-        self.find_table(&definition.name).is_some() || definition.columns.has_twin_names()
+        self.find_table(&definition.name).is_some() || definition.columns.has_duplicate_names()
     }
 
     /// Whether some column refers to a table that is there, and differs in type from its key.

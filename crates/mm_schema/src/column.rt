@@ -3,7 +3,7 @@ ghost use Rattle.std.specs.Prelude.{◌≡◌, ◌↔◌, ◌<◌, IsSome, IfOk,
 ghost use Rattle.std.specs.List.{list_any};
 ghost use Rattle.mm_schema.specs.Name.{same_name};
 ghost use Rattle.std.specs.Option.{option_copied};
-ghost use Rattle.mm_schema.specs.Columns.{cascades, column_place, differs_from_key, has_twin_names, is_cascade, is_key, key_count, key_place, refers_to, target_of};
+ghost use Rattle.mm_schema.specs.Columns.{cascades, column_place, differs_from_key, has_duplicate_names, is_cascade, is_key, key_count, key_place, refers_to, target_of};
 
 use crate::name::{Name, NameRef};
 use mm_value::ColType;
@@ -180,8 +180,8 @@ impl Columns {
     }
 
     /// Whether some name stands twice among them.
-    pub(crate) fn has_twin_names(&self) -> bool
-        ensures { result ≡ has_twin_names self.now }
+    pub(crate) fn has_duplicate_names(&self) -> bool
+        ensures { result ≡ has_duplicate_names self.now }
     {
         let columns = self.items.as_slice();
         for (i, column) in columns.iter().enumerate() {

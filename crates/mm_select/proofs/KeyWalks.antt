@@ -20,7 +20,7 @@ use Rattle.mm_relation.specs.Reads.{IsRange, IsWalk}
 use Rattle.mm_relation.specs.Refs.{HasRow, Slots, refs_by, row_at}
 use Rattle.mm_relation.specs.RowLists.{rows_of}
 use Rattle.mm_schema.proofs.StrictOrder.{Contains-from_IsIn, IsIn, IsIn-from_Contains, IsStrictlySortedBy-from_neighbours, same_from_elements}
-use Rattle.mm_schema.proofs.Twins.{column_cmp_total}
+use Rattle.mm_schema.proofs.Duplicates.{column_cmp_total}
 use Rattle.mm_schema.specs.Rows.{column_cmp}
 use Rattle.mm_store.specs.Tables.{IsAt, Tables, rows_at}
 use Rattle.mm_store.specs.declared.index_ref.IndexRef.{IndexRef}

@@ -10,10 +10,10 @@ pub mod Pushing
 pub mod ReadExamples
 pub mod ReadSamples
 pub mod Ready
+pub mod Recorded
 pub mod Rest
 pub mod Segments
 pub mod Stages
 pub mod Steps
-pub mod Told
 pub mod Totals
 pub mod Values

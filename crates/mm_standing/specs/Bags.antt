@@ -6,7 +6,7 @@ use Rattle.mm_value.specs.declared.values.Value.{Value}
 use Rattle.mm_multiset.specs.Counts.{Counts, Entries, count_in, count_of, has_entry, signed_count, total_of}
 use Rattle.mm_multiset.specs.declared.signed.Signed.{Signed}
 use Rattle.mm_standing.specs.declared.change.ListChange.{ListChange}
-use Rattle.mm_standing.specs.declared.change.Logged.{Logged}
+use Rattle.mm_standing.specs.declared.change.UndoRecord.{UndoRecord}
 use Rattle.mm_standing.specs.declared.change.Prepared.{Prepared}
 use Rattle.mm_schema.specs.Rows.{most_rows}
 
@@ -79,8 +79,8 @@ abbrev pub done_of : List Prepared → List ListChange
 done_of prepared = map (λ (p : Prepared). p.done) prepared
 
 -- The changes of a log that undo what was made.
-abbrev pub undos : List Logged → List ListChange
-undos log = map (λ (made : Logged). made.undo) log
+abbrev pub undos : List UndoRecord → List ListChange
+undos log = map (λ (made : UndoRecord). made.undo) log
 
 -- The change is of this row of this list.
 abbrev pub names : ℕ → List Value → ListChange → Bool
@@ -130,16 +130,16 @@ pub record Purges (is_asked : Bool) (c : ListChange) (old new : List Counts) : T
   pub kept : is_asked ≡ false → new ≡ old
   pub size : length new ≡ length old
 
--- The log tells of a change that it undoes whether the row had no entry before: then none of the earlier changes is of that row;
+-- The log records of a change that it undoes whether the row had no entry before: then none of the earlier changes is of that row;
 -- else one of them is, or the row's count was not 0.
-pub record Tells (bags : List Counts) (earlier : List ListChange) (made : Logged) (onwards : List ListChange) : Type 0 where
+pub record Records (bags : List Counts) (earlier : List ListChange) (made : UndoRecord) (onwards : List ListChange) : Type 0 where
   pub first : made.is_new ≡ true → is_named made.undo.list made.undo.change.row earlier ≡ false
   pub again : made.is_new ≡ false → count_with bags onwards made.undo.list made.undo.change.row ≡ pos 0
       → is_named made.undo.list made.undo.change.row earlier ≡ true
 
--- It tells so of each of its changes, and it names the row of each entry whose count is 0.
-pub record IsTold (bags : List Counts) (log : List Logged) : Type 0 where
-  pub each : (i : ℕ) (d : Logged) → i < length log → Tells bags (take i (undos log)) (slice_index_or log i d) (drop i (undos log))
+-- It does so for each of its changes, and it names the row of each entry whose count is 0.
+pub record IsRecorded (bags : List Counts) (log : List UndoRecord) : Type 0 where
+  pub each : (i : ℕ) (d : UndoRecord) → i < length log → Records bags (take i (undos log)) (slice_index_or log i d) (drop i (undos log))
   pub lean : IsLean bags (undos log)
 
 -- Every row that has an entry has a count above 0.

@@ -2,28 +2,28 @@
 ghost use Rattle.std.specs.Prelude.{◌≡◌, ◌+◌, ◌≤◌, ◌<◌, ◌⊎◌, pos, not, true, All, ℕ, [], ◌∷◌, List, drop, length, take};
 ghost use Rattle.std.specs.Vec.{vec_capacity, vec_len};
 ghost use Rattle.mm_multiset.specs.Counts.{Counts as BagCounts, count_in, has_entry};
-ghost use Rattle.mm_standing.specs.Bags.{AddedTo, HasEntry, IsLean, IsSound, IsTold, IsWithin, Made, Purges, count_with, entries_at, room_at, undos};
+ghost use Rattle.mm_standing.specs.Bags.{AddedTo, HasEntry, IsLean, IsRecorded, IsSound, IsWithin, Made, Purges, count_with, entries_at, room_at, undos};
 ghost use Rattle.mm_value.specs.declared.values.Value.{Value as Val};
 ghost use Rattle.mm_standing.specs.declared.change.ListChange.{ListChange as AnyChange};
 
-use crate::change::{ListChange, Logged, Prepared};
+use crate::change::{ListChange, Prepared, UndoRecord};
 use mm_delta::Counted;
 
 /// Makes all changes that are ready, the last of them first, and puts what undoes each at the end of the log. It takes no
 /// memory.
-pub fn make_all(bags: &mut Vec<Counted>, prepared: &mut Vec<Prepared>, log: &mut Vec<Logged>)
+pub fn make_all(bags: &mut Vec<Counted>, prepared: &mut Vec<Prepared>, log: &mut Vec<UndoRecord>)
     requires sound { IsSound bags.old.items prepared.old.items (undos log.old.items) }
-    requires told { IsTold bags.old.items log.old.items }
+    requires recorded { IsRecorded bags.old.items log.old.items }
     requires room { vec_len log.old + vec_len prepared.old ≤ vec_capacity log.old }
     ensures sound { IsSound bags.new.items [] (undos log.new.items) }
-    ensures told { IsTold bags.new.items log.new.items }
+    ensures recorded { IsRecorded bags.new.items log.new.items }
     ensures room { vec_len log.new ≤ vec_capacity log.new }
     ensures prepared { prepared.new.items ≡ [] }
     ensures made { Made bags.old.items prepared.old.items (undos log.old.items) bags.new.items [] (undos log.new.items) }
 {
     while let Some(next) = prepared.pop() {
         let is_new = add_to(bags, next.done);
-        log.push_reserved(Logged {
+        log.push_reserved(UndoRecord {
             undo: next.undo,
             is_new,
         });
@@ -32,12 +32,12 @@ pub fn make_all(bags: &mut Vec<Counted>, prepared: &mut Vec<Prepared>, log: &mut
 
 /// Undoes what the log says behind a mark, the newest first. The entries that came behind it go, where their counts are 0 again.
 /// The log stays as it is. It takes no memory.
-pub fn undo_behind(bags: &mut Vec<Counted>, log: &[Logged], mark: usize)
+pub fn undo_behind(bags: &mut Vec<Counted>, log: &[UndoRecord], mark: usize)
     requires sound { IsSound bags.old.items [] (undos log.now) }
-    requires told { IsTold bags.old.items log.now }
+    requires recorded { IsRecorded bags.old.items log.now }
     requires mark { mark ≤ length log.now }
     ensures sound { IsSound bags.new.items [] (undos (take mark log.now)) }
-    ensures told { IsTold bags.new.items (take mark log.now) }
+    ensures recorded { IsRecorded bags.new.items (take mark log.now) }
     ensures counts { (earlier : ℕ) → earlier ≤ mark → (list : ℕ) (row : List Val)
         → count_with bags.new.items (drop earlier (undos (take mark log.now))) list row
         ≡ count_with bags.old.items (drop earlier (undos log.now)) list row }
@@ -51,12 +51,12 @@ pub fn undo_behind(bags: &mut Vec<Counted>, log: &[Logged], mark: usize)
 }
 
 /// Forgets the log. Where the count of a row is 0 that it names, the row's entry goes. No count changes.
-pub fn purge(bags: &mut Vec<Counted>, log: &mut Vec<Logged>)
+pub fn purge(bags: &mut Vec<Counted>, log: &mut Vec<UndoRecord>)
     requires within { IsWithin bags.old.items [] }
     requires there { All (λ (c : AnyChange). c.list < length bags.old.items) (undos log.old.items) }
     requires lean { IsLean bags.old.items (undos log.old.items) }
     ensures sound { IsSound bags.new.items [] (undos log.new.items) }
-    ensures told { IsTold bags.new.items log.new.items }
+    ensures recorded { IsRecorded bags.new.items log.new.items }
     ensures log { log.new.items ≡ [] }
     ensures counts { (list : ℕ) (row : List Val)
         → count_in row (entries_at bags.new.items list) ≡ count_in row (entries_at bags.old.items list) }
@@ -68,7 +68,7 @@ pub fn purge(bags: &mut Vec<Counted>, log: &mut Vec<Logged>)
 }
 
 /// Undoes a change that was made. Where its row had no entry before, it has none again, if its count is 0. It takes no memory.
-fn undo(bags: &mut Vec<Counted>, made: &Logged)
+fn undo(bags: &mut Vec<Counted>, made: &UndoRecord)
     requires found { HasEntry bags.old.items made.now.undo }
     requires within { IsWithin bags.old.items (made.now.undo ∷ []) }
     ensures { (added : List BagCounts) × AddedTo made.now.undo bags.old.items added × Purges made.now.is_new made.now.undo added bags.new.items }

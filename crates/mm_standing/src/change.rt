@@ -20,7 +20,7 @@ pub struct Prepared {
 
 /// What undoes a change that was made, as the log keeps it.
 #[derive(Debug, Drop)]
-pub struct Logged {
+pub struct UndoRecord {
     /// The opposite change.
     pub undo: ListChange,
     /// Whether the row had no entry in its list before the change.

@@ -18,7 +18,7 @@ ghost use Rattle.mm_value.specs.declared.refusal.Refusal.TheVariants.{Memory};
 ghost use Rattle.mm_value.specs.declared.values.Value.{Value as Val};
 
 use crate::bags::{make_all, purge, undo_behind};
-use crate::change::{ListChange, Logged, Prepared};
+use crate::change::{ListChange, Prepared, UndoRecord};
 use crate::listing::{count_shown, list_shown};
 use crate::prepare::{changes_of_lists, numbers, reserve_each, with_opposites};
 use crate::watched::PlacedQuery;
@@ -38,7 +38,7 @@ pub struct Standing {
     queries: Vec<PlacedQuery>,
     bags: Vec<Counted>,
     prepared: Vec<Prepared>,
-    log: Vec<Logged>,
+    log: Vec<UndoRecord>,
     reads: u64,
 }
 
@@ -49,7 +49,7 @@ impl Model for Standing {
 
     ghost Value = { Lists };
 
-    ghost use Rattle.mm_standing.specs.Bags.{IsSound, IsTold, undos};
+    ghost use Rattle.mm_standing.specs.Bags.{IsRecorded, IsSound, undos};
 
     ghost view = { λ s. record {
       queries = s.queries.items;
@@ -61,7 +61,7 @@ impl Model for Standing {
 
     ghost invariant = { λ s. IsSound s.bags.items s.prepared.items (undos s.log.items)
         × (vec_len s.log + vec_len s.prepared ≤ vec_capacity s.log) × (length s.queries.items ≡ length s.bags.items)
-        × IsTold s.bags.items s.log.items };
+        × IsRecorded s.bags.items s.log.items };
 }
 
 impl Standing {

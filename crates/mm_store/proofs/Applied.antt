@@ -18,11 +18,11 @@ use Rattle.mm_relation.specs.Kept.{StoredRows, rows_after}
 use Rattle.mm_relation.specs.Refs.{row_at}
 use Rattle.mm_relation.specs.RowLists.{edit_pairs, rows_of}
 use Rattle.mm_relation.specs.declared.edits.Edit.{Edit}
-use Rattle.mm_relation.specs.declared.log.Entry.{Entry}
+use Rattle.mm_relation.specs.declared.log.UndoRecord.{UndoRecord}
 use Rattle.mm_relation.proofs.Apply.{split}
 use Rattle.mm_relation.proofs.Changed.{olds}
 use Rattle.mm_relation.proofs.RowLists.{IsPermutation-changed}
-use Rattle.mm_relation.proofs.Twins.{list_any-map}
+use Rattle.mm_relation.proofs.Duplicates.{list_any-map}
 use Rattle.mm_value.specs.declared.row_ref.RowRef.{RowRef}
 use Rattle.mm_value.specs.declared.values.Value.{Value}
 use Rattle.mm_store.specs.Joined.{AreJoined, HasGrownTo, IsJoined, IsSound, IsTable}
@@ -199,7 +199,7 @@ module _ (tables : List StoredRows) (place : ℕ) (old : StoredRows) (there : sl
         no_loss = none_of (λ (link : Link). q link.reference) links (sym (list_any-map f q links) ∙ losses) k d within;
       }
 
-  module _ (new : StoredRows) (entries : List Entry) (extent : ℕ) (changes : Changes edits (slot_at old.places) entries (slot_at new.places))
+  module _ (new : StoredRows) (entries : List UndoRecord) (extent : ℕ) (changes : Changes edits (slot_at old.places) entries (slot_at new.places))
       (within : extent_of new.places ≤ extent) where
     -- rows that refer to rows of the table still do
     pub Follows-edited : (reference : Reference) (ties : Ties) (source : StoredRows) → reference.to ≡ place

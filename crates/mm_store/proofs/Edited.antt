@@ -13,8 +13,8 @@ use Rattle.mm_relation.specs.Refs.{HasRow, Slots, row_at, row_in}
 use Rattle.mm_relation.specs.RowLists.{edit_pairs}
 use Rattle.mm_relation.specs.declared.edits.Edit.{Edit}
 use Rattle.mm_relation.specs.declared.edits.Edit.TheVariants.{Add, Swap, Gone}
-use Rattle.mm_relation.specs.declared.log.Entry.{Entry}
-use Rattle.mm_relation.specs.declared.log.Entry.TheVariants.{Added, Changed, Removed}
+use Rattle.mm_relation.specs.declared.log.UndoRecord.{UndoRecord}
+use Rattle.mm_relation.specs.declared.log.UndoRecord.TheVariants.{Added, Changed, Removed}
 use Rattle.mm_relation.proofs.RefTests.{same_or_apart}
 use Rattle.mm_relation.proofs.Removed.{Frees}
 use Rattle.mm_relation.proofs.Rooms.{slots_same}
@@ -144,7 +144,7 @@ module _ (key : ℕ) (x : RowRef) (k : Option Value) where
     ap (λ (c : Content). slice_get (row_in c) key) same ∙ stands.1,
   )
 
-  stands_on : (es : List Edit) (ns : List Entry) (old new : Slots) → Changes es old ns new → All (Leaves key x k) es → Stands old → Stands new
+  stands_on : (es : List Edit) (ns : List UndoRecord) (old new : Slots) → Changes es old ns new → All (Leaves key x k) es → Stands old → Stands new
   stands_on [] [] old new changes leaves stands = moved old new (ap (λ (f : Slots). f x) changes) stands
   stands_on [] (n ∷ ns) old new changes leaves stands = absurd changes
   stands_on (e ∷ es) [] old new changes leaves stands = absurd changes
@@ -199,14 +199,14 @@ module _ (column key : ℕ) (rows : List (List Value)) (old : Slots) where
       (λ same. false≢true (sym parts.0 ∙ (ap (λ (y : RowRef). is_referred column key rows (row_at old y)) same ∙ named)))
       (leaves x named es parts.1)
 
-  module _ (edits : List Edit) (noted : List Entry) (new : Slots) (changes : Changes edits old noted new)
+  module _ (edits : List Edit) (logged : List UndoRecord) (new : Slots) (changes : Changes edits old logged new)
       (none : lose_targets column key rows (edit_pairs old edits) ≡ false) where
     refers_on : (row : List Value) (to : RowRef) → Contains rows row → RefersTo column key old row to → RefersTo column key new row to
     refers_on row to here r =
         let named : is_referred column key rows (row_at old to) ≡ true =
         list_any_at (λ x. refers column key x (row_at old to)) rows here.0 row here.1
         (ap (λ x. refers column key x (row_at old to)) here.2 ∙ refers_same column key row (row_at old to) r.same) in
-        let stands = stands_on key to (slice_get (row_at old to) key) edits noted old new changes (leaves to named edits none) (r.live, refl) in
+        let stands = stands_on key to (slice_get (row_at old to) key) edits logged old new changes (leaves to named edits none) (r.live, refl) in
         record { live = stands.0; same = r.same ∙ sym stands.1 }
 
     tied_on : (content : Content) (target : Option RowRef) → ((row : List Value) → content ≡ Live row → Contains rows row)

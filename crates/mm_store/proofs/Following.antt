@@ -8,15 +8,15 @@ use Rattle.std.proofs.lemmas.List.Elements.{All-head, All-tail}
 use Rattle.mm_foreign_key.specs.Ties.{ChangesTarget, Ties, target_at}
 use Rattle.mm_partition.specs.Places.{Content, Free, Live, Hidden, Places, extent_of, slot_at, slot_index_of}
 use Rattle.mm_relation.specs.Refs.{HasRow, Slots, row_at, row_in}
-use Rattle.mm_relation.specs.declared.log.Entry.{Entry}
+use Rattle.mm_relation.specs.declared.log.UndoRecord.{UndoRecord}
 use Rattle.mm_relation.proofs.Came.{empty}
 use Rattle.mm_relation.proofs.Changed.{first_absent}
 use Rattle.mm_relation.proofs.RefTests.{same_or_apart}
 use Rattle.mm_value.specs.declared.row_ref.RowRef.{RowRef}
 use Rattle.mm_value.specs.declared.values.Value.{Value}
-use Rattle.mm_store.specs.Behind.{IsBehind, IsOut, Switches, Tells, TiesOnly, ref_of}
+use Rattle.mm_store.specs.Behind.{Describes, IsBehind, IsOut, Switches, TiesOnly, ref_of}
 use Rattle.mm_store.specs.Links.{Follows, HasTargetRow, IsTied, RefersTo}
-use Rattle.mm_store.proofs.Telling.{first_in, later_in, one_of, refs_of}
+use Rattle.mm_store.proofs.Describing.{first_in, later_in, one_of, refs_of}
 
 -- a live reference has a slot of its partition, below the extent
 pub record LiesWithin (places : Places) (at : RowRef) : Type 0 where
@@ -121,9 +121,9 @@ module _ (column key : ℕ) (then : Slots) where
 
   -- ---- one row after another
 
-  module _ (now : Slots) (e : Entry) (rest : List Entry) (ties : Ties) (behind : IsBehind column key now then (e ∷ rest) ties) where
-    pub first_told : Tells behind.was now e
-    first_told = All-head (Tells behind.was now) e rest behind.told
+  module _ (now : Slots) (e : UndoRecord) (rest : List UndoRecord) (ties : Ties) (behind : IsBehind column key now then (e ∷ rest) ties) where
+    pub first_described : Describes behind.was now e
+    first_described = All-head (Describes behind.was now) e rest behind.described
 
     pub first_pending : IsTied column key then (behind.was (ref_of e)) (target_at ties (ref_of e))
     first_pending = behind.pending (ref_of e) (first_in (ref_of e) (refs_of rest))
@@ -134,7 +134,7 @@ module _ (column key : ℕ) (then : Slots) where
         let absent : Contains (refs_of rest) at → ⊥ = first_absent at (refs_of rest) behind.apart in
         record {
           was = behind.was;
-          told = All-tail (Tells behind.was now) e rest behind.told;
+          described = All-tail (Describes behind.was now) e rest behind.described;
           apart = λ i j d before within. behind.apart (suc i) (suc j) d (omega (arith, before)) (omega (arith, within));
           pending = λ x here.
               subst (IsTied column key then (behind.was x)) (sym (one.1.others x (λ same. absent (subst (Contains (refs_of rest)) same here))))
@@ -153,6 +153,6 @@ module _ (column key : ℕ) (then : Slots) where
           targets = behind.targets;
         }
 
-  -- with no entries left the ties follow what stands
+  -- with no undo records left the ties follow what stands
   pub Follows-caught_up : (now : Slots) (ties : Ties) → IsBehind column key now then [] ties → Follows column key now then ties
   Follows-caught_up now ties b at = b.done at (empty at)

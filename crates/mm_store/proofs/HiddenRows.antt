@@ -8,7 +8,7 @@ use Rattle.std.proofs.lemmas.List.Elements.{All-append, All-cons, All-contains, 
 use Rattle.std.proofs.lemmas.Option.{slice_get_within}
 use Rattle.mm_partition.specs.Places.{Live, Hidden, slot_at}
 use Rattle.mm_relation.specs.Changes.{AreHidden}
-use Rattle.mm_relation.specs.Edits.{entry_name, named, removed}
+use Rattle.mm_relation.specs.Edits.{named, record_name, removed}
 use Rattle.mm_relation.specs.Kept.{StoredRows}
 use Rattle.mm_relation.specs.RowLists.{rows_of}
 use Rattle.mm_relation.specs.Refs.{HasRow, Slots}
@@ -22,24 +22,24 @@ use Rattle.mm_value.specs.declared.values.Value.{Value}
 use Rattle.mm_store.specs.Commands.{IsSettled}
 use Rattle.mm_store.specs.Tables.{IsAt, Tables, Turns}
 use Rattle.mm_store.specs.Undoing.{CanUndo, GoesBack, Heading, IsReversible, headings_of}
-use Rattle.mm_store.specs.Worlds.{Noted, World, back, back_all, slots_of, stood, world_of}
+use Rattle.mm_store.specs.Snapshots.{Logged, Snapshot, back, back_all, slots_of, snapshot_of, stood}
 use Rattle.mm_store.proofs.Joining.{one_relation}
-use Rattle.mm_store.proofs.Telling.{Apart, Apart-cons, Apart-nil, Apart-tail, AreHidden-removed, before_hidden, first_in, later_in, one_of, removed_old}
-use Rattle.mm_store.proofs.Worlds.{relation_at, world_here, world_other}
+use Rattle.mm_store.proofs.Describing.{Apart, Apart-cons, Apart-nil, Apart-tail, AreHidden-removed, before_hidden, first_in, later_in, one_of, removed_old}
+use Rattle.mm_store.proofs.Snapshots.{relation_at, snapshot_here, snapshot_other}
 
 -- ---- what the commands removed
 
 -- the references of the rows of a table that a command removed, and those of all commands
-abbrev removed_of : ℕ → Noted → List RowRef
+abbrev removed_of : ℕ → Logged → List RowRef
 removed_of place command = cond (command.table == place) (removed command.entries) []
 
-abbrev pub removed_in : ℕ → List Noted → List RowRef
+abbrev pub removed_in : ℕ → List Logged → List RowRef
 removed_in place undo = flat_map (removed_of place) undo
 
 abbrev IsHiddenRow : Slots → RowRef → Type 0
 IsHiddenRow now at = (row : List Value) × (now at ≡ Hidden row)
 
-own_removed : (place : ℕ) (command : Noted) (x : RowRef) → Contains (removed_of place command) x
+own_removed : (place : ℕ) (command : Logged) (x : RowRef) → Contains (removed_of place command) x
     → (command.table ≡ place) × Contains (removed command.entries) x
 own_removed place command x here = step (command.table == place) refl here
   where
@@ -48,8 +48,9 @@ own_removed place command x here = step (command.table == place) refl here
     step true is inside = (eqb-true command.table place is, inside)
     step false is inside = absurd (empty x inside)
 
--- a row that is hidden in an older world is hidden still
-hidden_still : (command : Noted) (now : World) (place : ℕ) (x : RowRef) (row : List Value) → back command now place x ≡ Hidden row → now place x ≡ Hidden row
+-- a row that is hidden in an older snapshot is hidden still
+hidden_still : (command : Logged) (now : Snapshot) (place : ℕ) (x : RowRef) (row : List Value) → back command now place x ≡ Hidden row
+    → now place x ≡ Hidden row
 hidden_still command now place x row is =
     ⊎_elim
     (λ (same : (command.table == place) ≡ true).
@@ -59,7 +60,7 @@ hidden_still command now place x row is =
     (λ (other : (command.table == place) ≡ false). ap (λ (s : Slots). s x) (sym (cond-false _ _ _ other)) ∙ is)
     (cases_Bool (command.table == place))
 
-hidden_in_all : (undo : List Noted) (now : World) (place : ℕ) (x : RowRef) (row : List Value) → back_all undo now place x ≡ Hidden row
+hidden_in_all : (undo : List Logged) (now : Snapshot) (place : ℕ) (x : RowRef) (row : List Value) → back_all undo now place x ≡ Hidden row
     → now place x ≡ Hidden row
 hidden_in_all [] now place x row is = is
 hidden_in_all (command ∷ newer) now place x row is =
@@ -112,16 +113,16 @@ module _ (now : Slots) (xs ys : List RowRef) (hidden : AreHidden now (xs ++ ys))
 
 module _ (headings : List Heading) (links : List Reference) (place : ℕ) where
   -- a row that a newer command removed was not hidden before it
-  shown_before : (newer : List Noted) (now : World) → GoesBack headings links newer now → (x : RowRef) → Contains (removed_in place newer) x
+  shown_before : (newer : List Logged) (now : Snapshot) → GoesBack headings links newer now → (x : RowRef) → Contains (removed_in place newer) x
       → (row : List Value) → back_all newer now place x ≢ Hidden row
   shown_before [] now goes x here row is = empty x here
   shown_before (command ∷ newer) now goes x here row is =
-      let mid : World = back_all newer now in
+      let mid : Snapshot = back_all newer now in
       ⊎_elim
       (λ (own : Contains (removed_of place command) x).
       let about = own_removed place command x own in
       let live : HasRow (stood command mid) x =
-      All-contains (HasRow (stood command mid)) (named entry_name Old command.entries) x goes.1.differs.in_live (removed_old command.entries x about.1) in
+      All-contains (HasRow (stood command mid)) (named record_name Old command.entries) x goes.1.differs.in_live (removed_old command.entries x about.1) in
       let there : back command mid place x ≡ Live live.0 =
       ap (λ (s : Slots). s x) (cond-true _ _ _ (eq-eqb command.table place about.0)) ∙ live.1 in
       let both : Live live.0 ≡ Hidden row = sym there ∙ is in cc)
@@ -129,7 +130,7 @@ module _ (headings : List Heading) (links : List Reference) (place : ℕ) where
       shown_before newer now goes.0 x later row (hidden_still command mid place x row is))
       (Contains-append_cases (removed_of place command) (removed_in place newer) x here)
 
-  hidden_own : (command : Noted) (now : World) → IsReversible headings links command now → AreHidden (now place) (removed_of place command)
+  hidden_own : (command : Logged) (now : Snapshot) → IsReversible headings links command now → AreHidden (now place) (removed_of place command)
   hidden_own command now reversible = step (command.table == place) refl
     where
       step : (b : Bool) → (command.table == place) ≡ b → AreHidden (now place) (cond b (removed command.entries) [])
@@ -138,10 +139,10 @@ module _ (headings : List Heading) (links : List Reference) (place : ℕ) where
           (AreHidden-removed command.entries (now command.table) reversible.stands reversible.differs)
       step false is = record { hidden = All-nil (IsHiddenRow (now place)); apart = Apart-nil }
 
-  AreHidden-all : (undo : List Noted) (now : World) → GoesBack headings links undo now → AreHidden (now place) (removed_in place undo)
+  AreHidden-all : (undo : List Logged) (now : Snapshot) → GoesBack headings links undo now → AreHidden (now place) (removed_in place undo)
   AreHidden-all [] now goes = record { hidden = All-nil (IsHiddenRow (now place)); apart = Apart-nil }
   AreHidden-all (command ∷ newer) now goes =
-      let mid : World = back_all newer now in
+      let mid : Snapshot = back_all newer now in
       let own : AreHidden (mid place) (removed_of place command) = hidden_own command mid goes.1 in
       let later : AreHidden (now place) (removed_in place newer) = AreHidden-all newer now goes.0 in
       record {
@@ -157,68 +158,68 @@ module _ (headings : List Heading) (links : List Reference) (place : ℕ) where
       }
 
 -- Every row that the log's commands removed is hidden, each at a reference of its own.
-abbrev pub AllHidden : Tables → List Noted → Type 0
-AllHidden store undo = (place : ℕ) → AreHidden (world_of store place) (removed_in place undo)
+abbrev pub AllHidden : Tables → List Logged → Type 0
+AllHidden store undo = (place : ℕ) → AreHidden (snapshot_of store place) (removed_in place undo)
 
-pub AllHidden-start : (store : Tables) (undo : List Noted) → CanUndo store undo → AllHidden store undo
-AllHidden-start store undo can place = AreHidden-all (headings_of store) store.links place undo (world_of store) can.back
+pub AllHidden-start : (store : Tables) (undo : List Logged) → CanUndo store undo → AllHidden store undo
+AllHidden-start store undo can place = AreHidden-all (headings_of store) store.links place undo (snapshot_of store) can.back
 
 -- the table of each command is there
-pub tables_there : (store : Tables) (undo : List Noted) → CanUndo store undo → All (λ command. command.table < length store.tables) undo
-tables_there store undo can = there undo (world_of store) can.back
+pub tables_there : (store : Tables) (undo : List Logged) → CanUndo store undo → All (λ command. command.table < length store.tables) undo
+tables_there store undo can = there undo (snapshot_of store) can.back
   where
-    there : (commands : List Noted) (now : World) → GoesBack (headings_of store) store.links commands now
-        → All (λ (command : Noted). command.table < length store.tables) commands
-    there [] now goes = All-nil (λ (command : Noted). command.table < length store.tables)
+    there : (commands : List Logged) (now : Snapshot) → GoesBack (headings_of store) store.links commands now
+        → All (λ (command : Logged). command.table < length store.tables) commands
+    there [] now goes = All-nil (λ (command : Logged). command.table < length store.tables)
     there (command ∷ newer) now goes =
         let found = relation_at store.tables command.table goes.1.heading goes.1.there in
-        All-cons (λ (c : Noted). c.table < length store.tables) command newer (slice_get_within store.tables command.table found.0 found.1)
+        All-cons (λ (c : Logged). c.table < length store.tables) command newer (slice_get_within store.tables command.table found.0 found.1)
         (there newer now goes.0)
 
 -- ---- the newest command ends
 
-module _ (store : Tables) (undo : List Noted) (command : Noted) (hidden : AllHidden store (undo ++ command ∷ [])) where
-  split_at : (place : ℕ) → AreHidden (world_of store place) (removed_in place undo ++ removed_of place command)
-  split_at place = subst (AreHidden (world_of store place)) (sym (flat_map_more (removed_of place) [] undo command)) (hidden place)
+module _ (store : Tables) (undo : List Logged) (command : Logged) (hidden : AllHidden store (undo ++ command ∷ [])) where
+  split_at : (place : ℕ) → AreHidden (snapshot_of store place) (removed_in place undo ++ removed_of place command)
+  split_at place = subst (AreHidden (snapshot_of store place)) (sym (flat_map_more (removed_of place) [] undo command)) (hidden place)
 
   pub newest_hidden : (stored : StoredRows) → IsAt store command.table stored → AreHidden (slot_at stored.places) (removed command.entries)
   newest_hidden stored there =
       subst (λ (s : Slots). AreHidden s (removed command.entries)) (ap slots_of there)
-      (subst (AreHidden (world_of store command.table)) (cond-true _ _ _ (eq-eqb command.table command.table refl))
-      (hidden_right (world_of store command.table) (removed_in command.table undo) (removed_of command.table command) (split_at command.table)))
+      (subst (AreHidden (snapshot_of store command.table)) (cond-true _ _ _ (eq-eqb command.table command.table refl))
+      (hidden_right (snapshot_of store command.table) (removed_in command.table undo) (removed_of command.table command) (split_at command.table)))
 
   module _ (new : Tables) (was is : StoredRows) (there : IsAt store command.table was) (turned : Turns store command.table is new)
       (settled : IsSettled was (removed command.entries) is) where
     pub AllHidden-less : AllHidden new undo
     AllHidden-less place =
-        let left : AreHidden (world_of store place) (removed_in place undo) =
-        hidden_left (world_of store place) (removed_in place undo) (removed_of place command) (split_at place) in
+        let left : AreHidden (snapshot_of store place) (removed_in place undo) =
+        hidden_left (snapshot_of store place) (removed_in place undo) (removed_of place command) (split_at place) in
         record {
           hidden = λ k d within.
               let x : RowRef = get_or (removed_in place undo) k d in
-              let row : IsHiddenRow (world_of store place) x = left.hidden k d within in
+              let row : IsHiddenRow (snapshot_of store place) x = left.hidden k d within in
               (row.0, stays_at place x (Contains-get_or (removed_in place undo) k d within) ∙ row.1);
           apart = left.apart;
         }
       where
-        stays_at : (place : ℕ) (x : RowRef) → Contains (removed_in place undo) x → world_of new place x ≡ world_of store place x
+        stays_at : (place : ℕ) (x : RowRef) → Contains (removed_in place undo) x → snapshot_of new place x ≡ snapshot_of store place x
         stays_at place x here =
             ⊎_elim
             (λ (same : place ≡ command.table).
             let absent : Contains (removed command.entries) x → ⊥ =
             λ gone.
-            no_common (world_of store place) (removed_in place undo) (removed_of place command) (split_at place) x here
+            no_common (snapshot_of store place) (removed_in place undo) (removed_of place command) (split_at place) x here
             (subst (λ (l : List RowRef). Contains l x) (sym (cond-true _ _ _ (eq-eqb command.table place (sym same)))) gone) in
-            ap (λ (n : ℕ). world_of new n x) same
-            ∙ (ap (λ (s : Slots). s x) (world_here store new command.table was is there turned)
+            ap (λ (n : ℕ). snapshot_of new n x) same
+            ∙ (ap (λ (s : Slots). s x) (snapshot_here store new command.table was is there turned)
             ∙ (settled.others x absent
-            ∙ (ap (λ (s : Slots). s x) (sym (ap slots_of there)) ∙ ap (λ (n : ℕ). world_of store n x) (sym same)))))
+            ∙ (ap (λ (s : Slots). s x) (sym (ap slots_of there)) ∙ ap (λ (n : ℕ). snapshot_of store n x) (sym same)))))
             (λ (apart : place ≢ command.table).
-            ap (λ (s : Slots). s x) (world_other store new command.table was is there turned place apart))
+            ap (λ (s : Slots). s x) (snapshot_other store new command.table was is there turned place apart))
             (same_number place command.table)
 
 -- what holds of all commands holds of the older ones and of the newest
-pub All_left : (P : Noted → Type 0) (older : List Noted) (command : Noted) → All P (older ++ command ∷ []) → All P older × P command
+pub All_left : (P : Logged → Type 0) (older : List Logged) (command : Logged) → All P (older ++ command ∷ []) → All P older × P command
 All_left P [] command all = (All-nil P, all 0 command (omega arith))
 All_left P (c ∷ cs) command all =
     let rest = All_left P cs command (λ k d within. all (suc k) d (omega (arith, within))) in

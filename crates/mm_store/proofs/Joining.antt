@@ -5,7 +5,7 @@ use Rattle.std.proofs.lemmas.Option.{slice_get_read, slice_get_within}
 use Rattle.mm_foreign_key.specs.Ties.{Ties}
 use Rattle.mm_partition.specs.Places.{slot_at}
 use Rattle.mm_relation.specs.Kept.{StoredRows}
-use Rattle.mm_relation.specs.declared.log.Entry.{Entry}
+use Rattle.mm_relation.specs.declared.log.UndoRecord.{UndoRecord}
 use Rattle.mm_relation.proofs.RefTests.{same_number}
 use Rattle.mm_store.specs.Behind.{IsBehind}
 use Rattle.mm_store.specs.Joined.{CanRetie, IsJoined}
@@ -46,12 +46,12 @@ get_set_other (t ∷ ts) (suc place) zero new apart = refl
 get_set_other (t ∷ ts) (suc place) (suc other) new apart = get_set_other ts place other new (λ same. apart (ap suc same))
 
 -- what is known of a link before its ties are brought up
-pub record Behind (tables : List StoredRows) (stored target : StoredRows) (entries : List Entry) (link : Link) : Type 0 where
+pub record Behind (tables : List StoredRows) (stored target : StoredRows) (entries : List UndoRecord) (link : Link) : Type 0 where
   pub column_in : link.reference.column < stored.width
   pub behind : IsBehind link.reference.column target.key (slot_at stored.places) (slot_at target.places) entries link.ties
   pub room : HasRoom stored.places target.places link.ties
 
-pub Behind-from_CanRetie : (tables : List StoredRows) (stored target : StoredRows) (entries : List Entry) (link : Link)
+pub Behind-from_CanRetie : (tables : List StoredRows) (stored target : StoredRows) (entries : List UndoRecord) (link : Link)
     → slice_get tables link.reference.to ≡ Some target → CanRetie tables stored entries link → Behind tables stored target entries link
 Behind-from_CanRetie tables stored target entries link there can =
     let same : can.target ≡ target = one_relation can.target target (sym can.target_at ∙ there) in

@@ -11,7 +11,7 @@ pub mod Looked
 pub mod MarkLaws
 pub mod Moving
 pub mod OnlyReference
-pub mod Owing
+pub mod UndoRoom
 pub mod Referring
 pub mod Removals
 pub mod Retying
@@ -20,6 +20,6 @@ pub mod Reverting
 pub mod Settling
 pub mod StandingRows
 pub mod Trimming
-pub mod Telling
+pub mod Describing
 pub mod UndoLaws
-pub mod Worlds
+pub mod Snapshots

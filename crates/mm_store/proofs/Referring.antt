@@ -20,10 +20,10 @@ use Rattle.mm_relation.specs.Refs.{HasRow, IsWide, Slots, row_at, row_in}
 use Rattle.mm_relation.specs.declared.index.Index.{Index}
 use Rattle.mm_relation.proofs.RowLists.{KeysApart-ordered}
 use Rattle.mm_relation.proofs.Seeks.{place_exact}
-use Rattle.mm_relation.proofs.Twins.{list_any-map}
+use Rattle.mm_relation.proofs.Duplicates.{list_any-map}
 use Rattle.mm_schema.specs.Rows.{column_cmp}
 use Rattle.mm_schema.proofs.Orderings.{equal_from_is_eq}
-use Rattle.mm_schema.proofs.Twins.{column_cmp_total}
+use Rattle.mm_schema.proofs.Duplicates.{column_cmp_total}
 use Rattle.mm_value.proofs.Orders.{value_cmp_total}
 use Rattle.mm_value.specs.Order.{value_cmp}
 use Rattle.mm_value.specs.declared.row_ref.RowRef.{RowRef}

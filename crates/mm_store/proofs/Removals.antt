@@ -13,10 +13,10 @@ use Rattle.mm_relation.specs.RowLists.{edit_pairs, rows_of}
 use Rattle.mm_relation.specs.declared.edits.Edit.{Edit}
 use Rattle.mm_relation.specs.declared.edits.Edit.TheVariants.{Add, Swap, Gone}
 use Rattle.mm_relation.proofs.RowLists.{in_key_order}
-use Rattle.mm_schema.specs.Rows.{Pair, changed, column_cmp, goes, has_twin_keys, same_in_column, unsorted, most_rows}
+use Rattle.mm_schema.specs.Rows.{Pair, changed, column_cmp, goes, has_duplicate_keys, same_in_column, unsorted, most_rows}
 use Rattle.mm_schema.specs.Sorting.{in_order}
 use Rattle.mm_schema.proofs.InOrder.{IsPermutation-in_order}
-use Rattle.mm_schema.proofs.Twins.{Row, has_twin_keys-IsPermutation, no_twins_in_order}
+use Rattle.mm_schema.proofs.Duplicates.{Row, has_duplicate_keys-IsPermutation, no_duplicates_in_order}
 use Rattle.mm_store.specs.Joined.{IsTable}
 use Rattle.mm_store.specs.Tables.{rows_with}
 
@@ -30,14 +30,14 @@ none_in_filter q p (r ∷ rs) none = by (p r) (none_in_filter q p rs (or_parts (
     by true later = or_from _ _ (or_parts (q r) (list_any q rs) none).0 later
     by false later = later
 
-apart_in_filter : (key : ℕ) (p : Row → Bool) (rows : List Row) → has_twin_keys key rows ≡ false → has_twin_keys key (filter p rows) ≡ false
+apart_in_filter : (key : ℕ) (p : Row → Bool) (rows : List Row) → has_duplicate_keys key rows ≡ false → has_duplicate_keys key (filter p rows) ≡ false
 apart_in_filter key p [] none = refl
 apart_in_filter key p (r ∷ rs) none =
-    by (p r) (none_in_filter (same_in_column key r) p rs (or_parts (list_any (same_in_column key r) rs) (has_twin_keys key rs) none).0)
-    (apart_in_filter key p rs (or_parts (list_any (same_in_column key r) rs) (has_twin_keys key rs) none).1)
+    by (p r) (none_in_filter (same_in_column key r) p rs (or_parts (list_any (same_in_column key r) rs) (has_duplicate_keys key rs) none).0)
+    (apart_in_filter key p rs (or_parts (list_any (same_in_column key r) rs) (has_duplicate_keys key rs) none).1)
   where
-    by : (b : Bool) → list_any (same_in_column key r) (filter p rs) ≡ false → has_twin_keys key (filter p rs) ≡ false
-        → has_twin_keys key (cond b (r ∷ filter p rs) (filter p rs)) ≡ false
+    by : (b : Bool) → list_any (same_in_column key r) (filter p rs) ≡ false → has_duplicate_keys key (filter p rs) ≡ false
+        → has_duplicate_keys key (cond b (r ∷ filter p rs) (filter p rs)) ≡ false
     by true first later = or_from _ _ first later
     by false first later = later
 
@@ -58,11 +58,11 @@ module _ (key : ℕ) (pairs : List Pair) (rows : List Row) (none : filter_map (�
   just_left : unsorted key pairs rows ≡ left
   just_left = ap (λ fresh. left ++ fresh) none ∙ append-nil left
 
-  no_twins_sorted : has_twin_keys key rows ≡ false → has_twin_keys key (in_order (column_cmp key) (unsorted key pairs rows)) ≡ false
-  no_twins_sorted apart =
-      sym (has_twin_keys-IsPermutation key (unsorted key pairs rows) (in_order (column_cmp key) (unsorted key pairs rows))
+  no_duplicates_sorted : has_duplicate_keys key rows ≡ false → has_duplicate_keys key (in_order (column_cmp key) (unsorted key pairs rows)) ≡ false
+  no_duplicates_sorted apart =
+      sym (has_duplicate_keys-IsPermutation key (unsorted key pairs rows) (in_order (column_cmp key) (unsorted key pairs rows))
       (IsPermutation-in_order (column_cmp key) (unsorted key pairs rows)))
-      ∙ (ap (has_twin_keys key) just_left ∙ apart_in_filter key (λ row. not (list_any (λ q. goes key row q.0) pairs)) rows apart)
+      ∙ (ap (has_duplicate_keys key) just_left ∙ apart_in_filter key (λ row. not (list_any (λ q. goes key row q.0) pairs)) rows apart)
 
   no_more_sorted : length (in_order (column_cmp key) (unsorted key pairs rows)) ≤ length rows
   no_more_sorted =
@@ -74,10 +74,10 @@ module _ (key : ℕ) (pairs : List Pair) (rows : List Row) (none : filter_map (�
         fewer_in_filter (λ row. not (list_any (λ q. goes key row q.0) pairs)) rows,
       )
 
-no_twins_left : (key : ℕ) (pairs : List Pair) (rows : List Row) → filter_map (λ (p : Pair). p.1) pairs ≡ [] → has_twin_keys key rows ≡ false
-    → has_twin_keys key (changed key pairs rows) ≡ false
-no_twins_left key [] rows none apart = apart
-no_twins_left key (p ∷ ps) rows none apart = no_twins_sorted key (p ∷ ps) rows none apart
+no_duplicates_left : (key : ℕ) (pairs : List Pair) (rows : List Row) → filter_map (λ (p : Pair). p.1) pairs ≡ [] → has_duplicate_keys key rows ≡ false
+    → has_duplicate_keys key (changed key pairs rows) ≡ false
+no_duplicates_left key [] rows none apart = apart
+no_duplicates_left key (p ∷ ps) rows none apart = no_duplicates_sorted key (p ∷ ps) rows none apart
 
 no_more_left : (key : ℕ) (pairs : List Pair) (rows : List Row) → filter_map (λ (p : Pair). p.1) pairs ≡ [] → length (changed key pairs rows) ≤ length rows
 no_more_left key [] rows none = omega arith
@@ -95,9 +95,9 @@ module _ (stored : StoredRows) (is_table : IsTable stored) (edits : List Edit) (
   none_comes : filter_map (λ (p : Pair). p.1) (edit_pairs (slot_at stored.places) edits) ≡ []
   none_comes = come (slot_at stored.places) edits ∙ removals
 
-  pub no_twins_with : has_twin_keys stored.key (rows_with stored edits) ≡ false
-  no_twins_with = no_twins_left stored.key (edit_pairs (slot_at stored.places) edits) (rows_of stored) none_comes
-      (no_twins_in_order stored.key (rows_of stored) (in_key_order stored.key (slot_at stored.places) stored.refs is_table.kept.by_key))
+  pub no_duplicates_with : has_duplicate_keys stored.key (rows_with stored edits) ≡ false
+  no_duplicates_with = no_duplicates_left stored.key (edit_pairs (slot_at stored.places) edits) (rows_of stored) none_comes
+      (no_duplicates_in_order stored.key (rows_of stored) (in_key_order stored.key (slot_at stored.places) stored.refs is_table.kept.by_key))
 
   pub few_with : length (rows_with stored edits) ≤ most_rows
   few_with =

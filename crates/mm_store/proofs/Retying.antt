@@ -10,7 +10,7 @@ use Rattle.mm_relation.specs.Index.{EachTurns}
 use Rattle.mm_relation.specs.Kept.{StoredRows}
 use Rattle.mm_relation.specs.Refs.{row_at, row_in}
 use Rattle.mm_relation.specs.RowLists.{rows_of}
-use Rattle.mm_relation.specs.declared.log.Entry.{Entry}
+use Rattle.mm_relation.specs.declared.log.UndoRecord.{UndoRecord}
 use Rattle.mm_relation.proofs.Turning.{All-turned}
 use Rattle.mm_schema.specs.declared.reference.Reference.{Reference}
 use Rattle.mm_value.specs.declared.row_ref.RowRef.{RowRef}
@@ -19,7 +19,7 @@ use Rattle.mm_store.specs.Joined.{CanRetie, IsJoined, IsRetied, IsSound, IsTable
 use Rattle.mm_store.specs.Links.{Follows, HasTargetRow, IsTied, Joins}
 use Rattle.mm_store.specs.declared.link.Link.{Link}
 use Rattle.mm_store.proofs.Joining.{IsJoined-set, get_set_other, one_relation}
-use Rattle.mm_store.proofs.Telling.{TellAll}
+use Rattle.mm_store.proofs.Describing.{DescribeAll}
 
 -- a live row is among the rows of its table
 pub listed_row : (stored : StoredRows) → IsTable stored → (at : RowRef) (row : List Value) → slot_at stored.places at ≡ Live row
@@ -43,8 +43,8 @@ module _ (tables : List StoredRows) (place : ℕ) (old new : StoredRows) (there 
     pub target_room : link.reference.to ≡ place → extent_of new.places ≤ link.ties.extent
 
   module _ (width : new.width ≡ old.width) (key : new.key ≡ old.key) where
-    -- its ties can be brought up by what the entries tell
-    pub CanRetie-turned : (entries : List Entry) → TellAll (slot_at old.places) (slot_at new.places) entries → (link : Link) → CanTurn link
+    -- its ties can be brought up by what the undo records describe
+    pub CanRetie-turned : (entries : List UndoRecord) → DescribeAll (slot_at old.places) (slot_at new.places) entries → (link : Link) → CanTurn link
         → ((target : StoredRows) → link.reference.from ≡ place → slice_get tables link.reference.to ≡ Some target
         → (at : RowRef) (row : List Value) → slot_at new.places at ≡ Live row
         → HasTargetRow link.reference.column target.key (slot_at target.places) row)
@@ -62,7 +62,7 @@ module _ (tables : List StoredRows) (place : ℕ) (old new : StoredRows) (there 
           column_in = omega (arith, width, joins.column_in);
           behind = record {
             was = slot_at old.places;
-            told = tell.told;
+            described = tell.described;
             apart = tell.apart;
             pending = λ at here. joins.follows at;
             done = λ at absent.

@@ -13,11 +13,11 @@ use Rattle.mm_foreign_key.specs.Ties.{Ties, target_at}
 use Rattle.mm_partition.specs.Places.{Live, slot_at}
 use Rattle.mm_relation.specs.Before.{StandsBack, before}
 use Rattle.mm_relation.specs.Differs.{Differs}
-use Rattle.mm_relation.specs.Edits.{entry_name, named}
+use Rattle.mm_relation.specs.Edits.{named, record_name}
 use Rattle.mm_relation.specs.Kept.{StoredRows}
 use Rattle.mm_relation.specs.Lawful.{IsLawful}
 use Rattle.mm_relation.specs.Refs.{HasRow, Slots, row_at, row_in}
-use Rattle.mm_relation.specs.declared.log.Entry.{Entry}
+use Rattle.mm_relation.specs.declared.log.UndoRecord.{UndoRecord}
 use Rattle.mm_relation.specs.declared.names.Side.TheVariants.{New, Old}
 use Rattle.mm_relation.proofs.Phase.{split_off}
 use Rattle.mm_relation.proofs.Lawful.{IsLawful-kept}
@@ -31,11 +31,11 @@ use Rattle.mm_store.specs.Joined.{AreJoined, IsJoined, IsTable}
 use Rattle.mm_store.specs.Links.{Follows, HasTargetRow, IsTied, RefersTo}
 use Rattle.mm_store.specs.Tables.{Tables, Turns}
 use Rattle.mm_store.specs.Undoing.{HasAtMost, Heading, IsReversible, heading_of}
-use Rattle.mm_store.specs.Worlds.{Noted, slots_of, stood, world_of}
+use Rattle.mm_store.specs.Snapshots.{Logged, slots_of, snapshot_of, stood}
 use Rattle.mm_store.specs.declared.link.Link.{Link}
 use Rattle.mm_store.proofs.Applied.{table_at}
 use Rattle.mm_store.proofs.Joining.{one_relation}
-use Rattle.mm_store.proofs.Worlds.{heading_at, relation_at, world_here, world_other}
+use Rattle.mm_store.proofs.Snapshots.{heading_at, relation_at, snapshot_here, snapshot_other}
 
 -- ---- how many rows stand
 
@@ -74,15 +74,15 @@ one_target width key now lawful a b live_a live_b same =
 
 module _ (before_it after_it : Tables) (links : List Link) (place : ℕ) (old new : StoredRows) (there : slice_get before_it.tables place ≡ Some old)
     (turned : Turns before_it place new after_it) (all : All IsTable before_it.tables) (joined : AreJoined before_it.tables links)
-    (listed : before_it.links ≡ map (λ (link : Link). link.reference) links) (is_table : IsTable new) (entries : List Entry)
+    (listed : before_it.links ≡ map (λ (link : Link). link.reference) links) (is_table : IsTable new) (entries : List UndoRecord)
     (makes : before entries (slot_at new.places) ≡ slot_at old.places) (key : new.key ≡ old.key) where
-  abbrev command : Noted
+  abbrev command : Logged
   command = record { table = place; entries = entries }
 
-  now_is : world_of after_it place ≡ slot_at new.places
-  now_is = world_here before_it after_it place old new there turned
+  now_is : snapshot_of after_it place ≡ slot_at new.places
+  now_is = snapshot_here before_it after_it place old new there turned
 
-  stood_is : stood command (world_of after_it) ≡ slot_at old.places
+  stood_is : stood command (snapshot_of after_it) ≡ slot_at old.places
   stood_is = ap (before entries) now_is ∙ makes
 
   -- a row that a row refers to after the command, it referred to before it
@@ -106,19 +106,19 @@ module _ (before_it after_it : Tables) (links : List Link) (place : ℕ) (old ne
       subst (RefersTo column old.key (slot_at old.places) row) (one ∙ same) tied.2
 
   pub IsReversible-made : StandsBack entries (slot_at new.places)
-      → Differs (slot_at new.places) (slot_at old.places) (named entry_name New entries) (named entry_name Old entries)
+      → Differs (slot_at new.places) (slot_at old.places) (named record_name New entries) (named record_name Old entries)
       → ((reference : Reference) (ties : Ties) (source : StoredRows) → Contains before_it.links reference → reference.to ≡ place
       → slice_get before_it.tables reference.from ≡ Some source
       → Follows reference.column old.key (slot_at source.places) (slot_at old.places) ties
       → Follows reference.column old.key (slot_at source.places) (slot_at new.places) ties)
-      → IsReversible (map heading_of before_it.tables) before_it.links command (world_of after_it)
+      → IsReversible (map heading_of before_it.tables) before_it.links command (snapshot_of after_it)
   IsReversible-made stands differs follow = record {
     heading = heading_of old;
     there = heading_at before_it.tables place old there;
     stands = subst (StandsBack entries) (sym now_is) stands;
     differs =
-        subst (λ (s : Slots). Differs (world_of after_it place) s (named entry_name New entries) (named entry_name Old entries)) (sym stood_is)
-        (subst (λ (s : Slots). Differs s (slot_at old.places) (named entry_name New entries) (named entry_name Old entries)) (sym now_is) differs);
+        subst (λ (s : Slots). Differs (snapshot_of after_it place) s (named record_name New entries) (named record_name Old entries)) (sym stood_is)
+        (subst (λ (s : Slots). Differs s (slot_at old.places) (named record_name New entries) (named record_name Old entries)) (sym now_is) differs);
     lawful =
         subst (IsLawful old.width old.key) (sym stood_is)
         (IsLawful-kept old.width old.key (slot_at old.places) old.refs old.indexes (table_at before_it.tables place old all there).kept);
@@ -136,9 +136,9 @@ module _ (before_it after_it : Tables) (links : List Link) (place : ℕ) (old ne
         subst (λ c. IsTied reference.column j.target.key (slot_at j.target.places) c (target_at found.0 at)) stands_there (follows at) in
         let has : HasTargetRow reference.column j.target.key (slot_at j.target.places) row = (tied.0, tied.2) in
         let keyed : j.target.key ≡ other.key = ap (λ (s : StoredRows). s.key) is_target ∙ ap (λ (h : Heading). h.key) target.2 in
-        let elsewhere : world_of after_it reference.to ≡ slot_at j.target.places =
-        world_other before_it after_it place old new there turned reference.to (λ e. j.apart (from ∙ sym e)) ∙ ap slots_of j.target_at in
-        subst (λ (k : ℕ). HasTargetRow reference.column k (world_of after_it reference.to) row) keyed
+        let elsewhere : snapshot_of after_it reference.to ≡ slot_at j.target.places =
+        snapshot_other before_it after_it place old new there turned reference.to (λ e. j.apart (from ∙ sym e)) ∙ ap slots_of j.target_at in
+        subst (λ (k : ℕ). HasTargetRow reference.column k (snapshot_of after_it reference.to) row) keyed
         (subst (λ (s : Slots). HasTargetRow reference.column j.target.key s row) (sym elsewhere) has);
     referred = λ reference here to from row live at refers.
         let found = joined_of before_it.tables links reference joined (subst (λ rs. Contains rs reference) listed here) in
@@ -146,8 +146,8 @@ module _ (before_it after_it : Tables) (links : List Link) (place : ℕ) (old ne
         let target : j.target ≡ old = one_relation j.target old (sym j.target_at ∙ (ap (slice_get before_it.tables) to ∙ there)) in
         let follows : Follows reference.column old.key (slot_at j.source.places) (slot_at old.places) found.0 =
         subst (λ (s : StoredRows). Follows reference.column s.key (slot_at j.source.places) (slot_at s.places) found.0) target j.joins.follows in
-        let elsewhere : world_of after_it reference.from ≡ slot_at j.source.places =
-        world_other before_it after_it place old new there turned reference.from (λ e. j.apart (e ∙ sym to)) ∙ ap slots_of j.source_at in
+        let elsewhere : snapshot_of after_it reference.from ≡ slot_at j.source.places =
+        snapshot_other before_it after_it place old new there turned reference.from (λ e. j.apart (e ∙ sym to)) ∙ ap slots_of j.source_at in
         let stands_there : slot_at j.source.places from ≡ Live row = ap (λ (s : Slots). s from) (sym elsewhere) ∙ live in
         subst (λ (s : Slots). RefersTo reference.column old.key s row at) (sym stood_is)
         (referred_before reference.column j.source found.0 follows (follow reference found.0 j.source here to j.source_at follows) from row stands_there at

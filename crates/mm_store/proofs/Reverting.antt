@@ -7,13 +7,13 @@ use Rattle.mm_foreign_key.specs.Ties.{Ties, target_at}
 use Rattle.mm_partition.specs.Places.{Content, Free, Live, Hidden, extent_of, slot_at}
 use Rattle.mm_relation.specs.Before.{StandsBack, before}
 use Rattle.mm_relation.specs.Differs.{Differs}
-use Rattle.mm_relation.specs.Edits.{entry_name, named}
+use Rattle.mm_relation.specs.Edits.{named, record_name}
 use Rattle.mm_relation.specs.Index.{EachTurns}
 use Rattle.mm_relation.specs.Kept.{IsKept, StoredRows}
 use Rattle.mm_relation.specs.Lawful.{IsLawful}
 use Rattle.mm_relation.specs.Refs.{Slots}
-use Rattle.mm_relation.specs.Turned.{Turned}
-use Rattle.mm_relation.specs.declared.log.Entry.{Entry}
+use Rattle.mm_relation.specs.Inverted.{Inverted}
+use Rattle.mm_relation.specs.declared.log.UndoRecord.{UndoRecord}
 use Rattle.mm_relation.specs.declared.names.Side.TheVariants.{New, Old}
 use Rattle.mm_relation.proofs.Phase.{distinct}
 use Rattle.mm_value.specs.declared.row_ref.RowRef.{RowRef}
@@ -22,12 +22,12 @@ use Rattle.mm_store.specs.Joined.{CanRetie, IsJoined, IsRetied, IsSound, IsTable
 use Rattle.mm_store.specs.Links.{Follows, HasTargetRow, IsTied, RefersTo}
 use Rattle.mm_store.specs.Tables.{Tables}
 use Rattle.mm_store.specs.Undoing.{HasAtMost, Heading, IsReversible, heading_of}
-use Rattle.mm_store.specs.Worlds.{Noted, slots_of, stood, world_of}
+use Rattle.mm_store.specs.Snapshots.{Logged, slots_of, snapshot_of, stood}
 use Rattle.mm_store.specs.declared.link.Link.{Link}
 use Rattle.mm_store.proofs.Joining.{one_relation}
 use Rattle.mm_store.proofs.Retying.{CanRetie-turned, CanTurn, IsSound-turned}
-use Rattle.mm_store.proofs.Telling.{TellAll, TellAll-back}
-use Rattle.mm_store.proofs.Worlds.{heading_at}
+use Rattle.mm_store.proofs.Describing.{DescribeAll, DescribeAll-back}
+use Rattle.mm_store.proofs.Snapshots.{heading_at}
 use Rattle.mm_schema.specs.Rows.{most_rows}
 
 -- where what rows refer to stays, the ties do
@@ -53,19 +53,19 @@ one_heading : (a b : Heading) → Some a ≡ Some b → a ≡ b
 one_heading a b same = cc
 
 module _ (tables : List StoredRows) (links : List Link) (sound : IsSound tables links) (place : ℕ) (old : StoredRows)
-    (there : slice_get tables place ≡ Some old) (entries : List Entry)
+    (there : slice_get tables place ≡ Some old) (entries : List UndoRecord)
     (reversible : IsReversible (map heading_of tables) (map (λ (link : Link). link.reference) links) (record { table = place; entries = entries })
-    (world_of (record { tables = tables; links = map (λ (link : Link). link.reference) links }))) where
+    (snapshot_of (record { tables = tables; links = map (λ (link : Link). link.reference) links }))) where
   abbrev store : Tables
   store = record { tables = tables; links = map (λ (link : Link). link.reference) links }
 
-  abbrev command : Noted
+  abbrev command : Logged
   command = record { table = place; entries = entries }
 
-  was : world_of store place ≡ slot_at old.places
+  was : snapshot_of store place ≡ slot_at old.places
   was = ap slots_of there
 
-  stood_is : stood command (world_of store) ≡ before entries (slot_at old.places)
+  stood_is : stood command (snapshot_of store) ≡ before entries (slot_at old.places)
   stood_is = ap (before entries) was
 
   headed : reversible.heading ≡ heading_of old
@@ -74,21 +74,21 @@ module _ (tables : List StoredRows) (links : List Link) (sound : IsSound tables 
   pub stands_there : StandsBack entries (slot_at old.places)
   stands_there = subst (StandsBack entries) was reversible.stands
 
-  pub differs_there : Differs (slot_at old.places) (before entries (slot_at old.places)) (named entry_name New entries) (named entry_name Old entries)
+  pub differs_there : Differs (slot_at old.places) (before entries (slot_at old.places)) (named record_name New entries) (named record_name Old entries)
   differs_there =
-      subst (λ (s : Slots). Differs s (before entries (slot_at old.places)) (named entry_name New entries) (named entry_name Old entries)) was
-      (subst (λ (s : Slots). Differs (world_of store place) s (named entry_name New entries) (named entry_name Old entries)) stood_is reversible.differs)
+      subst (λ (s : Slots). Differs s (before entries (slot_at old.places)) (named record_name New entries) (named record_name Old entries)) was
+      (subst (λ (s : Slots). Differs (snapshot_of store place) s (named record_name New entries) (named record_name Old entries)) stood_is reversible.differs)
 
   pub lawful_there : IsLawful old.width old.key (before entries (slot_at old.places))
   lawful_there =
       subst (λ (h : Heading). IsLawful h.width h.key (before entries (slot_at old.places))) headed
       (subst (IsLawful reversible.heading.width reversible.heading.key) stood_is reversible.lawful)
 
-  module _ (new : StoredRows) (turned : List Entry) (slots : slot_at new.places ≡ before entries (slot_at old.places)) (width : new.width ≡ old.width)
+  module _ (new : StoredRows) (turned : List UndoRecord) (slots : slot_at new.places ≡ before entries (slot_at old.places)) (width : new.width ≡ old.width)
       (key : new.key ≡ old.key) (extent : extent_of new.places ≡ extent_of old.places)
-      (turns : EachTurns (Turned (slot_at old.places)) entries turned)
+      (turns : EachTurns (Inverted (slot_at old.places)) entries turned)
       (kept : IsKept new.width new.key (slot_at new.places) new.refs new.indexes) where
-    stood_new : stood command (world_of store) ≡ slot_at new.places
+    stood_new : stood command (snapshot_of store) ≡ slot_at new.places
     stood_new = stood_is ∙ sym slots
 
     pub IsTable-back : IsTable new
@@ -104,24 +104,24 @@ module _ (tables : List StoredRows) (links : List Link) (sound : IsSound tables 
         at_own (x ∷ xs) zero d within = refl
         at_own (x ∷ xs) (suc k) d within = at_own xs k d (omega (arith, within))
 
-    tell : TellAll (slot_at old.places) (slot_at new.places) turned
+    tell : DescribeAll (slot_at old.places) (slot_at new.places) turned
     tell =
-        subst (λ (s : Slots). TellAll (slot_at old.places) s turned) (sym slots)
-        (TellAll-back entries (slot_at old.places) stands_there differs_there turned turns)
+        subst (λ (s : Slots). DescribeAll (slot_at old.places) s turned) (sym slots)
+        (DescribeAll-back entries (slot_at old.places) stands_there differs_there turned turns)
 
     CanTurn-back : (link : Link) → Contains (map (λ (l : Link). l.reference) links) link.reference → IsJoined tables link.reference link.ties
         → CanTurn tables place old new there link
     CanTurn-back link here joined = record {
       joined = joined;
       follows = λ source to source_there.
-          let elsewhere : world_of store link.reference.from ≡ slot_at source.places = ap slots_of source_there in
+          let elsewhere : snapshot_of store link.reference.from ≡ slot_at source.places = ap slots_of source_there in
           let keyed : reversible.heading.key ≡ old.key = ap (λ (h : Heading). h.key) headed in
           Follows-still link.reference.column old.key (slot_at old.places) (slot_at new.places) (slot_at source.places) link.ties
           (λ from row live at refers.
           subst (λ (s : Slots). RefersTo link.reference.column old.key s row at) stood_new
-          (subst (λ (k : ℕ). RefersTo link.reference.column k (stood command (world_of store)) row at) keyed
+          (subst (λ (k : ℕ). RefersTo link.reference.column k (stood command (snapshot_of store)) row at) keyed
           (reversible.referred link.reference here to from row (ap (λ (s : Slots). s from) elsewhere ∙ live) at
-          (subst (λ (k : ℕ). RefersTo link.reference.column k (world_of store place) row at) (sym keyed)
+          (subst (λ (k : ℕ). RefersTo link.reference.column k (snapshot_of store place) row at) (sym keyed)
           (subst (λ (s : Slots). RefersTo link.reference.column old.key s row at) (sym was) refers)))));
       source_room = λ from.
           let source : joined.source ≡ old = one_relation joined.source old (sym joined.source_at ∙ (ap (slice_get tables) from ∙ there)) in
@@ -135,7 +135,7 @@ module _ (tables : List StoredRows) (links : List Link) (sound : IsSound tables 
         → slice_get tables link.reference.to ≡ Some target → (at : RowRef) (row : List Value) → slot_at new.places at ≡ Live row
         → HasTargetRow link.reference.column target.key (slot_at target.places) row
     targets_back link here target from target_there at row live =
-        let elsewhere : world_of store link.reference.to ≡ slot_at target.places = ap slots_of target_there in
+        let elsewhere : snapshot_of store link.reference.to ≡ slot_at target.places = ap slots_of target_there in
         subst (λ (s : Slots). HasTargetRow link.reference.column target.key s row) elsewhere
         (reversible.targets link.reference here from (heading_of target) (heading_at tables link.reference.to target target_there) at row
         (ap (λ (s : Slots). s at) stood_new ∙ live))

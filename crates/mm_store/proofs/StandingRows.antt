@@ -24,7 +24,7 @@ use Rattle.mm_value.specs.declared.values.Value.{Value}
 use Rattle.mm_store.specs.Joined.{IsTable}
 use Rattle.mm_store.specs.Marks.{live_row, references_below, rows_standing}
 use Rattle.mm_store.proofs.Following.{live_within}
-use Rattle.mm_store.proofs.Telling.{first_in, later_in, one_of}
+use Rattle.mm_store.proofs.Describing.{first_in, later_in, one_of}
 
 -- ---- references by the indexes of their slots
 

@@ -5,7 +5,7 @@ use Rattle.std.specs.List.{All}
 use Rattle.std.proofs.lemmas.List.Elements.{All-weaker}
 use Rattle.mm_partition.specs.Places.{slot_at}
 use Rattle.mm_relation.specs.Before.{before}
-use Rattle.mm_relation.specs.Edits.{entry_name, named}
+use Rattle.mm_relation.specs.Edits.{named, record_name}
 use Rattle.mm_relation.specs.Index.{Grown, spare_of}
 use Rattle.mm_relation.specs.Kept.{SameButRoom, StoredRows}
 use Rattle.mm_relation.specs.declared.names.Side.TheVariants.{Old}
@@ -16,12 +16,13 @@ use Rattle.mm_schema.specs.declared.reference.Reference.{Reference}
 use Rattle.mm_store.specs.Commands.{IsTakenBack}
 use Rattle.mm_store.specs.Marks.{rows_at_mark}
 use Rattle.mm_store.specs.Tables.{IsAt, Tables, Turns}
-use Rattle.mm_store.specs.Undoing.{CanUndo, GoesBack, HasSpare, Heading, IsReversible, headings_of, owed}
-use Rattle.mm_store.specs.Worlds.{Noted, World, back, back_all, world_of}
+use Rattle.mm_store.specs.Undoing.{CanUndo, GoesBack, HasSpare, Heading, IsReversible, headings_of, undo_room}
+use Rattle.mm_store.specs.Snapshots.{Logged, Snapshot, back, back_all, snapshot_of}
 use Rattle.mm_store.proofs.Joining.{one_relation}
 use Rattle.mm_store.proofs.MarkLaws.{rows_at_mark-same}
-use Rattle.mm_store.proofs.Owing.{owed-push, owed_by-other, owed_by-own}
-use Rattle.mm_store.proofs.Worlds.{GoesBack-append, GoesBack-newer, GoesBack-older, at_other, at_turned, back_is_old, headings_turned, new_is_back, world_same}
+use Rattle.mm_store.proofs.UndoRoom.{undo_room-push, undo_room_for-other, undo_room_for-own}
+use Rattle.mm_store.proofs.Snapshots.{GoesBack-append, GoesBack-newer, GoesBack-older, at_other, at_turned, back_is_old, headings_turned, new_is_back}
+use Rattle.mm_store.proofs.Snapshots.{snapshot_same}
 
 -- ---- spare room
 
@@ -42,7 +43,7 @@ HasSpare-grown n old new same spare = record {
 -- ---- a log of no commands
 
 -- Nothing has to be taken back.
-pub CanUndo-nil : (store : Tables) (undo : List Noted) → undo ≡ [] → CanUndo store undo
+pub CanUndo-nil : (store : Tables) (undo : List Logged) → undo ≡ [] → CanUndo store undo
 CanUndo-nil store undo none = subst (CanUndo store) (sym none) (record {
   spare = λ place stored there. record { key = omega arith; each = λ k d within. omega arith };
   back = tt;
@@ -52,12 +53,12 @@ CanUndo-nil store undo none = subst (CanUndo store) (sym none) (record {
 
 module _ (old new : Tables) (place : ℕ) (was is : StoredRows) (there : IsAt old place was) (turned : Turns old place is new)
     (links : new.links ≡ old.links) (width : is.width ≡ was.width) (key : is.key ≡ was.key) where
-  -- the log goes back where it did, over a world that is the one before
-  goes_back : (undo : List Noted) (world : World) → world_of old ≡ world → GoesBack (headings_of old) old.links undo (world_of old)
-      → GoesBack (headings_of new) new.links undo world
-  goes_back undo world same goes =
-      subst (λ (hs : List Heading). GoesBack hs new.links undo world) (sym (headings_turned old new place was is there turned width key))
-      (subst (λ (ls : List Reference). GoesBack (headings_of old) ls undo world) (sym links)
+  -- the log goes back where it did, over a snapshot that is the one before
+  goes_back : (undo : List Logged) (snapshot : Snapshot) → snapshot_of old ≡ snapshot → GoesBack (headings_of old) old.links undo (snapshot_of old)
+      → GoesBack (headings_of new) new.links undo snapshot
+  goes_back undo snapshot same goes =
+      subst (λ (hs : List Heading). GoesBack hs new.links undo snapshot) (sym (headings_turned old new place was is there turned width key))
+      (subst (λ (ls : List Reference). GoesBack (headings_of old) ls undo snapshot) (sym links)
       (subst (GoesBack (headings_of old) old.links undo) same goes))
 
   -- each relation is the one that turned, or was there
@@ -72,87 +73,87 @@ module _ (old new : Tables) (place : ℕ) (was is : StoredRows) (there : IsAt ol
       (same_number other place)
 
   -- With more room the log can be taken back still.
-  pub CanUndo-grown : (undo : List Noted) → SameButRoom was is → CanUndo old undo → CanUndo new undo
+  pub CanUndo-grown : (undo : List Logged) → SameButRoom was is → CanUndo old undo → CanUndo new undo
   CanUndo-grown undo same can = record {
-    spare = each_spare (λ p s. HasSpare (owed p undo) s) (HasSpare-grown (owed place undo) was is same (can.spare place was there))
+    spare = each_spare (λ p s. HasSpare (undo_room p undo) s) (HasSpare-grown (undo_room place undo) was is same (can.spare place was there))
         (λ other stored apart at. can.spare other stored at);
-    back = goes_back undo (world_of new) (sym (world_same old new place was is there turned (slots_same was is same))) can.back;
+    back = goes_back undo (snapshot_of new) (sym (snapshot_same old new place was is there turned (slots_same was is same))) can.back;
   }
 
   -- A command more that can be taken back.
-  pub CanUndo-noted : (undo : List Noted) (command : Noted) → command.table ≡ place → before command.entries (slot_at is.places) ≡ slot_at was.places
-      → IsReversible (headings_of old) old.links command (world_of new)
-      → HasSpare (owed place undo + length (named entry_name Old command.entries)) is → CanUndo old undo → CanUndo new (undo ++ command ∷ [])
-  CanUndo-noted undo command about makes reversible spare can = record {
-    spare = each_spare (λ p s. HasSpare (owed p (undo ++ command ∷ [])) s)
-        (HasSpare-less (owed place undo + length (named entry_name Old command.entries)) (owed place (undo ++ command ∷ [])) is
-        (omega (arith, owed-push place undo command, owed_by-own place command about)) spare)
+  pub CanUndo-logged : (undo : List Logged) (command : Logged) → command.table ≡ place → before command.entries (slot_at is.places) ≡ slot_at was.places
+      → IsReversible (headings_of old) old.links command (snapshot_of new)
+      → HasSpare (undo_room place undo + length (named record_name Old command.entries)) is → CanUndo old undo → CanUndo new (undo ++ command ∷ [])
+  CanUndo-logged undo command about makes reversible spare can = record {
+    spare = each_spare (λ p s. HasSpare (undo_room p (undo ++ command ∷ [])) s)
+        (HasSpare-less (undo_room place undo + length (named record_name Old command.entries)) (undo_room place (undo ++ command ∷ [])) is
+        (omega (arith, undo_room-push place undo command, undo_room_for-own place command about)) spare)
         (λ other stored apart at.
-        HasSpare-less (owed other undo) (owed other (undo ++ command ∷ [])) stored
-        (omega (arith, owed-push other undo command, owed_by-other other command (λ same. apart (sym same ∙ about)))) (can.spare other stored at));
+        HasSpare-less (undo_room other undo) (undo_room other (undo ++ command ∷ [])) stored
+        (omega (arith, undo_room-push other undo command, undo_room_for-other other command (λ same. apart (sym same ∙ about)))) (can.spare other stored at));
     back =
-        GoesBack-append (headings_of new) new.links undo (command ∷ []) (world_of new)
-        (goes_back undo (back command (world_of new)) (sym (back_is_old old new place was is there turned command about makes)) can.back) (
+        GoesBack-append (headings_of new) new.links undo (command ∷ []) (snapshot_of new)
+        (goes_back undo (back command (snapshot_of new)) (sym (back_is_old old new place was is there turned command about makes)) can.back) (
           tt,
-          subst (λ (hs : List Heading). IsReversible hs new.links command (world_of new)) (sym (headings_turned old new place was is there turned width key))
-              (subst (λ (ls : List Reference). IsReversible (headings_of old) ls command (world_of new)) (sym links) reversible),
+          subst (λ (hs : List Heading). IsReversible hs new.links command (snapshot_of new)) (sym (headings_turned old new place was is there turned width key))
+              (subst (λ (ls : List Reference). IsReversible (headings_of old) ls command (snapshot_of new)) (sym links) reversible),
         );
   }
 
-  world_reindexed : is ≡ record was { indexes = is.indexes } → world_of new ≡ world_of old
-  world_reindexed same = world_same old new place was is there turned (ap (λ (s : StoredRows). slot_at s.places) same)
+  snapshot_reindexed : is ≡ record was { indexes = is.indexes } → snapshot_of new ≡ snapshot_of old
+  snapshot_reindexed same = snapshot_same old new place was is there turned (ap (λ (s : StoredRows). slot_at s.places) same)
 
   -- With the same rows, and other indexes that have the room, the log can be taken back still ..
-  pub CanUndo-reindexed : (undo : List Noted) → is ≡ record was { indexes = is.indexes } → All (λ x. owed place undo ≤ spare_of x) is.indexes
+  pub CanUndo-reindexed : (undo : List Logged) → is ≡ record was { indexes = is.indexes } → All (λ x. undo_room place undo ≤ spare_of x) is.indexes
       → CanUndo old undo → CanUndo new undo
   CanUndo-reindexed undo same room can = record {
-    spare = each_spare (λ p s. HasSpare (owed p undo) s)
+    spare = each_spare (λ p s. HasSpare (undo_room p undo) s)
         (record { key = omega (arith, (can.spare place was there).key, ap (λ (s : StoredRows). s.spare) same); each = room })
         (λ other stored apart at. can.spare other stored at);
-    back = goes_back undo (world_of new) (sym (world_reindexed same)) can.back;
+    back = goes_back undo (snapshot_of new) (sym (snapshot_reindexed same)) can.back;
   }
 
   -- .. and leads to the same rows.
-  pub rows-reindexed : (undo : List Noted) (mark : ℕ) → is ≡ record was { indexes = is.indexes } → CanUndo old undo → CanUndo new undo
+  pub rows-reindexed : (undo : List Logged) (mark : ℕ) → is ≡ record was { indexes = is.indexes } → CanUndo old undo → CanUndo new undo
       → rows_at_mark mark undo new ≡ rows_at_mark mark undo old
   rows-reindexed undo mark same can can_now =
       rows_at_mark-same old new undo undo mark can can_now (headings_turned old new place was is there turned width key)
-      (ap (back_all (drop mark undo)) (world_reindexed same))
+      (ap (back_all (drop mark undo)) (snapshot_reindexed same))
 
 -- ---- the newest command
 
-module _ (store : Tables) (undo : List Noted) (command : Noted) (can : CanUndo store (undo ++ command ∷ [])) where
-  pub newest_reversible : IsReversible (headings_of store) store.links command (world_of store)
-  newest_reversible = (GoesBack-newer (headings_of store) store.links undo (command ∷ []) (world_of store) can.back).1
+module _ (store : Tables) (undo : List Logged) (command : Logged) (can : CanUndo store (undo ++ command ∷ [])) where
+  pub newest_reversible : IsReversible (headings_of store) store.links command (snapshot_of store)
+  newest_reversible = (GoesBack-newer (headings_of store) store.links undo (command ∷ []) (snapshot_of store) can.back).1
 
   pub newest_spare : (stored : StoredRows) → IsAt store command.table stored
-      → HasSpare (owed command.table undo + length (named entry_name Old command.entries)) stored
+      → HasSpare (undo_room command.table undo + length (named record_name Old command.entries)) stored
   newest_spare stored at =
-      HasSpare-less (owed command.table (undo ++ command ∷ [])) (owed command.table undo + length (named entry_name Old command.entries)) stored
-      (omega (arith, owed-push command.table undo command, owed_by-own command.table command refl)) (can.spare command.table stored at)
+      HasSpare-less (undo_room command.table (undo ++ command ∷ [])) (undo_room command.table undo + length (named record_name Old command.entries)) stored
+      (omega (arith, undo_room-push command.table undo command, undo_room_for-own command.table command refl)) (can.spare command.table stored at)
 
-  pub newest_owed : (stored : StoredRows) → IsAt store command.table stored → HasSpare (length (named entry_name Old command.entries)) stored
-  newest_owed stored at =
-      HasSpare-less (owed command.table undo + length (named entry_name Old command.entries)) (length (named entry_name Old command.entries)) stored
+  pub newest_undo_room : (stored : StoredRows) → IsAt store command.table stored → HasSpare (length (named record_name Old command.entries)) stored
+  newest_undo_room stored at =
+      HasSpare-less (undo_room command.table undo + length (named record_name Old command.entries)) (length (named record_name Old command.entries)) stored
       (omega arith) (newest_spare stored at)
 
   module _ (new : Tables) (was is : StoredRows) (there : IsAt store command.table was) (turned : Turns store command.table is new)
       (links : new.links ≡ store.links) (taken : IsTakenBack was command.entries is) where
-    pub world_back : world_of new ≡ back command (world_of store)
-    world_back = new_is_back store new command.table was is there turned command refl taken.slots
+    pub snapshot_back : snapshot_of new ≡ back command (snapshot_of store)
+    snapshot_back = new_is_back store new command.table was is there turned command refl taken.slots
 
     -- Once it is taken back the others can be.
     pub CanUndo-back : CanUndo new undo
     CanUndo-back = record {
-      spare = each_spare store new command.table was is there turned links taken.form.width taken.form.key (λ p s. HasSpare (owed p undo) s)
-          (taken.spare (owed command.table undo) (newest_spare was there))
+      spare = each_spare store new command.table was is there turned links taken.form.width taken.form.key (λ p s. HasSpare (undo_room p undo) s)
+          (taken.spare (undo_room command.table undo) (newest_spare was there))
           (λ other stored apart at.
-          HasSpare-less (owed other (undo ++ command ∷ [])) (owed other undo) stored (omega (arith, owed-push other undo command))
+          HasSpare-less (undo_room other (undo ++ command ∷ [])) (undo_room other undo) stored (omega (arith, undo_room-push other undo command))
           (can.spare other stored at));
       back =
-          subst (λ (hs : List Heading). GoesBack hs new.links undo (world_of new))
+          subst (λ (hs : List Heading). GoesBack hs new.links undo (snapshot_of new))
           (sym (headings_turned store new command.table was is there turned taken.form.width taken.form.key))
-          (subst (λ (ls : List Reference). GoesBack (headings_of store) ls undo (world_of new)) (sym links)
-          (subst (GoesBack (headings_of store) store.links undo) (sym world_back)
-          (GoesBack-older (headings_of store) store.links undo (command ∷ []) (world_of store) can.back)));
+          (subst (λ (ls : List Reference). GoesBack (headings_of store) ls undo (snapshot_of new)) (sym links)
+          (subst (GoesBack (headings_of store) store.links undo) (sym snapshot_back)
+          (GoesBack-older (headings_of store) store.links undo (command ∷ []) (snapshot_of store) can.back)));
     }

@@ -2,28 +2,28 @@
 use Rattle.std.specs.Prelude.{◌≡◌, ℕ, ◌+◌, List, length, Contains}
 use Rattle.mm_partition.specs.Places.{Free, slot_at}
 use Rattle.mm_relation.specs.Before.{before}
-use Rattle.mm_relation.specs.Edits.{edit_name, entry_name, named}
+use Rattle.mm_relation.specs.Edits.{edit_name, named, record_name}
 use Rattle.mm_relation.specs.Kept.{StoredRows}
 use Rattle.mm_relation.specs.RowLists.{rows_of}
 use Rattle.mm_relation.specs.declared.edits.Edit.{Edit}
-use Rattle.mm_relation.specs.declared.log.Entry.{Entry}
+use Rattle.mm_relation.specs.declared.log.UndoRecord.{UndoRecord}
 use Rattle.mm_relation.specs.declared.names.Side.TheVariants.{Old}
 use Rattle.mm_value.specs.declared.row_ref.RowRef.{RowRef}
 use Rattle.mm_store.specs.Tables.{HasRows, SameForm, rows_with}
 use Rattle.mm_store.specs.Undoing.{HasSpare}
 
--- The edits are made, these entries tell how to go back, and the indexes have room for what was owed and for going back.
-pub record IsEdited (old : StoredRows) (edits : List Edit) (owed : ℕ) (entries : List Entry) (new : StoredRows) : Type 0 where
+-- The edits are made, these undo records lead back, and the indexes have room for so many entries and for those that going back adds.
+pub record IsEdited (old : StoredRows) (edits : List Edit) (undo_room : ℕ) (entries : List UndoRecord) (new : StoredRows) : Type 0 where
   pub rows : HasRows old (rows_with old edits) new
   pub makes : before entries (slot_at new.places) ≡ slot_at old.places
-  pub count : length (named entry_name Old entries) ≡ length (named edit_name Old edits)
-  pub spare : HasSpare (owed + length (named entry_name Old entries)) new
+  pub count : length (named record_name Old entries) ≡ length (named edit_name Old edits)
+  pub spare : HasSpare (undo_room + length (named record_name Old entries)) new
 
--- What the entries tell of is taken back, and no index lost more room than they owe.
-pub record IsTakenBack (old : StoredRows) (entries : List Entry) (new : StoredRows) : Type 0 where
+-- What the undo records describe is taken back, and no index lost more room than they need.
+pub record IsTakenBack (old : StoredRows) (entries : List UndoRecord) (new : StoredRows) : Type 0 where
   pub form : SameForm old new
   pub slots : slot_at new.places ≡ before entries (slot_at old.places)
-  pub spare : (n : ℕ) → HasSpare (n + length (named entry_name Old entries)) old → HasSpare n new
+  pub spare : (n : ℕ) → HasSpare (n + length (named record_name Old entries)) old → HasSpare n new
 
 -- These hidden rows are freed, and all else stays.
 pub record IsSettled (old : StoredRows) (gone : List RowRef) (new : StoredRows) : Type 0 where

@@ -3,7 +3,7 @@ use Rattle.std.specs.Prelude.{◌≡◌, ◌≢◌, ℕ, ◌<◌, ◌≤◌, Lis
 use Rattle.mm_foreign_key.specs.Ties.{KeepsTargets, Ties, target_at as target_of}
 use Rattle.mm_partition.specs.Places.{extent_of, slot_at}
 use Rattle.mm_relation.specs.Kept.{IsKept, StoredRows}
-use Rattle.mm_relation.specs.declared.log.Entry.{Entry}
+use Rattle.mm_relation.specs.declared.log.UndoRecord.{UndoRecord}
 use Rattle.mm_store.specs.Behind.{IsBehind}
 use Rattle.mm_schema.specs.References.{moved_up}
 use Rattle.mm_value.specs.declared.row_ref.RowRef.{RowRef}
@@ -49,7 +49,7 @@ pub record HasGrownTo (table extent : ℕ) (old new : Link) : Type 0 where
   pub as_target : old.reference.to ≡ table → extent ≤ new.ties.extent
 
 -- The ties of a link from a table are those of the rows before the changes of that table.
-pub record CanRetie (tables : List StoredRows) (stored : StoredRows) (entries : List Entry) (link : Link) : Type 0 where
+pub record CanRetie (tables : List StoredRows) (stored : StoredRows) (entries : List UndoRecord) (link : Link) : Type 0 where
   pub target : StoredRows
   pub target_at : slice_get tables link.reference.to ≡ Some target
   pub column_in : link.reference.column < stored.width

@@ -7,8 +7,8 @@ pub mod Looked
 pub mod Marks
 pub mod Ordered
 pub mod Seen
+pub mod Snapshots
 pub mod Spares
 pub mod Tables
 pub mod Tally
 pub mod Undoing
-pub mod Worlds

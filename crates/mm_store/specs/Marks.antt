@@ -10,7 +10,7 @@ use Rattle.mm_schema.specs.Sorting.{in_order}
 use Rattle.mm_value.specs.declared.row_ref.RowRef.{RowRef}
 use Rattle.mm_value.specs.declared.values.Value.{Value}
 use Rattle.mm_store.specs.Tables.{Tables}
-use Rattle.mm_store.specs.Worlds.{Noted, World, back_all, world_of}
+use Rattle.mm_store.specs.Snapshots.{Logged, Snapshot, back_all, snapshot_of}
 
 -- The row of a live slot.
 abbrev pub live_row : Content → Option (List Value)
@@ -26,15 +26,15 @@ references_below extent = map reference_at (range_with_len 0 extent)
 abbrev pub rows_standing : ℕ → List RowRef → Slots → List (List Value)
 rows_standing key refs slots = in_order (column_cmp key) (filter_map (λ at. live_row (slots at)) refs)
 
--- The rows that stand in a world, table by table from a place on.
-abbrev pub rows_from : World → ℕ → List StoredRows → List (List (List Value))
-rows_from world place [] = []
-rows_from world place (stored ∷ others) =
-    rows_standing stored.key (references_below (extent_of stored.places)) (world place) ∷ rows_from world (suc place) others
+-- The rows that stand in a snapshot, table by table from a place on.
+abbrev pub rows_from : Snapshot → ℕ → List StoredRows → List (List (List Value))
+rows_from snapshot place [] = []
+rows_from snapshot place (stored ∷ others) =
+    rows_standing stored.key (references_below (extent_of stored.places)) (snapshot place) ∷ rows_from snapshot (suc place) others
 
 -- The rows of all tables as they stood when the log had so many commands.
-abbrev pub rows_at_mark : ℕ → List Noted → Tables → List (List (List Value))
-rows_at_mark mark undo store = rows_from (back_all (drop mark undo) (world_of store)) 0 store.tables
+abbrev pub rows_at_mark : ℕ → List Logged → Tables → List (List (List Value))
+rows_at_mark mark undo store = rows_from (back_all (drop mark undo) (snapshot_of store)) 0 store.tables
 
 -- The rows of all tables as they stand.
 abbrev pub rows_now : Tables → List (List (List Value))

@@ -3,7 +3,7 @@ use Rattle.std.specs.Prelude.{◌≡◌, ◌≢◌, ℕ, ◌≤◌, ◌==◌, co
 use Rattle.mm_partition.specs.Places.{Live}
 use Rattle.mm_relation.specs.Before.{StandsBack}
 use Rattle.mm_relation.specs.Differs.{Differs}
-use Rattle.mm_relation.specs.Edits.{entry_name, named}
+use Rattle.mm_relation.specs.Edits.{named, record_name}
 use Rattle.mm_relation.specs.Index.{spare_of}
 use Rattle.mm_relation.specs.Kept.{StoredRows}
 use Rattle.mm_relation.specs.Lawful.{IsLawful}
@@ -14,7 +14,7 @@ use Rattle.mm_value.specs.declared.row_ref.RowRef.{RowRef}
 use Rattle.mm_value.specs.declared.values.Value.{Value}
 use Rattle.mm_store.specs.Links.{HasTargetRow, RefersTo}
 use Rattle.mm_store.specs.Tables.{IsAt, Tables}
-use Rattle.mm_store.specs.Worlds.{Noted, World, back_all, stood, world_of}
+use Rattle.mm_store.specs.Snapshots.{Logged, Snapshot, back_all, snapshot_of, stood}
 use Rattle.mm_schema.specs.Rows.{most_rows}
 
 -- How many columns a table has, and which of them is its key.
@@ -34,13 +34,13 @@ headings_of store = map heading_of store.tables
 abbrev pub HasAtMost : ℕ → Slots → Type 0
 HasAtMost n slots = (refs : List RowRef) → AllPairs (λ a b. a ≢ b) refs → All (HasRow slots) refs → length refs ≤ n
 
--- The command can be taken back from what stands now: its entries tell of its table, the rows that stood before it are
+-- The command can be taken back from what stands now: its undo records fit its table, the rows that stood before it are
 -- lawful and few, each of them has its targets, and each row of another table that refers to a row now referred to it before.
-pub record IsReversible (headings : List Heading) (links : List Reference) (command : Noted) (now : World) : Type 0 where
+pub record IsReversible (headings : List Heading) (links : List Reference) (command : Logged) (now : Snapshot) : Type 0 where
   pub heading : Heading
   pub there : slice_get headings command.table ≡ Some heading
   pub stands : StandsBack command.entries (now command.table)
-  pub differs : Differs (now command.table) (stood command now) (named entry_name New command.entries) (named entry_name Old command.entries)
+  pub differs : Differs (now command.table) (stood command now) (named record_name New command.entries) (named record_name Old command.entries)
   pub lawful : IsLawful heading.width heading.key (stood command now)
   pub few : HasAtMost most_rows (stood command now)
   pub targets : (reference : Reference) → Contains links reference → reference.from ≡ command.table
@@ -52,18 +52,18 @@ pub record IsReversible (headings : List Heading) (links : List Reference) (comm
       → RefersTo reference.column heading.key (stood command now) row at
 
 -- Each command can be taken back once the newer ones are.
-abbrev pub GoesBack : List Heading → List Reference → List Noted → World → Type 0
+abbrev pub GoesBack : List Heading → List Reference → List Logged → Snapshot → Type 0
 GoesBack headings links [] now = Unit {0}
 GoesBack headings links (command ∷ newer) now =
     GoesBack headings links newer now × IsReversible headings links command (back_all newer now)
 
 -- How many entries a command puts into each index of a table when it is taken back: one for each row that it changed or removed.
-abbrev pub owed_by : ℕ → Noted → ℕ
-owed_by table command = cond (command.table == table) (length (named entry_name Old command.entries)) 0
+abbrev pub undo_room_for : ℕ → Logged → ℕ
+undo_room_for table command = cond (command.table == table) (length (named record_name Old command.entries)) 0
 
 -- How many entries all commands put into each index of a table when they are taken back.
-abbrev pub owed : ℕ → List Noted → ℕ
-owed table undo = sum_by (owed_by table) undo
+abbrev pub undo_room : ℕ → List Logged → ℕ
+undo_room table undo = sum_by (undo_room_for table) undo
 
 -- The key index of a relation and each further one take so many more entries without growing.
 pub record HasSpare (n : ℕ) (stored : StoredRows) : Type 0 where
@@ -71,6 +71,6 @@ pub record HasSpare (n : ℕ) (stored : StoredRows) : Type 0 where
   pub each : All (λ x. n ≤ spare_of x) stored.indexes
 
 -- All commands of the log can be taken back, the newest first, and no index has to grow for it.
-pub record CanUndo (store : Tables) (undo : List Noted) : Type 0 where
-  pub spare : (place : ℕ) (stored : StoredRows) → IsAt store place stored → HasSpare (owed place undo) stored
-  pub back : GoesBack (headings_of store) store.links undo (world_of store)
+pub record CanUndo (store : Tables) (undo : List Logged) : Type 0 where
+  pub spare : (place : ℕ) (stored : StoredRows) → IsAt store place stored → HasSpare (undo_room place undo) stored
+  pub back : GoesBack (headings_of store) store.links undo (snapshot_of store)

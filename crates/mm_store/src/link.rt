@@ -3,7 +3,7 @@ ghost use Rattle.std.specs.Prelude.{◌≡◌, ◌<◌, ◌≤◌, ◌∷◌, Li
 ghost use Rattle.mm_foreign_key.specs.Ties.{ChangesTarget, target_at};
 ghost use Rattle.mm_partition.specs.Places.{IsLive, Live, slot_at};
 ghost use Rattle.mm_relation.specs.Refs.{Slots, row_at};
-ghost use Rattle.mm_relation.specs.declared.log.Entry.{Entry as Change};
+ghost use Rattle.mm_relation.specs.declared.log.UndoRecord.{UndoRecord as Change};
 ghost use Rattle.mm_schema.specs.Rows.{same_in_column};
 ghost use Rattle.mm_value.specs.declared.row_ref.RowRef.{RowRef as Ref};
 ghost use Rattle.mm_value.specs.declared.values.Value.{Value as Val};
@@ -14,7 +14,7 @@ ghost use Rattle.mm_store.specs.Joined.{HasGrown, HasGrownTo, HasMovedUp};
 mod checks;
 
 use mm_foreign_key::ForeignKey;
-use mm_relation::{Entry, Relation};
+use mm_relation::{Relation, UndoRecord};
 use mm_schema::Reference;
 use mm_value::{Row, RowRef, compare};
 use std::alloc::{AllocError, Global};
@@ -78,8 +78,8 @@ impl Link {
         self.ties.reserve(alloc, referrers, targets)
     }
 
-    /// Brings the ties up to changes of the referring table that were made or taken back, of which these are the entries.
-    pub(crate) fn retie(&mut self, from: &Relation, to: &Relation, entries: &[Entry])
+    /// Brings the ties up to changes of the referring table that were made or taken back, by their undo records.
+    pub(crate) fn retie(&mut self, from: &Relation, to: &Relation, entries: &[UndoRecord])
         requires column { self.old.reference.column < from.now.width }
         requires behind { IsBehind self.old.reference.column to.now.key (slot_at from.now.places) (slot_at to.now.places) entries.now self.old.ties }
         requires room { HasRoom from.now.places to.now.places self.old.ties }
@@ -93,7 +93,7 @@ impl Link {
     }
 
     /// Brings the ties up to one change.
-    fn retie_row(&mut self, from: &Relation, to: &Relation, entry: &Entry)
+    fn retie_row(&mut self, from: &Relation, to: &Relation, entry: &UndoRecord)
         requires column { self.old.reference.column < from.now.width }
         requires behind { (rest : List Change)
             × IsBehind self.old.reference.column to.now.key (slot_at from.now.places) (slot_at to.now.places) (entry.now ∷ rest) self.old.ties }
@@ -105,9 +105,9 @@ impl Link {
         ensures size { SameSize self.old.ties self.new.ties }
     {
         match entry {
-            Entry::Added(at) => self.retie_switched(from, to, *at),
-            Entry::Changed(at, other) => self.retie_changed(from, to, *at, other),
-            Entry::Removed(at) => self.retie_switched(from, to, *at),
+            UndoRecord::Added(at) => self.retie_switched(from, to, *at),
+            UndoRecord::Changed(at, other) => self.retie_changed(from, to, *at, other),
+            UndoRecord::Removed(at) => self.retie_switched(from, to, *at),
         }
     }
 

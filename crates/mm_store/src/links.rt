@@ -13,7 +13,7 @@ ghost use Rattle.mm_store.specs.declared.link.Link.{Link as Joint};
 ghost use Rattle.mm_store.specs.Tables.{AreFit, finds_orphan, makes_orphan};
 
 use crate::link::Link;
-use mm_relation::{Edit, Entry, Relation};
+use mm_relation::{Edit, Relation, UndoRecord};
 use mm_schema::Reference;
 use mm_value::RowRef;
 use std::alloc::{AllocError, Global};
@@ -34,8 +34,8 @@ pub fn reserve_all(
     Ok(())
 }
 
-/// Brings the links from a table up to its changes, of which these are the entries.
-pub fn retie_all(links: &mut Vec<Link>, tables: &[Relation], table: usize, entries: &[Entry])
+/// Brings the links from a table up to its changes, by their undo records.
+pub fn retie_all(links: &mut Vec<Link>, tables: &[Relation], table: usize, entries: &[UndoRecord])
     requires there { table < length tables.now }
     requires behind { (stored : StoredRows) → slice_get tables.now table ≡ Some stored
         → All (λ link. link.reference.from ≡ table → CanRetie tables.now stored entries.now link) links.old.items }
@@ -48,7 +48,7 @@ pub fn retie_all(links: &mut Vec<Link>, tables: &[Relation], table: usize, entri
 }
 
 /// Brings a link up to the changes of a table, if it is from that table.
-fn retie(link: &mut Link, tables: &[Relation], table: usize, entries: &[Entry])
+fn retie(link: &mut Link, tables: &[Relation], table: usize, entries: &[UndoRecord])
     requires there { table < length tables.now }
     requires target_there { link.old.reference.from ≡ table → link.old.reference.to < length tables.now }
     requires behind { (stored : StoredRows) → slice_get tables.now table ≡ Some stored

@@ -12,7 +12,7 @@ ghost use Rattle.mm_store.specs.Links.{IsReference, RefersTo};
 ghost use Rattle.mm_store.specs.Marks.{rows_at_mark};
 ghost use Rattle.mm_store.specs.Tables.{IsAt, Turns, AreFit, AreLawful, HasRows, rows_with, IsFrom, links_without, edit_conditions, has_orphans, makes_orphans};
 ghost use Rattle.mm_store.specs.Undoing.{CanUndo};
-ghost use Rattle.mm_store.specs.Worlds.{Noted};
+ghost use Rattle.mm_store.specs.Snapshots.{Logged};
 ghost use Rattle.mm_schema.specs.Rows.{most_rows};
 
 mod apply;
@@ -157,7 +157,7 @@ impl Store {
         ensures lawful { IfOk result (λ _. (stored : StoredRows) → IsAt self.now table stored → AreLawful self.now table stored edits.now) }
     {
         let relation = self.table(table);
-        if relation.has_twins_with(alloc, edits)? {
+        if relation.has_duplicates_with(alloc, edits)? {
             return Err(Refusal::DuplicateKey);
         }
         if self.has_orphans_with(table, edits) {
@@ -211,8 +211,8 @@ impl Store {
         ensures fits { CanUndo self.new undo.now }
         ensures rows_before { (mark : ℕ) → rows_at_mark mark undo.now self.new ≡ rows_at_mark mark undo.now self.old }
     {
-        let owed = undo.owed_to(table);
-        self.tables[table].add_index(alloc, column, kind, owed)?;
+        let undo_room = undo.undo_room_of(table);
+        self.tables[table].add_index(alloc, column, kind, undo_room)?;
         self.tables[table].is_kept();
         Ok(())
     }
@@ -224,8 +224,8 @@ impl Store {
         ensures tables { (stored : StoredRows) → IsAt self.old table stored
             → Turns self.old table (record stored { indexes = remove stored.indexes index }) self.new }
         ensures links { self.new.links ≡ self.old.links }
-        ensures fits { (undo : List Noted) → CanUndo self.old undo → CanUndo self.new undo }
-        ensures rows_before { (undo : List Noted) (mark : ℕ) → CanUndo self.old undo
+        ensures fits { (undo : List Logged) → CanUndo self.old undo → CanUndo self.new undo }
+        ensures rows_before { (undo : List Logged) (mark : ℕ) → CanUndo self.old undo
             → rows_at_mark mark undo self.new ≡ rows_at_mark mark undo self.old }
     {
         self.tables[table].drop_index(index);

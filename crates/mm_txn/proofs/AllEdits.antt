@@ -1,4 +1,4 @@
--- The edits of all tables that a change concerns: those of the table that it names, and those that go along.
+-- The edits of all tables that a change concerns: those of the table that it names, and the cascaded ones.
 use Rattle.std.proofs.Common.{◌≡◌, ℕ, Bool, true, false, List, [], ◌∷◌, Option, Some, map, slice_get, refl, sym, ap, ◌∙◌, arith}
 use Rattle.std.specs.List.{filter, filter_map}
 use Rattle.std.specs.Option.{option_map_or}
@@ -32,7 +32,7 @@ use Rattle.mm_txn.specs.PlacedEdits.{AreEdits, AreEditsOf, AreOwnEditsOf, FitsAt
 use Rattle.mm_txn.proofs.DatabaseSteps.{rows_there, some_there}
 use Rattle.mm_txn.proofs.ReferenceRows.{found_passes}
 
--- ---- a change with which rows may go along
+-- ---- a change that may cascade
 
 abbrev pub is_delete : Mutation → Bool
 is_delete (Insert table tuples) = false
@@ -50,7 +50,7 @@ delete_removes (Insert table tuples) state is = cc
 delete_removes (Update table assignments tests) state is = cc
 delete_removes (Delete table tests) state is = removals_remove (filter (meets (tests_for table state.schema tests)) (rows_in state table))
 
--- .. and its edits are those of its table with the rows that go along, ..
+-- .. and its edits are those of its table with the cascaded rows, ..
 delete_edits : (mutation : Mutation) (state : State) → is_delete mutation ≡ true
     → all_edits mutation state ≡ with_cascades state.schema state.schema.tables state.rows (own_edits mutation state ∷ [])
 delete_edits (Insert table tuples) state is = cc
@@ -87,7 +87,7 @@ module _ (schema : Schema) (store : Tables) (are : AreOf schema.tables store.tab
   pub own_fit : FitsAt store own_placed
   own_fit = (stored_there.0, stored_there.1, own.fit stored_there.0 stored_there.1)
 
-  -- .. bring no rows where rows may go along, ..
+  -- .. bring no rows where rows may be cascaded, ..
   pub own_removes : is_delete mutation ≡ true → new_rows edits ≡ []
   own_removes is =
       sym (brought (slot_at stored_there.0.places) edits)
@@ -114,7 +114,7 @@ module _ (schema : Schema) (store : Tables) (are : AreOf schema.tables store.tab
     removals = λ several. absurd (omega arith);
   }
 
-  -- .. and are all edits of a change with which none go along.
+  -- .. and are all edits of a change that cascades to none.
   pub edits_alone : is_delete mutation ≡ false → AreEditsOf mutation schema store own_placed []
   edits_alone is = record {
     placed = own.placed;
@@ -122,12 +122,12 @@ module _ (schema : Schema) (store : Tables) (are : AreOf schema.tables store.tab
     named = (λ i. own_named i ∷ []) ∙ sym (other_edits mutation state is);
   }
 
-  -- With the removals of rows that go along they are those of a DELETE.
-  pub edits_with_others : is_delete mutation ≡ true → (along : List PlacedEdits) → AreEdits store (own_placed ∷ along)
-      → map (named schema store.tables) (own_placed ∷ along)
+  -- With the removals of cascaded rows they are those of a DELETE.
+  pub edits_with_others : is_delete mutation ≡ true → (cascaded : List PlacedEdits) → AreEdits store (own_placed ∷ cascaded)
+      → map (named schema store.tables) (own_placed ∷ cascaded)
       ≡ with_cascades schema schema.tables (instance_of store.tables) (named schema store.tables own_placed ∷ [])
-      → AreEditsOf mutation schema store own_placed along
-  edits_with_others is along all cascades = record {
+      → AreEditsOf mutation schema store own_placed cascaded
+  edits_with_others is cascaded all cascades = record {
     placed = own.placed;
     are = all;
     named = cascades

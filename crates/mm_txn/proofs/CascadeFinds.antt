@@ -21,13 +21,13 @@ use Rattle.mm_schema.specs.Schema.{HasDistinctNames, Schema}
 use Rattle.mm_schema.specs.declared.table.Table.{Table}
 use Rattle.mm_schema.proofs.Instances.{name_of}
 use Rattle.mm_schema.proofs.StrictOrder.{AllByRecursion-IsIn, IsIn, IsIn-from_Contains}
-use Rattle.mm_schema.proofs.Twins.{Row}
-use Rattle.mm_query.specs.Edits.{also, goes_along, removals_of, with_cascades}
+use Rattle.mm_schema.proofs.Duplicates.{Row}
+use Rattle.mm_query.specs.Edits.{also, is_cascaded, removals_of, with_cascades}
 use Rattle.mm_delta.specs.Steps.{takes}
 use Rattle.mm_store.specs.Links.{RefersTo}
 use Rattle.mm_store.specs.Tables.{AreFit, IsAt, Tables, rows_at}
 use Rattle.mm_value.specs.declared.row_ref.RowRef.{RowRef}
-use Rattle.mm_txn.specs.Cascades.{Along, IsCascade, along_of, goes_by, goes_by_some}
+use Rattle.mm_txn.specs.Cascades.{IsCascade, PlacedCascade, is_cascaded_by, is_cascaded_by_some, placed_cascade}
 use Rattle.mm_txn.specs.declared.cascades.Cascade.{Cascade}
 use Rattle.mm_plan.specs.Kept.{AreKept, instance_of}
 use Rattle.mm_txn.specs.PlacedEdits.{AreEdits, FitsAt, PlacedEdits, edits_at, named, pairs_at, placed}
@@ -64,53 +64,55 @@ gone_live store change fit target there k e within is at name =
     (named_in change.1 e (IsIn-from_Contains change.1 e (k, within, sym is)) at name)
 
 -- Rows go by edits as they do by the rows that these take away.
-pub goes_by_at : (store : Tables) (column : ℕ) (change : PlacedEdits) (target : StoredRows) → IsAt store change.0 target → (row : Row)
-    → tests column target.key (rows_taken (slot_at target.places) change.1) row ≡ goes_by store.tables column change row
-goes_by_at store column change target at row = λ i.
+pub is_cascaded_by_at : (store : Tables) (column : ℕ) (change : PlacedEdits) (target : StoredRows) → IsAt store change.0 target → (row : Row)
+    → tests column target.key (rows_taken (slot_at target.places) change.1) row ≡ is_cascaded_by store.tables column change row
+is_cascaded_by_at store column change target at row = λ i.
     list_any (refers column (option_map_or (λ (s : StoredRows). s.key) (sym at i) 0) row)
     (filter_map (λ (p : Pair). p.0) (option_map_or (λ (s : StoredRows). edit_pairs (slot_at s.places) change.1) (sym at i) []))
 
--- What a row refers to goes just where the row goes along.
+-- What a row refers to goes exactly if the row is cascaded.
 pub scan_goes : (store : Tables) (table column : ℕ) (change : PlacedEdits) → IsCascade store table column change → (row : Row) (found : RowRef)
     → (target : StoredRows) × (to : ℕ) × Contains store.links (record { from = table; column = column; to = to }) × IsAt store to target
     × RefersTo column target.key (slot_at target.places) row found
     → ((target : StoredRows) → IsAt store change.0 target → IsKept target.width target.key (slot_at target.places) target.refs target.indexes)
-    → list_any (takes found) change.1 ≡ goes_by store.tables column change row
+    → list_any (takes found) change.1 ≡ is_cascaded_by store.tables column change row
 scan_goes store table column change is row found (target, to, link, at, refers_to) kept =
     let own : IsAt store change.0 target = subst (λ n. IsAt store n target) (is.link.1 to link) at in
     target_goes column target (kept target own) row found refers_to change.1 (fits_relation store change is.fit target own).standing
-    ∙ goes_by_at store column change target own row
+    ∙ is_cascaded_by_at store column change target own row
 
 pub filter_push : (q : RowRef → Bool) (xs : List RowRef) (x : RowRef) (b : Bool) → q x ≡ b → filter q (xs ++ x ∷ []) ≡ filter q xs ++ cond b (x ∷ []) []
 filter_push q xs x b is = filter-append q xs (x ∷ []) ∙ ap (λ c. filter q xs ++ cond c (x ∷ []) []) is
 
 -- What is found at a place behind another.
-pub removals_found : (own : PlacedEdits) (along : List RelationEdits) (place k : ℕ) (x : RelationEdits) → k < length along → x ≡ get_or along k x
-    → x.table ≡ place → own.0 ≢ place → edits_at (map placed (drop k along)) place ≡ edits_at (map placed along) place
-    → x.edits.items ≡ edits_at (own ∷ map placed along) place
-removals_found own along place k x within is here other rest =
-    sym (ap (λ b. option_map_or (λ (d : PlacedEdits). d.1) (cond b (Some (placed x)) (find (λ (d : PlacedEdits). d.0 == place) (map placed (drop (suc k) along)))) [])
+pub removals_found : (own : PlacedEdits) (cascaded : List RelationEdits) (place k : ℕ) (x : RelationEdits) → k < length cascaded → x ≡ get_or cascaded k x
+    → x.table ≡ place → own.0 ≢ place → edits_at (map placed (drop k cascaded)) place ≡ edits_at (map placed cascaded) place
+    → x.edits.items ≡ edits_at (own ∷ map placed cascaded) place
+removals_found own cascaded place k x within is here other rest =
+    sym (ap (λ b. option_map_or (λ (d : PlacedEdits). d.1) (cond b (Some (placed x)) (find (λ (d : PlacedEdits). d.0 == place) (map placed (drop (suc k) cascaded)))) [])
     (eq-eqb x.table place here))
-    ∙ ap (λ xs. edits_at (map placed xs) place) (sym (drop-cons along k x within ∙ ap (λ y. y ∷ drop (suc k) along) (sym is)))
+    ∙ ap (λ xs. edits_at (map placed xs) place) (sym (drop-cons cascaded k x within ∙ ap (λ y. y ∷ drop (suc k) cascaded) (sym is)))
     ∙ rest
-    ∙ sym (ap (λ b. option_map_or (λ (d : PlacedEdits). d.1) (cond b (Some own) (find (λ (d : PlacedEdits). d.0 == place) (map placed along))) [])
+    ∙ sym (ap (λ b. option_map_or (λ (d : PlacedEdits). d.1) (cond b (Some own) (find (λ (d : PlacedEdits). d.0 == place) (map placed cascaded))) [])
     (ne_eqb own.0 place other))
 
 -- ---- columns
 
-pub cascade_so : (P : Along → Type 0) (alongs : List Along) → All P alongs → (cs : List Cascade) → map along_of cs ≡ alongs → (k : ℕ) (c : Cascade)
-    → k < length cs → c ≡ get_or cs k c → P (along_of c)
-cascade_so P alongs all cs same k c within is =
-    subst P (ap (λ xs. get_or xs k (along_of c)) (sym same) ∙ get_or-map along_of cs k c (along_of c) within ∙ ap along_of (sym is))
-    (all k (along_of c) (subst (λ n. k < n) (sym (length-map cs along_of) ∙ ap length same) within))
+pub cascade_so : (P : PlacedCascade → Type 0) (cascades : List PlacedCascade) → All P cascades → (cs : List Cascade) → map placed_cascade cs ≡ cascades
+    → (k : ℕ) (c : Cascade)
+    → k < length cs → c ≡ get_or cs k c → P (placed_cascade c)
+cascade_so P cascades all cs same k c within is =
+    subst P (ap (λ xs. get_or xs k (placed_cascade c)) (sym same) ∙ get_or-map placed_cascade cs k c (placed_cascade c) within ∙ ap placed_cascade (sym is))
+    (all k (placed_cascade c) (subst (λ n. k < n) (sym (length-map cs placed_cascade) ∙ ap length same) within))
 
-pub along_push : (rs : List StoredRows) (cs : List Cascade) (k : ℕ) (c : Cascade) → k < length cs → c ≡ get_or cs k c → (row : Row)
-    → (goes_by_some rs (map along_of (take k cs)) row || goes_by rs c.column (c.to, c.gone.now) row) ≡ goes_by_some rs (map along_of (take (k + 1) cs)) row
-along_push rs cs k c within is row = sym
-    (ap (λ xs. goes_by_some rs (map along_of xs) row) (take_more cs k c within ∙ ap (λ x. take k cs ++ x ∷ []) (sym is))
-    ∙ ap (λ xs. goes_by_some rs xs row) (map-append along_of (take k cs) (c ∷ []))
-    ∙ list_any-append (λ (a : Along). goes_by rs a.0 a.1 row) (map along_of (take k cs)) (along_of c ∷ [])
-    ∙ ap (λ b. goes_by_some rs (map along_of (take k cs)) row || b) (or_false (goes_by rs c.column (c.to, c.gone.now) row)))
+pub placed_cascade_push : (rs : List StoredRows) (cs : List Cascade) (k : ℕ) (c : Cascade) → k < length cs → c ≡ get_or cs k c → (row : Row)
+    → (is_cascaded_by_some rs (map placed_cascade (take k cs)) row || is_cascaded_by rs c.column (c.to, c.gone.now) row)
+        ≡ is_cascaded_by_some rs (map placed_cascade (take (k + 1) cs)) row
+placed_cascade_push rs cs k c within is row = sym
+    (ap (λ xs. is_cascaded_by_some rs (map placed_cascade xs) row) (take_more cs k c within ∙ ap (λ x. take k cs ++ x ∷ []) (sym is))
+    ∙ ap (λ xs. is_cascaded_by_some rs xs row) (map-append placed_cascade (take k cs) (c ∷ []))
+    ∙ list_any-append (λ (a : PlacedCascade). is_cascaded_by rs a.0 a.1 row) (map placed_cascade (take k cs)) (placed_cascade c ∷ [])
+    ∙ ap (λ b. is_cascaded_by_some rs (map placed_cascade (take k cs)) row || b) (or_false (is_cascaded_by rs c.column (c.to, c.gone.now) row)))
   where
     or_false : (b : Bool) → (b || false) ≡ b
     or_false true = refl
@@ -153,7 +155,7 @@ module _ (schema : Schema) (store : Tables) (kept : AreKept schema store) (disti
 
   module _ (table : ℕ) (within : table < length schema.tables) (edits : List Edit) (cs : List PlacedEdits)
       (pairs : (t : Table) → slice_get schema.tables table ≡ Some t → pairs_at rs (table, edits)
-      ≡ removals_of (filter (goes_along schema (map (named schema rs) cs) t.definition.columns) (rows_at rs table))) where
+      ≡ removals_of (filter (is_cascaded schema (map (named schema rs) cs) t.definition.columns) (rows_at rs table))) where
     abbrev before : List NamedEdits
     before = map (named schema rs) cs
 
@@ -164,7 +166,7 @@ module _ (schema : Schema) (store : Tables) (kept : AreKept schema store) (disti
         let name : name_of t ≡ (named schema rs (table, edits)).table = sym (ap (λ o. option_map_or (λ (u : Table). u.definition.name) o []) at) in
         let rows : rows_of beside.stored ≡ rows_at rs table = sym (ap (λ o. option_map_or rows_of o []) beside.at) in
         one_table schema schema.tables (instance_of rs) table t (rows_of beside.stored) before at (rows_beside rs table beside.stored beside.at)
-        ∙ (λ i. rest_from (table + 1) (also before (name i) (removals_of (filter (goes_along schema before t.definition.columns) (rows i)))))
+        ∙ (λ i. rest_from (table + 1) (also before (name i) (removals_of (filter (is_cascaded schema before t.definition.columns) (rows i)))))
         ∙ ap (λ ps. rest_from (table + 1) (also before (named schema rs (table, edits)).table ps)) (sym (pairs t at))
 
     -- A table that adds none, ..

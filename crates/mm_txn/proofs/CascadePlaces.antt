@@ -21,12 +21,12 @@ use Rattle.mm_schema.proofs.Instances.{LackName, name_of}
 use Rattle.mm_schema.proofs.NameLemmas.{differs_back, same_bytes, same_name_refl}
 use Rattle.mm_schema.proofs.Places.{place_within, table_at_place}
 use Rattle.mm_schema.proofs.StrictOrder.{Contains-from_IsIn, IsIn, IsIn-from_Contains}
-use Rattle.mm_schema.proofs.Twins.{Row}
+use Rattle.mm_schema.proofs.Duplicates.{Row}
 use Rattle.mm_query.specs.Edits.{old_rows}
 use Rattle.mm_store.proofs.Referring.{agree}
 use Rattle.mm_store.specs.Links.{IsReference}
 use Rattle.mm_store.specs.Tables.{key_at}
-use Rattle.mm_txn.specs.Cascades.{goes_by}
+use Rattle.mm_txn.specs.Cascades.{is_cascaded_by}
 use Rattle.mm_txn.specs.PlacedEdits.{PlacedEdits, edits_at, named, pairs_at}
 
 -- ---- names at places
@@ -147,10 +147,10 @@ module _ (schema : Schema) (distinct : HasDistinctNames schema) (relations : Lis
           ∙ append-nil (pairs_at relations c) ∙ ap (λ n. pairs_at relations (n, c.1)) here
       by false is later = later
 
-  -- A row goes along by a column to the table of a name just where it goes by the edits at its place.
+  -- A row is cascaded by a column to the table of a name exactly if it is by the edits at its place.
   pub goes_at_place : key_named name schema ≡ key_at relations to → (column : ℕ) (cs : List PlacedEdits) → AllByRecursion IsThere cs → Ascends cs → (row : Row)
       → list_any (refers column (key_named name schema) row) (old_rows name (map (named schema relations) cs))
-      ≡ goes_by relations column (to, edits_at cs to) row
+      ≡ is_cascaded_by relations column (to, edits_at cs to) row
   goes_at_place key column cs there ascend row =
       λ i. list_any (refers column (key i) row) (filter_map (λ (p : Pair). p.0) (pairs_of_place cs there ascend i))
 

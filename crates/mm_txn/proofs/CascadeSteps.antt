@@ -1,4 +1,4 @@
--- The removals that go along, table by table.
+-- The cascaded removals, table by table.
 use Rattle.std.proofs.Common.{◌≡◌, ◌≢◌, ℕ, zero, suc, ◌+◌, ◌≤◌, Bool, true, false, cond, ◌||◌, List, [], ◌∷◌, ◌++◌, Some, None, inl, inr, drop, filter, length, map, slice_get, refl, sym, ap, ◌∙◌, arith}
 use Rattle.std.specs.List.{AllByRecursion, IsDistinct, filter_map, list_any}
 use Rattle.std.proofs.lemmas.Bool.{cases_Bool, false≢true}
@@ -17,8 +17,8 @@ use Rattle.mm_schema.specs.declared.table.Table.{Table}
 use Rattle.mm_schema.proofs.Instances.{name_of, pairs_of-other}
 use Rattle.mm_schema.proofs.NameLemmas.{differs_back, same_bytes}
 use Rattle.mm_schema.proofs.StrictOrder.{AllByRecursion-IsIn, IsIn}
-use Rattle.mm_schema.proofs.Twins.{Row}
-use Rattle.mm_query.specs.Edits.{also, goes_along, old_rows, removals_of, with_cascades}
+use Rattle.mm_schema.proofs.Duplicates.{Row}
+use Rattle.mm_query.specs.Edits.{also, is_cascaded, old_rows, removals_of, with_cascades}
 use Rattle.mm_query.proofs.FoundTargets.{none_by_each}
 use Rattle.mm_value.specs.declared.row_ref.RowRef.{RowRef}
 use Rattle.mm_txn.proofs.CascadePlaces.{among_references, lacks_at}
@@ -29,19 +29,19 @@ module _ (schema : Schema) (own : TableEdits) where
   abbrev es : List TableEdits
   es = own ∷ []
 
-  -- No row of a table goes along whose columns refer to other tables than the one of the edits.
-  none_along : (columns : List Column) → AllByRecursion (λ (r : ℕ × List ℕ). same_name own.table r.1 ≡ false) (references_of columns) → (row : Row)
-      → goes_along schema es columns row ≡ false
-  none_along columns others row =
+  -- No row of a table is cascaded whose columns refer to other tables than the one of the edits.
+  none_cascaded : (columns : List Column) → AllByRecursion (λ (r : ℕ × List ℕ). same_name own.table r.1 ≡ false) (references_of columns) → (row : Row)
+      → is_cascaded schema es columns row ≡ false
+  none_cascaded columns others row =
       none_by_each (λ (r : ℕ × List ℕ). list_any (refers r.0 (key_named r.1 schema) row) (old_rows r.1 es)) (cascading_of columns)
       (λ r here. ap (λ (ps : List Pair). list_any (refers r.0 (key_named r.1 schema) row) (filter_map (λ (p : Pair). p.0) ps))
       (pairs_of-other own.table own.pairs r.1
       (AllByRecursion-IsIn (λ (q : ℕ × List ℕ). same_name own.table q.1 ≡ false) (references_of columns) r others (among_references 0 columns r here))))
 
-  none_left : (columns : List Column) (rows : List Row) → ((row : Row) → goes_along schema es columns row ≡ false) → filter (goes_along schema es columns) rows ≡ []
+  none_left : (columns : List Column) (rows : List Row) → ((row : Row) → is_cascaded schema es columns row ≡ false) → filter (is_cascaded schema es columns) rows ≡ []
   none_left columns [] none = refl
   none_left columns (r ∷ rs) none =
-      ap (λ b. cond b (r ∷ filter (goes_along schema es columns) rs) (filter (goes_along schema es columns) rs)) (none r) ∙ none_left columns rs none
+      ap (λ b. cond b (r ∷ filter (is_cascaded schema es columns) rs) (filter (is_cascaded schema es columns) rs)) (none r) ∙ none_left columns rs none
 
   others_back : (names : List (List ℕ)) → list_any (same_name own.table) names ≡ false → (rs : List (ℕ × List ℕ))
       → AllByRecursion (λ (r : ℕ × List ℕ). list_any (same_name r.1) names ≡ true) rs → AllByRecursion (λ (r : ℕ × List ℕ). same_name own.table r.1 ≡ false) rs
@@ -54,7 +54,7 @@ module _ (schema : Schema) (own : TableEdits) where
         | inr other ↦ other
       ]
 
-  skip : (t : Table) (ts : List Table) (r : List Row) (rows : Instance) → ((row : Row) → goes_along schema es t.definition.columns row ≡ false)
+  skip : (t : Table) (ts : List Table) (r : List Row) (rows : Instance) → ((row : Row) → is_cascaded schema es t.definition.columns row ≡ false)
       → with_cascades schema (t ∷ ts) (r ∷ rows) es ≡ with_cascades schema ts rows es
   skip t ts r rows none =
       ap (λ gone. with_cascades schema ts rows (also es (name_of t) (removals_of gone))) (none_left t.definition.columns r none)
@@ -75,9 +75,9 @@ module _ (schema : Schema) (own : TableEdits) where
       no_rows (u ∷ us) [] none = refl
       no_rows (u ∷ us) (r ∷ rest) none = cc
   up_to_own names lack zero (x ∷ xs) (r ∷ rows) back distinct t at is =
-      skip x xs r rows (none_along x.definition.columns (others_back names lack (references_of x.definition.columns) back.0))
+      skip x xs r rows (none_cascaded x.definition.columns (others_back names lack (references_of x.definition.columns) back.0))
   up_to_own names lack (suc n) (x ∷ xs) (r ∷ rows) back distinct t at is =
-      skip x xs r rows (none_along x.definition.columns (others_back names lack (references_of x.definition.columns) back.0))
+      skip x xs r rows (none_cascaded x.definition.columns (others_back names lack (references_of x.definition.columns) back.0))
       ∙ up_to_own (names ++ name_of x ∷ []) still n xs rows back.1 (IsDistinct-tail same_name (name_of x) (map name_of xs) distinct) t at is
       ∙ ap (λ k. with_cascades schema (drop k (x ∷ xs)) (drop k (r ∷ rows)) es) (let same : suc (n + 1) ≡ suc n + 1 = omega arith in same)
     where
@@ -98,7 +98,7 @@ drop_at (y ∷ ys) (suc k) x at = drop_at ys k x at ∙ ap (λ n. x ∷ drop n (
 pub one_table : (schema : Schema) (ts : List Table) (rows : Instance) (k : ℕ) (t : Table) (r : List Row) (es : List TableEdits) → slice_get ts k ≡ Some t
     → slice_get rows k ≡ Some r
     → with_cascades schema (drop k ts) (drop k rows) es
-    ≡ with_cascades schema (drop (k + 1) ts) (drop (k + 1) rows) (also es (name_of t) (removals_of (filter (goes_along schema es t.definition.columns) r)))
+    ≡ with_cascades schema (drop (k + 1) ts) (drop (k + 1) rows) (also es (name_of t) (removals_of (filter (is_cascaded schema es t.definition.columns) r)))
 one_table schema ts rows k t r es at beside = λ i. with_cascades schema (drop_at ts k t at i) (drop_at rows k r beside i) es
 
 pub also_some : (es : List TableEdits) (name : List ℕ) (pairs : List Pair) → pairs ≢ [] → also es name pairs ≡ es ++ record { table = name; pairs = pairs } ∷ []

@@ -16,12 +16,12 @@ use Rattle.mm_schema.specs.declared.column.Column.{Column}
 use Rattle.mm_schema.specs.declared.table.Table.{Table}
 use Rattle.mm_schema.proofs.Places.{no_table, place_within, table_at_place}
 use Rattle.mm_schema.proofs.StrictOrder.{IsIn}
-use Rattle.mm_schema.proofs.Twins.{Row}
+use Rattle.mm_schema.proofs.Duplicates.{Row}
 use Rattle.mm_query.proofs.FoundTargets.{none_among}
-use Rattle.mm_query.specs.Edits.{goes_along, old_rows}
+use Rattle.mm_query.specs.Edits.{is_cascaded, old_rows}
 use Rattle.mm_store.specs.Links.{IsReference}
 use Rattle.mm_store.specs.Tables.{Tables, key_at}
-use Rattle.mm_txn.specs.Cascades.{Along, IsCascade, along_to, alongs_from, goes_by, goes_by_some, unless_none}
+use Rattle.mm_txn.specs.Cascades.{IsCascade, PlacedCascade, cascade_to, cascades_from, is_cascaded_by, is_cascaded_by_some, unless_none}
 use Rattle.mm_plan.specs.Kept.{AreKept, AreOf, IsOf, instance_of}
 use Rattle.mm_txn.specs.PlacedEdits.{AreEdits, FitsAt, PlacedEdits, edits_at, named}
 use Rattle.mm_txn.proofs.CascadePlaces.{some_at, Ascends, among_references, ascends_from, goes_at_place, is_reference}
@@ -126,7 +126,7 @@ find_fits store place (c ∷ cs) fit some = by (c.0 == place) refl some (find_fi
     by true is some later = subst (λ (n : ℕ). FitsAt store (n, c.1)) (eqb-true c.0 place is) fit.0
     by false is some later = later some
 
--- ---- the columns by which rows go along
+-- ---- the columns by which rows are cascaded
 
 -- A column refers to the table of its name, and to no other.
 pub record Refers (schema : Schema) (store : Tables) (place : ℕ) (column : ℕ × List ℕ) : Type 0 where
@@ -145,7 +145,7 @@ refers_there schema store kept place t at r here =
       link = subst (λ links. IsReference links place r.0 target.0) (sym kept.links) (is_reference schema place t at r.0 r.1 among target.0 target.1);
     }
 
-no_row_gone : (rs : List StoredRows) (column to : ℕ) (row : Row) → goes_by rs column (to, []) row ≡ false
+no_row_gone : (rs : List StoredRows) (column to : ℕ) (row : Row) → is_cascaded_by rs column (to, []) row ≡ false
 no_row_gone rs column to row = by (slice_get rs to)
   where
     by : (o : Option StoredRows) → list_any (refers column (key_at rs to) row)
@@ -153,9 +153,10 @@ no_row_gone rs column to row = by (slice_get rs to)
     by None = refl
     by (Some stored) = refl
 
-goes_unless : (rs : List StoredRows) (column to : ℕ) (edits : List Edit) (rest : List Along) (row : Row)
-    → goes_by_some rs (cons_option (unless_none column to edits) rest) row ≡ (goes_by rs column (to, edits) row || goes_by_some rs rest row)
-goes_unless rs column to [] rest row = ap (λ b. b || goes_by_some rs rest row) (sym (no_row_gone rs column to row))
+goes_unless : (rs : List StoredRows) (column to : ℕ) (edits : List Edit) (rest : List PlacedCascade) (row : Row)
+    → is_cascaded_by_some rs (cons_option (unless_none column to edits) rest) row
+        ≡ (is_cascaded_by rs column (to, edits) row || is_cascaded_by_some rs rest row)
+goes_unless rs column to [] rest row = ap (λ b. b || is_cascaded_by_some rs rest row) (sym (no_row_gone rs column to row))
 goes_unless rs column to (edit ∷ edits) rest row = refl
 
 module _ (schema : Schema) (store : Tables) (kept : AreKept schema store) (distinct : HasDistinctNames schema) (place : ℕ) (cs : List PlacedEdits)
@@ -169,37 +170,38 @@ module _ (schema : Schema) (store : Tables) (kept : AreKept schema store) (disti
   abbrev by_column : Row → ℕ × List ℕ → Bool
   by_column row r = list_any (refers r.0 (key_named r.1 schema) row) (old_rows r.1 (map (named schema rs) cs))
 
-  abbrev IsAlong : Along → Type 0
-  IsAlong a = IsCascade store place a.0 a.1
+  abbrev IsPlacedCascade : PlacedCascade → Type 0
+  IsPlacedCascade a = IsCascade store place a.0 a.1
 
-  -- Rows go along by the columns with edits just where they do by the columns of the catalog ..
+  -- Rows are cascaded by the columns with edits exactly if they are by the columns of the catalog ..
   go_same : (n : ℕ) (columns : List Column) → ((r : ℕ × List ℕ) → IsIn r (cascading_from n columns) → Refers schema store place r) → (row : Row)
-      → goes_by_some rs (alongs_from schema cs n columns) row ≡ list_any (by_column row) (cascading_from n columns)
+      → is_cascaded_by_some rs (cascades_from schema cs n columns) row ≡ list_any (by_column row) (cascading_from n columns)
   go_same n [] each row = refl
   go_same n (c ∷ columns) each row = by (cascading_target c) each (λ later. go_same (n + 1) columns later row)
     where
       by : (o : Option (List ℕ)) → ((r : ℕ × List ℕ) → IsIn r (in_front n o (cascading_from (n + 1) columns)) → Refers schema store place r)
           → (((r : ℕ × List ℕ) → IsIn r (cascading_from (n + 1) columns) → Refers schema store place r)
-          → goes_by_some rs (alongs_from schema cs (n + 1) columns) row ≡ list_any (by_column row) (cascading_from (n + 1) columns))
-          → goes_by_some rs (cons_option (along_to schema cs n o) (alongs_from schema cs (n + 1) columns)) row
+          → is_cascaded_by_some rs (cascades_from schema cs (n + 1) columns) row ≡ list_any (by_column row) (cascading_from (n + 1) columns))
+          → is_cascaded_by_some rs (cons_option (cascade_to schema cs n o) (cascades_from schema cs (n + 1) columns)) row
           ≡ list_any (by_column row) (in_front n o (cascading_from (n + 1) columns))
       by None each later = later each
       by (Some name) each later =
           let r = each (n, name) (inl refl) in
           let to : unwrap_or (table_place name schema) 0 ≡ r.to = ap (λ o. unwrap_or o 0) r.placed in
           let rest = later (λ q here. each q (inr here)) in
-          ap (λ k. goes_by_some rs (cons_option (unless_none n k (edits_at cs k)) (alongs_from schema cs (n + 1) columns)) row) to
-          ∙ goes_unless rs n r.to (edits_at cs r.to) (alongs_from schema cs (n + 1) columns) row
+          ap (λ k. is_cascaded_by_some rs (cons_option (unless_none n k (edits_at cs k)) (cascades_from schema cs (n + 1) columns)) row) to
+          ∙ goes_unless rs n r.to (edits_at cs r.to) (cascades_from schema cs (n + 1) columns) row
           ∙ (λ i. sym (goes_at_place schema distinct rs name r.to r.placed (key_of_place schema rs kept.relations name r.to r.placed) n cs there ascend row) i || rest i)
 
   -- .. and these refer as they say.
   are_cascades : (n : ℕ) (columns : List Column) → ((r : ℕ × List ℕ) → IsIn r (cascading_from n columns) → Refers schema store place r)
-      → AllByRecursion IsAlong (alongs_from schema cs n columns)
+      → AllByRecursion IsPlacedCascade (cascades_from schema cs n columns)
   are_cascades n [] each = tt
   are_cascades n (c ∷ columns) each = by (cascading_target c) each (are_cascades (n + 1) columns)
     where
-      one : (to : ℕ) → IsReference store.links place n to → (edits : List Edit) → edits_at cs to ≡ edits → (rest : List Along) → AllByRecursion IsAlong rest
-          → AllByRecursion IsAlong (cons_option (unless_none n to edits) rest)
+      one : (to : ℕ) → IsReference store.links place n to → (edits : List Edit) → edits_at cs to ≡ edits → (rest : List PlacedCascade)
+          → AllByRecursion IsPlacedCascade rest
+          → AllByRecursion IsPlacedCascade (cons_option (unless_none n to edits) rest)
       one to link [] is rest later = later
       one to link (edit ∷ edits) is rest later = (
         record { link = link; fit = subst (λ (es : List Edit). FitsAt store (to, es)) is (find_fits store to cs fit (λ none. let both : [] ≡ edit ∷ edits = sym none ∙ is in cc)) },
@@ -208,25 +210,26 @@ module _ (schema : Schema) (store : Tables) (kept : AreKept schema store) (disti
 
       by : (o : Option (List ℕ)) → ((r : ℕ × List ℕ) → IsIn r (in_front n o (cascading_from (n + 1) columns)) → Refers schema store place r)
           → (((r : ℕ × List ℕ) → IsIn r (cascading_from (n + 1) columns) → Refers schema store place r)
-          → AllByRecursion IsAlong (alongs_from schema cs (n + 1) columns))
-          → AllByRecursion IsAlong (cons_option (along_to schema cs n o) (alongs_from schema cs (n + 1) columns))
+          → AllByRecursion IsPlacedCascade (cascades_from schema cs (n + 1) columns))
+          → AllByRecursion IsPlacedCascade (cons_option (cascade_to schema cs n o) (cascades_from schema cs (n + 1) columns))
       by None each later = later each
       by (Some name) each later =
           let r = each (n, name) (inl refl) in
           let to : unwrap_or (table_place name schema) 0 ≡ r.to = ap (λ o. unwrap_or o 0) r.placed in
-          subst (λ k. AllByRecursion IsAlong (cons_option (unless_none n k (edits_at cs k)) (alongs_from schema cs (n + 1) columns))) (sym to)
-          (one r.to r.link (edits_at cs r.to) refl (alongs_from schema cs (n + 1) columns) (later (λ q here. each q (inr here))))
+          subst (λ k. AllByRecursion IsPlacedCascade (cons_option (unless_none n k (edits_at cs k)) (cascades_from schema cs (n + 1) columns))) (sym to)
+          (one r.to r.link (edits_at cs r.to) refl (cascades_from schema cs (n + 1) columns) (later (λ q here. each q (inr here))))
 
 -- The columns of a table at a place, with the edits of the tables that they refer to, ..
 module _ (schema : Schema) (store : Tables) (kept : AreKept schema store) (distinct : HasDistinctNames schema) (cs : List PlacedEdits) (are : AreEdits store cs)
     (place : ℕ) (t : Table) (at : slice_get schema.tables place ≡ Some t) where
-  pub alongs_go : (row : Row) → goes_by_some store.tables (alongs_from schema cs 0 t.definition.columns) row
-      ≡ goes_along schema (map (named schema store.tables) cs) t.definition.columns row
-  alongs_go row = go_same schema store kept distinct place cs (recursion_from_All (FitsAt store) cs are.fit) (ascends_from cs are.ascend) 0 t.definition.columns
+  pub cascades_go : (row : Row) → is_cascaded_by_some store.tables (cascades_from schema cs 0 t.definition.columns) row
+      ≡ is_cascaded schema (map (named schema store.tables) cs) t.definition.columns row
+  cascades_go row = go_same schema store kept distinct place cs (recursion_from_All (FitsAt store) cs are.fit) (ascends_from cs are.ascend) 0
+      t.definition.columns
       (refers_there schema store kept place t at) row
 
   -- .. are as they say.
-  pub alongs_are : All (λ (a : Along). IsCascade store place a.0 a.1) (alongs_from schema cs 0 t.definition.columns)
-  alongs_are = All-from_recursion (λ (a : Along). IsCascade store place a.0 a.1) (alongs_from schema cs 0 t.definition.columns)
+  pub cascades_are : All (λ (a : PlacedCascade). IsCascade store place a.0 a.1) (cascades_from schema cs 0 t.definition.columns)
+  cascades_are = All-from_recursion (λ (a : PlacedCascade). IsCascade store place a.0 a.1) (cascades_from schema cs 0 t.definition.columns)
       (are_cascades schema store kept distinct place cs (recursion_from_All (FitsAt store) cs are.fit) (ascends_from cs are.ascend) 0 t.definition.columns
       (refers_there schema store kept place t at))

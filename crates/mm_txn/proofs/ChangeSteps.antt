@@ -22,14 +22,14 @@ use Rattle.mm_schema.specs.declared.table.Table.{Table}
 use Rattle.mm_schema.proofs.Dues.{due_behind, due_in_front}
 use Rattle.mm_schema.proofs.Instances.{name_of}
 use Rattle.mm_schema.proofs.Places.{place_from_some, table_at_place}
-use Rattle.mm_schema.proofs.Twins.{Row}
+use Rattle.mm_schema.proofs.Duplicates.{Row}
 use Rattle.mm_store.specs.Tables.{AreFit, IsAt, Tables, finds_orphan, has_orphans, key_at, rows_at, rows_with}
 use Rattle.mm_standing.specs.Queries.{RowsByPlace, StandingQuery, change_conditions as list_conditions}
 use Rattle.mm_value.specs.declared.refusal.Refusal.{Refusal}
 use Rattle.mm_value.specs.declared.refusal.Refusal.TheVariants.{NoSuchTable, TypeMismatch, WrongNumberOfValues}
 use Rattle.mm_query.specs.Atoms.{range_conditions}
 use Rattle.mm_query.specs.Binding.{AssignmentsWithin, Binds, binding_conditions, has_other_length, has_type_mismatch}
-use Rattle.mm_query.specs.Edits.{also, changed_table, edits, goes_along, new_values, own_edits, own_pairs, removals_of, value_conditions, with_cascades}
+use Rattle.mm_query.specs.Edits.{also, changed_table, edits, is_cascaded, new_values, own_edits, own_pairs, removals_of, value_conditions, with_cascades}
 use Rattle.mm_query.specs.Machine.{after_change, after_edits, change_conditions, is_referred_to, some_is_referred, some_lacks_target}
 use Rattle.mm_query.specs.Standing.{growth_conditions}
 use Rattle.mm_query.specs.State.{State, rows_in}
@@ -183,7 +183,7 @@ first_still : (schema : Schema) (e : NamedEdits) (ts : List Table) (rows : Insta
 first_still schema e [] rows es = (es, refl)
 first_still schema e (t ∷ ts) [] es = (es, refl)
 first_still schema e (t ∷ ts) (r ∷ rs) es =
-    by (removals_of (filter (goes_along schema (e ∷ es) t.definition.columns) r)) (first_still schema e ts rs)
+    by (removals_of (filter (is_cascaded schema (e ∷ es) t.definition.columns) r)) (first_still schema e ts rs)
   where
     by : (pairs : List Pair) → ((fs : List NamedEdits) → (others : List NamedEdits) × (with_cascades schema ts rs (e ∷ fs) ≡ e ∷ others))
         → (others : List NamedEdits) × (with_cascades schema ts rs (also (e ∷ es) (name_of t) pairs) ≡ e ∷ others)
@@ -214,12 +214,12 @@ early_due mutation schema rs queries refusal due =
     (ap (λ values. first_refusal (binding_conditions mutation schema ++ values)) (sym (values_watched schema rs queries mutation)) ∙ h))) (λ m. inr m) due
 
 module _ (schema : Schema) (store : Tables) (are : AreOf schema.tables store.tables) (distinct : HasDistinctNames schema) (mutation : Mutation)
-    (own : PlacedEdits) (along : List PlacedEdits) (are_edits : AreEditsOf mutation schema store own along) where
+    (own : PlacedEdits) (cascaded : List PlacedEdits) (are_edits : AreEditsOf mutation schema store own cascaded) where
   abbrev all_edits : List PlacedEdits
-  all_edits = own ∷ along
+  all_edits = own ∷ cascaded
 
   own_there : FitsAt store own
-  own_there = All-head (FitsAt store) own along are_edits.are.fit
+  own_there = All-head (FitsAt store) own cascaded are_edits.are.fit
 
   turn : InTurn (length schema.tables) all_edits
   turn = subst (λ (n : ℕ). InTurn n all_edits) (as_many_rows schema.tables store.tables are) (in_turn store all_edits are_edits.are)
@@ -229,7 +229,7 @@ module _ (schema : Schema) (store : Tables) (are : AreOf schema.tables store.tab
   edits_counted =
       let stored = own_there.0 in
       let first = own_in_front mutation (state_of schema store.tables) in
-      let front : named schema store.tables own ∷ map (named schema store.tables) along ≡ own_edits mutation (state_of schema store.tables) ∷ first.0 =
+      let front : named schema store.tables own ∷ map (named schema store.tables) cascaded ≡ own_edits mutation (state_of schema store.tables) ∷ first.0 =
       are_edits.named ∙ first.1 in
       let same : named schema store.tables own ≡ own_edits mutation (state_of schema store.tables) = cc in
       sym (length-map own.1 (edit_pair (slot_at stored.places)))
@@ -284,7 +284,7 @@ module _ (schema : Schema) (store : Tables) (are : AreOf schema.tables store.tab
     at = beside schema.tables store.tables own.0 stored are there
 
     own_made : edits_at all_edits own.0 ≡ own.1
-    own_made = ap (λ (b : Bool). option_map_or (λ (c : PlacedEdits). c.1) (cond b (Some own) (find (λ (c : PlacedEdits). c.0 == own.0) along)) [])
+    own_made = ap (λ (b : Bool). option_map_or (λ (c : PlacedEdits). c.1) (cond b (Some own) (find (λ (c : PlacedEdits). c.0 == own.0) cascaded)) [])
         (eq-eqb own.0 own.0 refl)
 
     -- The rows of a table's name are those at its place.
@@ -306,7 +306,7 @@ module _ (schema : Schema) (store : Tables) (are : AreOf schema.tables store.tab
     -- Tables that stand before the one that a change names keep their rows.
     older_kept : (k : ℕ) → k < own.0 → rows_edited store all_edits k ≡ rows_at store.tables k
     older_kept k below =
-        let none : edits_at all_edits k ≡ [] = none_at k all_edits (none_later k all_edits (below, all_later along turn.1)) in
+        let none : edits_at all_edits k ≡ [] = none_at k all_edits (none_later k all_edits (below, all_later cascaded turn.1)) in
         ap (λ (es : List Edit). option_map_or (λ s. rows_with s es) (slice_get store.tables k) []) none ∙ by (slice_get store.tables k)
       where
         all_later : (cs : List PlacedEdits) → AllByRecursion (λ (d : PlacedEdits). own.0 < d.0) cs → AllByRecursion (λ (d : PlacedEdits). k < d.0) cs
@@ -371,7 +371,7 @@ module _ (schema : Schema) (store : Tables) (are : AreOf schema.tables store.tab
     -- What the relations, the references and the lists refuse of the edits is what the state refuses of the change.
     pub due_of_edits : (lists : List StandingQuery) → All (IsPlaced schema) lists → queries ≡ queries_of lists
         → first_refusal (binding_conditions mutation schema ++ value_conditions mutation (state_of schema store.tables)) ≡ None
-        → first_refusal (edits_conditions store stored own along ++ list_conditions (rows_edited store all_edits) lists)
+        → first_refusal (edits_conditions store stored own cascaded ++ list_conditions (rows_edited store all_edits) lists)
         ≡ first_refusal (change_conditions mutation (watched_state schema store.tables queries))
     due_of_edits lists are_placed are_queries none =
         let key = key_is schema store.tables are name own.0 are_edits.placed stored there in
@@ -385,7 +385,7 @@ module _ (schema : Schema) (store : Tables) (are : AreOf schema.tables store.tab
       → first_refusal (binding_conditions mutation schema ++ value_conditions mutation (state_of schema store.tables)) ≡ None
       → {T : Type 0} (result : Result T Refusal)
       → ((stored : StoredRows) → IsAt store own.0 stored
-      → AnswersDue (first_refusal (edits_conditions store stored own along ++ list_conditions (rows_edited store all_edits) lists)) result)
+      → AnswersDue (first_refusal (edits_conditions store stored own cascaded ++ list_conditions (rows_edited store all_edits) lists)) result)
       → AnswersDue (first_refusal (change_conditions mutation (watched_state schema store.tables (queries_of lists)))) result
   change_due lists are_placed targets back links none {T} result each =
       let stored = own_there.0 in

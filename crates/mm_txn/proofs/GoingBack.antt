@@ -7,7 +7,7 @@ use Rattle.mm_schema.specs.Instance.{Instance}
 use Rattle.mm_standing.specs.State.{Lists, count_at}
 use Rattle.mm_store.specs.Marks.{rows_at_mark, rows_now}
 use Rattle.mm_store.specs.Tables.{Tables}
-use Rattle.mm_store.specs.Worlds.{Noted}
+use Rattle.mm_store.specs.Snapshots.{Logged}
 use Rattle.mm_store.proofs.MarkLaws.{rows_at_end}
 use Rattle.mm_value.specs.declared.values.Value.{Value}
 use Rattle.mm_plan.specs.Kept.{instance_of}
@@ -30,7 +30,7 @@ none_behind n xs front is = ap (drop n) is ∙ drop_taken n xs
 -- ---- where older rows stay
 
 -- The rows of all marks up to some lengths of the logs are as they were.
-module _ (store newer : Tables) (undo later : List Noted) (commands : ℕ)
+module _ (store newer : Tables) (undo later : List Logged) (commands : ℕ)
     (rows : (mark : ℕ) → mark ≤ commands → rows_at_mark mark later newer ≡ rows_at_mark mark undo store) where
   same_each : (changes : ℕ) (marks : List Mark) → AllByRecursion (λ (m : Mark). (m.commands ≤ commands) × (m.changes ≤ changes)) marks
       → map (savepoint_at later newer) marks ≡ map (savepoint_at undo store) marks
@@ -67,7 +67,7 @@ module _ (store newer : Tables) (undo later : List Noted) (commands : ℕ)
 
 -- ---- BEGIN, SAVEPOINT and ROLLBACK TO
 
-module _ (store : Tables) (undo : List Noted) (lists : Lists) (rows : rows_now store ≡ instance_of store.tables)
+module _ (store : Tables) (undo : List Logged) (lists : Lists) (rows : rows_now store ≡ instance_of store.tables)
     (listed : AreListed (instance_of store.tables) lists) where
   -- the rows now are those at the end of the logs
   saved_at_end : (commands changes : ℕ) → length undo ≤ commands → length lists.log ≤ changes → AreSaved changes (rows_at_mark commands undo store) lists
@@ -90,7 +90,7 @@ taken : {X : Type 0} (n : ℕ) (xs : List X) → n ≤ length xs → n ≤ lengt
 taken n xs within = omega (arith, length-take n xs, within)
 
 -- What is gone back to a mark can go back to it still, and to those before it.
-pub back_to_mark : (store newer : Tables) (undo left : List Noted) (lists new : Lists) (marks : List Mark) (place : ℕ) (mark : Mark)
+pub back_to_mark : (store newer : Tables) (undo left : List Logged) (lists new : Lists) (marks : List Mark) (place : ℕ) (mark : Mark)
     → slice_get marks place ≡ Some mark → CanGoBack store undo lists marks → mark.commands ≤ length undo → mark.changes ≤ length lists.log
     → left ≡ take mark.commands undo → new.log ≡ take mark.changes lists.log → new.queries ≡ lists.queries
     → ((n : ℕ) → n ≤ mark.commands → rows_at_mark n left newer ≡ rows_at_mark n undo store)
@@ -100,5 +100,5 @@ back_to_mark store newer undo left lists new marks place mark there back command
     back_through store newer undo left mark.commands rows lists new queries mark.changes counts (take (suc place) marks) back.saved
     (All-take (IsSaved undo store lists) (suc place) marks back.each)
     (Ascend-take 0 0 marks (length undo) (length lists.log) place mark there back.ascend)
-    (subst (λ (l : List Noted). mark.commands ≤ length l) (sym left_is) (taken mark.commands undo commands))
+    (subst (λ (l : List Logged). mark.commands ≤ length l) (sym left_is) (taken mark.commands undo commands))
     (omega (arith, taken mark.changes lists.log changes, ap length log))

@@ -27,7 +27,7 @@ use Rattle.mm_schema.proofs.IndexLemmas.{new_index_is_free}
 use Rattle.mm_schema.proofs.Instances.{name_of}
 use Rattle.mm_schema.proofs.NameLemmas.{differs_back, same_name_refl}
 use Rattle.mm_schema.proofs.Places.{find_at_place, find_nowhere, past_from_none, place_from_some, table_at_place, within_from_some}
-use Rattle.mm_schema.proofs.TwinIndexes.{is_taken, with_and_without}
+use Rattle.mm_schema.proofs.DuplicateIndexes.{is_taken, with_and_without}
 use Rattle.mm_value.specs.declared.refusal.Refusal.{Refusal}
 use Rattle.mm_value.specs.declared.refusal.Refusal.TheVariants.{NoSuchColumn, NoSuchTable}
 use Rattle.mm_query.proofs.Due.{not_lacking, passes_at_place}

@@ -5,14 +5,14 @@ use Rattle.std.proofs.lemmas.Bool.{or_from, or_parts}
 use Rattle.std.proofs.lemmas.Map.Keys.{IsDistinct-tail}
 use Rattle.mm_relation.specs.Kept.{StoredRows}
 use Rattle.mm_relation.specs.declared.index.Index.{Index}
-use Rattle.mm_schema.specs.Indexes.{has_twin_indexes, indexes_of, table_with_index, table_without_index}
+use Rattle.mm_schema.specs.Indexes.{has_duplicate_indexes, indexes_of, table_with_index, table_without_index}
 use Rattle.mm_schema.specs.Name.{same_name}
 use Rattle.mm_schema.specs.declared.column.Column.{Column}
 use Rattle.mm_schema.specs.declared.index.IndexDef.{IndexDef}
 use Rattle.mm_schema.specs.declared.table.Table.{Table}
 use Rattle.mm_schema.proofs.Instances.{name_of, others_lack}
 use Rattle.mm_schema.proofs.NameLemmas.{same_bytes}
-use Rattle.mm_schema.proofs.TwinIndexes.{all_kept, free_behind, is_taken, others_stay, stay_without, stays_without, twins_behind}
+use Rattle.mm_schema.proofs.DuplicateIndexes.{all_kept, duplicates_behind, free_behind, is_taken, others_stay, stay_without, stays_without}
 use Rattle.mm_plan.specs.Kept.{AreIndexes, AreOf, IsIndex, IsOf}
 
 -- ---- one index more
@@ -66,31 +66,31 @@ module _ (index : IndexDef) (stored new : StoredRows) (x : Index) (is_new : new 
 
 module _ (name : List ℕ) where
   kept_or_not : (columns : List Column) (d : IndexDef) (ds : List IndexDef) (x : Index) (xs : List Index) (n : ℕ) (b : Bool) → same_name name d.name ≡ b
-      → AreIndexes columns (d ∷ ds) (x ∷ xs) → has_twin_indexes (d ∷ ds) ≡ false
+      → AreIndexes columns (d ∷ ds) (x ∷ xs) → has_duplicate_indexes (d ∷ ds) ≡ false
       → AreIndexes columns (filter (λ i. not (same_name name i.name)) ds) (remove xs n)
       → AreIndexes columns (cond (not b) (d ∷ filter (λ i. not (same_name name i.name)) ds) (filter (λ i. not (same_name name i.name)) ds))
       (remove (x ∷ xs) (cond (not b) (1 + n) 0))
   kept_or_not columns d ds x xs n true own are none later =
       let free : is_taken name ds ≡ false =
-      ap (λ m. is_taken m ds) (same_bytes name d.name own) ∙ (or_parts (is_taken d.name ds) (has_twin_indexes ds) none).0 in
+      ap (λ m. is_taken m ds) (same_bytes name d.name own) ∙ (or_parts (is_taken d.name ds) (has_duplicate_indexes ds) none).0 in
       subst (λ is. AreIndexes columns is xs) (sym (all_kept name ds free)) are.1
   kept_or_not columns d ds x xs n false other are none later =
       let next : 1 + n ≡ suc n = omega arith in
       rw (next) (are.0, later)
 
-  AreIndexes-remove : (columns : List Column) (ds : List IndexDef) (xs : List Index) → AreIndexes columns ds xs → has_twin_indexes ds ≡ false
+  AreIndexes-remove : (columns : List Column) (ds : List IndexDef) (xs : List Index) → AreIndexes columns ds xs → has_duplicate_indexes ds ≡ false
       → AreIndexes columns (filter (λ i. not (same_name name i.name)) ds) (remove xs (position_or_len (λ i. same_name name i.name) ds))
   AreIndexes-remove columns [] [] are none = tt
   AreIndexes-remove columns (d ∷ ds) (x ∷ xs) are none =
       kept_or_not columns d ds x xs (position_or_len (λ i. same_name name i.name) ds) (same_name name d.name) refl are none
-      (AreIndexes-remove columns ds xs are.1 (or_parts (is_taken d.name ds) (has_twin_indexes ds) none).1)
+      (AreIndexes-remove columns ds xs are.1 (or_parts (is_taken d.name ds) (has_duplicate_indexes ds) none).1)
   AreIndexes-remove columns [] (x ∷ xs) are none = absurd are
   AreIndexes-remove columns (d ∷ ds) [] are none = absurd are
 
-  in_front : (xs ys : List IndexDef) → has_twin_indexes (xs ++ ys) ≡ false → has_twin_indexes xs ≡ false
+  in_front : (xs ys : List IndexDef) → has_duplicate_indexes (xs ++ ys) ≡ false → has_duplicate_indexes xs ≡ false
   in_front [] ys none = refl
   in_front (x ∷ xs) ys none =
-      let p = or_parts (is_taken x.name (xs ++ ys)) (has_twin_indexes (xs ++ ys)) none in
+      let p = or_parts (is_taken x.name (xs ++ ys)) (has_duplicate_indexes (xs ++ ys)) none in
       or_from _ _ (is_taken-front x.name xs ys p.0) (in_front xs ys p.1)
     where
       is_taken-front : (n : List ℕ) (us vs : List IndexDef) → is_taken n (us ++ vs) ≡ false → is_taken n us ≡ false
@@ -100,7 +100,7 @@ module _ (name : List ℕ) where
 
   module _ (i : ℕ) (stored : StoredRows) where
     this_or_later : (t : Table) (ts : List Table) (r : StoredRows) (rs : List StoredRows) (n : ℕ) (b : Bool) → is_taken name t.indexes ≡ b
-        → AreOf (t ∷ ts) (r ∷ rs) → has_twin_indexes (indexes_of (t ∷ ts)) ≡ false → slice_get (r ∷ rs) (cond (not b) (1 + n) 0) ≡ Some stored
+        → AreOf (t ∷ ts) (r ∷ rs) → has_duplicate_indexes (indexes_of (t ∷ ts)) ≡ false → slice_get (r ∷ rs) (cond (not b) (1 + n) 0) ≡ Some stored
         → ((u : Table) → slice_get (t ∷ ts) (cond (not b) (1 + n) 0) ≡ Some u → i ≡ position_or_len (λ d. same_name name d.name) u.indexes)
         → (slice_get rs n ≡ Some stored → ((u : Table) → slice_get ts n ≡ Some u → i ≡ position_or_len (λ d. same_name name d.name) u.indexes)
         → AreOf (map (table_without_index name) ts) (slice_set rs n (record stored { indexes = remove stored.indexes i })))
@@ -126,7 +126,7 @@ module _ (name : List ℕ) where
         )
 
     -- The index of a name goes from the relation of the table that has it.
-    pub AreOf-without_index : (ts : List Table) (rs : List StoredRows) → AreOf ts rs → has_twin_indexes (indexes_of ts) ≡ false
+    pub AreOf-without_index : (ts : List Table) (rs : List StoredRows) → AreOf ts rs → has_duplicate_indexes (indexes_of ts) ≡ false
         → slice_get rs (position_or_len (λ t. is_taken name t.indexes) ts) ≡ Some stored
         → ((u : Table) → slice_get ts (position_or_len (λ t. is_taken name t.indexes) ts) ≡ Some u
         → i ≡ position_or_len (λ d. same_name name d.name) u.indexes)
@@ -134,7 +134,7 @@ module _ (name : List ℕ) where
         (slice_set rs (position_or_len (λ t. is_taken name t.indexes) ts) (record stored { indexes = remove stored.indexes i }))
     AreOf-without_index (t ∷ ts) (r ∷ rs) are none here place =
         this_or_later t ts r rs (position_or_len (λ u. is_taken name u.indexes) ts) (is_taken name t.indexes) refl are none here place
-        (AreOf-without_index ts rs are.1 (twins_behind t.indexes (indexes_of ts) none))
+        (AreOf-without_index ts rs are.1 (duplicates_behind t.indexes (indexes_of ts) none))
     AreOf-without_index [] [] are none here place = cc
     AreOf-without_index [] (r ∷ rs) are none here place = absurd are
     AreOf-without_index (t ∷ ts) [] are none here place = absurd are

@@ -10,7 +10,7 @@ use Rattle.mm_query.specs.Machine.{back_to, rows_at_latest}
 use Rattle.mm_query.specs.State.{Savepoint}
 use Rattle.mm_store.specs.Marks.{rows_at_mark}
 use Rattle.mm_store.specs.Tables.{Tables}
-use Rattle.mm_store.specs.Worlds.{Noted}
+use Rattle.mm_store.specs.Snapshots.{Logged}
 use Rattle.mm_txn.specs.Marks.{Ascend}
 use Rattle.mm_txn.specs.Saved.{savepoint_at}
 use Rattle.mm_txn.specs.declared.savepoints.Mark.{Mark}
@@ -126,7 +126,7 @@ module _ (name : List ℕ) where
   none_last [] s none last = (last, tt)
   none_last (x ∷ xs) s none last = (none.0, none_last xs s none.1 last)
 
-  module _ (undo : List Noted) (store : Tables) where
+  module _ (undo : List Logged) (store : Tables) where
     abbrev saved : List Mark → List Savepoint
     saved marks = reverse (map (savepoint_at undo store) marks)
 
@@ -170,7 +170,7 @@ module _ (name : List ℕ) where
         ∙ (ap (λ (xs : List Savepoint). xs ++ savepoint_at undo store mark ∷ []) (back_is marks place latest)
         ∙ sym (saved_cons mark (take (suc place) marks))))
 
-module _ (undo : List Noted) (store : Tables) where
+module _ (undo : List Logged) (store : Tables) where
   -- A mark more is a savepoint more, in front.
   pub saved_push : (marks : List Mark) (mark : Mark)
       → reverse (map (savepoint_at undo store) (marks ++ mark ∷ [])) ≡ savepoint_at undo store mark ∷ reverse (map (savepoint_at undo store) marks)

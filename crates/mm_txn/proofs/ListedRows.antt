@@ -6,7 +6,7 @@ use Rattle.std.specs.Option.{option_map_or}
 use Rattle.std.proofs.lemmas.Bool.{eqb-true}
 use Rattle.std.proofs.lemmas.List.Elements.{All-head, All-tail, All-weaker, recursion_from_All}
 use Rattle.std.proofs.lemmas.Option.{get_or_from_slice_get, slice_get-get_or, slice_get_within}
-use Rattle.mm_delta.specs.Edited.{after_at, before_at, edits_at as told_at}
+use Rattle.mm_delta.specs.Edited.{after_at, before_at, edits_at as placed_at}
 use Rattle.mm_delta.specs.Steps.{EachFit}
 use Rattle.mm_delta.specs.declared.edited.TableChange.{TableChange}
 use Rattle.mm_query.specs.Standing.{growth_conditions, outgrows}
@@ -23,7 +23,7 @@ use Rattle.mm_store.proofs.Forms.{forms_same}
 use Rattle.mm_store.proofs.Joining.{one_relation, some_at}
 use Rattle.mm_value.specs.declared.refusal.Refusal.TheVariants.{StandingListTooLarge}
 use Rattle.mm_plan.specs.Kept.{AreOf, instance_of}
-use Rattle.mm_txn.specs.PlacedEdits.{FitsAt, HaveRows, PlacedEdits, edits_at, rows_edited, told}
+use Rattle.mm_txn.specs.PlacedEdits.{FitsAt, HaveRows, PlacedEdits, edits_at, placed_change, rows_edited}
 use Rattle.mm_txn.specs.Listed.{IsPlaced, queries_of, rows_by_place}
 use Rattle.mm_txn.proofs.Placed.{bag_by_place, rows_at_place}
 use Rattle.mm_txn.proofs.PlacedRows.{edited_have}
@@ -64,18 +64,18 @@ pub before_is : (store : Tables) → before_at store ≡ rows_by_place (instance
 before_is store = λ i place. rows_at_place store.tables place i
 
 -- The edits of a place are found alike.
-same_edits : (changes : List TableChange) (place : ℕ) → told_at changes place ≡ edits_at (map told changes) place
+same_edits : (changes : List TableChange) (place : ℕ) → placed_at changes place ≡ edits_at (map placed_change changes) place
 same_edits [] place = refl
 same_edits (c ∷ cs) place = by (c.table == place) (same_edits cs place)
   where
-    by : (b : Bool) → told_at cs place ≡ edits_at (map told cs) place
+    by : (b : Bool) → placed_at cs place ≡ edits_at (map placed_change cs) place
         → option_map_or (λ (d : TableChange). d.edits.now) (cond b (Some c) (find (λ (d : TableChange). d.table == place) cs)) []
-        ≡ option_map_or (λ (d : PlacedEdits). d.1) (cond b (Some (told c)) (find (λ (d : PlacedEdits). d.0 == place) (map told cs))) []
+        ≡ option_map_or (λ (d : PlacedEdits). d.1) (cond b (Some (placed_change c)) (find (λ (d : PlacedEdits). d.0 == place) (map placed_change cs))) []
     by true rest = refl
     by false rest = rest
 
 -- Those after it are those with the edits made.
-pub after_is : (store : Tables) (changes : List TableChange) → after_at store changes ≡ rows_edited store (map told changes)
+pub after_is : (store : Tables) (changes : List TableChange) → after_at store changes ≡ rows_edited store (map placed_change changes)
 after_is store changes =
     λ i place. option_map_or (λ (stored : StoredRows). rows_with stored (same_edits changes place i)) (slice_get store.tables place) []
 
@@ -101,9 +101,9 @@ fit_found store (c ∷ cs) fit place stored there =
     by false other rest = rest
 
 -- Edits that fit their tables fit each.
-pub fit_each : (store : Tables) (changes : List TableChange) → All (FitsAt store) (map told changes) → EachFit store changes
+pub fit_each : (store : Tables) (changes : List TableChange) → All (FitsAt store) (map placed_change changes) → EachFit store changes
 fit_each store changes fit = λ place stored there.
-    subst (AreFit stored) (sym (same_edits changes place)) (fit_found store (map told changes) fit place stored there)
+    subst (AreFit stored) (sym (same_edits changes place)) (fit_found store (map placed_change changes) fit place stored there)
 
 -- ---- the rows of all tables after a change
 

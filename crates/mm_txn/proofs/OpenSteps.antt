@@ -11,7 +11,7 @@ use Rattle.mm_standing.specs.State.{Lists, count_at}
 use Rattle.mm_store.specs.Marks.{rows_at_mark, rows_now}
 use Rattle.mm_store.specs.Tables.{Tables}
 use Rattle.mm_store.specs.Undoing.{CanUndo}
-use Rattle.mm_store.specs.Worlds.{Noted}
+use Rattle.mm_store.specs.Snapshots.{Logged}
 use Rattle.mm_query.specs.Machine.{after_rollback_to, after_savepoint, back_to, rows_at_latest}
 use Rattle.mm_query.specs.State.{AreSavedRows, Saved, Savepoint, State}
 use Rattle.mm_laws.proofs.Throughout.{gone_back, held_before, held_further}
@@ -32,7 +32,7 @@ saved_open : (P : Instance → Type 0) (is_open : Bool) (saved : Saved) → is_o
 saved_open P is_open saved is held = subst (λ (b : Bool). IfSome (cond b (Some saved) None) (AreSavedRows P)) is held
 
 -- The lists can go back to each of some marks.
-pub saved_at : (undo : List Noted) (store : Tables) (lists : Lists) (marks : List Mark) (place : ℕ) (mark : Mark) → All (IsSaved undo store lists) marks
+pub saved_at : (undo : List Logged) (store : Tables) (lists : Lists) (marks : List Mark) (place : ℕ) (mark : Mark) → All (IsSaved undo store lists) marks
     → slice_get marks place ≡ Some mark → IsSaved undo store lists mark
 saved_at undo store lists [] place mark all at = cc
 saved_at undo store lists (m ∷ ms) zero mark all at =
@@ -51,7 +51,7 @@ module _ (schema : Schema) (new : Holdings) (same : new.schema ≡ schema) where
       subst (λ (s : Schema). All (ShiftsNumbers s) (queries_of new.lists.queries)) (sym same)
       (subst (λ (qs : List StandingQuery). All (ShiftsNumbers schema) (queries_of qs)) (sym is) typed)
 
-module _ (held : Holdings) (undo : List Noted) (marks : List Mark) where
+module _ (held : Holdings) (undo : List Logged) (marks : List Mark) where
   abbrev schema : Schema
   schema = held.schema
 
@@ -96,7 +96,7 @@ module _ (held : Holdings) (undo : List Noted) (marks : List Mark) where
       settled = λ e. absurd (false≢true (sym e));
     }
 
-  module _ (is_open : Bool) (was : IsConsistent held undo is_open marks) (new : Holdings) (left : List Noted) (same : new.schema ≡ schema)
+  module _ (is_open : Bool) (was : IsConsistent held undo is_open marks) (new : Holdings) (left : List Logged) (same : new.schema ≡ schema)
       (fits : CanUndo new.store left) (queries : new.lists.queries ≡ lists.queries) (settled : IsSettled left new.lists)
       (none : List Mark) (no_marks : none ≡ []) where
     ended : AreTyped new.schema.tables (instance_of new.store.tables) → IsConsistent new left false none
@@ -118,7 +118,7 @@ module _ (held : Holdings) (undo : List Noted) (marks : List Mark) where
         (saved_open (AreTyped schema.tables) is_open (saved_of undo store marks) is was.typed.saved).at_begin rows)
 
   -- Going back to the latest savepoint of a name.
-  module _ (was : IsConsistent held undo true marks) (new : Holdings) (left : List Noted) (same : new.schema ≡ schema) (fits : CanUndo new.store left)
+  module _ (was : IsConsistent held undo true marks) (new : Holdings) (left : List Logged) (same : new.schema ≡ schema) (fits : CanUndo new.store left)
       (queries : new.lists.queries ≡ lists.queries)
       (name : List ℕ) (place : ℕ) (latest : IsLatest name marks place) (mark : Mark) (there : slice_get marks place ≡ Some mark)
       (rows : instance_of new.store.tables ≡ rows_at_mark mark.commands undo store)
@@ -169,7 +169,7 @@ module _ (held : Holdings) (undo : List Noted) (marks : List Mark) where
       settled = λ e. absurd (false≢true (sym e));
     }
 
-  module _ (is_open : Bool) (was : IsConsistent held undo is_open marks) (new : Holdings) (longer : List Noted) (same : new.schema ≡ schema)
+  module _ (is_open : Bool) (was : IsConsistent held undo is_open marks) (new : Holdings) (longer : List Logged) (same : new.schema ≡ schema)
       (rows : RowsByPlace) (result : Result Unit Refusal) (made : Makes rows store new.store lists new.lists undo longer result) where
     -- What is saved stays, ..
     pub saved_through_change : saved_rows is_open longer new.store marks ≡ saved_rows is_open undo store marks
@@ -191,7 +191,7 @@ module _ (held : Holdings) (undo : List Noted) (marks : List Mark) where
         back.ascend made.longer made.log_longer
 
     -- The queries and the rows that are saved have their types still.
-    typed_beside : (last : Holdings) (left : List Noted) → last.schema ≡ schema → (now : Instance) → AreTyped schema.tables now
+    typed_beside : (last : Holdings) (left : List Logged) → last.schema ≡ schema → (now : Instance) → AreTyped schema.tables now
         → instance_of last.store.tables ≡ now → last.lists.queries ≡ lists.queries
         → saved_rows is_open left last.store marks ≡ saved_rows is_open undo store marks → IsTyped (kept_state last left is_open marks)
     typed_beside last left schema_is now typed is queries saved = record {
@@ -210,7 +210,7 @@ module _ (held : Holdings) (undo : List Noted) (marks : List Mark) where
       settled = λ closed. let settled = was.settled closed in (record { undo_is = kept ∙ settled.0.undo_is; log = log ∙ settled.0.log }, settled.1);
     }
 
-    module _ (last : Holdings) (left : List Noted) (stays : is_open ≡ true → (last ≡ new) × (left ≡ longer)) where
+    module _ (last : Holdings) (left : List Logged) (stays : is_open ≡ true → (last ≡ new) × (left ≡ longer)) where
       -- What is saved is the same once a change outside a transaction is final.
       pub saved_to_the_end : saved_rows is_open left last.store marks ≡ saved_rows is_open undo store marks
       saved_to_the_end =
@@ -227,7 +227,7 @@ module _ (held : Holdings) (undo : List Noted) (marks : List Mark) where
       back_at_the_end is =
           let kept = stays is in
           subst (λ (h : Holdings). CanGoBack h.store left h.lists marks) (sym kept.0)
-          (subst (λ (u : List Noted). CanGoBack new.store u new.lists marks) (sym kept.1) (back_changed is))
+          (subst (λ (u : List Logged). CanGoBack new.store u new.lists marks) (sym kept.1) (back_changed is))
 
       -- A change that is made can be taken back in a transaction, and is final outside one.
       pub changed : AreTyped schema.tables (instance_of new.store.tables) → last.schema ≡ new.schema

@@ -16,7 +16,7 @@ use Rattle.mm_schema.specs.declared.table.Table.{Table}
 use Rattle.mm_schema.proofs.Instances.{name_of}
 use Rattle.mm_schema.proofs.NameLemmas.{same_bytes, same_name_refl}
 use Rattle.mm_schema.proofs.Places.{past_from_none, place_from_some, table_at_place}
-use Rattle.mm_schema.proofs.Twins.{Row}
+use Rattle.mm_schema.proofs.Duplicates.{Row}
 use Rattle.mm_query.proofs.Due.{lacks_nowhere}
 use Rattle.mm_query.specs.State.{rows_in}
 use Rattle.mm_store.specs.Tables.{finds_orphan, key_at, rows_at}

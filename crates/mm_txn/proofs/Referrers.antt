@@ -24,7 +24,7 @@ use Rattle.mm_relation.specs.declared.edits.Edit.{Edit}
 use Rattle.mm_relation.specs.declared.edits.Edit.TheVariants.{Add, Gone, Swap}
 use Rattle.mm_relation.specs.declared.names.Side.TheVariants.{Old}
 use Rattle.mm_schema.proofs.StrictOrder.{Contains-from_IsIn, IsIn, IsIn-from_Contains}
-use Rattle.mm_schema.proofs.Twins.{Row}
+use Rattle.mm_schema.proofs.Duplicates.{Row}
 use Rattle.mm_schema.specs.References.{refers}
 use Rattle.mm_schema.specs.Rows.{Pair, column_cmp}
 use Rattle.mm_query.proofs.FoundTargets.{some_among, some_by_one}

@@ -18,7 +18,7 @@ use Rattle.mm_schema.proofs.Dues.{due_behind, due_in_front}
 use Rattle.mm_schema.specs.declared.reference.Reference.{Reference}
 use Rattle.mm_store.specs.Marks.{rows_at_mark, rows_now}
 use Rattle.mm_store.proofs.MarkLaws.{rows_at_end}
-use Rattle.mm_store.specs.Worlds.{Noted}
+use Rattle.mm_store.specs.Snapshots.{Logged}
 use Rattle.mm_store.specs.Tables.{AreFit, HasRows, IsAt, SameForm, Tables, Turns, makes_orphans, rows_with}
 use Rattle.mm_store.proofs.Forms.{forms_turned}
 use Rattle.mm_store.proofs.Joining.{one_relation, some_at}
@@ -136,49 +136,49 @@ module _ (old : Tables) (all front : List PlacedEdits) (c : PlacedEdits) (done :
 -- ---- lists of edits
 
 -- The edits of tables in front, of one table, and of those behind.
-in_three : (own : RelationEdits) (along front : List RelationEdits) (next : RelationEdits) (done : List RelationEdits) → along ≡ front ++ next ∷ done
-    → (placed own ∷ map placed along) ≡ ((placed own ∷ map placed front) ++ placed next ∷ map placed done)
-in_three own along front next done is =
+in_three : (own : RelationEdits) (cascaded front : List RelationEdits) (next : RelationEdits) (done : List RelationEdits) → cascaded ≡ front ++ next ∷ done
+    → (placed own ∷ map placed cascaded) ≡ ((placed own ∷ map placed front) ++ placed next ∷ map placed done)
+in_three own cascaded front next done is =
     ap (λ (xs : List RelationEdits). placed own ∷ map placed xs) is
     ∙ ap (λ (xs : List PlacedEdits). placed own ∷ xs) (map-append placed front (next ∷ done))
 
 -- The removals that are left, and those that are made.
-pub record AreLeft (old : Tables) (own : RelationEdits) (along left : List RelationEdits) (mid : Tables) : Type 0 where
+pub record AreLeft (old : Tables) (own : RelationEdits) (cascaded left : List RelationEdits) (mid : Tables) : Type 0 where
   pub done : List RelationEdits
-  pub is : along ≡ left ++ done
-  pub gone : AreGone old (placed own ∷ map placed along) (map placed done) mid
+  pub is : cascaded ≡ left ++ done
+  pub gone : AreGone old (placed own ∷ map placed cascaded) (map placed done) mid
 
-module _ (old : Tables) (own : RelationEdits) (along : List RelationEdits) (are : AreEdits old (placed own ∷ map placed along))
-    (back : All (λ (r : Reference). r.to < r.from) old.links) (several : 0 < length along) where
+module _ (old : Tables) (own : RelationEdits) (cascaded : List RelationEdits) (are : AreEdits old (placed own ∷ map placed cascaded))
+    (back : All (λ (r : Reference). r.to < r.from) old.links) (several : 0 < length cascaded) where
   abbrev all : List PlacedEdits
-  all = placed own ∷ map placed along
+  all = placed own ∷ map placed cascaded
 
   many : 1 < length all
-  many = omega (arith, several, length-map along placed)
+  many = omega (arith, several, length-map cascaded placed)
 
   -- The first edits fit their relation, and only take rows out of it.
   pub own_fit : (stored : StoredRows) → IsAt old own.table stored → AreFit stored own.edits.items
   own_fit stored at =
-      let first = All-head (FitsAt old) (placed own) (map placed along) are.fit in
+      let first = All-head (FitsAt old) (placed own) (map placed cascaded) are.fit in
       subst (λ (s : StoredRows). AreFit s own.edits.items) (one_relation first.0 stored (sym first.1 ∙ at)) first.2
 
   pub own_removals : new_rows own.edits.items ≡ []
-  own_removals = All-head (λ (c : PlacedEdits). new_rows c.1 ≡ []) (placed own) (map placed along) (are.removals many)
+  own_removals = All-head (λ (c : PlacedEdits). new_rows c.1 ≡ []) (placed own) (map placed cascaded) (are.removals many)
 
-  pub all_left : AreLeft old own along along old
+  pub all_left : AreLeft old own cascaded cascaded old
   all_left = record {
     done = [];
-    is = sym (append-nil along);
+    is = sym (append-nil cascaded);
     gone = record { partly = IsPartly-none old; clear = refl };
   }
 
-  module _ (left : List RelationEdits) (mid : Tables) (now : AreLeft old own along left mid) where
+  module _ (left : List RelationEdits) (mid : Tables) (now : AreLeft old own cascaded left mid) where
     module _ (front : List RelationEdits) (next : RelationEdits) (is : left ≡ front ++ next ∷ []) where
-      parts : along ≡ front ++ next ∷ now.done
+      parts : cascaded ≡ front ++ next ∷ now.done
       parts = now.is ∙ (ap (λ (xs : List RelationEdits). xs ++ now.done) is ∙ append_assoc front (next ∷ []) now.done)
 
       three : all ≡ ((placed own ∷ map placed front) ++ placed next ∷ map placed now.done)
-      three = in_three own along front next now.done parts
+      three = in_three own cascaded front next now.done parts
 
       pub next_can : CanGo mid (placed next)
       next_can = can_go old all (placed own ∷ map placed front) (placed next) (map placed now.done) three are back mid now.gone many
@@ -188,7 +188,7 @@ module _ (old : Tables) (own : RelationEdits) (along : List RelationEdits) (are 
       next_refused = refused_all old all (placed own ∷ map placed front) (placed next) (map placed now.done) three are back mid now.gone
 
       pub next_gone : (new : Tables) → IsDue mid (placed next) (Ok tt) → IsMade mid (placed next) new → new.links ≡ mid.links
-          → AreLeft old own along front new
+          → AreLeft old own cascaded front new
       next_gone new due made links = record {
         done = next ∷ now.done;
         is = parts;
@@ -196,22 +196,22 @@ module _ (old : Tables) (own : RelationEdits) (along : List RelationEdits) (are 
       }
 
     module _ (none : left ≡ []) where
-      gone_behind : AreGone old all (map placed along) mid
+      gone_behind : AreGone old all (map placed cascaded) mid
       gone_behind =
           subst (λ (xs : List RelationEdits). AreGone old all (map placed xs) mid) (sym (now.is ∙ ap (λ (xs : List RelationEdits). xs ++ now.done) none)) now.gone
 
       pub last_can : CanGo mid (placed own)
-      last_can = can_go old all [] (placed own) (map placed along) refl are back mid gone_behind many
+      last_can = can_go old all [] (placed own) (map placed cascaded) refl are back mid gone_behind many
 
       pub last_due : (result : Result Unit Refusal) → IsDue mid (placed own) result → AnswersDue (referred_due (leaves_orphans old all)) result
       last_due (Ok tt) due =
-          ap referred_due (clear_more old all [] (placed own) (map placed along) refl are back mid gone_behind due)
-      last_due (Err refusal) due = refused_all old all [] (placed own) (map placed along) refl are back mid gone_behind refusal due
+          ap referred_due (clear_more old all [] (placed own) (map placed cascaded) refl are back mid gone_behind due)
+      last_due (Err refusal) due = refused_all old all [] (placed own) (map placed cascaded) refl are back mid gone_behind refusal due
 
       pub last_have : (new : Tables) (result : Result Unit Refusal) → IsDue mid (placed own) result → OnOk result (IsMade mid (placed own) new)
           → new.links ≡ mid.links → OnOk result (HaveRows (rows_edited old all) old new)
       last_have new (Ok tt) due made links =
-          (AreGone-more old all [] (placed own) (map placed along) refl are back mid gone_behind new due made links).partly.have
+          (AreGone-more old all [] (placed own) (map placed cascaded) refl are back mid gone_behind new due made links).partly.have
       last_have new (Err refusal) due made links = tt
 
 -- ---- what is refused
@@ -243,24 +243,24 @@ form_turned old new place within rows each =
 
 -- ---- logs
 
--- What is noted behind what was noted stands behind the log.
-pub noted_more : (old mid new : List Noted) → (entries : List Noted) × (mid ≡ old ++ entries) → (entries : List Noted) × (new ≡ mid ++ entries)
-    → (entries : List Noted) × (new ≡ old ++ entries)
-noted_more old mid new first second =
-    (first.0 ++ second.0, second.1 ∙ (ap (λ (xs : List Noted). xs ++ second.0) first.1 ∙ append_assoc old first.0 second.0))
+-- What is logged behind what was logged stands behind the log.
+pub logged_more : (old mid new : List Logged) → (entries : List Logged) × (mid ≡ old ++ entries) → (entries : List Logged) × (new ≡ mid ++ entries)
+    → (entries : List Logged) × (new ≡ old ++ entries)
+logged_more old mid new first second =
+    (first.0 ++ second.0, second.1 ∙ (ap (λ (xs : List Logged). xs ++ second.0) first.1 ∙ append_assoc old first.0 second.0))
 
-pub noted_longer : (old new : List Noted) → (entries : List Noted) × (new ≡ old ++ entries) → length old ≤ length new
-noted_longer old new noted = omega (arith, ap (λ (xs : List Noted). length xs) noted.1, length-append old noted.0)
+pub logged_longer : (old new : List Logged) → (entries : List Logged) × (new ≡ old ++ entries) → length old ≤ length new
+logged_longer old new logged = omega (arith, ap (λ (xs : List Logged). length xs) logged.1, length-append old logged.0)
 
 -- A mark that stands for the rows before stands for them still.
-pub saved_more : (old mid new : Tables) (was then now : List Noted) → length was ≤ length then
+pub saved_more : (old mid new : Tables) (was then now : List Logged) → length was ≤ length then
     → ((mark : ℕ) → mark ≤ length was → rows_at_mark mark then mid ≡ rows_at_mark mark was old)
     → ((mark : ℕ) → mark ≤ length then → rows_at_mark mark now new ≡ rows_at_mark mark then mid)
     → (mark : ℕ) → mark ≤ length was → rows_at_mark mark now new ≡ rows_at_mark mark was old
 saved_more old mid new was then now longer first second mark within = second mark (omega (arith, within, longer)) ∙ first mark within
 
--- Going back to the mark behind what was noted gives the rows.
-pub rows_reverted : (old mid new : Tables) (was then : List Noted) (mark : ℕ) → mark ≡ length was
+-- Going back to the mark behind what was logged gives the rows.
+pub rows_reverted : (old mid new : Tables) (was then : List Logged) (mark : ℕ) → mark ≡ length was
     → ((m : ℕ) → m ≤ length was → rows_at_mark m then mid ≡ rows_at_mark m was old) → rows_now old ≡ map rows_of old.tables
     → map rows_of new.tables ≡ rows_at_mark mark then mid → map rows_of new.tables ≡ map rows_of old.tables
 rows_reverted old mid new was then mark at saved own rows =

@@ -6,7 +6,7 @@ use Rattle.mm_schema.specs.Schema.{Schema}
 use Rattle.mm_standing.specs.Queries.{RowsByPlace}
 use Rattle.mm_standing.specs.State.{Lists, count_at, count_now}
 use Rattle.mm_store.specs.Tables.{SameForm, Tables}
-use Rattle.mm_store.specs.Worlds.{Noted}
+use Rattle.mm_store.specs.Snapshots.{Logged}
 use Rattle.mm_value.specs.declared.refusal.Refusal.{Refusal}
 use Rattle.mm_value.specs.declared.values.Value.{Value}
 use Rattle.mm_txn.specs.Contents.{Makes}
@@ -43,7 +43,7 @@ module _ (schema : Schema) (store newer : Tables) (lists new : Lists) (rest : Ar
       at_rest form (subst (λ (r : Instance). AreListed r new) (sym is) (listed_back rows lists new queries mark saved counts log ready))
 
 -- What edits make fits.
-pub rest_made : (schema : Schema) (rows : RowsByPlace) (store newer : Tables) (lists new : Lists) (before after : List Noted) (result : Result Unit Refusal)
+pub rest_made : (schema : Schema) (rows : RowsByPlace) (store newer : Tables) (lists new : Lists) (before after : List Logged) (result : Result Unit Refusal)
     → AreAtRest schema store lists → Makes rows store newer lists new before after result → AreAtRest schema newer new
 rest_made schema rows store newer lists new before after result rest made =
     at_rest schema store newer lists new rest made.links made.queries (form result made.ok made.err) made.listed

@@ -9,14 +9,14 @@ use Rattle.mm_query.specs.Machine.{conditions, lacks_savepoint}
 use Rattle.mm_query.specs.State.{Saved, Savepoint, State}
 use Rattle.mm_query.specs.declared.command.Command.TheVariants.{RollbackTo}
 use Rattle.mm_store.specs.Tables.{Tables}
-use Rattle.mm_store.specs.Worlds.{Noted}
+use Rattle.mm_store.specs.Snapshots.{Logged}
 use Rattle.mm_txn.specs.Contents.{Holdings}
 use Rattle.mm_txn.specs.Saved.{kept_state, saved_of}
 use Rattle.mm_txn.specs.declared.savepoints.Mark.{Mark}
 use Rattle.mm_txn.proofs.LatestMarks.{IsLatest, none_named, some_named}
 use Rattle.mm_txn.proofs.TypedSteps.{saved_where_open}
 
-module _ (name : List ℕ) (held : Holdings) (undo : List Noted) (is_open : Bool) (marks : List Mark) (is : is_open ≡ true) where
+module _ (name : List ℕ) (held : Holdings) (undo : List Logged) (is_open : Bool) (marks : List Mark) (is : is_open ≡ true) where
   abbrev store : Tables
   store = held.store
 

@@ -6,7 +6,7 @@ use Rattle.mm_schema.specs.Instance.{rows_named, without_rows}
 use Rattle.mm_schema.specs.Name.{same_name}
 use Rattle.mm_schema.specs.declared.table.Table.{Table}
 use Rattle.mm_schema.proofs.Instances.{AreBeside, LackName, name_of, others_lack}
-use Rattle.mm_schema.proofs.Twins.{Row}
+use Rattle.mm_schema.proofs.Duplicates.{Row}
 use Rattle.mm_plan.specs.Kept.{AreIndexes, AreOf, IsOf, instance_of}
 use Rattle.mm_relation.specs.Index.{EachTurns, SameIndex}
 use Rattle.mm_relation.specs.Kept.{StoredRows}

@@ -8,7 +8,7 @@ use Rattle.std.proofs.lemmas.List.Kept.{AllPairs-filter}
 use Rattle.mm_value.specs.declared.row_ref.RowRef.{RowRef}
 use Rattle.mm_partition.specs.Places.{slot_at}
 use Rattle.mm_schema.specs.Rows.{column_cmp}
-use Rattle.mm_schema.proofs.Twins.{column_cmp_total}
+use Rattle.mm_schema.proofs.Duplicates.{column_cmp_total}
 use Rattle.mm_relation.specs.Kept.{IsKept, StoredRows}
 use Rattle.mm_relation.specs.Refs.{HasRow, Slots, row_at, row_in}
 use Rattle.mm_relation.proofs.RowLists.{KeysApart-ordered}

@@ -23,7 +23,7 @@ use Rattle.mm_standing.specs.Queries.{RowsByPlace, StandingQuery}
 use Rattle.mm_standing.specs.Reads.{AreTypeTested}
 use Rattle.mm_store.specs.Tables.{Tables}
 use Rattle.mm_plan.specs.Kept.{instance_of}
-use Rattle.mm_txn.specs.PlacedEdits.{rows_edited, told}
+use Rattle.mm_txn.specs.PlacedEdits.{placed_change, rows_edited}
 use Rattle.mm_txn.specs.Listed.{IsPlaced, IsTested, queries_of, rows_by_place}
 use Rattle.mm_txn.proofs.ListedRows.{after_is, before_is}
 use Rattle.mm_txn.proofs.Placed.{rows_by_name}
@@ -32,7 +32,7 @@ use Rattle.mm_txn.proofs.Placed.{rows_by_name}
 
 -- What is tested of the rows by their places is tested of a store and the edits of its tables.
 pub type_tested : (store : Tables) (changes : List TableChange) (queries : List StandingQuery)
-    → All (IsTested (rows_by_place (instance_of store.tables)) (rows_edited store (map told changes))) queries
+    → All (IsTested (rows_by_place (instance_of store.tables)) (rows_edited store (map placed_change changes))) queries
     → AreTypeTested store changes queries
 type_tested store changes queries tested = λ k d within. record {
   whole = (tested k d within).whole;

@@ -8,7 +8,7 @@ use Rattle.mm_standing.specs.State.{Lists, count_at}
 use Rattle.mm_store.specs.Marks.{rows_at_mark}
 use Rattle.mm_store.specs.Tables.{Tables}
 use Rattle.mm_store.specs.Undoing.{CanUndo}
-use Rattle.mm_store.specs.Worlds.{Noted}
+use Rattle.mm_store.specs.Snapshots.{Logged}
 use Rattle.mm_laws.specs.Typing.{AreTyped, IsTyped}
 use Rattle.mm_laws.proofs.TypedChanges.{typed_by_change}
 use Rattle.mm_laws.proofs.TypedDefinitions.{typed_by_definition}
@@ -100,7 +100,7 @@ on_err : {T E A B : Type 0} (r : Result T E) → (A → B) → OnErr r A → OnE
 on_err (Ok value) f held = tt
 on_err (Err refusal) f held = f held
 
-module _ (held : Holdings) (undo : List Noted) (is_open : Bool) (marks : List Mark) (was : IsConsistent held undo is_open marks) (definition : Definition)
+module _ (held : Holdings) (undo : List Logged) (is_open : Bool) (marks : List Mark) (was : IsConsistent held undo is_open marks) (definition : Definition)
     (may : (is_open && not (is_of_index definition)) ≡ false) where
   abbrev store : Tables
   store = held.store

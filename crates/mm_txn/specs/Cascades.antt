@@ -1,4 +1,4 @@
--- Rows that go along with others, by the places of tables.
+-- Cascaded rows, by the places of tables.
 use Rattle.std.specs.Prelude.{◌≡◌, ◌+◌, ◌||◌, ℕ, Bool, List, [], ◌∷◌, Option, Some, None, All, Contains}
 use Rattle.std.specs.List.{cons_option, filter_map, list_any}
 use Rattle.std.specs.Option.{unwrap_or}
@@ -20,40 +20,40 @@ use Rattle.mm_txn.specs.PlacedEdits.{FitsAt, PlacedEdits, edits_at, pairs_at}
 use Rattle.mm_txn.specs.declared.cascades.Cascade.{Cascade}
 
 -- A column, and the edits of the table that it refers to.
-abbrev pub Along : Type 0
-Along = ℕ × PlacedEdits
+abbrev pub PlacedCascade : Type 0
+PlacedCascade = ℕ × PlacedEdits
 
-abbrev pub along_of : Cascade → Along
-along_of cascade = (cascade.column, (cascade.to, cascade.gone.now))
+abbrev pub placed_cascade : Cascade → PlacedCascade
+placed_cascade cascade = (cascade.column, (cascade.to, cascade.gone.now))
 
 -- None where there is no edit.
-abbrev pub unless_none : ℕ → ℕ → List Edit → Option Along
+abbrev pub unless_none : ℕ → ℕ → List Edit → Option PlacedCascade
 unless_none column to [] = None
 unless_none column to (edit ∷ edits) = Some (column, (to, edit ∷ edits))
 
 -- A column with the edits of the table of a name, if there are any.
-abbrev pub along_to : Schema → List PlacedEdits → ℕ → Option (List ℕ) → Option Along
-along_to schema changes column None = None
-along_to schema changes column (Some name) =
+abbrev pub cascade_to : Schema → List PlacedEdits → ℕ → Option (List ℕ) → Option PlacedCascade
+cascade_to schema changes column None = None
+cascade_to schema changes column (Some name) =
     unless_none column (unwrap_or (table_place name schema) 0) (edits_at changes (unwrap_or (table_place name schema) 0))
 
 -- The CASCADE columns from a place on that refer to tables that have edits, each with these.
-abbrev pub alongs_from : Schema → List PlacedEdits → ℕ → List Column → List Along
-alongs_from schema changes place [] = []
-alongs_from schema changes place (column ∷ columns) =
-    cons_option (along_to schema changes place (cascading_target column)) (alongs_from schema changes (place + 1) columns)
+abbrev pub cascades_from : Schema → List PlacedEdits → ℕ → List Column → List PlacedCascade
+cascades_from schema changes place [] = []
+cascades_from schema changes place (column ∷ columns) =
+    cons_option (cascade_to schema changes place (cascading_target column)) (cascades_from schema changes (place + 1) columns)
 
 -- The rows that edits take away from the relation at their place.
 abbrev pub rows_gone : List StoredRows → PlacedEdits → List (List Value)
 rows_gone relations change = filter_map (λ (p : Pair). p.0) (pairs_at relations change)
 
 -- A row has in a column the key of one of them.
-abbrev pub goes_by : List StoredRows → ℕ → PlacedEdits → List Value → Bool
-goes_by relations column change row = list_any (refers column (key_at relations change.0) row) (rows_gone relations change)
+abbrev pub is_cascaded_by : List StoredRows → ℕ → PlacedEdits → List Value → Bool
+is_cascaded_by relations column change row = list_any (refers column (key_at relations change.0) row) (rows_gone relations change)
 
 -- It does so by some column.
-abbrev pub goes_by_some : List StoredRows → List Along → List Value → Bool
-goes_by_some relations alongs row = list_any (λ (a : Along). goes_by relations a.0 a.1 row) alongs
+abbrev pub is_cascaded_by_some : List StoredRows → List PlacedCascade → List Value → Bool
+is_cascaded_by_some relations cascades row = list_any (λ (a : PlacedCascade). is_cascaded_by relations a.0 a.1 row) cascades
 
 -- The column of the table at a place refers to the table of the edits and to no further one, and they fit the relation of that table.
 pub record IsCascade (store : Tables) (table column : ℕ) (change : PlacedEdits) : Type 0 where
@@ -66,7 +66,7 @@ pub record AddsReferrers (stored : StoredRows) (test : List Value → Bool) (old
   pub found : (at : RowRef) → Contains stored.refs at
       → list_any (same_ref at) new ≡ list_any (same_ref at) old || test (row_at (slot_at stored.places) at)
 
--- The same of the relation at a place and the rows that go along by a column.
-abbrev pub AddsGoing : Tables → ℕ → Along → List RowRef → List RowRef → Type 0
-AddsGoing store place along old new =
-    (stored : StoredRows) → IsAt store place stored → AddsReferrers stored (goes_by store.tables along.0 along.1) old new
+-- The same of the relation at a place and the rows that are cascaded by a column.
+abbrev pub AddsCascaded : Tables → ℕ → PlacedCascade → List RowRef → List RowRef → Type 0
+AddsCascaded store place cascade old new =
+    (stored : StoredRows) → IsAt store place stored → AddsReferrers stored (is_cascaded_by store.tables cascade.0 cascade.1) old new

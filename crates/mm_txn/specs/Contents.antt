@@ -10,7 +10,7 @@ use Rattle.mm_standing.specs.State.{AreServed, Lists, count_at}
 use Rattle.mm_store.specs.Marks.{rows_at_mark}
 use Rattle.mm_store.specs.Tables.{IsAt, Tables}
 use Rattle.mm_store.specs.Undoing.{CanUndo}
-use Rattle.mm_store.specs.Worlds.{Noted}
+use Rattle.mm_store.specs.Snapshots.{Logged}
 use Rattle.mm_value.specs.declared.refusal.Refusal.{Refusal}
 use Rattle.mm_value.specs.declared.values.Value.{Value}
 use Rattle.mm_plan.specs.Kept.{instance_of}
@@ -36,7 +36,7 @@ state_held held = state_at_rest held.schema held.store held.lists
 
 -- Edits may be made: their tables are there, and each refers to older ones; the lists fit the rows; the log can be taken back; and no
 -- standing query adds a number to a text, neither before the edits nor after them.
-pub record MayMake (store : Tables) (lists : Lists) (log : List Noted) (changes : List PlacedEdits) : Type 0 where
+pub record MayMake (store : Tables) (lists : Lists) (log : List Logged) (changes : List PlacedEdits) : Type 0 where
   pub are : AreEdits store changes
   pub back : All (λ (reference : Reference). reference.to < reference.from) store.links
   pub fits : CanUndo store log
@@ -46,12 +46,12 @@ pub record MayMake (store : Tables) (lists : Lists) (log : List Noted) (changes 
 
 -- What refuses edits, of which the first are those of the table that a change names: first the rows, then the lists.
 abbrev pub IsDue : Tables → Lists → PlacedEdits → List PlacedEdits → Result Unit Refusal → Type 0
-IsDue store lists own along result = (stored : StoredRows) → IsAt store own.0 stored
-    → AnswersDue (first_refusal (edits_conditions store stored own along ++ list_conditions (rows_edited store (own ∷ along)) lists.queries)) result
+IsDue store lists own cascaded result = (stored : StoredRows) → IsAt store own.0 stored
+    → AnswersDue (first_refusal (edits_conditions store stored own cascaded ++ list_conditions (rows_edited store (own ∷ cascaded)) lists.queries)) result
 
 -- Each relation has these rows, or all have theirs still, as the result says; the log and the lists follow; and going back to an older
 -- mark gives the rows and each list as it gave them.
-pub record Makes (rows : RowsByPlace) (old new : Tables) (lists followed : Lists) (before after : List Noted) (result : Result Unit Refusal) : Type 0 where
+pub record Makes (rows : RowsByPlace) (old new : Tables) (lists followed : Lists) (before after : List Logged) (result : Result Unit Refusal) : Type 0 where
   pub ok : OnOk result (HaveRows rows old new)
   pub err : OnErr result (HaveRows (rows_by_place (instance_of old.tables)) old new)
   pub links : new.links ≡ old.links

@@ -29,9 +29,9 @@ PlacedEdits = ℕ × List Edit
 abbrev pub placed : RelationEdits → PlacedEdits
 placed edits = (edits.table, edits.edits.items)
 
--- The same of edits that the lists are told of.
-abbrev pub told : TableChange → PlacedEdits
-told change = (change.table, change.edits.now)
+-- The same of a change that the lists take.
+abbrev pub placed_change : TableChange → PlacedEdits
+placed_change change = (change.table, change.edits.now)
 
 -- The edits of the table at a place, and none where it has none.
 abbrev pub edits_at : List PlacedEdits → ℕ → List Edit
@@ -71,10 +71,10 @@ pub record AreOwnEditsOf (mutation : Mutation) (schema : Schema) (relations : Li
       → edit_pairs (slot_at stored.places) edits ≡ own_pairs mutation (state_of schema relations)
 
 -- The first edits are for the table that a change names, and all of them together are those of the change.
-pub record AreEditsOf (mutation : Mutation) (schema : Schema) (store : Tables) (own : PlacedEdits) (along : List PlacedEdits) : Type 0 where
+pub record AreEditsOf (mutation : Mutation) (schema : Schema) (store : Tables) (own : PlacedEdits) (cascaded : List PlacedEdits) : Type 0 where
   pub placed : table_place (changed_table mutation) schema ≡ Some own.0
-  pub are : AreEdits store (own ∷ along)
-  pub named : map (named schema store.tables) (own ∷ along) ≡ edits mutation (state_of schema store.tables)
+  pub are : AreEdits store (own ∷ cascaded)
+  pub named : map (named schema store.tables) (own ∷ cascaded) ≡ edits mutation (state_of schema store.tables)
 
 -- ---- what refuses edits
 
@@ -91,8 +91,8 @@ leaves_orphans store changes = list_any (λ (change : PlacedEdits). list_any (le
 
 -- What refuses edits, of which the first are for this relation, in the one order.
 abbrev pub edits_conditions : Tables → StoredRows → PlacedEdits → List PlacedEdits → List Condition
-edits_conditions store stored own along =
-    table_rows_conditions stored.key (rows_with stored own.1) (has_orphans store own.0 (rows_with stored own.1)) (leaves_orphans store (own ∷ along))
+edits_conditions store stored own cascaded =
+    table_rows_conditions stored.key (rows_with stored own.1) (has_orphans store own.0 (rows_with stored own.1)) (leaves_orphans store (own ∷ cascaded))
 
 -- ---- what they make
 

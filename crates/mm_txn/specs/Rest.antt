@@ -1,4 +1,4 @@
--- The database between two commands, and what is told of standing queries there.
+-- The database between two commands, and what is listed of standing queries there.
 use Rattle.std.specs.Prelude.{ℕ, ◌||◌, Bool, true, false, if◌then◌else◌, List, [], ◌∷◌, ◌++◌, Option, Some, None, is_some, length, nat_le}
 use Rattle.mm_schema.specs.Instance.{Instance}
 use Rattle.mm_schema.specs.Refused.{Condition}
@@ -27,20 +27,20 @@ pub record AreAtRest (schema : Schema) (store : Tables) (lists : Lists) : Type 0
   pub listed : AreListed (instance_of store.tables) lists
 
 -- The state of a catalog and its lists over rows, where no transaction is open.
-abbrev pub told_state : Schema → Instance → Lists → State
-told_state schema rows lists = record { schema = schema; rows = rows; queries = queries_of lists.queries; saved = None }
+abbrev pub listed_state : Schema → Instance → Lists → State
+listed_state schema rows lists = record { schema = schema; rows = rows; queries = queries_of lists.queries; saved = None }
 
 -- The same over the rows of a store.
 abbrev pub state_at_rest : Schema → Tables → Lists → State
-state_at_rest schema store lists = told_state schema (instance_of store.tables) lists
+state_at_rest schema store lists = listed_state schema (instance_of store.tables) lists
 
--- What is told of a table of a state.
-abbrev pub told_table : State → Table → ListedTable
-told_table state table = record { table = table; rows = length (rows_in state table.definition.name) }
+-- What is listed of a table of a state.
+abbrev pub table_listed : State → Table → ListedTable
+table_listed state table = record { table = table; rows = length (rows_in state table.definition.name) }
 
--- What is told of a standing query of a state.
-abbrev pub told_query : State → StandingDef → ListedQuery
-told_query state query = record { name = query.name; rows = length (shown_rows query.name state) }
+-- What is listed of a standing query of a state.
+abbrev pub query_listed : State → StandingDef → ListedQuery
+query_listed state query = record { name = query.name; rows = length (shown_rows query.name state) }
 
 -- What refuses a new standing query by the catalog alone, in the one order.
 abbrev pub naming_conditions : List ℕ → Query → Schema → List Condition

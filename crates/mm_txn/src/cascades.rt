@@ -1,4 +1,4 @@
-//! The rows that go along with the rows of a DELETE (the CASCADE of SQL's referential actions).
+//! The rows that a DELETE cascades to (the CASCADE of SQL's referential actions).
 ghost use Rattle.std.specs.Prelude.{◌≡◌, ◌<◌, ◌∷◌, [], All, filter, length, map, slice_get, IfErr, IfOk, OnOk, None, Some};
 ghost use Rattle.std.specs.Option.{option_copied, option_map};
 ghost use Rattle.mm_relation.specs.Edits.{new_rows};
@@ -8,9 +8,9 @@ ghost use Rattle.mm_schema.specs.Schema.{HasDistinctNames};
 ghost use Rattle.mm_schema.specs.declared.table.Table.{Table};
 ghost use Rattle.mm_store.specs.Looked.{IsFirstOn, IsIndexOn};
 ghost use Rattle.mm_store.specs.Tables.{IsAt, rows_at};
-ghost use Rattle.mm_query.specs.Edits.{goes_along, removals_of, with_cascades};
+ghost use Rattle.mm_query.specs.Edits.{is_cascaded, removals_of, with_cascades};
 ghost use Rattle.mm_value.specs.declared.refusal.Refusal.TheVariants.{Memory};
-ghost use Rattle.mm_txn.specs.Cascades.{AddsGoing, IsCascade, along_of, along_to, alongs_from};
+ghost use Rattle.mm_txn.specs.Cascades.{AddsCascaded, IsCascade, cascade_to, cascades_from, placed_cascade};
 ghost use Rattle.mm_plan.specs.Kept.{AreKept, instance_of};
 ghost use Rattle.mm_txn.specs.PlacedEdits.{AreEdits, FitsAt, edits_at, named, pairs_at, placed};
 
@@ -34,7 +34,7 @@ struct Cascade<'a> {
     gone: &'a [Edit],
 }
 
-/// Removals of the rows that go along with those that a DELETE takes out of a table: of each row that has in a CASCADE column the key
+/// Removals of the rows to which a DELETE in a table cascades: of each row that has in a CASCADE column the key
 /// of one that goes, whichever table it is of. A column refers to an older table, so one pass over the tables in the order of
 /// creation finds all. The removals are in that order, and none are empty. `Memory` is the only refusal.
 pub(crate) fn cascades(
@@ -47,44 +47,45 @@ pub(crate) fn cascades(
     requires distinct { HasDistinctNames catalog.now }
     requires fit { FitsAt store.now (placed own.now) }
     requires removals { new_rows own.now.edits.items ≡ [] }
-    ensures are { IfOk result (λ along. AreEdits store.now (placed own.now ∷ map placed along.items)) }
-    ensures cascades { IfOk result (λ along. map (named catalog.now store.now.tables) (placed own.now ∷ map placed along.items)
+    ensures are { IfOk result (λ cascaded. AreEdits store.now (placed own.now ∷ map placed cascaded.items)) }
+    ensures cascades { IfOk result (λ cascaded. map (named catalog.now store.now.tables) (placed own.now ∷ map placed cascaded.items)
         ≡ with_cascades catalog.now catalog.now.tables (instance_of store.now.tables) (named catalog.now store.now.tables (placed own.now) ∷ [])) }
     ensures memory { IfErr result (λ refusal. refusal ≡ Memory) }
 {
-    let mut along = Vec::new(alloc);
+    let mut cascaded = Vec::new(alloc);
     let count = catalog.tables().len();
     for table in own.table + 1..count {
-        let edits = going_along(alloc, catalog, store, table, own, along.as_slice())?;
+        let edits = cascaded_edits(alloc, catalog, store, table, own, cascaded.as_slice())?;
         if !edits.is_empty() {
-            along.push(RelationEdits { table, edits })?;
+            cascaded.push(RelationEdits { table, edits })?;
         }
     }
-    Ok(along)
+    Ok(cascaded)
 }
 
-/// Removals of the rows of a table that go along with rows of older tables. `Memory` is the only refusal.
-fn going_along(
+/// Removals of the rows of a table that are cascaded by removals in older tables. `Memory` is the only refusal.
+fn cascaded_edits(
     alloc: Global,
     catalog: &Catalog,
     store: &Store,
     table: usize,
     own: &RelationEdits,
-    along: &[RelationEdits],
+    cascaded: &[RelationEdits],
 ) -> Result<Vec<Edit>, Refusal>
     requires kept { AreKept catalog.now store.now }
     requires distinct { HasDistinctNames catalog.now }
     requires there { table < length catalog.now.tables }
-    requires are { AreEdits store.now (placed own.now ∷ map placed along.now) }
+    requires are { AreEdits store.now (placed own.now ∷ map placed cascaded.now) }
     ensures fit { IfOk result (λ edits. FitsAt store.now (table, edits.items)) }
     ensures removals { IfOk result (λ edits. new_rows edits.items ≡ []) }
     ensures pairs { IfOk result (λ edits. (t : Table) → slice_get catalog.now.tables table ≡ Some t
         → pairs_at store.now.tables (table, edits.items)
-        ≡ removals_of (filter (goes_along catalog.now (map (named catalog.now store.now.tables) (placed own.now ∷ map placed along.now)) t.definition.columns)
+        ≡ removals_of (filter (is_cascaded catalog.now (map (named catalog.now store.now.tables) (placed own.now ∷ map placed cascaded.now))
+            t.definition.columns)
         (rows_at store.now.tables table))) }
     ensures memory { IfErr result (λ refusal. refusal ≡ Memory) }
 {
-    let columns = cascading_columns(alloc, catalog, table, own, along)?;
+    let columns = cascading_columns(alloc, catalog, table, own, cascaded)?;
     let mut view = store.view();
     let mut found = Vec::new(alloc);
     for cascade in &columns {
@@ -99,17 +100,17 @@ fn cascading_columns<'a>(
     catalog: &Catalog,
     table: usize,
     own: &'a RelationEdits,
-    along: &'a [RelationEdits],
+    cascaded: &'a [RelationEdits],
 ) -> Result<Vec<Cascade<'a>>, Refusal>
     requires there { table < length catalog.now.tables }
     ensures found { IfOk result (λ found. (t : Table) → slice_get catalog.now.tables table ≡ Some t
-        → map along_of found.items ≡ alongs_from catalog.now (placed own.entry.now ∷ map placed along.entry.now) 0 t.definition.columns) }
+        → map placed_cascade found.items ≡ cascades_from catalog.now (placed own.entry.now ∷ map placed cascaded.entry.now) 0 t.definition.columns) }
     ensures memory { IfErr result (λ refusal. refusal ≡ Memory) }
 {
     let columns = &catalog.table_at(table).definition.columns;
     let mut found = Vec::new(alloc);
     for (place, column) in columns.as_slice().iter().enumerate() {
-        if let Some(cascade) = cascade_of(catalog, place, column, own, along) {
+        if let Some(cascade) = cascade_of(catalog, place, column, own, cascaded) {
             found.push(cascade)?;
         }
     }
@@ -122,14 +123,14 @@ fn cascade_of<'a>(
     place: usize,
     column: &Column,
     own: &'a RelationEdits,
-    along: &'a [RelationEdits],
+    cascaded: &'a [RelationEdits],
 ) -> Option<Cascade<'a>>
-    ensures { option_map along_of result
-        ≡ along_to catalog.now (placed own.entry.now ∷ map placed along.entry.now) place (cascading_target column.now) }
+    ensures { option_map placed_cascade result
+        ≡ cascade_to catalog.now (placed own.entry.now ∷ map placed cascaded.entry.now) place (cascading_target column.now) }
 {
     let target = cascading_target(column)?;
     let to = catalog.place_of(target).unwrap_or(0);
-    let gone = removals_of(own, along, to);
+    let gone = removals_of(own, cascaded, to);
     if gone.is_empty() {
         return None;
     }
@@ -152,13 +153,13 @@ fn cascading_target(column: &Column) -> Option<&Name>
 }
 
 /// What is taken out of the table at a place.
-fn removals_of<'a>(own: &'a RelationEdits, along: &'a [RelationEdits], place: usize) -> &'a [Edit]
-    ensures { result.now ≡ edits_at (placed own.entry.now ∷ map placed along.entry.now) place }
+fn removals_of<'a>(own: &'a RelationEdits, cascaded: &'a [RelationEdits], place: usize) -> &'a [Edit]
+    ensures { result.now ≡ edits_at (placed own.entry.now ∷ map placed cascaded.entry.now) place }
 {
     if own.table == place {
         return own.edits.as_slice();
     }
-    for removals in along {
+    for removals in cascaded {
         if removals.table == place {
             return removals.edits.as_slice();
         }
@@ -166,8 +167,8 @@ fn removals_of<'a>(own: &'a RelationEdits, along: &'a [RelationEdits], place: us
     &[]
 }
 
-/// Appends the references of the rows of a table that go along by a CASCADE column: found by an index of the column where it has
-/// one, else by one pass over the rows. `Memory` is the only refusal.
+/// Appends the references of the rows of a table that are cascaded by a CASCADE column: found by an index of the column
+/// where it has one, else by one pass over the rows. `Memory` is the only refusal.
 fn add_referrers(
     alloc: Global,
     view: &mut View<'_>,
@@ -177,7 +178,7 @@ fn add_referrers(
 ) -> Result<(), Refusal>
     requires there { table < length view.old.store.tables }
     requires cascade { IsCascade view.old.store table cascade.now.column (cascade.now.to, cascade.now.gone.now) }
-    ensures found { OnOk result (AddsGoing view.old.store table (along_of cascade.now) found.old.items found.new.items) }
+    ensures found { OnOk result (AddsCascaded view.old.store table (placed_cascade cascade.now) found.old.items found.new.items) }
     ensures same { view.new.store ≡ view.old.store }
     ensures memory { IfErr result (λ refusal. refusal ≡ Memory) }
 {
@@ -199,7 +200,7 @@ fn add_by_index(
     requires there { table < length view.old.store.tables }
     requires cascade { IsCascade view.old.store table cascade.now.column (cascade.now.to, cascade.now.gone.now) }
     requires index { (stored : StoredRows) → IsAt view.old.store table stored → IsIndexOn stored cascade.now.column index }
-    ensures found { OnOk result (AddsGoing view.old.store table (along_of cascade.now) found.old.items found.new.items) }
+    ensures found { OnOk result (AddsCascaded view.old.store table (placed_cascade cascade.now) found.old.items found.new.items) }
     ensures same { view.new.store ≡ view.old.store }
     ensures memory { IfErr result (λ refusal. refusal ≡ Memory) }
 {
@@ -225,7 +226,7 @@ fn add_by_scan(
     requires there { table < length view.now.store.tables }
     requires cascade { IsCascade view.now.store table cascade.now.column (cascade.now.to, cascade.now.gone.now) }
     requires unindexed { (stored : StoredRows) → IsAt view.now.store table stored → IsFirstOn stored cascade.now.column None }
-    ensures found { OnOk result (AddsGoing view.now.store table (along_of cascade.now) found.old.items found.new.items) }
+    ensures found { OnOk result (AddsCascaded view.now.store table (placed_cascade cascade.now) found.old.items found.new.items) }
     ensures memory { IfErr result (λ refusal. refusal ≡ Memory) }
 {
     view.is_kept(cascade.to);

@@ -12,12 +12,12 @@ ghost use Rattle.mm_standing.specs.State.{AreServed, FitPrepared};
 ghost use Rattle.mm_store.specs.Marks.{rows_at_mark};
 ghost use Rattle.mm_store.specs.Tables.{AreFit, HasRows, IsAt, SameForm, Turns, makes_orphans, rows_with};
 ghost use Rattle.mm_store.specs.Undoing.{CanUndo};
-ghost use Rattle.mm_store.specs.Worlds.{Noted};
+ghost use Rattle.mm_store.specs.Snapshots.{Logged};
 ghost use Rattle.mm_value.specs.declared.refusal.Refusal.TheVariants.{RowIsReferenced};
 ghost use Rattle.mm_value.specs.declared.values.Value.{Value};
 ghost use Rattle.mm_txn.specs.Contents.{IsDue, Makes, MayMake};
 ghost use Rattle.mm_plan.specs.Kept.{instance_of};
-ghost use Rattle.mm_txn.specs.PlacedEdits.{AreEdits, FitsAt, HaveRows, leaves_orphans, placed, rows_edited, told};
+ghost use Rattle.mm_txn.specs.PlacedEdits.{AreEdits, FitsAt, HaveRows, leaves_orphans, placed, placed_change, rows_edited};
 ghost use Rattle.mm_txn.specs.Listed.{AreListed, IsTested, rows_by_place};
 
 use crate::contents::Contents;
@@ -29,26 +29,27 @@ use mm_value::Refusal;
 use std::alloc::{AllocError, Global};
 
 impl Contents {
-    /// Makes all edits of a change that its rows and the standing queries allow, and notes them in the log, or none. Each list follows
-    /// its query. The refusals are those of [`Store::check`] for the table that the change names, where `RowIsReferenced` is also due
-    /// where a row refers that no edit takes out to one of another table that goes; and behind them those of [`Standing::prepare`].
+    /// Makes all edits of a change that its rows and the standing queries allow, and logs them, or none. Each list
+    /// follows its query. The refusals are those of [`Store::check`] for the table that the change names, where
+    /// `RowIsReferenced` is also due where a row refers that no edit takes out to one of another table that goes; and
+    /// behind them those of [`Standing::prepare`].
     pub(crate) fn make_edits(
         &mut self,
         alloc: Global,
         edits: ChangeEdits,
         undo: &mut Undo,
     ) -> Result<(), Refusal>
-        requires { MayMake self.old.store self.old.lists undo.old (placed edits.own ∷ map placed edits.along.items) }
-        ensures due { IsDue self.old.store self.old.lists (placed edits.own) (map placed edits.along.items) result }
-        ensures made { Makes (rows_edited self.old.store (placed edits.own ∷ map placed edits.along.items)) self.old.store self.new.store
+        requires { MayMake self.old.store self.old.lists undo.old (placed edits.own ∷ map placed edits.cascaded.items) }
+        ensures due { IsDue self.old.store self.old.lists (placed edits.own) (map placed edits.cascaded.items) result }
+        ensures made { Makes (rows_edited self.old.store (placed edits.own ∷ map placed edits.cascaded.items)) self.old.store self.new.store
             self.old.lists self.new.lists undo.old undo.new result }
         ensures schema { self.new.schema ≡ self.old.schema }
     {
-        let ChangeEdits { own, along } = edits;
-        if along.is_empty() {
+        let ChangeEdits { own, cascaded } = edits;
+        if cascaded.is_empty() {
             edit_table(alloc, &mut self.store, &mut self.standing, own, undo)
         } else {
-            remove_rows(alloc, &mut self.store, &mut self.standing, own, along, undo)
+            remove_rows(alloc, &mut self.store, &mut self.standing, own, cascaded, undo)
         }
     }
 }
@@ -83,22 +84,23 @@ fn remove_rows(
     store: &mut Store,
     standing: &mut Standing,
     own: RelationEdits,
-    along: Vec<RelationEdits>,
+    cascaded: Vec<RelationEdits>,
     undo: &mut Undo,
 ) -> Result<(), Refusal>
-    requires may { MayMake store.old standing.old undo.old (placed own ∷ map placed along.items) }
-    requires several { 0 < length along.items }
-    ensures due { IsDue store.old standing.old (placed own) (map placed along.items) result }
-    ensures made { Makes (rows_edited store.old (placed own ∷ map placed along.items)) store.old store.new standing.old standing.new undo.old undo.new result }
+    requires may { MayMake store.old standing.old undo.old (placed own ∷ map placed cascaded.items) }
+    requires several { 0 < length cascaded.items }
+    ensures due { IsDue store.old standing.old (placed own) (map placed cascaded.items) result }
+    ensures made { Makes (rows_edited store.old (placed own ∷ map placed cascaded.items)) store.old store.new standing.old standing.new undo.old undo.new
+        result }
 {
     store.removals_may_be_made(own.table);
     store.rows_stand();
-    let prepared = prepare_removals(alloc, store, standing, &own, along.as_slice());
+    let prepared = prepare_removals(alloc, store, standing, &own, cascaded.as_slice());
     if let Err(Refusal::Memory) = prepared {
         return Err(Refusal::Memory);
     }
     let mark = undo.mark();
-    if let Err(refusal) = remove_each(alloc, store, own, along, undo).and(prepared) {
+    if let Err(refusal) = remove_each(alloc, store, own, cascaded, undo).and(prepared) {
         store.revert(undo, mark);
         standing.discard();
         return Err(refusal);
@@ -109,34 +111,34 @@ fn remove_rows(
 
 /// Takes rows out of tables, from the last table to the first: a column refers to an older table, so all rows that refer to a row
 /// are gone by then unless they stay. `RowIsReferenced` where one of these refers to a row that goes; `Memory` may come in its place and
-/// in that of success. Then some of the rows may be gone, and the log tells which.
+/// in that of success. Then some of the rows may be gone, and the log says which.
 fn remove_each(
     alloc: Global,
     store: &mut Store,
     own: RelationEdits,
-    mut along: Vec<RelationEdits>,
+    mut cascaded: Vec<RelationEdits>,
     undo: &mut Undo,
 ) -> Result<(), Refusal>
-    requires are { AreEdits store.old (placed own ∷ map placed along.items) }
+    requires are { AreEdits store.old (placed own ∷ map placed cascaded.items) }
     requires back { All (λ reference. reference.to < reference.from) store.old.links }
-    requires several { 0 < length along.items }
+    requires several { 0 < length cascaded.items }
     requires fits { CanUndo store.old undo.old }
-    ensures due { AnswersDue (if leaves_orphans store.old (placed own ∷ map placed along.items) then Some RowIsReferenced else None) result }
-    ensures ok { OnOk result (HaveRows (rows_edited store.old (placed own ∷ map placed along.items)) store.old store.new) }
+    ensures due { AnswersDue (if leaves_orphans store.old (placed own ∷ map placed cascaded.items) then Some RowIsReferenced else None) result }
+    ensures ok { OnOk result (HaveRows (rows_edited store.old (placed own ∷ map placed cascaded.items)) store.old store.new) }
     ensures form { EachTurns SameForm store.old.tables store.new.tables }
     ensures links { store.new.links ≡ store.old.links }
-    ensures noted { (entries : List Noted) × (undo.new ≡ undo.old ++ entries) }
+    ensures logged { (entries : List Logged) × (undo.new ≡ undo.old ++ entries) }
     ensures fits { CanUndo store.new undo.new }
     ensures saved { (mark : ℕ) → mark ≤ length undo.old → rows_at_mark mark undo.new store.new ≡ rows_at_mark mark undo.old store.old }
 {
-    while let Some(removals) = along.pop() {
+    while let Some(removals) = cascaded.pop() {
         remove_from(alloc, store, removals, undo)?;
     }
     remove_from(alloc, store, own, undo)
 }
 
-/// Takes rows out of one table, and notes that in the log. `RowIsReferenced` where a row of another table refers to one of them; `Memory`
-/// may come in its place and in that of success. Then all rows are as before.
+/// Takes rows out of one table, and logs that. `RowIsReferenced` where a row of another table refers to one of them;
+/// `Memory` may come in its place and in that of success. Then all rows are as before.
 fn remove_from(
     alloc: Global,
     store: &mut Store,
@@ -153,7 +155,7 @@ fn remove_from(
         → (new : StoredRows) × Turns store.old removals.table new store.new × HasRows stored (rows_with stored removals.edits.items) new) }
     ensures form { EachTurns SameForm store.old.tables store.new.tables }
     ensures links { store.new.links ≡ store.old.links }
-    ensures noted { (entries : List Noted) × (undo.new ≡ undo.old ++ entries) }
+    ensures logged { (entries : List Logged) × (undo.new ≡ undo.old ++ entries) }
     ensures fits { CanUndo store.new undo.new }
     ensures saved { (mark : ℕ) → mark ≤ length undo.old → rows_at_mark mark undo.new store.new ≡ rows_at_mark mark undo.old store.old }
 {
@@ -170,20 +172,20 @@ fn prepare_removals(
     store: &Store,
     standing: &mut Standing,
     own: &RelationEdits,
-    along: &[RelationEdits],
+    cascaded: &[RelationEdits],
 ) -> Result<(), Refusal>
-    requires fit { All (FitsAt store.now) (placed own.now ∷ map placed along.now) }
+    requires fit { All (FitsAt store.now) (placed own.now ∷ map placed cascaded.now) }
     requires served { AreServed store.now standing.old.queries }
     requires listed { AreListed (instance_of store.now.tables) standing.old }
-    requires typed { All (IsTested (rows_by_place (instance_of store.now.tables)) (rows_edited store.now (placed own.now ∷ map placed along.now))) standing.old.queries }
-    ensures due { AnswersDue (first_refusal (list_conditions (rows_edited store.now (placed own.now ∷ map placed along.now)) standing.old.queries)) result }
-    ensures ok { OnOk result (FitPrepared (rows_edited store.now (placed own.now ∷ map placed along.now)) standing.new) }
+    requires typed { All (IsTested (rows_by_place (instance_of store.now.tables)) (rows_edited store.now (placed own.now ∷ map placed cascaded.now))) standing.old.queries }
+    ensures due { AnswersDue (first_refusal (list_conditions (rows_edited store.now (placed own.now ∷ map placed cascaded.now)) standing.old.queries)) result }
+    ensures ok { OnOk result (FitPrepared (rows_edited store.now (placed own.now ∷ map placed cascaded.now)) standing.new) }
     ensures err { OnErr result (standing.new.prepared ≡ []) }
     ensures entries { map (λ (bag : Counts). bag.entries) standing.new.bags ≡ map (λ (bag : Counts). bag.entries) standing.old.bags }
     ensures queries { standing.new.queries ≡ standing.old.queries }
     ensures log { standing.new.log ≡ standing.old.log }
 {
-    let changes = as_changes(alloc, own, along)?;
+    let changes = as_changes(alloc, own, cascaded)?;
     prepare_lists(alloc, store, standing, changes.as_slice())
 }
 
@@ -191,13 +193,13 @@ fn prepare_removals(
 fn as_changes<'e>(
     alloc: Global,
     own: &'e RelationEdits,
-    along: &'e [RelationEdits],
+    cascaded: &'e [RelationEdits],
 ) -> Result<Vec<TableChange<'e>>, AllocError>
-    ensures { IfOk result (λ changes. map told changes.items ≡ placed own.now ∷ map placed along.now) }
+    ensures { IfOk result (λ changes. map placed_change changes.items ≡ placed own.now ∷ map placed cascaded.now) }
 {
-    let mut changes = Vec::with_capacity(alloc, along.len().saturating_add(1))?;
+    let mut changes = Vec::with_capacity(alloc, cascaded.len().saturating_add(1))?;
     changes.push(own.as_change())?;
-    for removals in along {
+    for removals in cascaded {
         changes.push(removals.as_change())?;
     }
     Ok(changes)
@@ -211,12 +213,13 @@ fn prepare_lists(
     standing: &mut Standing,
     changes: &[TableChange<'_>],
 ) -> Result<(), Refusal>
-    requires fit { All (FitsAt store.now) (map told changes.now) }
+    requires fit { All (FitsAt store.now) (map placed_change changes.now) }
     requires served { AreServed store.now standing.old.queries }
     requires listed { AreListed (instance_of store.now.tables) standing.old }
-    requires typed { All (IsTested (rows_by_place (instance_of store.now.tables)) (rows_edited store.now (map told changes.now))) standing.old.queries }
-    ensures due { AnswersDue (first_refusal (list_conditions (rows_edited store.now (map told changes.now)) standing.old.queries)) result }
-    ensures ok { OnOk result (FitPrepared (rows_edited store.now (map told changes.now)) standing.new) }
+    requires typed { All (IsTested (rows_by_place (instance_of store.now.tables)) (rows_edited store.now (map placed_change changes.now)))
+        standing.old.queries }
+    ensures due { AnswersDue (first_refusal (list_conditions (rows_edited store.now (map placed_change changes.now)) standing.old.queries)) result }
+    ensures ok { OnOk result (FitPrepared (rows_edited store.now (map placed_change changes.now)) standing.new) }
     ensures err { OnErr result (standing.new.prepared ≡ []) }
     ensures entries { map (λ (bag : Counts). bag.entries) standing.new.bags ≡ map (λ (bag : Counts). bag.entries) standing.old.bags }
     ensures queries { standing.new.queries ≡ standing.old.queries }

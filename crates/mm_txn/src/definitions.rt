@@ -6,7 +6,7 @@ ghost use Rattle.mm_schema.specs.Refused.{AnswersDue, first_refusal};
 ghost use Rattle.mm_schema.specs.Schema.{drop_table_conditions, table_conditions};
 ghost use Rattle.mm_store.specs.Marks.{rows_at_mark};
 ghost use Rattle.mm_store.specs.Undoing.{CanUndo};
-ghost use Rattle.mm_store.specs.Worlds.{Noted};
+ghost use Rattle.mm_store.specs.Snapshots.{Logged};
 ghost use Rattle.mm_query.specs.Machine.{after_definition, definition_conditions, is_of_index};
 ghost use Rattle.mm_query.specs.declared.command.Definition.TheVariants as define;
 ghost use Rattle.mm_txn.specs.Contents.{state_held};
@@ -146,8 +146,8 @@ fn drop_index(catalog: &mut Catalog, store: &mut Store, name: &Name) -> Result<(
         (state_of catalog.new store.new.tables ≡ after_definition (define.DropIndex name.now) (state_of catalog.old store.old.tables)) }
     ensures err { OnErr result (state_of catalog.new store.new.tables ≡ state_of catalog.old store.old.tables) }
     ensures kept { AreKept catalog.new store.new }
-    ensures fits { (undo : List Noted) → CanUndo store.old undo → CanUndo store.new undo }
-    ensures rows_before { (undo : List Noted) (mark : ℕ) → CanUndo store.old undo
+    ensures fits { (undo : List Logged) → CanUndo store.old undo → CanUndo store.new undo }
+    ensures rows_before { (undo : List Logged) (mark : ℕ) → CanUndo store.old undo
         → rows_at_mark mark undo store.new ≡ rows_at_mark mark undo store.old }
 {
     let table = catalog.place_with_index(name).ok_or(Refusal::NoSuchIndex)?;

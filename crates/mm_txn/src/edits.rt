@@ -6,7 +6,7 @@ ghost use Rattle.mm_query.specs.Binding.{binding_conditions};
 ghost use Rattle.mm_query.specs.Edits.{value_conditions};
 ghost use Rattle.mm_plan.specs.Kept.{AreKept, AreOf};
 ghost use Rattle.mm_txn.specs.Kept.{state_of};
-ghost use Rattle.mm_txn.specs.PlacedEdits.{AreEditsOf, AreOwnEditsOf, placed, told};
+ghost use Rattle.mm_txn.specs.PlacedEdits.{AreEditsOf, AreOwnEditsOf, placed, placed_change};
 
 use crate::cascades::cascades;
 use crate::contents::Contents;
@@ -31,7 +31,7 @@ pub(crate) struct RelationEdits {
 impl RelationEdits {
     /// The same for the lists of standing queries.
     pub(crate) fn as_change(&self) -> TableChange<'_>
-        ensures { told result ≡ placed self.now }
+        ensures { placed_change result ≡ placed self.now }
     {
         TableChange {
             table: self.table,
@@ -45,8 +45,9 @@ impl RelationEdits {
 pub(crate) struct ChangeEdits {
     /// Those of the table that it names.
     pub(crate) own: RelationEdits,
-    /// Those of the rows that go along with a DELETE, in the order of the tables' creation. There are none with another change.
-    pub(crate) along: Vec<RelationEdits>,
+    /// Those of the rows that a DELETE cascades to, in the order of the tables' creation. There are none with another
+    /// change.
+    pub(crate) cascaded: Vec<RelationEdits>,
 }
 
 impl Contents {
@@ -59,17 +60,17 @@ impl Contents {
     ) -> Result<ChangeEdits, Refusal>
         ensures due { AnswersDue (first_refusal (binding_conditions mutation.entry self.now.schema
             ++ value_conditions mutation.entry (state_of self.now.schema self.now.store.tables))) result }
-        ensures ok { IfOk result (λ e. AreEditsOf mutation.entry self.now.schema self.now.store (placed e.own) (map placed e.along.items)) }
+        ensures ok { IfOk result (λ e. AreEditsOf mutation.entry self.now.schema self.now.store (placed e.own) (map placed e.cascaded.items)) }
         ensures distinct { HasDistinctNames self.now.schema }
     {
         let cascades_rows = matches!(mutation, Mutation::Delete { .. });
         let own = own_edits(alloc, &self.catalog, &self.store, mutation)?;
-        let along = if cascades_rows {
+        let cascaded = if cascades_rows {
             cascades(alloc, &self.catalog, &self.store, &own)?
         } else {
             Vec::new(alloc)
         };
-        Ok(ChangeEdits { own, along })
+        Ok(ChangeEdits { own, cascaded })
     }
 }
 

@@ -1,4 +1,4 @@
-//! What is told of the catalog.
+//! The listing of the catalog.
 ghost use Rattle.std.specs.Prelude.{◌≡◌, false, IfErr, IfOk};
 ghost use Rattle.mm_query.specs.Standing.{listing as listing_of};
 ghost use Rattle.mm_schema.specs.Instance.{Instance};
@@ -6,7 +6,7 @@ ghost use Rattle.mm_value.specs.declared.refusal.Refusal.TheVariants.{Memory};
 ghost use Rattle.mm_plan.specs.Kept.{AreKept, AreOf, instance_of};
 ghost use Rattle.mm_txn.specs.Kept.{state_of};
 ghost use Rattle.mm_schema.specs.Schema.{lacks_table};
-ghost use Rattle.mm_txn.specs.Rest.{state_at_rest, told_state, told_table};
+ghost use Rattle.mm_txn.specs.Rest.{listed_state, state_at_rest, table_listed};
 ghost use Rattle.mm_txn.specs.Listed.{AreListed, ArePlaced};
 
 use mm_query::{ItemList, ListedQuery, ListedTable, Listing};
@@ -62,7 +62,7 @@ fn listed_table(
 ) -> Result<ListedTable, Refusal>
     requires relations { AreOf catalog.now.tables store.now.tables }
     requires there { lacks_table table.now.definition.name catalog.now ≡ false }
-    ensures table { IfOk result (λ listed. listed ≡ told_table (state_of catalog.now store.now.tables) table.now) }
+    ensures table { IfOk result (λ listed. listed ≡ table_listed (state_of catalog.now store.now.tables) table.now) }
     ensures memory { IfErr result (λ refusal. refusal ≡ Memory) }
 {
     let place = catalog.place_of(&table.definition.name).unwrap_or(0);
@@ -80,7 +80,7 @@ fn listed_queries(
 ) -> Result<Vec<ListedQuery>, Refusal>
     requires { ArePlaced catalog.now standing.now.queries }
     ensures queries { IfOk result (λ listed. (rows : Instance) → AreListed rows standing.now
-        → listed.items ≡ (listing_of (told_state catalog.now rows standing.now)).standing) }
+        → listed.items ≡ (listing_of (listed_state catalog.now rows standing.now)).standing) }
     ensures memory { IfErr result (λ refusal. refusal ≡ Memory) }
 {
     let mut listed = Vec::with_capacity(alloc, catalog.standing().len())?;

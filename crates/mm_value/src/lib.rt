@@ -16,7 +16,7 @@ mod values;
 
 pub use as_value::AsValue;
 pub use col_type::ColType;
-pub use device::{MAX_RETRIES, Watched, WriteFault, put_all};
+pub use device::{MAX_RETRIES, Watched, WriteError, put_all};
 pub use equality::equality_is_exact;
 pub use literals::{literals_are_exact, read_int, read_literal};
 pub use prefix::{order_prefix, prefixes_keep_order};

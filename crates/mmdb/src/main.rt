@@ -5,7 +5,7 @@
 #![tactic(auto)]
 
 use mm_value::Watched;
-use mmdb_core::{Limits, RunFault, Totals, exit_status, run};
+use mmdb_core::{Limits, RunError, Totals, exit_status, run};
 use std::io::{self, BufWriter};
 use std::process::ExitCode;
 
@@ -16,9 +16,9 @@ fn main(rt: HostRuntime) -> ExitCode {
     ExitCode::from(exit_status(&serve(&rt)))
 }
 
-fn serve(rt: &HostRuntime) -> Result<Totals, RunFault> {
-    let limits = Limits::new(MAX_INPUT).ok_or(RunFault::TooLong)?;
-    let output = BufWriter::new(rt.alloc(), io::writer(rt)).map_err(|_| RunFault::Write)?;
+fn serve(rt: &HostRuntime) -> Result<Totals, RunError> {
+    let limits = Limits::new(MAX_INPUT).ok_or(RunError::TooLong)?;
+    let output = BufWriter::new(rt.alloc(), io::writer(rt)).map_err(|_| RunError::Write)?;
     run(
         rt.alloc(),
         &mut Watched::new(rt.reader()),

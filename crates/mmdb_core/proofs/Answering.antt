@@ -33,8 +33,8 @@ use Rattle.mmdb_core.specs.steps.Feeds.{EndsLine}
 use Rattle.mmdb_core.specs.steps.Input.{Comes, Finds, IsLastLine, IsLine, PassesLine}
 use Rattle.mmdb_core.specs.steps.Respond.{RepliesToLine, GoesOn, MayLeadTo, PassesReplied, Replies, RepliesToReading}
 use Rattle.mmdb_core.specs.Run.{answer, is_error, outcome_of}
-use Rattle.mmdb_core.specs.declared.fault.RunFault.{RunFault}
-use Rattle.mmdb_core.specs.declared.fault.RunFault.TheVariants.{Write}
+use Rattle.mmdb_core.specs.declared.run_error.RunError.{RunError}
+use Rattle.mmdb_core.specs.declared.run_error.RunError.TheVariants.{Write}
 use Rattle.mmdb_core.specs.declared.input.Input.{Input}
 use Rattle.mmdb_core.specs.declared.input.Next.TheVariants.{Line}
 use Rattle.mmdb_core.proofs.Inputs.{Advances-skip, Advances-then}
@@ -218,7 +218,7 @@ passed_as {remaining = remaining} {contents} {reader} {later} {input} {next} {ne
     (subst (λ n. PassesReplied remaining contents reader later input n before after old new result) (sym p) h)))
 
 -- how a run goes on after a line was answered
-abbrev pub goes_on_of : {E : Type 0} → Result Bool E → Result (Option Bool) RunFault
+abbrev pub goes_on_of : {E : Type 0} → Result Bool E → Result (Option Bool) RunError
 goes_on_of (Ok is_refused) = Ok (Some is_refused)
 goes_on_of (Err e) = Err Write
 

@@ -7,7 +7,7 @@ use Rattle.std.specs.Prelude.{IfErr}
 use Rattle.mm_value.specs.Watched.{inner_of}
 use Rattle.mm_value.specs.declared.device.Watched.{Watched}
 use Rattle.mmdb_core.specs.steps.Input.{Advances, Comes, StopsInLine, bytes_to_come}
-use Rattle.mmdb_core.specs.declared.fault.RunFault.{RunFault}
+use Rattle.mmdb_core.specs.declared.run_error.RunError.{RunError}
 use Rattle.mmdb_core.specs.declared.input.Input.{Input}
 use Rattle.mmdb_core.specs.declared.input.Next.TheVariants.{Long}
 
@@ -76,7 +76,7 @@ module _ {R : Type 0} {remaining : R → Option (List ℕ)} where
       )
 
 -- an input that breaks off, after it was filled
-pub stops-then : {R : Type 0} {remaining : R → Option (List ℕ)} {r s t : Watched R} {a b c : Input} {fault : RunFault} → Advances remaining r s a b []
+pub stops-then : {R : Type 0} {remaining : R → Option (List ℕ)} {r s t : Watched R} {a b c : Input} {fault : RunError} → Advances remaining r s a b []
     → StopsInLine remaining s t b c fault → StopsInLine remaining r t a c fault
 stops-then h stops = record { gone = stops.gone; advances = Advances-then refl h stops.advances; no_feed = stops.no_feed; why = stops.why }
 
@@ -90,6 +90,6 @@ long-then t c h comes = (
 )
 
 -- what holds of a fault holds where it is passed on
-pub at-fault : {T : Type 0} (P : RunFault → Type 0) (result : Result T RunFault) (fault passed : RunFault) → result ≡ Err passed → passed ≡ fault → P fault
+pub at-fault : {T : Type 0} (P : RunError → Type 0) (result : Result T RunError) (fault passed : RunError) → result ≡ Err passed → passed ≡ fault → P fault
     → IfErr result P
 at-fault P result fault passed is same h = subst (λ r. IfErr r P) (sym is) (subst P (sym same) h)

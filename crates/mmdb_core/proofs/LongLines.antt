@@ -6,7 +6,7 @@ use Rattle.mm_lang.specs.Lines.{without_return, HasNoFeed}
 use Rattle.mm_value.specs.declared.device.Watched.{Watched}
 use Rattle.mmdb_core.specs.steps.Feeds.{EndsLine}
 use Rattle.mmdb_core.specs.steps.Input.{Advances, Comes, IsFault, StopsInLine}
-use Rattle.mmdb_core.specs.declared.fault.RunFault.{RunFault}
+use Rattle.mmdb_core.specs.declared.run_error.RunError.{RunError}
 use Rattle.mmdb_core.specs.declared.input.Input.{Input}
 use Rattle.mmdb_core.specs.declared.input.Next.TheVariants.{Long}
 use Rattle.mmdb_core.proofs.Inputs.{Advances-clear, Advances-skip, Advances-then}
@@ -45,7 +45,7 @@ take-line window len ends =
 
 module _ {R : Type 0} {remaining : R → Option (List ℕ)} where
   -- the reader failed, or gave too much
-  pub Drops-stops : {r s t : Watched R} {a b c : Input} (fault : RunFault) → Drops remaining r s a b → Advances remaining s t b c []
+  pub Drops-stops : {r s t : Watched R} {a b c : Input} (fault : RunError) → Drops remaining r s a b → Advances remaining s t b c []
       → c.window.bytes ≡ b.window.bytes → IsFault c t fault → StopsInLine remaining r t a c fault
   Drops-stops {a = a} {c = c} fault drops advances same why =
       let none : drops.line ++ c.window.bytes ≡ drops.line = ap (λ l. drops.line ++ l) (same ∙ drops.empty) ∙ append-nil drops.line in

@@ -16,8 +16,8 @@ use Rattle.mm_query.specs.State.{State, first_state}
 use Rattle.mmdb_core.specs.steps.Input.{Advances, IsLine, KnowsEnd, StopsInLine, bytes_to_come}
 use Rattle.mmdb_core.specs.steps.Respond.{GoesOn, PassesReplied, WritesNothing}
 use Rattle.mmdb_core.specs.Run.{Answers, AnswersFront, AnswersLines, BrokeOff, ReachedEnd, TakesWithin, Transcript, answer, is_error, text_of, transcript}
-use Rattle.mmdb_core.specs.declared.fault.RunFault.{RunFault}
-use Rattle.mmdb_core.specs.declared.fault.RunFault.TheVariants.{Read, Write, TooLong}
+use Rattle.mmdb_core.specs.declared.run_error.RunError.{RunError}
+use Rattle.mmdb_core.specs.declared.run_error.RunError.TheVariants.{Read, Write, TooLong}
 use Rattle.mmdb_core.specs.declared.input.Input.{Input}
 use Rattle.mmdb_core.specs.declared.limits.Totals.{Totals}
 use Rattle.mmdb_core.proofs.Answering.{appends_keeps}
@@ -219,7 +219,7 @@ kept_more : (limit still : ℕ) (given more : List ℕ) → length given + still
 kept_more limit still given more counted =
     take-append limit given more ∙ ap (λ n. take limit given ++ take n more) (let e : limit - length given ≡ still - 1 = omega arith in e)
 
-err_same : {T : Type 0} (a b : RunFault) → ◌≡◌ {A = Result T RunFault} (Err a) (Err b) → a ≡ b
+err_same : {T : Type 0} (a b : RunError) → ◌≡◌ {A = Result T RunError} (Err a) (Err b) → a ≡ b
 err_same a b e = cc
 
 module _ {R W : Type 0} {remaining : R → Option (List ℕ)} {contents : W → Option (List ℕ)} {limit : ℕ} {reader now : Watched R} {writer written : Watched W}
@@ -245,7 +245,7 @@ module _ {R W : Type 0} {remaining : R → Option (List ℕ)} {contents : W → 
       (cut_line so_far.cut h line is_line)
 
   -- the replies to the lines that had ended were written before the input broke off
-  stopped : {later : Watched R} {next : Input} {more : Watched W} {fault : RunFault} (h : StopsInLine remaining now later input next fault)
+  stopped : {later : Watched R} {next : Input} {more : Watched W} {fault : RunError} (h : StopsInLine remaining now later input next fault)
       → next.is_ended ≡ false → WritesNothing contents written more
       → AnswersLines (whole_lines_of (take limit (so_far.given ++ h.advances.given))) (contents (inner_of writer)) (contents (inner_of more))
   stopped {more = more} h going nothing =
@@ -318,14 +318,14 @@ module _ {R W : Type 0} {remaining : R → Option (List ℕ)} {contents : W → 
               (transcribed_line so_far.answered line state so_far.text totals.refused h.answers.choice so_far.transcribed));
         }
 
-    advanced : (fault : RunFault) → GoesOn remaining contents now later input next state after written more (Err fault)
+    advanced : (fault : RunError) → GoesOn remaining contents now later input next state after written more (Err fault)
         → (gone : List ℕ) × Advances remaining now later input next gone
     advanced Read h = (h.0.gone, h.0.advances)
     advanced Write h = (h.passes.gone, h.passes.advances)
     advanced TooLong h = (h.0.gone, h.0.advances)
 
     -- a run broke off
-    pub broke_off : (fault : RunFault) → GoesOn remaining contents now later input next state after written more (Err fault)
+    pub broke_off : (fault : RunError) → GoesOn remaining contents now later input next state after written more (Err fault)
         → BrokeOff remaining reader later limit (contents (inner_of writer)) (contents (inner_of more)) fault
     broke_off Read h = record {
       given = so_far.given ++ h.0.advances.given;
@@ -347,19 +347,19 @@ module _ {R W : Type 0} {remaining : R → Option (List ℕ)} {contents : W → 
     }
 
     -- what was taken where a run broke off
-    too_long_iff : (fault : RunFault) (taken : ℕ) → GoesOn remaining contents now later input next state after written more (Err fault)
+    too_long_iff : (fault : RunError) (taken : ℕ) → GoesOn remaining contents now later input next state after written more (Err fault)
         → taken + next.still ≡ limit + 1 → (fault ≡ TooLong) ↔ ((limit < taken) × (has_failed more ≡ false))
     too_long_iff Read taken h counted = (
-      λ e. absurd (let clash : ◌≡◌ {A = RunFault} Read TooLong = e in cc),
+      λ e. absurd (let clash : ◌≡◌ {A = RunError} Read TooLong = e in cc),
       λ over. absurd (omega (arith, h.0.why.2, over.0, counted)),
     )
     too_long_iff Write taken h counted = (
-      λ e. absurd (let clash : ◌≡◌ {A = RunFault} Write TooLong = e in cc),
+      λ e. absurd (let clash : ◌≡◌ {A = RunError} Write TooLong = e in cc),
       λ over. absurd (let clash : true ≡ false = sym h.answers.replies.writes.failed ∙ over.1 in cc),
     )
     too_long_iff TooLong taken h counted = (λ e. (omega (arith, h.0.why.1, counted), h.1.unfailed), λ over. refl)
 
-    pub taken_at_fault : (result : Result Totals RunFault) (fault : RunFault) → result ≡ Err fault
+    pub taken_at_fault : (result : Result Totals RunError) (fault : RunError) → result ≡ Err fault
         → GoesOn remaining contents now later input next state after written more (Err fault)
         → TakesWithin remaining reader later limit (IsErrOf result TooLong) (has_failed more ≡ false)
     taken_at_fault result fault is h =
@@ -369,7 +369,7 @@ module _ {R W : Type 0} {remaining : R → Option (List ℕ)} {contents : W → 
           bytes = so_far.given ++ advances.given;
           consumed = consumed_more advances;
           within = omega (arith, counted_more advances);
-          too_long = (λ e. iff.0 (err_same fault TooLong (sym is ∙ e)), λ over. is ∙ ap (λ (f : RunFault). Err f) (iff.1 over));
+          too_long = (λ e. iff.0 (err_same fault TooLong (sym is ∙ e)), λ over. is ∙ ap (λ (f : RunError). Err f) (iff.1 over));
         }
 
     pub taken_at_end : GoesOn remaining contents now later input next state after written more (Ok None)
@@ -381,7 +381,7 @@ module _ {R W : Type 0} {remaining : R → Option (List ℕ)} {contents : W → 
           consumed = consumed_more h.0;
           within = omega (arith, counted_more h.0);
           too_long = (
-            λ e. absurd (let clash : ◌≡◌ {A = Result Totals RunFault} (Ok totals) (Err TooLong) = e in cc),
+            λ e. absurd (let clash : ◌≡◌ {A = Result Totals RunError} (Ok totals) (Err TooLong) = e in cc),
             λ over. absurd (omega (arith, counted_more h.0, known.0, over.0)),
           );
         }
@@ -413,29 +413,29 @@ module _ {R W : Type 0} {remaining : R → Option (List ℕ)} {contents : W → 
             }
 
     -- which device failed where a run broke off
-    pub read_at_fault : (result : Result Totals RunFault) (fault : RunFault) → result ≡ Err fault
+    pub read_at_fault : (result : Result Totals RunError) (fault : RunError) → result ≡ Err fault
         → GoesOn remaining contents now later input next state after written more (Err fault)
         → IsErrOf result Read → has_failed later ≡ true
     read_at_fault result Read is h e = h.0.why.1
-    read_at_fault result Write is h e = absurd (let clash : ◌≡◌ {A = Result Totals RunFault} (Err Write) (Err Read) = sym is ∙ e in cc)
-    read_at_fault result TooLong is h e = absurd (let clash : ◌≡◌ {A = Result Totals RunFault} (Err TooLong) (Err Read) = sym is ∙ e in cc)
+    read_at_fault result Write is h e = absurd (let clash : ◌≡◌ {A = Result Totals RunError} (Err Write) (Err Read) = sym is ∙ e in cc)
+    read_at_fault result TooLong is h e = absurd (let clash : ◌≡◌ {A = Result Totals RunError} (Err TooLong) (Err Read) = sym is ∙ e in cc)
 
-    pub write_at_fault : (result : Result Totals RunFault) (fault : RunFault) → result ≡ Err fault
+    pub write_at_fault : (result : Result Totals RunError) (fault : RunError) → result ≡ Err fault
         → GoesOn remaining contents now later input next state after written more (Err fault)
         → IsErrOf result Write ↔ (has_failed more ≡ true)
     write_at_fault result Read is h = (
-      λ e. absurd (let clash : ◌≡◌ {A = Result Totals RunFault} (Err Read) (Err Write) = sym is ∙ e in cc),
+      λ e. absurd (let clash : ◌≡◌ {A = Result Totals RunError} (Err Read) (Err Write) = sym is ∙ e in cc),
       λ f. absurd (let clash : true ≡ false = sym f ∙ h.1.unfailed in cc),
     )
     write_at_fault result Write is h = (λ e. h.answers.replies.writes.failed, λ f. is)
     write_at_fault result TooLong is h = (
-      λ e. absurd (let clash : ◌≡◌ {A = Result Totals RunFault} (Err TooLong) (Err Write) = sym is ∙ e in cc),
+      λ e. absurd (let clash : ◌≡◌ {A = Result Totals RunError} (Err TooLong) (Err Write) = sym is ∙ e in cc),
       λ f. absurd (let clash : true ≡ false = sym f ∙ h.1.unfailed in cc),
     )
 
     pub write_at_end : GoesOn remaining contents now later input next state after written more (Ok None) → IsErrOf (Ok totals) Write ↔ (has_failed more ≡ true)
     write_at_end h = (
-      λ e. absurd (let clash : ◌≡◌ {A = Result Totals RunFault} (Ok totals) (Err Write) = e in cc),
+      λ e. absurd (let clash : ◌≡◌ {A = Result Totals RunError} (Ok totals) (Err Write) = e in cc),
       λ f. absurd (let clash : true ≡ false = sym f ∙ h.2.unfailed in cc),
     )
 

@@ -15,8 +15,8 @@ use Rattle.mm_query.specs.declared.command.Command.{Command}
 use Rattle.mm_query.specs.declared.reply.Reply.{Reply}
 use Rattle.mm_query.specs.declared.reply.Reply.TheVariants.{Done, Count, Rows, Steps, Listing, Refused}
 use Rattle.mm_txn.specs.Steps.{refused_outcome}
-use Rattle.mmdb_core.specs.declared.fault.RunFault.{RunFault}
-use Rattle.mmdb_core.specs.declared.fault.RunFault.TheVariants.{Read, Write, TooLong}
+use Rattle.mmdb_core.specs.declared.run_error.RunError.{RunError}
+use Rattle.mmdb_core.specs.declared.run_error.RunError.TheVariants.{Read, Write, TooLong}
 use Rattle.mmdb_core.specs.declared.limits.Totals.{Totals}
 
 -- What a reading leads to: a step, or its refusal.
@@ -100,14 +100,14 @@ pub record AnswersFront (lines : List (List ℕ)) (old new : Option (List ℕ)) 
 
 -- What was written by a run that broke off, by the bytes within the limit that its reader gave: where the reader failed or
 -- gave too much, the replies to the lines that a line feed ended; where the writer failed, a front of the replies.
-abbrev pub IsWritten : RunFault → List ℕ → Option (List ℕ) → Option (List ℕ) → Type 0
+abbrev pub IsWritten : RunError → List ℕ → Option (List ℕ) → Option (List ℕ) → Type 0
 IsWritten Read input old new = AnswersLines (whole_lines_of input) old new
 IsWritten Write input old new = AnswersFront (lines_of input) old new
 IsWritten TooLong input old new = AnswersLines (whole_lines_of input) old new
 
 -- How a run broke off: its reader gave some bytes, and that much of their replies was written.
 pub record BrokeOff {R : Type 0} (remaining : R → Option (List ℕ)) (reader after : Watched R) (limit : ℕ) (old new : Option (List ℕ))
-    (fault : RunFault) : Type 0 where
+    (fault : RunError) : Type 0 where
   pub given : List ℕ
   pub consumed : Consumes (remaining (inner_of reader)) (remaining (inner_of after)) given
   pub within : length given ≤ limit + 1

@@ -12,7 +12,7 @@ ghost use Rattle.mmdb_core.specs.Run.{is_error};
 
 use mm_lang::{Command, Reply, RowLines, parse, write_reply};
 use mm_txn::{Answer, Db, Request, RowReader, Rows, ShownRows, StoredRows};
-use mm_value::{Refusal, Watched, WriteFault};
+use mm_value::{Refusal, Watched, WriteError};
 use std::alloc::Global;
 use std::io::Write;
 
@@ -26,14 +26,14 @@ pub(crate) fn without_return(line: &[u8]) -> &[u8]
     if *last == b'\r' { front } else { line }
 }
 
-/// Answers a line, and tells whether the reply is an `error`. `WriteFault` where the writer failed; what the line does
+/// Answers a line, and tells whether the reply is an `error`. `WriteError` where the writer failed; what the line does
 /// to the database is done then too.
 pub(crate) fn answer_line<W: Write>(
     alloc: Global,
     database: &mut Db,
     line: &[u8],
     writer: &mut Watched<W>,
-) -> Result<bool, WriteFault>
+) -> Result<bool, WriteError>
     requires { has_failed writer.old ≡ false }
     ensures { RepliesToLine W.contents writer.old writer.new line.now database.old database.new result }
 {
@@ -47,7 +47,7 @@ fn respond<W: Write>(
     database: &mut Db,
     command: Result<Command<'_>, Refusal>,
     writer: &mut Watched<W>,
-) -> Result<bool, WriteFault>
+) -> Result<bool, WriteError>
     requires { has_failed writer.old ≡ false }
     ensures { RepliesToReading W.contents writer.old writer.new command.entry database.old database.new result }
 {
@@ -63,7 +63,7 @@ fn answer_request<W: Write>(
     database: &mut Db,
     request: Request<'_>,
     writer: &mut Watched<W>,
-) -> Result<bool, WriteFault>
+) -> Result<bool, WriteError>
     requires { has_failed writer.old ≡ false }
     ensures { RepliesToReading W.contents writer.old writer.new (Ok (command_of request.entry)) database.old database.new result }
 {
@@ -75,7 +75,7 @@ fn answer_request<W: Write>(
 }
 
 /// Writes a reply and flushes it, and tells whether it is an `error`.
-pub(crate) fn send<W: Write>(reply: &Reply, writer: &mut Watched<W>) -> Result<bool, WriteFault>
+pub(crate) fn send<W: Write>(reply: &Reply, writer: &mut Watched<W>) -> Result<bool, WriteError>
     requires { has_failed writer.old ≡ false }
     ensures written { Writes W.contents writer.old writer.new result (reply_text reply.now) }
     ensures refused { IfOk result (λ refused. refused ≡ is_error (Some reply.now)) }
@@ -86,7 +86,7 @@ pub(crate) fn send<W: Write>(reply: &Reply, writer: &mut Watched<W>) -> Result<b
 }
 
 /// Writes an answer and flushes it, and tells whether it is an `error`. Rows are written from where they lie.
-fn send_answer<W: Write>(answer: Answer<'_>, writer: &mut Watched<W>) -> Result<bool, WriteFault>
+fn send_answer<W: Write>(answer: Answer<'_>, writer: &mut Watched<W>) -> Result<bool, WriteError>
     requires { has_failed writer.old ≡ false }
     ensures written { Writes W.contents writer.old writer.new result (reply_text (reply_of answer.entry)) }
     ensures refused { IfOk result (λ refused. refused ≡ is_error (Some (reply_of answer.entry))) }
@@ -100,7 +100,7 @@ fn send_answer<W: Write>(answer: Answer<'_>, writer: &mut Watched<W>) -> Result<
 }
 
 /// Writes the reply of rows and flushes it. It is no `error`.
-fn send_rows<W: Write>(rows: &Rows<'_>, writer: &mut Watched<W>) -> Result<bool, WriteFault>
+fn send_rows<W: Write>(rows: &Rows<'_>, writer: &mut Watched<W>) -> Result<bool, WriteError>
     requires { has_failed writer.old ≡ false }
     ensures written { Writes W.contents writer.old writer.new result (rows_text rows.now) }
     ensures refused { IfOk result (λ refused. refused ≡ false) }
@@ -111,7 +111,7 @@ fn send_rows<W: Write>(rows: &Rows<'_>, writer: &mut Watched<W>) -> Result<bool,
 }
 
 /// Writes the lines of rows, and how many they are.
-fn write_rows<W: Write>(rows: &Rows<'_>, writer: &mut Watched<W>) -> Result<(), WriteFault>
+fn write_rows<W: Write>(rows: &Rows<'_>, writer: &mut Watched<W>) -> Result<(), WriteError>
     requires { has_failed writer.old ≡ false }
     ensures { Writes W.contents writer.old writer.new result (rows_text rows.now) }
 {
@@ -126,7 +126,7 @@ fn write_stored<W: Write>(
     mut rows: StoredRows<'_>,
     count: usize,
     writer: &mut Watched<W>,
-) -> Result<(), WriteFault>
+) -> Result<(), WriteError>
     requires unfailed { has_failed writer.old ≡ false }
     requires counted { count ≡ length rows }
     ensures { Writes W.contents writer.old writer.new result (rows_text rows.entry) }
@@ -139,7 +139,7 @@ fn write_stored<W: Write>(
 }
 
 /// Writes the lines of rows that are shown, and how many they are.
-fn write_shown<W: Write>(rows: &ShownRows<'_>, writer: &mut Watched<W>) -> Result<(), WriteFault>
+fn write_shown<W: Write>(rows: &ShownRows<'_>, writer: &mut Watched<W>) -> Result<(), WriteError>
     requires { has_failed writer.old ≡ false }
     ensures { Writes W.contents writer.old writer.new result (rows_text rows.now) }
 {
@@ -151,12 +151,12 @@ fn write_shown<W: Write>(rows: &ShownRows<'_>, writer: &mut Watched<W>) -> Resul
 }
 
 /// Flushes what was written.
-fn flush<W: Write>(writer: &mut Watched<W>) -> Result<(), WriteFault>
+fn flush<W: Write>(writer: &mut Watched<W>) -> Result<(), WriteError>
     ensures kept { Keeps (W.contents (inner_of writer.old)) (W.contents (inner_of writer.new)) }
     ensures failed { has_failed writer.new ≡ is_err result }
 {
     match writer.flush() {
         Ok(()) => Ok(()),
-        Err(_) => Err(WriteFault),
+        Err(_) => Err(WriteError),
     }
 }

@@ -4,7 +4,7 @@ ghost use Rattle.mm_lang.specs.Lines.{HasNoFeed};
 ghost use Rattle.mmdb_core.specs.steps.Input.{fills_to_come, Advances, Comes, Finds, IsFault, StopsInLine};
 ghost use Rattle.mmdb_core.specs.steps.Feeds.{EndsLine, EndsWith, LooksLike};
 
-use crate::fault::RunFault;
+use crate::run_error::RunError;
 use crate::limits::Limits;
 use crate::window::Window;
 use bstr::ByteSlice;
@@ -76,7 +76,7 @@ impl Input {
     }
 
     /// Takes more from the reader, or learns that there is no more.
-    fn fill<R: Read>(&mut self, reader: &mut Watched<R>) -> Result<(), RunFault>
+    fn fill<R: Read>(&mut self, reader: &mut Watched<R>) -> Result<(), RunError>
         requires short { length self.old.window.bytes < 8192 }
         requires some { 0 < self.old.still }
         requires going { self.old.is_ended ≡ false }
@@ -86,7 +86,7 @@ impl Input {
         ensures same { OnErr result (self.new.window.bytes ≡ self.old.window.bytes) }
     {
         let Ok(n) = self.window.fill(reader, self.still as usize) else {
-            return Err(RunFault::Read);
+            return Err(RunError::Read);
         };
         self.still -= n as u64;
         self.is_ended = n == 0;
@@ -99,7 +99,7 @@ impl Input {
     /// What comes next. After a `Line` the caller answers it, and then drops it by `skip`.
     /// `Read` where the reader answered an error, `TooLong` where it gave more than the limit; neither is told before
     /// each whole line within the limit has come.
-    pub(crate) fn next<R: Read>(&mut self, reader: &mut Watched<R>) -> Result<Next, RunFault>
+    pub(crate) fn next<R: Read>(&mut self, reader: &mut Watched<R>) -> Result<Next, RunError>
         ensures comes { IfOk result (Comes R.remaining reader.old reader.new self.old self.new) }
         ensures stops { IfErr result (StopsInLine R.remaining reader.old reader.new self.old self.new) }
     {
@@ -121,7 +121,7 @@ impl Input {
     }
 
     /// Takes from the reader until it can be told what comes next. A line that is too long stays in the window.
-    fn find_line<R: Read>(&mut self, reader: &mut Watched<R>) -> Result<Next, RunFault>
+    fn find_line<R: Read>(&mut self, reader: &mut Watched<R>) -> Result<Next, RunError>
         ensures advances { Advances R.remaining reader.old reader.new self.old self.new [] }
         ensures finds { IfOk result (Finds self.new) }
         ensures fault { IfErr result (IsFault self.new reader.new) }
@@ -135,7 +135,7 @@ impl Input {
                 return Ok(self.last_line());
             }
             if self.still == 0 {
-                return Err(RunFault::TooLong);
+                return Err(RunError::TooLong);
             }
             self.fill(reader)?;
         }
@@ -153,7 +153,7 @@ impl Input {
     }
 
     /// Drops the rest of a line that is too long, of which more than a line's bytes lie in the window.
-    fn skip_line<R: Read>(&mut self, reader: &mut Watched<R>) -> Result<(), RunFault>
+    fn skip_line<R: Read>(&mut self, reader: &mut Watched<R>) -> Result<(), RunError>
         requires no_feed { HasNoFeed self.old.window.bytes }
         requires long { 4097 < length self.old.window.bytes }
         ensures gone { OnOk result (Comes R.remaining reader.old reader.new self.old self.new Next.Long) }
@@ -162,7 +162,7 @@ impl Input {
         self.clear();
         while !self.is_ended {
             if self.still == 0 {
-                return Err(RunFault::TooLong);
+                return Err(RunError::TooLong);
             }
             self.fill(reader)?;
             if let Some(len) = line_end(self.taken()) {

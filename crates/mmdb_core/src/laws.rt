@@ -15,7 +15,7 @@ ghost use Rattle.mm_value.specs.declared.refusal.Refusal.TheVariants.{Memory, No
 ghost use Rattle.mmdb_core.specs.Run.{answer, outcome_of, Answers, ReachedEnd, TakesWithin};
 ghost use Rattle.mmdb_core.specs.declared.limits.Totals.{Totals};
 
-use crate::fault::RunFault;
+use crate::run_error::RunError;
 use crate::limits::{Limits, Totals};
 use mm_value::Watched;
 use std::io::{Read, Write};
@@ -74,10 +74,10 @@ pub fn runs_take_within_their_limit<R: Read, W: Write>(
     _after: &Watched<R>,
     _writer: &Watched<W>,
     _limits: Limits,
-    _ended: &Result<Totals, RunFault>,
+    _ended: &Result<Totals, RunError>,
 )
     ensures { (input left : List ℕ) → R.remaining (inner_of _before.now) ≡ Some input → R.remaining (inner_of _after.now) ≡ Some left
-        → TakesWithin R.remaining _before.now _after.now _limits (IsErrOf _ended.now RunFault.TooLong) (has_failed _writer.now ≡ false)
+        → TakesWithin R.remaining _before.now _after.now _limits (IsErrOf _ended.now RunError.TooLong) (has_failed _writer.now ≡ false)
         → length input ≤ length left + (_limits + 1) }
 {}
 

@@ -2,14 +2,14 @@
 #![tactic(auto)]
 
 mod answer;
-mod fault;
 mod input;
 mod laws;
 mod limits;
+mod run_error;
 mod run_script;
 mod window;
 
-pub use fault::{RunFault, exit_status};
+pub use run_error::{RunError, exit_status};
 pub use laws::{
     answers_follow_the_choice, commands_take_memory, rollback_is_never_refused,
     runs_answer_the_whole_input, runs_take_within_their_limit,

@@ -5,7 +5,7 @@ ghost use Rattle.mmdb_core.specs.steps.Respond.{GoesOn};
 ghost use Rattle.mmdb_core.specs.Run.{BrokeOff, ReachedEnd, TakesWithin};
 
 use crate::answer::{answer_line, send, without_return};
-use crate::fault::RunFault;
+use crate::run_error::RunError;
 use crate::input::{Input, Next};
 use crate::limits::{Limits, Totals};
 use mm_lang::Reply;
@@ -33,7 +33,7 @@ pub fn run<R: Read, W: Write>(
     reader: &mut Watched<R>,
     writer: &mut Watched<W>,
     limits: Limits,
-) -> Result<Totals, RunFault>
+) -> Result<Totals, RunError>
     requires reader { has_failed reader.old ≡ false }
     requires writer { has_failed writer.old ≡ false }
 
@@ -43,10 +43,10 @@ pub fn run<R: Read, W: Write>(
 
     // What was taken, and when that was too much.
     ensures taken { TakesWithin R.remaining reader.old reader.new limits
-        (IsErrOf result RunFault.TooLong) (has_failed writer.new ≡ false) }
+        (IsErrOf result RunError.TooLong) (has_failed writer.new ≡ false) }
 
-    ensures read { IsErrOf result RunFault.Read → has_failed reader.new ≡ true }
-    ensures write { IsErrOf result RunFault.Write ↔ (has_failed writer.new ≡ true) }
+    ensures read { IsErrOf result RunError.Read → has_failed reader.new ≡ true }
+    ensures write { IsErrOf result RunError.Write ↔ (has_failed writer.new ≡ true) }
 
     // What was written where the run broke off.
     ensures broke_off { IfErr result (BrokeOff R.remaining reader.old reader.new limits
@@ -72,7 +72,7 @@ fn answer_next<R: Read, W: Write>(
     reader: &mut Watched<R>,
     database: &mut Db,
     writer: &mut Watched<W>,
-) -> Result<Option<bool>, RunFault>
+) -> Result<Option<bool>, RunError>
     requires { has_failed writer.old ≡ false }
     ensures { GoesOn R.remaining W.contents reader.old reader.new input.old input.new database.old database.new writer.old writer.new result }
 {
@@ -88,6 +88,6 @@ fn answer_next<R: Read, W: Write>(
     };
     match answered {
         Ok(is_refused) => Ok(Some(is_refused)),
-        Err(_) => Err(RunFault::Write),
+        Err(_) => Err(RunError::Write),
     }
 }

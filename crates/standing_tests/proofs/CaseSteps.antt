@@ -14,7 +14,7 @@ use Rattle.mm_standing.specs.declared.change.ListChange.{ListChange}
 use Rattle.mm_store.specs.Marks.{rows_at_mark, rows_now}
 use Rattle.mm_store.specs.Tables.{SameForm, Tables}
 use Rattle.mm_store.specs.Undoing.{CanUndo}
-use Rattle.mm_store.specs.Worlds.{Noted}
+use Rattle.mm_store.specs.Snapshots.{Logged}
 use Rattle.mm_value.specs.declared.values.Value.{Value}
 use Rattle.store_tests.specs.SampleStore.{ArePlain}
 use Rattle.store_tests.proofs.PlainStores.{plain_formed}
@@ -24,7 +24,7 @@ use Rattle.standing_tests.proofs.TableRows.{before_listed}
 
 -- ---- steps of tables and lists
 
-module _ (store new : Tables) (undo later : List Noted) (lists left : Lists) (queries : left.queries ≡ lists.queries) where
+module _ (store new : Tables) (undo later : List Logged) (lists left : Lists) (queries : left.queries ≡ lists.queries) where
   -- Tables of the same form with lists that have the rows of the same queries are a case.
   pub case_still : IsCase store undo lists → length new.tables ≡ length store.tables → ArePlain new → CanUndo new later
       → (rows : RowsByPlace) → before_at new ≡ rows → FitNow rows left → left.prepared ≡ []
@@ -53,7 +53,7 @@ module _ (store new : Tables) (undo later : List Noted) (lists left : Lists) (qu
   }
 
 -- Lists that keep their counts and their queries leave a case.
-pub case_listed : (store : Tables) (undo : List Noted) (lists left : Lists) → left.queries ≡ lists.queries
+pub case_listed : (store : Tables) (undo : List Logged) (lists left : Lists) → left.queries ≡ lists.queries
     → ((list : ℕ) (row : List Value) → count_now left list row ≡ count_now lists list row) → left.prepared ≡ [] → IsCase store undo lists → IsCase store undo left
 case_listed store undo lists left queries counts ready was =
     case_still store store undo undo lists left queries was refl was.plain was.undoable (before_at store) refl
@@ -61,7 +61,7 @@ case_listed store undo lists left queries counts ready was =
 
 -- ---- steps back
 
-module _ (store new : Tables) (undo later : List Noted) (lists left : Lists) (queries : left.queries ≡ lists.queries) (commands changes : ℕ)
+module _ (store new : Tables) (undo later : List Logged) (lists left : Lists) (queries : left.queries ≡ lists.queries) (commands changes : ℕ)
     (log : left.log ≡ take changes lists.log)
     (counts : (mark : ℕ) → mark ≤ changes → (list : ℕ) (row : List Value) → count_at mark list row left ≡ count_at mark list row lists) where
   -- A case that went back to a mark is one.
@@ -86,20 +86,20 @@ module _ (store new : Tables) (undo later : List Noted) (lists left : Lists) (qu
       let taken = length_taken lists.log changes mark.changes_there in
       let long = ap (λ (cs : List ListChange). length cs) log in
       let kept = length_taken undo commands mark.commands_there in
-      let left_is = ap (λ (ns : List Noted). length ns) undo_is in
+      let left_is = ap (λ (ns : List Logged). length ns) undo_is in
       mark_still store new undo later lists left queries c h (omega arith) (omega arith) (rows c older) (counts h earlier) was
 
 -- ---- marks
 
 -- Where all commands and all changes are counted in, the rows and the lists are those now.
-pub mark_now : (store : Tables) (undo : List Noted) (lists : Lists) → IsCase store undo lists
+pub mark_now : (store : Tables) (undo : List Logged) (lists : Lists) → IsCase store undo lists
     → rows_now store ≡ map (λ (s : StoredRows). rows_of s) store.tables
     → (commands changes : ℕ) → commands ≡ length undo → changes ≡ length lists.log → IsMark store undo lists commands changes
 mark_now store undo lists was rows commands changes commands_are changes_are =
     let none : drop commands undo ≡ [] = drop_all undo commands (omega arith) in
     let done : drop changes lists.log ≡ [] = drop_all lists.log changes (omega arith) in
     let then : before_at store ≡ rows_then commands undo store =
-    before_listed store (rows_at_mark commands undo store) (sym (ap (λ (ns : List Noted). rows_at_mark 0 ns store) none ∙ rows)) in
+    before_listed store (rows_at_mark commands undo store) (sym (ap (λ (ns : List Logged). rows_at_mark 0 ns store) none ∙ rows)) in
     record {
       commands_there = omega arith;
       changes_there = omega arith;
@@ -108,7 +108,7 @@ mark_now store undo lists was rows commands changes commands_are changes_are =
     }
 
 -- With no standing query each mark that is there is one.
-pub mark_none : (store : Tables) (undo : List Noted) (lists : Lists) → lists.queries ≡ [] → IsMark store undo lists 0 0
+pub mark_none : (store : Tables) (undo : List Logged) (lists : Lists) → lists.queries ≡ [] → IsMark store undo lists 0 0
 mark_none store undo lists none = record {
   commands_there = omega arith;
   changes_there = omega arith;
@@ -116,7 +116,7 @@ mark_none store undo lists none = record {
       let at : slice_get {X = StandingQuery} [] list ≡ Some standing = subst (λ (qs : List StandingQuery). slice_get qs list ≡ Some standing) none there in cc;
 }
 
-pub case_none : (store : Tables) (undo : List Noted) (lists : Lists) → length store.tables ≡ 2 → ArePlain store → CanUndo store undo
+pub case_none : (store : Tables) (undo : List Logged) (lists : Lists) → length store.tables ≡ 2 → ArePlain store → CanUndo store undo
     → lists.queries ≡ [] → lists.prepared ≡ [] → IsCase store undo lists
 case_none store undo lists two plain undoable none ready = record {
   two = two;
@@ -132,7 +132,7 @@ case_none store undo lists two plain undoable none ready = record {
 -- ---- standing queries that come and go
 
 -- One more standing query, with the rows that it gives, leaves a case.
-pub case_watched : (store : Tables) (undo : List Noted) (lists : Lists) (new : StandingQuery) (bag : Counts) → length lists.queries ≡ length lists.bags
+pub case_watched : (store : Tables) (undo : List Logged) (lists : Lists) (new : StandingQuery) (bag : Counts) → length lists.queries ≡ length lists.bags
     → IsServed store new → IsWhole new → IsBagOf bag.entries (bag_over (before_at store) new)
     → IsCase store undo lists → IsCase store undo (record lists { queries = lists.queries ++ new ∷ []; bags = lists.bags ++ bag ∷ [] })
 case_watched store undo lists new bag many served whole is was = record {
@@ -146,7 +146,7 @@ case_watched store undo lists new bag many served whole is was = record {
 }
 
 -- So does one less.
-pub case_left : (store : Tables) (undo : List Noted) (lists : Lists) (place : ℕ)
+pub case_left : (store : Tables) (undo : List Logged) (lists : Lists) (place : ℕ)
     → IsCase store undo lists → IsCase store undo (record lists { queries = remove lists.queries place; bags = remove lists.bags place })
 case_left store undo lists place was = record {
   two = was.two;
@@ -164,6 +164,6 @@ same_count : (n m : ℕ) → pos n ≡ pos m → n ≡ m
 same_count n m e = cc
 
 -- A list is the bag of its query.
-pub list_is_bag : (store : Tables) (undo : List Noted) (lists : Lists) → IsCase store undo lists → (place : ℕ) (s : StandingQuery)
+pub list_is_bag : (store : Tables) (undo : List Logged) (lists : Lists) → IsCase store undo lists → (place : ℕ) (s : StandingQuery)
     → slice_get lists.queries place ≡ Some s → IsBagOf (entries_at lists.bags place) (bag_over (before_at store) s)
 list_is_bag store undo lists was place s at = λ row. same_count _ _ (was.fits place s at row)

@@ -15,7 +15,7 @@ use Rattle.mm_standing.specs.State.{AreServed, FitAt, FitNow, Lists}
 use Rattle.mm_store.specs.Marks.{rows_at_mark}
 use Rattle.mm_store.specs.Tables.{Tables, rows_at, rows_with}
 use Rattle.mm_store.specs.Undoing.{CanUndo}
-use Rattle.mm_store.specs.Worlds.{Noted}
+use Rattle.mm_store.specs.Snapshots.{Logged}
 use Rattle.store_tests.specs.SampleStore.{ArePlain}
 
 -- ---- queries
@@ -43,13 +43,13 @@ rows_edited store table edits place =
     if table == place then option_map_or (λ (stored : StoredRows). rows_with stored edits) (slice_get store.tables place) [] else rows_at store.tables place
 
 -- The rows of the table at each place when the log had so many commands.
-abbrev pub rows_then : ℕ → List Noted → Tables → RowsByPlace
+abbrev pub rows_then : ℕ → List Logged → Tables → RowsByPlace
 rows_then commands undo store place = slice_index_or (rows_at_mark commands undo store) place []
 
 -- ---- cases
 
 -- There are two tables of two columns; the log of their commands can be taken back; and the lists have the rows of their queries.
-pub record IsCase (store : Tables) (undo : List Noted) (lists : Lists) : Type 0 where
+pub record IsCase (store : Tables) (undo : List Logged) (lists : Lists) : Type 0 where
   pub two : length store.tables ≡ 2
   pub plain : ArePlain store
   pub undoable : CanUndo store undo
@@ -59,13 +59,13 @@ pub record IsCase (store : Tables) (undo : List Noted) (lists : Lists) : Type 0 
   pub ready : lists.prepared ≡ []
 
 -- When the tables had so many commands, and the lists so many changes, the lists had the rows of their queries.
-pub record IsMark (store : Tables) (undo : List Noted) (lists : Lists) (commands changes : ℕ) : Type 0 where
+pub record IsMark (store : Tables) (undo : List Logged) (lists : Lists) (commands changes : ℕ) : Type 0 where
   pub commands_there : commands ≤ length undo
   pub changes_there : changes ≤ length lists.log
   pub fits : FitAt changes (rows_then commands undo store) lists
 
 -- A case that can go back to its start and to a mark.
-pub record IsMarked (store : Tables) (undo : List Noted) (lists : Lists) (commands changes : ℕ) : Type 0 where
+pub record IsMarked (store : Tables) (undo : List Logged) (lists : Lists) (commands changes : ℕ) : Type 0 where
   pub case : IsCase store undo lists
   pub start : IsMark store undo lists 0 0
   pub mark : IsMark store undo lists commands changes

@@ -3,7 +3,7 @@ use Rattle.std.specs.Prelude.{◌≡◌, List, length, All, Contains}
 use Rattle.mm_relation.specs.Kept.{StoredRows}
 use Rattle.mm_store.specs.Tables.{Tables}
 use Rattle.mm_store.specs.Undoing.{CanUndo}
-use Rattle.mm_store.specs.Worlds.{Noted}
+use Rattle.mm_store.specs.Snapshots.{Logged}
 
 -- The table has two columns.
 pub record IsPlain (stored : StoredRows) : Type 0 where
@@ -14,7 +14,7 @@ abbrev pub ArePlain : Tables → Type 0
 ArePlain store = All IsPlain store.tables
 
 -- There are two such tables, the second refers to the first by its second column, and the log can be taken back.
-pub record IsCase (store : Tables) (undo : List Noted) : Type 0 where
+pub record IsCase (store : Tables) (undo : List Logged) : Type 0 where
   pub two : length store.tables ≡ 2
   pub plain : ArePlain store
   pub link : Contains store.links (record { from = 1; column = 1; to = 0 })

@@ -67,7 +67,7 @@ fn make(relation: &mut Relation, alloc: Global, edits: Vec<Edit>) -> Result<bool
     ensures { IsSample relation.new }
 {
     relation.is_kept();
-    if relation.has_twins_with(alloc, edits.as_slice())? {
+    if relation.has_duplicates_with(alloc, edits.as_slice())? {
         return Ok(false);
     }
     let mut log = Log::new(alloc);
@@ -315,7 +315,7 @@ fn edits_apart(
         return Ok(None);
     };
     let edits = edits_of(relation, alloc, exchange, one, other, gone)?;
-    if relation.has_twins_with(alloc, edits.as_slice())? {
+    if relation.has_duplicates_with(alloc, edits.as_slice())? {
         return Ok(None);
     }
     Ok(Some(edits))
@@ -327,16 +327,16 @@ fn there_and_back(
     relation: &mut Relation,
     alloc: Global,
     exchanges: &[Exchange],
-    owed: usize,
+    undo_room: usize,
 ) -> Result<Option<Shown>, AllocError>
     requires sample { IsSample relation.old }
-    requires spare { owed ≤ relation.old.spare }
-    requires spares { All (λ x. owed ≤ spare_of x) relation.old.indexes }
+    requires spare { undo_room ≤ relation.old.spare }
+    requires spares { All (λ x. undo_room ≤ spare_of x) relation.old.indexes }
     ensures sample { IsSample relation.new }
     ensures slots { slot_at relation.new.places ≡ slot_at relation.old.places }
     ensures key { relation.new.key ≡ relation.old.key }
-    ensures spare { owed ≤ relation.new.spare }
-    ensures spares { All (λ x. owed ≤ spare_of x) relation.new.indexes }
+    ensures spare { undo_room ≤ relation.new.spare }
+    ensures spares { All (λ x. undo_room ≤ spare_of x) relation.new.indexes }
 {
     let Some((exchange, later)) = exchanges.split_first() else {
         return Ok(Some(look(relation, alloc)?));
@@ -346,9 +346,9 @@ fn there_and_back(
         return Ok(None);
     };
     let mut log = Log::new(alloc);
-    relation.apply(alloc, edits, owed, &mut log)?;
-    let shown = match owed.checked_add(log.owed()) {
-        Some(owed) => there_and_back(relation, alloc, later, owed),
+    relation.apply(alloc, edits, undo_room, &mut log)?;
+    let shown = match undo_room.checked_add(log.undo_room()) {
+        Some(undo_room) => there_and_back(relation, alloc, later, undo_room),
         None => Ok(None),
     };
     relation.revert(&mut log);
@@ -399,7 +399,7 @@ fn sample_with(alloc: Global, keys: &[i64]) -> Result<Relation, Fail>
 }
 
 /// Adds rows of which two would have one key.
-fn refuse_twins(rt: &(impl Abort + AllocGlobal), relation: &mut Relation) -> Result<(), Fail>
+fn refuse_duplicates(rt: &(impl Abort + AllocGlobal), relation: &mut Relation) -> Result<(), Fail>
     requires { IsSample relation.old }
 {
     let alloc = rt.alloc();
@@ -412,9 +412,9 @@ fn refuse_twins(rt: &(impl Abort + AllocGlobal), relation: &mut Relation) -> Res
 }
 
 #[test]
-fn refuses_twins(rt: HostRuntime) -> Result<(), Fail> {
+fn refuses_duplicates(rt: HostRuntime) -> Result<(), Fail> {
     let mut relation = sample_with(rt.alloc(), &[3, 1, 2])?;
-    refuse_twins(&rt, &mut relation)
+    refuse_duplicates(&rt, &mut relation)
 }
 
 /// Adds no row, and one of a new key.
@@ -632,7 +632,7 @@ fn finds_each_of_many_rows(rt: HostRuntime) -> Result<(), Fail> {
     find_and_take_each(&rt, &mut relation)
 }
 
-/// The same as `there_and_back` with nothing owed, where memory is refused once at most.
+/// The same as `there_and_back` with no room reserved for undo, where memory is refused once at most.
 fn try_exchanges(
     relation: &mut Relation,
     alloc: Global,

@@ -6,7 +6,7 @@ mod builds;
 mod in_place;
 mod inserts;
 mod iters;
-mod lookup;
+mod look_up;
 mod ranges;
 mod removes;
 mod search;

@@ -12,7 +12,7 @@ use crate::builds::{FULL, build};
 use crate::in_place::{insert_in_place, remove_in_place};
 use crate::inserts::insert_into;
 use crate::iters::Iter;
-use crate::lookup::find_in;
+use crate::look_up::find_in;
 use crate::ranges::copy_range_of;
 use crate::removes::remove_from;
 use mm_order::{OrderedRefs, Probe, RefOrder, Seek};

@@ -121,7 +121,7 @@ abbrev pub ReadsItems : {A : Type 0} → Phrase (List A) → (List A → List Va
 ReadsItems phrase literals old new before after result =
     MatchResult result (λ u. GivesItems phrase literals old new before after) (Fails phrase old)
 
--- Nothing stands behind what was read, and then the first fault is told.
+-- Nothing stands behind what was read, and then the first fault is answered.
 abbrev pub Finishes : Reader → Result (Unit {0}) Refusal → Type 0
 Finishes reader (Ok u) = (tokens reader.rest ≡ []) × (reader.fault ≡ None)
 Finishes reader (Err e) = ((e ≡ Syntax) × (tokens reader.rest ≢ [])) ⊎ ((tokens reader.rest ≡ []) × (reader.fault ≡ Some e))

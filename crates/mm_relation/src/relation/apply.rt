@@ -6,7 +6,7 @@ ghost use Rattle.mm_partition.specs.Places.{Hidden, slot_at, extent_of};
 ghost use Rattle.mm_relation.specs.declared.names.Side.TheVariants.{New, Old};
 ghost use Rattle.mm_relation.specs.Before.{before, StandsBack};
 ghost use Rattle.mm_relation.specs.Differs.{Differs};
-ghost use Rattle.mm_relation.specs.Edits.{named, edit_name, entry_name, new_rows, added_count, removed};
+ghost use Rattle.mm_relation.specs.Edits.{named, edit_name, record_name, new_rows, added_count, removed};
 ghost use Rattle.mm_relation.specs.Changes.{Changes, Standing, AreHidden};
 ghost use Rattle.mm_relation.specs.Index.{InOrder, EachTurns, SameIndex, spare_of};
 ghost use Rattle.mm_schema.specs.Rows.{changed};
@@ -24,15 +24,15 @@ use mm_order::OrderedRefs;
 use std::alloc::{AllocError, Global};
 
 impl Relation {
-    /// Makes all edits, and notes each in an empty log: a row that is changed keeps its reference, a new row gets a
-    /// free one, and a row that goes is hidden. Every growth comes first: room for the rows that are
-    /// added, for an entry of each edit in the log, and in every index for the references that come in. Then the old
-    /// references go out of every index, the rows are changed where they stand, and the new references come
-    /// in. `AllocError` where memory is refused; then all is as before, but for spare room.
+    /// Makes all edits, and records each in an empty log: a row that is changed keeps its reference, a new row gets a
+    /// free one, and a row that goes is hidden. Every growth comes first: room for the rows that are added, for an undo
+    /// record of each edit in the log, and in every index for the references that come in. Then the old references go
+    /// out of every index, the rows are changed where they stand, and the new references come in. `AllocError` where
+    /// memory is refused; then all is as before, but for spare room.
     ///
-    /// Since `revert` may take no memory, every index has room afterwards for the references that come in again when the
-    /// command is taken back, one for each row that goes or changes. `owed` tells how many places the commands before
-    /// this one need to be taken back: so much room is there beside. `AllocError` also where the sum is no `usize`.
+    /// Since `revert` may take no memory, every index has room afterwards for the references that come in again when
+    /// the command is taken back, one for each row that goes or changes. `undo_room` says how many places the commands
+    /// before this one need to be taken back: so much room is there too. `AllocError` also where the sum is no `usize`.
     ///
     /// The edits have to stand: each names a live row, no two the same one; each new row has the relation's
     /// width; and of the rows that are kept and the new ones no two have one key. The extent grows by at most the number of
@@ -41,7 +41,7 @@ impl Relation {
         &mut self,
         alloc: Global,
         edits: Vec<Edit>,
-        owed: usize,
+        undo_room: usize,
         log: &mut Log,
     ) -> Result<(), AllocError>
         requires empty { log.old.entries ≡ [] }
@@ -62,29 +62,29 @@ impl Relation {
         ensures still_hidden { OnOk result ((at : RowRef) (row : List Value)
             → slot_at self.old.places at ≡ Hidden row → slot_at self.new.places at ≡ Hidden row) }
         ensures differs { OnOk result (Differs (slot_at self.new.places) (slot_at self.old.places)
-            (named entry_name New log.new.entries) (named entry_name Old log.new.entries)) }
+            (named record_name New log.new.entries) (named record_name Old log.new.entries)) }
         ensures key { OnOk result (self.new.key ≡ self.old.key) }
         ensures width { OnOk result (self.new.width ≡ self.old.width) }
         ensures indexes { OnOk result (EachTurns SameIndex self.old.indexes self.new.indexes) }
         ensures extent { OnOk result (extent_of self.new.places ≤ extent_of self.old.places + added_count edits.items) }
-        ensures owed { OnOk result (owed + length (named entry_name Old log.new.entries) ≤ self.new.spare) }
-        ensures owed_each { OnOk result
-            (All (λ x. owed + length (named entry_name Old log.new.entries) ≤ spare_of x) self.new.indexes) }
+        ensures undo_room { OnOk result (undo_room + length (named record_name Old log.new.entries) ≤ self.new.spare) }
+        ensures undo_room_each { OnOk result
+            (All (λ x. undo_room + length (named record_name Old log.new.entries) ≤ spare_of x) self.new.indexes) }
         ensures err { OnErr result (SameButRoom self.old self.new) }
         ensures err_log { OnErr result (log.new.entries ≡ log.old.entries) }
     {
-        self.make_room(alloc, edits.as_slice(), owed, log)?;
+        self.make_room(alloc, edits.as_slice(), undo_room, log)?;
         self.change(edits, log);
         Ok(())
     }
 
     /// Makes room for all that the edits add to the rows, the log and the indexes, for all that taking them back adds
-    /// to the indexes again, and for what is owed.
+    /// to the indexes again, and for `undo_room` entries more.
     fn make_room(
         &mut self,
         alloc: Global,
         edits: &[Edit],
-        owed: usize,
+        undo_room: usize,
         log: &mut Log,
     ) -> Result<(), AllocError>
         ensures same { SameButRoom self.old self.new }
@@ -92,11 +92,11 @@ impl Relation {
         ensures room { OnOk result (added_count edits.now ≤ self.new.places.room) }
         ensures log { OnOk result (length edits.now ≤ log.new.room) }
         ensures spare { OnOk result
-            (owed + (length (named edit_name Old edits.now) + length (new_rows edits.now)) ≤ self.new.spare) }
+            (undo_room + (length (named edit_name Old edits.now) + length (new_rows edits.now)) ≤ self.new.spare) }
         ensures spares { OnOk result
-            (All (λ x. owed + (length (named edit_name Old edits.now) + length (new_rows edits.now)) ≤ spare_of x) self.new.indexes) }
+            (All (λ x. undo_room + (length (named edit_name Old edits.now) + length (new_rows edits.now)) ≤ spare_of x) self.new.indexes) }
     {
-        let places = count_places(edits, owed).ok_or(AllocError)?;
+        let places = count_places(edits, undo_room).ok_or(AllocError)?;
         self.rows.track(alloc, self.key)?;
         self.rows.reserve(alloc, count_added(edits))?;
         log.reserve(alloc, edits.len())?;
@@ -104,7 +104,7 @@ impl Relation {
         reserve_all(alloc, &mut self.indexes, places)
     }
 
-    /// Makes all edits in room that is there, and notes them.
+    /// Makes all edits in room that is there, and logs them.
     fn change(&mut self, edits: Vec<Edit>, log: &mut Log)
         requires room { added_count edits.items ≤ self.old.places.room }
         requires log { length edits.items ≤ log.old.room }
@@ -121,7 +121,7 @@ impl Relation {
         ensures still_hidden { (at : RowRef) (row : List Value)
             → slot_at self.old.places at ≡ Hidden row → slot_at self.new.places at ≡ Hidden row }
         ensures differs { Differs (slot_at self.new.places) (slot_at self.old.places)
-            (named entry_name New log.new.entries) (named entry_name Old log.new.entries) }
+            (named record_name New log.new.entries) (named record_name Old log.new.entries) }
         ensures rows { HasRowsAfter self.old edits.items self.new }
         ensures row_list { rows_of self.new
             ≡ changed self.old.key (edit_pairs (slot_at self.old.places) edits.items) (rows_of self.old) }

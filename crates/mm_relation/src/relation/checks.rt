@@ -1,6 +1,6 @@
 //! Edits by the rows that there would be.
 ghost use Rattle.std.specs.Prelude.{◌≡◌, ◌≤◌, false, length, IfOk};
-ghost use Rattle.mm_schema.specs.Rows.{changed, has_twin_keys, most_rows};
+ghost use Rattle.mm_schema.specs.Rows.{changed, has_duplicate_keys, most_rows};
 ghost use Rattle.mm_partition.specs.Places.{slot_at};
 ghost use Rattle.mm_relation.specs.Changes.{Standing};
 ghost use Rattle.mm_relation.specs.Kept.{KeysStayApart};
@@ -13,14 +13,14 @@ use std::alloc::{AllocError, Global};
 impl Relation {
     /// Whether two rows would have one key with the edits made. It takes O(m log m + d log n) comparisons for m edits
     /// among n rows, of which d bring a row with another key. `AllocError` where memory is refused.
-    pub fn has_twins_with(&self, alloc: Global, edits: &[Edit]) -> Result<bool, AllocError>
+    pub fn has_duplicates_with(&self, alloc: Global, edits: &[Edit]) -> Result<bool, AllocError>
         requires { Standing (slot_at self.now.places) edits.now }
-        ensures twins { IfOk result (λ twins. twins
-            ≡ has_twin_keys self.now.key (changed self.now.key (edit_pairs (slot_at self.now.places) edits.now) (rows_of self.now))) }
-        ensures apart { IfOk result (λ twins. twins ≡ false → KeysStayApart self.now edits.now) }
+        ensures duplicates { IfOk result (λ duplicates. duplicates
+            ≡ has_duplicate_keys self.now.key (changed self.now.key (edit_pairs (slot_at self.now.places) edits.now) (rows_of self.now))) }
+        ensures apart { IfOk result (λ duplicates. duplicates ≡ false → KeysStayApart self.now edits.now) }
     {
         let _ = &self.width;
-        self.has_twins_after(alloc, edits)
+        self.has_duplicates_after(alloc, edits)
     }
 
     /// How many rows there would be with the edits made, where there are at most 1,048,576 now.

@@ -13,28 +13,28 @@ use mm_schema::IndexKind;
 use std::alloc::{AllocError, Global};
 
 impl Relation {
-    /// Makes an index on a column over the at most 1,048,576 rows that are there, and puts it behind the
-    /// others. `owed` tells how many entries come into it when the commands of a transaction are taken back; the index has
+    /// Makes an index on a column over the at most 1,048,576 rows that are there, and puts it behind the others.
+    /// `undo_room` says how many entries come into it when the commands of a transaction are taken back; the index has
     /// room for so many more. `AllocError` where memory is refused; then all is as before.
     pub fn add_index(
         &mut self,
         alloc: Global,
         column: usize,
         kind: IndexKind,
-        owed: usize,
+        undo_room: usize,
     ) -> Result<(), AllocError>
         requires column { column < self.old.width }
         requires few { length self.old.refs ≤ most_rows }
         ensures added { OnOk result (AddsIndex column kind self.old.indexes self.new.indexes) }
         ensures rest { OnOk result (self.new ≡ record self.old { indexes = self.new.indexes }) }
-        ensures owed { OnOk result (All (λ x. owed ≤ spare_of x) self.old.indexes → All (λ x. owed ≤ spare_of x) self.new.indexes) }
+        ensures undo_room { OnOk result (All (λ x. undo_room ≤ spare_of x) self.old.indexes → All (λ x. undo_room ≤ spare_of x) self.new.indexes) }
         ensures err { OnErr result (self.new ≡ self.old) }
     {
         self.indexes.reserve(1)?;
         let refs = copy_refs(alloc, &self.by_key)?;
         track_for(alloc, &mut self.rows, column, kind)?;
         let refs = refs.as_slice();
-        match Index::with_room(alloc, &self.rows, column, self.key, kind, refs, owed) {
+        match Index::with_room(alloc, &self.rows, column, self.key, kind, refs, undo_room) {
             Ok(index) => {
                 self.indexes.push_reserved(index);
                 Ok(())

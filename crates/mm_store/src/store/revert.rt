@@ -1,6 +1,6 @@
 //! Commands that are taken back.
 ghost use Rattle.std.specs.Prelude.{◌≡◌, ◌+◌, ◌<◌, ◌≤◌, ◌++◌, ℕ, Bool, List, [], ◌∷◌, Some, None, if◌then◌else◌, length, map, drop, take};
-ghost use Rattle.mm_relation.specs.Edits.{entry_name, named, new_rows};
+ghost use Rattle.mm_relation.specs.Edits.{named, new_rows, record_name};
 ghost use Rattle.mm_relation.specs.Index.{EachTurns};
 ghost use Rattle.mm_relation.specs.Kept.{StoredRows};
 ghost use Rattle.mm_relation.specs.RowLists.{rows_of};
@@ -12,7 +12,7 @@ ghost use Rattle.mm_store.specs.Commands.{IsTakenBack};
 ghost use Rattle.mm_store.specs.Marks.{rows_at_mark, rows_now};
 ghost use Rattle.mm_store.specs.Tables.{AreFit, IsAt, SameForm, Turns, has_orphans, rows_with};
 ghost use Rattle.mm_store.specs.Undoing.{CanUndo, HasSpare, IsReversible, headings_of};
-ghost use Rattle.mm_store.specs.Worlds.{Noted, back, back_all, world_of};
+ghost use Rattle.mm_store.specs.Snapshots.{Logged, back, back_all, snapshot_of};
 ghost use Rattle.mm_value.specs.declared.refusal.Refusal.TheVariants.{RowIsReferenced};
 
 use super::Store;
@@ -27,7 +27,7 @@ impl Store {
         requires fits { CanUndo self.old undo.old }
         requires mark { mark ≤ length undo.old }
         ensures rows { map rows_of self.new.tables ≡ rows_at_mark mark undo.old self.old }
-        ensures back { world_of self.new ≡ back_all (drop mark undo.old) (world_of self.old) }
+        ensures back { snapshot_of self.new ≡ back_all (drop mark undo.old) (snapshot_of self.old) }
         ensures undo { undo.new ≡ take mark undo.old }
         ensures fits { CanUndo self.new undo.new }
         ensures earlier { (earlier : ℕ) → earlier ≤ mark
@@ -45,7 +45,7 @@ impl Store {
     fn revert_newest(&mut self, undo: &mut Undo)
         requires fits { CanUndo self.old undo.old }
         requires some { 0 < length undo.old }
-        ensures back { (newest : Noted) × (undo.old ≡ undo.new ++ newest ∷ []) × (world_of self.new ≡ back newest (world_of self.old)) }
+        ensures back { (newest : Logged) × (undo.old ≡ undo.new ++ newest ∷ []) × (snapshot_of self.new ≡ back newest (snapshot_of self.old)) }
         ensures fits { CanUndo self.new undo.new }
         ensures links { self.new.links ≡ self.old.links }
         ensures form { EachTurns SameForm self.old.tables self.new.tables }
@@ -56,12 +56,12 @@ impl Store {
         self.take_back(command.table, &mut command.log);
     }
 
-    /// Takes the changes of a table back of which a log tells.
+    /// Takes back the changes of a table that a log has.
     fn take_back(&mut self, table: usize, log: &mut Log)
         requires reversible { IsReversible (headings_of self.old) self.old.links (record { table = table; entries = log.old.entries })
-            (world_of self.old) }
+            (snapshot_of self.old) }
         requires spare { (stored : StoredRows) → IsAt self.old table stored
-            → HasSpare (length (named entry_name side.Old log.old.entries)) stored }
+            → HasSpare (length (named record_name side.Old log.old.entries)) stored }
         ensures back { (stored : StoredRows) → IsAt self.old table stored
             → (new : StoredRows) × Turns self.old table new self.new × IsTakenBack stored log.old.entries new }
         ensures links { self.new.links ≡ self.old.links }

@@ -19,9 +19,9 @@ use mm_relation::Log;
 const MAX_SPARES: usize = 64;
 
 impl Store {
-    /// Makes all commands of the log final: frees the rows that they removed, and empties the log. Rows and references stay. Each
-    /// tree of a table that they changed keeps at most 64 spare nodes. It takes no memory and cannot fail, and looks at each entry
-    /// of the log once and for each command at each index of its table.
+    /// Makes all commands of the log final: frees the rows that they removed, and empties the log. Rows and references
+    /// stay. Each tree of a table that they changed keeps at most 64 spare nodes. It takes no memory and cannot fail,
+    /// and looks at each undo record of the log once and for each command at each index of its table.
     pub fn settle(&mut self, undo: &mut Undo)
         requires { CanUndo self.old undo.old }
         ensures rows { map rows_of self.new.tables ≡ map rows_of self.old.tables }

@@ -5,8 +5,8 @@ use Rattle.mm_lang.specs.Lines.{without_return, HasNoFeed}
 use Rattle.mm_value.specs.Watched.{inner_of, has_failed}
 use Rattle.mm_value.specs.declared.device.Watched.{Watched}
 use Rattle.mmdb_core.specs.steps.Feeds.{EndsLine}
-use Rattle.mmdb_core.specs.declared.fault.RunFault.{RunFault}
-use Rattle.mmdb_core.specs.declared.fault.RunFault.TheVariants.{Read, Write, TooLong}
+use Rattle.mmdb_core.specs.declared.run_error.RunError.{RunError}
+use Rattle.mmdb_core.specs.declared.run_error.RunError.TheVariants.{Read, Write, TooLong}
 use Rattle.mmdb_core.specs.declared.input.Input.{Input}
 use Rattle.mmdb_core.specs.declared.input.Next.{Next}
 use Rattle.mmdb_core.specs.declared.input.Next.TheVariants.{Line, Long, End}
@@ -67,13 +67,13 @@ Comes remaining reader after old new Long = (line : List ℕ) × PassesLine rema
 Comes remaining reader after old new End = Advances remaining reader after old new [] × Finds new End
 
 -- Why an input breaks off before its end: its reader failed, or gave more than the limit.
-abbrev pub IsFault : {R : Type 0} → Input → Watched R → RunFault → Type 0
+abbrev pub IsFault : {R : Type 0} → Input → Watched R → RunError → Type 0
 IsFault input reader Read = (input.is_ended ≡ false) × (has_failed reader ≡ true) × (0 < input.still)
 IsFault input reader Write = ⊥
 IsFault input reader TooLong = (input.is_ended ≡ false) × (input.still ≡ 0)
 
 -- An input breaks off before its next line has ended.
-pub record StopsInLine {R : Type 0} (remaining : R → Option (List ℕ)) (reader after : Watched R) (old new : Input) (fault : RunFault) : Type 0 where
+pub record StopsInLine {R : Type 0} (remaining : R → Option (List ℕ)) (reader after : Watched R) (old new : Input) (fault : RunError) : Type 0 where
   pub gone : List ℕ
   pub advances : Advances remaining reader after old new gone
   pub no_feed : HasNoFeed (gone ++ new.window.bytes)

@@ -14,8 +14,8 @@ use Rattle.mm_query.specs.declared.command.Command.{Command}
 use Rattle.mmdb_core.specs.steps.Input.{Advances, Finds, PassesLine, StopsInLine}
 use Rattle.mm_txn.specs.Steps.{refused_outcome}
 use Rattle.mmdb_core.specs.Run.{answer, is_error, text_of}
-use Rattle.mmdb_core.specs.declared.fault.RunFault.{RunFault}
-use Rattle.mmdb_core.specs.declared.fault.RunFault.TheVariants.{Read, Write, TooLong}
+use Rattle.mmdb_core.specs.declared.run_error.RunError.{RunError}
+use Rattle.mmdb_core.specs.declared.run_error.RunError.TheVariants.{Read, Write, TooLong}
 use Rattle.mmdb_core.specs.declared.input.Input.{Input}
 use Rattle.mmdb_core.specs.declared.input.Next.TheVariants.{End}
 
@@ -59,9 +59,9 @@ pub record WritesNothing {W : Type 0} (contents : W → Option (List ℕ)) (old 
 
 -- A run goes on by a line, ends with its input, or breaks off.
 abbrev pub GoesOn : {R W : Type 0} → (R → Option (List ℕ)) → (W → Option (List ℕ)) → Watched R → Watched R → Input → Input → State → State → Watched W
-    → Watched W → Result (Option Bool) RunFault → Type 0
+    → Watched W → Result (Option Bool) RunError → Type 0
 GoesOn remaining contents reader later input next before after old new (Ok (Some is_refused)) =
-    PassesReplied {E = RunFault} remaining contents reader later input next before after old new (Ok is_refused)
+    PassesReplied {E = RunError} remaining contents reader later input next before after old new (Ok is_refused)
 GoesOn remaining contents reader later input next before after old new (Ok None) =
     Advances remaining reader later input next [] × Finds next End × WritesNothing contents old new
 GoesOn remaining contents reader later input next before after old new (Err Read) =

@@ -10,7 +10,7 @@ use Rattle.mm_store.proofs.Joining.{some_at}
 use Rattle.mm_store.specs.Seen.{Seen}
 use Rattle.mm_store.specs.Tables.{IsAt, Tables}
 use Rattle.mm_value.specs.Hash.{value_hash}
-use Rattle.mm_join.specs.Ways.{hashed_row}
+use Rattle.mm_join.specs.AccessMethods.{hashed_row}
 use Rattle.mm_join.proofs.Found.{hashed_all, hashed_more}
 use Rattle.mm_join.proofs.Walked.{walk_length}
 use Rattle.mm_join.proofs.built.hashed_rows.Goals as goal

@@ -3,7 +3,7 @@ use Rattle.std.specs.List.Sorted.{IsPermutation}
 use Rattle.mm_partition.specs.Places.{slot_at}
 use Rattle.mm_relation.specs.Kept.{StoredRows}
 use Rattle.mm_store.specs.Tables.{IsAt}
-use Rattle.mm_join.specs.Ways.{hashed_row}
+use Rattle.mm_join.specs.AccessMethods.{hashed_row}
 use Rattle.mm_join.proofs.built.hashed_rows.Given as goal
 
 -- the pairs of the rows so far are held, and for those of the others there is room

@@ -14,24 +14,24 @@ use Rattle.mm_value.specs.declared.values.Value.{Value}
 use Rattle.mm_join.proofs.Chosen.{chosen_next, next_live, none_left, pushed_row, rest_live, table_within}
 use Rattle.mm_join.proofs.inner.choose.Goals as goal
 
-pub bounds-front-place : goal.bounds-front-place
-bounds-front-place c =
-    table_within c.args.view.now.store c.args.front.tables.now c.args.front.refs.now c.loop-place.place record { part = 0; slot = 0 } c.loop-place-test.true
+pub bounds-outer-place : goal.bounds-outer-place
+bounds-outer-place c =
+    table_within c.args.view.now.store c.args.outer.tables.now c.args.outer.refs.now c.loop-place.place record { part = 0; slot = 0 } c.loop-place-test.true
     c.loop-place.invariant.live
 
 pub row-requires-clause-there : goal.row-requires-clause-there
 row-requires-clause-there c =
-    let live = next_live c.args.view.now.store c.args.front.tables.now c.args.front.refs.now c.loop-place.place record { part = 0; slot = 0 }
+    let live = next_live c.args.view.now.store c.args.outer.tables.now c.args.outer.refs.now c.loop-place.place record { part = 0; slot = 0 }
     c.loop-place-test.true c.loop-place.invariant.live in
-    subst (λ (store : Tables). get_or c.args.front.tables.now c.loop-place.place 0 < length store.tables) (sym c.loop-place.invariant.same)
-    (slice_get_within c.args.view.now.store.tables (get_or c.args.front.tables.now c.loop-place.place 0) live.0 live.1)
+    subst (λ (store : Tables). get_or c.args.outer.tables.now c.loop-place.place 0 < length store.tables) (sym c.loop-place.invariant.same)
+    (slice_get_within c.args.view.now.store.tables (get_or c.args.outer.tables.now c.loop-place.place 0) live.0 live.1)
 
 pub row-requires-clause-live : goal.row-requires-clause-live
 row-requires-clause-live c = λ stored at.
-    let live = next_live c.args.view.now.store c.args.front.tables.now c.args.front.refs.now c.loop-place.place record { part = 0; slot = 0 }
+    let live = next_live c.args.view.now.store c.args.outer.tables.now c.args.outer.refs.now c.loop-place.place record { part = 0; slot = 0 }
     c.loop-place-test.true c.loop-place.invariant.live in
-    let here = subst (λ (store : Tables). IsAt store (get_or c.args.front.tables.now c.loop-place.place 0) stored) c.loop-place.invariant.same at in
-    subst (λ (s : StoredRows). IsLive s.places (get_or c.args.front.refs.now c.loop-place.place record { part = 0; slot = 0 }))
+    let here = subst (λ (store : Tables). IsAt store (get_or c.args.outer.tables.now c.loop-place.place 0) stored) c.loop-place.invariant.same at in
+    subst (λ (s : StoredRows). IsLive s.places (get_or c.args.outer.refs.now c.loop-place.place record { part = 0; slot = 0 }))
     (one_relation live.0 stored (sym live.1 ∙ here)) live.2
 
 pub returns-in_err-push-clause-reads : goal.returns-in_err-push-clause-reads
@@ -39,7 +39,7 @@ returns-in_err-push-clause-reads c =
     omega (
       arith,
       ap (λ (seen : Seen). seen.reads) c.row.ensures.counted,
-      table_within c.args.view.now.store c.args.front.tables.now c.args.front.refs.now c.loop-place.place record { part = 0; slot = 0 }
+      table_within c.args.view.now.store c.args.outer.tables.now c.args.outer.refs.now c.loop-place.place record { part = 0; slot = 0 }
           c.loop-place-test.true c.loop-place.invariant.live,
       c.loop-place.invariant.reads,
     )
@@ -47,15 +47,15 @@ returns-in_err-push-clause-reads c =
 pub loop-place-preserved : goal.loop-place-preserved
 loop-place-preserved c =
     let store = c.args.view.now.store in
-    let tables = c.args.front.tables.now in
-    let front = c.args.front.refs.now in
+    let tables = c.args.outer.tables.now in
+    let outer = c.args.outer.refs.now in
     let place = c.loop-place.place in
     let table = get_or tables place 0 in
-    let at : RowRef = get_or front place record { part = 0; slot = 0 } in
-    let live = next_live store tables front place record { part = 0; slot = 0 } c.loop-place-test.true c.loop-place.invariant.live in
+    let at : RowRef = get_or outer place record { part = 0; slot = 0 } in
+    let live = next_live store tables outer place record { part = 0; slot = 0 } c.loop-place-test.true c.loop-place.invariant.live in
     let within : table < length c.loop-place.view.store.tables = subst (λ (s : Tables). table < length s.tables) (sym c.loop-place.invariant.same)
     (slice_get_within store.tables table live.0 live.1) in
-    let below = table_within store tables front place record { part = 0; slot = 0 } c.loop-place-test.true c.loop-place.invariant.live in
+    let below = table_within store tables outer place record { part = 0; slot = 0 } c.loop-place-test.true c.loop-place.invariant.live in
     let given : row_of store table at ≡ c.row.result.now =
     ap (λ (s : Tables). row_of s table at) (sym c.loop-place.invariant.same)
     ∙ row_given c.loop-place.view.store table at c.row.result.now within c.row.ensures.row in
@@ -64,10 +64,10 @@ loop-place-preserved c =
     ∙ ap (λ (row : List Value). map option_copied c.loop-place.rows.items ++ Some row ∷ []) (sym given) in
     record {
       same = ap (λ (seen : Seen). seen.store) c.row.ensures.counted ∙ c.loop-place.invariant.same;
-      rows = ap (λ l. l ++ map Some (rows_of_combo store (drop (place + 1) tables) (drop (place + 1) front))) pushed
-          ∙ chosen_next store tables front place record { part = 0; slot = 0 } c.loop-place-test.true c.loop-place.invariant.live
-          (map option_copied c.loop-place.rows.items) (map Some (rows_of_combo store tables front)) c.loop-place.invariant.rows;
-      live = rest_live store tables front place record { part = 0; slot = 0 } c.loop-place-test.true c.loop-place.invariant.live;
+      rows = ap (λ l. l ++ map Some (rows_of_combo store (drop (place + 1) tables) (drop (place + 1) outer))) pushed
+          ∙ chosen_next store tables outer place record { part = 0; slot = 0 } c.loop-place-test.true c.loop-place.invariant.live
+          (map option_copied c.loop-place.rows.items) (map Some (rows_of_combo store tables outer)) c.loop-place.invariant.rows;
+      live = rest_live store tables outer place record { part = 0; slot = 0 } c.loop-place-test.true c.loop-place.invariant.live;
       within = omega (arith, below);
       reads = omega (arith, ap (λ (seen : Seen). seen.reads) c.row.ensures.counted, c.loop-place.invariant.reads);
     }
@@ -75,9 +75,9 @@ loop-place-preserved c =
 pub returns-clause-rows : goal.returns-clause-rows
 returns-clause-rows c =
     let store = c.args.view.now.store in
-    let tables = c.args.front.tables.now in
-    let front = c.args.front.refs.now in
-    let none = none_left store tables front c.loop-place.place c.loop-place-test.false in
+    let tables = c.args.outer.tables.now in
+    let outer = c.args.outer.refs.now in
+    let none = none_left store tables outer c.loop-place.place c.loop-place-test.false in
     sym (append-nil (map option_copied c.loop-place.rows.items))
     ∙ (sym (ap (λ (l : List (List Value)). map option_copied c.loop-place.rows.items ++ map Some l) none) ∙ c.loop-place.invariant.rows)
 

@@ -7,9 +7,9 @@ use Rattle.mm_join.proofs.inner.choose.Given as goal
 abbrev pub invariant-loop-place : goal.invariant-loop-place
 invariant-loop-place l = record {
   same : l.view.store ≡ l.fn.view.store;
-  rows : map option_copied l.rows.items ++ map Some (rows_of_combo l.fn.view.store (drop l.place l.front.tables.now) (drop l.place l.front.refs.now))
-      ≡ map Some (rows_of_combo l.fn.view.store l.front.tables.now l.front.refs.now);
-  live : AreLive l.fn.view.store (drop l.place l.front.tables.now) (drop l.place l.front.refs.now);
-  within : l.place ≤ length l.front.tables.now;
+  rows : map option_copied l.rows.items ++ map Some (rows_of_combo l.fn.view.store (drop l.place l.outer.tables.now) (drop l.place l.outer.refs.now))
+      ≡ map Some (rows_of_combo l.fn.view.store l.outer.tables.now l.outer.refs.now);
+  live : AreLive l.fn.view.store (drop l.place l.outer.tables.now) (drop l.place l.outer.refs.now);
+  within : l.place ≤ length l.outer.tables.now;
   reads : l.view.reads ≤ l.fn.view.reads + l.place;
 }

@@ -1,4 +1,4 @@
--- What is told of a command's literals is what its tokens say.
+-- What is said of a command's literals is what its tokens say.
 use Rattle.mm_lang.proofs.LiteralOrder.{read_literals, first_past}
 use Rattle.mm_lang.proofs.grammar.literals_are_in_written_order.Goals as goal
 

@@ -1,7 +1,7 @@
 use Rattle.std.proofs.Common.{Err, ◌++◌, codes, refl, append_assoc, ◌∙◌}
 use Rattle.std.proofs.lemmas.Result.{err_from_is_err_and}
 use Rattle.mm_value.proofs.Writing.{Writes-then, Writes-stops}
-use Rattle.mm_lang.specs.ReplyText.{columns_text, rows_told}
+use Rattle.mm_lang.specs.ReplyText.{columns_text, rows_listed}
 use Rattle.mm_lang.proofs.ListingTexts.{table_parts}
 use Rattle.mm_lang.proofs.listing_text.write_table_line.Goals as goal
 
@@ -11,15 +11,15 @@ returns-in_err-write_two g c =
     let listed = c.args.listed.now in
     let name = c.bytes.result.now in
     let columns = codes " (" ++ columns_text listed.table.definition.columns ++ codes ")" in
-    Writes-stops (columns ++ rows_told listed.rows)
+    Writes-stops (columns ++ rows_listed listed.rows)
     (table_parts listed name listed.table.definition.columns c.bytes.ensures.value refl
-    ∙ append_assoc (codes "TABLE " ++ name) columns (rows_told listed.rows)) p.1 c.in_err-write_two.ensures
+    ∙ append_assoc (codes "TABLE " ++ name) columns (rows_listed listed.rows)) p.1 c.in_err-write_two.ensures
 
 pub returns-in_err-write_columns : goal.returns-in_err-write_columns
 returns-in_err-write_columns g c =
     let p = err_from_is_err_and c.from_residual-in_err-write_columns.result c.from_residual-in_err-write_columns.ensures.1 in
     let listed = c.args.listed.now in
-    Writes-stops (rows_told listed.rows) (table_parts listed c.bytes.result.now c.as_slice.result.now c.bytes.ensures.value c.as_slice.ensures.value) p.1
+    Writes-stops (rows_listed listed.rows) (table_parts listed c.bytes.result.now c.as_slice.result.now c.bytes.ensures.value c.as_slice.ensures.value) p.1
     (Writes-then {result = Err c.in_err-write_columns.field-0.0} refl c.in_ok-write_two.ensures c.in_err-write_columns.ensures)
 
 pub returns : goal.returns

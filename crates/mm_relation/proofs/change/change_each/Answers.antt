@@ -1,7 +1,7 @@
 use Rattle.std.proofs.Common.{◌≡◌, ◌+◌, ◌≤◌, List, [], ◌∷◌, ◌++◌, length, refl, append_assoc, append-nil, sym, ap, ◌∙◌, subst, arith}
 use Rattle.mm_partition.specs.Places.{slot_at}
 use Rattle.mm_relation.specs.Edits.{added_count}
-use Rattle.mm_relation.specs.declared.log.Entry.{Entry}
+use Rattle.mm_relation.specs.declared.log.UndoRecord.{UndoRecord}
 use Rattle.mm_relation.specs.declared.edits.Edit.{Edit}
 use Rattle.mm_relation.specs.Changes.{Standing, Changes}
 use Rattle.mm_relation.proofs.Changed.{added_count-cons, Standing-first, Standing-rest}
@@ -20,7 +20,7 @@ loop-edit-init c =
       extent = omega (arith, ap (λ (es : List Edit). added_count es) is);
       log = omega (arith, sizes, c.requires.log);
       standing = subst (Standing (slot_at c.args.rows.now)) (sym is) c.requires.standing;
-      changes = λ ns final all. subst (λ (xs : List Entry). Changes c.args.edits.items (slot_at c.args.rows.now) (xs ++ ns) final) (sym c.requires.empty)
+      changes = λ ns final all. subst (λ (xs : List UndoRecord). Changes c.args.edits.items (slot_at c.args.rows.now) (xs ++ ns) final) (sym c.requires.empty)
           (subst (λ (es : List Edit). Changes es (slot_at c.args.rows.now) ns final) is all);
     }
 
@@ -54,7 +54,7 @@ loop-edit-preserved c =
           let counts : added_count c.loop-edit.edit-iterator.rest.items ≡ added_count (c.in-Some.edit ∷ []) + added_count c.next.new.self.rest.items =
           ap (λ (es : List Edit). added_count es) steps.0 ∙ added_count-cons c.in-Some.edit c.next.new.self.rest.items in
           omega (arith, counts, c.loop-edit.invariant.extent, c.change.ensures.extent);
-      log = omega (arith, sizes, c.loop-edit.invariant.log, c.note.ensures.room);
+      log = omega (arith, sizes, c.loop-edit.invariant.log, c.append.ensures.room);
       standing = Standing-rest (slot_at c.loop-edit.rows) (slot_at c.change.new.rows) c.in-Some.edit c.change.result c.next.new.self.rest.items
           (subst (Standing (slot_at c.loop-edit.rows)) steps.0 c.loop-edit.invariant.standing) c.change.ensures.step;
       changes = λ ns final rest.
@@ -62,9 +62,9 @@ loop-edit-preserved c =
           subst (λ (es : List Edit). Changes es (slot_at c.loop-edit.rows) (c.change.result ∷ ns) final) (sym steps.0)
           (let it : Changes (c.in-Some.edit ∷ c.next.new.self.rest.items) (slot_at c.loop-edit.rows) (c.change.result ∷ ns) final
           = (slot_at c.change.new.rows, c.change.ensures.step, rest) in it) in
-          let list : c.note.new.self.entries ++ ns ≡ c.loop-edit.log.entries ++ (c.change.result ∷ ns) = ap (λ (xs : List Entry). xs ++ ns)
-          c.note.ensures.entries ∙ append_assoc c.loop-edit.log.entries (c.change.result ∷ []) ns in
-          subst (λ (xs : List Entry). Changes c.args.edits.items (slot_at c.args.rows.now) xs final) (sym list)
+          let list : c.append.new.self.entries ++ ns ≡ c.loop-edit.log.entries ++ (c.change.result ∷ ns) = ap (λ (xs : List UndoRecord). xs ++ ns)
+          c.append.ensures.entries ∙ append_assoc c.loop-edit.log.entries (c.change.result ∷ []) ns in
+          subst (λ (xs : List UndoRecord). Changes c.args.edits.items (slot_at c.args.rows.now) xs final) (sym list)
           (c.loop-edit.invariant.changes (c.change.result ∷ ns) final these);
     }
 
@@ -78,7 +78,7 @@ returns c =
     (omega (arith, c.loop-edit.invariant.size, c.in-None.ensures.steps.0)) in
     let end : Changes [] (slot_at c.loop-edit.rows) [] (slot_at c.loop-edit.rows) = refl in
     record {
-      changes = subst (λ (xs : List Entry). Changes c.args.edits.items (slot_at c.args.rows.now) xs (slot_at c.loop-edit.rows))
+      changes = subst (λ (xs : List UndoRecord). Changes c.args.edits.items (slot_at c.args.rows.now) xs (slot_at c.loop-edit.rows))
           (append-nil c.loop-edit.log.entries)
           (c.loop-edit.invariant.changes [] (slot_at c.loop-edit.rows)
           (subst (λ (es : List Edit). Changes es (slot_at c.loop-edit.rows) [] (slot_at c.loop-edit.rows)) (sym none) end));

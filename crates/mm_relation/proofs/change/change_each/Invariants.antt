@@ -2,11 +2,11 @@ use Rattle.std.proofs.Common.{◌≡◌, ◌+◌, ◌≤◌, List, ◌++◌, len
 use Rattle.mm_partition.specs.Places.{slot_at, extent_of}
 use Rattle.mm_relation.specs.Edits.{added_count}
 use Rattle.mm_relation.specs.Refs.{Slots}
-use Rattle.mm_relation.specs.declared.log.Entry.{Entry}
+use Rattle.mm_relation.specs.declared.log.UndoRecord.{UndoRecord}
 use Rattle.mm_relation.specs.Changes.{Standing, Changes}
 use Rattle.mm_relation.proofs.change.change_each.Given as goal
 
--- whatever the edits that are left will note and make, joined to what was noted, is what all edits make
+-- whatever the edits that are left will log and make, joined to what was logged, is what all edits make
 abbrev pub invariant-loop-edit : goal.invariant-loop-edit
 invariant-loop-edit l = record {
   goes : (goal.iterator-loop-edit).can_next l.edit-iterator;
@@ -16,6 +16,6 @@ invariant-loop-edit l = record {
   extent : extent_of l.rows + added_count l.edit-iterator.rest.items ≤ extent_of l.fn.rows + added_count l.fn.edits.items;
   log : length l.edit-iterator.rest.items ≤ l.log.room;
   standing : Standing (slot_at l.rows) l.edit-iterator.rest.items;
-  changes : (ns : List Entry) (final : Slots) → Changes l.edit-iterator.rest.items (slot_at l.rows) ns final
+  changes : (ns : List UndoRecord) (final : Slots) → Changes l.edit-iterator.rest.items (slot_at l.rows) ns final
       → Changes l.fn.edits.items (slot_at l.fn.rows) (l.log.entries ++ ns) final;
 }

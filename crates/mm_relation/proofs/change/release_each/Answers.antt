@@ -6,7 +6,7 @@ use Rattle.mm_value.specs.declared.values.Value.{Value}
 use Rattle.mm_partition.specs.Places.{Hidden, slot_at}
 use Rattle.mm_relation.specs.Edits.{removed, removed_by}
 use Rattle.mm_relation.specs.Changes.{AreHidden}
-use Rattle.mm_relation.specs.declared.log.Entry.{Entry}
+use Rattle.mm_relation.specs.declared.log.UndoRecord.{UndoRecord}
 use Rattle.mm_relation.specs.declared.names.Side.{Side}
 use Rattle.mm_relation.specs.declared.names.Side.TheVariants.{Old}
 use Rattle.mm_relation.proofs.Removed.{Freeing, Freeing-start, Freeing-step, Freeing-end, Frees}
@@ -19,7 +19,7 @@ release-requires c =
     let now = slot_at c.loop-entry.rows in
     let rest : List RowRef = removed (drop (c.loop-entry.entry-index + 1) c.args.entries.now) in
     let names : removed (drop c.loop-entry.entry-index c.args.entries.now) ≡ c.in-Some.at ∷ rest =
-    named-some (λ (e : Entry) (s : Side). removed_by e) Old c.args.entries.now c.loop-entry.entry-index c.entry-item.result c.in-Some.at
+    named-some (λ (e : UndoRecord) (s : Side). removed_by e) Old c.args.entries.now c.loop-entry.entry-index c.entry-item.result c.in-Some.at
     c.loop-entry-test.true c.entry-item.is (sym c.removed.ensures ∙ c.in-Some.is)
     in
     let hidden : AreHidden now (c.in-Some.at ∷ rest) = subst (AreHidden now) names c.loop-entry.invariant.freeing.hidden in
@@ -33,7 +33,7 @@ loop-entry-preserved c =
           let all : List RowRef = removed c.args.entries.now in
           let rest : List RowRef = removed (drop (c.loop-entry.entry-index + 1) c.args.entries.now) in
           let names : removed (drop c.loop-entry.entry-index c.args.entries.now) ≡ w.in-Some.at ∷ rest =
-          named-some (λ (e : Entry) (s : Side). removed_by e) Old c.args.entries.now c.loop-entry.entry-index c.entry-item.result w.in-Some.at
+          named-some (λ (e : UndoRecord) (s : Side). removed_by e) Old c.args.entries.now c.loop-entry.entry-index c.entry-item.result w.in-Some.at
           c.loop-entry-test.true c.entry-item.is (sym c.removed.ensures ∙ w.in-Some.is)
           in
           rw w.rows-is
@@ -45,7 +45,7 @@ loop-entry-preserved c =
           })
       | in_default w ↦
           let names : removed (drop c.loop-entry.entry-index c.args.entries.now) ≡ removed (drop (c.loop-entry.entry-index + 1) c.args.entries.now) =
-          named-none (λ (e : Entry) (s : Side). removed_by e) Old c.args.entries.now c.loop-entry.entry-index c.entry-item.result
+          named-none (λ (e : UndoRecord) (s : Side). removed_by e) Old c.args.entries.now c.loop-entry.entry-index c.entry-item.result
           c.loop-entry-test.true c.entry-item.is (sym c.removed.ensures ∙ w.in_default.is)
           in
           rw (w.rows-is, ← names) c.loop-entry.invariant
@@ -62,6 +62,6 @@ returns c =
     let none : drop c.loop-entry.entry-index c.args.entries.now ≡ [] = drop_all c.loop-entry.entry-index c.args.entries.now c.loop-entry-test.false in
     let end : Frees (slot_at c.args.rows.now) (slot_at c.loop-entry.rows) (removed c.args.entries.now) =
     Freeing-end (slot_at c.args.rows.now) (slot_at c.loop-entry.rows) (removed c.args.entries.now)
-    (removed (drop c.loop-entry.entry-index c.args.entries.now)) (ap (λ (es : List Entry). removed es) none) c.loop-entry.invariant.freeing
+    (removed (drop c.loop-entry.entry-index c.args.entries.now)) (ap (λ (es : List UndoRecord). removed es) none) c.loop-entry.invariant.freeing
     in
     record { freed = end.freed; others = end.others; extent = c.loop-entry.invariant.extent }

@@ -2,7 +2,7 @@ use Rattle.std.proofs.Common.{sym, ap, ◌∙◌, subst}
 use Rattle.mm_partition.specs.Places.{Hidden, slot_at}
 use Rattle.mm_relation.specs.Before.{Stands, step_back}
 use Rattle.mm_relation.specs.Refs.{HasRow}
-use Rattle.mm_relation.specs.declared.log.Entry.{Entry}
+use Rattle.mm_relation.specs.declared.log.UndoRecord.{UndoRecord}
 use Rattle.mm_relation.proofs.TakenBack.{added_back}
 use Rattle.mm_relation.proofs.change.take_back.Goals as goal
 
@@ -15,4 +15,4 @@ returns-in-Added-clause-slots c =
     let freed = c.release.ensures.freed in
     added_back old hidden (slot_at c.release.new.self) c.in-Added.at (Hidden live.0)
     (record { changed = hid.changed; others = hid.others }) (record { changed = freed.changed; others = freed.others })
-    ∙ ap (λ (e : Entry). step_back e old) (sym c.in-Added.is)
+    ∙ ap (λ (e : UndoRecord). step_back e old) (sym c.in-Added.is)

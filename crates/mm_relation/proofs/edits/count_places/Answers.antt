@@ -3,7 +3,7 @@ use Rattle.std.proofs.lemmas.Grind.{common_steps}
 use Rattle.mm_relation.specs.Edits.{added_count, new_rows}
 use Rattle.mm_relation.specs.KeyRows.{removal_count}
 use Rattle.mm_relation.proofs.Changed.{olds}
-use Rattle.mm_relation.proofs.TwinsAfter.{olds_counted, news_counted}
+use Rattle.mm_relation.proofs.DuplicatesAfter.{olds_counted, news_counted}
 use Rattle.mm_relation.proofs.edits.count_places.Goals as goal
 
 pub returns-clause-some : goal.returns-clause-some

@@ -2,7 +2,7 @@
 use Rattle.std.proofs.Common.{◌∙◌, rules}
 use Rattle.std.proofs.lemmas.Fn.{always_returns_same}
 use Rattle.mm_schema.specs.Rows.{column_cmp}
-use Rattle.mm_relation.proofs.Twins.{search_finds}
+use Rattle.mm_relation.proofs.Duplicates.{search_finds}
 use Rattle.mm_relation.proofs.key_rows.contains_key.Goals as goal
 
 pub returns : goal.returns

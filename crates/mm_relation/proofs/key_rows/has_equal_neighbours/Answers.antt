@@ -1,12 +1,12 @@
--- Sorted rows have twins just where two neighbours don't ascend.
+-- Sorted rows have duplicates just where two neighbours don't ascend.
 use Rattle.std.proofs.Common.{rules}
 use Rattle.std.specs.Ordering.{is_lt}
 use Rattle.std.proofs.lemmas.Fn.{always_returns_same}
 use Rattle.mm_schema.specs.Rows.{column_cmp}
-use Rattle.mm_relation.proofs.Twins.{twins_from_neighbours}
+use Rattle.mm_relation.proofs.Duplicates.{duplicates_from_neighbours}
 use Rattle.mm_relation.proofs.key_rows.has_equal_neighbours.Goals as goal
 
 pub returns : goal.returns
 returns c =
-    twins_from_neighbours (λ r. r.now) c.args.key c.args.rows.now c.requires c.is_sorted_by.result
+    duplicates_from_neighbours (λ r. r.now) c.args.key c.args.rows.now c.requires c.is_sorted_by.result
     (c.is_sorted_by.ensures.cases (λ a b. is_lt (column_cmp c.args.key a.now b.now)) (always_returns_same _ _ _ (λ a r f k. search rules)))

@@ -4,7 +4,7 @@ use Rattle.std.specs.Ordering.{is_lt}
 use Rattle.std.proofs.lemmas.Fn.{always_returns_same}
 use Rattle.std.proofs.lemmas.List.Sorted.{ranks_by}
 use Rattle.mm_schema.specs.Rows.{column_cmp}
-use Rattle.mm_schema.proofs.Twins.{column_cmp_total}
+use Rattle.mm_schema.proofs.Duplicates.{column_cmp_total}
 use Rattle.mm_relation.proofs.key_rows.sort_by_key.Goals as goal
 
 pub returns-clause-sorted : goal.returns-clause-sorted

@@ -1,17 +1,17 @@
 -- One change more is made, and is in the log.
 use Rattle.std.proofs.Common.{◌≡◌, ◌++◌, ◌∷◌, [], List, inr, subst, sym, ap, ◌∙◌, arith}
-use Rattle.mm_standing.specs.Bags.{IsSound, IsTold, Made, undos}
-use Rattle.mm_standing.specs.declared.change.Logged.{Logged}
+use Rattle.mm_standing.specs.Bags.{IsRecorded, IsSound, Made, undos}
+use Rattle.mm_standing.specs.declared.change.UndoRecord.{UndoRecord}
 use Rattle.mm_standing.specs.declared.change.Prepared.{Prepared}
 use Rattle.mm_standing.proofs.Steps.{made_more, made_none, next_room, next_there, next_within, sound_made, undo_is}
-use Rattle.mm_standing.proofs.Told.{joined, told_made}
+use Rattle.mm_standing.proofs.Recorded.{joined, recorded_made}
 use Rattle.mm_standing.proofs.bags.make_all.Goals as goal
 use Rattle.mm_standing.proofs.bags.make_all.Goals.{In-Some}
 
 pub loop-next-init : goal.loop-next-init
 loop-next-init c = record {
   sound = c.requires.sound;
-  told = c.requires.told;
+  recorded = c.requires.recorded;
   room = c.requires.room;
   made = made_none c.args.bags.now.items c.args.prepared.now.items (undos c.args.log.now.items);
 }
@@ -41,20 +41,20 @@ loop-next-preserved c =
     let sound = sound_with (goal.at.loop-next-preserved c).In-Some in
     let adds = c.add_to-is_new.ensures in
     let bags' = c.add_to-is_new.new.bags.items in
-    let entry : Logged = record { undo = next.undo; is_new = c.add_to-is_new.result } in
+    let entry : UndoRecord = record { undo = next.undo; is_new = c.add_to-is_new.result } in
     let made = subst (λ (ps : List Prepared). Made c.args.bags.now.items c.args.prepared.now.items (undos c.args.log.now.items) bags ps (undos log))
     c.in-Some.ensures.items c.loop-next.invariant.made in
     let room = c.loop-next.invariant.room in
     let more = c.push_reserved.ensures in
     let less = c.in-Some.ensures.cases in
     let longer : undos c.push_reserved.new.self.items ≡ undos log ++ next.undo ∷ [] =
-    ap (λ (l : List Logged). undos l) more.items ∙ joined log entry in
+    ap (λ (l : List UndoRecord). undos l) more.items ∙ joined log entry in
     let is = undo_is bags rest next (undos log) sound bags' adds.added in
     record {
       sound = subst (λ l. IsSound bags' rest l) (sym longer) (sound_made bags rest next (undos log) sound bags' adds.added);
-      told = subst (λ (l : List Logged). IsTold bags' l) (sym more.items)
-          (subst (λ u. let m : Logged = record { undo = u; is_new = c.add_to-is_new.result } in IsTold bags' (log ++ m ∷ [])) (sym is)
-          (told_made next.done bags bags' adds.added log c.add_to-is_new.result sound.logged c.loop-next.invariant.told adds.is_new));
+      recorded = subst (λ (l : List UndoRecord). IsRecorded bags' l) (sym more.items)
+          (subst (λ u. let m : UndoRecord = record { undo = u; is_new = c.add_to-is_new.result } in IsRecorded bags' (log ++ m ∷ [])) (sym is)
+          (recorded_made next.done bags bags' adds.added log c.add_to-is_new.result sound.logged c.loop-next.invariant.recorded adds.is_new));
       room = omega (arith, room, more.len, more.capacity, less);
       made = subst (λ l. Made c.args.bags.now.items c.args.prepared.now.items (undos c.args.log.now.items) bags' rest l) (sym longer)
           (made_more bags rest next (undos log) sound bags' adds.added c.args.bags.now.items c.args.prepared.now.items (undos c.args.log.now.items) made);

@@ -5,9 +5,9 @@ use Rattle.std.proofs.lemmas.List.{append-nil}
 use Rattle.std.proofs.lemmas.List.Elements.{All-weaker}
 use Rattle.mm_standing.specs.Bags.{IsLean, IsSound, undos}
 use Rattle.mm_standing.specs.declared.change.ListChange.{ListChange}
-use Rattle.mm_standing.specs.declared.change.Logged.{Logged}
+use Rattle.mm_standing.specs.declared.change.UndoRecord.{UndoRecord}
 use Rattle.mm_standing.proofs.Steps.{All_left, sound_emptied}
-use Rattle.mm_standing.proofs.Told.{joined, lean_purged, told_none}
+use Rattle.mm_standing.proofs.Recorded.{joined, lean_purged, recorded_none}
 use Rattle.mm_standing.proofs.bags.purge.Goals as goal
 use Rattle.mm_standing.proofs.bags.purge.Goals.{In-Some}
 
@@ -25,7 +25,7 @@ places : (c : In-Some) → All (λ (d : ListChange). d.list < length c.loop-made
 places c =
     All_left (λ (d : ListChange). d.list < length c.loop-made.bags.items) (undos c.pop.new.self.items) c.in-Some.made.undo
     (subst (All (λ (d : ListChange). d.list < length c.loop-made.bags.items))
-    (ap (λ (l : List Logged). undos l) c.in-Some.ensures.items ∙ joined c.pop.new.self.items c.in-Some.made) c.loop-made.invariant.there)
+    (ap (λ (l : List UndoRecord). undos l) c.in-Some.ensures.items ∙ joined c.pop.new.self.items c.in-Some.made) c.loop-made.invariant.there)
 
 pub purge_row-requires : goal.purge_row-requires
 purge_row-requires c = (places (goal.at.purge_row-requires c).In-Some).1
@@ -44,7 +44,7 @@ loop-made-preserved c =
       counts = λ list row. purges.counts list row ∙ so_far.counts list row;
       totals = λ list. purges.totals list ∙ so_far.totals list;
       size = purges.size ∙ so_far.size;
-      lean = lean_purged rest made bags new (subst (λ (l : List Logged). IsLean bags (undos l)) c.in-Some.ensures.items so_far.lean) purges;
+      lean = lean_purged rest made bags new (subst (λ (l : List UndoRecord). IsLean bags (undos l)) c.in-Some.ensures.items so_far.lean) purges;
     }
 
 emptied : (c : goal.In_default) → c.pop.new.self.items ≡ []
@@ -52,11 +52,11 @@ emptied c = c.in_default.ensures.rest ∙ ap (λ n. take (n - 1) c.loop-made.log
 
 pub returns-clause-sound : goal.returns-clause-sound
 returns-clause-sound c =
-    subst (λ (l : List Logged). IsSound c.loop-made.bags.items [] (undos l)) (sym (emptied c))
+    subst (λ (l : List UndoRecord). IsSound c.loop-made.bags.items [] (undos l)) (sym (emptied c))
     (sound_emptied c.args.bags.now.items c.loop-made.bags.items c.requires.within c.loop-made.invariant.totals)
 
-pub returns-clause-told : goal.returns-clause-told
-returns-clause-told c =
+pub returns-clause-recorded : goal.returns-clause-recorded
+returns-clause-recorded c =
     let same = sym (append-nil c.pop.new.self.items) ∙ sym c.in_default.ensures.items in
-    told_none c.loop-made.bags.items c.pop.new.self.items (ap (λ (l : List Logged). undos l) (emptied c))
-    (subst (λ (l : List Logged). IsLean c.loop-made.bags.items (undos l)) (sym same ∙ emptied c) c.loop-made.invariant.lean)
+    recorded_none c.loop-made.bags.items c.pop.new.self.items (ap (λ (l : List UndoRecord). undos l) (emptied c))
+    (subst (λ (l : List UndoRecord). IsLean c.loop-made.bags.items (undos l)) (sym same ∙ emptied c) c.loop-made.invariant.lean)

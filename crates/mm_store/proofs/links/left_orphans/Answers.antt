@@ -4,7 +4,7 @@ use Rattle.std.proofs.lemmas.List.{take_all}
 use Rattle.std.proofs.lemmas.List.Folds.{list_any_at, list_any_more}
 use Rattle.mm_partition.specs.Places.{slot_at}
 use Rattle.mm_relation.specs.RowLists.{edit_pairs}
-use Rattle.mm_relation.proofs.Twins.{list_any-map}
+use Rattle.mm_relation.proofs.Duplicates.{list_any-map}
 use Rattle.mm_store.specs.Tables.{makes_orphan}
 use Rattle.mm_store.specs.declared.link.Link.{Link}
 use Rattle.mm_store.proofs.links.left_orphans.Goals as goal

@@ -1,7 +1,7 @@
 use Rattle.std.proofs.Common.{◌≡◌, ◌++◌, ◌-◌, ◌≤◌, length, slice_index, ap, ◌∙◌, arith}
 use Rattle.std.specs.Prelude.{replicate, vec_len}
 use Rattle.std.proofs.lemmas.List.{take_all}
-use Rattle.mm_store.proofs.Owing.{filled}
+use Rattle.mm_store.proofs.UndoRoom.{filled}
 use Rattle.mm_store.proofs.undo.reserve.Goals as goal
 use Rattle.mm_store.proofs.undo.reserve.Goals.{then-len-tables+in_ok-resize, else-len-tables}
 
@@ -9,12 +9,12 @@ pub returns-clause-counts : goal.returns-clause-counts
 returns-clause-counts c =
     elim c.if-len-tables.branch [
       | then-len-tables+in_ok-resize w ↦
-          let old = c.args.owed.now.items in
-          let more = c.args.tables - vec_len c.args.owed.now in
-          let few : length old ≤ c.args.tables = omega (arith, w.if-len-tables.true, c.len.ensures, c.args.owed.now.ok.0) in
-          let is : c.if-len-tables.owed.items ≡ old ++ replicate more 0 =
-          ap (λ v. v.items) w.owed-is
+          let old = c.args.undo_room.now.items in
+          let more = c.args.tables - vec_len c.args.undo_room.now in
+          let few : length old ≤ c.args.tables = omega (arith, w.if-len-tables.true, c.len.ensures, c.args.undo_room.now.ok.0) in
+          let is : c.if-len-tables.undo_room.items ≡ old ++ replicate more 0 =
+          ap (λ v. v.items) w.undo_room-is
           ∙ (w.in_ok-resize.ensures.items ∙ ap (λ xs. xs ++ replicate more 0) (take_all c.args.tables old few)) in
           λ place. ap (λ xs. slice_index xs place) is ∙ filled old more place
-      | else-len-tables w ↦ λ place. ap (λ v. slice_index v.items place) w.owed-is
+      | else-len-tables w ↦ λ place. ap (λ v. slice_index v.items place) w.undo_room-is
     ]

@@ -7,7 +7,7 @@ use Rattle.mm_relation.specs.declared.edits.Edit.{Edit}
 use Rattle.mm_store.specs.Seen.{Seen}
 use Rattle.mm_store.specs.Tables.{IsAt, Tables}
 use Rattle.mm_txn.specs.Cascades.{AddsReferrers}
-use Rattle.mm_txn.proofs.CascadeFinds.{goes_by_at, gone_live}
+use Rattle.mm_txn.proofs.CascadeFinds.{gone_live, is_cascaded_by_at}
 use Rattle.mm_txn.proofs.CascadeTables.{fits_within}
 use Rattle.mm_txn.proofs.Referrers.{adds_same, matches_added, rows_taken, skipped, tests}
 use Rattle.mm_txn.proofs.cascades.add_by_index.Goals.{in-Some+in_ok-matches, in_default}
@@ -86,5 +86,5 @@ returns-clause-found c = λ stored at.
     let all = take_all c.loop-edit.edit-index cascade.gone.now c.loop-edit-test.false in
     adds_same stored (tests cascade.column target.key (rows_taken (slot_at target.places) (take c.loop-edit.edit-index cascade.gone.now))) _
     (λ row. ap (λ es. tests cascade.column target.key (rows_taken (slot_at target.places) es) row) all
-    ∙ goes_by_at c.args.view.now.store cascade.column (cascade.to, cascade.gone.now) target there row)
+    ∙ is_cascaded_by_at c.args.view.now.store cascade.column (cascade.to, cascade.gone.now) target there row)
     c.args.found.now.items c.loop-edit.found.items (c.loop-edit.invariant.added stored target at there)

@@ -5,7 +5,7 @@ use Rattle.mm_partition.specs.Places.{IsLive, slot_at}
 use Rattle.mm_relation.specs.Refs.{row_at}
 use Rattle.mm_select.proofs.Walks.{holds_next, split_all, split_next}
 use Rattle.mm_value.specs.declared.row_ref.RowRef.{RowRef}
-use Rattle.mm_txn.specs.Cascades.{goes_by}
+use Rattle.mm_txn.specs.Cascades.{is_cascaded_by}
 use Rattle.mm_txn.proofs.CascadeFinds.{filter_push, scan_goes}
 use Rattle.mm_txn.proofs.Referrers.{passing_added}
 use Rattle.mm_txn.proofs.cascades.add_by_scan.Goals as goal
@@ -26,7 +26,7 @@ loop-at-preserved-in-Continue-branch-2 c = record {
   added = λ stored at.
       let cascade = c.args.cascade.now in
       let row = row_at (slot_at stored.places) c.in-Some.at in
-      let goes : goes_by c.args.view.now.store.tables cascade.column (cascade.to, cascade.gone.now) row ≡ true =
+      let goes : is_cascaded_by c.args.view.now.store.tables cascade.column (cascade.to, cascade.gone.now) row ≡ true =
       sym (scan_goes c.args.view.now.store c.args.table cascade.column (cascade.to, cascade.gone.now) c.requires.cascade row c.follow-target.result
       (c.follow-target.ensures stored at) c.is_kept.ensures.kept)
       ∙ sym (c.contains.ensures ∙ c.in_ok-gone.ensures.ok c.follow-target.result) ∙ c.if-contains.true in
@@ -42,7 +42,7 @@ loop-at-preserved c = record {
   added = λ stored at.
       let cascade = c.args.cascade.now in
       let row = row_at (slot_at stored.places) c.in-Some.at in
-      let stays : goes_by c.args.view.now.store.tables cascade.column (cascade.to, cascade.gone.now) row ≡ false =
+      let stays : is_cascaded_by c.args.view.now.store.tables cascade.column (cascade.to, cascade.gone.now) row ≡ false =
       sym (scan_goes c.args.view.now.store c.args.table cascade.column (cascade.to, cascade.gone.now) c.requires.cascade row c.follow-target.result
       (c.follow-target.ensures stored at) c.is_kept.ensures.kept)
       ∙ sym (c.contains.ensures ∙ c.in_ok-gone.ensures.ok c.follow-target.result) ∙ c.if-contains.false in
@@ -58,7 +58,7 @@ returns-clause-found c = λ stored at.
     ∙ split_all c.into_iter-at-iterator.result c.loop-at.yielded c.loop-at.at-iterator c.loop-at.invariant.split c.in-None.ensures.steps.0 in
     let refs = c.walk-at-items.ensures.keys refl stored at in
     passing_added stored (subst (All (IsLive stored.places)) refs (c.walk-at-items.ensures.live stored at))
-    (goes_by c.args.view.now.store.tables cascade.column (cascade.to, cascade.gone.now))
+    (is_cascaded_by c.args.view.now.store.tables cascade.column (cascade.to, cascade.gone.now))
     c.args.found.now.items c.loop-at.found.items (c.loop-at.invariant.added stored at
-    ∙ ap (λ (refs : List RowRef). c.args.found.now.items ++ filter (λ x. goes_by c.args.view.now.store.tables cascade.column
+    ∙ ap (λ (refs : List RowRef). c.args.found.now.items ++ filter (λ x. is_cascaded_by c.args.view.now.store.tables cascade.column
     (cascade.to, cascade.gone.now) (row_at (slot_at stored.places) x)) refs) (sym all ∙ refs))

@@ -1,4 +1,4 @@
--- Table by table those are found that go along.
+-- Table by table the cascaded rows are found.
 use Rattle.std.proofs.Common.{◌≡◌, ◌≢◌, ◌<◌, ◌≤◌, ◌+◌, List, [], ◌∷◌, ◌++◌, Some, drop, length, map, slice_get, ap, ◌∙◌, rules, subst, sym, vec_len, arith, eq-eqb}
 use Rattle.std.specs.List.{All, filter}
 use Rattle.std.proofs.lemmas.Bool.{eqb-true, false≢true}
@@ -8,7 +8,7 @@ use Rattle.std.proofs.lemmas.List.Elements.{All-cons, All-nil, All-push, All-wea
 use Rattle.mm_relation.specs.Edits.{new_rows}
 use Rattle.mm_relation.specs.declared.edits.Edit.{Edit}
 use Rattle.mm_schema.specs.declared.table.Table.{Table}
-use Rattle.mm_query.specs.Edits.{goes_along, removals_of, with_cascades}
+use Rattle.mm_query.specs.Edits.{is_cascaded, removals_of, with_cascades}
 use Rattle.mm_store.specs.Tables.{rows_at}
 use Rattle.mm_plan.specs.Kept.{instance_of}
 use Rattle.mm_txn.specs.PlacedEdits.{AreEdits, PlacedEdits, named, pairs_at, placed}
@@ -30,7 +30,7 @@ loop-table-init c =
     let schema = c.args.catalog.now in
     let store = c.args.store.now in
     let own = placed c.args.own.now in
-    let none = ap (map placed) c.new-along.ensures.items in
+    let none = ap (map placed) c.new-cascaded.ensures.items in
     record {
       are = subst (λ cs. AreEdits store (own ∷ cs)) (sym none) (one_edited store own c.requires.fit);
       before = subst (λ cs. All (λ (d : PlacedEdits). d.0 < own.0 + 1) (own ∷ cs)) (sym none)
@@ -47,21 +47,21 @@ loop-table-preserved c =
     let store = c.args.store.now in
     let own = placed c.args.own.now in
     let table = c.loop-table.table in
-    let cs : List PlacedEdits = own ∷ map placed c.loop-table.along.items in
+    let cs : List PlacedEdits = own ∷ map placed c.loop-table.cascaded.items in
     let edits : List Edit = c.in_ok-edits.edits.items in
     let within : table < length schema.tables = subst (λ (ts : List Table). table < length ts) c.tables-count.ensures.value c.loop-table-test.true in
     let pairs : (t : Table) → slice_get schema.tables table ≡ Some t → pairs_at store.tables (table, edits)
-    ≡ removals_of (filter (goes_along schema (map (named schema store.tables) cs) t.definition.columns) (rows_at store.tables table)) =
+    ≡ removals_of (filter (is_cascaded schema (map (named schema store.tables) cs) t.definition.columns) (rows_at store.tables table)) =
     λ t at. c.in_ok-edits.ensures.pairs t at
-    ∙ ap (λ (xs : List RelationEdits). removals_of (filter (goes_along schema (map (named schema store.tables) (own ∷ map placed xs)) t.definition.columns)
+    ∙ ap (λ (xs : List RelationEdits). removals_of (filter (is_cascaded schema (map (named schema store.tables) (own ∷ map placed xs)) t.definition.columns)
     (rows_at store.tables table))) c.as_slice.ensures.value in
     let before : All (λ (d : PlacedEdits). d.0 < table + 1) cs =
     All-weaker (λ (d : PlacedEdits). d.0 < table) (λ (d : PlacedEdits). d.0 < table + 1) (λ d below. omega (arith, below)) cs c.loop-table.invariant.before in
     elim c.if-not-is_empty.branch [
       | then-not-is_empty+in_ok-push w ↦
-          let more : own ∷ map placed c.if-not-is_empty.along.items ≡ cs ++ (table, edits) ∷ [] =
-          ap (λ along. own ∷ map placed along.items) w.along-is ∙ ap (λ (xs : List RelationEdits). own ∷ map placed xs) w.in_ok-push.ensures.items
-          ∙ ap (λ (xs : List PlacedEdits). own ∷ xs) (map-append placed c.loop-table.along.items _) in
+          let more : own ∷ map placed c.if-not-is_empty.cascaded.items ≡ cs ++ (table, edits) ∷ [] =
+          ap (λ cascaded. own ∷ map placed cascaded.items) w.cascaded-is ∙ ap (λ (xs : List RelationEdits). own ∷ map placed xs) w.in_ok-push.ensures.items
+          ∙ ap (λ (xs : List PlacedEdits). own ∷ xs) (map-append placed c.loop-table.cascaded.items _) in
           let some : edits ≢ [] = λ none.
           let size : length edits ≡ 0 = ap length none in
           let zero : vec_len c.in_ok-edits.edits ≡ 0 = omega (arith, size, c.in_ok-edits.edits.ok.0) in
@@ -79,7 +79,7 @@ loop-table-preserved c =
                 (map (named schema store.tables) xs)) (sym more);
           }
       | else-not-is_empty w ↦
-          let same : own ∷ map placed c.if-not-is_empty.along.items ≡ cs = ap (λ along. own ∷ map placed along.items) w.along-is in
+          let same : own ∷ map placed c.if-not-is_empty.cascaded.items ≡ cs = ap (λ cascaded. own ∷ map placed cascaded.items) w.cascaded-is in
           let none : edits ≡ [] =
           let zero : vec_len c.in_ok-edits.edits ≡ 0 = eqb-true (vec_len c.in_ok-edits.edits) 0 (sym c.is_empty.ensures ∙ w.if-not-is_empty.false) in
           nil_from_length edits (omega (arith, zero, c.in_ok-edits.edits.ok.0)) in

@@ -9,10 +9,10 @@ use Rattle.mm_txn.proofs.cascades.cascades.Given as goal
 -- what the tables so far add was found
 abbrev pub invariant-loop-table : goal.invariant-loop-table
 invariant-loop-table l = record {
-  are : AreEdits l.store (placed l.own ∷ map placed l.along.items);
-  before : All (λ (c : PlacedEdits). c.0 < l.table) (placed l.own ∷ map placed l.along.items);
-  removals : All (λ (c : PlacedEdits). new_rows c.1 ≡ []) (placed l.own ∷ map placed l.along.items);
+  are : AreEdits l.store (placed l.own ∷ map placed l.cascaded.items);
+  before : All (λ (c : PlacedEdits). c.0 < l.table) (placed l.own ∷ map placed l.cascaded.items);
+  removals : All (λ (c : PlacedEdits). new_rows c.1 ≡ []) (placed l.own ∷ map placed l.cascaded.items);
   rest : with_cascades l.catalog l.catalog.tables (instance_of l.store.tables) (named l.catalog l.store.tables (placed l.own) ∷ [])
       ≡ with_cascades l.catalog (drop l.table l.catalog.tables) (drop l.table (instance_of l.store.tables))
-      (map (named l.catalog l.store.tables) (placed l.own ∷ map placed l.along.items));
+      (map (named l.catalog l.store.tables) (placed l.own ∷ map placed l.cascaded.items));
 }

@@ -4,4 +4,4 @@ use Rattle.mm_txn.proofs.cascades.removals_of.Given as goal
 
 -- none of the tables so far is at the place
 abbrev pub invariant-loop-removals : goal.invariant-loop-removals
-invariant-loop-removals l = edits_at (map placed (drop l.removals-index l.along)) l.place ≡ edits_at (map placed l.along) l.place
+invariant-loop-removals l = edits_at (map placed (drop l.removals-index l.cascaded)) l.place ≡ edits_at (map placed l.cascaded) l.place

@@ -26,15 +26,15 @@ pub returns-in-Err-clause-due : goal.returns-in-Err-clause-due
 returns-in-Err-clause-due c =
     let store = c.args.store.now in
     let queries = c.args.standing.now.queries in
-    let all = placed c.args.own ∷ map placed c.args.along.items in
+    let all = placed c.args.own ∷ map placed c.args.cascaded.items in
     λ stored at.
-    let cs = edits_conditions store stored (placed c.args.own) (map placed c.args.along.items) in
+    let cs = edits_conditions store stored (placed c.args.own) (map placed c.args.cascaded.items) in
     let ds = list_conditions (rows_edited store all) queries in
     subst (λ (r : Result Unit Refusal). AnswersDue {T = Unit {0}} (first_refusal (cs ++ ds)) r) (sym c.in-Err.ensures)
     (both_due c.remove_each.result c.prepare_removals-prepared.result cs ds (referred_due (leaves_orphans store all))
     (c.removals_may_be_made.ensures stored at c.args.own.edits.items
-    (own_fit store c.args.own c.args.along.items c.requires.may.are c.requires.may.back c.requires.several stored at)
-    (own_removals store c.args.own c.args.along.items c.requires.may.are c.requires.may.back c.requires.several) (leaves_orphans store all))
+    (own_fit store c.args.own c.args.cascaded.items c.requires.may.are c.requires.may.back c.requires.several stored at)
+    (own_removals store c.args.own c.args.cascaded.items c.requires.may.are c.requires.may.back c.requires.several) (leaves_orphans store all))
     c.remove_each.ensures.due
     (subst (λ (es : List RelationEdits). AnswersDue {T = Unit {0}} (first_refusal (list_conditions (rows_edited store (placed c.args.own ∷ map placed es)) queries))
     c.prepare_removals-prepared.result) c.as_slice.ensures.value c.prepare_removals-prepared.ensures.due))
@@ -43,15 +43,15 @@ pub returns-clause-due : goal.returns-clause-due
 returns-clause-due c =
     let store = c.args.store.now in
     let queries = c.args.standing.now.queries in
-    let all = placed c.args.own ∷ map placed c.args.along.items in
+    let all = placed c.args.own ∷ map placed c.args.cascaded.items in
     λ stored at.
-    let cs = edits_conditions store stored (placed c.args.own) (map placed c.args.along.items) in
+    let cs = edits_conditions store stored (placed c.args.own) (map placed c.args.cascaded.items) in
     let ds = list_conditions (rows_edited store all) queries in
     subst (λ (r : Result Unit Refusal). AnswersDue {T = Unit {0}} (first_refusal (cs ++ ds)) r) (sym c.in_default-and.ensures)
     (both_due c.remove_each.result c.prepare_removals-prepared.result cs ds (referred_due (leaves_orphans store all))
     (c.removals_may_be_made.ensures stored at c.args.own.edits.items
-    (own_fit store c.args.own c.args.along.items c.requires.may.are c.requires.may.back c.requires.several stored at)
-    (own_removals store c.args.own c.args.along.items c.requires.may.are c.requires.may.back c.requires.several) (leaves_orphans store all))
+    (own_fit store c.args.own c.args.cascaded.items c.requires.may.are c.requires.may.back c.requires.several stored at)
+    (own_removals store c.args.own c.args.cascaded.items c.requires.may.are c.requires.may.back c.requires.several) (leaves_orphans store all))
     c.remove_each.ensures.due
     (subst (λ (es : List RelationEdits). AnswersDue {T = Unit {0}} (first_refusal (list_conditions (rows_edited store (placed c.args.own ∷ map placed es)) queries))
     c.prepare_removals-prepared.result) c.as_slice.ensures.value c.prepare_removals-prepared.ensures.due))
@@ -114,7 +114,7 @@ returns-clause-made c = record {
   longer = grind (arith, common_steps);
   fits = search rules;
   listed = let store = c.args.store.now in
-      let all = placed c.args.own ∷ map placed c.args.along.items in
+      let all = placed c.args.own ∷ map placed c.args.cascaded.items in
       let after = rows_edited store all in
       let removed = c.remove_each.result in
       let prepared = c.prepare_removals-prepared.result in

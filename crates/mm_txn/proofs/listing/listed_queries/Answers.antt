@@ -1,7 +1,7 @@
 -- The list at the place of a standing query is its own.
 use Rattle.std.proofs.Common.{◌≡◌, ◌<◌, ◌≤◌, [], ◌∷◌, ◌++◌, Some, None, length, map, slice_get, slice_index_or, refl, ap, subst, ◌∙◌}
 use Rattle.std.proofs.lemmas.Option.{slice_get_read}
-use Rattle.mm_txn.specs.Rest.{told_query, told_state}
+use Rattle.mm_txn.specs.Rest.{listed_state, query_listed}
 use Rattle.mm_txn.proofs.Showing.{counted_by_place, list_there, next_told, take_whole}
 use Rattle.mm_txn.proofs.listing.listed_queries.Goals as goal
 
@@ -24,11 +24,11 @@ loop-place-preserved c = λ rows are.
     let count = counted_by_place schema lists c.requires rows are None c.standing.ensures.distinct c.loop-place.place d at within c.count.result c.count.ensures in
     c.in_ok-push.ensures.items
     ∙ (λ i. c.loop-place.invariant rows are i ++ record { name = c.copy.ensures i; rows = count i } ∷ [])
-    ∙ next_told (told_query (told_state schema rows lists)) schema.standing c.loop-place.place d at
+    ∙ next_told (query_listed (listed_state schema rows lists)) schema.standing c.loop-place.place d at
 
 pub returns-clause-queries : goal.returns-clause-queries
 returns-clause-queries c = λ rows are.
     let all : length c.args.catalog.now.standing ≤ c.loop-place.place =
     subst (λ ss. length ss ≤ c.loop-place.place) c.standing-query-items.ensures.value c.loop-place-test.false in
     c.loop-place.invariant rows are
-    ∙ ap (map (told_query (told_state c.args.catalog.now rows c.args.standing.now))) (take_whole c.args.catalog.now.standing c.loop-place.place all)
+    ∙ ap (map (query_listed (listed_state c.args.catalog.now rows c.args.standing.now))) (take_whole c.args.catalog.now.standing c.loop-place.place all)

@@ -2,7 +2,7 @@ use Rattle.std.proofs.Common.{◌≡◌, Err, List, [], ◌+◌, ◌<◌, ◌≤
 use Rattle.std.specs.List.{flat_map}
 use Rattle.std.proofs.lemmas.Option.{get_or_from_slice_get}
 use Rattle.std.proofs.lemmas.Result.{err_from_is_err_and}
-use Rattle.mm_lang.proofs.LateLines.{late_end, late_front, late_more}
+use Rattle.mm_lang.proofs.BufferedLines.{buffered_end, buffered_front, buffered_more}
 use Rattle.mm_lang.proofs.ReplyLemmas.{count_line, row_line, row_lines_more, rows_text_all, rows_text_at, text_behind}
 use Rattle.mm_value.proofs.Writing.{Writes-nil, Writes-then, Writes-stops}
 use Rattle.mm_value.specs.declared.values.Value.{Value}
@@ -20,10 +20,10 @@ returns-in_err-add_tuple g c =
     let within = subst (λ n. i < n) c.len-i-end.ensures c.loop-i-test.true in
     let at : row ≡ get_or rows i row = sym (get_or_from_slice_get rows i row row c.row.ensures) in
     let was = c.loop-i.invariant in
-    let late = c.in_err-add_tuple.ensures in
-    let lines = row_lines_more rows i row within at ∙ sym (late_front was.0 c.loop-i.lines late.0 (row_line row) (flat_map row_line (take i rows)) was.2 late.2) in
+    let line_buffered = c.in_err-add_tuple.ensures in
+    let lines = row_lines_more rows i row within at ∙ sym (buffered_front was.0 c.loop-i.lines line_buffered.0 (row_line row) (flat_map row_line (take i rows)) was.2 line_buffered.2) in
     Writes-stops (text_behind (i + 1) rows) (rows_text_at rows (i + 1) ∙ ap (λ l. l ++ text_behind (i + 1) rows) lines) p.1
-    (Writes-then {result = Err c.in_err-add_tuple.field-0.0} refl was.1 late.1)
+    (Writes-then {result = Err c.in_err-add_tuple.field-0.0} refl was.1 line_buffered.1)
 
 pub loop-i-preserved : goal.loop-i-preserved
 loop-i-preserved g c =
@@ -33,10 +33,10 @@ loop-i-preserved g c =
     let within = subst (λ n. i < n) c.len-i-end.ensures c.loop-i-test.true in
     let at : row ≡ get_or rows i row = sym (get_or_from_slice_get rows i row row c.row.ensures) in
     let was = c.loop-i.invariant in
-    let late = c.in_ok-add_tuple.ensures in (
-      was.0 ++ late.0,
-      Writes-then refl was.1 late.1,
-      late_more was.0 c.loop-i.lines late.0 c.add_tuple.new.self (row_line row) (flat_map row_line (take i rows)) was.2 late.2
+    let line_buffered = c.in_ok-add_tuple.ensures in (
+      was.0 ++ line_buffered.0,
+      Writes-then refl was.1 line_buffered.1,
+      buffered_more was.0 c.loop-i.lines line_buffered.0 c.add_tuple.new.self (row_line row) (flat_map row_line (take i rows)) was.2 line_buffered.2
           ∙ sym (row_lines_more rows i row within at),
     )
 
@@ -48,4 +48,4 @@ returns g c =
     let was = c.loop-i.invariant in
     Writes-then
     (rows_text_all rows i past ∙ ap (λ n. flat_map row_line (take i rows) ++ count_line n) (sym c.len.ensures)
-    ∙ late_end was.0 c.loop-i.lines (count_line c.len.result) (flat_map row_line (take i rows)) was.2) was.1 c.finish.ensures
+    ∙ buffered_end was.0 c.loop-i.lines (count_line c.len.result) (flat_map row_line (take i rows)) was.2) was.1 c.finish.ensures

@@ -1,6 +1,6 @@
 use Rattle.std.proofs.Common.{◌++◌, [], ◌∷◌, Err, length, refl, sym, ap, ◌∙◌, append_assoc, arith}
 use Rattle.std.proofs.lemmas.Result.{err_from_is_err_and}
-use Rattle.mm_lang.proofs.LateLines.{late_end, late_front, late_more}
+use Rattle.mm_lang.proofs.BufferedLines.{buffered_end, buffered_front, buffered_more}
 use Rattle.mm_lang.proofs.ReplyLemmas.{count_line, row_line}
 use Rattle.mm_value.proofs.Writing.{Writes-nil, Writes-then, Writes-stops}
 use Rattle.mmdb_core.proofs.Walks.{behind, lines, lines_more, text_all, text_at}
@@ -20,11 +20,11 @@ returns-in_err-add_row g c =
     let rest = c.next.new.self in
     let read = c.loop-row.invariant.0 in
     let was = c.loop-row.invariant.2 in
-    let late = c.in_err-add_row.ensures in
+    let line_buffered = c.in_err-add_row.ensures in
     let text = text_at rows read rest row (c.loop-row.invariant.1 ∙ ap (λ r. read ++ r) c.in-Some.ensures) in
-    let written = sym (late_front was.0 c.loop-row.lines late.0 (row_line row) (lines read) was.2 late.2) in
+    let written = sym (buffered_front was.0 c.loop-row.lines line_buffered.0 (row_line row) (lines read) was.2 line_buffered.2) in
     Writes-stops (behind rest (length rows)) (text ∙ ap (λ l. l ++ behind rest (length rows)) written) p.1
-    (Writes-then {result = Err c.in_err-add_row.field-0.0} refl was.1 late.1)
+    (Writes-then {result = Err c.in_err-add_row.field-0.0} refl was.1 line_buffered.1)
 
 pub loop-row-preserved : goal.loop-row-preserved
 loop-row-preserved g c =
@@ -32,13 +32,13 @@ loop-row-preserved g c =
     let rest = c.next.new.self in
     let read = c.loop-row.invariant.0 in
     let was = c.loop-row.invariant.2 in
-    let late = c.in_ok-add_row.ensures in (
+    let line_buffered = c.in_ok-add_row.ensures in (
       read ++ row ∷ [],
       c.loop-row.invariant.1 ∙ ap (λ r. read ++ r) c.in-Some.ensures ∙ sym (append_assoc read (row ∷ []) rest),
       (
-        was.0 ++ late.0,
-        Writes-then refl was.1 late.1,
-        late_more was.0 c.loop-row.lines late.0 c.add_row.new.self (row_line row) (lines read) was.2 late.2 ∙ sym (lines_more read row),
+        was.0 ++ line_buffered.0,
+        Writes-then refl was.1 line_buffered.1,
+        buffered_more was.0 c.loop-row.lines line_buffered.0 c.add_row.new.self (row_line row) (lines read) was.2 line_buffered.2 ∙ sym (lines_more read row),
       ),
     )
 
@@ -48,4 +48,4 @@ returns g c =
     let read = c.loop-row.invariant.0 in
     let was = c.loop-row.invariant.2 in
     Writes-then (text_all rows read c.loop-row.rows c.args.count c.loop-row.invariant.1 c.in_default.ensures c.requires.counted
-    ∙ late_end was.0 c.loop-row.lines (count_line c.args.count) (lines read) was.2) was.1 c.finish.ensures
+    ∙ buffered_end was.0 c.loop-row.lines (count_line c.args.count) (lines read) was.2) was.1 c.finish.ensures

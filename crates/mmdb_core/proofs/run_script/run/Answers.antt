@@ -3,7 +3,7 @@ use Rattle.std.proofs.lemmas.Result.{err_from_is_err_and}
 use Rattle.mm_value.specs.Watched.{inner_of}
 use Rattle.mmdb_core.specs.steps.Respond.{GoesOn}
 use Rattle.mmdb_core.specs.Run.{BrokeOff}
-use Rattle.mmdb_core.specs.declared.fault.RunFault.{RunFault}
+use Rattle.mmdb_core.specs.declared.run_error.RunError.{RunError}
 use Rattle.mmdb_core.proofs.Inputs.{at-fault}
 use Rattle.mmdb_core.proofs.Runs.{broke_off, none_answered, passed_nearer, reached_end, read_at_fault, running_first, running_more, taken_at_end, taken_at_fault, write_at_end, write_at_fault}
 use Rattle.mmdb_core.proofs.run_script.run.Goals as goal
@@ -35,21 +35,21 @@ returns-in_err-is_refused-clause-taken g c =
     let p = err_from_is_err_and c.from_residual.result c.from_residual.ensures.1 in
     taken_at_fault c.loop-database.invariant c.answer_next.new.reader c.answer_next.new.input c.answer_next.new.database c.answer_next.new.writer
     c.from_residual.result c.in_err-is_refused.field-0.0
-    (p.1 ∙ ap (λ (f : RunFault). Err f) p.2) c.in_err-is_refused.ensures
+    (p.1 ∙ ap (λ (f : RunError). Err f) p.2) c.in_err-is_refused.ensures
 
 pub returns-in_err-is_refused-clause-read : goal.returns-in_err-is_refused-clause-read
 returns-in_err-is_refused-clause-read g c =
     let p = err_from_is_err_and c.from_residual.result c.from_residual.ensures.1 in
     read_at_fault c.loop-database.invariant c.answer_next.new.reader c.answer_next.new.input c.answer_next.new.database c.answer_next.new.writer
     c.from_residual.result c.in_err-is_refused.field-0.0
-    (p.1 ∙ ap (λ (f : RunFault). Err f) p.2) c.in_err-is_refused.ensures
+    (p.1 ∙ ap (λ (f : RunError). Err f) p.2) c.in_err-is_refused.ensures
 
 pub returns-in_err-is_refused-clause-write : goal.returns-in_err-is_refused-clause-write
 returns-in_err-is_refused-clause-write g c =
     let p = err_from_is_err_and c.from_residual.result c.from_residual.ensures.1 in
     write_at_fault c.loop-database.invariant c.answer_next.new.reader c.answer_next.new.input c.answer_next.new.database c.answer_next.new.writer
     c.from_residual.result c.in_err-is_refused.field-0.0
-    (p.1 ∙ ap (λ (f : RunFault). Err f) p.2) c.in_err-is_refused.ensures
+    (p.1 ∙ ap (λ (f : RunError). Err f) p.2) c.in_err-is_refused.ensures
 
 pub returns-in_err-is_refused-clause-broke_off : goal.returns-in_err-is_refused-clause-broke_off
 returns-in_err-is_refused-clause-broke_off g c =

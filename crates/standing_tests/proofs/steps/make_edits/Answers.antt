@@ -8,7 +8,7 @@ use Rattle.mm_relation.specs.declared.edits.Edit.{Edit}
 use Rattle.mm_standing.specs.State.{FitPrepared, Lists, count_at, count_now}
 use Rattle.mm_standing.specs.declared.change.ListChange.{ListChange}
 use Rattle.mm_store.specs.Tables.{rows_with}
-use Rattle.mm_store.specs.Worlds.{Noted}
+use Rattle.mm_store.specs.Snapshots.{Logged}
 use Rattle.store_tests.proofs.PlainStores.{kept}
 use Rattle.standing_tests.specs.Cases.{rows_edited}
 use Rattle.standing_tests.proofs.CaseSteps.{case_listed, case_still, mark_still}
@@ -48,7 +48,7 @@ returns-in-Err-clause-marks c = λ commands changes mark.
     let log = ap (λ (l : Lists). l.log) c.discard.ensures ∙ c.prepare.ensures.log in
     mark_still c.args.store.now c.apply.new.self c.args.undo.now c.apply.new.undo lists c.discard.new.self
     (ap (λ (l : Lists). l.queries) c.discard.ensures ∙ c.prepare.ensures.queries) commands changes
-    (subst (λ (ns : List Noted). commands ≤ length ns) (sym c.in-Err.ensures.kept) mark.commands_there)
+    (subst (λ (ns : List Logged). commands ≤ length ns) (sym c.in-Err.ensures.kept) mark.commands_there)
     (subst (λ (cs : List ListChange). changes ≤ length cs) (sym log) mark.changes_there)
     (c.apply.ensures.rows_before commands mark.commands_there)
     (λ list row. ap (λ (l : Lists). count_at changes list row l) c.discard.ensures
@@ -77,9 +77,9 @@ returns-clause-marks c = λ commands changes mark.
     let lists = c.args.standing.now in
     let mid = c.prepare.new.standing in
     let left = c.apply_prepared.new.self in
-    let noted = c.in_default.ensures.noted in
-    let longer = ap (λ (ns : List Noted). length ns) noted.1 in
-    let pushed = length_push c.args.undo.now (record { table = c.args.table; entries = noted.0 }) in
+    let logged = c.in_default.ensures.logged in
+    let longer = ap (λ (ns : List Logged). length ns) logged.1 in
+    let pushed = length_push c.args.undo.now (record { table = c.args.table; entries = logged.0 }) in
     let older = older_made lists mid left c.apply_prepared.ensures.made c.prepare.ensures.log in
     let commands_there = mark.commands_there in
     let changes_there = mark.changes_there in

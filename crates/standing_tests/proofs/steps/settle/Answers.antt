@@ -2,7 +2,7 @@
 use Rattle.std.proofs.Common.{pos, sym, ap, ◌∙◌, List, length, arith}
 use Rattle.mm_delta.specs.Edited.{before_at}
 use Rattle.mm_standing.specs.State.{Lists, count_now}
-use Rattle.mm_store.specs.Worlds.{Noted}
+use Rattle.mm_store.specs.Snapshots.{Logged}
 use Rattle.store_tests.proofs.PlainStores.{plain_formed}
 use Rattle.standing_tests.proofs.CaseSteps.{case_still, mark_now}
 use Rattle.standing_tests.proofs.ListCounts.{counts_still}
@@ -24,7 +24,7 @@ returns-clause-case c =
 pub returns-clause-start : goal.returns-clause-start
 returns-clause-start c =
     mark_now c.settle.new.self c.settle.new.undo c.settle-2.new.self (returns-clause-case c) c.rows_stand.ensures 0 0
-    (sym (ap (λ (ns : List Noted). length ns) c.settle.ensures.undo)) (sym (ap (λ (l : Lists). length l.log) c.settle-2.ensures.rest))
+    (sym (ap (λ (ns : List Logged). length ns) c.settle.ensures.undo)) (sym (ap (λ (l : Lists). length l.log) c.settle-2.ensures.rest))
 
 pub returns-clause-rows : goal.returns-clause-rows
 returns-clause-rows c = before_same c.args.store.now c.settle.new.self c.settle.ensures.rows

@@ -5,7 +5,7 @@ use Rattle.mm_query.specs.Queries.{bag_of}
 use Rattle.mm_standing.specs.Queries.{IsBagOf}
 use Rattle.mm_standing.specs.State.{Lists}
 use Rattle.mm_store.specs.Tables.{rows_at}
-use Rattle.mm_store.specs.Worlds.{Noted}
+use Rattle.mm_store.specs.Snapshots.{Logged}
 use Rattle.mm_value.specs.declared.values.Value.{Value}
 use Rattle.standing_tests.specs.Cases.{IsCase}
 use Rattle.standing_tests.proofs.CaseSteps.{case_watched, mark_now}
@@ -17,7 +17,7 @@ returns-in_err-watch-clause-case c = subst (λ (l : Lists). IsCase c.args.store.
 pub returns-in_err-watch-clause-start : goal.returns-in_err-watch-clause-start
 returns-in_err-watch-clause-start c =
     mark_now c.args.store.now c.args.undo.now c.watch.new.self (returns-in_err-watch-clause-case c) c.rows_stand.ensures 0 0
-    (sym (ap (λ (ns : List Noted). length ns) c.requires.undo))
+    (sym (ap (λ (ns : List Logged). length ns) c.requires.undo))
     (sym (ap (λ (l : Lists). length l.log) c.in_err-watch.ensures.err ∙ ap length c.requires.log))
 
 pub returns-clause-case : goal.returns-clause-case
@@ -36,5 +36,5 @@ returns-clause-case c =
 pub returns-clause-start : goal.returns-clause-start
 returns-clause-start c =
     mark_now c.args.store.now c.args.undo.now c.watch.new.self (returns-clause-case c) c.rows_stand.ensures 0 0
-    (sym (ap (λ (ns : List Noted). length ns) c.requires.undo))
+    (sym (ap (λ (ns : List Logged). length ns) c.requires.undo))
     (sym (ap (λ (l : Lists). length l.log) c.in_ok-watch.ensures.ok.2 ∙ ap length c.requires.log))

@@ -2,11 +2,11 @@ use Rattle.std.proofs.Common.{◌≡◌, ℕ, List, sym, ap, ◌∙◌, subst}
 use Rattle.mm_partition.specs.Places.{slot_at}
 use Rattle.mm_relation.specs.Before.{before}
 use Rattle.mm_relation.specs.Differs.{Differs}
-use Rattle.mm_relation.specs.Edits.{named, entry_name}
+use Rattle.mm_relation.specs.Edits.{named, record_name}
 use Rattle.mm_relation.specs.Kept.{StoredRows}
 use Rattle.mm_relation.specs.Lawful.{IsLawful}
 use Rattle.mm_relation.specs.Refs.{Slots}
-use Rattle.mm_relation.specs.declared.log.Entry.{Entry}
+use Rattle.mm_relation.specs.declared.log.UndoRecord.{UndoRecord}
 use Rattle.mm_relation.specs.declared.names.Side.TheVariants.{Old, New}
 use Rattle.mm_relation.proofs.Lawful.{IsLawful-kept}
 use Rattle.store_tests.proofs.relations.+there_and_back.Goals as goal
@@ -14,19 +14,19 @@ use Rattle.store_tests.proofs.relations.+there_and_back.Goals.{in-Some-checked_a
 
 pub revert-requires-clause-differs : goal.revert-requires-clause-differs
 revert-requires-clause-differs t c =
-    let es : List Entry = c.apply.new.log.entries in
+    let es : List UndoRecord = c.apply.new.log.entries in
     let now : StoredRows = c.match-checked_add.relation in
     let slots : slot_at now.places ≡ slot_at c.apply.new.self.places = elim c.match-checked_add.branch [
       | in-Some-checked_add w ↦ ap (λ (v : StoredRows). slot_at v.places) w.relation-is ∙ w.there_and_back-shown.ensures.slots
       | in-None w ↦ ap (λ (v : StoredRows). slot_at v.places) w.relation-is
     ] in
-    subst (λ (s : Slots). Differs s (before es s) (named entry_name New es) (named entry_name Old es)) (sym slots)
-    (subst (λ (s : Slots). Differs (slot_at c.apply.new.self.places) s (named entry_name New es) (named entry_name Old es)) (sym c.in_ok-apply.ensures.back)
+    subst (λ (s : Slots). Differs s (before es s) (named record_name New es) (named record_name Old es)) (sym slots)
+    (subst (λ (s : Slots). Differs (slot_at c.apply.new.self.places) s (named record_name New es) (named record_name Old es)) (sym c.in_ok-apply.ensures.back)
     c.in_ok-apply.ensures.differs)
 
 pub revert-requires-clause-lawful : goal.revert-requires-clause-lawful
 revert-requires-clause-lawful t c =
-    let es : List Entry = c.apply.new.log.entries in
+    let es : List UndoRecord = c.apply.new.log.entries in
     let old : StoredRows = c.args.relation.now in
     let now : StoredRows = c.match-checked_add.relation in
     let slots : before es (slot_at now.places) ≡ slot_at old.places = elim c.match-checked_add.branch [

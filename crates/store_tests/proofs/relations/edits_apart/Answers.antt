@@ -3,11 +3,11 @@ use Rattle.mm_partition.specs.Places.{slot_at}
 use Rattle.mm_relation.specs.Changes.{Standing}
 use Rattle.mm_relation.specs.Edits.{Among}
 use Rattle.mm_relation.proofs.Changed.{olds}
-use Rattle.mm_relation.proofs.TwinsAfter.{Standing-of_refs}
+use Rattle.mm_relation.proofs.DuplicatesAfter.{Standing-of_refs}
 use Rattle.store_tests.proofs.relations.edits_apart.Goals as goal
 
-pub has_twins_with-requires : goal.has_twins_with-requires
-has_twins_with-requires c =
+pub has_duplicates_with-requires : goal.has_duplicates_with-requires
+has_duplicates_with-requires c =
     let v = c.args.relation.now in
     let stay : Among v.refs (olds c.in_ok-edits.edits.items) = subst (Among v.refs) (sym c.in_ok-edits.ensures.old) c.in-Some.ensures in
     subst (Standing (slot_at v.places)) (sym c.as_slice.ensures.value)
@@ -21,5 +21,5 @@ returns-clause-standing c =
 
 pub returns-clause-apart : goal.returns-clause-apart
 returns-clause-apart c =
-    let told = rw c.as_slice.ensures.value at c.in_ok-has_twins_with.ensures.apart in
+    let told = rw c.as_slice.ensures.value at c.in_ok-has_duplicates_with.ensures.apart in
     told c.if-branch.false

@@ -15,19 +15,19 @@ returns-in_err-add_fitting-clause-due c =
     let store = c.args.view.now.store in
     let atoms = inner.atoms.now in
     let rows = map option_copied c.args.rows.now.items in
-    let front = c.args.front.now in
+    let outer = c.args.outer.now in
     let old = c.args.list.now.combos in
     let candidates = c.args.candidates.now in
     let i = c.loop-at.at-index in
     let at : RowRef = get_or candidates i record { part = 0; slot = 0 } in
     let tried : List (List RowRef) =
-    c.loop-at.list.combos ++ matches c.loop-at.view.store inner.table atoms (map option_copied c.loop-at.rows.items) front (at ∷ []) in
-    let all : List (List RowRef) = old ++ matches store inner.table atoms rows front candidates in
+    c.loop-at.list.combos ++ matches c.loop-at.view.store inner.table atoms (map option_copied c.loop-at.rows.items) outer (at ∷ []) in
+    let all : List (List RowRef) = old ++ matches store inner.table atoms rows outer candidates in
     let longer : length tried ≤ length all =
     subst (λ (l : List (List RowRef)). length l ≤ length all)
     (sym (λ j. (c.loop-at.invariant.list j).combos
-    ++ matches (c.loop-at.invariant.same j) inner.table atoms (map option_copied (c.loop-at.invariant.rows j)) front (at ∷ [])))
-    (matches_part store inner.table atoms rows front old candidates i record { part = 0; slot = 0 } c.loop-at-test.true) in
+    ++ matches (c.loop-at.invariant.same j) inner.table atoms (map option_copied (c.loop-at.invariant.rows j)) outer (at ∷ [])))
+    (matches_part store inner.table atoms rows outer old candidates i record { part = 0; slot = 0 } c.loop-at-test.true) in
     rw (p.1, p.2) (elim c.in_err-add_fitting.ensures.due [
       | inl due ↦ inl (due_of_longer inner.cap tried all _ longer due)
       | inr memory ↦ inr memory
@@ -39,17 +39,17 @@ loop-at-preserved c =
     let store = c.args.view.now.store in
     let atoms = inner.atoms.now in
     let rows = map option_copied c.args.rows.now.items in
-    let front = c.args.front.now in
+    let outer = c.args.outer.now in
     let old = c.args.list.now.combos in
     let candidates = c.args.candidates.now in
     let i = c.loop-at.at-index in
     let at : RowRef = get_or candidates i record { part = 0; slot = 0 } in
     let tried : List (List RowRef) =
-    c.loop-at.list.combos ++ matches c.loop-at.view.store inner.table atoms (map option_copied c.loop-at.rows.items) front (at ∷ []) in
-    let step : tried ≡ old ++ matches store inner.table atoms rows front (take (i + 1) candidates) =
+    c.loop-at.list.combos ++ matches c.loop-at.view.store inner.table atoms (map option_copied c.loop-at.rows.items) outer (at ∷ []) in
+    let step : tried ≡ old ++ matches store inner.table atoms rows outer (take (i + 1) candidates) =
     (λ j. (c.loop-at.invariant.list j).combos
-    ++ matches (c.loop-at.invariant.same j) inner.table atoms (map option_copied (c.loop-at.invariant.rows j)) front (at ∷ []))
-    ∙ matches_step store inner.table atoms rows front old candidates i record { part = 0; slot = 0 } c.loop-at-test.true in
+    ++ matches (c.loop-at.invariant.same j) inner.table atoms (map option_copied (c.loop-at.invariant.rows j)) outer (at ∷ []))
+    ∙ matches_step store inner.table atoms rows outer old candidates i record { part = 0; slot = 0 } c.loop-at-test.true in
     record {
       list = c.in_ok-add_fitting.ensures.list
           ∙ (λ j. record { tables = (c.loop-at.invariant.list j).tables; fields = (c.loop-at.invariant.list j).fields; combos = step j });

@@ -8,7 +8,7 @@ abbrev pub invariant-loop-at : goal.invariant-loop-at
 invariant-loop-at l = record {
   list : l.list ≡ record l.fn.list {
     combos = l.fn.list.combos
-        ++ matches l.fn.view.store l.self.table l.self.atoms.now (map option_copied l.fn.rows.items) l.front (take l.at-index l.candidates);
+        ++ matches l.fn.view.store l.self.table l.self.atoms.now (map option_copied l.fn.rows.items) l.outer (take l.at-index l.candidates);
   };
   rows : l.rows.items ≡ l.fn.rows.items;
   few : length l.list.combos ≤ l.self.cap;

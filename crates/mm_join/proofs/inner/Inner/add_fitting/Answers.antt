@@ -11,7 +11,7 @@ use Rattle.mm_join.proofs.inner.Inner.add_fitting.Goals as goal
 pub returns-then-not-fits-clause-due : goal.returns-then-not-fits-clause-due
 returns-then-not-fits-clause-due c =
     let inner = c.args.self.now in
-    let none = told_match c.args.view.now.store inner.table inner.atoms.now c.args.front.now c.args.at false c.args.rows.now.items c.push.new.self.items
+    let none = told_match c.args.view.now.store inner.table inner.atoms.now c.args.outer.now c.args.at false c.args.rows.now.items c.push.new.self.items
     c.deref.result.now c.row.result (row_given c.args.view.now.store inner.table c.args.at c.row.result.now c.requires.there c.row.ensures.row)
     c.in_ok-push.ensures.items c.deref.ensures.value c.if-not-fits.ensures in
     subst (λ l. first_refusal (cap_conditions inner.cap l) ≡ None)
@@ -21,7 +21,7 @@ returns-then-not-fits-clause-due c =
 pub returns-then-not-fits-clause-list : goal.returns-then-not-fits-clause-list
 returns-then-not-fits-clause-list c =
     let inner = c.args.self.now in
-    let none = told_match c.args.view.now.store inner.table inner.atoms.now c.args.front.now c.args.at false c.args.rows.now.items c.push.new.self.items
+    let none = told_match c.args.view.now.store inner.table inner.atoms.now c.args.outer.now c.args.at false c.args.rows.now.items c.push.new.self.items
     c.deref.result.now c.row.result (row_given c.args.view.now.store inner.table c.args.at c.row.result.now c.requires.there c.row.ensures.row)
     c.in_ok-push.ensures.items c.deref.ensures.value c.if-not-fits.ensures in
     ap (λ combos. record c.args.list.now { combos = combos })
@@ -30,18 +30,18 @@ returns-then-not-fits-clause-list c =
 pub returns-then-len-self-clause-due : goal.returns-then-len-self-clause-due
 returns-then-len-self-clause-due c =
     let inner = c.args.self.now in
-    let one = told_match c.args.view.now.store inner.table inner.atoms.now c.args.front.now c.args.at true c.args.rows.now.items c.push.new.self.items
+    let one = told_match c.args.view.now.store inner.table inner.atoms.now c.args.outer.now c.args.at true c.args.rows.now.items c.push.new.self.items
     c.deref.result.now c.row.result (row_given c.args.view.now.store inner.table c.args.at c.row.result.now c.requires.there c.row.ensures.row)
     c.in_ok-push.ensures.items c.deref.ensures.value c.if-not-fits.ensures in
     inl
     (subst (λ l. first_refusal (cap_conditions inner.cap (c.args.list.now.combos ++ l)) ≡ Some ResultTooLarge) (sym one)
-    (past_by_one inner.cap c.args.list.now.combos (c.args.front.now ++ c.args.at ∷ [])
+    (past_by_one inner.cap c.args.list.now.combos (c.args.outer.now ++ c.args.at ∷ [])
     (subst (λ n. inner.cap ≤ n) c.len.ensures c.if-len-self.true)))
 
 pub returns-clause-list : goal.returns-clause-list
 returns-clause-list c =
     let inner = c.args.self.now in
-    let one = told_match c.args.view.now.store inner.table inner.atoms.now c.args.front.now c.args.at true c.args.rows.now.items c.push.new.self.items
+    let one = told_match c.args.view.now.store inner.table inner.atoms.now c.args.outer.now c.args.at true c.args.rows.now.items c.push.new.self.items
     c.deref.result.now c.row.result (row_given c.args.view.now.store inner.table c.args.at c.row.result.now c.requires.there c.row.ensures.row)
     c.in_ok-push.ensures.items c.deref.ensures.value c.if-not-fits.ensures in
     c.in_ok-push-2.ensures.ok ∙ ap (λ l. record c.args.list.now { combos = c.args.list.now.combos ++ l }) (sym one)

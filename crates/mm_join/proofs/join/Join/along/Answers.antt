@@ -10,7 +10,7 @@ use Rattle.mm_value.specs.declared.row_ref.RowRef.{RowRef}
 use Rattle.mm_join.proofs.Along.{candidates_here, due_here, few_here, found_step, refused, spent_more, spent_within}
 use Rattle.mm_join.proofs.Caps.{cap_within}
 use Rattle.mm_join.proofs.Progress.{Progress, due_end, holds_there, joined_end, live_end, none_step, one_wider}
-use Rattle.mm_join.specs.Ways.{found_behind, listed, reads_along}
+use Rattle.mm_join.specs.AccessMethods.{found_behind, listed, reads_along}
 use Rattle.mm_join.specs.declared.inner.Inner.{Inner}
 use Rattle.mm_join.proofs.join.Join.along.Goals as goal
 
@@ -52,13 +52,13 @@ returns-in_err-choose-clause-reads c = λ table is.
     let store = c.args.view.now.store in
     let outer = c.args.self.now.outer.now in
     let front = c.combo-refs.result.now in
-    let way = c.args.way.now in
+    let method = c.args.method.now in
     let live = holds_there outer.combos c.loop-i.i front c.combo-refs.ensures (AreLive store outer.tables) c.requires.next.1.1 in
     omega (
       arith,
-      spent_within way (rows_at store.tables table) store outer c.loop-i.i front c.combo-refs.ensures live,
+      spent_within method (rows_at store.tables table) store outer c.loop-i.i front c.combo-refs.ensures live,
       subst (λ n. c.loop-i.view.reads ≤ c.args.view.now.reads
-          + sum_by (reads_along way (rows_at store.tables n)) (take c.loop-i.i (combo_rows store outer)))
+          + sum_by (reads_along method (rows_at store.tables n)) (take c.loop-i.i (combo_rows store outer)))
           (ap (λ (x : Inner). x.table) (c.inner-inner.ensures table is.0)) c.loop-i.invariant.reads,
       c.choose.ensures.reads,
       ap length c.descriptor.ensures.tables,
@@ -69,13 +69,13 @@ returns-in_err-find-clause-reads c = λ table is.
     let store = c.args.view.now.store in
     let outer = c.args.self.now.outer.now in
     let front = c.combo-refs.result.now in
-    let way = c.args.way.now in
+    let method = c.args.method.now in
     let live = holds_there outer.combos c.loop-i.i front c.combo-refs.ensures (AreLive store outer.tables) c.requires.next.1.1 in
     omega (
       arith,
-      spent_within way (rows_at store.tables table) store outer c.loop-i.i front c.combo-refs.ensures live,
+      spent_within method (rows_at store.tables table) store outer c.loop-i.i front c.combo-refs.ensures live,
       subst (λ n. c.loop-i.view.reads ≤ c.args.view.now.reads
-          + sum_by (reads_along way (rows_at store.tables n)) (take c.loop-i.i (combo_rows store outer)))
+          + sum_by (reads_along method (rows_at store.tables n)) (take c.loop-i.i (combo_rows store outer)))
           (ap (λ (x : Inner). x.table) (c.inner-inner.ensures table is.0)) c.loop-i.invariant.reads,
       c.choose.ensures.reads,
       ap length c.descriptor.ensures.tables,
@@ -86,28 +86,28 @@ returns-in_err-add_all-clause-reads c = λ table is.
     let store = c.args.view.now.store in
     let outer = c.args.self.now.outer.now in
     let front = c.combo-refs.result.now in
-    let way = c.args.way.now in
+    let method = c.args.method.now in
     let live = holds_there outer.combos c.loop-i.i front c.combo-refs.ensures (AreLive store outer.tables) c.requires.next.1.1 in
     let candidates : c.candidates-candidates.result.now ≡ listed c.has_none.new.self c.find.new.found.items =
     c.candidates-candidates.ensures ∙ (λ j. listed (c.find.ensures.same j) (c.as_slice.ensures.value j)) in
     let inner = c.inner-inner.ensures table is.0 in
     let few = few_here store c.args.self.now table c.inner-inner.result inner c.choose.new.view.store (c.choose.ensures.same ∙ c.loop-i.invariant.same) front
-    c.descriptor.result.tables.now c.descriptor.ensures.tables way c.has_none.new.self (c.has_none.ensures.same ∙ c.loop-i.invariant.way)
+    c.descriptor.result.tables.now c.descriptor.ensures.tables method c.has_none.new.self (c.has_none.ensures.same ∙ c.loop-i.invariant.method)
     (length c.candidates-candidates.result.now)
     (subst (λ l. length l ≤ found_behind c.has_none.new.self (rows_at c.choose.new.view.store.tables c.inner-inner.result.table)
     (rows_of_combo c.choose.new.view.store c.descriptor.result.tables.now front)) (sym candidates) c.in_ok-find.ensures.found.few) in
     let within : c.add_all.new.view.reads ≤ c.args.view.now.reads
-    + sum_by (reads_along way (rows_at store.tables c.inner-inner.result.table)) (combo_rows store outer) =
+    + sum_by (reads_along method (rows_at store.tables c.inner-inner.result.table)) (combo_rows store outer) =
     omega (
       arith,
-      spent_within way (rows_at store.tables c.inner-inner.result.table) store outer c.loop-i.i front c.combo-refs.ensures live,
+      spent_within method (rows_at store.tables c.inner-inner.result.table) store outer c.loop-i.i front c.combo-refs.ensures live,
       c.loop-i.invariant.reads,
       c.choose.ensures.reads,
       c.add_all.ensures.reads,
       few,
       ap length c.descriptor.ensures.tables,
     ) in
-    subst (λ n. c.add_all.new.view.reads ≤ c.args.view.now.reads + sum_by (reads_along way (rows_at store.tables n)) (combo_rows store outer))
+    subst (λ n. c.add_all.new.view.reads ≤ c.args.view.now.reads + sum_by (reads_along method (rows_at store.tables n)) (combo_rows store outer))
     (ap (λ (x : Inner). x.table) inner) within
 
 pub returns-in_err-add_all-clause-joins : goal.returns-in_err-add_all-clause-joins
@@ -156,7 +156,7 @@ loop-i-preserved-then-has_none c =
     c.descriptor.ensures.tables 0 [] (c.has_none.ensures.none c.if-has_none.true) in
     record {
       same = c.loop-i.invariant.same;
-      way = c.has_none.ensures.same ∙ c.loop-i.invariant.way;
+      method = c.has_none.ensures.same ∙ c.loop-i.invariant.method;
       tables = c.loop-i.invariant.tables;
       fields = c.loop-i.invariant.fields;
       few = c.loop-i.invariant.few;
@@ -164,7 +164,7 @@ loop-i-preserved-then-has_none c =
           (subst (λ n. n < length store.tables) (sym t) next.1) all c.combo-refs.ensures are c.loop-i.invariant.progress;
       reads = omega (
         arith,
-        spent_more c.args.way.now (rows_at store.tables c.inner-inner.result.table) store outer c.loop-i.i front c.combo-refs.ensures live,
+        spent_more c.args.method.now (rows_at store.tables c.inner-inner.result.table) store outer c.loop-i.i front c.combo-refs.ensures live,
         c.loop-i.invariant.reads,
       );
     }
@@ -175,7 +175,7 @@ loop-i-preserved c =
     let join = c.args.self.now in
     let outer = join.outer.now in
     let front = c.combo-refs.result.now in
-    let way = c.args.way.now in
+    let method = c.args.method.now in
     let rows = map option_copied c.choose.new.rows.items in
     let table = c.requires.next.0 in
     let next = c.requires.next.1.0 in
@@ -199,13 +199,13 @@ loop-i-preserved c =
     (listed c.has_none.new.self c.find.new.found.items) _ (subst (λ n. n < length store.tables) (sym t) next.1) all c.combo-refs.ensures
     chosen are c.loop-i.invariant.progress) in
     let few = few_here store join table c.inner-inner.result inner c.choose.new.view.store same front
-    c.descriptor.result.tables.now c.descriptor.ensures.tables way c.has_none.new.self (c.has_none.ensures.same ∙ c.loop-i.invariant.way)
+    c.descriptor.result.tables.now c.descriptor.ensures.tables method c.has_none.new.self (c.has_none.ensures.same ∙ c.loop-i.invariant.method)
     (length c.candidates-candidates.result.now)
     (subst (λ l. length l ≤ found_behind c.has_none.new.self (rows_at c.choose.new.view.store.tables c.inner-inner.result.table)
     (rows_of_combo c.choose.new.view.store c.descriptor.result.tables.now front)) (sym candidates) c.in_ok-find.ensures.found.few) in
     record {
       same = c.add_all.ensures.same ∙ same;
-      way = c.find.ensures.same ∙ (c.has_none.ensures.same ∙ c.loop-i.invariant.way);
+      method = c.find.ensures.same ∙ (c.has_none.ensures.same ∙ c.loop-i.invariant.method);
       tables = ap (λ (list : Combos). list.tables) c.in_ok-add_all.ensures.list ∙ c.loop-i.invariant.tables;
       fields = ap (λ (list : Combos). list.fields) c.in_ok-add_all.ensures.list ∙ c.loop-i.invariant.fields;
       few = subst (λ (list : Combos). length list.combos ≤ join.cap) (sym c.in_ok-add_all.ensures.list)
@@ -214,7 +214,7 @@ loop-i-preserved c =
           (sym c.in_ok-add_all.ensures.list) step;
       reads = omega (
         arith,
-        spent_more way (rows_at store.tables c.inner-inner.result.table) store outer c.loop-i.i front c.combo-refs.ensures live,
+        spent_more method (rows_at store.tables c.inner-inner.result.table) store outer c.loop-i.i front c.combo-refs.ensures live,
         c.loop-i.invariant.reads,
         c.choose.ensures.reads,
         c.add_all.ensures.reads,

@@ -5,7 +5,7 @@ use Rattle.mm_templist.specs.Combos.{combo_rows}
 use Rattle.mm_join.specs.Joined.{IsNext}
 use Rattle.mm_join.specs.Joins.{CanJoin, Joins}
 use Rattle.mm_join.specs.Reads.{has_hash, reads_of}
-use Rattle.mm_join.specs.Ways.{IsWay, inner_of, reads_along}
+use Rattle.mm_join.specs.AccessMethods.{IsAccessMethod, inner_of, reads_along}
 use Rattle.mm_join.specs.declared.inner.Inner.{Inner}
 use Rattle.mm_join.proofs.join.Join.built_hash.Goals as goal
 
@@ -20,10 +20,10 @@ along-requires c =
     let (table, can) = c.requires.next in
     let inner = c.inner.ensures table can.0.0 in
     record {
-      next = subst (λ (s : Tables). (n : ℕ) × CanJoin s join n × IsWay s join.outer.now.tables (inner_of join n) c.sought.result) (sym c.hashed_rows.ensures.same) (
+      next = subst (λ (s : Tables). (n : ℕ) × CanJoin s join n × IsAccessMethod s join.outer.now.tables (inner_of join n) c.by.result) (sym c.hashed_rows.ensures.same) (
         table,
         can,
-        subst (IsWay store join.outer.now.tables (inner_of join table)) (sym c.sought.ensures) (
+        subst (IsAccessMethod store join.outer.now.tables (inner_of join table)) (sym c.by.ensures) (
           c.requires.asked table can.0,
           λ stored here.
               c.in_ok-pairs.ensures.pairs stored (subst (λ (x : Inner). IsAt store x.table stored) (sym inner) here),
@@ -53,7 +53,7 @@ returns-clause-reads c = λ table is.
     let next = subst (λ (s : Tables). IsNext s join.outer.now.tables join.descriptor.tables.now table) (sym c.hashed_rows.ensures.same) is in
     let along : c.along.new.view.reads ≤ c.hashed_rows.new.view.reads + reads_of store join table (has_hash c.args.key) =
     subst (λ n. c.along.new.view.reads ≤ c.hashed_rows.new.view.reads + n)
-    (λ j. sum_by (reads_along (c.sought.ensures j) (rows_at (c.hashed_rows.ensures.same j).tables table))
+    (λ j. sum_by (reads_along (c.by.ensures j) (rows_at (c.hashed_rows.ensures.same j).tables table))
     (combo_rows (c.hashed_rows.ensures.same j) join.outer.now))
     (c.along.ensures.reads table next) in
     omega (

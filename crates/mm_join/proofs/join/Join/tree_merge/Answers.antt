@@ -6,7 +6,7 @@ use Rattle.mm_templist.specs.Combos.{combo_rows}
 use Rattle.mm_join.specs.Joined.{IsNext}
 use Rattle.mm_join.specs.Joins.{CanJoin, Joins}
 use Rattle.mm_join.specs.Reads.{has_prefix, reads_of}
-use Rattle.mm_join.specs.Ways.{IsWay, inner_of, reads_along}
+use Rattle.mm_join.specs.AccessMethods.{IsAccessMethod, inner_of, reads_along}
 use Rattle.mm_join.specs.declared.inner.Inner.{Inner}
 use Rattle.mm_join.proofs.join.Join.tree_merge.Goals as goal
 
@@ -30,10 +30,11 @@ along-requires c =
     let (some, there) = some_at store.tables table can.0.1 in
     let inner = c.inner.ensures table can.0.0 in
     record {
-      next = subst (λ (s : Tables). (n : ℕ) × CanJoin s join n × IsWay s join.outer.now.tables (inner_of join n) c.sought.result) (sym c.new.ensures.same) (
+      next = subst (λ (s : Tables). (n : ℕ) × CanJoin s join n × IsAccessMethod s join.outer.now.tables (inner_of join n) c.by.result)
+          (sym c.new.ensures.same) (
         table,
         can,
-        subst (IsWay store join.outer.now.tables (inner_of join table)) (sym c.sought.ensures) (
+        subst (IsAccessMethod store join.outer.now.tables (inner_of join table)) (sym c.by.ensures) (
           (c.requires.served table some can.0 there).2,
           λ stored here.
               c.in_ok-cursor.ensures.walk stored (subst (λ (x : Inner). IsAt store x.table stored) (sym inner) here),
@@ -62,7 +63,7 @@ returns-clause-reads c = λ table is.
     let next = subst (λ (s : Tables). IsNext s join.outer.now.tables join.descriptor.tables.now table) (sym c.new.ensures.same) is in
     let along : c.along.new.view.reads ≤ c.new.new.view.reads + reads_of store join table (has_prefix c.args.key) =
     subst (λ n. c.along.new.view.reads ≤ c.new.new.view.reads + n)
-    (λ j. sum_by (reads_along (c.sought.ensures j) (rows_at (c.new.ensures.same j).tables table)) (combo_rows (c.new.ensures.same j) join.outer.now))
+    (λ j. sum_by (reads_along (c.by.ensures j) (rows_at (c.new.ensures.same j).tables table)) (combo_rows (c.new.ensures.same j) join.outer.now))
     (c.along.ensures.reads table next) in
     omega (
       arith,

@@ -2,7 +2,7 @@ use Rattle.std.proofs.Common.{◌≡◌, [], ◌++◌, map, refl, sym, ap, subst
 use Rattle.std.specs.Prelude.{MatchResult}
 use Rattle.std.proofs.lemmas.Result.{err_from_is_err_and}
 use Rattle.mm_value.proofs.Writing.{Writes-stops, Writes-then}
-use Rattle.mm_lang.proofs.LateLines.{late_written}
+use Rattle.mm_lang.proofs.BufferedLines.{buffered_written}
 use Rattle.mm_lang.proofs.ReplyLemmas.{row_line}
 use Rattle.mm_lang.proofs.row_line.RowLines.add.Goals as goal
 
@@ -25,5 +25,5 @@ returns g c =
     let none : c.has_added-2.new.self ≡ [] = c.has_added-2.ensures.same c.if-has_added-2.false ∙ c.in_ok-write_out.ensures.empty in (
       text,
       Writes-then (ap (λ l. l ++ line) (sym same)) c.in_ok-write_out.ensures.written c.write_line.ensures,
-      late_written c.write_line.result text c.has_added-2.new.self none,
+      buffered_written c.write_line.result text c.has_added-2.new.self none,
     )

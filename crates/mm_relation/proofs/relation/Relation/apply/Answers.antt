@@ -2,7 +2,7 @@ use Rattle.std.proofs.Common.{◌≡◌, ◌+◌, ◌≤◌, List, length, sym, 
 use Rattle.std.specs.List.{All}
 use Rattle.mm_value.specs.declared.row_ref.RowRef.{RowRef}
 use Rattle.mm_partition.specs.Places.{slot_at}
-use Rattle.mm_relation.specs.Edits.{named, edit_name, entry_name, new_rows}
+use Rattle.mm_relation.specs.Edits.{named, edit_name, record_name, new_rows}
 use Rattle.mm_relation.specs.Index.{spare_of}
 use Rattle.mm_relation.specs.declared.edits.Edit.{Edit}
 use Rattle.mm_relation.specs.declared.names.Side.TheVariants.{Old, New}
@@ -39,7 +39,7 @@ returns-clause-row_list c =
 pub returns-clause-differs : goal.returns-clause-differs
 returns-clause-differs c =
     Differs-same c.args.self.now c.make_room.new.self c.make_room.ensures.same (slot_at c.change.new.self.places)
-    (named entry_name New c.change.new.log.entries) (named entry_name Old c.change.new.log.entries) c.change.ensures.differs
+    (named record_name New c.change.new.log.entries) (named record_name Old c.change.new.log.entries) c.change.ensures.differs
 
 pub returns-clause-still_hidden : goal.returns-clause-still_hidden
 returns-clause-still_hidden c = λ at row is.
@@ -49,27 +49,27 @@ pub returns-clause-indexes : goal.returns-clause-indexes
 returns-clause-indexes c =
     indexes_same c.args.self.now c.make_room.new.self c.make_room.ensures.same c.change.new.self.indexes c.change.ensures.indexes
 
-pub returns-clause-owed : goal.returns-clause-owed
-returns-clause-owed c =
-    let names : length (named entry_name Old c.change.new.log.entries) ≡ length (named edit_name Old c.args.edits.items) =
+pub returns-clause-undo_room : goal.returns-clause-undo_room
+returns-clause-undo_room c =
+    let names : length (named record_name Old c.change.new.log.entries) ≡ length (named edit_name Old c.args.edits.items) =
     ap (λ (xs : List RowRef). length xs)
     (old_names c.args.edits.items c.change.new.log.entries (slot_at c.make_room.new.self.places) (slot_at c.change.new.self.places)
     c.change.ensures.changes) in
-    let room : c.args.owed + (length (named edit_name Old c.args.edits.items) + length (new_rows c.args.edits.items)) ≤ c.make_room.new.self.spare =
+    let room : c.args.undo_room + (length (named edit_name Old c.args.edits.items) + length (new_rows c.args.edits.items)) ≤ c.make_room.new.self.spare =
     rw (sym c.as_slice.ensures.value) c.in_ok-make_room.ensures.spare in
     omega (arith, names, room, c.change.ensures.spare)
 
-pub returns-clause-owed_each : goal.returns-clause-owed_each
-returns-clause-owed_each c =
-    let names : length (named entry_name Old c.change.new.log.entries) ≡ length (named edit_name Old c.args.edits.items) =
+pub returns-clause-undo_room_each : goal.returns-clause-undo_room_each
+returns-clause-undo_room_each c =
+    let names : length (named record_name Old c.change.new.log.entries) ≡ length (named edit_name Old c.args.edits.items) =
     ap (λ (xs : List RowRef). length xs)
     (old_names c.args.edits.items c.change.new.log.entries (slot_at c.make_room.new.self.places) (slot_at c.change.new.self.places)
     c.change.ensures.changes) in
-    let room : All (λ x. c.args.owed + (length (named edit_name Old c.args.edits.items) + length (new_rows c.args.edits.items)) ≤ spare_of x)
+    let room : All (λ x. c.args.undo_room + (length (named edit_name Old c.args.edits.items) + length (new_rows c.args.edits.items)) ≤ spare_of x)
     c.make_room.new.self.indexes =
-    subst (λ (es : List Edit). All (λ x. c.args.owed + (length (named edit_name Old es) + length (new_rows es)) ≤ spare_of x) c.make_room.new.self.indexes)
+    subst (λ (es : List Edit). All (λ x. c.args.undo_room + (length (named edit_name Old es) + length (new_rows es)) ≤ spare_of x) c.make_room.new.self.indexes)
     c.as_slice.ensures.value c.in_ok-make_room.ensures.spares in
     All-turned (λ x y. spare_of x ≤ spare_of y + length (new_rows c.args.edits.items))
-    (λ x. c.args.owed + (length (named edit_name Old c.args.edits.items) + length (new_rows c.args.edits.items)) ≤ spare_of x)
-    (λ x. c.args.owed + length (named entry_name Old c.change.new.log.entries) ≤ spare_of x) c.make_room.new.self.indexes c.change.new.self.indexes
+    (λ x. c.args.undo_room + (length (named edit_name Old c.args.edits.items) + length (new_rows c.args.edits.items)) ≤ spare_of x)
+    (λ x. c.args.undo_room + length (named record_name Old c.change.new.log.entries) ≤ spare_of x) c.make_room.new.self.indexes c.change.new.self.indexes
     c.change.ensures.spares (λ x y enough taken. omega (arith, names, enough, taken)) room

@@ -5,7 +5,7 @@ use Rattle.std.proofs.lemmas.List.Sorted.{IsPermutation-sym}
 use Rattle.mm_value.specs.declared.row_ref.RowRef.{RowRef}
 use Rattle.mm_partition.specs.Places.{Hidden, slot_at}
 use Rattle.mm_relation.specs.Refs.{row_at}
-use Rattle.mm_relation.specs.Edits.{Among, named, edit_name, edit_other, entry_name, entry_other, new_rows}
+use Rattle.mm_relation.specs.Edits.{Among, named, edit_name, edit_other, record_name, record_other, new_rows}
 use Rattle.mm_relation.specs.Changes.{Changes, Standing}
 use Rattle.mm_relation.specs.Index.{Taken, Put, EachTurns, SameIndex, spare_of, unmoved}
 use Rattle.mm_value.specs.declared.values.Value.{Value}
@@ -13,7 +13,7 @@ use Rattle.mm_schema.specs.Rows.{changed}
 use Rattle.mm_relation.specs.RowLists.{edit_pairs, rows_of}
 use Rattle.mm_relation.proofs.RowLists.{changed_is, in_key_order}
 use Rattle.mm_relation.specs.Kept.{StoredRows, Stay, rows_after, RowsApart}
-use Rattle.mm_relation.specs.declared.log.Entry.{Entry}
+use Rattle.mm_relation.specs.declared.log.UndoRecord.{UndoRecord}
 use Rattle.mm_relation.specs.declared.edits.Edit.{Edit}
 use Rattle.mm_relation.specs.declared.names.Side.TheVariants.{Old, New}
 use Rattle.mm_relation.proofs.Changed.{olds, before_changes}
@@ -208,16 +208,16 @@ invariant_of-self c =
     c.args.edits.items standing (slot_at c.change_each.new.rows) c.change_each.new.log.entries c.change_each.ensures.changes parts.0 parts.1 sizes
     c.take_each.new.tree.refs holds in
     let more : IsPermutation c.put_each.new.tree.refs (news c.change_each.new.log.entries ++ parts.0) = subst
-    (λ (ns : List Entry). IsPermutation c.take_each.new.tree.refs
-    (staying entry_name entry_other c.self.inside.key c.self.inside.key (slot_at c.change_each.new.rows) New ns ++ parts.0)
-    → IsPermutation c.put_each.new.tree.refs (named entry_name New ns ++ parts.0)) c.entries.ensures (c.put_each.ensures.refs parts.0) beside in
+    (λ (ns : List UndoRecord). IsPermutation c.take_each.new.tree.refs
+    (staying record_name record_other c.self.inside.key c.self.inside.key (slot_at c.change_each.new.rows) New ns ++ parts.0)
+    → IsPermutation c.put_each.new.tree.refs (named record_name New ns ++ parts.0)) c.entries.ensures (c.put_each.ensures.refs parts.0) beside in
     let moved : IsPermutation (news c.change_each.new.log.entries ++ parts.0) c.put_each.new.tree.refs =
     IsPermutation-sym c.put_each.new.tree.refs (news c.change_each.new.log.entries ++ parts.0) more in
     let put : EachTurns (λ x. Put c.self.inside.key (slot_at c.change_each.new.rows) (news c.change_each.new.log.entries)
-    (unmoved entry_name entry_other c.self.inside.key (slot_at c.change_each.new.rows) New c.change_each.new.log.entries x) x)
+    (unmoved record_name record_other c.self.inside.key (slot_at c.change_each.new.rows) New c.change_each.new.log.entries x) x)
     c.take_from_all.new.indexes.items c.put_into_all.new.indexes.items = subst
-    (λ (ns : List Entry). EachTurns (λ x. Put c.self.inside.key (slot_at c.change_each.new.rows) (named entry_name New ns)
-    (unmoved entry_name entry_other c.self.inside.key (slot_at c.change_each.new.rows) New ns x) x) c.take_from_all.new.indexes.items
+    (λ (ns : List UndoRecord). EachTurns (λ x. Put c.self.inside.key (slot_at c.change_each.new.rows) (named record_name New ns)
+    (unmoved record_name record_other c.self.inside.key (slot_at c.change_each.new.rows) New ns x) x) c.take_from_all.new.indexes.items
     c.put_into_all.new.indexes.items) c.entries-2.ensures c.put_into_all.ensures.put in
     after c.self.inside.width c.self.inside.key (slot_at c.self.inside.rows) c.self.inside.by_key.refs c.self.inside.indexes.items c.self.invariant
     c.args.edits.items standing (slot_at c.change_each.new.rows) c.change_each.new.log.entries c.change_each.ensures.changes parts.0
@@ -251,9 +251,9 @@ returns-clause-rows c =
     c.args.edits.items standing (slot_at c.change_each.new.rows) c.change_each.new.log.entries c.change_each.ensures.changes parts.0 parts.1 sizes
     c.take_each.new.tree.refs holds in
     let more : IsPermutation c.put_each.new.tree.refs (news c.change_each.new.log.entries ++ parts.0) = subst
-    (λ (ns : List Entry). IsPermutation c.take_each.new.tree.refs
-    (staying entry_name entry_other c.self.inside.key c.self.inside.key (slot_at c.change_each.new.rows) New ns ++ parts.0)
-    → IsPermutation c.put_each.new.tree.refs (named entry_name New ns ++ parts.0)) c.entries.ensures (c.put_each.ensures.refs parts.0) beside in
+    (λ (ns : List UndoRecord). IsPermutation c.take_each.new.tree.refs
+    (staying record_name record_other c.self.inside.key c.self.inside.key (slot_at c.change_each.new.rows) New ns ++ parts.0)
+    → IsPermutation c.put_each.new.tree.refs (named record_name New ns ++ parts.0)) c.entries.ensures (c.put_each.ensures.refs parts.0) beside in
     let moved : IsPermutation (news c.change_each.new.log.entries ++ parts.0) c.put_each.new.tree.refs =
     IsPermutation-sym c.put_each.new.tree.refs (news c.change_each.new.log.entries ++ parts.0) more in
     subst (λ (v : StoredRows). (kept : List RowRef) → Stay v.refs c.args.edits.items kept
@@ -280,9 +280,9 @@ returns-clause-row_list c =
     c.args.edits.items standing (slot_at c.change_each.new.rows) c.change_each.new.log.entries c.change_each.ensures.changes parts.0 parts.1 sizes
     c.take_each.new.tree.refs holds in
     let more : IsPermutation c.put_each.new.tree.refs (news c.change_each.new.log.entries ++ parts.0) = subst
-    (λ (ns : List Entry). IsPermutation c.take_each.new.tree.refs
-    (staying entry_name entry_other c.self.inside.key c.self.inside.key (slot_at c.change_each.new.rows) New ns ++ parts.0)
-    → IsPermutation c.put_each.new.tree.refs (named entry_name New ns ++ parts.0)) c.entries.ensures (c.put_each.ensures.refs parts.0) beside in
+    (λ (ns : List UndoRecord). IsPermutation c.take_each.new.tree.refs
+    (staying record_name record_other c.self.inside.key c.self.inside.key (slot_at c.change_each.new.rows) New ns ++ parts.0)
+    → IsPermutation c.put_each.new.tree.refs (named record_name New ns ++ parts.0)) c.entries.ensures (c.put_each.ensures.refs parts.0) beside in
     let moved : IsPermutation (news c.change_each.new.log.entries ++ parts.0) c.put_each.new.tree.refs =
     IsPermutation-sym c.put_each.new.tree.refs (news c.change_each.new.log.entries ++ parts.0) more in
     let left : List RowRef = parts.0 in
@@ -307,7 +307,7 @@ returns-clause-differs c =
     = Differs-back c.args.edits.items c.change_each.new.log.entries (slot_at c.self.inside.rows) (slot_at c.change_each.new.rows) standing
     c.change_each.ensures.changes in
     subst (λ (v : StoredRows). Differs (slot_at c.change_each.new.rows) (slot_at v.places) (news c.change_each.new.log.entries)
-    (named entry_name Old c.change_each.new.log.entries)) c.self.view_is
+    (named record_name Old c.change_each.new.log.entries)) c.self.view_is
     (subst (λ (xs : List RowRef). Differs (slot_at c.change_each.new.rows) (slot_at c.self.inside.rows) (news c.change_each.new.log.entries) xs)
     (sym (old_names c.args.edits.items c.change_each.new.log.entries (slot_at c.self.inside.rows) (slot_at c.change_each.new.rows)
     c.change_each.ensures.changes)) differs)
@@ -329,11 +329,11 @@ returns-clause-indexes c =
     let old = slot_at c.self.inside.rows in
     let new = slot_at c.change_each.new.rows in
     let outs : List RowRef = named edit_name Old c.as_slice-2.result.now in
-    let ins : List RowRef = named entry_name New c.entries-2.result.now in
+    let ins : List RowRef = named record_name New c.entries-2.result.now in
     let same : EachTurns SameIndex c.self.inside.indexes.items c.put_into_all.new.indexes.items =
     indexes_changed c.self.inside.key old new outs ins
     (λ x. unmoved edit_name edit_other c.self.inside.key old Old c.as_slice-2.result.now x)
-    (λ x. unmoved entry_name entry_other c.self.inside.key new New c.entries-2.result.now x) c.self.inside.indexes.items c.take_from_all.new.indexes.items
+    (λ x. unmoved record_name record_other c.self.inside.key new New c.entries-2.result.now x) c.self.inside.indexes.items c.take_from_all.new.indexes.items
     c.put_into_all.new.indexes.items c.take_from_all.ensures.taken c.put_into_all.ensures.put
     in
     subst (λ (v : StoredRows). EachTurns SameIndex v.indexes c.put_into_all.new.indexes.items) c.self.view_is same
@@ -342,8 +342,8 @@ pub returns-clause-spare : goal.returns-clause-spare
 returns-clause-spare c =
     let standing : Standing (slot_at c.self.inside.rows) c.args.edits.items = subst (λ (v : StoredRows). Standing (slot_at v.places) c.args.edits.items)
     (sym c.self.view_is) c.requires.standing in
-    let names : length (named entry_name New c.entries.result.now) ≡ length (new_rows c.args.edits.items) =
-    ap (λ (ns : List Entry). length (news ns)) c.entries.ensures
+    let names : length (named record_name New c.entries.result.now) ≡ length (new_rows c.args.edits.items) =
+    ap (λ (ns : List UndoRecord). length (news ns)) c.entries.ensures
     ∙ length-news c.args.edits.items c.change_each.new.log.entries (slot_at c.self.inside.rows) (slot_at c.change_each.new.rows) standing
     c.change_each.ensures.changes in
     subst (λ (v : StoredRows). v.spare ≤ c.put_each.new.tree.spare + length (new_rows c.args.edits.items)) c.self.view_is
@@ -354,16 +354,16 @@ returns-clause-spares c =
     let old = slot_at c.self.inside.rows in
     let new = slot_at c.change_each.new.rows in
     let outs : List RowRef = named edit_name Old c.as_slice-2.result.now in
-    let ins : List RowRef = named entry_name New c.entries-2.result.now in
+    let ins : List RowRef = named record_name New c.entries-2.result.now in
     let standing : Standing old c.args.edits.items = subst (λ (v : StoredRows). Standing (slot_at v.places) c.args.edits.items)
     (sym c.self.view_is) c.requires.standing in
     let names : length ins ≡ length (new_rows c.args.edits.items) =
-    ap (λ (ns : List Entry). length (news ns)) c.entries-2.ensures
+    ap (λ (ns : List UndoRecord). length (news ns)) c.entries-2.ensures
     ∙ length-news c.args.edits.items c.change_each.new.log.entries old new standing c.change_each.ensures.changes in
     let turned : EachTurns (λ x y. spare_of x ≤ spare_of y + length ins) c.self.inside.indexes.items c.put_into_all.new.indexes.items =
     spares_changed c.self.inside.key old new outs ins
     (λ x. unmoved edit_name edit_other c.self.inside.key old Old c.as_slice-2.result.now x)
-    (λ x. unmoved entry_name entry_other c.self.inside.key new New c.entries-2.result.now x) c.self.inside.indexes.items c.take_from_all.new.indexes.items
+    (λ x. unmoved record_name record_other c.self.inside.key new New c.entries-2.result.now x) c.self.inside.indexes.items c.take_from_all.new.indexes.items
     c.put_into_all.new.indexes.items c.take_from_all.ensures.taken c.put_into_all.ensures.put
     in
     subst (λ (v : StoredRows). EachTurns (λ x y. spare_of x ≤ spare_of y + length (new_rows c.args.edits.items)) v.indexes c.put_into_all.new.indexes.items)

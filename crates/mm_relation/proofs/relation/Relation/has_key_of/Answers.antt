@@ -8,7 +8,7 @@ use Rattle.mm_schema.specs.Rows.{same_in_column}
 use Rattle.mm_partition.specs.Places.{slot_at}
 use Rattle.mm_relation.specs.Refs.{row_at}
 use Rattle.mm_relation.specs.Kept.{StoredRows}
-use Rattle.mm_relation.proofs.KeyLookups.{found_key, no_key}
+use Rattle.mm_relation.proofs.KeyLookUps.{found_key, no_key}
 use Rattle.mm_relation.proofs.relation.Relation.has_key_of.Goals as goal
 
 pub returns-in-Some : goal.returns-in-Some

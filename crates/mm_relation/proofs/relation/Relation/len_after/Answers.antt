@@ -1,7 +1,7 @@
 -- The rows that go are some of those that are there.
 use Rattle.std.proofs.Common.{arith}
 use Rattle.mm_partition.specs.Places.{slot_at}
-use Rattle.mm_relation.proofs.TwinsAfter.{removals_fit, rows_after_count}
+use Rattle.mm_relation.proofs.DuplicatesAfter.{removals_fit, rows_after_count}
 use Rattle.mm_relation.proofs.relation.Relation.len_after.Goals as goal
 
 pub overflow_sub-result : goal.overflow_sub-result

@@ -7,7 +7,7 @@ use Rattle.mm_partition.specs.Places.{slot_at}
 use Rattle.mm_relation.specs.Edits.{removed}
 use Rattle.mm_relation.specs.Changes.{AreHidden}
 use Rattle.mm_relation.specs.Kept.{StoredRows}
-use Rattle.mm_relation.specs.declared.log.Entry.{Entry}
+use Rattle.mm_relation.specs.declared.log.UndoRecord.{UndoRecord}
 use Rattle.mm_relation.proofs.Removed.{Frees, IsKept-freed, stays_freed}
 use Rattle.mm_relation.proofs.RowLists.{rows_same}
 use Rattle.mm_relation.proofs.relation.Relation.settle.Goals as goal
@@ -21,7 +21,7 @@ invariant_of-self c =
     let given : Frees old new (removed c.entries.result.now) =
     record { freed = c.release_each.ensures.freed; others = c.release_each.ensures.others }
     in
-    let frees : Frees old new gone = subst (λ (es : List Entry). Frees old new (removed es)) c.entries.ensures given in
+    let frees : Frees old new gone = subst (λ (es : List UndoRecord). Frees old new (removed es)) c.entries.ensures given in
     IsKept-freed c.self.inside.width c.self.inside.key old new c.self.inside.by_key.refs c.self.inside.indexes.items gone hidden frees
     c.self.invariant
 
@@ -34,7 +34,7 @@ returns-clause-row_list c =
     let given : Frees old new (removed c.entries.result.now) =
     record { freed = c.release_each.ensures.freed; others = c.release_each.ensures.others }
     in
-    let frees : Frees old new gone = subst (λ (es : List Entry). Frees old new (removed es)) c.entries.ensures given in
+    let frees : Frees old new gone = subst (λ (es : List UndoRecord). Frees old new (removed es)) c.entries.ensures given in
     let same : map (row_at new) c.self.inside.by_key.refs ≡ map (row_at old) c.self.inside.by_key.refs =
     rows_same old new c.self.inside.by_key.refs
     (stays_freed c.self.inside.width c.self.inside.key old new c.self.inside.by_key.refs c.self.inside.indexes.items gone hidden frees c.self.invariant)

@@ -3,13 +3,13 @@ use Rattle.std.proofs.Common.{ℕ, ◌≤◌, ◌<◌, List, [], length, slice_i
 use Rattle.std.specs.List.{All}
 use Rattle.std.proofs.lemmas.List.{length-map}
 use Rattle.std.proofs.lemmas.List.Elements.{All-weaker}
-use Rattle.mm_standing.specs.Bags.{CanAdd, IsSound, IsTold, number_for, room_at, undos}
+use Rattle.mm_standing.specs.Bags.{CanAdd, IsRecorded, IsSound, number_for, room_at, undos}
 use Rattle.mm_standing.specs.State.{Lists}
 use Rattle.mm_standing.specs.declared.change.ListChange.{ListChange}
-use Rattle.mm_standing.specs.declared.change.Logged.{Logged}
+use Rattle.mm_standing.specs.declared.change.UndoRecord.{UndoRecord}
 use Rattle.mm_standing.specs.declared.change.Prepared.{Prepared}
 use Rattle.mm_standing.proofs.Preparing.{at, size, sound_prepared, sound_roomier, within_roomier}
-use Rattle.mm_standing.proofs.Told.{told_roomier}
+use Rattle.mm_standing.proofs.Recorded.{recorded_roomier}
 use Rattle.mm_standing.proofs.standing.Standing.put_prepared.Goals as goal
 
 pub invariant_of-self-2 : goal.invariant_of-self-2
@@ -43,10 +43,10 @@ invariant_of-self-2 c =
     let mapped = length-map ps (λ (p : Prepared). p.done) in
     let room = c.in_ok-reserve.ensures.ok in
     let asked = c.len-2.ensures in (
-      subst (λ (l : List Logged). IsSound bags ps (undos l)) (sym c.reserve.ensures.items) ready,
+      subst (λ (l : List UndoRecord). IsSound bags ps (undos l)) (sym c.reserve.ensures.items) ready,
       omega (arith, length_is, mapped, room, asked, c.in_ok-self-inside.field-0.ok.0, c.args.changes.ok.0),
       c.self.invariant.2 ∙ sym many,
-      subst (λ (l : List Logged). IsTold bags l) (sym c.reserve.ensures.items) (told_roomier old.bags.items bags (at old.bags.items bags same) old.log.items c.self.invariant.3),
+      subst (λ (l : List UndoRecord). IsRecorded bags l) (sym c.reserve.ensures.items) (recorded_roomier old.bags.items bags (at old.bags.items bags same) old.log.items c.self.invariant.3),
     )
 
 -- The bags have their entries on each way out, and the log is as it was.
@@ -58,7 +58,7 @@ invariant_of-self c =
       sound_roomier old.bags.items bags same old.prepared.items (undos old.log.items) c.reserve_each.ensures.kept c.self.invariant.0,
       c.self.invariant.1,
       c.self.invariant.2 ∙ sym (size old.bags.items bags same),
-      told_roomier old.bags.items bags (at old.bags.items bags same) old.log.items c.self.invariant.3,
+      recorded_roomier old.bags.items bags (at old.bags.items bags same) old.log.items c.self.invariant.3,
     )
 
 pub invariant_of-self-in_err-reserve : goal.invariant_of-self-in_err-reserve
@@ -70,11 +70,12 @@ invariant_of-self-in_err-reserve c =
     let fits = c.self.invariant.1 in
     let long = c.reserve.ensures.len in
     let wide = c.reserve.ensures.capacity in (
-      subst (λ (l : List Logged). IsSound bags old.prepared.items (undos l)) (sym log)
+      subst (λ (l : List UndoRecord). IsSound bags old.prepared.items (undos l)) (sym log)
           (sound_roomier old.bags.items bags same old.prepared.items (undos old.log.items) c.reserve_each.ensures.kept c.self.invariant.0),
       omega (arith, fits, long, wide),
       c.self.invariant.2 ∙ sym (size old.bags.items bags same),
-      subst (λ (l : List Logged). IsTold bags l) (sym log) (told_roomier old.bags.items bags (at old.bags.items bags same) old.log.items c.self.invariant.3),
+      subst (λ (l : List UndoRecord). IsRecorded bags l) (sym log)
+          (recorded_roomier old.bags.items bags (at old.bags.items bags same) old.log.items c.self.invariant.3),
     )
 
 pub invariant_of-self-in_err-self-inside : goal.invariant_of-self-in_err-self-inside
@@ -86,9 +87,10 @@ invariant_of-self-in_err-self-inside c =
     let fits = c.self.invariant.1 in
     let long = c.reserve.ensures.len in
     let wide = c.reserve.ensures.capacity in (
-      subst (λ (l : List Logged). IsSound bags old.prepared.items (undos l)) (sym log)
+      subst (λ (l : List UndoRecord). IsSound bags old.prepared.items (undos l)) (sym log)
           (sound_roomier old.bags.items bags same old.prepared.items (undos old.log.items) c.reserve_each.ensures.kept c.self.invariant.0),
       omega (arith, fits, long, wide),
       c.self.invariant.2 ∙ sym (size old.bags.items bags same),
-      subst (λ (l : List Logged). IsTold bags l) (sym log) (told_roomier old.bags.items bags (at old.bags.items bags same) old.log.items c.self.invariant.3),
+      subst (λ (l : List UndoRecord). IsRecorded bags l) (sym log)
+          (recorded_roomier old.bags.items bags (at old.bags.items bags same) old.log.items c.self.invariant.3),
     )

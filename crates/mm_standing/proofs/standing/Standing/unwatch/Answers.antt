@@ -3,12 +3,12 @@ use Rattle.std.proofs.Common.{◌<◌, [], List, length, sym, ap, ◌∙◌, sub
 use Rattle.std.specs.List.{remove}
 use Rattle.std.proofs.lemmas.List.Edits.{length-remove}
 use Rattle.mm_multiset.specs.Counts.{Counts}
-use Rattle.mm_standing.specs.Bags.{IsLean, IsSound, IsTold, undos}
+use Rattle.mm_standing.specs.Bags.{IsLean, IsRecorded, IsSound, undos}
 use Rattle.mm_standing.specs.State.{Lists}
 use Rattle.mm_standing.specs.declared.change.Prepared.{Prepared}
 use Rattle.mm_standing.specs.declared.watched.PlacedQuery.{PlacedQuery}
 use Rattle.mm_standing.proofs.Rest.{lean_less, sound_less}
-use Rattle.mm_standing.proofs.Told.{told_none}
+use Rattle.mm_standing.proofs.Recorded.{recorded_none}
 use Rattle.mm_standing.proofs.standing.Standing.unwatch.Goals as goal
 
 pub invariant_of-self : goal.invariant_of-self
@@ -31,5 +31,5 @@ invariant_of-self c =
           (subst (IsSound (remove old.bags.items place) []) (sym log) (sound_less old.bags.items place sound))),
       c.self.invariant.1,
       omega (arith, same, q, b, queries, bags),
-      subst (λ (bs : List Counts). IsTold bs old.log.items) (sym c.remove-10.ensures.items) (told_none (remove old.bags.items place) old.log.items log (lean_less old.bags.items place lean)),
+      subst (λ (bs : List Counts). IsRecorded bs old.log.items) (sym c.remove-10.ensures.items) (recorded_none (remove old.bags.items place) old.log.items log (lean_less old.bags.items place lean)),
     )

@@ -4,12 +4,12 @@ use Rattle.std.proofs.lemmas.List.{length_push}
 use Rattle.mm_multiset.specs.Counts.{Counts}
 use Rattle.mm_query.specs.Queries.{bag_of}
 use Rattle.mm_store.specs.Tables.{rows_at}
-use Rattle.mm_standing.specs.Bags.{IsLean, IsSound, IsTold, undos}
+use Rattle.mm_standing.specs.Bags.{IsLean, IsRecorded, IsSound, undos}
 use Rattle.mm_standing.specs.Queries.{StandingQuery}
 use Rattle.mm_standing.specs.State.{Lists}
 use Rattle.mm_standing.specs.declared.change.Prepared.{Prepared}
 use Rattle.mm_standing.proofs.Rest.{lean_more, sound_more}
-use Rattle.mm_standing.proofs.Told.{told_none}
+use Rattle.mm_standing.proofs.Recorded.{recorded_none}
 use Rattle.mm_standing.proofs.Totals.{few_rows, total_is_length}
 use Rattle.mm_standing.proofs.standing.Standing.watch.Goals as goal
 
@@ -40,5 +40,5 @@ invariant_of-self-2 c =
           (subst (IsSound (old.bags.items ++ bag ∷ []) []) (sym log) more)),
       c.self.invariant.1,
       omega (arith, same, queries, kept, q, b, bags_long),
-      subst (λ (bs : List Counts). IsTold bs old.log.items) (sym bags) (told_none (old.bags.items ++ bag ∷ []) old.log.items log (lean_more old.bags.items bag c.in_ok-bag.ensures.positive lean)),
+      subst (λ (bs : List Counts). IsRecorded bs old.log.items) (sym bags) (recorded_none (old.bags.items ++ bag ∷ []) old.log.items log (lean_more old.bags.items bag c.in_ok-bag.ensures.positive lean)),
     )

@@ -3,7 +3,7 @@ use Rattle.std.proofs.lemmas.List.Folds.{list_any_at}
 use Rattle.mm_partition.specs.Places.{slot_at}
 use Rattle.mm_relation.specs.RowLists.{edit_pair, rows_of}
 use Rattle.mm_relation.specs.declared.edits.Edit.{Edit}
-use Rattle.mm_relation.proofs.Twins.{list_any-map}
+use Rattle.mm_relation.proofs.Duplicates.{list_any-map}
 use Rattle.mm_schema.specs.Rows.{Pair}
 use Rattle.mm_schema.specs.References.{loses_target}
 use Rattle.mm_store.proofs.EditLists.{Standing-at, new_rows_at}

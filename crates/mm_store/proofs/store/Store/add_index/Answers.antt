@@ -9,7 +9,7 @@ use Rattle.mm_relation.specs.Reads.{AddsIndex}
 use Rattle.mm_store.specs.Joined.{IsTable}
 use Rattle.mm_store.specs.Marks.{rows_at_mark}
 use Rattle.mm_store.specs.Tables.{IsAt, Tables}
-use Rattle.mm_store.specs.Undoing.{CanUndo, owed}
+use Rattle.mm_store.specs.Undoing.{CanUndo, undo_room}
 use Rattle.mm_store.proofs.Applied.{IsSound-same, table_at}
 use Rattle.mm_store.proofs.Edited.{SameRows}
 use Rattle.mm_store.proofs.Joining.{at_index, get_set_same, one_relation}
@@ -73,11 +73,11 @@ module _ (c : After-index) where
       sym (ap (λ (v : Tables). slice_get v.tables c.args.table) c.self.view_is)
       ∙ at_index c.self.inside.tables.items c.args.table relation within c.index_mut.ensures.value
 
-  room_owed : All (λ x. owed c.args.table c.args.undo.now ≤ spare_of x) c.add_index.new.self.indexes
-  room_owed =
-      let count = c.owed_to-owed.ensures in
+  has_undo_room : All (λ x. undo_room c.args.table c.args.undo.now ≤ spare_of x) c.add_index.new.self.indexes
+  has_undo_room =
+      let count = c.undo_room_of-undo_room.ensures in
       subst (λ (n : ℕ). All (λ x. n ≤ spare_of x) c.add_index.new.self.indexes) count
-      (c.in_ok-add_index.ensures.owed (subst (λ (n : ℕ). All (λ x. n ≤ spare_of x) relation.indexes) (sym count)
+      (c.in_ok-add_index.ensures.undo_room (subst (λ (n : ℕ). All (λ x. n ≤ spare_of x) relation.indexes) (sym count)
       (c.requires.fits.spare c.args.table relation was_there).each))
 
   abbrev new_store : Tables
@@ -88,7 +88,7 @@ module _ (c : After-index) where
       let rest = c.in_ok-add_index.ensures.rest in
       CanUndo-reindexed c.args.self.now new_store c.args.table relation c.add_index.new.self was_there
       (ap (λ (v : Tables). slice_set v.tables c.args.table c.add_index.new.self) c.self.view_is) (ap (λ (v : Tables). v.links) c.self.view_is)
-      (ap (λ (s : StoredRows). s.width) rest) (ap (λ (s : StoredRows). s.key) rest) c.args.undo.now rest room_owed c.requires.fits
+      (ap (λ (s : StoredRows). s.width) rest) (ap (λ (s : StoredRows). s.key) rest) c.args.undo.now rest has_undo_room c.requires.fits
 
   same_before : (mark : ℕ) → rows_at_mark mark c.args.undo.now new_store ≡ rows_at_mark mark c.args.undo.now c.args.self.now
   same_before mark =

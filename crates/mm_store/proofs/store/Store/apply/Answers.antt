@@ -2,30 +2,30 @@ use Rattle.std.proofs.Common.{◌≡◌, ℕ, ◌+◌, ◌≤◌, List, [], ◌�
 use Rattle.std.specs.Prelude.{drop, map}
 use Rattle.std.proofs.lemmas.List.{drop-append-le, map-append}
 use Rattle.std.proofs.lemmas.Result.{err_from_is_err_and}
-use Rattle.mm_relation.specs.Edits.{edit_name, entry_name, named}
+use Rattle.mm_relation.specs.Edits.{edit_name, named, record_name}
 use Rattle.mm_relation.specs.Kept.{SameButRoom, StoredRows}
 use Rattle.mm_relation.specs.declared.edits.Edit.{Edit}
-use Rattle.mm_relation.specs.declared.log.Entry.{Entry}
+use Rattle.mm_relation.specs.declared.log.UndoRecord.{UndoRecord}
 use Rattle.mm_relation.specs.declared.names.Side.TheVariants.{Old}
 use Rattle.mm_relation.proofs.Rooms.{slots_same}
 use Rattle.mm_store.specs.Commands.{IsEdited}
 use Rattle.mm_store.specs.Tables.{IsAt, Turns}
-use Rattle.mm_store.specs.Tally.{IsTallied, noted_of}
-use Rattle.mm_store.specs.Undoing.{CanUndo, HasSpare, headings_of, owed}
-use Rattle.mm_store.specs.Worlds.{Noted, back_all, world_of}
-use Rattle.mm_store.specs.declared.undo.UndoRecord.{UndoRecord}
+use Rattle.mm_store.specs.Tally.{IsTallied, logged_of}
+use Rattle.mm_store.specs.Undoing.{CanUndo, HasSpare, headings_of, undo_room}
+use Rattle.mm_store.specs.Snapshots.{Logged, back_all, snapshot_of}
+use Rattle.mm_store.specs.declared.undo.LoggedCommand.{LoggedCommand}
 use Rattle.mm_store.proofs.Applied.{set_own}
 use Rattle.mm_store.proofs.Applying.{HasRows-same, SameButRoom-refl}
 use Rattle.mm_store.proofs.Joining.{some_at}
 use Rattle.mm_store.proofs.MarkLaws.{rows_at_mark-same}
-use Rattle.mm_store.proofs.Owing.{IsTallied-filled, IsTallied-push}
-use Rattle.mm_store.proofs.UndoLaws.{CanUndo-grown, CanUndo-noted}
-use Rattle.mm_store.proofs.Worlds.{back_all-append, back_is_old, headings_turned, world_same}
+use Rattle.mm_store.proofs.UndoRoom.{IsTallied-filled, IsTallied-push}
+use Rattle.mm_store.proofs.UndoLaws.{CanUndo-grown, CanUndo-logged}
+use Rattle.mm_store.proofs.Snapshots.{back_all-append, back_is_old, headings_turned, snapshot_same}
 use Rattle.mm_store.proofs.store.Store.apply.Goals as goal
 use Rattle.mm_store.proofs.store.Store.apply.Goals.{In_err-edit, In_ok-edit, After-push_reserved}
 
-pub returns-in_err-owed-clause-err : goal.returns-in_err-owed-clause-err
-returns-in_err-owed-clause-err c =
+pub returns-in_err-undo_room-clause-err : goal.returns-in_err-undo_room-clause-err
+returns-in_err-undo_room-clause-err c =
     let p = err_from_is_err_and c.from_residual.result c.from_residual.ensures.1 in
     rw (p.1) (λ stored at. (
       stored,
@@ -36,11 +36,11 @@ returns-in_err-owed-clause-err c =
 -- ---- where memory is refused to the edits
 
 module _ (c : In_err-edit) where
-  abbrev kept_undo : List Noted
-  kept_undo = map noted_of c.reserve.new.commands.items
+  abbrev kept_undo : List Logged
+  kept_undo = map logged_of c.reserve.new.commands.items
 
   kept_same : kept_undo ≡ c.args.undo.now
-  kept_same = ap (map noted_of) c.reserve.ensures.commands ∙ c.undo.view_is
+  kept_same = ap (map logged_of) c.reserve.ensures.commands ∙ c.undo.view_is
 
   kept_was : (stored : StoredRows) × IsAt c.args.self.now c.args.table stored
   kept_was = some_at c.args.self.now.tables c.args.table c.requires.there
@@ -54,11 +54,11 @@ module _ (c : In_err-edit) where
       (CanUndo-grown c.args.self.now c.edit.new.self c.args.table kept_was.0 kept_is.0 kept_was.1 kept_is.1 c.edit.ensures.links kept_is.2.width
       kept_is.2.key c.args.undo.now kept_is.2 c.requires.fits)
 
-  kept_world : (mark : ℕ) → back_all (drop mark kept_undo) (world_of c.edit.new.self) ≡ back_all (drop mark c.args.undo.now) (world_of c.args.self.now)
-  kept_world mark =
-      ap (λ (l : List Noted). back_all (drop mark l) (world_of c.edit.new.self)) kept_same
+  kept_snapshot : (mark : ℕ) → back_all (drop mark kept_undo) (snapshot_of c.edit.new.self) ≡ back_all (drop mark c.args.undo.now) (snapshot_of c.args.self.now)
+  kept_snapshot mark =
+      ap (λ (l : List Logged). back_all (drop mark l) (snapshot_of c.edit.new.self)) kept_same
       ∙ ap (back_all (drop mark c.args.undo.now))
-      (world_same c.args.self.now c.edit.new.self c.args.table kept_was.0 kept_is.0 kept_was.1 kept_is.1 (slots_same kept_was.0 kept_is.0 kept_is.2))
+      (snapshot_same c.args.self.now c.edit.new.self c.args.table kept_was.0 kept_is.0 kept_was.1 kept_is.1 (slots_same kept_was.0 kept_is.0 kept_is.2))
 
   kept_headings : headings_of c.edit.new.self ≡ headings_of c.args.self.now
   kept_headings =
@@ -67,112 +67,113 @@ module _ (c : In_err-edit) where
 pub returns-in_err-edit-clause-fits : goal.returns-in_err-edit-clause-fits
 returns-in_err-edit-clause-fits c = kept_fits (goal.at.returns-in_err-edit-clause-fits c).In_err-edit
 
-pub returns-in_err-edit-clause-world_before : goal.returns-in_err-edit-clause-world_before
-returns-in_err-edit-clause-world_before c = λ mark within. kept_world (goal.at.returns-in_err-edit-clause-world_before c).In_err-edit mark
+pub returns-in_err-edit-clause-snapshot_before : goal.returns-in_err-edit-clause-snapshot_before
+returns-in_err-edit-clause-snapshot_before c = λ mark within. kept_snapshot (goal.at.returns-in_err-edit-clause-snapshot_before c).In_err-edit mark
 
 pub returns-in_err-edit-clause-rows_before : goal.returns-in_err-edit-clause-rows_before
 returns-in_err-edit-clause-rows_before c =
     let at = (goal.at.returns-in_err-edit-clause-rows_before c).In_err-edit in
     λ mark within.
     rows_at_mark-same c.args.self.now c.edit.new.self c.args.undo.now (kept_undo at) mark c.requires.fits (kept_fits at) (kept_headings at)
-    (kept_world at mark)
+    (kept_snapshot at mark)
 
 -- ---- after the edits
 
 module _ (c : In_ok-edit) where
-  abbrev entries : List Entry
+  abbrev entries : List UndoRecord
   entries = c.edit.new.log.entries
 
-  abbrev command : Noted
+  abbrev command : Logged
   command = record { table = c.args.table; entries = entries }
 
   was : (stored : StoredRows) × IsAt c.args.self.now c.args.table stored
   was = some_at c.args.self.now.tables c.args.table c.requires.there
 
   is : (new : StoredRows) × Turns c.args.self.now c.args.table new c.edit.new.self
-      × IsEdited was.0 c.args.edits.items c.in_ok-owed.owed entries new
+      × IsEdited was.0 c.args.edits.items c.in_ok-undo_room.undo_room entries new
   is = c.in_ok-edit.ensures.ok was.0 was.1
 
-  -- what the log's older commands owe the table
-  owed_so_far : c.in_ok-owed.owed ≡ owed c.args.table c.args.undo.now
-  owed_so_far =
-      c.in_ok-owed.ensures.count
+  -- what the log's older commands need in the table
+  undo_room_so_far : c.in_ok-undo_room.undo_room ≡ undo_room c.args.table c.args.undo.now
+  undo_room_so_far =
+      c.in_ok-undo_room.ensures.count
       ∙ (c.reserve.ensures.counts c.args.table
-      ∙ (c.undo.invariant.counted c.args.table ∙ ap (owed c.args.table) c.undo.view_is))
+      ∙ (c.undo.invariant.counted c.args.table ∙ ap (undo_room c.args.table) c.undo.view_is))
 
-  noted_fits : CanUndo c.edit.new.self (c.args.undo.now ++ command ∷ [])
-  noted_fits =
-      CanUndo-noted c.args.self.now c.edit.new.self c.args.table was.0 is.0 was.1 is.1 c.edit.ensures.links is.2.rows.width is.2.rows.key c.args.undo.now
+  logged_fits : CanUndo c.edit.new.self (c.args.undo.now ++ command ∷ [])
+  logged_fits =
+      CanUndo-logged c.args.self.now c.edit.new.self c.args.table was.0 is.0 was.1 is.1 c.edit.ensures.links is.2.rows.width is.2.rows.key c.args.undo.now
       command refl is.2.makes c.in_ok-edit.ensures.reversible
-      (subst (λ (n : ℕ). HasSpare (n + length (named entry_name Old entries)) is.0) owed_so_far is.2.spare) c.requires.fits
+      (subst (λ (n : ℕ). HasSpare (n + length (named record_name Old entries)) is.0) undo_room_so_far is.2.spare) c.requires.fits
 
-  noted_world : (mark : ℕ) → mark ≤ length c.args.undo.now
-      → back_all (drop mark (c.args.undo.now ++ command ∷ [])) (world_of c.edit.new.self)
-      ≡ back_all (drop mark c.args.undo.now) (world_of c.args.self.now)
-  noted_world mark within =
-      ap (λ (l : List Noted). back_all l (world_of c.edit.new.self)) (drop-append-le mark c.args.undo.now (command ∷ []) within)
-      ∙ (back_all-append (drop mark c.args.undo.now) (command ∷ []) (world_of c.edit.new.self)
+  logged_snapshot : (mark : ℕ) → mark ≤ length c.args.undo.now
+      → back_all (drop mark (c.args.undo.now ++ command ∷ [])) (snapshot_of c.edit.new.self)
+      ≡ back_all (drop mark c.args.undo.now) (snapshot_of c.args.self.now)
+  logged_snapshot mark within =
+      ap (λ (l : List Logged). back_all l (snapshot_of c.edit.new.self)) (drop-append-le mark c.args.undo.now (command ∷ []) within)
+      ∙ (back_all-append (drop mark c.args.undo.now) (command ∷ []) (snapshot_of c.edit.new.self)
       ∙ ap (back_all (drop mark c.args.undo.now))
       (back_is_old c.args.self.now c.edit.new.self c.args.table was.0 is.0 was.1 is.1 command refl is.2.makes))
 
-  noted_headings : headings_of c.edit.new.self ≡ headings_of c.args.self.now
-  noted_headings = headings_turned c.args.self.now c.edit.new.self c.args.table was.0 is.0 was.1 is.1 is.2.rows.width is.2.rows.key
+  logged_headings : headings_of c.edit.new.self ≡ headings_of c.args.self.now
+  logged_headings = headings_turned c.args.self.now c.edit.new.self c.args.table was.0 is.0 was.1 is.1 is.2.rows.width is.2.rows.key
 
-  noted_owes : c.count_old-owes.result ≡ length (named entry_name Old entries)
-  noted_owes =
-      c.count_old-owes.ensures
+  logged_needs : c.count_old-needed.result ≡ length (named record_name Old entries)
+  logged_needs =
+      c.count_old-needed.ensures
       ∙ (ap (λ (es : List Edit). length (named edit_name Old es)) c.as_slice.ensures.value ∙ sym is.2.count)
 
 -- the command is the newest of the log
-noted_is : (c : After-push_reserved) → map noted_of c.push_reserved.new.self.items
+logged_is : (c : After-push_reserved) → map logged_of c.push_reserved.new.self.items
     ≡ c.args.undo.now ++ record { table = c.args.table; entries = c.edit.new.log.entries } ∷ []
-noted_is c =
-    let last : UndoRecord = record { table = c.args.table; owes = c.count_old-owes.result; log = c.replace-log.result } in
-    ap (map noted_of) c.push_reserved.ensures.items
-    ∙ (map-append noted_of c.reserve.new.commands.items (last ∷ [])
-    ∙ (ap (λ (l : List Noted). l ++ noted_of last ∷ []) (ap (map noted_of) c.reserve.ensures.commands ∙ c.undo.view_is)
-    ∙ ap (λ (es : List Entry). c.args.undo.now ++ record { table = c.args.table; entries = es } ∷ [])
+logged_is c =
+    let last : LoggedCommand = record { table = c.args.table; needed = c.count_old-needed.result; log = c.replace-log.result } in
+    ap (map logged_of) c.push_reserved.ensures.items
+    ∙ (map-append logged_of c.reserve.new.commands.items (last ∷ [])
+    ∙ (ap (λ (l : List Logged). l ++ logged_of last ∷ []) (ap (map logged_of) c.reserve.ensures.commands ∙ c.undo.view_is)
+    ∙ ap (λ (es : List UndoRecord). c.args.undo.now ++ record { table = c.args.table; entries = es } ∷ [])
     (ap (λ log. log.entries) c.replace-log.ensures.value)))
 
-pub returns-clause-noted : goal.returns-clause-noted
-returns-clause-noted c = (c.edit.new.log.entries, noted_is (goal.at.returns-clause-noted c).After-push_reserved)
+pub returns-clause-logged : goal.returns-clause-logged
+returns-clause-logged c = (c.edit.new.log.entries, logged_is (goal.at.returns-clause-logged c).After-push_reserved)
 
 pub returns-clause-fits : goal.returns-clause-fits
 returns-clause-fits c =
-    subst (CanUndo c.edit.new.self) (sym (noted_is (goal.at.returns-clause-fits c).After-push_reserved))
-    (noted_fits (goal.at.returns-clause-fits c).In_ok-edit)
+    subst (CanUndo c.edit.new.self) (sym (logged_is (goal.at.returns-clause-fits c).After-push_reserved))
+    (logged_fits (goal.at.returns-clause-fits c).In_ok-edit)
 
-pub returns-clause-world_before : goal.returns-clause-world_before
-returns-clause-world_before c =
+pub returns-clause-snapshot_before : goal.returns-clause-snapshot_before
+returns-clause-snapshot_before c =
     λ mark within.
-    ap (λ (l : List Noted). back_all (drop mark l) (world_of c.edit.new.self)) (noted_is (goal.at.returns-clause-world_before c).After-push_reserved)
-    ∙ noted_world (goal.at.returns-clause-world_before c).In_ok-edit mark within
+    ap (λ (l : List Logged). back_all (drop mark l) (snapshot_of c.edit.new.self)) (logged_is (goal.at.returns-clause-snapshot_before c).After-push_reserved)
+    ∙ logged_snapshot (goal.at.returns-clause-snapshot_before c).In_ok-edit mark within
 
 pub returns-clause-rows_before : goal.returns-clause-rows_before
 returns-clause-rows_before c =
     let at = (goal.at.returns-clause-rows_before c).In_ok-edit in
-    let same = noted_is (goal.at.returns-clause-rows_before c).After-push_reserved in
+    let same = logged_is (goal.at.returns-clause-rows_before c).After-push_reserved in
     λ mark within.
-    rows_at_mark-same c.args.self.now c.edit.new.self c.args.undo.now (map noted_of c.push_reserved.new.self.items) mark c.requires.fits
-    (subst (CanUndo c.edit.new.self) (sym same) (noted_fits at)) (noted_headings at)
-    (ap (λ (l : List Noted). back_all (drop mark l) (world_of c.edit.new.self)) same ∙ noted_world at mark within)
+    rows_at_mark-same c.args.self.now c.edit.new.self c.args.undo.now (map logged_of c.push_reserved.new.self.items) mark c.requires.fits
+    (subst (CanUndo c.edit.new.self) (sym same) (logged_fits at)) (logged_headings at)
+    (ap (λ (l : List Logged). back_all (drop mark l) (snapshot_of c.edit.new.self)) same ∙ logged_snapshot at mark within)
 
 pub invariant_of-undo-2 : goal.invariant_of-undo-2
 invariant_of-undo-2 c =
     let commands = c.reserve.new.commands.items in
-    let counts = c.reserve.new.owed.items in
-    let last : UndoRecord = record { table = c.args.table; owes = c.count_old-owes.result; log = c.replace-log.result } in
+    let counts = c.reserve.new.undo_room.items in
+    let last : LoggedCommand = record { table = c.args.table; needed = c.count_old-needed.result; log = c.replace-log.result } in
     let left = c.undo.inside.idle.entries in
     let tallied : IsTallied commands counts left =
-    IsTallied-filled commands c.undo.inside.owed.items counts left c.reserve.ensures.longer c.reserve.ensures.counts
-    (subst (λ (cs : List UndoRecord). IsTallied cs c.undo.inside.owed.items left) (sym c.reserve.ensures.commands) c.undo.invariant) in
-    let owes : last.owes ≡ length (named entry_name Old last.log.entries) =
-    noted_owes (goal.at.invariant_of-undo-2 c).In_ok-edit
-    ∙ ap (λ (es : List Entry). length (named entry_name Old es)) (sym (ap (λ log. log.entries) c.replace-log.ensures.value)) in
+    IsTallied-filled commands c.undo.inside.undo_room.items counts left c.reserve.ensures.longer c.reserve.ensures.counts
+    (subst (λ (cs : List LoggedCommand). IsTallied cs c.undo.inside.undo_room.items left) (sym c.reserve.ensures.commands) c.undo.invariant) in
+    let needed : last.needed ≡ length (named record_name Old last.log.entries) =
+    logged_needs (goal.at.invariant_of-undo-2 c).In_ok-edit
+    ∙ ap (λ (es : List UndoRecord). length (named record_name Old es)) (sym (ap (λ log. log.entries) c.replace-log.ensures.value)) in
     let emptied : c.replace-log.new.dest.entries ≡ [] = ap (λ log. log.entries) (c.replace-log.ensures.after ∙ c.new.ensures) in
-    let sum : c.in_ok-owed.owed + c.count_old-owes.result ≡ slice_index counts c.args.table + c.count_old-owes.result =
-    ap (λ (n : ℕ). n + c.count_old-owes.result) c.in_ok-owed.ensures.count in
-    subst (λ (cs : List UndoRecord). IsTallied cs (slice_set counts c.args.table (c.in_ok-owed.owed + c.count_old-owes.result)) c.replace-log.new.dest.entries)
+    let sum : c.in_ok-undo_room.undo_room + c.count_old-needed.result ≡ slice_index counts c.args.table + c.count_old-needed.result =
+    ap (λ (n : ℕ). n + c.count_old-needed.result) c.in_ok-undo_room.ensures.count in
+    subst (λ (cs : List LoggedCommand). IsTallied cs (slice_set counts c.args.table (c.in_ok-undo_room.undo_room + c.count_old-needed.result))
+        c.replace-log.new.dest.entries)
     (sym c.push_reserved.ensures.items)
-    (subst (IsTallied (commands ++ last ∷ []) (slice_set counts c.args.table (c.in_ok-owed.owed + c.count_old-owes.result))) (sym emptied)
-    (IsTallied-push commands last counts left tallied c.in_ok-owed.ensures.there owes (c.in_ok-owed.owed + c.count_old-owes.result) sum))
+    (subst (IsTallied (commands ++ last ∷ []) (slice_set counts c.args.table (c.in_ok-undo_room.undo_room + c.count_old-needed.result))) (sym emptied)
+    (IsTallied-push commands last counts left tallied c.in_ok-undo_room.ensures.there needed (c.in_ok-undo_room.undo_room + c.count_old-needed.result) sum))

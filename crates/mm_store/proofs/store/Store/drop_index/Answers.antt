@@ -9,8 +9,8 @@ use Rattle.mm_relation.specs.Kept.{IsKept, StoredRows}
 use Rattle.mm_store.specs.Joined.{IsTable}
 use Rattle.mm_store.specs.Marks.{rows_at_mark}
 use Rattle.mm_store.specs.Tables.{IsAt, Tables}
-use Rattle.mm_store.specs.Undoing.{CanUndo, owed}
-use Rattle.mm_store.specs.Worlds.{Noted}
+use Rattle.mm_store.specs.Undoing.{CanUndo, undo_room}
+use Rattle.mm_store.specs.Snapshots.{Logged}
 use Rattle.mm_store.proofs.Applied.{IsSound-same, table_at}
 use Rattle.mm_store.proofs.Edited.{SameRows}
 use Rattle.mm_store.proofs.Joining.{at_index, get_set_same, one_relation}
@@ -74,8 +74,8 @@ module _ (c : After-index) where
       sym (ap (λ (v : Tables). slice_get v.tables c.args.table) c.self.view_is)
       ∙ at_index c.self.inside.tables.items c.args.table relation within c.index_mut.ensures.value
 
-  room_owed : (n : ℕ) → All (λ x. n ≤ spare_of x) relation.indexes → All (λ x. n ≤ spare_of x) c.drop_index.new.self.indexes
-  room_owed n all =
+  has_undo_room : (n : ℕ) → All (λ x. n ≤ spare_of x) relation.indexes → All (λ x. n ≤ spare_of x) c.drop_index.new.self.indexes
+  has_undo_room n all =
       subst (λ (s : StoredRows). All (λ x. n ≤ spare_of x) s.indexes) (sym c.drop_index.ensures)
       (All-append (λ x. n ≤ spare_of x) (take c.args.index relation.indexes) (drop (suc c.args.index) relation.indexes)
       (All-take (λ x. n ≤ spare_of x) c.args.index relation.indexes all) (All-drop (λ x. n ≤ spare_of x) (suc c.args.index) relation.indexes all))
@@ -88,13 +88,13 @@ module _ (c : After-index) where
   abbrev new_store : Tables
   new_store = record { tables = slice_set c.self.inside.tables.items c.args.table c.drop_index.new.self; links = map (λ link. link.reference) c.self.inside.links.items }
 
-  module _ (undo : List Noted) (fits : CanUndo c.args.self.now undo) where
+  module _ (undo : List Logged) (fits : CanUndo c.args.self.now undo) where
     still_fits : CanUndo new_store undo
     still_fits =
         CanUndo-reindexed c.args.self.now new_store c.args.table relation c.drop_index.new.self was_there
         (ap (λ (v : Tables). slice_set v.tables c.args.table c.drop_index.new.self) c.self.view_is) (ap (λ (v : Tables). v.links) c.self.view_is)
         (ap (λ (s : StoredRows). s.width) rest) (ap (λ (s : StoredRows). s.key) rest) undo rest
-        (room_owed (owed c.args.table undo) (fits.spare c.args.table relation was_there).each) fits
+        (has_undo_room (undo_room c.args.table undo) (fits.spare c.args.table relation was_there).each) fits
 
     same_before : (mark : ℕ) → rows_at_mark mark undo new_store ≡ rows_at_mark mark undo c.args.self.now
     same_before mark =

@@ -7,13 +7,13 @@ use Rattle.std.proofs.lemmas.Result.{err_from_is_err_and}
 use Rattle.mm_partition.specs.Places.{extent_of, slot_at}
 use Rattle.mm_relation.specs.Before.{before}
 use Rattle.mm_relation.specs.Differs.{Differs}
-use Rattle.mm_relation.specs.Edits.{added_count, entry_name, named}
+use Rattle.mm_relation.specs.Edits.{added_count, named, record_name}
 use Rattle.mm_relation.specs.Index.{EachTurns}
 use Rattle.mm_relation.specs.Kept.{IsKept, SameButRoom, StoredRows}
 use Rattle.mm_relation.specs.RowLists.{edit_pairs, rows_of}
 use Rattle.mm_relation.specs.Refs.{Slots, row_at}
 use Rattle.mm_relation.specs.declared.edits.Edit.{Edit}
-use Rattle.mm_relation.specs.declared.log.Entry.{Entry}
+use Rattle.mm_relation.specs.declared.log.UndoRecord.{UndoRecord}
 use Rattle.mm_relation.specs.declared.names.Side.TheVariants.{New, Old}
 use Rattle.mm_relation.proofs.Rooms.{IsKept-grown}
 use Rattle.mm_relation.proofs.Turning.{All-turned}
@@ -24,7 +24,7 @@ use Rattle.mm_store.specs.Commands.{IsEdited}
 use Rattle.mm_store.specs.Joined.{CanRetie, HasGrown, HasGrownTo, IsJoined, IsRetied, IsTable}
 use Rattle.mm_store.specs.Tables.{AreLawful, Tables, makes_orphan, rows_with}
 use Rattle.mm_store.specs.Undoing.{IsReversible, headings_of}
-use Rattle.mm_store.specs.Worlds.{Noted, world_of}
+use Rattle.mm_store.specs.Snapshots.{Logged, snapshot_of}
 use Rattle.mm_store.specs.declared.link.Link.{Link}
 use Rattle.mm_store.proofs.Applied.{CanTurn-edited, Follows-edited, IsWhole, IsWhole-all, references_same, set_own, table_at, targets_edited}
 use Rattle.mm_store.proofs.Applying.{SameButRoom-refl, only, there_inside, told_of}
@@ -33,7 +33,7 @@ use Rattle.mm_store.proofs.Joining.{at_index, get_set_same, one_relation}
 use Rattle.mm_store.proofs.Lists.{none_of}
 use Rattle.mm_store.proofs.Retying.{CanRetie-turned, CanTurn, IsSound-turned}
 use Rattle.mm_store.proofs.Reversible.{IsReversible-made}
-use Rattle.mm_store.proofs.Telling.{TellAll, TellAll-forward}
+use Rattle.mm_store.proofs.Describing.{DescribeAll, DescribeAll-forward}
 use Rattle.mm_store.proofs.store.Store.edit.Goals as goal
 use Rattle.mm_store.proofs.store.Store.edit.Goals.{After-index_mut, After-is_kept, After-retie_all}
 
@@ -146,7 +146,7 @@ module _ (c : After-is_kept) where
   abbrev new : StoredRows
   new = c.apply.new.self
 
-  abbrev entries : List Entry
+  abbrev entries : List UndoRecord
   entries = c.apply.new.log.entries
 
   abbrev grown_links : List Link
@@ -192,12 +192,12 @@ module _ (c : After-is_kept) where
         kept = subst (λ (s : StoredRows). IsKept s.width s.key (slot_at s.places) s.refs s.indexes) last c.is_kept.ensures;
       }
 
-  tell : TellAll (slot_at old.places) (slot_at new.places) entries
+  tell : DescribeAll (slot_at old.places) (slot_at new.places) entries
   tell =
       let back : before entries (slot_at new.places) ≡ slot_at old.places = c.in_ok-apply.ensures.back in
-      subst (λ (was : Slots). TellAll was (slot_at new.places) entries) back
-      (TellAll-forward entries (slot_at new.places) c.in_ok-apply.ensures.stands
-      (subst (λ (was : Slots). Differs (slot_at new.places) was (named entry_name New entries) (named entry_name Old entries)) (sym back)
+      subst (λ (was : Slots). DescribeAll was (slot_at new.places) entries) back
+      (DescribeAll-forward entries (slot_at new.places) c.in_ok-apply.ensures.stands
+      (subst (λ (was : Slots). Differs (slot_at new.places) was (named record_name New entries) (named record_name Old entries)) (sym back)
       c.in_ok-apply.ensures.differs))
 
   whole : All (IsWhole items place old there c.self.invariant.all edits lawful.fit) links
@@ -221,7 +221,7 @@ module _ (c : After-is_kept) where
       from)
       whole
 
-  edited : IsEdited old edits c.args.owed entries new
+  edited : IsEdited old edits c.args.undo_room entries new
   edited = record {
     rows = record {
       rows_are = rows;
@@ -231,7 +231,7 @@ module _ (c : After-is_kept) where
     };
     makes = c.in_ok-apply.ensures.back;
     count = ap (λ (refs : List RowRef). length refs) (old_names edits entries (slot_at old.places) (slot_at new.places) c.in_ok-apply.ensures.changes);
-    spare = record { key = c.in_ok-apply.ensures.owed; each = c.in_ok-apply.ensures.owed_each };
+    spare = record { key = c.in_ok-apply.ensures.undo_room; each = c.in_ok-apply.ensures.undo_room_each };
   }
 
 pub retie_all-requires-clause-behind : goal.retie_all-requires-clause-behind
@@ -245,7 +245,7 @@ retie_all-requires-clause-behind c =
     (sym (get_set_same (items at) (place at) (new at) (within at)) ∙ (ap (λ (ts : List StoredRows). slice_get ts (place at)) (sym is) ∙ there_now)) in
     subst (λ (ts : List StoredRows). All (λ link. link.reference.from ≡ place at → CanRetie ts stored c.entries.result.now link) (grown_links at)) (sym is)
     (subst (λ (s : StoredRows). All (λ link. link.reference.from ≡ place at → CanRetie tables s c.entries.result.now link) (grown_links at)) same
-    (subst (λ (es : List Entry). All (λ link. link.reference.from ≡ place at → CanRetie tables (new at) es link) (grown_links at)) (sym c.entries.ensures)
+    (subst (λ (es : List UndoRecord). All (λ link. link.reference.from ≡ place at → CanRetie tables (new at) es link) (grown_links at)) (sym c.entries.ensures)
     (behind at)))
 
 -- ---- with the links brought up
@@ -273,7 +273,7 @@ returns-clause-ok c =
     λ stored there_then. (
       new at,
       ap (λ (v : Tables). slice_set v.tables (place at) (new at)) c.self.view_is,
-      subst (λ (s : StoredRows). IsEdited s (edits at) c.args.owed (entries at) (new at))
+      subst (λ (s : StoredRows). IsEdited s (edits at) c.args.undo_room (entries at) (new at))
           (sym
           (only (items at) (references at) (length (items at)) (place at) refl c.args.self.now c.self.view_is c.requires.there (old at)
           c.index_mut.ensures.value stored there_then))
@@ -290,11 +290,11 @@ returns-clause-links c =
 pub returns-clause-reversible : goal.returns-clause-reversible
 returns-clause-reversible c =
     let at = (goal.at.returns-clause-reversible c).After-is_kept in
-    let command : Noted = record { table = place at; entries = entries at } in
+    let command : Logged = record { table = place at; entries = entries at } in
     let before_it : Tables = record { tables = items at; links = references at } in
     let after_it : Tables =
     record { tables = slice_set (items at) (place at) (new at); links = map (λ (link : Link). link.reference) c.retie_all.new.links.items } in
-    subst (λ (v : Tables). IsReversible (headings_of v) v.links command (world_of after_it)) c.self.view_is
+    subst (λ (v : Tables). IsReversible (headings_of v) v.links command (snapshot_of after_it)) c.self.view_is
     (IsReversible-made before_it after_it (links at) (place at) (old at) (new at) (there at) refl c.self.invariant.all c.self.invariant.joined refl
     (is_table at) (entries at) c.in_ok-apply.ensures.back c.in_ok-apply.ensures.key c.in_ok-apply.ensures.stands c.in_ok-apply.ensures.differs
     (λ reference ties source here to source_there follows.

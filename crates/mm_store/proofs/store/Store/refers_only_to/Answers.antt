@@ -1,6 +1,6 @@
 use Rattle.std.proofs.Common.{◌≡◌, Bool, true, not, ◌&&◌, ◌↔◌, List, map, ap, sym, ◌∙◌, subst}
 use Rattle.std.specs.List.{list_any}
-use Rattle.mm_relation.proofs.Twins.{list_any-map}
+use Rattle.mm_relation.proofs.Duplicates.{list_any-map}
 use Rattle.mm_schema.specs.declared.reference.Reference.{Reference}
 use Rattle.mm_store.proofs.OnlyReference.{tells_only}
 use Rattle.mm_store.specs.Links.{IsReference, differs_in_target, same_reference}

@@ -6,22 +6,22 @@ use Rattle.std.specs.List.{list_any}
 use Rattle.std.proofs.lemmas.Bool.{le-ltb}
 use Rattle.mm_relation.specs.Edits.{new_rows}
 use Rattle.mm_relation.specs.Kept.{StoredRows}
-use Rattle.mm_schema.specs.Rows.{has_twin_keys, most_rows}
+use Rattle.mm_schema.specs.Rows.{has_duplicate_keys, most_rows}
 use Rattle.mm_schema.specs.declared.reference.Reference.{Reference}
 use Rattle.mm_store.specs.Joined.{IsTable}
 use Rattle.mm_store.specs.Tables.{Tables, finds_orphan, has_orphans, rows_with}
 use Rattle.mm_store.specs.declared.link.Link.{Link}
 use Rattle.mm_store.proofs.Applied.{has_orphans_new, table_at}
-use Rattle.mm_store.proofs.Removals.{few_with, no_twins_with}
+use Rattle.mm_store.proofs.Removals.{few_with, no_duplicates_with}
 use Rattle.mm_value.specs.declared.refusal.Refusal.TheVariants.{DuplicateKey, NoTargetRow, RowIsReferenced, TableFull}
 use Rattle.mm_value.specs.declared.values.Value.{Value}
 use Rattle.mm_store.proofs.store.Store.removals_may_be_made.Goals as goal
 
-only_third : (twins orphans losses full : Bool) → twins ≡ false → orphans ≡ false → full ≡ false
-    → cond twins (Some DuplicateKey) (cond orphans (Some NoTargetRow) (cond losses (Some RowIsReferenced) (cond full (Some TableFull) None)))
+only_third : (duplicates orphans losses full : Bool) → duplicates ≡ false → orphans ≡ false → full ≡ false
+    → cond duplicates (Some DuplicateKey) (cond orphans (Some NoTargetRow) (cond losses (Some RowIsReferenced) (cond full (Some TableFull) None)))
     ≡ cond losses (Some RowIsReferenced) None
-only_third twins orphans losses full no_twins no_orphans not_full =
-    ap (λ b. cond b (Some DuplicateKey) (cond orphans (Some NoTargetRow) (cond losses (Some RowIsReferenced) (cond full (Some TableFull) None)))) no_twins
+only_third duplicates orphans losses full no_duplicates no_orphans not_full =
+    ap (λ b. cond b (Some DuplicateKey) (cond orphans (Some NoTargetRow) (cond losses (Some RowIsReferenced) (cond full (Some TableFull) None)))) no_duplicates
     ∙ (ap (λ b. cond b (Some NoTargetRow) (cond losses (Some RowIsReferenced) (cond full (Some TableFull) None))) no_orphans
     ∙ ap (λ b. cond losses (Some RowIsReferenced) (cond b (Some TableFull) None)) not_full)
 
@@ -48,6 +48,6 @@ returns c =
     let no_orphans : has_orphans view place (rows_with stored edits) ≡ false =
     sym (ap (λ (v : Tables). has_orphans v place (rows_with stored edits)) c.self.view_is)
     ∙ (sym (has_orphans_new items place stored there c.self.invariant.all edits fit links c.self.invariant.joined) ∙ none) in
-    only_third (has_twin_keys stored.key (rows_with stored edits)) (has_orphans view place (rows_with stored edits)) referred
-    (nat_lt most_rows (length (rows_with stored edits))) (no_twins_with stored is_table edits removals) no_orphans
+    only_third (has_duplicate_keys stored.key (rows_with stored edits)) (has_orphans view place (rows_with stored edits)) referred
+    (nat_lt most_rows (length (rows_with stored edits))) (no_duplicates_with stored is_table edits removals) no_orphans
     (le-ltb most_rows (length (rows_with stored edits)) (few_with stored is_table edits removals))

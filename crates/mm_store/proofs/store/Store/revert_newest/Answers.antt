@@ -2,30 +2,30 @@ use Rattle.std.proofs.Common.{[], ◌∷◌, ◌++◌, subst}
 use Rattle.mm_relation.specs.Kept.{StoredRows}
 use Rattle.mm_store.specs.Commands.{IsTakenBack}
 use Rattle.mm_store.specs.Tables.{IsAt, Turns}
-use Rattle.mm_store.specs.Tally.{noted_of}
+use Rattle.mm_store.specs.Tally.{logged_of}
 use Rattle.mm_store.specs.Undoing.{CanUndo}
 use Rattle.mm_store.proofs.Forms.{forms_turned}
-use Rattle.mm_store.proofs.UndoLaws.{CanUndo-back, newest_owed, newest_reversible, world_back}
-use Rattle.mm_store.proofs.Worlds.{relation_at}
+use Rattle.mm_store.proofs.UndoLaws.{CanUndo-back, newest_reversible, newest_undo_room, snapshot_back}
+use Rattle.mm_store.proofs.Snapshots.{relation_at}
 use Rattle.mm_store.proofs.store.Store.revert_newest.Goals as goal
 use Rattle.mm_store.proofs.store.Store.revert_newest.Goals.{After-take_back, In-Some}
 
-can : (c : In-Some) → CanUndo c.args.self.now (c.pop.new.self ++ noted_of c.in-Some.command ∷ [])
+can : (c : In-Some) → CanUndo c.args.self.now (c.pop.new.self ++ logged_of c.in-Some.command ∷ [])
 can c = subst (CanUndo c.args.self.now) c.in-Some.ensures c.requires.fits
 
 pub take_back-requires-clause-reversible : goal.take_back-requires-clause-reversible
 take_back-requires-clause-reversible c =
-    newest_reversible c.args.self.now c.pop.new.self (noted_of c.in-Some.command) (can (goal.at.take_back-requires-clause-reversible c).In-Some)
+    newest_reversible c.args.self.now c.pop.new.self (logged_of c.in-Some.command) (can (goal.at.take_back-requires-clause-reversible c).In-Some)
 
 pub take_back-requires-clause-spare : goal.take_back-requires-clause-spare
 take_back-requires-clause-spare c =
-    newest_owed c.args.self.now c.pop.new.self (noted_of c.in-Some.command) (can (goal.at.take_back-requires-clause-spare c).In-Some)
+    newest_undo_room c.args.self.now c.pop.new.self (logged_of c.in-Some.command) (can (goal.at.take_back-requires-clause-spare c).In-Some)
 
 -- the relation of the command's table before and after
-module _ (c : After-take_back) (fits : CanUndo c.args.self.now (c.pop.new.self ++ noted_of c.in-Some.command ∷ [])) where
+module _ (c : After-take_back) (fits : CanUndo c.args.self.now (c.pop.new.self ++ logged_of c.in-Some.command ∷ [])) where
   was : (stored : StoredRows) × IsAt c.args.self.now c.in-Some.command.table stored
   was =
-      let headed = newest_reversible c.args.self.now c.pop.new.self (noted_of c.in-Some.command) fits in
+      let headed = newest_reversible c.args.self.now c.pop.new.self (logged_of c.in-Some.command) fits in
       let found = relation_at c.args.self.now.tables c.in-Some.command.table headed.heading headed.there in
       (found.0, found.1)
 
@@ -38,9 +38,9 @@ returns-clause-back c =
     let fits = can (goal.at.returns-clause-back c).In-Some in
     let at = (goal.at.returns-clause-back c).After-take_back in
     let new = is at fits in (
-      noted_of c.in-Some.command,
+      logged_of c.in-Some.command,
       c.in-Some.ensures,
-      world_back c.args.self.now c.pop.new.self (noted_of c.in-Some.command) fits c.take_back.new.self (was at fits).0 new.0 (was at fits).1 new.1
+      snapshot_back c.args.self.now c.pop.new.self (logged_of c.in-Some.command) fits c.take_back.new.self (was at fits).0 new.0 (was at fits).1 new.1
           c.take_back.ensures.links new.2,
     )
 
@@ -49,7 +49,7 @@ returns-clause-fits c =
     let fits = can (goal.at.returns-clause-fits c).In-Some in
     let at = (goal.at.returns-clause-fits c).After-take_back in
     let new = is at fits in
-    CanUndo-back c.args.self.now c.pop.new.self (noted_of c.in-Some.command) fits c.take_back.new.self (was at fits).0 new.0 (was at fits).1 new.1
+    CanUndo-back c.args.self.now c.pop.new.self (logged_of c.in-Some.command) fits c.take_back.new.self (was at fits).0 new.0 (was at fits).1 new.1
     c.take_back.ensures.links new.2
 
 pub returns-clause-form : goal.returns-clause-form

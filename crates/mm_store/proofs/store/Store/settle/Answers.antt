@@ -4,8 +4,8 @@ use Rattle.std.proofs.lemmas.List.{append-nil, length-set}
 use Rattle.std.proofs.lemmas.List.Elements.{All-cons, All-nil, All-weaker}
 use Rattle.mm_relation.specs.Kept.{StoredRows}
 use Rattle.mm_store.specs.Spares.{HasFewSparesAt}
-use Rattle.mm_store.specs.Tally.{noted_of}
-use Rattle.mm_store.specs.Worlds.{Noted}
+use Rattle.mm_store.specs.Tally.{logged_of}
+use Rattle.mm_store.specs.Snapshots.{Logged}
 use Rattle.mm_store.proofs.Forms.{forms_same, forms_turned, forms_twice}
 use Rattle.mm_store.proofs.HiddenRows.{AllHidden, AllHidden-less, AllHidden-start, All_left, map_rows_turned, newest_hidden, tables_there}
 use Rattle.mm_store.proofs.Joining.{some_at}
@@ -19,27 +19,27 @@ loop-command-init c = record {
   rows = refl;
   form = forms_same c.args.self.now.tables;
   links = refl;
-  trimmed = ([], sym (append-nil c.args.undo.now), All-nil (λ (x : Noted). HasFewSparesAt 64 c.args.self.now x.table));
+  trimmed = ([], sym (append-nil c.args.undo.now), All-nil (λ (x : Logged). HasFewSparesAt 64 c.args.self.now x.table));
 }
 
 pub finish-requires-clause-hidden : goal.finish-requires-clause-hidden
 finish-requires-clause-hidden c =
     let store = c.loop-command.self in
-    let hidden : AllHidden store (c.pop.new.self ++ noted_of c.in-Some.command ∷ []) =
+    let hidden : AllHidden store (c.pop.new.self ++ logged_of c.in-Some.command ∷ []) =
     subst (AllHidden store) c.in-Some.ensures c.loop-command.invariant.hidden in
-    newest_hidden store c.pop.new.self (noted_of c.in-Some.command) hidden
+    newest_hidden store c.pop.new.self (logged_of c.in-Some.command) hidden
 
 pub loop-command-preserved : goal.loop-command-preserved
 loop-command-preserved c =
     let store = c.loop-command.self in
     let new = c.finish.new.self in
     let older = c.pop.new.self in
-    let command : Noted = noted_of c.in-Some.command in
+    let command : Logged = logged_of c.in-Some.command in
     let before_it = c.loop-command.invariant in
     let hidden : AllHidden store (older ++ command ∷ []) = subst (AllHidden store) c.in-Some.ensures before_it.hidden in
-    let there : All (λ (x : Noted). x.table < length store.tables) (older ++ command ∷ []) =
-    subst (All (λ (x : Noted). x.table < length store.tables)) c.in-Some.ensures before_it.there in
-    let parts = All_left (λ (x : Noted). x.table < length store.tables) older command there in
+    let there : All (λ (x : Logged). x.table < length store.tables) (older ++ command ∷ []) =
+    subst (All (λ (x : Logged). x.table < length store.tables)) c.in-Some.ensures before_it.there in
+    let parts = All_left (λ (x : Logged). x.table < length store.tables) older command there in
     let was = some_at store.tables command.table parts.1 in
     let done = c.finish.ensures.settled was.0 was.1 in
     let many : length new.tables ≡ length store.tables =
@@ -48,8 +48,8 @@ loop-command-preserved c =
       hidden =
           subst (AllHidden new) (sym c.keep.ensures) (AllHidden-less store older command hidden new was.0 done.0 was.1 done.1 done.2);
       there =
-          subst (All (λ (x : Noted). x.table < length new.tables)) (sym c.keep.ensures)
-          (All-weaker (λ (x : Noted). x.table < length store.tables) (λ (x : Noted). x.table < length new.tables) (λ x inside. omega (arith, inside, many))
+          subst (All (λ (x : Logged). x.table < length new.tables)) (sym c.keep.ensures)
+          (All-weaker (λ (x : Logged). x.table < length store.tables) (λ (x : Logged). x.table < length new.tables) (λ x inside. omega (arith, inside, many))
           older parts.0);
       rows = map_rows_turned store new command.table was.0 done.0 was.1 done.1 done.2.rows ∙ before_it.rows;
       form =
@@ -59,10 +59,10 @@ loop-command-preserved c =
       trimmed =
           let done_before = before_it.trimmed.0 in (
             command ∷ done_before,
-            before_it.trimmed.1 ∙ ap (λ (l : List Noted). l ++ done_before) c.in-Some.ensures ∙ append_assoc older (command ∷ []) done_before
-                ∙ ap (λ (l : List Noted). l ++ command ∷ done_before) (sym c.keep.ensures),
-            All-cons (λ (x : Noted). HasFewSparesAt 64 new x.table) command done_before c.finish.ensures.spares
-                (All-weaker (λ (x : Noted). HasFewSparesAt 64 store x.table) (λ (x : Noted). HasFewSparesAt 64 new x.table)
+            before_it.trimmed.1 ∙ ap (λ (l : List Logged). l ++ done_before) c.in-Some.ensures ∙ append_assoc older (command ∷ []) done_before
+                ∙ ap (λ (l : List Logged). l ++ command ∷ done_before) (sym c.keep.ensures),
+            All-cons (λ (x : Logged). HasFewSparesAt 64 new x.table) command done_before c.finish.ensures.spares
+                (All-weaker (λ (x : Logged). HasFewSparesAt 64 store x.table) (λ (x : Logged). HasFewSparesAt 64 new x.table)
                 (λ x few. few_turned 64 store new command.table done.0 done.1 c.finish.ensures.spares x.table few) done_before before_it.trimmed.2),
           );
     }
@@ -71,5 +71,5 @@ pub returns-clause-spares : goal.returns-clause-spares
 returns-clause-spares c =
     let store = c.loop-command.self in
     let trimmed = c.loop-command.invariant.trimmed in
-    subst (All (λ (x : Noted). HasFewSparesAt 64 store x.table))
-    (sym (trimmed.1 ∙ ap (λ (l : List Noted). l ++ trimmed.0) c.in_default.ensures.0)) trimmed.2
+    subst (All (λ (x : Logged). HasFewSparesAt 64 store x.table))
+    (sym (trimmed.1 ∙ ap (λ (l : List Logged). l ++ trimmed.0) c.in_default.ensures.0)) trimmed.2

@@ -5,7 +5,7 @@ use Rattle.mm_relation.specs.Index.{EachTurns}
 use Rattle.mm_relation.specs.RowLists.{rows_of}
 use Rattle.mm_store.specs.Spares.{HasFewSparesAt}
 use Rattle.mm_store.specs.Tables.{SameForm}
-use Rattle.mm_store.specs.Worlds.{Noted}
+use Rattle.mm_store.specs.Snapshots.{Logged}
 use Rattle.mm_store.proofs.HiddenRows.{AllHidden}
 use Rattle.mm_store.proofs.store.Store.settle.Given as goal
 
@@ -16,7 +16,7 @@ invariant-loop-command l = record {
   rows : map rows_of l.self.tables ≡ map rows_of l.fn.self.tables;
   form : EachTurns SameForm l.fn.self.tables l.self.tables;
   links : l.self.links ≡ l.fn.self.links;
-  trimmed : (done : List Noted) × (l.fn.undo ≡ l.undo ++ done) × All (λ command. HasFewSparesAt 64 l.self command.table) done;
+  trimmed : (done : List Logged) × (l.fn.undo ≡ l.undo ++ done) × All (λ command. HasFewSparesAt 64 l.self command.table) done;
 }
 
 abbrev pub decreases-loop-command : goal.decreases-loop-command

@@ -4,10 +4,10 @@ use Rattle.std.specs.List.{All}
 use Rattle.std.proofs.lemmas.List.{length-map, length-set}
 use Rattle.std.proofs.lemmas.Option.{slice_get_within}
 use Rattle.mm_partition.specs.Places.{slot_at}
-use Rattle.mm_relation.specs.Edits.{entry_name, named}
+use Rattle.mm_relation.specs.Edits.{named, record_name}
 use Rattle.mm_relation.specs.Index.{EachTurns, spare_of}
 use Rattle.mm_relation.specs.Kept.{IsKept, StoredRows}
-use Rattle.mm_relation.specs.declared.log.Entry.{Entry}
+use Rattle.mm_relation.specs.declared.log.UndoRecord.{UndoRecord}
 use Rattle.mm_relation.specs.declared.names.Side.TheVariants.{Old}
 use Rattle.mm_relation.proofs.Turning.{All-turned}
 use Rattle.mm_schema.specs.declared.reference.Reference.{Reference}
@@ -15,7 +15,7 @@ use Rattle.mm_store.specs.Commands.{IsTakenBack}
 use Rattle.mm_store.specs.Joined.{CanRetie, IsRetied}
 use Rattle.mm_store.specs.Tables.{Tables}
 use Rattle.mm_store.specs.Undoing.{HasSpare, IsReversible, heading_of, headings_of}
-use Rattle.mm_store.specs.Worlds.{world_of}
+use Rattle.mm_store.specs.Snapshots.{snapshot_of}
 use Rattle.mm_store.specs.declared.link.Link.{Link}
 use Rattle.mm_store.proofs.Applied.{references_same}
 use Rattle.mm_store.proofs.Applying.{only, there_inside, told_of}
@@ -47,15 +47,15 @@ module _ (c : After-index_mut) where
       c.index_mut.ensures.value
 
   reversible_inside : IsReversible (map heading_of own_items) own_references (record { table = c.args.table; entries = c.args.log.now.entries })
-      (world_of (record { tables = own_items; links = own_references }))
+      (snapshot_of (record { tables = own_items; links = own_references }))
   reversible_inside =
-      subst (λ (v : Tables). IsReversible (headings_of v) v.links (record { table = c.args.table; entries = c.args.log.now.entries }) (world_of v))
+      subst (λ (v : Tables). IsReversible (headings_of v) v.links (record { table = c.args.table; entries = c.args.log.now.entries }) (snapshot_of v))
       (sym c.self.view_is) c.requires.reversible
 
-  spare_inside : HasSpare (length (named entry_name Old c.args.log.now.entries)) c.index_mut.result.now
+  spare_inside : HasSpare (length (named record_name Old c.args.log.now.entries)) c.index_mut.result.now
   spare_inside =
       told_of own_items own_references (length own_items) c.args.table refl c.args.self.now c.self.view_is headed_within c.index_mut.result.now
-      c.index_mut.ensures.value (λ v s. HasSpare (length (named entry_name Old c.args.log.now.entries)) s) c.requires.spare
+      c.index_mut.ensures.value (λ v s. HasSpare (length (named record_name Old c.args.log.now.entries)) s) c.requires.spare
 
 pub revert-requires-clause-stands : goal.revert-requires-clause-stands
 revert-requires-clause-stands c =
@@ -134,8 +134,8 @@ module _ (c : After-is_kept) where
     spare = λ n spare. record {
       key = omega (arith, spare.key, c.revert.ensures.spare);
       each =
-          All-turned (λ x y. spare_of x ≤ spare_of y + length (named entry_name Old c.args.log.now.entries))
-          (λ x. n + length (named entry_name Old c.args.log.now.entries) ≤ spare_of x) (λ x. n ≤ spare_of x) old.indexes new.indexes
+          All-turned (λ x y. spare_of x ≤ spare_of y + length (named record_name Old c.args.log.now.entries))
+          (λ x. n + length (named record_name Old c.args.log.now.entries) ≤ spare_of x) (λ x. n ≤ spare_of x) old.indexes new.indexes
           c.revert.ensures.spares (λ x y some less. omega (arith, some, less)) spare.each;
     };
   }
@@ -160,7 +160,7 @@ retie_all-requires-clause-behind c =
     let is : c.as_slice.result.now ≡ tables = c.as_slice.ensures.value in
     let behind : All (λ link. link.reference.from ≡ place at → CanRetie tables (new at) c.revert.new.log.entries link) (links at) =
     AreBehind-back (items at) (links at) c.self.invariant (place at) (old at) there c.args.log.now.entries (reversible_inside first) (new at)
-    c.revert.new.log.entries c.revert.ensures.slots c.revert.ensures.width c.revert.ensures.key c.revert.ensures.extent c.revert.ensures.turned
+    c.revert.new.log.entries c.revert.ensures.slots c.revert.ensures.width c.revert.ensures.key c.revert.ensures.extent c.revert.ensures.inverted
     (kept at there) in
     λ stored there_now.
     let same : new at ≡ stored =
@@ -168,7 +168,8 @@ retie_all-requires-clause-behind c =
     (sym (get_set_same (items at) (place at) (new at) (within at there)) ∙ (ap (λ (ts : List StoredRows). slice_get ts (place at)) (sym is) ∙ there_now)) in
     subst (λ (ts : List StoredRows). All (λ link. link.reference.from ≡ place at → CanRetie ts stored c.entries.result.now link) (links at)) (sym is)
     (subst (λ (s : StoredRows). All (λ link. link.reference.from ≡ place at → CanRetie tables s c.entries.result.now link) (links at)) same
-    (subst (λ (es : List Entry). All (λ link. link.reference.from ≡ place at → CanRetie tables (new at) es link) (links at)) (sym c.entries.ensures) behind))
+    (subst (λ (es : List UndoRecord). All (λ link. link.reference.from ≡ place at → CanRetie tables (new at) es link) (links at)) (sym c.entries.ensures)
+        behind))
 
 pub invariant_of-self : goal.invariant_of-self
 invariant_of-self c =
@@ -176,7 +177,7 @@ invariant_of-self c =
     let first = (goal.at.invariant_of-self c).After-index_mut in
     let there : slice_get (items at) (place at) ≡ Some (old at) = at_place first in
     IsSound-back (items at) (links at) c.self.invariant (place at) (old at) there c.args.log.now.entries (reversible_inside first) (new at)
-    c.revert.new.log.entries c.revert.ensures.slots c.revert.ensures.width c.revert.ensures.key c.revert.ensures.extent c.revert.ensures.turned
+    c.revert.new.log.entries c.revert.ensures.slots c.revert.ensures.width c.revert.ensures.key c.revert.ensures.extent c.revert.ensures.inverted
     (kept at there) c.retie_all.new.links.items (retied (goal.at.invariant_of-self c).After-retie_all there)
 
 pub returns-clause-back : goal.returns-clause-back

@@ -1,10 +1,10 @@
--- The edits of the table that a change names, and with a DELETE those of the rows that go along.
+-- The edits of the table that a change names, and with a DELETE those of the cascaded rows.
 use Rattle.std.proofs.Common.{◌≡◌, List, map, sym, ap, subst, ◌∙◌}
 use Rattle.mm_txn.specs.Contents.{Holdings}
 use Rattle.mm_txn.specs.PlacedEdits.{AreEditsOf, PlacedEdits, placed}
 use Rattle.mm_txn.proofs.AllEdits.{edits_alone, edits_with_others, is_delete, not_delete, own_fit, own_removes}
 use Rattle.mm_txn.proofs.contents.Contents.edits_of.Goals as goal
-use Rattle.mm_txn.proofs.contents.Contents.edits_of.Goals.{in-Delete, in_default, then-cascades_rows+in_ok-along, else-cascades_rows}
+use Rattle.mm_txn.proofs.contents.Contents.edits_of.Goals.{in-Delete, in_default, then-cascades_rows+in_ok-cascaded, else-cascades_rows}
 
 pub cascades-requires-clause-fit : goal.cascades-requires-clause-fit
 cascades-requires-clause-fit c =
@@ -29,15 +29,16 @@ returns-clause-ok c =
       | in-Delete w ↦ ap is_delete w.in-Delete.is ∙ sym w.matches-is
       | in_default w ↦ not_delete c.args.mutation w.in_default.not-Delete ∙ sym w.matches-is
     ] in
-    let all : AreEditsOf c.args.mutation schema store (placed own) (map placed c.if-cascades_rows.along.items) =
+    let all : AreEditsOf c.args.mutation schema store (placed own) (map placed c.if-cascades_rows.cascaded.items) =
     elim c.if-cascades_rows.branch [
-      | then-cascades_rows+in_ok-along w ↦
-          subst (λ (es : List PlacedEdits). AreEditsOf c.args.mutation schema store (placed own) es) (ap (λ along. map placed along.items) (sym w.along-is))
+      | then-cascades_rows+in_ok-cascaded w ↦
+          subst (λ (es : List PlacedEdits). AreEditsOf c.args.mutation schema store (placed own) es)
+              (ap (λ cascaded. map placed cascaded.items) (sym w.cascaded-is))
           (edits_with_others schema store are c.args.mutation own.table own.edits.items c.in_ok-own.ensures.ok (is ∙ w.if-cascades_rows.true)
-          (map placed w.in_ok-along.along.items) w.in_ok-along.ensures.are w.in_ok-along.ensures.cascades)
+          (map placed w.in_ok-cascaded.cascaded.items) w.in_ok-cascaded.ensures.are w.in_ok-cascaded.ensures.cascades)
       | else-cascades_rows w ↦
           subst (λ (es : List PlacedEdits). AreEditsOf c.args.mutation schema store (placed own) es)
-          (ap (map placed) (sym (ap (λ along. along.items) w.along-is ∙ w.new-along.ensures.items)))
+          (ap (map placed) (sym (ap (λ cascaded. cascaded.items) w.cascaded-is ∙ w.new-cascaded.ensures.items)))
           (edits_alone schema store are c.args.mutation own.table own.edits.items c.in_ok-own.ensures.ok (is ∙ w.if-cascades_rows.false))
     ] in
-    subst (λ (h : Holdings). AreEditsOf c.args.mutation h.schema h.store (placed own) (map placed c.if-cascades_rows.along.items)) c.self.view_is all
+    subst (λ (h : Holdings). AreEditsOf c.args.mutation h.schema h.store (placed own) (map placed c.if-cascades_rows.cascaded.items)) c.self.view_is all

@@ -10,15 +10,15 @@ use Rattle.mm_txn.proofs.contents.Contents.make_edits.Goals as goal
 
 pub edit_table-requires : goal.edit_table-requires
 edit_table-requires c =
-    let along = c.args.edits.along in
-    let none = nil_from_none along.items (omega (arith, eqb-true _ 0 (sym c.is_empty.ensures ∙ c.if-is_empty.true), along.ok)) in
+    let cascaded = c.args.edits.cascaded in
+    let none = nil_from_none cascaded.items (omega (arith, eqb-true _ 0 (sym c.is_empty.ensures ∙ c.if-is_empty.true), cascaded.ok)) in
     subst (λ (h : Holdings). MayMake h.store h.lists c.args.undo.now (placed c.args.edits.own ∷ [])) (sym c.self.view_is)
     (subst (λ (es : List RelationEdits). MayMake c.args.self.now.store c.args.self.now.lists c.args.undo.now (placed c.args.edits.own ∷ map placed es)) none
     c.requires)
 
 pub remove_rows-requires-clause-may : goal.remove_rows-requires-clause-may
 remove_rows-requires-clause-may c =
-    subst (λ (h : Holdings). MayMake h.store h.lists c.args.undo.now (placed c.args.edits.own ∷ map placed c.args.edits.along.items)) (sym c.self.view_is)
+    subst (λ (h : Holdings). MayMake h.store h.lists c.args.undo.now (placed c.args.edits.own ∷ map placed c.args.edits.cascaded.items)) (sym c.self.view_is)
     c.requires
 
 pub invariant_of-self : goal.invariant_of-self
@@ -28,21 +28,21 @@ invariant_of-self c =
 
 pub invariant_of-self-else-is_empty : goal.invariant_of-self-else-is_empty
 invariant_of-self-else-is_empty c =
-    rest_made c.self.inside.catalog (rows_edited c.self.inside.store (placed c.args.edits.own ∷ map placed c.args.edits.along.items)) c.self.inside.store
+    rest_made c.self.inside.catalog (rows_edited c.self.inside.store (placed c.args.edits.own ∷ map placed c.args.edits.cascaded.items)) c.self.inside.store
     c.remove_rows.new.store c.self.inside.standing c.remove_rows.new.standing c.args.undo.now c.remove_rows.new.undo c.remove_rows.result c.self.invariant
     c.remove_rows.ensures.made
 
 pub returns-then-is_empty-clause-due : goal.returns-then-is_empty-clause-due
 returns-then-is_empty-clause-due c =
-    let along = c.args.edits.along in
-    let none = nil_from_none along.items (omega (arith, eqb-true _ 0 (sym c.is_empty.ensures ∙ c.if-is_empty.true), along.ok)) in
+    let cascaded = c.args.edits.cascaded in
+    let none = nil_from_none cascaded.items (omega (arith, eqb-true _ 0 (sym c.is_empty.ensures ∙ c.if-is_empty.true), cascaded.ok)) in
     subst (λ (es : List RelationEdits). IsDue c.args.self.now.store c.args.self.now.lists (placed c.args.edits.own) (map placed es) c.edit_table.result) (sym none)
     (subst (λ (h : Holdings). IsDue h.store h.lists (placed c.args.edits.own) [] c.edit_table.result) c.self.view_is c.edit_table.ensures.due)
 
 pub returns-then-is_empty-clause-made : goal.returns-then-is_empty-clause-made
 returns-then-is_empty-clause-made c =
-    let along = c.args.edits.along in
-    let none = nil_from_none along.items (omega (arith, eqb-true _ 0 (sym c.is_empty.ensures ∙ c.if-is_empty.true), along.ok)) in
+    let cascaded = c.args.edits.cascaded in
+    let none = nil_from_none cascaded.items (omega (arith, eqb-true _ 0 (sym c.is_empty.ensures ∙ c.if-is_empty.true), cascaded.ok)) in
     subst (λ (es : List RelationEdits). Makes (rows_edited c.args.self.now.store (placed c.args.edits.own ∷ map placed es)) c.args.self.now.store
     c.edit_table.new.store c.args.self.now.lists c.edit_table.new.standing c.args.undo.now c.edit_table.new.undo c.edit_table.result) (sym none)
     (subst (λ (h : Holdings). Makes (rows_edited h.store (placed c.args.edits.own ∷ [])) h.store c.edit_table.new.store h.lists c.edit_table.new.standing
@@ -50,12 +50,13 @@ returns-then-is_empty-clause-made c =
 
 pub returns-else-is_empty-clause-due : goal.returns-else-is_empty-clause-due
 returns-else-is_empty-clause-due c =
-    subst (λ (h : Holdings). IsDue h.store h.lists (placed c.args.edits.own) (map placed c.args.edits.along.items) c.remove_rows.result) c.self.view_is
+    subst (λ (h : Holdings). IsDue h.store h.lists (placed c.args.edits.own) (map placed c.args.edits.cascaded.items) c.remove_rows.result) c.self.view_is
     c.remove_rows.ensures.due
 
 pub returns-else-is_empty-clause-made : goal.returns-else-is_empty-clause-made
 returns-else-is_empty-clause-made c =
-    subst (λ (h : Holdings). Makes (rows_edited h.store (placed c.args.edits.own ∷ map placed c.args.edits.along.items)) h.store c.remove_rows.new.store h.lists
+    subst (λ (h : Holdings). Makes (rows_edited h.store (placed c.args.edits.own ∷ map placed c.args.edits.cascaded.items)) h.store c.remove_rows.new.store
+        h.lists
     c.remove_rows.new.standing c.args.undo.now c.remove_rows.new.undo c.remove_rows.result) c.self.view_is c.remove_rows.ensures.made
 
 pub returns-then-is_empty-clause-schema : goal.returns-then-is_empty-clause-schema

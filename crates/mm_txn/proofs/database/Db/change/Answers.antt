@@ -47,7 +47,7 @@ make_edits-requires c =
       served = served held.schema held.store rest.kept.relations lists rest.placed.placed;
       listed = rest.listed;
       typed = subst (λ (r : RowsByPlace). All (IsTested (rows_by_place (instance_of held.store.tables)) r) lists)
-          (sym (edited_after held.schema held.store rest.kept.relations known.distinct c.args.mutation (placed edits.own) (map placed edits.along.items) known.ok
+          (sym (edited_after held.schema held.store rest.kept.relations known.distinct c.args.mutation (placed edits.own) (map placed edits.cascaded.items) known.ok
           (queries_of lists)))
           (queries_tested held.schema (instance_of held.store.tables) (after_change c.args.mutation state).rows lists rest.placed.placed c.self.invariant.typed.rows
           (rows_typed_after c.args.mutation state (value_conditions c.args.mutation (state_of held.schema held.store.tables)) known.distinct known.due
@@ -60,9 +60,9 @@ invariant_of-self c =
     let held = c.self.inside.contents in
     let edits = c.in_ok-edits.edits in
     let known = c.in_ok-edits.ensures in
-    let all = placed edits.own ∷ map placed edits.along.items in
+    let all = placed edits.own ∷ map placed edits.cascaded.items in
     let back = change_refused held.schema held.store c.is_at_rest.ensures.rest.kept.relations known.distinct c.args.mutation
-    (placed edits.own) (map placed edits.along.items) known.ok c.make_edits.new.self.store c.in_err-make_edits.ensures.made.err in
+    (placed edits.own) (map placed edits.cascaded.items) known.ok c.make_edits.new.self.store c.in_err-make_edits.ensures.made.err in
     refused held c.self.inside.undo c.self.inside.marks.items c.self.inside.is_open c.self.invariant c.make_edits.new.self c.make_edits.new.undo
     c.make_edits.ensures.schema (rows_edited held.store all) c.make_edits.result c.make_edits.ensures.made back.0 c.in_err-make_edits.ensures.made.kept
     c.in_err-make_edits.ensures.made.log
@@ -76,7 +76,7 @@ returns-in_err-make_edits-clause-due c =
     let known = c.in_ok-edits.ensures in
     let saved = saved_rows c.self.inside.is_open c.self.inside.undo held.store c.self.inside.marks.items in
     let lists = held.lists.queries in
-    let due = change_due held.schema held.store rest.kept.relations known.distinct c.args.mutation (placed edits.own) (map placed edits.along.items) known.ok lists
+    let due = change_due held.schema held.store rest.kept.relations known.distinct c.args.mutation (placed edits.own) (map placed edits.cascaded.items) known.ok lists
     rest.placed.placed (all_to_others held.schema rest.kept.targets rest.kept.others) rest.kept.back rest.kept.links known.due {T = ℕ}
     (Err c.in_err-make_edits.field-0.0) c.in_err-make_edits.ensures.due in
     rw (p.1, p.2) (due_beside held.schema held.store.tables (queries_of lists) saved c.args.mutation c.args.self.now c.self.view_is {T = ℕ}
@@ -88,10 +88,10 @@ returns-in_err-make_edits-clause-err c =
     let held = c.self.inside.contents in
     let edits = c.in_ok-edits.edits in
     let known = c.in_ok-edits.ensures in
-    let all = placed edits.own ∷ map placed edits.along.items in
+    let all = placed edits.own ∷ map placed edits.cascaded.items in
     let same = c.make_edits.ensures.schema in
     let back = change_refused held.schema held.store c.is_at_rest.ensures.rest.kept.relations known.distinct c.args.mutation
-    (placed edits.own) (map placed edits.along.items) known.ok c.make_edits.new.self.store c.in_err-make_edits.ensures.made.err in
+    (placed edits.own) (map placed edits.cascaded.items) known.ok c.make_edits.new.self.store c.in_err-make_edits.ensures.made.err in
     let rows = back.0 in
     let saved = saved_through_change held c.self.inside.undo c.self.inside.marks.items c.self.inside.is_open c.self.invariant c.make_edits.new.self
     c.make_edits.new.undo same (rows_edited held.store all) c.make_edits.result c.make_edits.ensures.made in
@@ -103,10 +103,10 @@ invariant_of-self-2 c =
     let held = c.self.inside.contents in
     let edits = c.in_ok-edits.edits in
     let known = c.in_ok-edits.ensures in
-    let all = placed edits.own ∷ map placed edits.along.items in
+    let all = placed edits.own ∷ map placed edits.cascaded.items in
     let queries = queries_of held.lists.queries in
     let done = change_done held.schema held.store c.is_at_rest.ensures.rest.kept.relations known.distinct c.args.mutation
-    (placed edits.own) (map placed edits.along.items) known.ok queries c.make_edits.new.self.store c.in_ok-make_edits.ensures.made.ok in
+    (placed edits.own) (map placed edits.cascaded.items) known.ok queries c.make_edits.new.self.store c.in_ok-make_edits.ensures.made.ok in
     let typed : AreTyped held.schema.tables (instance_of c.make_edits.new.self.store.tables) =
     subst (λ (s : State). AreTyped held.schema.tables s.rows) (sym done.0)
     (rows_typed_after c.args.mutation (watched_state held.schema held.store.tables queries)
@@ -124,7 +124,7 @@ returns-clause-due c =
     let known = c.in_ok-edits.ensures in
     let saved = saved_rows c.self.inside.is_open c.self.inside.undo held.store c.self.inside.marks.items in
     let lists = held.lists.queries in
-    let due = change_due held.schema held.store rest.kept.relations known.distinct c.args.mutation (placed edits.own) (map placed edits.along.items) known.ok lists
+    let due = change_due held.schema held.store rest.kept.relations known.distinct c.args.mutation (placed edits.own) (map placed edits.cascaded.items) known.ok lists
     rest.placed.placed (all_to_others held.schema rest.kept.targets rest.kept.others) rest.kept.back rest.kept.links known.due {T = Unit {0}} (Ok tt)
     c.in_ok-make_edits.ensures.due in
     due_beside held.schema held.store.tables (queries_of lists) saved c.args.mutation c.args.self.now c.self.view_is {T = Unit {0}} (Ok tt) due
@@ -135,13 +135,13 @@ returns-clause-ok c =
     let last = c.settle_outside.new.self in
     let edits = c.in_ok-edits.edits in
     let known = c.in_ok-edits.ensures in
-    let all = placed edits.own ∷ map placed edits.along.items in
+    let all = placed edits.own ∷ map placed edits.cascaded.items in
     let same = c.settle_outside.ensures.schema ∙ c.make_edits.ensures.schema in
     let queries = queries_of held.lists.queries in
     let saved = saved_rows c.self.inside.is_open c.self.inside.undo held.store c.self.inside.marks.items in
     let later = saved_rows c.self.inside.is_open c.settle_outside.new.undo last.store c.self.inside.marks.items in
     let done = change_done held.schema held.store c.is_at_rest.ensures.rest.kept.relations known.distinct c.args.mutation
-    (placed edits.own) (map placed edits.along.items) known.ok queries c.make_edits.new.self.store c.in_ok-make_edits.ensures.made.ok in
+    (placed edits.own) (map placed edits.cascaded.items) known.ok queries c.make_edits.new.self.store c.in_ok-make_edits.ensures.made.ok in
     (λ i. record { schema = same i; rows = instance_of last.store.tables; queries = queries_of last.lists.queries; saved = later })
     ∙ done_beside held.schema held.store.tables queries saved c.args.mutation c.args.self.now c.self.view_is last.store.tables
     (queries_of last.lists.queries) later
@@ -159,6 +159,6 @@ returns-clause-count c =
     let saved = saved_rows c.self.inside.is_open c.self.inside.undo held.store c.self.inside.marks.items in
     let counted : c.len-count.result ≡ length own.edits.items = omega (arith, c.len-count.ensures, own.edits.ok) in
     counted ∙ (edits_counted held.schema held.store c.is_at_rest.ensures.rest.kept.relations known.distinct c.args.mutation
-    (placed own) (map placed c.in_ok-edits.edits.along.items) known.ok
+    (placed own) (map placed c.in_ok-edits.edits.cascaded.items) known.ok
     ∙ (ap length (pairs_beside held.schema held.store.tables (queries_of held.lists.queries) saved c.args.mutation)
     ∙ ap (λ (s : State). length (own_pairs c.args.mutation s)) c.self.view_is))

@@ -1,0 +1,92 @@
+-- Access methods for the rows of a table that may stand behind a combination.
+use Rattle.std.specs.Prelude.{◌≡◌, ◌==◌, ℕ, ◌+◌, ◌<◌, ◌≤◌, Bool, List, Some, All, IsPermutation, length, map, slice_index}
+use Rattle.std.specs.List.{count_by}
+use Rattle.std.specs.Ordering.{is_eq}
+use Rattle.mm_partition.specs.Places.{IsLive, slot_at}
+use Rattle.mm_query.specs.Atoms.{value_in}
+use Rattle.mm_query.specs.declared.atom.Atom.{Atom}
+use Rattle.mm_query.specs.declared.bound_query.FieldPlace.{FieldPlace}
+use Rattle.mm_relation.specs.Kept.{StoredRows}
+use Rattle.mm_relation.specs.Refs.{Slots, row_at}
+use Rattle.mm_relation.specs.RowLists.{rows_of}
+use Rattle.mm_select.specs.Matches.{Covers}
+use Rattle.mm_store.specs.Links.{IsReference}
+use Rattle.mm_store.specs.Looked.{IsIndexOn}
+use Rattle.mm_store.specs.Tables.{IsAt, Tables}
+use Rattle.mm_value.specs.Hash.{value_hash}
+use Rattle.mm_value.specs.Order.{value_cmp}
+use Rattle.mm_value.specs.Prefix.{order_prefix}
+use Rattle.mm_value.specs.declared.row_ref.RowRef.{RowRef}
+use Rattle.mm_value.specs.declared.values.Value.{Value}
+use Rattle.mm_join.specs.Entries.{entry_of}
+use Rattle.mm_join.specs.Equated.{HaveMatches, IsJoin, plain_key, sought}
+use Rattle.mm_join.specs.Reads.{any_row}
+use Rattle.mm_join.specs.declared.inner.Inner.{Inner}
+use Rattle.mm_join.specs.declared.join.Join.{Join}
+use Rattle.mm_join.specs.declared.look_up.Among.{Among}
+use Rattle.mm_join.specs.declared.look_up.Among.TheVariants as among
+use Rattle.mm_join.specs.declared.access_methods.AccessMethod.{AccessMethod}
+use Rattle.mm_join.specs.declared.access_methods.AccessMethod.TheVariants as method
+
+-- ---- what a value is looked up in
+
+-- What a hash table over a column keeps of a row: the hash of its value there, and its reference.
+abbrev pub hashed_row : ℕ → Slots → RowRef → ℕ × RowRef
+hashed_row column now at = (value_hash (value_in column (row_at now at)), at)
+
+-- It goes by the values that all rows have in the column.
+abbrev pub IsAmong : StoredRows → ℕ → Among → Type 0
+IsAmong stored column (among.Index index) = IsIndexOn stored column index
+IsAmong stored column (among.Built pairs) = IsPermutation pairs.entries (map (hashed_row column (slot_at stored.places)) stored.refs)
+IsAmong stored column (among.Walk cursor) = (walk : List RowRef) × IsPermutation walk stored.refs
+    × (cursor ≡ map (entry_of column (slot_at stored.places)) walk)
+
+-- It may take a value for the one that is sought.
+abbrev pub may_be : Among → Value → Value → Bool
+may_be (among.Index index) value own = is_eq (value_cmp own value)
+may_be (among.Built pairs) value own = value_hash own == value_hash value
+may_be (among.Walk cursor) value own = order_prefix own == order_prefix value
+
+-- All rows of the table that have the value in the column are found, and no more rows than may be taken for such.
+pub record Finds (stored : StoredRows) (column : ℕ) (from : Among) (value : Value) (found : List RowRef) : Type 0 where
+  pub matches : HaveMatches column (slot_at stored.places) value stored.refs found
+  pub few : length found ≤ count_by (λ row. may_be from value (value_in column row)) (rows_of stored)
+
+-- ---- access methods
+
+-- The inner side of a join, where the further table is at a place.
+abbrev pub inner_of : Join → ℕ → Inner
+inner_of join table = record { table = table; atoms = join.atoms; cap = join.cap }
+
+-- The access method leads to rows of the further table, where the atoms ask for them.
+abbrev pub IsAccessMethod : Tables → List ℕ → Inner → AccessMethod → Type 0
+IsAccessMethod store outers inner (method.All refs) = (stored : StoredRows) → IsAt store inner.table stored → IsPermutation refs.items stored.refs
+IsAccessMethod store outers inner (method.Followed field) = (stored : StoredRows) → IsAt store inner.table stored
+    → (field.place < length outers) × IsReference store.links (slice_index outers field.place) field.column inner.table
+    × IsJoin inner.atoms.now outers (plain_key stored.key field)
+IsAccessMethod store outers inner (method.Sought look_up) = IsJoin inner.atoms.now outers look_up.key
+    × ((stored : StoredRows) → IsAt store inner.table stored → IsAmong stored look_up.key.column look_up.among)
+
+-- How many of the rows of the further table it may lead to behind a combination.
+abbrev pub found_behind : AccessMethod → List (List Value) → List (List Value) → ℕ
+found_behind (method.All refs) rows combination = count_by (any_row (map Some combination)) rows
+found_behind (method.Followed field) rows combination = 1
+found_behind (method.Sought look_up) rows combination =
+    count_by (λ row. may_be look_up.among (sought look_up.key (map Some combination)) (value_in look_up.key.column row)) rows
+
+-- What the access method found, or the references of all rows where it leads to all.
+abbrev pub listed : AccessMethod → List RowRef → List RowRef
+listed (method.All refs) found = refs.items
+listed (method.Followed field) found = found
+listed (method.Sought look_up) found = found
+
+-- How many rows a join by the access method may read for a combination: its own, and those that are found.
+abbrev pub reads_along : AccessMethod → List (List Value) → List (List Value) → ℕ
+reads_along method rows combination = length combination + found_behind method rows combination
+
+-- References of rows of a table, among them those of all that fit behind a combination, and no more than so many.
+pub record AreCandidates (store : Tables) (table : ℕ) (atoms : List (Atom FieldPlace)) (combination : List (List Value)) (most : ℕ)
+    (candidates : List RowRef) : Type 0 where
+  pub live : (stored : StoredRows) → IsAt store table stored → All (IsLive stored.places) candidates
+  pub cover : Covers store table atoms (map Some combination) candidates
+  pub few : length candidates ≤ most

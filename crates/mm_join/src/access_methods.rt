@@ -1,0 +1,115 @@
+//! Access methods for the rows of the inner table that may stand behind a combination.
+ghost use Rattle.std.specs.Prelude.{◌≡◌, ℕ, ◌<◌, true, [], Contains, OnOk, Some, length, map, slice_index, slice_index_or};
+ghost use Rattle.std.specs.Option.{option_copied};
+ghost use Rattle.mm_join.specs.Equated.{IsPartner};
+ghost use Rattle.mm_join.specs.AccessMethods.{AreCandidates, IsAccessMethod, found_behind, listed};
+ghost use Rattle.mm_join.specs.declared.access_methods.AccessMethod.TheVariants.{Sought};
+ghost use Rattle.mm_partition.specs.Places.{IsLive};
+ghost use Rattle.mm_relation.specs.Kept.{StoredRows};
+ghost use Rattle.mm_store.specs.Tables.{IsAt, rows_at};
+ghost use Rattle.mm_templist.specs.Combos.{AreLive, rows_of_combo};
+
+use crate::inner::{Inner, Outer};
+use crate::key::JoinKey;
+use crate::look_up::{Among, LookUp};
+use mm_query::FieldPlace;
+use mm_store::View;
+use mm_value::{Row, RowRef};
+use std::alloc::{AllocError, Global};
+
+/// How the rows of the inner table are found that may stand behind a combination.
+#[derive(Drop)]
+pub(crate) enum AccessMethod {
+    /// All rows may: these are their references.
+    All(Vec<RowRef>),
+    /// The row that the row of a field refers to by its column.
+    Followed(FieldPlace),
+    /// Those that a look-up finds.
+    Sought(LookUp),
+}
+
+impl AccessMethod {
+    /// By a look-up of the value that a key asks for.
+    pub fn by(among: Among, key: JoinKey) -> AccessMethod
+        ensures { result ≡ Sought (record { among = among; key = key }) }
+    {
+        AccessMethod::Sought(LookUp { among, key })
+    }
+
+    /// Whether it is known with no look at a row that no row fits behind a combination.
+    pub fn has_none(&mut self, view: &View<'_>, inner: &Inner<'_>, outer: Outer<'_>) -> bool
+        requires there { inner.now.table < length view.now.store.tables }
+        requires live { AreLive view.now.store outer.tables.now outer.refs.now }
+        requires method { IsAccessMethod view.now.store outer.tables.now inner.now self.old }
+        ensures none { result ≡ true → AreCandidates view.now.store inner.now.table inner.now.atoms.now
+            (rows_of_combo view.now.store outer.entry.tables.now outer.entry.refs.now) 0 [] }
+        ensures same { self.new ≡ self.old }
+    {
+        view.is_kept(inner.table);
+        match self {
+            AccessMethod::Sought(look_up) => look_up.has_none(view, outer),
+            _ => false,
+        }
+    }
+
+    /// Puts the references of the rows of the inner table that may stand behind a combination, where `rows` are its rows, in the
+    /// place of those that `found` has; where all may, it is left as it is. No row is read. `AllocError` where memory is refused.
+    pub fn find(
+        &mut self,
+        alloc: Global,
+        view: &View<'_>,
+        inner: &Inner<'_>,
+        outer: Outer<'_>,
+        rows: &[Option<&Row>],
+        found: &mut Vec<RowRef>,
+    ) -> Result<(), AllocError>
+        requires there { inner.now.table < length view.now.store.tables }
+        requires live { AreLive view.now.store outer.tables.now outer.refs.now }
+        requires rows { map option_copied rows.now ≡ map Some (rows_of_combo view.now.store outer.tables.now outer.refs.now) }
+        requires method { IsAccessMethod view.now.store outer.tables.now inner.now self.old }
+        ensures found { OnOk result (AreCandidates view.now.store inner.now.table inner.now.atoms.now
+            (rows_of_combo view.now.store outer.entry.tables.now outer.entry.refs.now)
+            (found_behind self.old (rows_at view.now.store.tables inner.now.table)
+            (rows_of_combo view.now.store outer.entry.tables.now outer.entry.refs.now))
+            (listed self.old found.new.items)) }
+        ensures same { self.new ≡ self.old }
+    {
+        view.is_kept(inner.table);
+        match self {
+            AccessMethod::All(_) => Ok(()),
+            AccessMethod::Followed(field) => {
+                found.clear();
+                found.push(partner(view, outer, *field))?;
+                Ok(())
+            }
+            AccessMethod::Sought(look_up) => look_up.find_partners(alloc, view, inner.table, rows, found),
+        }
+    }
+
+    /// The references that were found, or those of all rows where all may stand behind each combination.
+    pub fn candidates<'f>(&'f self, found: &'f [RowRef]) -> &'f [RowRef]
+        ensures { result.now ≡ listed self.now found.now }
+    {
+        match self {
+            AccessMethod::All(refs) => refs.as_slice(),
+            _ => found,
+        }
+    }
+}
+
+/// The reference of the row to which a row of a combination refers by the column of a field.
+fn partner(view: &View<'_>, outer: Outer<'_>, field: FieldPlace) -> RowRef
+    requires table { field.place < length outer.tables.now }
+    requires reference { field.place < length outer.refs.now }
+    requires refers { (to : ℕ) × Contains view.now.store.links (record { from = slice_index outer.tables.now field.place; column = field.column; to = to }) }
+    requires live { (stored : StoredRows) → IsAt view.now.store (slice_index outer.tables.now field.place) stored
+        → IsLive stored.places (slice_index_or outer.refs.now field.place (record { part = 0; slot = 0 })) }
+    ensures { IsPartner view.now.store (slice_index outer.entry.tables.now field.place) field.column
+        (slice_index_or outer.entry.refs.now field.place (record { part = 0; slot = 0 })) result }
+{
+    view.follow(
+        outer.tables[field.place],
+        field.column,
+        outer.refs[field.place],
+    )
+}

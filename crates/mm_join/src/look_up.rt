@@ -1,0 +1,178 @@
+//! Look-ups of the value that a key asks for.
+ghost use Rattle.std.specs.Prelude.{◌≡◌, ℕ, ◌+ℤ◌, ◌<◌, true, [], FitsSigned, IfSome, None, OnOk, Some, length, map, pos};
+ghost use Rattle.std.specs.Int.{w64};
+ghost use Rattle.std.specs.Option.{option_copied, option_map, unwrap_or};
+ghost use Rattle.mm_join.specs.Equated.{HaveMatches, added, sought};
+ghost use Rattle.mm_join.specs.AccessMethods.{Finds, IsAmong};
+ghost use Rattle.mm_partition.specs.Places.{slot_at};
+ghost use Rattle.mm_query.specs.Queries.{value_at};
+ghost use Rattle.mm_relation.specs.Kept.{StoredRows};
+ghost use Rattle.mm_store.specs.Tables.{IsAt};
+ghost use Rattle.mm_templist.specs.Combos.{AreLive, rows_of_combo};
+ghost use Rattle.mm_value.specs.Prefix.{order_prefix};
+ghost use Rattle.mm_value.specs.declared.values.Value.TheVariants.{Int};
+
+use crate::cursor::Cursor;
+use crate::inner::Outer;
+use crate::key::{JoinKey, Shift};
+use mlhash::HashRefs;
+use mm_query::FieldPlace;
+use mm_store::{IndexRef, View};
+use mm_value::{Row, RowRef, Value, hash64, order_prefix};
+use std::alloc::{AllocError, Global};
+
+/// What the rows of a table are found in by the value that they have in a column.
+#[derive(Drop)]
+pub(crate) enum Among {
+    /// An index of the table.
+    Index(IndexRef),
+    /// A hash table of the references of all rows, by the hash of the value.
+    Built(HashRefs),
+    /// A walk along a tree, where prefixes come in ascending order.
+    Walk(Cursor),
+}
+
+/// A look-up of the value that a key asks for.
+#[derive(Drop)]
+pub(crate) struct LookUp {
+    pub among: Among,
+    pub key: JoinKey,
+}
+
+/// The value of a field in the rows of a combination; none reads as 0.
+fn value_of<'v>(rows: &[Option<&'v Row>], field: FieldPlace) -> Option<&'v Value>
+    ensures { unwrap_or (option_copied result) (Int (pos 0)) ≡ unwrap_or (value_at (map option_copied rows.now) field) (Int (pos 0)) }
+{
+    let Some(Some(row)) = rows.get(field.place) else {
+        return None;
+    };
+    row.values().get(field.column)
+}
+
+/// A number with a shift added, if that is a number of 64 bits.
+fn shifted_number(number: i64, shift: Shift) -> Option<i64>
+    ensures sum { IfSome result (λ sum. sum ≡ number +ℤ added shift) }
+    ensures within { IfSome result (λ sum. FitsSigned w64 sum) }
+    ensures past { result ≡ None → ¬ FitsSigned w64 (number +ℤ added shift) }
+{
+    match shift {
+        Shift::Plus(by) => number.checked_add(by),
+        Shift::Minus(by) => number.checked_sub(by),
+    }
+}
+
+/// The prefix of the value of a field in the row of a combination, without a look at the row. None where it is not kept, or there
+/// is no such field.
+fn prefix_of_field(view: &View<'_>, outer: Outer<'_>, field: FieldPlace) -> Option<u64>
+    requires { AreLive view.now.store outer.tables.now outer.refs.now }
+    ensures { IfSome result (λ prefix.
+        option_map order_prefix (value_at (map Some (rows_of_combo view.now.store outer.entry.tables.now outer.entry.refs.now)) field) ≡ Some prefix) }
+{
+    if field.place >= outer.tables.len() {
+        return None;
+    }
+    view.prefix_of(
+        outer.tables[field.place],
+        field.column,
+        outer.refs[field.place],
+    )
+}
+
+impl LookUp {
+    /// Puts the references of rows of a table, among them all that have this value in the key's column, in no promised order, in the
+    /// place of those that `found` has. No row is read. `AllocError` where memory is refused.
+    fn find_value(
+        &mut self,
+        alloc: Global,
+        view: &View<'_>,
+        table: usize,
+        value: &Value,
+        found: &mut Vec<RowRef>,
+    ) -> Result<(), AllocError>
+        requires there { table < length view.now.store.tables }
+        requires among { (stored : StoredRows) → IsAt view.now.store table stored → IsAmong stored self.old.key.column self.old.among }
+        ensures found { OnOk result ((stored : StoredRows) → IsAt view.now.store table stored
+            → Finds stored self.old.key.column self.old.among value.now found.new.items) }
+        ensures same { self.new ≡ self.old }
+    {
+        found.clear();
+        match &mut self.among {
+            Among::Index(index) => view.matches(alloc, table, *index, value, found),
+            Among::Built(pairs) => pairs.matches(alloc, hash64(value), found),
+            Among::Walk(cursor) => cursor.find(order_prefix(value), found),
+        }
+    }
+
+    /// Puts the references of rows of a table, among them all that have this number with the key's shift added in its column, in no
+    /// promised order, in the place of those that `found` has. No row is read. `AllocError` where memory is refused.
+    fn find_number(
+        &mut self,
+        alloc: Global,
+        view: &View<'_>,
+        table: usize,
+        number: i64,
+        found: &mut Vec<RowRef>,
+    ) -> Result<(), AllocError>
+        requires there { table < length view.now.store.tables }
+        requires among { (stored : StoredRows) → IsAt view.now.store table stored → IsAmong stored self.old.key.column self.old.among }
+        ensures found { OnOk result ((stored : StoredRows) → IsAt view.now.store table stored
+            → Finds stored self.old.key.column self.old.among (Int (number +ℤ added self.old.key.shift)) found.new.items) }
+        ensures same { self.new ≡ self.old }
+    {
+        match shifted_number(number, self.key.shift) {
+            Some(sum) => self.find_value(alloc, view, table, &Value::Int(sum), found),
+            // No row has a number past 64 bits.
+            None => {
+                view.is_kept(table);
+                found.clear();
+                Ok(())
+            }
+        }
+    }
+
+    /// Puts the references of rows of a table, among them all that have in the key's column the value that it asks for behind these
+    /// rows, in no promised order, in the place of those that `found` has. No row is read. `AllocError` where memory is refused.
+    pub fn find_partners(
+        &mut self,
+        alloc: Global,
+        view: &View<'_>,
+        table: usize,
+        rows: &[Option<&Row>],
+        found: &mut Vec<RowRef>,
+    ) -> Result<(), AllocError>
+        requires there { table < length view.now.store.tables }
+        requires among { (stored : StoredRows) → IsAt view.now.store table stored → IsAmong stored self.old.key.column self.old.among }
+        ensures found { OnOk result ((stored : StoredRows) → IsAt view.now.store table stored
+            → Finds stored self.old.key.column self.old.among (sought self.old.key (map option_copied rows.now)) found.new.items) }
+        ensures same { self.new ≡ self.old }
+    {
+        match value_of(rows, self.key.field) {
+            Some(value) => match value {
+                Value::Int(number) => self.find_number(alloc, view, table, *number, found),
+                Value::Text(_) => self.find_value(alloc, view, table, value, found),
+            },
+            None => self.find_number(alloc, view, table, 0, found),
+        }
+    }
+
+    /// Whether it is known with no look at a row that no row has, in the key's column, the value that it asks for behind a
+    /// combination. Along a walk prefixes mostly tell, where the key asks for a field's own value.
+    pub fn has_none(&mut self, view: &View<'_>, outer: Outer<'_>) -> bool
+        requires live { AreLive view.now.store outer.tables.now outer.refs.now }
+        ensures none { result ≡ true → (stored : StoredRows) → IsAmong stored self.old.key.column self.old.among
+            → HaveMatches self.old.key.column (slot_at stored.places)
+            (sought self.old.key (map Some (rows_of_combo view.now.store outer.entry.tables.now outer.entry.refs.now))) stored.refs [] }
+        ensures same { self.new ≡ self.old }
+    {
+        if !self.key.shift.adds_nothing() {
+            return false;
+        }
+        let Among::Walk(cursor) = &mut self.among else {
+            return false;
+        };
+        match prefix_of_field(view, outer, self.key.field) {
+            Some(prefix) => !cursor.has(prefix),
+            None => false,
+        }
+    }
+}

@@ -1,0 +1,7 @@
+use Rattle.std.proofs.Common.{◌≡◌, drop}
+use Rattle.mm_query.specs.Placing.{has_duplicate_targets}
+use Rattle.mm_query.proofs.place.has_duplicate_targets.Given as goal
+
+-- Duplicates are among the assignments that are left exactly where they are among all.
+abbrev pub invariant-loop-i : goal.invariant-loop-i
+invariant-loop-i l = has_duplicate_targets (drop l.i l.assignments) ≡ has_duplicate_targets l.assignments

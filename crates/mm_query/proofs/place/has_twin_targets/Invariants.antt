@@ -1,7 +1,0 @@
-use Rattle.std.proofs.Common.{◌≡◌, drop}
-use Rattle.mm_query.specs.Placing.{has_twin_targets}
-use Rattle.mm_query.proofs.place.has_twin_targets.Given as goal
-
--- Twins are among the assignments that are left exactly where they are among all.
-abbrev pub invariant-loop-i : goal.invariant-loop-i
-invariant-loop-i l = has_twin_targets (drop l.i l.assignments) ≡ has_twin_targets l.assignments

@@ -1,8 +1,0 @@
--- What a log is seen as.
-use Rattle.std.specs.Prelude.{ℕ, List}
-use Rattle.mm_relation.specs.declared.log.Entry.{Entry}
-
--- Its changes, the oldest first, and how many more it takes without growing.
-pub record LogEntries : Type 0 where
-  pub entries : List Entry
-  pub room : ℕ
