@@ -1,5 +1,6 @@
 -- A chain dealt out onto two.
-use Rattle.std.proofs.Common.{◌≡◌, ◌≢◌, ℕ, ◌<◌, true, false, eqb, bit_and, inl, inr, List, [], length, set, refl, sym, ap, ◌∙◌, subst, arith, length-set, get_or-set_same, get_or-set_other}
+use Rattle.std.proofs.Common.{◌≡◌, ◌≢◌, ℕ, ◌<◌, true, false, eqb, bit_and, inl, inr, List, [], length, set, refl, sym, ap, ◌∙◌, subst, arith, length-set}
+use Rattle.std.proofs.Common.{get_or-set_same, get_or-set_other}
 use Rattle.std.proofs.lemmas.Bool.{cases_eq}
 use Rattle.mlhash.specs.declared.node.Node.{Node}
 use Rattle.mlhash.specs.declared.node.TheConstants.{NIL}

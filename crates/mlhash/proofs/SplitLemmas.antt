@@ -1,5 +1,6 @@
 -- What a split and a merge do to the table.
-use Rattle.std.proofs.Common.{◌≡◌, ◌≢◌, ℕ, ◌+◌, ◌-◌, ◌*◌, ◌%◌, ◌^◌, ◌<◌, ◌≤◌, true, false, bit_and, inl, inr, List, [], ◌∷◌, ◌++◌, length, set, take, get_or, sym, ap, ◌∙◌, subst, arith, length-set, length-append, get_or-set_same, get_or-set_other}
+use Rattle.std.proofs.Common.{◌≡◌, ◌≢◌, ℕ, ◌+◌, ◌-◌, ◌*◌, ◌%◌, ◌^◌, ◌<◌, ◌≤◌, true, false, bit_and, inl, inr, List, [], ◌∷◌, ◌++◌, length, set, take, get_or}
+use Rattle.std.proofs.Common.{sym, ap, ◌∙◌, subst, arith, length-set, length-append, get_or-set_same, get_or-set_other}
 use Rattle.std.specs.List.{count_by}
 use Rattle.std.proofs.lemmas.Bool.{cases_eq, eqb-true, eqb-false, eq-eqb, false≢true}
 use Rattle.std.proofs.lemmas.List.{get_or_append_left, get_or-take, length-take-le}
@@ -11,7 +12,8 @@ use Rattle.mlhash.specs.Address.{bucket_of, place_after}
 use Rattle.mlhash.specs.Pairs.{node_at}
 use Rattle.mlhash.specs.Chain.{Among, chain, IsLinked, AreApart, stays, Deals}
 use Rattle.mlhash.specs.Table.{entries, IsBucket, IsFree, IsTable}
-use Rattle.mlhash.proofs.AddressLemmas.{place_after-size, place_after-split, after_split, after_other, split_in_two, before_in, before_other, place_after-steps, high_mask, level_small}
+use Rattle.mlhash.proofs.AddressLemmas.{place_after-size, place_after-split, after_split, after_other, split_in_two, before_in, before_other}
+use Rattle.mlhash.proofs.AddressLemmas.{place_after-steps, high_mask, level_small}
 use Rattle.mlhash.proofs.BagLemmas.{is_live, entries_same, length-entries}
 use Rattle.mlhash.proofs.ChainLemmas.{chain_end, below_linked, Keeps, keeps_frame}
 use Rattle.mlhash.proofs.DealLemmas.{among_along}
@@ -287,7 +289,13 @@ module _ (heads : List ℕ) (ns : List Node) (len : ℕ) (q : Place) (free last 
         limit = omega (arith, g1, k.last_is, k.table.limit);
         pool = dealt_pool ns from 0 0 onto ms staying leaving len free k.deals (λ i a. (last_bucket.here i a).0) k.table.pool;
         buckets =
-            λ c lt'. let lt : c < last = omega (arith, g1, lt') in elim (cases_eq c q.split) [ inl e ↦ subst (λ x. IsBucket ms q (get_or (set cut q.split staying) x 0) x) (sym e) (subst (λ h. IsBucket ms q h q.split) (sym (get_or-set_same cut q.split staying 0 (omega (arith, g, at_last, pow_pos q.level)))) merged_bucket) | inr ne ↦ subst (λ h. IsBucket ms q h c) (sym (get_or-set_other cut q.split c staying 0 ne ∙ get_or-take last heads c 0 lt)) (rest_bucket c lt ne) ];
+            λ c lt'. let lt : c < last = omega (arith, g1, lt') in elim (cases_eq c q.split) [
+              | inl e ↦ subst (λ x. IsBucket ms q (get_or (set cut q.split staying) x 0) x) (sym e)
+                  (subst (λ h. IsBucket ms q h q.split) (sym (get_or-set_same cut q.split staying 0 (omega (arith, g, at_last, pow_pos q.level))))
+                  merged_bucket)
+              | inr ne ↦ subst (λ h. IsBucket ms q h c) (sym (get_or-set_other cut q.split c staying 0 ne ∙ get_or-take last heads c 0 lt))
+                  (rest_bucket c lt ne)
+            ];
       }
 
 -- links are no part of the bag

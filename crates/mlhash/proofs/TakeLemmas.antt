@@ -1,6 +1,7 @@
 -- What a remove does to the table: the pair of a chain's first node takes the place of the one that
 -- leaves, and the first node is freed.
-use Rattle.std.proofs.Common.{◌≡◌, ◌≢◌, ℕ, ◌+◌, ◌-◌, ◌<◌, ◌≤◌, Bool, true, false, cond, inl, inr, List, [], ◌∷◌, length, min, set, get_or, refl, sym, ap, ◌∙◌, subst, arith, length-set, get_or-set_same, get_or-set_other}
+use Rattle.std.proofs.Common.{◌≡◌, ◌≢◌, ℕ, ◌+◌, ◌-◌, ◌<◌, ◌≤◌, Bool, true, false, cond, inl, inr, List, [], ◌∷◌, length, min, set, get_or, refl, sym, ap, ◌∙◌}
+use Rattle.std.proofs.Common.{subst, arith, length-set, get_or-set_same, get_or-set_other}
 use Rattle.std.specs.List.{count_by, Contains}
 use Rattle.std.specs.List.Sorted.{IsPermutation}
 use Rattle.std.proofs.lemmas.Bool.{cases_eq, false≢true}
@@ -198,7 +199,12 @@ module _ (heads : List ℕ) (ns : List Node) (len : ℕ) (p : Place) (free b hea
           rest = omega (arith, ap length front.is, ap length one.same, k.table.pool.rest, size, one_less);
         };
         buckets =
-            λ c lt'. let lt : c < length heads = omega (arith, length-set heads b (node_at ns head).next, lt') in elim (cases_eq c b) [ inl e ↦ subst (λ x. IsBucket ms p (get_or (set heads b (node_at ns head).next) x 0) x) (sym e) (subst (λ h. IsBucket ms p h b) (sym (get_or-set_same heads b (node_at ns head).next 0 k.inside)) own_bucket) | inr ne ↦ subst (λ h. IsBucket ms p h c) (sym (get_or-set_other heads b c (node_at ns head).next 0 ne)) (other_bucket c lt ne) ];
+            λ c lt'. let lt : c < length heads = omega (arith, length-set heads b (node_at ns head).next, lt') in elim (cases_eq c b) [
+              | inl e ↦ subst (λ x. IsBucket ms p (get_or (set heads b (node_at ns head).next) x 0) x) (sym e)
+                  (subst (λ h. IsBucket ms p h b) (sym (get_or-set_same heads b (node_at ns head).next 0 k.inside)) own_bucket)
+              | inr ne ↦ subst
+                  (λ h. IsBucket ms p h c) (sym (get_or-set_other heads b c (node_at ns head).next 0 ne)) (other_bucket c lt ne)
+            ];
       }
 
   same_place : at ≡ head → IsPermutation (entries ns) (pair_of (node_at ns at) ∷ entries (set (set ns at n1) head n2))

@@ -144,9 +144,10 @@ impl HashRefs {
 
     /// Takes one such pair out. False where it holds none, and then all is as before.
     ///
-    /// It takes the same time however many pairs have this hash, where the reference's slot is among
-    /// as many first ones as there was room for pairs at the last `reserve`, and where of the pairs of
-    /// this reference this one was put in last. Else it walks the chain of the hash.
+    /// It takes the same time however many pairs have this hash, where the reference's slot was among as
+    /// many first ones as there was room for pairs when the pair was put in, is so still at the last
+    /// `reserve`, and where of the pairs of this reference this one was put in last. Else it walks the chain
+    /// of the hash.
     pub fn remove(&mut self, hash: u64, reference: RowRef) -> bool
         ensures found { IsTrue result ↔ Contains self.old.entries (hash, reference) }
         ensures entries { OnTrue result (IsPermutation self.old.entries ((hash, reference) ∷ self.new.entries)) }

@@ -1,5 +1,6 @@
 -- A row has what an atom requires just where the atom is true of it.
-use Rattle.std.proofs.Common.{◌≡◌, ℕ, ◌<◌, ◌==◌, Bool, true, false, cond, ◌&&◌, ℤ, pos, ◌+ℤ◌, ◌-ℤ◌, ◌<ℤ◌, Option, Some, None, [], ◌∷◌, ◌⊎◌, inl, inr, get_or, set, length, refl, sym, ap, ◌∙◌, arith}
+use Rattle.std.proofs.Common.{◌≡◌, ℕ, ◌<◌, ◌==◌, Bool, true, false, cond, ◌&&◌, ℤ, pos, ◌+ℤ◌, ◌-ℤ◌, ◌<ℤ◌, Option, Some, None, [], ◌∷◌, ◌⊎◌, inl, inr, get_or}
+use Rattle.std.proofs.Common.{set, length, refl, sym, ap, ◌∙◌, arith}
 use Rattle.std.specs.Option.{option_map}
 use Rattle.std.specs.Ordering.{MatchOrdering, int_cmp, is_eq}
 use Rattle.std.specs.Cmp.{int_ranks}

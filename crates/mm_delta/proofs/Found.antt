@@ -1,5 +1,6 @@
 -- What is found is what the plain product holds.
-use Rattle.std.proofs.Common.{◌≡◌, ◌≢◌, ℕ, Bool, true, false, cond, ◌&&◌, Option, Some, None, List, [], ◌∷◌, inl, inr, get_or, set, map, refl, sym, ap, ◌∙◌, arith}
+use Rattle.std.proofs.Common.{◌≡◌, ◌≢◌, ℕ, Bool, true, false, cond, ◌&&◌, Option, Some, None, List, [], ◌∷◌, inl, inr, get_or, set, map, refl, sym, ap, ◌∙◌}
+use Rattle.std.proofs.Common.{arith}
 use Rattle.std.specs.List.{AllByRecursion, filter, flat_map}
 use Rattle.std.specs.Option.{option_map}
 use Rattle.std.proofs.lemmas.Bool.{cases_eq}
@@ -46,7 +47,8 @@ shifted_extends : (by : _) (o o' : Option Value) (v : Value) → ((w : Value) �
 shifted_extends by None o' v h e = cc
 shifted_extends by (Some w) o' v h e = ap (λ o. option_map (shifted by) o) (h w refl) ∙ e
 
-pub operand_extends : (m m' : Partial) → Extends m m' → (o : Operand FieldPlace) (v : Value) → operand_of (value_at m) o ≡ Some v → operand_of (value_at m') o ≡ Some v
+pub operand_extends : (m m' : Partial) → Extends m m' → (o : Operand FieldPlace) (v : Value) → operand_of (value_at m) o ≡ Some v → operand_of (value_at m') o
+    ≡ Some v
 operand_extends m m' h (Literal n) v e = e
 operand_extends m m' h (Column f) v e = value_extends m m' h f v e
 operand_extends m m' h (Shifted f by) v e = shifted_extends by (value_at m f) (value_at m' f) v (value_extends m m' h f) e
@@ -72,7 +74,8 @@ either_false true b false b' f g h = refl
 pub fails_extends : (atoms : List (Atom FieldPlace)) (m m' : Partial) → Extends m m' → none_fails atoms m ≡ false → none_fails atoms m' ≡ false
 fails_extends [] m m' h e = cc
 fails_extends (a ∷ atoms) m m' h e =
-    either_false (holds (value_at m) a) (none_fails atoms m) (holds (value_at m') a) (none_fails atoms m') (holds_extends m m' h a) (fails_extends atoms m m' h) e
+    either_false (holds (value_at m) a) (none_fails atoms m) (holds (value_at m') a) (none_fails atoms m') (holds_extends m m' h a)
+    (fails_extends atoms m m' h) e
 
 -- Places stay open when another one gets its row.
 pub open_set : (js : List ℕ) (m : Partial) (j : ℕ) (x : Row) → AllByRecursion (λ i. i ≢ j) js → AreOpen js m → AreOpen js (set m j (Some x))

@@ -78,7 +78,8 @@ module _ (stored : StoredRows) (was : IsKept stored.width stored.key (slot_at st
       ap not (takes_named edits at ∙ list_any_none (λ (r : RowRef). same_ref r at) (olds edits)
       (λ i e below.
       elim (cases_Bool (same_ref (get_or (olds edits) i e) at)) [
-        | inl met ↦ absurd (AllPairs-append_across (λ a b. a ≢ b) (olds edits) kept apart i e below k d within (same_from_test (get_or (olds edits) i e) at met))
+        | inl met ↦ absurd (AllPairs-append_across (λ a b. a ≢ b) (olds edits) kept apart i e below k d within
+            (same_from_test (get_or (olds edits) i e) at met))
         | inr unmet ↦ unmet
       ]))
 
@@ -94,7 +95,8 @@ module _ (stored : StoredRows) (was : IsKept stored.width stored.key (slot_at st
       ∙ zero-add (sum_by g kept)
 
   -- The rows after the edits are those that come and those that stay.
-  pub after_edits : (f : List Value → ℕ) → sum_by f (rows_with stored edits) ≡ sum_by f (map (row_at now) (filter (stays edits) stored.refs)) + sum_by f (new_rows edits)
+  pub after_edits : (f : List Value → ℕ) → sum_by f (rows_with stored edits)
+      ≡ sum_by f (map (row_at now) (filter (stays edits) stored.refs)) + sum_by f (new_rows edits)
   after_edits f =
       omega (
         arith,

@@ -1,5 +1,6 @@
 -- Where a column has an index.
-use Rattle.std.proofs.Common.{◌≡◌, ℕ, ◌<◌, ◌==◌, Bool, true, false, ◌||◌, List, [], ◌∷◌, length, get_or, Option, Some, None, inl, inr, refl, sym, ap, ◌∙◌, subst, arith}
+use Rattle.std.proofs.Common.{◌≡◌, ℕ, ◌<◌, ◌==◌, Bool, true, false, ◌||◌, List, [], ◌∷◌, length, get_or, Option, Some, None, inl, inr, refl, sym, ap, ◌∙◌}
+use Rattle.std.proofs.Common.{subst, arith}
 use Rattle.std.specs.Prelude.{is_some}
 use Rattle.std.specs.List.{list_any}
 use Rattle.std.specs.Option.{option_map_or}
@@ -65,7 +66,8 @@ module _ (stored : StoredRows) (column : ℕ) where
       ])
       (list_any_none on stored.indexes (λ place d within.
       elim (cases_Bool (on (get_or stored.indexes place d))) [
-        | inl met ↦ absurd (absent none place within d (eqb-true (column_of (get_or stored.indexes place d)) column met) (kind_of (get_or stored.indexes place d)) refl)
+        | inl met ↦ absurd (absent none place within d (eqb-true (column_of (get_or stored.indexes place d)) column met)
+            (kind_of (get_or stored.indexes place d)) refl)
         | inr unmet ↦ unmet
       ]))
 

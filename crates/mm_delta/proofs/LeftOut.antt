@@ -1,5 +1,6 @@
 -- Rows that are left out add nothing, and for the rows that are gone over it is as if none were skipped.
-use Rattle.std.proofs.Common.{◌≡◌, ℕ, ◌+◌, ◌<◌, ◌≤◌, ◌==◌, ◌⊎◌, inl, inr, Bool, true, false, cond, nat_lt, Some, List, [], ◌∷◌, get_or, length, map, refl, sym, ap, subst, ◌∙◌, arith}
+use Rattle.std.proofs.Common.{◌≡◌, ℕ, ◌+◌, ◌<◌, ◌≤◌, ◌==◌, ◌⊎◌, inl, inr, Bool, true, false, cond, nat_lt, Some, List, [], ◌∷◌, get_or, length, map, refl}
+use Rattle.std.proofs.Common.{sym, ap, subst, ◌∙◌, arith}
 use Rattle.std.specs.List.{All}
 use Rattle.std.specs.Prelude.{slice_get}
 use Rattle.std.proofs.lemmas.Bool.{cond-true, eq-eqb, eqb-true, ltb-false, ltb-true}
@@ -65,7 +66,8 @@ module _ (q : BoundQuery) (store : Tables) (changes : List TableChange) (tables 
         | inr c ↦ All-contains P (after_at store changes (get_or tables k 0)) row (subst (λ i. All P (after_at store changes (get_or tables i 0))) same a) c
       ]
 
-  operand_around : (o : Operand FieldPlace) → AddsToNumber (λ j. after_at store changes (get_or tables j 0)) o → AddsToNumber (λ j. before_at store (get_or tables j 0)) o
+  operand_around : (o : Operand FieldPlace) → AddsToNumber (λ j. after_at store changes (get_or tables j 0)) o
+      → AddsToNumber (λ j. before_at store (get_or tables j 0)) o
       → AddsToNumber (λ j. get_or around j []) o
   operand_around (Literal v) a f = tt
   operand_around (Column field) a f = tt
@@ -109,7 +111,8 @@ reads_unskipped q skipped k row n only not_cyclic = by (skipped k row) refl
     by false e = omega arith
 
 -- What holds of the rows of a list holds of the one of each index.
-pub row_of_index : {A : Type 0} (P : Row → Type 0) (f : A → Row) (items : List A) (i : ℕ) (x : A) → All P (map f items) → i < length items → x ≡ get_or items i x
+pub row_of_index : {A : Type 0} (P : Row → Type 0) (f : A → Row) (items : List A) (i : ℕ) (x : A) → All P (map f items) → i < length items → x
+    ≡ get_or items i x
     → P (f x)
 row_of_index P f items i x all inside is =
     subst P (get_or-map f items i x (f x) inside ∙ ap f (sym is)) (all i (f x) (omega (arith, inside, length-map items f)))

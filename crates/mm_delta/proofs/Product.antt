@@ -1,8 +1,11 @@
 -- The completions of one row are the plain product with that row alone at its place.
-use Rattle.std.proofs.Common.{◌≡◌, ◌≢◌, ℕ, zero, suc, ◌+◌, ◌-◌, ◌<◌, ◌≤◌, ◌==◌, ◌++◌, Bool, true, false, cond, nat_lt, not, ◌⊎◌, inl, inr, Option, Some, None, List, [], ◌∷◌, get_or, set, length, map, replicate, subst, take, drop, refl, sym, ap, ◌∙◌, arith}
+use Rattle.std.proofs.Common.{◌≡◌, ◌≢◌, ℕ, zero, suc, ◌+◌, ◌-◌, ◌<◌, ◌≤◌, ◌==◌, ◌++◌, Bool, true, false, cond, nat_lt, not, ◌⊎◌, inl, inr, Option, Some, None}
+use Rattle.std.proofs.Common.{List, [], ◌∷◌, get_or, set, length, map, replicate, subst, take, drop, refl, sym, ap, ◌∙◌, arith}
 use Rattle.std.specs.List.{AllByRecursion, filter, flat_map, range_with_len}
 use Rattle.std.proofs.lemmas.Bool.{cases_eq, cases_order, cond-false, cond-true, eq-eqb, lt-ltb, le-ltb, ne_eqb}
-use Rattle.std.proofs.lemmas.List.{append-nil, append_assoc, get_or-drop, get_or-map, get_or-replicate, get_or-set_other, get_or-set_same, get_or-take, get_or_append_left, get_or_at, get_or_past, get_or-append_right, length-append, length-drop, length-map, length-replicate, length-set, length-take-le, set_at}
+use Rattle.std.proofs.lemmas.List.{append-nil, append_assoc, get_or-drop, get_or-map, get_or-replicate, get_or-set_other, get_or-set_same, get_or-take}
+use Rattle.std.proofs.lemmas.List.{get_or_append_left, get_or_at, get_or_past, get_or-append_right, length-append, length-drop, length-map, length-replicate}
+use Rattle.std.proofs.lemmas.List.{length-set, length-take-le, set_at}
 use Rattle.std.proofs.lemmas.List.FromFn.{fill_by_all, get_or-map-range_with_len, length-map-range_with_len}
 use Rattle.std.proofs.lemmas.Simd.{map-map}
 use Rattle.mm_query.specs.Queries.{Partial, bag_of, combinations, fits, none_fails, values_of}
@@ -32,7 +35,8 @@ open_from k n row i (suc c) h =
     kept (i == k) refl (open_from k n row (i + 1) c (omega arith))
   where
     kept : (b : Bool) → (i == k) ≡ b → AreOpen (filter (λ j. not (j == k)) (range_with_len (i + 1) c)) (one_row n k row)
-        → AreOpen (cond (not b) (i ∷ filter (λ j. not (j == k)) (range_with_len (i + 1) c)) (filter (λ j. not (j == k)) (range_with_len (i + 1) c))) (one_row n k row)
+        → AreOpen (cond (not b) (i ∷ filter (λ j. not (j == k)) (range_with_len (i + 1) c)) (filter (λ j. not (j == k)) (range_with_len (i + 1) c)))
+        (one_row n k row)
     kept true e rest = rest
     kept false e rest = (
       omega (arith, length-map-range_with_len (λ j. cond (j == k) (Some row) None) 0 n),
@@ -107,7 +111,8 @@ pub found_is_bag : (q : BoundQuery) (rows : ℕ → Rows) (k n : ℕ) (row : Row
 found_is_bag q rows k n row =
     found_is q rows (other_places n k) (one_row n k row) (others_open k n row)
     ∙ ap (λ l. map (values_of q.fields) (filter (none_fails q.atoms) l)) (completions_are rows k row n)
-    ∙ ap (map (values_of q.fields)) (filter-map (none_fails q.atoms) (map Some) (combinations (map (λ j. cond (j == k) (row ∷ []) (rows j)) (range_with_len 0 n))))
+    ∙ ap (map (values_of q.fields)) (filter-map (none_fails q.atoms) (map Some)
+    (combinations (map (λ j. cond (j == k) (row ∷ []) (rows j)) (range_with_len 0 n))))
     ∙ map-map (values_of q.fields) (map Some) (filter (fits q) (combinations (map (λ j. cond (j == k) (row ∷ []) (rows j)) (range_with_len 0 n))))
 
 -- ---- the lists
@@ -132,7 +137,13 @@ module _ (after before : ℕ → Rows) (row : Row) (from : List ℕ) (k : ℕ) (
 
   pub lists_long : length lists ≡ length from
   lists_long =
-      omega (arith, length-append (map after (take k from)) ((row ∷ []) ∷ map before (drop (suc k) from)), front_long, length-map (drop (suc k) from) before, length-drop (suc k) from)
+      omega (
+        arith,
+        length-append (map after (take k from)) ((row ∷ []) ∷ map before (drop (suc k) from)),
+        front_long,
+        length-map (drop (suc k) from) before,
+        length-drop (suc k) from,
+      )
 
   at_front : (j : ℕ) → j < k → get_or lists j [] ≡ here j
   at_front j h =

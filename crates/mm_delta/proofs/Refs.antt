@@ -29,7 +29,8 @@ any_of (x ∷ xs) n within = x
 filter_same : {X : Type 0} (p q : X → Bool) (xs : List X) → All (λ x. p x ≡ q x) xs → filter p xs ≡ filter q xs
 filter_same p q [] all = refl
 filter_same p q (x ∷ xs) all =
-    λ i. cond (All-head (λ y. p y ≡ q y) x xs all i) (x ∷ filter_same p q xs (All-tail (λ y. p y ≡ q y) x xs all) i) (filter_same p q xs (All-tail (λ y. p y ≡ q y) x xs all) i)
+    λ i. cond (All-head (λ y. p y ≡ q y) x xs all i) (x ∷ filter_same p q xs (All-tail (λ y. p y ≡ q y) x xs all) i)
+    (filter_same p q xs (All-tail (λ y. p y ≡ q y) x xs all) i)
 
 filter_everything : {X : Type 0} (xs : List X) → filter (λ x. true) xs ≡ xs
 filter_everything [] = refl
@@ -53,7 +54,8 @@ module _ (stored : StoredRows) (was : IsKept stored.width stored.key (slot_at st
   all_live : All (IsLive stored.places) stored.refs
   all_live k d within = (was.held (get_or stored.refs k d)).0 (Contains-get_or stored.refs k d within)
 
-  same_value : (column : ℕ) (value : Value) → column < stored.width → All (λ at. has_value column now value at ≡ passes (Some (column, value)) (row_at now at)) stored.refs
+  same_value : (column : ℕ) (value : Value) → column < stored.width
+      → All (λ at. has_value column now value at ≡ passes (Some (column, value)) (row_at now at)) stored.refs
   same_value column value within k d below =
       let at : RowRef = get_or stored.refs k d in
       let live = all_live k d below in

@@ -1,5 +1,6 @@
 -- The change of a bag is the sum of its terms.
-use Rattle.std.proofs.Common.{◌≡◌, ℕ, zero, suc, ◌+◌, ◌<◌, ◌≤◌, ℤ, pos, ◌+ℤ◌, ◌-ℤ◌, Bool, true, false, cond, List, [], ◌∷◌, ◌++◌, length, map, take, drop, refl, sym, ap, ◌∙◌, arith, get_or}
+use Rattle.std.proofs.Common.{◌≡◌, ℕ, zero, suc, ◌+◌, ◌<◌, ◌≤◌, ℤ, pos, ◌+ℤ◌, ◌-ℤ◌, Bool, true, false, cond, List, [], ◌∷◌, ◌++◌, length, map, take, drop}
+use Rattle.std.proofs.Common.{refl, sym, ap, ◌∙◌, arith, get_or}
 use Rattle.std.specs.List.{filter, fold, range_with_len, sum_by}
 use Rattle.std.proofs.lemmas.Int.{ints}
 use Rattle.std.proofs.lemmas.List.{length-map}
@@ -52,7 +53,8 @@ module _ {T : Type 0} (missing : T) where
   half_at after before (t ∷ ts) zero h = refl
   half_at after before (t ∷ ts) (suc k) h = ap (λ l. after t ∷ l) (half_at after before ts k (omega arith))
 
-  half_past : (after before : T → Rows) (from : List T) (k : ℕ) → k < length from → half after before from (suc k) ≡ lists_around missing after after before from k
+  half_past : (after before : T → Rows) (from : List T) (k : ℕ) → k < length from → half after before from (suc k)
+      ≡ lists_around missing after after before from k
   half_past after before [] k h = absurd (omega arith)
   half_past after before (t ∷ ts) zero h = refl
   half_past after before (t ∷ ts) (suc k) h = ap (λ l. after t ∷ l) (half_past after before ts k (omega arith))
@@ -84,7 +86,8 @@ pub one_place : {T : Type 0} (missing : T) (q : BoundQuery) (before after gone c
 one_place missing q before after gone come from row k h balance =
     omega (
       arith,
-      products_balance (map after (take k from)) (after (get_or from k missing)) (gone (get_or from k missing)) (before (get_or from k missing)) (come (get_or from k missing))
+      products_balance (map after (take k from)) (after (get_or from k missing)) (gone (get_or from k missing)) (before (get_or from k missing))
+          (come (get_or from k missing))
           (map before (drop (suc k) from)) balance (weight q row),
       ap (λ l. count_of row (bag_of q l)) (half_at missing after before from k h),
       ap (λ l. count_of row (bag_of q l)) (half_past missing after before from k h),
@@ -105,7 +108,8 @@ module _ {T : Type 0} (missing : T) (q : BoundQuery) (before after gone come : T
   first_places zero h = nothing (count_of row (bag_of q (map before from)))
   first_places (suc k) h =
       telescope _ _ (part k) _ _ _ _ _
-      (first_places k (omega arith)) (fold_range_more part k) refl (one_place missing q before after gone come from row k (omega arith) (balance (get_or from k missing)))
+      (first_places k (omega arith)) (fold_range_more part k) refl
+      (one_place missing q before after gone come from row k (omega arith) (balance (get_or from k missing)))
 
   -- The law, for tables that go by anything.
   pub change_is_sum : change_between q (map before from) (map after from) row ≡ fold ◌+ℤ◌ (pos 0) (map part (range_with_len 0 (length from)))
@@ -118,6 +122,7 @@ pub change_by_names : (q : BoundQuery) (before after gone come : List ℕ → Ro
     → change_of q before after row
     ≡ fold ◌+ℤ◌ (pos 0) (map (λ k. term q before after gone come k row) (range_with_len 0 (length q.from)))
 change_by_names q before after gone come row balance =
-    (λ i. change_between q (sym (map-map before (λ (item : FromItem). item.table) q.from) i) (sym (map-map after (λ (item : FromItem). item.table) q.from) i) row)
+    (λ i. change_between q (sym (map-map before (λ (item : FromItem). item.table) q.from) i) (sym (map-map after (λ (item : FromItem). item.table) q.from) i)
+    row)
     ∙ change_is_sum [] q before after gone come (names_of q) row balance
     ∙ ap (λ n. fold ◌+ℤ◌ (pos 0) (map (λ k. term q before after gone come k row) (range_with_len 0 n))) (length-map q.from (λ (item : FromItem). item.table))

@@ -1,5 +1,6 @@
 -- What the places of FROM add to a change.
-use Rattle.std.proofs.Common.{◌≡◌, ℕ, zero, suc, ◌+◌, ◌<◌, ◌≤◌, ◌==◌, ℤ, pos, ◌-ℤ◌, Bool, true, false, cond, not, List, [], ◌∷◌, ◌++◌, get_or, length, map, None, refl, sym, ap, ◌∙◌, arith}
+use Rattle.std.proofs.Common.{◌≡◌, ℕ, zero, suc, ◌+◌, ◌<◌, ◌≤◌, ◌==◌, ℤ, pos, ◌-ℤ◌, Bool, true, false, cond, not, List, [], ◌∷◌, ◌++◌, get_or, length, map}
+use Rattle.std.proofs.Common.{None, refl, sym, ap, ◌∙◌, arith}
 use Rattle.std.specs.List.{All, filter, filter_map, range_with_len, sum_by}
 use Rattle.std.specs.Option.{option_map_or}
 use Rattle.std.proofs.lemmas.Int.{ints}
@@ -69,8 +70,10 @@ tables_from tables store k i zero h all = tt
 tables_from tables store k i (suc n) h all =
     kept (i == k) (omega (arith, h), all i 0 (omega (arith, h))) (tables_from tables store k (i + 1) n (omega (arith, h)) all)
   where
-    kept : (b : Bool) → ((i < length tables) × (get_or tables i 0 < length store.tables)) → HasTables tables store (filter (λ j. not (j == k)) (range_with_len (i + 1) n))
-        → HasTables tables store (cond (not b) (i ∷ filter (λ j. not (j == k)) (range_with_len (i + 1) n)) (filter (λ j. not (j == k)) (range_with_len (i + 1) n)))
+    kept : (b : Bool) → ((i < length tables) × (get_or tables i 0 < length store.tables))
+        → HasTables tables store (filter (λ j. not (j == k)) (range_with_len (i + 1) n))
+        → HasTables tables store (cond (not b) (i ∷ filter (λ j. not (j == k)) (range_with_len (i + 1) n))
+        (filter (λ j. not (j == k)) (range_with_len (i + 1) n)))
     kept true here rest = rest
     kept false here rest = (here, rest)
 
@@ -113,7 +116,8 @@ net_count q store changes tables k stored within at row comes comes' goes goes' 
     )
 
 -- What they read, likewise.
-pub reads_same : (q : BoundQuery) (store now : Tables) (changes : List TableChange) (tables : List ℕ) (skipped : ℕ → List Value → Bool) (k : ℕ) (rows edited : List (List Value))
+pub reads_same : (q : BoundQuery) (store now : Tables) (changes : List TableChange) (tables : List ℕ) (skipped : ℕ → List Value → Bool) (k : ℕ)
+    (rows edited : List (List Value))
     → now ≡ store → rows ≡ edited → sum_by (row_reads q now changes tables skipped k) rows ≡ sum_by (row_reads q store changes tables skipped k) edited
 reads_same q store now changes tables skipped k rows edited same is = λ i. sum_by (row_reads q (same i) changes tables skipped k) (is i)
 
@@ -185,7 +189,8 @@ module _ (q : BoundQuery) (store : Tables) (changes : List TableChange) (tables 
       next k = omega arith
 
   -- All places.
-  pub counts_all : (k comes goes : ℕ) (signed : ℤ) → k ≡ length tables → comes + count_of row (bag_of q (map (before_at store) tables)) ≡ goes + halfway k → signed ≡ pos comes -ℤ pos goes
+  pub counts_all : (k comes goes : ℕ) (signed : ℤ) → k ≡ length tables → comes + count_of row (bag_of q (map (before_at store) tables)) ≡ goes + halfway k
+      → signed ≡ pos comes -ℤ pos goes
       → signed ≡ pos (count_of row (bag_of q (map (after_at store changes) tables))) -ℤ pos (count_of row (bag_of q (map (before_at store) tables)))
   counts_all k comes goes signed all so_far is =
       omega (

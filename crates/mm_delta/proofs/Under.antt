@@ -17,7 +17,8 @@ module _ {Z : Type 0} (value : Value) (row : Bor (List Value)) (old new : List (
   abbrev pub IsPut : Type 0
   IsPut = (other : Value) → rows_under other new ≡ rows_under other old ++ cond (same_value value other) (row.now ∷ []) []
 
-  module _ (list : Vec (Bor (List Value)) Z) (put : (q : Value) → lookup (same_value q) new ≡ cond (same_value value q) (Some list) (lookup (same_value q) old)) where
+  module _ (list : Vec (Bor (List Value)) Z) (put : (q : Value) → lookup (same_value q) new
+      ≡ cond (same_value value q) (Some list) (lookup (same_value q) old)) where
     -- It stands behind those that were under the value.
     pub put_behind : (was : List (Bor (List Value))) → list.items ≡ was ++ row ∷ [] → rows_under value old ≡ map (λ r. r.now) was → IsPut
     put_behind was items under other = by (same_value value other) refl

@@ -1,5 +1,6 @@
 -- Edits that a query does not see change nothing of its bag.
-use Rattle.std.proofs.Common.{◌≡◌, ℕ, zero, suc, ◌+◌, ◌<◌, ◌≤◌, ◌==◌, ◌&&◌, ◌||◌, Bool, true, false, cond, not, pos, Some, None, List, [], ◌∷◌, ◌++◌, drop, get_or, length, map, take, inl, inr, refl, sym, ap, ◌∙◌, arith, length-take}
+use Rattle.std.proofs.Common.{◌≡◌, ℕ, zero, suc, ◌+◌, ◌<◌, ◌≤◌, ◌==◌, ◌&&◌, ◌||◌, Bool, true, false, cond, not, pos, Some, None, List, [], ◌∷◌, ◌++◌, drop}
+use Rattle.std.proofs.Common.{get_or, length, map, take, inl, inr, refl, sym, ap, ◌∙◌, arith, length-take}
 use Rattle.std.specs.List.{All, cons_option, filter_map, list_all, sum_by}
 use Rattle.std.specs.Option.{option_map, option_map_or, unwrap_or}
 use Rattle.std.proofs.lemmas.Bool.{and_parts, cases_Bool, eq-eqb, eqb-true}

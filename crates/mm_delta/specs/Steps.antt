@@ -1,5 +1,6 @@
 -- What the steps of a walk go by.
-use Rattle.std.specs.Prelude.{◌≡◌, ℕ, ◌+◌, ◌<◌, ◌++◌, Bool, false, not, if◌then◌else◌, List, [], Option, Some, None, filter, get_or, length, nat_lt, IsPermutation}
+use Rattle.std.specs.Prelude.{◌≡◌, ℕ, ◌+◌, ◌<◌, ◌++◌, Bool, false, not, if◌then◌else◌, List, [], Option, Some, None, filter, get_or, length, nat_lt}
+use Rattle.std.specs.Prelude.{IsPermutation}
 use Rattle.std.specs.List.{AllByRecursion, list_any, sum_by}
 use Rattle.std.specs.Option.{option_map}
 use Rattle.mm_relation.specs.Before.{same_ref}

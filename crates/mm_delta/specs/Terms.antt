@@ -16,6 +16,7 @@ lists_around missing after edited before from k =
 
 -- What a place of FROM adds to the change of a row's count: the combinations of each row that comes there count plus one, those of
 -- each row that goes minus one.
-abbrev pub term : BoundQuery → (List ℕ → List (List Value)) → (List ℕ → List (List Value)) → (List ℕ → List (List Value)) → (List ℕ → List (List Value)) → ℕ → List Value → ℤ
+abbrev pub term : BoundQuery → (List ℕ → List (List Value)) → (List ℕ → List (List Value)) → (List ℕ → List (List Value)) → (List ℕ → List (List Value)) → ℕ
+    → List Value → ℤ
 term query before after gone come k row =
     change_between query (lists_around [] after gone before (names_of query) k) (lists_around [] after come before (names_of query) k) row

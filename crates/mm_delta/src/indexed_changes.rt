@@ -5,9 +5,9 @@ ghost use Rattle.mm_delta.specs.Overlay.{overlay_edits};
 ghost use Rattle.mm_delta.specs.Edited.{edits_at};
 
 use crate::asked_columns::asked_columns;
-use crate::overlay::Overlay;
 use crate::edit_index::EditIndex;
 use crate::edited::{TableChange, edits_of};
+use crate::overlay::Overlay;
 use mm_query::BoundQuery;
 use mm_relation::Edit;
 use mm_store::View;

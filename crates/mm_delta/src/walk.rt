@@ -13,11 +13,11 @@ ghost use Rattle.mm_delta.specs.Terms.{lists_around};
 ghost use Rattle.mm_delta.specs.Walk.{AreOpen, found, other_places as other_places_lem};
 ghost use Rattle.mm_relevance.specs.Relevance.{IsCyclic};
 
-use crate::overlay::Overlay;
 use crate::chosen::Chosen;
 use crate::counting::count_row;
 use crate::indexed_changes::IndexedChanges;
 use crate::look_up::{LookUp, Site};
+use crate::overlay::Overlay;
 use crate::rows::{read_all, references};
 use crate::skipped::is_skipped;
 use arrayvec::ArrayVec;

@@ -1,5 +1,6 @@
 -- How many entries name a place, after an entry is written or entries come behind the others.
-use Rattle.std.proofs.Common.{◌≡◌, ◌≢◌, ℕ, zero, suc, ◌+◌, ◌-◌, ◌<◌, ◌≤◌, ◌^◌, List, [], ◌∷◌, ◌++◌, length, Option, Some, None, cond, get_or, set, replicate, refl, sym, ap, ◌∙◌, ⊎_elim, arith, length-set}
+use Rattle.std.proofs.Common.{◌≡◌, ◌≢◌, ℕ, zero, suc, ◌+◌, ◌-◌, ◌<◌, ◌≤◌, ◌^◌, List, [], ◌∷◌, ◌++◌, length, Option, Some, None, cond, get_or, set, replicate}
+use Rattle.std.proofs.Common.{refl, sym, ap, ◌∙◌, ⊎_elim, arith, length-set}
 use Rattle.std.specs.Prelude.{count_by, sum_by}
 use Rattle.std.proofs.lemmas.Bool.{cases_eq, cases_lt, cond-true, cond-false, eq-eqb, ne_eqb}
 use Rattle.std.proofs.lemmas.List.{get_or-set_other, get_or-set_same, get_or_past, get_or_append_left, get_or-append_right, length-append, length-replicate}
@@ -107,7 +108,8 @@ pub IsCounted-tied : (targets : List (Option ℕ)) (counts : List ℕ) (i target
 IsCounted-tied targets counts i target count within target_within free read counted =
     record {
       counted = λ place.
-          let step : count_by (refers_to place) (set targets i (Some target)) + weight place None ≡ count_by (refers_to place) targets + weight place (Some target)
+          let step : count_by (refers_to place) (set targets i (Some target)) + weight place None
+          ≡ count_by (refers_to place) targets + weight place (Some target)
           = after_set place i targets None (Some target) within free in
           ⊎_elim
           (λ (same : target ≡ place).

@@ -1,5 +1,6 @@
 -- Join equalities between a column of a further table and a field of the outer list, and ways to the rows that meet them.
-use Rattle.std.specs.Prelude.{◌≡◌, ◌⊎◌, ℕ, pos, ◌<◌, ℤ, neg_ℤ, Bool, true, List, [], ◌∷◌, ◌++◌, Option, Some, None, Contains, IsPermutation, filter, length, map}
+use Rattle.std.specs.Prelude.{◌≡◌, ◌⊎◌, ℕ, pos, ◌<◌, ℤ, neg_ℤ, Bool, true, List, [], ◌∷◌, ◌++◌, Option, Some, None, Contains, IsPermutation, filter, length}
+use Rattle.std.specs.Prelude.{map}
 use Rattle.std.specs.Option.{unwrap_or}
 use Rattle.mm_partition.specs.Places.{slot_at}
 use Rattle.mm_query.specs.Atoms.{shifted, value_in}

@@ -82,7 +82,13 @@ impl AccessMethod {
                 found.push(partner(view, outer, *field))?;
                 Ok(())
             }
-            AccessMethod::Sought(look_up) => look_up.find_partners(alloc, view, inner.table, rows, found),
+            AccessMethod::Sought(look_up) => look_up.find_partners(
+                alloc,
+                view,
+                inner.table,
+                rows,
+                found,
+            ),
         }
     }
 

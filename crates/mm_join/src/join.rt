@@ -12,12 +12,12 @@ ghost use Rattle.mm_store.specs.Looked.{IsIndexOn, IsTree};
 ghost use Rattle.mm_store.specs.Tables.{IsAt, rows_at};
 ghost use Rattle.mm_templist.specs.Combos.{combo_rows};
 
+use crate::access_methods::AccessMethod;
 use crate::built::hashed_rows;
 use crate::cursor::Cursor;
 use crate::inner::{Inner, Outer, choose};
 use crate::key::JoinKey;
 use crate::look_up::Among;
-use crate::access_methods::AccessMethod;
 use mm_query::{Atom, FieldPlace};
 use mm_store::{IndexRef, View};
 use mm_templist::{Descriptor, TempList};

@@ -18,14 +18,16 @@ use Rattle.mm_query.specs.declared.command.Mutation.TheVariants as change
 use Rattle.mm_lang.specs.declared.keyword.Keyword.{Keyword}
 use Rattle.mm_lang.specs.declared.keyword.Keyword.TheVariants as keyword
 use Rattle.mm_lang.specs.declared.reader.Reader.{Reader}
-use Rattle.mm_lang.specs.Grammar.{name, column, index_kind, tuple, comma_list, table, drop, dropped, index, insert, rollback, rolled_back, savepoint, scan, scan_of, show, assignment, tests_on, unwatch, update, delete}
+use Rattle.mm_lang.specs.Grammar.{name, column, index_kind, tuple, comma_list, table, drop, dropped, index, insert, rollback, rolled_back, savepoint, scan}
+use Rattle.mm_lang.specs.Grammar.{scan_of, show, assignment, tests_on, unwatch, update, delete}
 use Rattle.mm_lang.specs.Phrases.{Phrase, ◌>>=◌, ◌>>◌, say, one_word, only_if, the_keyword, has_keyword, in_parentheses}
 use Rattle.mm_lang.specs.Reading.{assignment_literals, first_fault, literals_of, test_literals}
 use Rattle.mm_lang.specs.Tokens.{tokens}
 use Rattle.mm_lang.specs.Words.{keyword_named}
 use Rattle.mm_lang.specs.steps.Parsing.{Fails, Gives, GivesItems, IsMissing, ReadsPhrase, Skips, no_literals}
 use Rattle.mm_lang.specs.steps.Parts.{Front}
-use Rattle.mm_lang.proofs.Readings.{Took, took, or_none, took_then, took_say, fails_first, fails_next, reads_behind, keyword_stands, none_fault, given_made, given_both}
+use Rattle.mm_lang.proofs.Readings.{Took, took, or_none, took_then, took_say, fails_first, fails_next, reads_behind, keyword_stands, none_fault, given_made}
+use Rattle.mm_lang.proofs.Readings.{given_both}
 
 -- A command without literals was read.
 command_took : (phrase : Phrase Command) (old new : Reader) (c : Command) → literals_of c ≡ [] → Took phrase old new c → Gives phrase literals_of old new c

@@ -1,5 +1,6 @@
 -- A whole line as a command, and lines by what they hold.
-use Rattle.std.proofs.Common.{◌≡◌, ◌≢◌, ◌<◌, ◌≤◌, inl, inr, ℕ, Bool, true, false, cond, ltb, List, [], ◌∷◌, Option, Some, None, Result, Ok, Err, length, refl, sym, ap, subst, ◌∙◌}
+use Rattle.std.proofs.Common.{◌≡◌, ◌≢◌, ◌<◌, ◌≤◌, inl, inr, ℕ, Bool, true, false, cond, ltb, List, [], ◌∷◌, Option, Some, None, Result, Ok, Err, length, refl}
+use Rattle.std.proofs.Common.{sym, ap, subst, ◌∙◌}
 use Rattle.std.specs.Option.{option_and_then, option_or}
 use Rattle.std.proofs.lemmas.Bool.{cond-true, cond-false, false≢true, lt-ltb, le-ltb}
 use Rattle.mm_value.specs.declared.refusal.Refusal.{Refusal}
@@ -9,13 +10,15 @@ use Rattle.mm_value.specs.declared.values.Value.TheVariants.{Int, Text}
 use Rattle.mm_value.specs.Literal.{is_within_limit}
 use Rattle.mm_query.specs.Transactions.{is_done_without_memory}
 use Rattle.mm_query.specs.declared.command.Command.{Command}
-use Rattle.mm_query.specs.declared.command.Command.TheVariants.{Nothing, Define, Change, Scan, ScanIndex, Select, Explain, Show, Tables, Begin, Commit, Rollback, Savepoint, RollbackTo}
+use Rattle.mm_query.specs.declared.command.Command.TheVariants.{Nothing, Define, Change, Scan, ScanIndex, Select, Explain, Show, Tables, Begin, Commit}
+use Rattle.mm_query.specs.declared.command.Command.TheVariants.{Rollback, Savepoint, RollbackTo}
 use Rattle.mm_lang.specs.declared.keyword.Keyword.{Keyword}
 use Rattle.mm_lang.specs.declared.keyword.Keyword.TheVariants as keyword
 use Rattle.mm_lang.specs.declared.reader.Reader.{Reader}
 use Rattle.mm_lang.specs.Grammar.{command_behind, command_of}
 use Rattle.mm_lang.specs.Phrases.{Phrase, ◌>>=◌, one_word, alone}
-use Rattle.mm_lang.specs.Reading.{Reads, command_takes_memory, first_fault, is_nothing, literal_fault, literals_of, past_limit, read_as, reading, reading_takes_memory, takes_memory, unless}
+use Rattle.mm_lang.specs.Reading.{Reads, command_takes_memory, first_fault, is_nothing, literal_fault, literals_of, past_limit, read_as, reading}
+use Rattle.mm_lang.specs.Reading.{reading_takes_memory, takes_memory, unless}
 use Rattle.mm_lang.specs.Spelling.{word}
 use Rattle.mm_lang.specs.Tokens.{Token, Word, tokens}
 use Rattle.mm_lang.specs.Words.{keyword_named}

@@ -1,10 +1,12 @@
 -- A phrase that is exact for a spelling reads just what is spelled so; and so do lists and parentheses of it.
-use Rattle.std.proofs.Common.{◌≡◌, ◌<◌, ⊎_elim, ℕ, Bool, true, false, zero, suc, List, [], ◌∷◌, ◌++◌, Option, Some, None, length, refl, sym, ap, ◌∙◌, subst, arith, append_assoc, length-append}
+use Rattle.std.proofs.Common.{◌≡◌, ◌<◌, ⊎_elim, ℕ, Bool, true, false, zero, suc, List, [], ◌∷◌, ◌++◌, Option, Some, None, length, refl, sym, ap, ◌∙◌, subst}
+use Rattle.std.proofs.Common.{arith, append_assoc, length-append}
 use Rattle.std.specs.Option.{option_map, option_and_then, option_or}
 use Rattle.std.proofs.lemmas.Option.{none-some}
 use Rattle.mm_lang.specs.declared.keyword.Keyword.{Keyword}
 use Rattle.mm_lang.specs.declared.token.Symbol.TheVariants.{Open, Close}
-use Rattle.mm_lang.specs.Phrases.{Phrase, ◌>>=◌, say, one, the_symbol, the_keyword, has_keyword, behind_item, at_most, list_of, clause_behind, clause, in_parentheses}
+use Rattle.mm_lang.specs.Phrases.{Phrase, ◌>>=◌, say, one, the_symbol, the_keyword, has_keyword, behind_item, at_most, list_of, clause_behind, clause}
+use Rattle.mm_lang.specs.Phrases.{in_parentheses}
 use Rattle.mm_lang.specs.Spelling.{word, SpellsOne, SpellsList, SpellsClause, SpellsInParentheses}
 use Rattle.mm_lang.specs.Tokens.{Token, Mark}
 use Rattle.mm_lang.specs.steps.Parts.{Front, said_same, then_parts, one_parts, in_parentheses_parts}

@@ -1,5 +1,6 @@
 -- The first token of some bytes, by what stands in front.
-use Rattle.std.proofs.Common.{⊎_elim, ◌≡◌, ◌≢◌, ◌<◌, ◌≤◌, ℕ, suc, ◌+◌, ◌-◌, true, false, eqb, List, [], ◌∷◌, length, get_or, take, drop, Bor, refl, sym, ap, ◌∙◌, arith, length-drop, one-add}
+use Rattle.std.proofs.Common.{⊎_elim, ◌≡◌, ◌≢◌, ◌<◌, ◌≤◌, ℕ, suc, ◌+◌, ◌-◌, true, false, eqb, List, [], ◌∷◌, length, get_or, take, drop, Bor, refl, sym, ap}
+use Rattle.std.proofs.Common.{◌∙◌, arith, length-drop, one-add}
 use Rattle.std.specs.List.{prefix_len}
 use Rattle.std.proofs.lemmas.Bool.{cases_Bool, cond-false, ne_eqb}
 use Rattle.std.proofs.lemmas.List.{take_rest}
@@ -8,7 +9,8 @@ use Rattle.mm_lang.specs.declared.token.Symbol.{Symbol}
 use Rattle.mm_lang.specs.declared.token.Symbol.TheVariants.{Minus}
 use Rattle.mm_lang.specs.declared.token.Token.{Token as Shown}
 use Rattle.mm_lang.specs.declared.token.Token.TheVariants as shown
-use Rattle.mm_lang.specs.Tokens.{Token, Word, Signed, Mark, Unreadable, Inside, tokens, lexed, is_word_byte, begins_word, begins_equal, onto_minus, onto_equal, onto_symbol}
+use Rattle.mm_lang.specs.Tokens.{Token, Word, Signed, Mark, Unreadable, Inside, tokens, lexed, is_word_byte, begins_word, begins_equal, onto_minus}
+use Rattle.mm_lang.specs.Tokens.{onto_equal, onto_symbol}
 use Rattle.mm_lang.specs.steps.Splitting.{Splits, begins_blank}
 use Rattle.mm_lang.proofs.Lexing.{tokens_none, tokens_quote, tokens_word, tokens_symbol, tokens_equal, run_yes, run_no}
 

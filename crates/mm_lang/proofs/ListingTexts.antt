@@ -1,5 +1,6 @@
 -- The text of what is listed of a catalog in the parts in which it is written.
-use Rattle.std.proofs.Common.{◌≡◌, ◌≢◌, ◌<◌, ◌≤◌, ℕ, ◌+◌, List, [], ◌∷◌, ◌++◌, Option, Result, codes, decimal, length, get_or, take, drop, sym, ap, subst, ◌∙◌, append-nil, append_assoc, take-append-drop, arith}
+use Rattle.std.proofs.Common.{◌≡◌, ◌≢◌, ◌<◌, ◌≤◌, ℕ, ◌+◌, List, [], ◌∷◌, ◌++◌, Option, Result, codes, decimal, length, get_or, take, drop, sym, ap, subst}
+use Rattle.std.proofs.Common.{◌∙◌, append-nil, append_assoc, take-append-drop, arith}
 use Rattle.std.specs.List.{flat_map}
 use Rattle.std.proofs.lemmas.List.{drop_more, take_all}
 use Rattle.std.proofs.lemmas.List.Concat.{flat_map-append}

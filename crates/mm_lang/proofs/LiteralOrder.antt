@@ -29,8 +29,11 @@ use Rattle.mm_lang.specs.declared.keyword.Keyword.{Keyword}
 use Rattle.mm_lang.specs.declared.keyword.Keyword.TheVariants as keyword
 use Rattle.mm_lang.specs.declared.token.Symbol.TheVariants.{Open, Close, Comma, Dot, Equal}
 use Rattle.mm_lang.specs.Grammar.{command_of}
-use Rattle.mm_lang.specs.Reading.{assignment_literals, first_fault, literals_among, literals_of, operand_literals, past_limit, position_literals, query_literals, test_literals}
-use Rattle.mm_lang.specs.Spelling.{word, type_word, kind_word, comparison_symbol, SpellsLiteral, SpellsOne, SpellsList, SpellsClause, SpellsInParentheses, SpellsTuple, SpellsOnDelete, SpellsRole, SpellsColumn, SpellsShift, SpellsName, SpellsField, SpellsOperandOn, SpellsTestOn, SpellsAssignment, SpellsTestsOn, SpellsFromItem, SpellsDistinct, SpellsPosition, SpellsOrder, SpellsQuery, SpellsCommand}
+use Rattle.mm_lang.specs.Reading.{assignment_literals, first_fault, literals_among, literals_of, operand_literals, past_limit, position_literals}
+use Rattle.mm_lang.specs.Reading.{query_literals, test_literals}
+use Rattle.mm_lang.specs.Spelling.{word, type_word, kind_word, comparison_symbol, SpellsLiteral, SpellsOne, SpellsList, SpellsClause, SpellsInParentheses}
+use Rattle.mm_lang.specs.Spelling.{SpellsTuple, SpellsOnDelete, SpellsRole, SpellsColumn, SpellsShift, SpellsName, SpellsField, SpellsOperandOn, SpellsTestOn}
+use Rattle.mm_lang.specs.Spelling.{SpellsAssignment, SpellsTestsOn, SpellsFromItem, SpellsDistinct, SpellsPosition, SpellsOrder, SpellsQuery, SpellsCommand}
 use Rattle.mm_lang.specs.Tokens.{Token, Word, Signed, Quoted, Mark}
 use Rattle.mm_lang.specs.steps.Parsing.{no_literals, only_literal}
 use Rattle.mm_lang.proofs.SpelledWords.{literal_spelled, name_no_literal}

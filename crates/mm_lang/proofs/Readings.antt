@@ -1,5 +1,6 @@
 -- Phrases put together, read one after the other.
-use Rattle.std.proofs.Common.{◌≡◌, ◌≤◌, inl, inr, ℕ, Bool, true, false, List, [], ◌∷◌, ◌++◌, Option, Some, None, Result, Ok, Err, length, refl, subst, sym, ap, ◌∙◌, arith}
+use Rattle.std.proofs.Common.{◌≡◌, ◌≤◌, inl, inr, ℕ, Bool, true, false, List, [], ◌∷◌, ◌++◌, Option, Some, None, Result, Ok, Err, length, refl, subst, sym}
+use Rattle.std.proofs.Common.{ap, ◌∙◌, arith}
 use Rattle.std.specs.List.{flat_map}
 use Rattle.std.specs.Option.{option_map, option_and_then, option_or, ok_or}
 use Rattle.mm_schema.specs.declared.column.Column.{Column}
@@ -219,7 +220,8 @@ module _ (old mid new : Reader) (key : Skips (the_keyword keyword.Key) old mid f
   -- .. nothing, ..
   pub role_plain : Skips (the_keyword keyword.Ref) mid new false → Took role old new Plain
   role_plain h =
-      took_then role_behind (keyword_stands keyword.Key old mid false key) (took_then reference (keyword_stands keyword.Ref mid new false h) (took_say Plain new))
+      took_then role_behind (keyword_stands keyword.Key old mid false key)
+      (took_then reference (keyword_stands keyword.Ref mid new false h) (took_say Plain new))
 
   -- .. or REF and what stands behind it.
   pub role_reference : (behind : Reader) (r : Result Role Refusal) → Skips (the_keyword keyword.Ref) mid behind true

@@ -27,7 +27,8 @@ use Rattle.mm_lang.specs.Tokens.{tokens}
 use Rattle.mm_lang.specs.steps.Parsing.{Fails, Gives, ReadsPhrase, Skips, no_literals}
 use Rattle.mm_lang.specs.steps.Parts.{Front}
 use Rattle.mm_lang.proofs.Operands.{not_within}
-use Rattle.mm_lang.proofs.Readings.{or_none, took, took_list, took_then, took_say, gives, word_says, fails_first, fails_next, reads_behind, given_both, given_made, keyword_stands}
+use Rattle.mm_lang.proofs.Readings.{or_none, took, took_list, took_then, took_say, gives, word_says, fails_first, fails_next, reads_behind, given_both}
+use Rattle.mm_lang.proofs.Readings.{given_made, keyword_stands}
 
 -- ---- fields
 
@@ -160,7 +161,8 @@ module _ (old mid new : Reader) (r : Result Query Refusal) (distinct : Bool) whe
       → ReadsPhrase query query_literals old new r
   unfolding query after_distinct after_fields after_from after_tables after_tests
   query_distinct skips h =
-      reads_behind (has_keyword keyword.Distinct) after_distinct query_literals old mid new distinct r (keyword_stands keyword.Distinct old mid distinct skips) h
+      reads_behind (has_keyword keyword.Distinct) after_distinct query_literals old mid new distinct r
+      (keyword_stands keyword.Distinct old mid distinct skips) h
 
   module _ (fields : List FieldName) where
     pub query_fields : Gives (comma_list field) (flat_map no_literals) old mid fields → ReadsPhrase (after_fields distinct fields) query_literals mid new r

@@ -1,5 +1,6 @@
 -- The line of a row in the parts in which it is put together.
-use Rattle.std.proofs.Common.{◌≡◌, ◌<◌, ◌≤◌, ℕ, ◌+◌, List, [], ◌∷◌, ◌++◌, Option, Some, None, false, true, length, map, get_or, take, refl, sym, ap, append_assoc, append-nil, ◌∙◌}
+use Rattle.std.proofs.Common.{◌≡◌, ◌<◌, ◌≤◌, ℕ, ◌+◌, List, [], ◌∷◌, ◌++◌, Option, Some, None, false, true, length, map, get_or, take, refl, sym, ap}
+use Rattle.std.proofs.Common.{append_assoc, append-nil, ◌∙◌}
 use Rattle.std.specs.List.{flat_map}
 use Rattle.std.specs.Option.{OnSome, is_some}
 use Rattle.bstr.specs.Find.{IsFirstByte, is_byte}

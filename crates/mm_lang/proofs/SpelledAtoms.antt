@@ -1,5 +1,6 @@
 -- Shifts, operands, tests and assignments: what is read is spelled so, and what is spelled is read.
-use Rattle.std.proofs.Common.{◌≡◌, ◌⊎◌, inl, inr, ⊎_elim, ℕ, Bool, true, false, cond, List, [], ◌∷◌, ◌++◌, Option, Some, None, refl, sym, ap, subst, ◌∙◌, append-nil, append_assoc}
+use Rattle.std.proofs.Common.{◌≡◌, ◌⊎◌, inl, inr, ⊎_elim, ℕ, Bool, true, false, cond, List, [], ◌∷◌, ◌++◌, Option, Some, None, refl, sym, ap, subst, ◌∙◌}
+use Rattle.std.proofs.Common.{append-nil, append_assoc}
 use Rattle.std.specs.Prelude.{ℤ}
 use Rattle.std.specs.Option.{option_map, option_and_then, option_or}
 use Rattle.std.proofs.lemmas.Option.{none-some, same_Some}
@@ -21,9 +22,11 @@ use Rattle.mm_lang.specs.declared.keyword.Keyword.TheVariants as keyword
 use Rattle.mm_lang.specs.declared.phrase.Separator.TheVariants.{And}
 use Rattle.mm_lang.specs.declared.token.Symbol.{Symbol}
 use Rattle.mm_lang.specs.declared.token.Symbol.TheVariants as symbol
-use Rattle.mm_lang.specs.Grammar.{literal_of, name, comparison, comparison_of, comma_list, numbered, digits, shift, with_shift, operand_behind, operand_on, test_on, assignment, field, tests_on, update, delete}
+use Rattle.mm_lang.specs.Grammar.{literal_of, name, comparison, comparison_of, comma_list, numbered, digits, shift, with_shift, operand_behind, operand_on}
+use Rattle.mm_lang.specs.Grammar.{test_on, assignment, field, tests_on, update, delete}
 use Rattle.mm_lang.specs.Phrases.{Phrase, ◌>>=◌, ◌>>◌, say, one, word_of, mark_of, the_symbol, the_keyword, the_separator, maybe, list_of}
-use Rattle.mm_lang.specs.Spelling.{word, comparison_symbol, SpellsAssignment, SpellsCommand, SpellsField, SpellsList, SpellsName, SpellsOperandOn, SpellsShift, SpellsTestOn, SpellsTestsOn}
+use Rattle.mm_lang.specs.Spelling.{word, comparison_symbol, SpellsAssignment, SpellsCommand, SpellsField, SpellsList, SpellsName, SpellsOperandOn}
+use Rattle.mm_lang.specs.Spelling.{SpellsShift, SpellsTestOn, SpellsTestsOn}
 use Rattle.mm_lang.specs.Tokens.{Token, Word, Signed, Mark}
 use Rattle.mm_lang.specs.steps.Parts.{Front, said_same, tested, then_parts, one_parts, optional_parts}
 use Rattle.mm_lang.proofs.Exactness.{Always, IsExact, IsToken, list_exact, clause_exact}

@@ -1,5 +1,6 @@
 -- Commands: what is read is spelled so, and what is spelled is read.
-use Rattle.std.proofs.Common.{◌≡◌, ◌⊎◌, inl, inr, ⊎_elim, ℕ, Bool, true, false, eqb, List, [], ◌∷◌, ◌++◌, Option, Some, None, refl, sym, ap, subst, ◌∙◌, append-nil}
+use Rattle.std.proofs.Common.{◌≡◌, ◌⊎◌, inl, inr, ⊎_elim, ℕ, Bool, true, false, eqb, List, [], ◌∷◌, ◌++◌, Option, Some, None, refl, sym, ap, subst, ◌∙◌}
+use Rattle.std.proofs.Common.{append-nil}
 use Rattle.std.specs.Option.{option_and_then, option_or}
 use Rattle.std.proofs.lemmas.Bool.{cond-true, eqb-true, eq-eqb, false≢true}
 use Rattle.std.proofs.lemmas.Option.{none-some, same_Some}
@@ -22,13 +23,17 @@ use Rattle.mm_query.specs.declared.command.Mutation.TheVariants as change
 use Rattle.mm_lang.specs.declared.keyword.Keyword.{Keyword}
 use Rattle.mm_lang.specs.declared.keyword.Keyword.TheVariants as keyword
 use Rattle.mm_lang.specs.declared.token.Symbol.TheVariants.{Open, Close, Comma}
-use Rattle.mm_lang.specs.Grammar.{literal_of, name, type_named, col_type, on_delete_of, reference_to, reference, role_behind, role, column, kind_named, index_kind, tuple, comma_list, table, drop, dropped, index, insert, rollback, rolled_back, savepoint, scan, scan_of, show, unwatch, command_behind, command_of}
+use Rattle.mm_lang.specs.Grammar.{literal_of, name, type_named, col_type, on_delete_of, reference_to, reference, role_behind, role, column, kind_named}
+use Rattle.mm_lang.specs.Grammar.{index_kind, tuple, comma_list, table, drop, dropped, index, insert, rollback, rolled_back, savepoint, scan, scan_of, show}
+use Rattle.mm_lang.specs.Grammar.{unwatch, command_behind, command_of}
 use Rattle.mm_lang.specs.Phrases.{Phrase, ◌>>=◌, ◌>>◌, say, one, one_word, the_symbol, the_keyword, has_keyword, only_if, in_parentheses, alone}
-use Rattle.mm_lang.specs.Spelling.{word, type_word, kind_word, SpellsLiteral, SpellsOne, SpellsList, SpellsInParentheses, SpellsTuple, SpellsOnDelete, SpellsRole, SpellsColumn, SpellsCommand}
+use Rattle.mm_lang.specs.Spelling.{word, type_word, kind_word, SpellsLiteral, SpellsOne, SpellsList, SpellsInParentheses, SpellsTuple, SpellsOnDelete}
+use Rattle.mm_lang.specs.Spelling.{SpellsRole, SpellsColumn, SpellsCommand}
 use Rattle.mm_lang.specs.Tokens.{Token, Word, Mark}
 use Rattle.mm_lang.specs.Words.{keyword_named}
 use Rattle.mm_lang.specs.steps.Parts.{Front, said_same, tested, chained, then_parts, word_parts, in_parentheses_parts}
-use Rattle.mm_lang.proofs.SpelledWords.{symbol_read, keyword_read, named_read, has_keyword_read, name_no_keyword, name_read, name_spelled, literal_read, literal_spelled}
+use Rattle.mm_lang.proofs.SpelledWords.{symbol_read, keyword_read, named_read, has_keyword_read, name_no_keyword, name_read, name_spelled, literal_read}
+use Rattle.mm_lang.proofs.SpelledWords.{literal_spelled}
 use Rattle.mm_lang.proofs.SpelledAtoms.{comma, delete_read, delete_spelled, update_read, update_spelled}
 use Rattle.mm_lang.proofs.SpelledSelect.{select_read, select_spelled, explain_read, explain_spelled, watch_read, watch_spelled}
 use Rattle.mm_lang.proofs.Exactness.{IsExact, Always, one_exact, list_exact, parentheses_exact}

@@ -1,5 +1,6 @@
 -- Queries, SELECT, EXPLAIN and WATCH: what is read is spelled so, and what is spelled is read.
-use Rattle.std.proofs.Common.{◌≡◌, ⊎_elim, ℕ, Bool, true, false, cond, List, [], ◌∷◌, ◌++◌, Option, Some, None, refl, sym, ap, subst, ◌∙◌, append-nil, append_assoc}
+use Rattle.std.proofs.Common.{◌≡◌, ⊎_elim, ℕ, Bool, true, false, cond, List, [], ◌∷◌, ◌++◌, Option, Some, None, refl, sym, ap, subst, ◌∙◌, append-nil}
+use Rattle.std.proofs.Common.{append_assoc}
 use Rattle.std.specs.Option.{option_and_then, option_or}
 use Rattle.std.specs.Str.Parse.{digits_value}
 use Rattle.std.proofs.lemmas.Option.{none-some, same_Some}
@@ -16,7 +17,8 @@ use Rattle.mm_lang.specs.declared.keyword.Keyword.TheVariants as keyword
 use Rattle.mm_lang.specs.declared.token.Symbol.TheVariants as symbol
 use Rattle.mm_lang.specs.Grammar.{name, comma_list, field, from_item, position, explain, order, query, select, shift, tests_on, watch}
 use Rattle.mm_lang.specs.Phrases.{Phrase, ◌>>=◌, ◌>>◌, say, word_of, the_symbol, the_keyword, has_keyword}
-use Rattle.mm_lang.specs.Spelling.{word, SpellsCommand, SpellsDistinct, SpellsField, SpellsFromItem, SpellsList, SpellsOne, SpellsOrder, SpellsPosition, SpellsQuery, SpellsTestsOn}
+use Rattle.mm_lang.specs.Spelling.{word, SpellsCommand, SpellsDistinct, SpellsField, SpellsFromItem, SpellsList, SpellsOne, SpellsOrder, SpellsPosition}
+use Rattle.mm_lang.specs.Spelling.{SpellsQuery, SpellsTestsOn}
 use Rattle.mm_lang.specs.Tokens.{Token, Word, Mark}
 use Rattle.mm_lang.specs.steps.Parts.{Front, said_same, tested, then_parts}
 use Rattle.mm_lang.proofs.Exactness.{Always, IsExact, one_exact, list_exact, clause_exact}

@@ -1,5 +1,6 @@
 -- A text from its opening to its closing quote.
-use Rattle.std.proofs.Common.{◌≡◌, ◌≢◌, ◌<◌, ◌≤◌, ℕ, ◌+◌, cond, List, [], ◌∷◌, ◌++◌, length, get_or, take, drop, Bor, refl, sym, ap, ◌∙◌, arith, length-drop, length-take, append-nil}
+use Rattle.std.proofs.Common.{◌≡◌, ◌≢◌, ◌<◌, ◌≤◌, ℕ, ◌+◌, cond, List, [], ◌∷◌, ◌++◌, length, get_or, take, drop, Bor, refl, sym, ap, ◌∙◌, arith, length-drop}
+use Rattle.std.proofs.Common.{length-take, append-nil}
 use Rattle.std.specs.Prelude.{All}
 use Rattle.std.proofs.lemmas.Bool.{ne_eqb}
 use Rattle.std.proofs.lemmas.List.{drop-drop}
@@ -10,7 +11,8 @@ use Rattle.mm_value.specs.Literal.{doubled}
 use Rattle.mm_lang.specs.declared.token.Token.TheVariants as shown
 use Rattle.mm_lang.specs.Tokens.{Quoted, Unreadable, Inside, tokens, lexed}
 use Rattle.mm_lang.specs.steps.Splitting.{Splits, StandsForByte, EndsText}
-use Rattle.mm_lang.proofs.Lexing.{tokens_none, onto_texts, onto_texts_none, onto_texts_push, onto_texts_quoted, onto_texts_unreadable, text_none, text_line_feed, text_quotes, text_end, text_byte}
+use Rattle.mm_lang.proofs.Lexing.{tokens_none, onto_texts, onto_texts_none, onto_texts_push, onto_texts_quoted, onto_texts_unreadable, text_none}
+use Rattle.mm_lang.proofs.Lexing.{text_line_feed, text_quotes, text_end, text_byte}
 
 pub piece_quotes : (rest : List ℕ) → 2 ≤ length rest → get_or rest 0 0 ≡ 39 → get_or rest 1 0 ≡ 39 → StandsForByte rest 2
 piece_quotes [] some first second = absurd (omega arith)

@@ -3,7 +3,9 @@ use Rattle.std.specs.Prelude.{ℕ, Bool, List, Option, codes, nat_eq}
 use Rattle.std.specs.List.{find}
 use lib.Pointwise.{pointwise}
 use Rattle.mm_lang.specs.declared.keyword.Keyword.{Keyword}
-use Rattle.mm_lang.specs.declared.keyword.Keyword.TheVariants.{And, Begin, Cascade, Commit, Delete, Distinct, Drop, Explain, From, Hash, Index, Insert, Int, Key, On, Order, Ref, Rollback, Savepoint, Scan, Select, Set, Show, Table, Tables, Text, To, Tree, Unwatch, Update, Watch, Where}
+use Rattle.mm_lang.specs.declared.keyword.Keyword.TheVariants.{And, Begin, Cascade, Commit, Delete, Distinct, Drop, Explain, From, Hash, Index, Insert, Int}
+use Rattle.mm_lang.specs.declared.keyword.Keyword.TheVariants.{Key, On, Order, Ref, Rollback, Savepoint, Scan, Select, Set, Show, Table, Tables, Text, To}
+use Rattle.mm_lang.specs.declared.keyword.Keyword.TheVariants.{Tree, Unwatch, Update, Watch, Where}
 use Rattle.mm_lang.specs.declared.token.Symbol.{Symbol}
 use Rattle.mm_lang.specs.declared.token.Symbol.TheVariants.{Open, Close, Comma, Dot, Equal, Less, AtMost, Greater, AtLeast, Plus, Minus}
 use Rattle.mm_lang.specs.declared.keyword.TheConstants.{KEYWORDS}

@@ -8,8 +8,8 @@ ghost use Rattle.mm_lang.specs.steps.Splitting.{Shows};
 ghost use Rattle.mm_lang.specs.Reading.{checked, literal_fault, position_literals};
 ghost use Rattle.mm_lang.specs.Tokens.{Token as Tok};
 
-use crate::lookahead::Lookahead;
 use crate::keyword::Keyword;
+use crate::lookahead::Lookahead;
 use crate::phrase::Separator;
 use crate::token::{Symbol, Token};
 use mm_query::Comparison;

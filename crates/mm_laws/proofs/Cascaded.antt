@@ -49,13 +49,15 @@ module _ (P : List ℕ → Row → Bool) where
     | inl own ↦
         let to : e.table ≡ name = same_bytes e.table name own in
         subst (λ (b : Bool). AllByRecursion (λ (p : Pair). HoldsOf (P name) p.0)
-        (flat_map (λ (x : TableEdits). x.pairs) (cond b (e ∷ filter (λ (x : TableEdits). same_name x.table name) es) (filter (λ (x : TableEdits). same_name x.table name) es))))
+        (flat_map (λ (x : TableEdits). x.pairs) (cond b (e ∷ filter (λ (x : TableEdits). same_name x.table name) es)
+        (filter (λ (x : TableEdits). same_name x.table name) es))))
         (sym own)
         (AllByRecursion-append (λ (p : Pair). HoldsOf (P name) p.0) e.pairs (pairs_of name es)
         (subst (λ n. AllByRecursion (λ (p : Pair). HoldsOf (P n) p.0) e.pairs) to each.0) (each_pair name es each.1))
     | inr other ↦
         subst (λ (b : Bool). AllByRecursion (λ (p : Pair). HoldsOf (P name) p.0)
-        (flat_map (λ (x : TableEdits). x.pairs) (cond b (e ∷ filter (λ (x : TableEdits). same_name x.table name) es) (filter (λ (x : TableEdits). same_name x.table name) es))))
+        (flat_map (λ (x : TableEdits). x.pairs) (cond b (e ∷ filter (λ (x : TableEdits). same_name x.table name) es)
+        (filter (λ (x : TableEdits). same_name x.table name) es))))
         (sym other) (each_pair name es each.1)
   ]
 
@@ -72,7 +74,8 @@ module _ (P : List ℕ → Row → Bool) where
         → is_cascaded schema es table.definition.columns row ≡ true
         → P table.definition.name row ≡ true
     cascaded_holds table es each row goes =
-        let column = some_among (λ (r : ℕ × List ℕ). list_any (refers r.0 (key_named r.1 schema) row) (old_rows r.1 es)) (cascading_of table.definition.columns) goes in
+        let column = some_among (λ (r : ℕ × List ℕ). list_any (refers r.0 (key_named r.1 schema) row) (old_rows r.1 es))
+        (cascading_of table.definition.columns) goes in
         let target = some_among (refers column.0.0 (key_named column.0.1 schema) row) (old_rows column.0.1 es) column.2 in
         closed table row column.0 target.0 column.1 target.2 (each_old es each column.0.1 target.0 target.1)
 

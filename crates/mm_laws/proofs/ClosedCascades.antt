@@ -1,5 +1,6 @@
 -- No row that stays has in a CASCADE column the key of a row that went.
-use Rattle.std.proofs.Common.{◌≡◌, ℕ, ◌+◌, Bool, true, false, cond, ◌||◌, ◌⊎◌, List, [], ◌∷◌, ◌++◌, Option, Some, None, inl, inr, filter, map, refl, sym, ap, subst, ◌∙◌, append_assoc}
+use Rattle.std.proofs.Common.{◌≡◌, ℕ, ◌+◌, Bool, true, false, cond, ◌||◌, ◌⊎◌, List, [], ◌∷◌, ◌++◌, Option, Some, None, inl, inr, filter, map, refl, sym, ap}
+use Rattle.std.proofs.Common.{subst, ◌∙◌, append_assoc}
 use Rattle.std.specs.List.{AllByRecursion, IsDistinct, filter_map, flat_map, list_any}
 use Rattle.std.specs.Option.{option_map_or}
 use Rattle.std.specs.Prelude.{find}
@@ -37,8 +38,10 @@ pairs_of-append name [] ys = refl
 pairs_of-append name (e ∷ xs) ys = by (same_name e.table name) (pairs_of-append name xs ys)
   where
     by : (b : Bool) → pairs_of name (xs ++ ys) ≡ pairs_of name xs ++ pairs_of name ys
-        → flat_map (λ (x : TableEdits). x.pairs) (cond b (e ∷ filter (λ (x : TableEdits). same_name x.table name) (xs ++ ys)) (filter (λ (x : TableEdits). same_name x.table name) (xs ++ ys)))
-        ≡ flat_map (λ (x : TableEdits). x.pairs) (cond b (e ∷ filter (λ (x : TableEdits). same_name x.table name) xs) (filter (λ (x : TableEdits). same_name x.table name) xs)) ++ pairs_of name ys
+        → flat_map (λ (x : TableEdits). x.pairs) (cond b (e ∷ filter (λ (x : TableEdits). same_name x.table name) (xs ++ ys))
+        (filter (λ (x : TableEdits). same_name x.table name) (xs ++ ys)))
+        ≡ flat_map (λ (x : TableEdits). x.pairs) (cond b (e ∷ filter (λ (x : TableEdits). same_name x.table name) xs)
+        (filter (λ (x : TableEdits). same_name x.table name) xs)) ++ pairs_of name ys
     by true later = ap (λ ps. e.pairs ++ ps) later ∙ sym (append_assoc e.pairs (pairs_of name xs) (pairs_of name ys))
     by false later = later
 
@@ -75,7 +78,8 @@ module _ (schema : Schema) where
 
   -- What is cascaded depends on what goes of the tables that are referred to alone.
   cascaded_kept : (columns : List Column) (row : Row) (es fs : List TableEdits)
-      → ((r : ℕ × List ℕ) → IsIn r (cascading_of columns) → old_rows r.1 es ≡ old_rows r.1 fs) → is_cascaded schema es columns row ≡ is_cascaded schema fs columns row
+      → ((r : ℕ × List ℕ) → IsIn r (cascading_of columns) → old_rows r.1 es ≡ old_rows r.1 fs) → is_cascaded schema es columns row
+      ≡ is_cascaded schema fs columns row
   cascaded_kept columns row es fs same = by (cascading_of columns) same
     where
       by : (rs : List (ℕ × List ℕ)) → ((r : ℕ × List ℕ) → IsIn r rs → old_rows r.1 es ≡ old_rows r.1 fs)
@@ -134,11 +138,13 @@ module _ (ts : List Table) (name : List ℕ) where
       elim (cases_Bool (lacks e.table ts)) [
         | inl none ↦ subst (IsIn row) (no_rows_lacking e.table ts (changed_instance ts (e ∷ []) rows) none) now
         | inr there ↦
-            elim (no_other_row (option_map_or (λ (t : Table). key_place t.definition.columns) (find (has e.table) ts) 0) e.pairs (rows_named e.table ts rows) row
+            elim (no_other_row (option_map_or (λ (t : Table). key_place t.definition.columns) (find (has e.table) ts) 0) e.pairs (rows_named e.table ts rows)
+            row
             (Contains-from_IsIn _ row (subst (IsIn row) (rows_changed e.table e.pairs ts rows beside there) now))) [
               | inl come ↦
                   let none : ◌≡◌ {A = Option Row} (Some row) None =
-                  AllByRecursion-IsIn (λ (p : Pair). p.1 ≡ None) e.pairs (come.0, Some row) removals (IsIn-from_Contains {X = Pair} e.pairs (come.0, Some row) come.1) in
+                  AllByRecursion-IsIn (λ (p : Pair). p.1 ≡ None) e.pairs (come.0, Some row) removals
+                  (IsIn-from_Contains {X = Pair} e.pairs (come.0, Some row) come.1) in
                   (let b : ⊥ = cc in b)
               | inr stay ↦
                   let pair = old_pair e.pairs row old in
@@ -191,7 +197,7 @@ Closed schema gone [] rows = Unit {0}
 Closed schema gone (t ∷ ts) [] = Unit {0}
 Closed schema gone (t ∷ ts) (r ∷ rs) =
     ((row : Row) → IsIn row r → (IsIn row (old_rows (name_of t) gone) → ⊥) → is_cascaded schema gone t.definition.columns row ≡ false)
-        × Closed schema gone ts rs
+    × Closed schema gone ts rs
 
 not_true : (b : Bool) → (b ≡ true → ⊥) → b ≡ false
 not_true true none = absurd (none refl)
@@ -244,8 +250,10 @@ module _ (schema : Schema) where
           ∙ ap (filter_map (λ (p : Pair). p.0)) (pairs_of-also_own (name_of t) es cascaded))))
           (in_behind (pairs_of (name_of t) es) cascaded row (passes (is_cascaded schema es t.definition.columns) r row here goes))
 
-  at_table : (gone : List TableEdits) (ts : List Table) (rows : Instance) → IsDistinct same_name (map name_of ts) → Closed schema gone ts rows → (t : Table) → IsIn t ts
-      → (row : Row) → IsIn row (rows_named (name_of t) ts rows) → (IsIn row (old_rows (name_of t) gone) → ⊥) → is_cascaded schema gone t.definition.columns row ≡ false
+  at_table : (gone : List TableEdits) (ts : List Table) (rows : Instance) → IsDistinct same_name (map name_of ts) → Closed schema gone ts rows → (t : Table)
+      → IsIn t ts
+      → (row : Row) → IsIn row (rows_named (name_of t) ts rows) → (IsIn row (old_rows (name_of t) gone) → ⊥)
+      → is_cascaded schema gone t.definition.columns row ≡ false
   at_table gone [] rows distinct closed t there row here stays = absurd there
   at_table gone (u ∷ us) [] distinct closed t there row here stays = absurd here
   at_table gone (u ∷ us) (r ∷ rs) distinct closed t (inl same) row here stays =
@@ -268,7 +276,8 @@ module _ (schema : Schema) where
   pub none_is_cascaded : (rows : Instance) (es : List TableEdits) → EachRemoves es → AreBeside schema.tables rows → RefersBack [] schema.tables
       → IsDistinct same_name (map name_of schema.tables) → (t : Table) → IsIn t schema.tables
       → let gone = with_cascades schema schema.tables rows es in
-      (row : Row) → IsIn row (rows_named (name_of t) schema.tables (after_edits schema.tables gone rows)) → is_cascaded schema gone t.definition.columns row ≡ false
+      (row : Row) → IsIn row (rows_named (name_of t) schema.tables (after_edits schema.tables gone rows)) → is_cascaded schema gone t.definition.columns row
+      ≡ false
   none_is_cascaded rows es each beside back distinct t there row here =
       let gone : List TableEdits = with_cascades schema schema.tables rows es in
       let removes : EachRemoves gone = cascades_remove schema schema.tables rows es each in

@@ -1,5 +1,6 @@
 -- Which commands the laws of transactions speak of, and what those of transactions do and are refused.
-use Rattle.std.proofs.Common.{◌≡◌, ◌≢◌, ◌⊎◌, ◌<◌, ◌||◌, ℕ, Bool, true, false, cond, not, List, [], ◌∷◌, Option, Some, None, inl, inr, is_some, length, nat_lt, refl, sym, ap, ◌∙◌, arith}
+use Rattle.std.proofs.Common.{◌≡◌, ◌≢◌, ◌⊎◌, ◌<◌, ◌||◌, ℕ, Bool, true, false, cond, not, List, [], ◌∷◌, Option, Some, None, inl, inr, is_some, length, nat_lt}
+use Rattle.std.proofs.Common.{refl, sym, ap, ◌∙◌, arith}
 use Rattle.std.specs.List.{Contains, list_any}
 use Rattle.std.specs.Option.{option_map, option_map_or}
 use Rattle.std.proofs.lemmas.Bool.{cases_Bool, false≢true}
@@ -15,7 +16,8 @@ use Rattle.mm_query.specs.Machine.{back_to, conditions, is_of_index, lacks_savep
 use Rattle.mm_query.specs.State.{Saved, Savepoint, State, has_transaction, savepoints_of}
 use Rattle.mm_query.specs.Transactions.{is_done_without_memory, is_transaction_control, leaves_savepoint}
 use Rattle.mm_query.specs.declared.command.Command.{Command}
-use Rattle.mm_query.specs.declared.command.Command.TheVariants.{Nothing, Define, Change, Scan, ScanIndex, Select, Explain, Show, Tables, Begin, Commit, Rollback, Savepoint as SetSavepoint, RollbackTo}
+use Rattle.mm_query.specs.declared.command.Command.TheVariants.{Nothing, Define, Change, Scan, ScanIndex, Select, Explain, Show, Tables, Begin, Commit}
+use Rattle.mm_query.specs.declared.command.Command.TheVariants.{Rollback, Savepoint as SetSavepoint, RollbackTo}
 use Rattle.mm_query.specs.declared.command.Definition.{Definition}
 use Rattle.mm_query.specs.declared.command.Definition.TheVariants as define
 use Rattle.mm_laws.proofs.Throughout.{kept_by_step, saved_by_definition}
@@ -167,7 +169,8 @@ open_there (Some saved) savepoint here = refl
 pub may_go_back : (name : List ℕ) (rows : Instance) (state : State) → Contains (savepoints_of state) (record { name = name; rows = rows })
     → first_refusal (conditions (RollbackTo name) state) ≡ None
 may_go_back name rows state among =
-    let here : IsIn (record { name = name; rows = rows }) (savepoints_of state) = IsIn-from_Contains (savepoints_of state) (record { name = name; rows = rows }) among in
+    let here : IsIn (record { name = name; rows = rows }) (savepoints_of state) = IsIn-from_Contains (savepoints_of state)
+    (record { name = name; rows = rows }) among in
     ap (λ b. cond (not b) (Some NoTransaction) (cond (lacks_savepoint name state) (Some NoSuchSavepoint) None))
     (open_there state.saved (record { name = name; rows = rows }) here)
     ∙ ap (λ b. cond (not b) (Some NoSuchSavepoint) None) (named_there name rows (savepoints_of state) here)

@@ -1,5 +1,6 @@
 -- In every state that commands lead to, each value of a foreign key is the key of a row of the table that it refers to.
-use Rattle.std.proofs.Common.{◌≡◌, ℕ, Bool, true, false, cond, not, ◌&&◌, List, [], ◌∷◌, ◌++◌, Option, Some, None, filter, find, map, inl, inr, refl, sym, ap, subst, ◌∙◌}
+use Rattle.std.proofs.Common.{◌≡◌, ℕ, Bool, true, false, cond, not, ◌&&◌, List, [], ◌∷◌, ◌++◌, Option, Some, None, filter, find, map, inl, inr, refl, sym, ap}
+use Rattle.std.proofs.Common.{subst, ◌∙◌}
 use Rattle.std.specs.List.{AllByRecursion, list_any}
 use Rattle.std.specs.Option.{option_map_or}
 use Rattle.std.specs.Prelude.{IfSome}
@@ -36,7 +37,8 @@ use Rattle.mm_query.proofs.FoundTargets.{none_among}
 use Rattle.mm_laws.proofs.KeyOrder.{IsKept, kept_at_first, kept_by_change, kept_by_definition, none_due_by_rows}
 use Rattle.mm_laws.proofs.NamedRows.{has, no_rows_behind, rows_behind, rows_gone, rows_kept, rows_left, table_behind, table_left, told_kept}
 use Rattle.mm_laws.proofs.Removals.{cascades_remove, removals_remove}
-use Rattle.mm_laws.proofs.StillFound.{AddsNone, AllFindTargets, adds_none, column_of, fails_of_each, found_after, found_again, no_row_lacks, references_in, same_target, target_there}
+use Rattle.mm_laws.proofs.StillFound.{AddsNone, AllFindTargets, adds_none, column_of, fails_of_each, found_after, found_again, no_row_lacks, references_in}
+use Rattle.mm_laws.proofs.StillFound.{same_target, target_there}
 use Rattle.mm_laws.proofs.Throughout.{each_held, HoldsThroughout, held_by_all}
 
 -- ---- changes of the catalog
@@ -88,7 +90,8 @@ found_without_table gone state due found name =
       | inr other ↦
           found_again state new name (ap columns_of (table_left gone name other tables)) (rows_left gone name other tables state.rows)
           (λ r column row here is.
-          let apart = not_to_dropped gone state (or_parts (list_any (is_other_referring_to gone) state.schema.tables) (list_any (reads_table gone) state.schema.standing)
+          let apart = not_to_dropped gone state (or_parts (list_any (is_other_referring_to gone) state.schema.tables)
+          (list_any (reads_table gone) state.schema.standing)
           (second_none _ _ _ _ _ due)).0 name other r column in
           same_target state new r row (ap key_of (table_left gone r.1 apart tables)) (rows_left gone r.1 apart tables state.rows) is)
           (found name)
@@ -113,8 +116,10 @@ third_none false b c r s q rest h = second_none b c s q rest h
 
 neither_refused : (key : ℕ) (rows : List Row) (lacks referred : Bool) (behind : List Condition)
     → first_refusal (table_rows_conditions key rows lacks referred ++ behind) ≡ None → (lacks ≡ false) × (referred ≡ false)
-neither_refused key rows lacks referred behind due = (second_none (has_duplicate_keys key rows) _ _ _ _ due,
-    third_none (has_duplicate_keys key rows) _ _ _ _ _ _ due)
+neither_refused key rows lacks referred behind due = (
+  second_none (has_duplicate_keys key rows) _ _ _ _ due,
+  third_none (has_duplicate_keys key rows) _ _ _ _ _ _ due,
+)
 
 -- ---- every step
 

@@ -12,7 +12,8 @@ use Rattle.mm_schema.specs.Schema.{HasDistinctNames, Schema, key_named}
 use Rattle.mm_schema.specs.declared.table.Table.{Table}
 use Rattle.mm_schema.specs.declared.table.TableDef.{TableDef}
 use Rattle.mm_schema.proofs.Dues.{none_due_behind}
-use Rattle.mm_schema.proofs.Instances.{AreInKeyOrder-changed, AreInKeyOrder-kept, AreInKeyOrder-push, AreInKeyOrder-without, IsDistinct-push, IsDistinct-without, names_kept}
+use Rattle.mm_schema.proofs.Instances.{AreInKeyOrder-changed, AreInKeyOrder-kept, AreInKeyOrder-push, AreInKeyOrder-without, IsDistinct-push}
+use Rattle.mm_schema.proofs.Instances.{IsDistinct-without, names_kept}
 use Rattle.mm_schema.proofs.References.{first_none, same_with, same_without}
 use Rattle.mm_schema.proofs.Places.{new_name_is_free}
 use Rattle.mm_schema.proofs.StrictOrder.{IsStrictlySortedBy-nil}
@@ -20,11 +21,13 @@ use Rattle.mm_schema.proofs.Duplicates.{Row, column_cmp_total}
 use Rattle.mm_value.specs.declared.refusal.Refusal.TheVariants.{DuplicateKey}
 use Rattle.mm_query.specs.Binding.{binding_conditions, tests_for}
 use Rattle.mm_query.specs.Edits.{changed_table, edits, meets, own_edits, own_pairs, value_conditions}
-use Rattle.mm_query.specs.Machine.{after_all, after_change, after_definition, after_edits, change_conditions, conditions, definition_conditions, row_conditions, some_is_referred, some_lacks_target}
+use Rattle.mm_query.specs.Machine.{after_all, after_change, after_definition, after_edits, change_conditions, conditions, definition_conditions}
+use Rattle.mm_query.specs.Machine.{row_conditions, some_is_referred, some_lacks_target}
 use Rattle.mm_query.specs.Standing.{growth_conditions}
 use Rattle.mm_query.specs.State.{AreSavedRows, State, first_state, rows_in}
 use Rattle.mm_query.specs.declared.command.Command.{Command}
-use Rattle.mm_query.specs.declared.command.Command.TheVariants.{Nothing, Define, Change, Scan, ScanIndex, Select, Explain, Show, Tables, Begin, Commit, Rollback, Savepoint as SetSavepoint, RollbackTo}
+use Rattle.mm_query.specs.declared.command.Command.TheVariants.{Nothing, Define, Change, Scan, ScanIndex, Select, Explain, Show, Tables, Begin, Commit}
+use Rattle.mm_query.specs.declared.command.Command.TheVariants.{Rollback, Savepoint as SetSavepoint, RollbackTo}
 use Rattle.mm_query.specs.declared.command.Definition.{Definition}
 use Rattle.mm_query.specs.declared.command.Definition.TheVariants as define
 use Rattle.mm_query.specs.declared.command.Mutation.{Mutation}

@@ -1,5 +1,6 @@
 -- Each column refers to an older table, in every catalog that commands lead to.
-use Rattle.std.proofs.Common.{◌≡◌, ℕ, Bool, true, false, cond, not, ◌&&◌, ◌||◌, List, [], ◌∷◌, ◌++◌, Some, None, inl, inr, filter, find, is_none, map, refl, sym, ap, subst, ◌∙◌, append_assoc}
+use Rattle.std.proofs.Common.{◌≡◌, ℕ, Bool, true, false, cond, not, ◌&&◌, ◌||◌, List, [], ◌∷◌, ◌++◌, Some, None, inl, inr, filter, find, is_none, map, refl}
+use Rattle.std.proofs.Common.{sym, ap, subst, ◌∙◌, append_assoc}
 use Rattle.std.specs.List.{AllByRecursion, list_any}
 use Rattle.std.proofs.lemmas.Bool.{false≢true, or_parts}
 use Rattle.std.proofs.lemmas.List.{append-nil}
@@ -57,7 +58,8 @@ older_with_table definition schema due back =
 
 -- ---- other indexes
 
-pub older_with_definitions : (change : Table → Table) → ((t : Table) → (change t).definition ≡ t.definition) → (names : List (List ℕ)) (ts : List Table) → RefersBack names ts
+pub older_with_definitions : (change : Table → Table) → ((t : Table) → (change t).definition ≡ t.definition) → (names : List (List ℕ)) (ts : List Table)
+    → RefersBack names ts
     → RefersBack names (map change ts)
 older_with_definitions change same names [] back = tt
 older_with_definitions change same names (t ∷ ts) back = (

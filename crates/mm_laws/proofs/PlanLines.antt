@@ -4,7 +4,8 @@ use Rattle.std.specs.List.{list_all}
 use Rattle.std.specs.Option.{IfSome, option_and_then, option_map, unwrap_or}
 use Rattle.mm_schema.specs.Schema.{Schema}
 use Rattle.mm_query.specs.Choosing.{first_given, first_there}
-use Rattle.mm_query.specs.Plans.{built_hash_line, first_line, follows_scan, follows_shorter, hash_join_line, is_join, is_precomputed, join_equalities, joined_line, joins_behind_first, line_alias, line_for, lines_behind, precomputed_line, tree_join_line, tree_merge_line}
+use Rattle.mm_query.specs.Plans.{built_hash_line, first_line, follows_scan, follows_shorter, hash_join_line, is_join, is_precomputed, join_equalities}
+use Rattle.mm_query.specs.Plans.{joined_line, joins_behind_first, line_alias, line_for, lines_behind, precomputed_line, tree_join_line, tree_merge_line}
 use Rattle.mm_query.specs.Serving.{hash_on, tree_on}
 use Rattle.mm_query.specs.declared.plan_line.JoinEquality.{JoinEquality}
 use Rattle.mm_query.specs.declared.plan_line.PlanLine.{PlanLine}

@@ -80,7 +80,8 @@ pub no_others : (passes : List ℕ → Row → Bool) (name : List ℕ) (tests : 
     → (table : List ℕ) (row : Row) → Contains (old_rows table (edits (Delete name tests) state)) row → passes table row ≡ true
 no_others passes name tests state own closed table row here =
     each_old passes (edits (Delete name tests) state)
-    (cascades_hold passes state.schema (λ t r column target among. closed t r target column (Contains-from_IsIn (cascading_of t.definition.columns) column among))
+    (cascades_hold passes state.schema (λ t r column target among. closed t r target column
+    (Contains-from_IsIn (cascading_of t.definition.columns) column among))
     state.schema.tables state.rows (own_edits (Delete name tests) state ∷ [])
     (filter_holds (meets (tests_for name state.schema tests)) (passes name) own (rows_in state name), tt))
     table row (IsIn-from_Contains (old_rows table (edits (Delete name tests) state)) row here)

@@ -50,7 +50,8 @@ none_comes [] none = refl
 none_comes ((old, new) ∷ ps) none = ap (λ (n : Option Row). filter_map (λ (p : Pair). p.1) ((old, n) ∷ ps)) none.0 ∙ none_comes ps none.1
 
 -- What they leave of rows in the order of their keys is so too.
-pub IsInKeyOrder-removed : (key : ℕ) (pairs : List Pair) (rows : List Row) → AreRemovals pairs → IsInKeyOrder key rows → IsInKeyOrder key (changed key pairs rows)
+pub IsInKeyOrder-removed : (key : ℕ) (pairs : List Pair) (rows : List Row) → AreRemovals pairs → IsInKeyOrder key rows
+    → IsInKeyOrder key (changed key pairs rows)
 IsInKeyOrder-removed key [] rows none order = order
 IsInKeyOrder-removed key (p ∷ ps) rows none order =
     let pairs : List Pair = p ∷ ps in
@@ -69,7 +70,8 @@ AreInKeyOrder-removed name pairs none [] [] order = tt
 AreInKeyOrder-removed name pairs none (t ∷ ts) (r ∷ rs) order = (
   elim (cases_Bool (same_name name (name_of t))) [
     | inl own ↦
-        subst (λ ps. IsInKeyOrder (key_place t.definition.columns) (changed (key_place t.definition.columns) ps r)) (sym (pairs_of-own name pairs (name_of t) own))
+        subst (λ ps. IsInKeyOrder (key_place t.definition.columns) (changed (key_place t.definition.columns) ps r))
+        (sym (pairs_of-own name pairs (name_of t) own))
         (IsInKeyOrder-removed (key_place t.definition.columns) pairs r none order.0)
     | inr other ↦
         subst (λ ps. IsInKeyOrder (key_place t.definition.columns) (changed (key_place t.definition.columns) ps r))
@@ -102,10 +104,11 @@ also_removes es name (p ∷ ps) each none =
     AllByRecursion-append (λ (e : TableEdits). AreRemovals e.pairs) es (record { table = name; pairs = p ∷ ps } ∷ []) each (none, tt)
 
 -- Behind removals come removals.
-pub cascades_remove : (schema : Schema) (ts : List Table) (rows : Instance) (es : List TableEdits) → EachRemoves es → EachRemoves (with_cascades schema ts rows es)
+pub cascades_remove : (schema : Schema) (ts : List Table) (rows : Instance) (es : List TableEdits) → EachRemoves es
+    → EachRemoves (with_cascades schema ts rows es)
 cascades_remove schema [] rows es none = none
 cascades_remove schema (t ∷ ts) [] es none = none
 cascades_remove schema (t ∷ ts) (r ∷ rs) es none =
     let cascaded : List Row = filter (is_cascaded schema es t.definition.columns) r in
     cascades_remove schema ts rs (also es (name_of t) (removals_of cascaded))
-        (also_removes es (name_of t) (removals_of cascaded) none (removals_remove cascaded))
+    (also_removes es (name_of t) (removals_of cascaded) none (removals_remove cascaded))

@@ -1,5 +1,6 @@
 -- Standing queries beside the catalog: they are bound, they are shown, and they keep within their limit.
-use Rattle.std.proofs.Common.{◌≡◌, ◌&&◌, ℕ, zero, suc, ◌<◌, Bool, true, false, cond, not, List, [], ◌∷◌, ◌++◌, Option, Some, None, filter, find, is_some, length, map, nat_le, refl, sym, ap, ◌∙◌, subst}
+use Rattle.std.proofs.Common.{◌≡◌, ◌&&◌, ℕ, zero, suc, ◌<◌, Bool, true, false, cond, not, List, [], ◌∷◌, ◌++◌, Option, Some, None, filter, find, is_some}
+use Rattle.std.proofs.Common.{length, map, nat_le, refl, sym, ap, ◌∙◌, subst}
 use Rattle.std.specs.List.{All, AllByRecursion, list_any}
 use Rattle.std.specs.List.Sorted.{IsPermutation, IsSorted}
 use Rattle.std.specs.Option.{option_map_or}
@@ -18,18 +19,23 @@ use Rattle.mm_schema.specs.declared.table.TableDef.{TableDef}
 use Rattle.mm_schema.proofs.Dues.{none_due_behind}
 use Rattle.mm_schema.proofs.NameLemmas.{same_bytes, same_name_refl}
 use Rattle.mm_schema.proofs.References.{as_there, first_none, same_with, same_without, second_none, there_behind, there_still}
-use Rattle.mm_value.specs.declared.refusal.Refusal.TheVariants.{AliasTaken, NoSuchAlias, NoSuchColumn, NoSuchTable, NotInTransaction, StandingListTooLarge, TooMany, TypeMismatch}
+use Rattle.mm_value.specs.declared.refusal.Refusal.TheVariants.{AliasTaken, NoSuchAlias, NoSuchColumn, NoSuchTable, NotInTransaction, StandingListTooLarge}
+use Rattle.mm_value.specs.declared.refusal.Refusal.TheVariants.{TooMany, TypeMismatch}
 use Rattle.mm_query.specs.Edits.{changed_table, edits}
-use Rattle.mm_query.specs.Machine.{after_change, after_definition, after_edits, change_conditions, conditions, definition_conditions, is_of_index, row_conditions, state_after, step}
+use Rattle.mm_query.specs.Machine.{after_change, after_definition, after_edits, change_conditions, conditions, definition_conditions, is_of_index}
+use Rattle.mm_query.specs.Machine.{row_conditions, state_after, step}
 use Rattle.mm_query.specs.Queries.{bag, bag_of, eval, rows_by_columns, shown}
-use Rattle.mm_query.specs.Resolving.{IsAtomWithin, IsFieldWithin, IsQueryWithin, answer_in, passes_query_limits, placed_query, query_conditions, selected, width_at}
-use Rattle.mm_query.specs.Standing.{AreBeside, AreBound, HasQueries, after_unwatch, after_watch, growth_conditions, outgrows, query_named, shown_rows, tables_read, watch_conditions, without_query}
+use Rattle.mm_query.specs.Resolving.{IsAtomWithin, IsFieldWithin, IsQueryWithin, answer_in, exceeds_query_limits, placed_query, query_conditions, selected}
+use Rattle.mm_query.specs.Resolving.{width_at}
+use Rattle.mm_query.specs.Standing.{AreBeside, AreBound, HasQueries, after_unwatch, after_watch, growth_conditions, outgrows, query_named, shown_rows}
+use Rattle.mm_query.specs.Standing.{tables_read, watch_conditions, without_query}
 use Rattle.mm_query.specs.State.{State, first_state, has_transaction, rows_in}
 use Rattle.mm_query.specs.declared.atom.Atom.{Atom}
 use Rattle.mm_query.specs.declared.bound_query.BoundQuery.{BoundQuery}
 use Rattle.mm_query.specs.declared.bound_query.FieldPlace.{FieldPlace}
 use Rattle.mm_query.specs.declared.command.Command.{Command}
-use Rattle.mm_query.specs.declared.command.Command.TheVariants.{Nothing, Define, Change, Scan, ScanIndex, Select, Explain, Show, Tables, Begin, Commit, Rollback, Savepoint as SetSavepoint, RollbackTo}
+use Rattle.mm_query.specs.declared.command.Command.TheVariants.{Nothing, Define, Change, Scan, ScanIndex, Select, Explain, Show, Tables, Begin, Commit}
+use Rattle.mm_query.specs.declared.command.Command.TheVariants.{Rollback, Savepoint as SetSavepoint, RollbackTo}
 use Rattle.mm_query.specs.declared.command.Definition.{Definition}
 use Rattle.mm_query.specs.declared.command.Definition.TheVariants as define
 use Rattle.mm_query.specs.declared.command.Mutation.{Mutation}
@@ -171,7 +177,7 @@ module _ (name : List ℕ) (query : Query) (state : State) where
     -- Where nothing refuses it, nothing refuses its query.
     none_of_query : first_refusal (query_conditions query state.schema) ≡ None
     none_of_query =
-        let limits = or_parts (passes_query_limits query) (nat_le 32 (length state.schema.standing)) hold.1.1.1.1.1.1.0 in
+        let limits = or_parts (exceeds_query_limits query) (nat_le 32 (length state.schema.standing)) hold.1.1.1.1.1.1.0 in
         λ i. cond (hold.0 i) (Some NoSuchTable)
         (cond (hold.1.0 i) (Some NoSuchColumn)
         (cond (hold.1.1.1.0 i) (Some AliasTaken)

@@ -1,5 +1,6 @@
 -- Where no row that stays refers to a key that a change takes away, each row has its targets still.
-use Rattle.std.proofs.Common.{◌≡◌, ℕ, ◌+◌, Bool, true, false, cond, not, ◌&&◌, ◌⊎◌, List, [], ◌∷◌, Option, Some, None, is_none, inl, inr, find, refl, sym, ap, subst, ◌∙◌}
+use Rattle.std.proofs.Common.{◌≡◌, ℕ, ◌+◌, Bool, true, false, cond, not, ◌&&◌, ◌⊎◌, List, [], ◌∷◌, Option, Some, None, is_none, inl, inr, find, refl, sym, ap}
+use Rattle.std.proofs.Common.{subst, ◌∙◌}
 use Rattle.std.specs.List.{AllByRecursion, list_any}
 use Rattle.std.specs.Option.{option_map_or}
 use Rattle.std.proofs.lemmas.Bool.{cases_Bool, false≢true, or_parts}
@@ -160,11 +161,13 @@ module _ (ts : List Table) (name : List ℕ) where
           | inr there ↦
               let now = subst (λ n. IsIn row (rows_named n ts (changed_instance ts (e ∷ []) rows))) (sym to) here in
               let changed_now = subst (IsIn row) (rows_changed e.table e.pairs ts rows beside there) now in
-              elim (no_other_row (option_map_or (λ (t : Table). key_place t.definition.columns) (find (has e.table) ts) 0) e.pairs (rows_named e.table ts rows) row
+              elim (no_other_row (option_map_or (λ (t : Table). key_place t.definition.columns) (find (has e.table) ts) 0) e.pairs
+              (rows_named e.table ts rows) row
               (Contains-from_IsIn _ row changed_now)) [
                 | inl come ↦
                     let none : ◌≡◌ {A = Option Row} (Some row) None =
-                    AllByRecursion-IsIn (λ (p : Pair). p.1 ≡ None) e.pairs (come.0, Some row) removals (IsIn-from_Contains {X = Pair} e.pairs (come.0, Some row) come.1) in
+                    AllByRecursion-IsIn (λ (p : Pair). p.1 ≡ None) e.pairs (come.0, Some row) removals
+                    (IsIn-from_Contains {X = Pair} e.pairs (come.0, Some row) come.1) in
                     absurd (let b : ⊥ = cc in b)
                 | inr stay ↦ subst (λ n. IsIn row (rows_named n ts rows)) to (IsIn-from_Contains (rows_named e.table ts rows) row stay.0)
               ]
@@ -194,7 +197,8 @@ module _ (schema : Schema) (name : List ℕ) (there : lacks_table name schema �
         ∙ rows_changed name e.pairs schema.tables all beside there)
         ∙ refers_still column (key_named name schema) rows (rows_named name schema.tables all) e.pairs row here (keeps own) some
     | inr other ↦
-        ap (list_any (refers column (key_named name schema) row)) (rows_of_others e.table e.pairs name (differs_back name e.table other) schema.tables all) ∙ some
+        ap (list_any (refers column (key_named name schema) row)) (rows_of_others e.table e.pairs name (differs_back name e.table other) schema.tables all)
+        ∙ some
   ]
 
   pub refers_through : (es : List TableEdits) (all : Instance) → AreBeside schema.tables all → AllByRecursion KeepsKeys es

@@ -1,5 +1,6 @@
 -- What each command keeps of the rows, commands keep one after another: also of the rows that are saved.
-use Rattle.std.proofs.Common.{◌≡◌, ◌⊎◌, ◌&&◌, ℕ, Bool, true, false, not, cond, if◌then◌else◌, inl, inr, List, [], ◌∷◌, Option, Some, None, get_or, is_some, refl, sym, subst, ◌∙◌}
+use Rattle.std.proofs.Common.{◌≡◌, ◌⊎◌, ◌&&◌, ℕ, Bool, true, false, not, cond, if◌then◌else◌, inl, inr, List, [], ◌∷◌, Option, Some, None, get_or, is_some}
+use Rattle.std.proofs.Common.{refl, sym, subst, ◌∙◌}
 use Rattle.std.specs.Option.{option_map, option_map_or}
 use Rattle.std.specs.Prelude.{All, IfSome}
 use Rattle.std.proofs.lemmas.List.Elements.{All-cons, All-head, All-nil, All-tail}
@@ -10,10 +11,12 @@ use Rattle.mm_schema.specs.Schema.{Schema}
 use Rattle.std.proofs.lemmas.Bool.{false≢true}
 use Rattle.mm_value.specs.declared.refusal.Refusal.{Refusal}
 use Rattle.mm_value.specs.declared.refusal.Refusal.TheVariants.{NotInTransaction}
-use Rattle.mm_query.specs.Machine.{Outcome, after_all, after_change, after_definition, back_to, change_conditions, conditions, definition_conditions, is_of_index, reply_to, rows_at_latest, state_after, step, unless_refused}
+use Rattle.mm_query.specs.Machine.{Outcome, after_all, after_change, after_definition, back_to, change_conditions, conditions, definition_conditions}
+use Rattle.mm_query.specs.Machine.{is_of_index, reply_to, rows_at_latest, state_after, step, unless_refused}
 use Rattle.mm_query.specs.State.{AreSavedRows, Saved, Savepoint, State, has_transaction}
 use Rattle.mm_query.specs.declared.command.Command.{Command}
-use Rattle.mm_query.specs.declared.command.Command.TheVariants.{Nothing, Define, Change, Scan, ScanIndex, Select, Explain, Show, Tables, Begin, Commit, Rollback, Savepoint as SetSavepoint, RollbackTo}
+use Rattle.mm_query.specs.declared.command.Command.TheVariants.{Nothing, Define, Change, Scan, ScanIndex, Select, Explain, Show, Tables, Begin, Commit}
+use Rattle.mm_query.specs.declared.command.Command.TheVariants.{Rollback, Savepoint as SetSavepoint, RollbackTo}
 use Rattle.mm_query.specs.declared.command.Definition.{Definition}
 use Rattle.mm_query.specs.declared.command.Definition.TheVariants as define
 use Rattle.mm_query.specs.declared.command.Mutation.{Mutation}
@@ -149,7 +152,8 @@ module _ (P : Schema → Instance → Type 0)
       later = none_later (has_transaction state && not (is_of_index definition)) NotInTransaction (first_refusal (definition_conditions definition state)) due
 
       where_done : (has_transaction state ≡ false) ⊎ (is_of_index definition ≡ true)
-      where_done = closed_or_of_index (has_transaction state) (is_of_index definition) NotInTransaction (first_refusal (definition_conditions definition state)) due
+      where_done = closed_or_of_index (has_transaction state) (is_of_index definition) NotInTransaction
+          (first_refusal (definition_conditions definition state)) due
 
       by : (has_transaction state ≡ false) ⊎ (is_of_index definition ≡ true)
           → IfSome (after_definition definition state).saved (AreSavedRows (P (after_definition definition state).schema))

@@ -1,5 +1,6 @@
 -- What is done between BEGIN and COMMIT or ROLLBACK, and between SAVEPOINT and ROLLBACK TO.
-use Rattle.std.proofs.Common.{◌≡◌, ◌⊎◌, ◌&&◌, ◌||◌, ℕ, Bool, true, false, cond, if◌then◌else◌, not, List, [], ◌∷◌, ◌++◌, Option, Some, None, inl, inr, is_some, length, map, nat_lt, refl, sym, ap, subst, ◌∙◌}
+use Rattle.std.proofs.Common.{◌≡◌, ◌⊎◌, ◌&&◌, ◌||◌, ℕ, Bool, true, false, cond, if◌then◌else◌, not, List, [], ◌∷◌, ◌++◌, Option, Some, None, inl, inr}
+use Rattle.std.proofs.Common.{is_some, length, map, nat_lt, refl, sym, ap, subst, ◌∙◌}
 use Rattle.std.specs.List.{list_all, list_any}
 use Rattle.std.specs.Option.{option_map, option_map_or}
 use Rattle.std.proofs.lemmas.Bool.{and_parts, false≢true, or_parts}
@@ -14,11 +15,13 @@ use Rattle.mm_schema.proofs.NameLemmas.{same_name_refl}
 use Rattle.mm_schema.proofs.References.{first_none, same_with, same_without}
 use Rattle.mm_value.specs.declared.refusal.Refusal.{Refusal}
 use Rattle.mm_value.specs.declared.refusal.Refusal.TheVariants.{NoSuchSavepoint, NoTransaction, NotInTransaction, TooMany, TransactionOpen}
-use Rattle.mm_query.specs.Machine.{Outcome, after_all, after_definition, back_to, after_rollback_to, after_savepoint, conditions, definition_conditions, is_of_index, lacks_savepoint, max_savepoints, reply_to, rows_at_latest, state_after, step, unless_refused}
+use Rattle.mm_query.specs.Machine.{Outcome, after_all, after_definition, back_to, after_rollback_to, after_savepoint, conditions, definition_conditions}
+use Rattle.mm_query.specs.Machine.{is_of_index, lacks_savepoint, max_savepoints, reply_to, rows_at_latest, state_after, step, unless_refused}
 use Rattle.mm_query.specs.State.{Saved, Savepoint, State, has_transaction, savepoints_of}
 use Rattle.mm_query.specs.Transactions.{AreAlike, is_done_alike, is_transaction_control, leaves_savepoint}
 use Rattle.mm_query.specs.declared.command.Command.{Command}
-use Rattle.mm_query.specs.declared.command.Command.TheVariants.{Nothing, Define, Change, Scan, ScanIndex, Select, Explain, Show, Tables, Begin, Commit, Rollback, Savepoint as SetSavepoint, RollbackTo}
+use Rattle.mm_query.specs.declared.command.Command.TheVariants.{Nothing, Define, Change, Scan, ScanIndex, Select, Explain, Show, Tables, Begin, Commit}
+use Rattle.mm_query.specs.declared.command.Command.TheVariants.{Rollback, Savepoint as SetSavepoint, RollbackTo}
 use Rattle.mm_query.specs.declared.command.Definition.{Definition}
 use Rattle.mm_query.specs.declared.command.Definition.TheVariants as define
 use Rattle.mm_query.specs.declared.command.Mutation.TheVariants.{Insert, Update, Delete}
@@ -237,7 +240,8 @@ module _ (name : List ℕ) where
       by false is behind = behind is
 
   further_kept : (other : List ℕ) (rows : Instance) (saved : Option Saved) → same_name name other ≡ false
-      → kept_back (option_map (λ (saved : Saved). record saved { savepoints = record { name = other; rows = rows } ∷ saved.savepoints }) saved) ≡ kept_back saved
+      → kept_back (option_map (λ (saved : Saved). record saved { savepoints = record { name = other; rows = rows } ∷ saved.savepoints }) saved)
+      ≡ kept_back saved
   further_kept other rows None apart = refl
   further_kept other rows (Some saved) apart =
       λ i. Some (record saved { savepoints = back_past (record { name = other; rows = rows }) saved.savepoints apart i })
@@ -378,7 +382,8 @@ step_beside saved command state free = by command free
         (λ i. record { holds = neither (is_some saved) (has_transaction state) i; refusal = NotInTransaction } ∷ index_conditions index state.schema) refl refl
     by (Define (define.DropIndex name)) free =
         beside (Define (define.DropIndex name))
-        (λ i. record { holds = neither (is_some saved) (has_transaction state) i; refusal = NotInTransaction } ∷ drop_index_conditions name state.schema) refl refl
+        (λ i. record { holds = neither (is_some saved) (has_transaction state) i; refusal = NotInTransaction } ∷ drop_index_conditions name state.schema) refl
+        refl
     by (Define (define.Watch watched)) free = absurd (false≢true free)
     by (Define (define.Unwatch name)) free = absurd (false≢true free)
     by (Change (Insert table tuples)) free = beside (Change (Insert table tuples)) refl refl refl

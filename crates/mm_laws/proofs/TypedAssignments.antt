@@ -12,7 +12,8 @@ use Rattle.mm_value.specs.declared.col_type.ColType.{ColType}
 use Rattle.mm_value.specs.declared.values.Value.{Value}
 use Rattle.mm_value.specs.declared.values.Value.TheVariants.{Int, Text}
 use Rattle.mm_query.specs.Atoms.{shifted, updated_from, updated_row, updated_value, value_for, value_in}
-use Rattle.mm_query.specs.Placing.{assignment_lacks_column, differ, lacks_column, mismatches, operand_lacks_column, operand_type, placed, placed_assignment, placed_operand, shifts_text, type_named}
+use Rattle.mm_query.specs.Placing.{assignment_lacks_column, differ, lacks_column, mismatches, operand_lacks_column, operand_type, placed, placed_assignment}
+use Rattle.mm_query.specs.Placing.{placed_operand, shifts_text, type_named}
 use Rattle.mm_query.specs.declared.atom.Assignment.{Assignment}
 use Rattle.mm_query.specs.declared.atom.Operand.{Operand}
 use Rattle.mm_query.specs.declared.atom.Operand.TheVariants as operand
@@ -63,7 +64,8 @@ module _ (columns : List Column) (row : Row) (typed : HasTypes columns row) wher
       let sides = or_parts (lacks_column columns a.column) (operand_lacks_column columns a.source) there in
       let is = column_placed columns a.column sides.0 in
       let one : is.column ≡ c = (let e : Some is.column ≡ Some c = sym is.there ∙ at in cc) in
-      let alike = or_parts (differ (type_named columns a.column) (operand_type (type_named columns) a.source)) (shifts_text (type_named columns) a.source) same in
+      let alike = or_parts (differ (type_named columns a.column) (operand_type (type_named columns) a.source)) (shifts_text (type_named columns) a.source)
+      same in
       same_types (type_of (value_for row (placed_operand columns a.source))) is.column.col_type (operand_type (type_named columns) a.source)
       (type_named columns a.column) (operand_typed a.source sides.1) (named_type a.column is) alike.0
       ∙ ap (λ (d : Column). d.col_type) one

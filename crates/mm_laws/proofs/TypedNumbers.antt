@@ -36,7 +36,8 @@ module _ (schema : Schema) (rows : Instance) (typed : AreTyped schema.tables row
   in_table name column None there whole = cc
   in_table name column (Some c) there whole =
       All-weaker (HasTypes (columns_named name schema)) _
-      (λ row has. not_text (value_in column row) (let whole' : c.col_type ≡ type.Int = cc in value_typed (columns_named name schema) row column c has there ∙ whole'))
+      (λ row has. not_text (value_in column row) (let whole' : c.col_type ≡ type.Int = cc in value_typed (columns_named name schema) row column c has there
+      ∙ whole'))
       (rows_named name schema.tables rows) (named_typed name schema.tables rows typed)
 
   -- the rows of the table of an item

@@ -8,12 +8,14 @@ use Rattle.mm_value.specs.declared.refusal.Refusal.{Refusal}
 use Rattle.mm_value.specs.declared.refusal.Refusal.TheVariants.{NotInTransaction}
 use Rattle.mm_query.specs.Binding.{binding_conditions}
 use Rattle.mm_query.specs.Edits.{changed_table, edits, value_conditions}
-use Rattle.mm_query.specs.Machine.{Outcome, after_change, conditions, definition_conditions, is_of_index, reply_to, row_conditions, state_after, step, unless_refused}
+use Rattle.mm_query.specs.Machine.{Outcome, after_change, conditions, definition_conditions, is_of_index, reply_to, row_conditions, state_after, step}
+use Rattle.mm_query.specs.Machine.{unless_refused}
 use Rattle.mm_query.specs.Standing.{AreBound, HasQueries, growth_conditions}
 use Rattle.mm_query.specs.State.{Savepoint, State, first_state, has_transaction}
 use Rattle.mm_laws.proofs.Throughout.{closed_or_of_index, gone_back, held_before, held_further, restored}
 use Rattle.mm_query.specs.declared.command.Command.{Command}
-use Rattle.mm_query.specs.declared.command.Command.TheVariants.{Nothing, Define, Change, Scan, ScanIndex, Select, Explain, Show, Tables, Begin, Commit, Rollback, Savepoint as SetSavepoint, RollbackTo}
+use Rattle.mm_query.specs.declared.command.Command.TheVariants.{Nothing, Define, Change, Scan, ScanIndex, Select, Explain, Show, Tables, Begin, Commit}
+use Rattle.mm_query.specs.declared.command.Command.TheVariants.{Rollback, Savepoint as SetSavepoint, RollbackTo}
 use Rattle.mm_laws.specs.Typing.{AreTyped, IsTyped}
 use Rattle.mm_laws.proofs.TypedChanges.{typed_by_change}
 use Rattle.mm_laws.proofs.TypedDefinitions.{typed_by_definition}

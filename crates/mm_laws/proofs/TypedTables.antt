@@ -86,7 +86,8 @@ module _ (name : List ℕ) (pairs : List Pair) where
     subst (AreTyped ts) (sym (changed_instance-others name pairs ts rs (beside_from_types ts rs typed.1) (others_lack name t ts own distinct))) typed.1,
   )
   own_or_other t ts r rs false other typed distinct new rest = (
-    subst (λ ps. All (HasTypes t.definition.columns) (changed (key_place t.definition.columns) ps r)) (sym (pairs_of-other name pairs (name_of t) other)) typed.0,
+    subst (λ ps. All (HasTypes t.definition.columns) (changed (key_place t.definition.columns) ps r)) (sym (pairs_of-other name pairs (name_of t) other))
+        typed.0,
     rest new,
   )
 

@@ -1,5 +1,6 @@
 -- What a change that is added to a list of changes makes of them.
-use Rattle.std.proofs.Common.{◌≡◌, ℕ, zero, suc, ◌<◌, ℤ, pos, ◌+ℤ◌, Bool, true, false, cond, ◌||◌, List, [], ◌∷◌, ◌++◌, All, length, get_or, set, refl, sym, subst, ap, ◌∙◌, arith}
+use Rattle.std.proofs.Common.{◌≡◌, ℕ, zero, suc, ◌<◌, ℤ, pos, ◌+ℤ◌, Bool, true, false, cond, ◌||◌, List, [], ◌∷◌, ◌++◌, All, length, get_or, set, refl, sym}
+use Rattle.std.proofs.Common.{subst, ap, ◌∙◌, arith}
 use Rattle.std.proofs.lemmas.Int.{ints}
 use Rattle.std.proofs.lemmas.List.Elements.{All-cons, All-head, All-tail}
 use Rattle.std.proofs.lemmas.Map.Keys.{IsDistinct-push}
@@ -55,7 +56,8 @@ signed_with row c (x ∷ xs) = by (same_row c.row x.row) refl (signed_with row c
     by true e later =
         here (same_row row x.row) (signed_count row xs)
         ∙ ap (λ r. signed_count row (x ∷ xs) +ℤ (cond (same_row row r) c.count (pos 0) +ℤ pos 0)) (sym ((rows_exact c.row x.row).0 e))
-    by false e later = there (cond (same_row row x.row) x.count (pos 0)) (signed_count row xs) (signed_count row (with_change c xs)) (signed_count row (c ∷ [])) later
+    by false e later = there (cond (same_row row x.row) x.count (pos 0)) (signed_count row xs) (signed_count row (with_change c xs))
+        (signed_count row (c ∷ [])) later
 
 rows_with : (c : Signed) (xs : List Signed)
     → cond (list_any (same_row c.row) (rows_changed xs)) (rows_changed xs) (rows_changed xs ++ c.row ∷ []) ≡ rows_changed (with_change c xs)
@@ -88,6 +90,7 @@ all_with P c (x ∷ xs) grows new all = by (same_row c.row x.row) (λ rest. all_
     rest : All (λ (y : Signed). P y.count) xs
     rest = All-tail (λ (y : Signed). P y.count) x xs all
 
-    by : (b : Bool) → (All (λ (y : Signed). P y.count) xs → All (λ (y : Signed). P y.count) (with_change c xs)) → All (λ (y : Signed). P y.count) (cond b (more x c.count ∷ xs) (x ∷ with_change c xs))
+    by : (b : Bool) → (All (λ (y : Signed). P y.count) xs → All (λ (y : Signed). P y.count) (with_change c xs))
+        → All (λ (y : Signed). P y.count) (cond b (more x c.count ∷ xs) (x ∷ with_change c xs))
     by true later = All-cons (λ (y : Signed). P y.count) (more x c.count) xs (grows x.count first) rest
     by false later = All-cons (λ (y : Signed). P y.count) x (with_change c xs) first (later rest)

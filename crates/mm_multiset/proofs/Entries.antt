@@ -1,5 +1,6 @@
 -- What a change of one entry does to the counts and to their total.
-use Rattle.std.proofs.Common.{◌≡◌, ℕ, ◌+◌, ◌<◌, ◌≤◌, ◌^◌, ◌≤ℤ◌, ◌<ℤ◌, FitsSigned, ℤ, pos, ◌+ℤ◌, Bool, true, false, cond, List, [], ◌∷◌, ◌++◌, Option, Some, None, is_some, refl, sym, ap, ◌∙◌, arith}
+use Rattle.std.proofs.Common.{◌≡◌, ℕ, ◌+◌, ◌<◌, ◌≤◌, ◌^◌, ◌≤ℤ◌, ◌<ℤ◌, FitsSigned, ℤ, pos, ◌+ℤ◌, Bool, true, false, cond, List, [], ◌∷◌, ◌++◌, Option, Some}
+use Rattle.std.proofs.Common.{None, is_some, refl, sym, ap, ◌∙◌, arith}
 use Rattle.std.proofs.lemmas.Int.{ints, fits_signed_from_abs}
 use mir.Syntax.{w128}
 use Rattle.std.proofs.lemmas.List.Sums.{sum_by-cons, sum_by_push}
@@ -31,7 +32,8 @@ module _ (row : List Value) (change : ℤ) (es fs : Entries) (w : ℕ)
   none_more : (x d : ℤ) → d ≡ pos 0 → x ≡ x +ℤ (d +ℤ pos 0)
   none_more x d e = omega (arith, ints)
 
-  counts : pos w ≡ pos (count_in row es) +ℤ change → (q : List Value) → pos (count_in q fs) ≡ pos (count_in q es) +ℤ (cond (same_row q row) change (pos 0) +ℤ pos 0)
+  counts : pos w ≡ pos (count_in row es) +ℤ change → (q : List Value) → pos (count_in q fs)
+      ≡ pos (count_in q es) +ℤ (cond (same_row q row) change (pos 0) +ℤ pos 0)
   counts is q = by (same_row row q) refl
     where
       by : (b : Bool) → same_row row q ≡ b → pos (count_in q fs) ≡ pos (count_in q es) +ℤ (cond (same_row q row) change (pos 0) +ℤ pos 0)
@@ -60,7 +62,8 @@ module _ (row : List Value) (change : ℤ) (es fs : Entries) (w : ℕ)
 
     pub total_at_entry : fs ≡ set_value (same_row row) es w → pos (total_of fs) ≡ pos (total_of es) +ℤ change
     total_at_entry are =
-        ap (λ l. pos (total_of l)) are ∙ arithmetic (total_of (set_value (same_row row) es w)) (total_of es) (sum_by-set_value (λ x. x) (same_row row) es v w had)
+        ap (λ l. pos (total_of l)) are ∙ arithmetic (total_of (set_value (same_row row) es w)) (total_of es)
+        (sum_by-set_value (λ x. x) (same_row row) es v w had)
 
   module _ (none : lookup (same_row row) es ≡ None) (is : pos w ≡ pos 0 +ℤ change) (are : fs ≡ es ++ (row, w) ∷ []) where
     keys_push : (xs : Entries) → keys_of (xs ++ (row, w) ∷ []) ≡ keys_of xs ++ row ∷ []
@@ -83,7 +86,8 @@ module _ (row : List Value) (change : ℤ) (es fs : Entries) (w : ℕ)
 
     pub total_at_end : pos (total_of fs) ≡ pos (total_of es) +ℤ change
     total_at_end =
-        ap (λ l. pos (total_of l)) are ∙ more (total_of (es ++ (row, w) ∷ [])) (total_of es) (ap (λ l. sum l) (values_push es) ∙ sum_by_push (λ x. x) (values_of es) w)
+        ap (λ l. pos (total_of l)) are ∙ more (total_of (es ++ (row, w) ∷ [])) (total_of es)
+        (ap (λ l. sum l) (values_push es) ∙ sum_by_push (λ x. x) (values_of es) w)
 
 -- A change that keeps the count at 0 or above and the total below 2^64 fits.
 pub change_fits : (n t : ℕ) (z : ℤ) → n ≤ t → t < 2 ^ 64 → pos 0 ≤ℤ (pos n +ℤ z) → (pos t +ℤ z) <ℤ pos (2 ^ 64) → FitsSigned w128 z

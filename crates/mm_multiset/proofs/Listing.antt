@@ -33,7 +33,8 @@ copies row x zero = by (same_row row x)
     by : (b : Bool) → ◌≡◌ {A = ℕ} 0 (cond b 0 0)
     by true = refl
     by false = refl
-copies row x (suc n) = sum_by-cons (λ y. cond (same_row row y) 1 0) x (replicate n x) ∙ ap (λ m. cond (same_row row x) 1 0 + m) (copies row x n) ∙ by (same_row row x)
+copies row x (suc n) = sum_by-cons (λ y. cond (same_row row y) 1 0) x (replicate n x) ∙ ap (λ m. cond (same_row row x) 1 0 + m) (copies row x n)
+    ∙ by (same_row row x)
   where
     by : (b : Bool) → ◌≡◌ {A = ℕ} (cond b 1 0 + cond b n 0) (cond b (suc n) 0)
     by true = omega arith

@@ -1,5 +1,6 @@
 -- Changes without those by 0, changes turned, and changes as the counts of a bag.
-use Rattle.std.proofs.Common.{◌≡◌, ◌≢◌, ◌==◌, ℤ, pos, negsuc, neg_ℤ, ◌+ℤ◌, ◌<ℤ◌, Bool, true, false, true≢false, cond, List, [], ◌∷◌, All, filter, length, map, Some, refl, sym, subst, ap, ◌∙◌, arith}
+use Rattle.std.proofs.Common.{◌≡◌, ◌≢◌, ◌==◌, ℤ, pos, negsuc, neg_ℤ, ◌+ℤ◌, ◌<ℤ◌, Bool, true, false, true≢false, cond, List, [], ◌∷◌, All, filter, length, map}
+use Rattle.std.proofs.Common.{Some, refl, sym, subst, ap, ◌∙◌, arith}
 use Rattle.std.proofs.lemmas.Bool.{eqb-true}
 use Rattle.std.proofs.lemmas.Int.{ints}
 use Rattle.std.proofs.lemmas.List.Elements.{All-cons, All-filter, All-head, All-nil, All-tail}
@@ -52,7 +53,8 @@ rows_of_some : (P : List Value → Type 0) (xs : List Signed) → AllByRecursion
 rows_of_some P [] all = tt
 rows_of_some P (x ∷ xs) all = by (is_some_change x.count) (rows_of_some P xs all.1)
   where
-    by : (b : Bool) → AllByRecursion P (rows_changed (filter counts_now xs)) → AllByRecursion P (rows_changed (cond b (x ∷ filter counts_now xs) (filter counts_now xs)))
+    by : (b : Bool) → AllByRecursion P (rows_changed (filter counts_now xs))
+        → AllByRecursion P (rows_changed (cond b (x ∷ filter counts_now xs) (filter counts_now xs)))
     by true rest = (all.0, rest)
     by false rest = rest
 
@@ -60,7 +62,8 @@ once_some : (xs : List Signed) → IsDistinct same_row (rows_changed xs) → IsD
 once_some [] once = once
 once_some (x ∷ xs) once = by (is_some_change x.count) (once_some xs (IsDistinct-tail same_row x.row (rows_changed xs) once))
   where
-    by : (b : Bool) → IsDistinct same_row (rows_changed (filter counts_now xs)) → IsDistinct same_row (rows_changed (cond b (x ∷ filter counts_now xs) (filter counts_now xs)))
+    by : (b : Bool) → IsDistinct same_row (rows_changed (filter counts_now xs))
+        → IsDistinct same_row (rows_changed (cond b (x ∷ filter counts_now xs) (filter counts_now xs)))
     by true rest =
         IsDistinct-cons same_row x.row (rows_changed (filter counts_now xs))
         (rows_of_some (λ r. same_row x.row r ≡ false) xs (IsDistinct-head same_row x.row (rows_changed xs) once)) rest
@@ -99,7 +102,8 @@ rows_turned (x ∷ xs) = ap (λ l. x.row ∷ l) (rows_turned xs)
 small_turned : (z : ℤ) → IsSmall z → IsSmall (neg_ℤ z)
 small_turned z small = (omega (arith, ints, small.1), omega (arith, ints, small.0))
 
-all_turned : (P Q : ℤ → Type 0) → ((z : ℤ) → P z → Q (neg_ℤ z)) → (xs : List Signed) → All (λ (x : Signed). P x.count) xs → All (λ (x : Signed). Q x.count) (map opposite xs)
+all_turned : (P Q : ℤ → Type 0) → ((z : ℤ) → P z → Q (neg_ℤ z)) → (xs : List Signed) → All (λ (x : Signed). P x.count) xs
+    → All (λ (x : Signed). Q x.count) (map opposite xs)
 all_turned P Q turns [] all = All-nil (λ (x : Signed). Q x.count)
 all_turned P Q turns (x ∷ xs) all =
     All-cons (λ (y : Signed). Q y.count) (opposite x) (map opposite xs) (turns x.count (All-head (λ (y : Signed). P y.count) x xs all))

@@ -1,5 +1,6 @@
 -- Each entry of a bag brings at most one change, of its own row.
-use Rattle.std.proofs.Common.{◌≡◌, ◌≢◌, ℕ, ◌^◌, FitsSigned, ℤ, pos, neg_ℤ, ◌+ℤ◌, ◌-ℤ◌, ◌<ℤ◌, Bool, true, false, true≢false, cond, ◌||◌, Option, Some, None, is_some, List, [], ◌∷◌, ◌++◌, All, map, refl, sym, subst, ap, ◌∙◌, arith}
+use Rattle.std.proofs.Common.{◌≡◌, ◌≢◌, ℕ, ◌^◌, FitsSigned, ℤ, pos, neg_ℤ, ◌+ℤ◌, ◌-ℤ◌, ◌<ℤ◌, Bool, true, false, true≢false, cond, ◌||◌, Option, Some, None}
+use Rattle.std.proofs.Common.{is_some, List, [], ◌∷◌, ◌++◌, All, map, refl, sym, subst, ap, ◌∙◌, arith}
 use Rattle.std.proofs.lemmas.Int.{fits_signed_from_abs, ints}
 use mir.Syntax.{w128}
 use Rattle.std.proofs.lemmas.List.{map-append}
@@ -21,7 +22,8 @@ abbrev rows_in : List Signed → List (List Value)
 rows_in changes = map (λ change. change.row) changes
 
 -- A row that is not among the changed ones has no change.
-pub unchanged : (row : List Value) (changes : List Signed) → AllByRecursion (λ other. same_row row other ≡ false) (rows_in changes) → signed_count row changes ≡ pos 0
+pub unchanged : (row : List Value) (changes : List Signed) → AllByRecursion (λ other. same_row row other ≡ false) (rows_in changes) → signed_count row changes
+    ≡ pos 0
 unchanged row [] h = refl
 unchanged row (c ∷ cs) h = none (cond (same_row row c.row) c.count (pos 0)) (signed_count row cs) (ap (λ b. cond b c.count (pos 0)) h.0) (unchanged row cs h.1)
   where
@@ -33,7 +35,8 @@ absent : (row : List Value) (changes : List Signed) → IsDistinct same_row (row
     → signed_count row changes ≡ pos 0 → list_any (same_row row) (rows_in changes) ≡ false
 absent row [] once nonzero h = refl
 absent row (c ∷ cs) once nonzero h =
-    by (same_row row c.row) refl (λ none. absent row cs (IsDistinct-tail same_row c.row (rows_in cs) once) (All-tail (λ change. change.count ≢ pos 0) c cs nonzero) none)
+    by (same_row row c.row) refl (λ none. absent row cs (IsDistinct-tail same_row c.row (rows_in cs) once)
+    (All-tail (λ change. change.count ≢ pos 0) c cs nonzero) none)
   where
     first : (a b : ℤ) → a ≡ c.count → b ≡ pos 0 → a +ℤ b ≡ pos 0 → c.count ≡ pos 0
     first a b p q r = omega (arith, ints)
@@ -47,10 +50,12 @@ absent row (c ∷ cs) once nonzero h =
         let others = unchanged c.row cs (IsDistinct-head same_row c.row (rows_in cs) once) in
         let same : c.row ≡ row = sym ((rows_exact row c.row).0 e) in
         absurd (All-head (λ change. change.count ≢ pos 0) c cs nonzero
-        (first (cond (same_row row c.row) c.count (pos 0)) (signed_count row cs) (ap (λ b. cond b c.count (pos 0)) e) (subst (λ r. signed_count r cs ≡ pos 0) same others) h))
+        (first (cond (same_row row c.row) c.count (pos 0)) (signed_count row cs) (ap (λ b. cond b c.count (pos 0)) e)
+        (subst (λ r. signed_count r cs ≡ pos 0) same others) h))
     by false e rest = rest (later (cond (same_row row c.row) c.count (pos 0)) (signed_count row cs) (ap (λ b. cond b c.count (pos 0)) e) h)
 
-signed_count_push : (row : List Value) (changes : List Signed) (c : Signed) → signed_count row (changes ++ c ∷ []) ≡ signed_count row changes +ℤ cond (same_row row c.row) c.count (pos 0)
+signed_count_push : (row : List Value) (changes : List Signed) (c : Signed) → signed_count row (changes ++ c ∷ [])
+    ≡ signed_count row changes +ℤ cond (same_row row c.row) c.count (pos 0)
 signed_count_push row [] c = turned (cond (same_row row c.row) c.count (pos 0))
   where
     turned : (a : ℤ) → a +ℤ pos 0 ≡ pos 0 +ℤ a
@@ -70,7 +75,8 @@ abbrev IsSmall : ℤ → Type 0
 IsSmall z = (neg_ℤ (pos (2 ^ 64)) <ℤ z) × (z <ℤ pos (2 ^ 64))
 
 -- One more change, of a row that had none.
-net_push : (changes : List Signed) (c : Signed) → IsNet changes → signed_count c.row changes ≡ pos 0 → c.count ≢ pos 0 → IsSmall c.count → IsNet (changes ++ c ∷ [])
+net_push : (changes : List Signed) (c : Signed) → IsNet changes → signed_count c.row changes ≡ pos 0 → c.count ≢ pos 0 → IsSmall c.count
+    → IsNet (changes ++ c ∷ [])
 net_push changes c net none nonzero small = record {
   once = subst (IsDistinct same_row) (sym (map-append (λ change. change.row) changes (c ∷ [])))
       (IsDistinct-push same_row_equiv (rows_in changes) c.row net.once (absent c.row changes net.once net.nonzero none));
@@ -103,7 +109,8 @@ module _ (brings : List Value → ℕ → ℤ) where
         later : (b : ℤ) → b ≡ pos 0 +ℤ b
         later b = omega (arith, ints)
 
-        by : (b : Bool) → same_row row e.0 ≡ b → option_map_or (brings row) (cond b (Some e.1) (lookup (same_row row) left)) (pos 0) ≡ cond b (brings e.0 e.1) (pos 0) +ℤ brought row left
+        by : (b : Bool) → same_row row e.0 ≡ b → option_map_or (brings row) (cond b (Some e.1) (lookup (same_row row) left)) (pos 0)
+            ≡ cond b (brings e.0 e.1) (pos 0) +ℤ brought row left
         by true is =
             ap (λ r. brings r e.1) ((rows_exact row e.0).0 is)
             ∙ first (brings e.0 e.1) (brought row left) (ap (λ o. option_map_or (brings row) o (pos 0)) (none_left row is))
@@ -144,9 +151,11 @@ module _ (brings : List Value → ℕ → ℤ) where
           ∙ apart (signed_count row found) (cond (same_row row e.0) (brings e.0 e.1) (pos 0)) (brought row left)
           ∙ ap (λ z. z +ℤ brought row left) (sym (signed_count_push row found change));
       fresh = λ row n h some. signed_count_push row found change
-          ∙ none (signed_count row found) (cond (same_row row e.0) (brings e.0 e.1) (pos 0)) (fresh_left row n h some) (ap (λ b. cond b (brings e.0 e.1) (pos 0)) (other row n h));
+          ∙ none (signed_count row found) (cond (same_row row e.0) (brings e.0 e.1) (pos 0)) (fresh_left row n h some)
+          (ap (λ b. cond b (brings e.0 e.1) (pos 0)) (other row n h));
       once = IsDistinct-tail same_row e.0 (keys_of left) passes.once;
-      net = net_push found change passes.net (passes.fresh e.0 e.1 (ap (λ b. cond b (Some e.1) (lookup (same_row e.0) left)) (same_row_equiv.refl e.0)) nonzero) nonzero small;
+      net = net_push found change passes.net (passes.fresh e.0 e.1 (ap (λ b. cond b (Some e.1) (lookup (same_row e.0) left)) (same_row_equiv.refl e.0))
+          nonzero) nonzero small;
     }
       where
         change : Signed

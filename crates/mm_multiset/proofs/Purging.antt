@@ -1,5 +1,6 @@
 -- An entry whose count is 0 goes, and no count changes.
-use Rattle.std.proofs.Common.{◌≡◌, ℕ, ◌+◌, ◌<◌, ◌≤◌, ◌⊎◌, inl, inr, true≢false, Bool, true, false, cond, List, slice_get, get_or, length, Some, None, is_some, refl, sym, ap, ◌∙◌, arith}
+use Rattle.std.proofs.Common.{◌≡◌, ℕ, ◌+◌, ◌<◌, ◌≤◌, ◌⊎◌, inl, inr, true≢false, Bool, true, false, cond, List, slice_get, get_or, length, Some, None, is_some}
+use Rattle.std.proofs.Common.{refl, sym, ap, ◌∙◌, arith}
 use Rattle.std.proofs.lemmas.List.Sums.{sum-map, sum_by-swap_remove}
 use Rattle.std.proofs.lemmas.Map.Entries.{lookup_from_place}
 use Rattle.std.proofs.lemmas.Option.{get_or_from_slice_get, slice_get_cases}
@@ -43,7 +44,8 @@ module _ (row : List Value) (i : ℕ) (es fs : Entries) (once : IsOnce es) (at :
   within : i < length es
   within = by (slice_get_cases es i).1
     where
-      by : ((x : List Value × ℕ) × (i < length es) × (slice_get es i ≡ Some x) × (get_or es i x ≡ x)) ⊎ ((length es ≤ i) × (slice_get es i ≡ None)) → i < length es
+      by : ((x : List Value × ℕ) × (i < length es) × (slice_get es i ≡ Some x) × (get_or es i x ≡ x)) ⊎ ((length es ≤ i) × (slice_get es i ≡ None))
+          → i < length es
       by (inl h) = h.1
       by (inr h) = absurd (true≢false (ap is_some (sym at ∙ h.1)))
 

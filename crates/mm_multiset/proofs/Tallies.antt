@@ -63,7 +63,8 @@ some_one : pos 0 <ℤ pos 1
 some_one = omega (arith, ints)
 
 -- A list of counts is one still when a row is counted once more.
-pub listed_with : (row : List Value) (old new : List Signed) → AreListed old → new ≡ with_change (one_of row) old → All (λ (x : Signed). IsSmall x.count) new → AreListed new
+pub listed_with : (row : List Value) (old new : List Signed) → AreListed old → new ≡ with_change (one_of row) old → All (λ (x : Signed). IsSmall x.count) new
+    → AreListed new
 listed_with row old new are is small = record {
   are = record {
     once = subst (λ (xs : List Signed). IsDistinct same_row (rows_changed xs)) (sym is) (once_with (one_of row) old are.are.once);
@@ -79,7 +80,8 @@ listed_after (Ok x) row old new are is small same = listed_with row old new are 
 listed_after (Err e) row old new are is small same = subst (λ (xs : List Signed). AreListed xs) (sym same) are
 
 -- One row more in the list.
-pub counted_few : (row other : List Value) (old new : List Signed) (many : Entries) → many ≡ [] → AreListed old → AreListed new → new ≡ with_change (one_of row) old
+pub counted_few : (row other : List Value) (old new : List Signed) (many : Entries) → many ≡ [] → AreListed old → AreListed new → new
+    ≡ with_change (one_of row) old
     → count_in other (listed new ++ many) ≡ count_in other (listed old ++ many) + count_of other (row ∷ [])
 counted_few row other old new many none before after is =
     one_up row other (listed old ++ many) (listed new ++ many)

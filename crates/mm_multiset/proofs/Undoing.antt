@@ -1,5 +1,6 @@
 -- Changes that are opposite undo one another, and each finds its entry.
-use Rattle.std.proofs.Common.{◌≡◌, ℕ, ℤ, pos, ◌+ℤ◌, neg_ℤ, ◌⊎◌, inl, inr, Bool, true, false, cond, ◌||◌, is_some, Some, List, [], ◌∷◌, ◌++◌, refl, sym, ap, ◌∙◌, arith}
+use Rattle.std.proofs.Common.{◌≡◌, ℕ, ℤ, pos, ◌+ℤ◌, neg_ℤ, ◌⊎◌, inl, inr, Bool, true, false, cond, ◌||◌, is_some, Some, List, [], ◌∷◌, ◌++◌, refl, sym, ap}
+use Rattle.std.proofs.Common.{◌∙◌, arith}
 use Rattle.std.proofs.lemmas.Int.{ints}
 use Rattle.std.specs.List.{AllByRecursion, list_any}
 use Rattle.std.specs.Map.{keys_of, lookup}
@@ -27,7 +28,8 @@ count_after row (c ∷ cs) old new h =
 pub undone : (changes undo : List Signed) (old mid new : Entries) → ((row : List Value) → signed_count row undo ≡ neg_ℤ (signed_count row changes))
     → AddsAll changes old mid → AddsAll undo mid new → (row : List Value) → count_in row new ≡ count_in row old
 undone changes undo old mid new opposite there back row =
-    same (count_in row new) (count_in row old) (pos (count_in row mid)) (signed_count row changes) (signed_count row undo) (count_after row undo mid new back) (count_after row changes old mid there) (opposite row)
+    same (count_in row new) (count_in row old) (pos (count_in row mid)) (signed_count row changes) (signed_count row undo) (count_after row undo mid new back)
+    (count_after row changes old mid there) (opposite row)
   where
     same : (a b : ℕ) (m x y : ℤ) → pos a ≡ m +ℤ y → m ≡ pos b +ℤ x → y ≡ neg_ℤ x → a ≡ b
     same a b m x y p q r = omega (arith, ints)
@@ -39,7 +41,8 @@ pub entry_in_keys : (row : List Value) (es : Entries) → has_entry row es ≡ l
 entry_in_keys row [] = refl
 entry_in_keys row (e ∷ es) = by (same_row row e.0) (entry_in_keys row es)
   where
-    by : (b : Bool) → has_entry row es ≡ list_any (same_row row) (keys_of es) → is_some (cond b (Some e.1) (lookup (same_row row) es)) ≡ b || list_any (same_row row) (keys_of es)
+    by : (b : Bool) → has_entry row es ≡ list_any (same_row row) (keys_of es) → is_some (cond b (Some e.1) (lookup (same_row row) es))
+        ≡ b || list_any (same_row row) (keys_of es)
     by true h = refl
     by false h = h
 
@@ -63,9 +66,11 @@ module _ (change : Signed) (old new : Entries) (adds : Adds change old new) wher
   pub found_one : has_entry change.row new ≡ true
   found_one = by (has_entry change.row old) refl (placed change.row)
     where
-      by : (b : Bool) → has_entry change.row old ≡ b → has_entry change.row new ≡ list_any (same_row change.row) (cond b (keys_of old) (keys_of old ++ change.row ∷ [])) → has_entry change.row new ≡ true
+      by : (b : Bool) → has_entry change.row old ≡ b → has_entry change.row new
+          ≡ list_any (same_row change.row) (cond b (keys_of old) (keys_of old ++ change.row ∷ [])) → has_entry change.row new ≡ true
       by true e h = h ∙ sym (entry_in_keys change.row old) ∙ e
-      by false e h = h ∙ any_at_end change.row change.row (keys_of old) ∙ either (list_any (same_row change.row) (keys_of old)) (same_row change.row change.row) (same_row_equiv.refl change.row)
+      by false e h = h ∙ any_at_end change.row change.row (keys_of old)
+          ∙ either (list_any (same_row change.row) (keys_of old)) (same_row change.row change.row) (same_row_equiv.refl change.row)
         where
           either : (a b : Bool) → b ≡ true → a || b ≡ true
           either true b h = refl
@@ -90,7 +95,8 @@ module _ (change : Signed) (old new : Entries) (adds : Adds change old new) wher
       either true b is h = inl is
       either false b is h = inr h
 
-      by : (b : Bool) → has_entry row new ≡ list_any (same_row row) (cond b (keys_of old) (keys_of old ++ change.row ∷ [])) → (has_entry row old ≡ true) ⊎ (same_row row change.row ≡ true)
+      by : (b : Bool) → has_entry row new ≡ list_any (same_row row) (cond b (keys_of old) (keys_of old ++ change.row ∷ []))
+          → (has_entry row old ≡ true) ⊎ (same_row row change.row ≡ true)
       by true h = inl (entry_in_keys row old ∙ sym h ∙ has)
       by false h =
           either (list_any (same_row row) (keys_of old)) (same_row row change.row) (entry_in_keys row old)

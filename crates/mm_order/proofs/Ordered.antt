@@ -1,5 +1,6 @@
 -- Ordered lists of references: what their edits leave, what a search found, and the entries of a range.
-use Rattle.std.proofs.Common.{◌≡◌, ◌≢◌, ℕ, ◌<◌, ◌≤◌, Bool, true, false, ◌&&◌, List, [], ◌∷◌, ◌++◌, length, get_or, take, drop, suc, ◌⊎◌, refl, sym, ap, ◌∙◌, subst, ⊎_elim, arith, add-zero, length-take, length-drop}
+use Rattle.std.proofs.Common.{◌≡◌, ◌≢◌, ℕ, ◌<◌, ◌≤◌, Bool, true, false, ◌&&◌, List, [], ◌∷◌, ◌++◌, length, get_or, take, drop, suc, ◌⊎◌, refl, sym, ap, ◌∙◌}
+use Rattle.std.proofs.Common.{subst, ⊎_elim, arith, add-zero, length-take, length-drop}
 use Rattle.std.proofs.lemmas.Bool.{cases_order}
 use Rattle.std.proofs.lemmas.List.{take-append-drop, get_or-drop, get_or-take, append-nil}
 use Rattle.std.proofs.lemmas.List.Elements.{All-append, All-cons, All-head, All-tail, filter-append}
@@ -15,7 +16,8 @@ use Rattle.mm_order.specs.Order.{IsTotalOrderOn, IsOrdered}
 use Rattle.mm_order.specs.Probe.{is_between, entries_between, IsMonotone}
 use Rattle.mm_order.specs.Refs.{AddsInOrder}
 use Rattle.mm_order.proofs.Filtered.{filter-all, filter-none}
-use Rattle.mm_order.proofs.Pairs.{All-append_left, All-append_right, AllPairs-append, AllPairs-append_left, AllPairs-append_right, AllPairs-append_across, AllPairs-single}
+use Rattle.mm_order.proofs.Pairs.{All-append_left, All-append_right, AllPairs-append, AllPairs-append_left, AllPairs-append_right, AllPairs-append_across}
+use Rattle.mm_order.proofs.Pairs.{AllPairs-single}
 
 -- ---- ranges
 

@@ -1,5 +1,6 @@
 -- The links of the free slots, after a slot is written, given out, freed or appended.
-use Rattle.std.proofs.Common.{◌≡◌, ◌≢◌, ℕ, zero, suc, ◌+◌, ◌-◌, ◌<◌, ◌≤◌, List, length, true, false, Option, Some, None, cond, get_or, set, refl, sym, ap, ◌∙◌, subst, arith, add-one, length-set}
+use Rattle.std.proofs.Common.{◌≡◌, ◌≢◌, ℕ, zero, suc, ◌+◌, ◌-◌, ◌<◌, ◌≤◌, List, length, true, false, Option, Some, None, cond, get_or, set, refl, sym, ap}
+use Rattle.std.proofs.Common.{◌∙◌, subst, arith, add-one, length-set}
 use Rattle.std.specs.Prelude.{slice_get}
 use Rattle.std.proofs.lemmas.List.{get_or-set_other, get_or-set_same}
 use Rattle.std.proofs.lemmas.List.Sums.{sum_by-set}

@@ -1,5 +1,6 @@
 -- Tracked columns, after a slot is appended or written.
-use Rattle.std.proofs.Common.{◌≡◌, ◌≢◌, ℕ, ◌+◌, ◌<◌, ◌≤◌, List, [], ◌∷◌, ◌++◌, length, get_or, set, take, Vec, Global, refl, sym, ap, ◌∙◌, subst, ⊎_elim, arith, length-append, length-set}
+use Rattle.std.proofs.Common.{◌≡◌, ◌≢◌, ℕ, ◌+◌, ◌<◌, ◌≤◌, List, [], ◌∷◌, ◌++◌, length, get_or, set, take, Vec, Global, refl, sym, ap, ◌∙◌, subst, ⊎_elim}
+use Rattle.std.proofs.Common.{arith, length-append, length-set}
 use Rattle.std.specs.Prelude.{All}
 use Rattle.std.specs.Vec.{vec_capacity, with_item}
 use Rattle.std.proofs.Math.Seq.{take-append_seam}
@@ -94,7 +95,8 @@ pub Tracks-pushed : (contents : List Content) (spare : ℕ) (row : List Value) (
 Tracks-pushed contents spare row n t v items capacity is old = record {
   size = ap length items ∙ omega (arith, length-append t.prefixes.items (n ∷ []), length-append contents (Live row ∷ []), old.size);
   room = omega (arith, capacity, old.room, length-append contents (Live row ∷ []));
-  each = subst (EachPrefix t.column (contents ++ Live row ∷ [])) (sym items) (EachPrefix-push t.column contents t.prefixes.items (Live row) n old.size is old.each);
+  each = subst (EachPrefix t.column (contents ++ Live row ∷ [])) (sym items)
+      (EachPrefix-push t.column contents t.prefixes.items (Live row) n old.size is old.each);
 }
 
 -- a slot is written

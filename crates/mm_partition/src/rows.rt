@@ -18,9 +18,9 @@ use std::mem;
 const MAX_SLOTS: usize = 4_294_967_296;
 
 /// The rows of one table, 64 to a partition (partitions and tuple pointers of Lehman and Carey,
-/// SIGMOD 1986). A row is found by its reference, which stays the same while the row lives. No
-/// call but `reserve` takes memory, and each of the others takes the same time however many rows
-/// there are: the freed slots are a linked list, and the last one freed is the first given out.
+/// SIGMOD 1986). A row is found by its reference, which stays the same while the row lives. Only
+/// `reserve` and `track` take memory. Placing, hiding and releasing a row take the same time however
+/// many rows there are: the freed slots are a linked list, and the last one freed is the first given out.
 ///
 /// The slot of a reference has an index, `64 * part + slot`. The *extent* is how many slots have been
 /// in use so far: the index of each reference that was given out is below it. A caller that keeps a

@@ -1,5 +1,6 @@
 -- The steps that are chosen are among those that a query allows.
-use Rattle.std.proofs.Common.{◌≡◌, inl, inr, ◌⊎◌, ⊎_elim, ℕ, zero, suc, ◌+◌, ◌<◌, Bool, true, false, cond, List, [], ◌∷◌, ◌++◌, length, get_or, take, Option, Some, None, refl, sym, ap, ◌∙◌, subst, append_assoc, append-nil, arith}
+use Rattle.std.proofs.Common.{◌≡◌, inl, inr, ◌⊎◌, ⊎_elim, ℕ, zero, suc, ◌+◌, ◌<◌, Bool, true, false, cond, List, [], ◌∷◌, ◌++◌, length, get_or, take, Option}
+use Rattle.std.proofs.Common.{Some, None, refl, sym, ap, ◌∙◌, subst, append_assoc, append-nil, arith}
 use Rattle.std.specs.Prelude.{◌==◌, ◌&&◌, ℤ, pos, slice_get}
 use Rattle.std.specs.Option.{option_and_then, option_map, option_map_or, unwrap_or}
 use Rattle.std.proofs.lemmas.Bool.{and_parts, eqb-true}
@@ -9,7 +10,9 @@ use Rattle.mm_join.specs.Keys.{key_beside, key_between, key_of}
 use Rattle.mm_join.specs.declared.key.JoinKey.{JoinKey}
 use Rattle.mm_plan.proofs.Asking.{of_side}
 use Rattle.mm_plan.proofs.Chosen.{hash_told, refers_told, tree_told}
-use Rattle.mm_plan.specs.Choosing.{bounded_column, compared_column, equated_column, first_from, first_hash, first_rule, first_step, first_tree, follows_scan, follows_shorter, hash_at, is_plain, is_referred, refers_only, join_rule, joined_by, merge_of, next_step, step_for, steps_behind, steps_of, tree_at}
+use Rattle.mm_plan.specs.Choosing.{bounded_column, compared_column, equated_column, first_from, first_hash, first_rule, first_step, first_tree, follows_scan}
+use Rattle.mm_plan.specs.Choosing.{follows_shorter, hash_at, is_plain, is_referred, refers_only, join_rule, joined_by, merge_of, next_step, step_for}
+use Rattle.mm_plan.specs.Choosing.{steps_behind, steps_of, tree_at}
 use Rattle.mm_plan.specs.Steps.{AreSteps, Joins, Reaches, RefersPlainly}
 use Rattle.mm_plan.specs.declared.choosing.FirstRule.{FirstRule}
 use Rattle.mm_plan.specs.declared.choosing.FirstRule.TheVariants as first
@@ -268,7 +271,8 @@ module _ (store : Tables) (atoms : List (Atom FieldPlace)) (outers : List ℕ) (
         ),
       )
   rule_joins join.TreeJoin place own key s there asks e =
-      let (follows, joins) = guarded (follows_shorter store outers table) (option_map (λ index. step.TreeJoin index place) (tree_at store table key.column)) s e in
+      let (follows, joins) = guarded (follows_shorter store outers table) (option_map (λ index. step.TreeJoin index place) (tree_at store table key.column)) s
+      e in
       let (index, has, is) = mapped (λ index. step.TreeJoin index place) (tree_at store table key.column) s joins in
       subst (Joins store atoms outers table) is
       (own, key, there, asks, (λ stored at. (tree_there store table key.column index has stored at).0, is_tree_at store table key.column index has))

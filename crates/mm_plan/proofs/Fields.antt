@@ -1,5 +1,6 @@
 -- What the names of a query stand for, where nothing refuses it and the store keeps the catalog's tables.
-use Rattle.std.proofs.Common.{◌≡◌, ⊎_elim, ℕ, zero, suc, ◌+◌, ◌<◌, Bool, true, false, cond, not, ◌&&◌, List, [], ◌∷◌, length, get_or, Option, Some, None, refl, sym, ap, ◌∙◌, subst, arith}
+use Rattle.std.proofs.Common.{◌≡◌, ⊎_elim, ℕ, zero, suc, ◌+◌, ◌<◌, Bool, true, false, cond, not, ◌&&◌, List, [], ◌∷◌, length, get_or, Option, Some, None}
+use Rattle.std.proofs.Common.{refl, sym, ap, ◌∙◌, subst, arith}
 use Rattle.std.specs.Prelude.{◌==◌, find, is_none, nat_lt, position, slice_get}
 use Rattle.std.specs.List.{list_any, position_or_len}
 use Rattle.std.specs.Option.{option_and_then, option_map, option_map_or, unwrap_or}
@@ -305,7 +306,8 @@ module _ {schema : Schema} {relations : List StoredRows} {from : List FromItem} 
   }
 
   -- Its column by name is the one at its place.
-  pub column_found : option_and_then (λ (table : Table). column_named field.column table.definition.columns) (table_of schema from field.alias) ≡ Some own.column
+  pub column_found : option_and_then (λ (table : Table). column_named field.column table.definition.columns) (table_of schema from field.alias)
+      ≡ Some own.column
   column_found =
       ap (option_and_then (λ (table : Table). column_named field.column table.definition.columns)) table_is
       ∙ (find_at_place (λ (column : Column). same_name field.column column.name) own.of.table.definition.columns own.number own.number_is ∙ own.column_is)

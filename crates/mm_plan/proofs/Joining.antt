@@ -1,5 +1,6 @@
 -- Joining the tables of a query, one after another.
-use Rattle.std.proofs.Common.{◌≡◌, ◌≢◌, ◌⊎◌, inl, inr, IfErr, IfOk, IsPermutation, Result, Ok, Err, ℕ, suc, ◌+◌, ◌*◌, ◌<◌, ◌≤◌, Bool, true, false, cond, nat_lt, List, [], ◌∷◌, ◌++◌, Some, None, All, drop, length, map, get_or, take, append_assoc, refl, sym, ap, ◌∙◌, subst, arith}
+use Rattle.std.proofs.Common.{◌≡◌, ◌≢◌, ◌⊎◌, inl, inr, IfErr, IfOk, IsPermutation, Result, Ok, Err, ℕ, suc, ◌+◌, ◌*◌, ◌<◌, ◌≤◌, Bool, true, false, cond}
+use Rattle.std.proofs.Common.{nat_lt, List, [], ◌∷◌, ◌++◌, Some, None, All, drop, length, map, get_or, take, append_assoc, refl, sym, ap, ◌∙◌, subst, arith}
 use Rattle.std.proofs.lemmas.Bool.Decides.{nat_tests}
 use Rattle.std.proofs.lemmas.Nat.{mul-le}
 use Rattle.std.specs.List.{list_all}
@@ -90,7 +91,8 @@ module _ (store : Tables) (query : BoundQuery) where
   pub as_many : (list : Combos) → AreFitting store query.atoms list → length (bag_of query (lists_of list.tables)) ≡ length list.combos
   as_many list fits =
       length-bag list.tables
-      ∙ (length_permutation (combo_rows store list) (fitting query.atoms (lists_of list.tables)) fits ∙ length-map list.combos (rows_of_combo store list.tables))
+      ∙ (length_permutation (combo_rows store list) (fitting query.atoms (lists_of list.tables)) fits
+      ∙ length-map list.combos (rows_of_combo store list.tables))
 
   module _ (list : Combos) (fits : AreFitting store query.atoms list) (next : ℕ) where
     abbrev found : List (List (List Value))
@@ -201,7 +203,8 @@ module _ (store : Tables) (query : BoundQuery) (tables : List ℕ) (list : Combo
   due_at_last : split.later ≡ []
       → first_refusal (size_conditions (bag_of query (map (rows_at store.tables) tables))) ≡ first_refusal (cap_conditions most_rows given)
   due_at_last none =
-      ap (λ ts. first_refusal (size_conditions (bag_of query (map (rows_at store.tables) ts)))) (split.is ∙ ap (λ later. list.tables ++ split.next ∷ later) none)
+      ap (λ ts. first_refusal (size_conditions (bag_of query (map (rows_at store.tables) ts))))
+      (split.is ∙ ap (λ later. list.tables ++ split.next ∷ later) none)
       ∙ due_behind store query list begun.fitting split.next
 
   length_one_more : length (list.tables ++ split.next ∷ []) ≡ length list.tables + 1
@@ -214,10 +217,12 @@ module _ (store : Tables) (query : BoundQuery) (tables : List ℕ) (list : Combo
   due_before named rows refusal due =
       let with_next = list.tables ++ split.next ∷ [] in
       let whole : with_next ++ split.later ≡ tables = append_assoc list.tables (split.next ∷ []) split.later ∙ sym split.is in
-      let more = no_fewer_of store query.atoms with_next split.later (subst (λ n. list_all (names_first n) query.atoms ≡ true) (sym length_one_more) named) rows in
+      let more = no_fewer_of store query.atoms with_next split.later (subst (λ n. list_all (names_first n) query.atoms ≡ true) (sym length_one_more) named)
+      rows in
       let here : length given ≡ length (fitting query.atoms (map (rows_at store.tables) with_next)) =
       sym (length_permutation given (fitting query.atoms (map (rows_at store.tables) with_next)) (fits_behind store query list begun.fitting split.next)) in
-      let all : length (fitting query.atoms (map (rows_at store.tables) (with_next ++ split.later))) ≡ length (bag_of query (map (rows_at store.tables) tables)) =
+      let all : length (fitting query.atoms (map (rows_at store.tables) (with_next ++ split.later)))
+      ≡ length (bag_of query (map (rows_at store.tables) tables)) =
       ap (λ ts. length (fitting query.atoms (map (rows_at store.tables) ts))) whole ∙ sym (length-bag store query tables) in
       more_refused (length given) (length (bag_of query (map (rows_at store.tables) tables))) refusal (omega (arith, more, here, all)) due
 

@@ -1,5 +1,6 @@
 -- References that are sorted by their keys, each once, are in the relation's order.
-use Rattle.std.proofs.Common.{◌≡◌, ℕ, suc, ◌+◌, ◌<◌, Bool, true, false, cond, ◌||◌, List, [], ◌∷◌, length, get_or, Option, Some, None, ◌⊎◌, inl, inr, map, refl, sym, ap, ◌∙◌, subst, arith, add-one}
+use Rattle.std.proofs.Common.{◌≡◌, ℕ, suc, ◌+◌, ◌<◌, Bool, true, false, cond, ◌||◌, List, [], ◌∷◌, length, get_or, Option, Some, None, ◌⊎◌, inl, inr, map}
+use Rattle.std.proofs.Common.{refl, sym, ap, ◌∙◌, subst, arith, add-one}
 use Rattle.std.specs.Prelude.{slice_get, IsPermutation}
 use Rattle.std.specs.List.{All, filter, list_any}
 use Rattle.std.specs.List.Sorted.{IsSortedByKey, IsStrictlySortedBy}
@@ -19,7 +20,8 @@ use Rattle.mm_relation.specs.Before.{same_ref}
 use Rattle.mm_relation.specs.Kept.{IsKept, StoredRows}
 use Rattle.mm_relation.specs.Orders.{refs_by_total}
 use Rattle.mm_relation.specs.Refs.{HasRow, Slots, refs_by, row_at}
-use Rattle.mm_schema.proofs.StrictOrder.{Contains-from_IsIn, IsIn, IsIn-from_Contains, IsStrictlySortedBy-before, IsStrictlySortedBy-from_neighbours, IsStrictlySortedBy-nil, same_from_elements}
+use Rattle.mm_schema.proofs.StrictOrder.{Contains-from_IsIn, IsIn, IsIn-from_Contains, IsStrictlySortedBy-before, IsStrictlySortedBy-from_neighbours}
+use Rattle.mm_schema.proofs.StrictOrder.{IsStrictlySortedBy-nil, same_from_elements}
 use Rattle.mm_schema.specs.Rows.{column_cmp}
 use Rattle.mm_select.proofs.KeyWalks.{same_from_keys}
 use Rattle.mm_value.proofs.Orders.{value_cmp_total}

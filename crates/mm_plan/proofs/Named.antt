@@ -1,5 +1,6 @@
 -- The steps of a query, by names, are its plan.
-use Rattle.std.proofs.Common.{◌≡◌, ℕ, zero, suc, ◌+◌, ◌<◌, Bool, true, false, cond, not, List, [], ◌∷◌, length, get_or, map, Option, Some, None, refl, sym, ap, ◌∙◌, subst, arith}
+use Rattle.std.proofs.Common.{◌≡◌, ℕ, zero, suc, ◌+◌, ◌<◌, Bool, true, false, cond, not, List, [], ◌∷◌, length, get_or, map, Option, Some, None, refl, sym}
+use Rattle.std.proofs.Common.{ap, ◌∙◌, subst, arith}
 use Rattle.std.specs.Prelude.{◌==◌, find, nat_lt, position, slice_get}
 use Rattle.std.specs.List.{list_any, position_or_len}
 use Rattle.std.specs.Option.{option_and_then, option_map, option_map_or, unwrap_or}
@@ -8,7 +9,8 @@ use Rattle.std.proofs.lemmas.Bool.Decides.{nat_tests}
 use Rattle.std.proofs.lemmas.List.Elements.{All-get_or}
 use Rattle.std.proofs.lemmas.Option.{get_or_from_slice_get, same_Some, slice_get_within}
 use Rattle.mm_plan.proofs.Fields.{IsField, Stands, column_found, eq_back, fails_at, key_alone, name_found, place_is, placed_is, same_place, table_at, table_is}
-use Rattle.mm_plan.specs.Choosing.{bounded_column, compared_column, equated_column, first_from, first_hash, first_rule, first_step, first_tree, hash_at, tree_at}
+use Rattle.mm_plan.specs.Choosing.{bounded_column, compared_column, equated_column, first_from, first_hash, first_rule, first_step, first_tree, hash_at}
+use Rattle.mm_plan.specs.Choosing.{tree_at}
 use Rattle.mm_plan.specs.Kept.{AreKept, HaveOneKey}
 use Rattle.mm_plan.specs.Naming.{Names, alias_at, column_at, field_named, index_at, look_up_named, named, tree_named}
 use Rattle.mm_plan.specs.declared.choosing.FirstRule.TheVariants as first
@@ -154,7 +156,8 @@ module _ (schema : Schema) (store : Tables) (from : List FromItem) (kept : AreKe
     pub key_is : (own.number == stored.key) ≡ is_key_field schema from field
     key_is =
         ap (λ n. own.number == n) own.of.kept.key
-        ∙ (key_alone table.definition.columns own.number own.column one own.column_is ∙ sym (ap (λ (o : Option Column). option_map_or is_key o false) (column_found own)))
+        ∙ (key_alone table.definition.columns own.number own.column one own.column_is
+        ∙ sym (ap (λ (o : Option Column). option_map_or is_key o false) (column_found own)))
       where
         one : key_count table.definition.columns ≡ 1
         one =
@@ -169,7 +172,8 @@ module _ (schema : Schema) (store : Tables) (from : List FromItem) (kept : AreKe
         → option_map name (tree_at store own.of.place own.number) ≡ option_map make (tree_on schema from field)
     tree_is_named {Y} make name key agree =
         ap (λ (o : Option StoredRows). option_map name (option_and_then (first_tree own.number) o)) own.of.stored_is
-        ∙ (ap (λ b. option_map name (cond b (Some index.Key) (option_map index.Tree (position (is_on own.number kind.Tree) stored.indexes)))) key_is ∙ by (is_key_field schema from field))
+        ∙ (ap (λ b. option_map name (cond b (Some index.Key) (option_map index.Tree (position (is_on own.number kind.Tree) stored.indexes)))) key_is
+        ∙ by (is_key_field schema from field))
       where
         each : (o : Option ℕ) → option_map name (option_map index.Tree o) ≡ option_map make (option_map id.Named (option_map (index_at names own.place) o))
         each None = refl
@@ -182,7 +186,8 @@ module _ (schema : Schema) (store : Tables) (from : List FromItem) (kept : AreKe
 
     pub column_name : column_at names own.place own.number ≡ field.column
     column_name =
-        ap (λ (o : Option Table). option_map_or (λ (t : Table). option_map_or (λ (c : Column). c.name) (slice_get t.definition.columns own.number) []) o []) at_place
+        ap (λ (o : Option Table). option_map_or (λ (t : Table). option_map_or (λ (c : Column). c.name) (slice_get t.definition.columns own.number) []) o [])
+        at_place
         ∙ (ap (λ (o : Option Column). option_map_or (λ (c : Column). c.name) o []) own.column_is ∙ own.name)
 
     alias_name : alias_at names own.place ≡ field.alias
@@ -240,7 +245,8 @@ module _ (schema : Schema) (store : Tables) (from : List FromItem) (kept : AreKe
       then_equal true give o = refl
       then_equal false give o = refl
 
-      then_field : {A : Type 0} (b : Bool) (on : FieldName → Option A) (o : Option FieldName) → option_and_then on (cond b o None) ≡ cond b (option_and_then on o) None
+      then_field : {A : Type 0} (b : Bool) (on : FieldName → Option A) (o : Option FieldName) → option_and_then on (cond b o None)
+          ≡ cond b (option_and_then on o) None
       then_field true on o = refl
       then_field false on o = refl
 
@@ -256,19 +262,23 @@ module _ (schema : Schema) (store : Tables) (from : List FromItem) (kept : AreKe
       pub hash_line_is : (i : ℕ) → option_map (named names atoms 0) (first_rule first.Hash store of.place i placed_atom) ≡ hash_line schema from item.alias atom
       hash_line_is i =
           fused (named names atoms 0) (λ index. step.LookUp index i) (option_and_then (hash_at store of.place) (equated_column placed_atom))
-          ∙ (ap (option_map (look_up_named names 0)) (then_equal (is_equality atom.comparison) (hash_at store of.place) (compared_column placed_atom.left placed_atom.right))
+          ∙ (ap (option_map (look_up_named names 0)) (then_equal (is_equality atom.comparison) (hash_at store of.place)
+          (compared_column placed_atom.left placed_atom.right))
           ∙ (if_equal (is_equality atom.comparison) (look_up_named names 0) (line.Hash item.alias)
           (option_and_then (hash_at store of.place) (compared_column placed_atom.left placed_atom.right))
           (option_and_then (hash_on schema from) (compared_field item.alias atom.left atom.right))
           (compared (hash_at store of.place) (hash_on schema from) (look_up_named names 0) (line.Hash item.alias) atom.left own (λ start.
           ap (λ n. option_map (look_up_named names 0) (hash_at store n own.number)) (sym (same_table atom.left own start))
-          ∙ hash_named atom.left own (line.Hash item.alias) (look_up_named names 0) (λ n j. line.Hash (first_alias_is j) (index_at names (sym start j) n))) atom.right)
-          ∙ sym (ap (option_map (line.Hash item.alias)) (then_field (is_equality atom.comparison) (hash_on schema from) (compared_field item.alias atom.left atom.right)))))
+          ∙ hash_named atom.left own (line.Hash item.alias) (look_up_named names 0) (λ n j. line.Hash (first_alias_is j) (index_at names (sym start j) n)))
+          atom.right)
+          ∙ sym (ap (option_map (line.Hash item.alias)) (then_field (is_equality atom.comparison) (hash_on schema from)
+          (compared_field item.alias atom.left atom.right)))))
 
       pub tree_line_is : (i : ℕ) → option_map (named names atoms 0) (first_rule first.Tree store of.place i placed_atom) ≡ tree_line schema from item.alias atom
       tree_line_is i =
           fused (named names atoms 0) (λ index. step.LookUp index i) (option_and_then (tree_at store of.place) (equated_column placed_atom))
-          ∙ (ap (option_map (look_up_named names 0)) (then_equal (is_equality atom.comparison) (tree_at store of.place) (compared_column placed_atom.left placed_atom.right))
+          ∙ (ap (option_map (look_up_named names 0)) (then_equal (is_equality atom.comparison) (tree_at store of.place)
+          (compared_column placed_atom.left placed_atom.right))
           ∙ (if_equal (is_equality atom.comparison) (look_up_named names 0) (line.TreeEqual item.alias)
           (option_and_then (tree_at store of.place) (compared_column placed_atom.left placed_atom.right))
           (option_and_then (tree_on schema from) (compared_field item.alias atom.left atom.right))
@@ -276,9 +286,11 @@ module _ (schema : Schema) (store : Tables) (from : List FromItem) (kept : AreKe
           ap (λ n. option_map (look_up_named names 0) (tree_at store n own.number)) (sym (same_table atom.left own start))
           ∙ tree_is_named atom.left own (line.TreeEqual item.alias) (look_up_named names 0) (λ j. line.TreeEqual (first_alias_is j) id.Key)
           (λ n j. line.TreeEqual (first_alias_is j) (id.Named (index_at names (sym start j) n)))) atom.right)
-          ∙ sym (ap (option_map (line.TreeEqual item.alias)) (then_field (is_equality atom.comparison) (tree_on schema from) (compared_field item.alias atom.left atom.right)))))
+          ∙ sym (ap (option_map (line.TreeEqual item.alias)) (then_field (is_equality atom.comparison) (tree_on schema from)
+          (compared_field item.alias atom.left atom.right)))))
 
-      pub range_line_is : (i : ℕ) → option_map (named names atoms 0) (first_rule first.Range store of.place i placed_atom) ≡ range_line schema from item.alias atom
+      pub range_line_is : (i : ℕ) → option_map (named names atoms 0) (first_rule first.Range store of.place i placed_atom)
+          ≡ range_line schema from item.alias atom
       range_line_is i =
           fused (named names atoms 0) (λ index. step.Range index i) (option_and_then (tree_at store of.place) (bounded_column placed_atom))
           ∙ (ap (option_map (λ index. line.TreeRange (alias_at names 0) (tree_named names 0 index)))
@@ -288,47 +300,49 @@ module _ (schema : Schema) (store : Tables) (from : List FromItem) (kept : AreKe
           (option_and_then (tree_on schema from) (compared_field item.alias atom.left atom.right))
           (compared (tree_at store of.place) (tree_on schema from) (λ index. line.TreeRange (alias_at names 0) (tree_named names 0 index))
           (line.TreeRange item.alias) atom.left own (λ start.
-          ap (λ n. option_map (λ index. line.TreeRange (alias_at names 0) (tree_named names 0 index)) (tree_at store n own.number)) (sym (same_table atom.left own start))
+          ap (λ n. option_map (λ index. line.TreeRange (alias_at names 0) (tree_named names 0 index)) (tree_at store n own.number))
+          (sym (same_table atom.left own start))
           ∙ tree_is_named atom.left own (line.TreeRange item.alias) (λ index. line.TreeRange (alias_at names 0) (tree_named names 0 index))
           (λ j. line.TreeRange (first_alias_is j) id.Key) (λ n j. line.TreeRange (first_alias_is j) (id.Named (index_at names (sym start j) n)))) atom.right)
           ∙ sym (ap (option_map (line.TreeRange item.alias))
           (then_unequal (is_equality atom.comparison) (tree_on schema from) (compared_field item.alias atom.left atom.right)))))
 
   module _ (duplicates : has_duplicate_aliases from ≡ false) (item : FromItem) (at : slice_get from 0 ≡ Some item) (of : Stands schema store.tables item)
-      (atoms : List (Atom FieldName)) (fields : (i : ℕ) (atom : Atom FieldName) → slice_get atoms i ≡ Some atom → IsField schema store.tables from atom.left) where
-    abbrev placed_atoms : List (Atom FieldPlace)
-    placed_atoms = map (mapped_atom (placed_field schema from)) atoms
+      (atoms : List (Atom FieldName)) (fields : (i : ℕ) (atom : Atom FieldName) → slice_get atoms i ≡ Some atom → IsField schema store.tables from atom.left)
+    where
+      abbrev placed_atoms : List (Atom FieldPlace)
+      placed_atoms = map (mapped_atom (placed_field schema from)) atoms
 
-    abbrev name : Step → PlanLine
-    name = named names placed_atoms 0
+      abbrev name : Step → PlanLine
+      name = named names placed_atoms 0
 
-    hashes : option_map name (first_from (first_rule first.Hash store of.place) 0 placed_atoms) ≡ first_given (hash_line schema from item.alias) atoms
-    hashes = first_named name (placed_field schema from) (first_rule first.Hash store of.place) (hash_line schema from item.alias) 0 atoms
-        (λ i place atom is found. hash_line_is duplicates item at of placed_atoms atom (fields i atom found) place)
+      hashes : option_map name (first_from (first_rule first.Hash store of.place) 0 placed_atoms) ≡ first_given (hash_line schema from item.alias) atoms
+      hashes = first_named name (placed_field schema from) (first_rule first.Hash store of.place) (hash_line schema from item.alias) 0 atoms
+          (λ i place atom is found. hash_line_is duplicates item at of placed_atoms atom (fields i atom found) place)
 
-    trees : option_map name (first_from (first_rule first.Tree store of.place) 0 placed_atoms) ≡ first_given (tree_line schema from item.alias) atoms
-    trees = first_named name (placed_field schema from) (first_rule first.Tree store of.place) (tree_line schema from item.alias) 0 atoms
-        (λ i place atom is found. tree_line_is duplicates item at of placed_atoms atom (fields i atom found) place)
+      trees : option_map name (first_from (first_rule first.Tree store of.place) 0 placed_atoms) ≡ first_given (tree_line schema from item.alias) atoms
+      trees = first_named name (placed_field schema from) (first_rule first.Tree store of.place) (tree_line schema from item.alias) 0 atoms
+          (λ i place atom is found. tree_line_is duplicates item at of placed_atoms atom (fields i atom found) place)
 
-    ranges : option_map name (first_from (first_rule first.Range store of.place) 0 placed_atoms) ≡ first_given (range_line schema from item.alias) atoms
-    ranges = first_named name (placed_field schema from) (first_rule first.Range store of.place) (range_line schema from item.alias) 0 atoms
-        (λ i place atom is found. range_line_is duplicates item at of placed_atoms atom (fields i atom found) place)
+      ranges : option_map name (first_from (first_rule first.Range store of.place) 0 placed_atoms) ≡ first_given (range_line schema from item.alias) atoms
+      ranges = first_named name (placed_field schema from) (first_rule first.Range store of.place) (range_line schema from item.alias) 0 atoms
+          (λ i place atom is found. range_line_is duplicates item at of placed_atoms atom (fields i atom found) place)
 
-    abbrev steps : List (Option Step)
-    steps = first_from (first_rule first.Hash store of.place) 0 placed_atoms
-        ∷ first_from (first_rule first.Tree store of.place) 0 placed_atoms
-        ∷ first_from (first_rule first.Range store of.place) 0 placed_atoms
-        ∷ []
+      abbrev steps : List (Option Step)
+      steps = first_from (first_rule first.Hash store of.place) 0 placed_atoms
+          ∷ first_from (first_rule first.Tree store of.place) 0 placed_atoms
+          ∷ first_from (first_rule first.Range store of.place) 0 placed_atoms
+          ∷ []
 
-    -- The step of the first table is named as its line.
-    pub first_step_named : (query : Query) → query.from ≡ from → query.atoms ≡ atoms
-        → name (first_step store placed_atoms of.place) ≡ first_line schema query item
-    first_step_named query from_is atoms_are =
-        else_named name (first_there steps) step.Scan
-        ∙ (ap (λ o. unwrap_or o (line.Scan (alias_at names 0))) (first_there_named name steps)
-        ∙ ((λ i. unwrap_or (first_there (hashes i ∷ trees i ∷ ranges i ∷ [])) (line.Scan (first_alias_is duplicates item at of i)))
-        ∙ λ i. unwrap_or (first_there (
-        first_given (hash_line schema (sym from_is i) item.alias) (sym atoms_are i)
-        ∷ first_given (tree_line schema (sym from_is i) item.alias) (sym atoms_are i)
-        ∷ first_given (range_line schema (sym from_is i) item.alias) (sym atoms_are i)
-        ∷ [])) (line.Scan item.alias)))
+      -- The step of the first table is named as its line.
+      pub first_step_named : (query : Query) → query.from ≡ from → query.atoms ≡ atoms
+          → name (first_step store placed_atoms of.place) ≡ first_line schema query item
+      first_step_named query from_is atoms_are =
+          else_named name (first_there steps) step.Scan
+          ∙ (ap (λ o. unwrap_or o (line.Scan (alias_at names 0))) (first_there_named name steps)
+          ∙ ((λ i. unwrap_or (first_there (hashes i ∷ trees i ∷ ranges i ∷ [])) (line.Scan (first_alias_is duplicates item at of i)))
+          ∙ λ i. unwrap_or (first_there (
+          first_given (hash_line schema (sym from_is i) item.alias) (sym atoms_are i)
+          ∷ first_given (tree_line schema (sym from_is i) item.alias) (sym atoms_are i)
+          ∷ first_given (range_line schema (sym from_is i) item.alias) (sym atoms_are i)
+          ∷ [])) (line.Scan item.alias)))

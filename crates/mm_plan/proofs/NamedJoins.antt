@@ -1,5 +1,6 @@
 -- The steps of further tables, by names, are their lines.
-use Rattle.std.proofs.Common.{◌≡◌, ⊎_elim, ℕ, zero, suc, ◌+◌, ◌*◌, ◌<◌, ◌≤◌, Bool, true, false, cond, not, ◌&&◌, ◌||◌, List, [], ◌∷◌, ◌++◌, length, get_or, map, Option, Some, None, refl, sym, ap, ◌∙◌, subst, append_assoc, arith}
+use Rattle.std.proofs.Common.{◌≡◌, ⊎_elim, ℕ, zero, suc, ◌+◌, ◌*◌, ◌<◌, ◌≤◌, Bool, true, false, cond, not, ◌&&◌, ◌||◌, List, [], ◌∷◌, ◌++◌, length, get_or}
+use Rattle.std.proofs.Common.{map, Option, Some, None, refl, sym, ap, ◌∙◌, subst, append_assoc, arith}
 use Rattle.std.specs.Prelude.{◌==◌, ℤ, nat_lt, pos, slice_get}
 use Rattle.std.specs.List.{cons_option, filter_map, list_any, position_or_len}
 use Rattle.std.specs.Option.{option_and_then, option_map, option_map_or, unwrap_or}
@@ -12,9 +13,11 @@ use Rattle.mm_join.specs.Keys.{key_beside, key_between, key_of}
 use Rattle.mm_join.specs.declared.key.JoinKey.{JoinKey}
 use Rattle.mm_join.specs.declared.key.Shift.TheVariants as shift
 use Rattle.mm_plan.proofs.Fields.{IsField, Stands, column_found, fails_at, placed_is, same_place, stands, table_at}
-use Rattle.mm_plan.proofs.Named.{column_name, else_named, field_is, first_named, first_step_named, first_there_named, fused, hash_named, is_here, key_is, names, tree_is_named}
+use Rattle.mm_plan.proofs.Named.{column_name, else_named, field_is, first_named, first_step_named, first_there_named, fused, hash_named, is_here, key_is}
+use Rattle.mm_plan.proofs.Named.{names, tree_is_named}
 use Rattle.mm_plan.proofs.Reached.{refers_by_name}
-use Rattle.mm_plan.specs.Choosing.{count_at, first_from, first_step, follows_scan, follows_shorter, hash_at, is_plain, is_referred, is_scan, join_rule, joined_by, merge_of, next_step, refers_only, step_for, steps_behind, tree_at}
+use Rattle.mm_plan.specs.Choosing.{count_at, first_from, first_step, follows_scan, follows_shorter, hash_at, is_plain, is_referred, is_scan, join_rule}
+use Rattle.mm_plan.specs.Choosing.{joined_by, merge_of, next_step, refers_only, step_for, steps_behind, tree_at}
 use Rattle.mm_plan.specs.Kept.{AreKept, HaveOneKey}
 use Rattle.mm_plan.specs.Naming.{Names, alias_at, column_at, field_named, index_at, key_by, named, named_from, tree_named}
 use Rattle.mm_plan.specs.declared.choosing.JoinRule.{JoinRule}
@@ -23,7 +26,8 @@ use Rattle.mm_plan.specs.declared.step.Step.{Step}
 use Rattle.mm_plan.specs.declared.step.Step.TheVariants as step
 use Rattle.mm_query.specs.Choosing.{first_given, first_there}
 use Rattle.mm_query.specs.Placing.{mapped_atom, mapped_operand}
-use Rattle.mm_query.specs.Plans.{built_hash_line, count_of, hash_join_line, is_equality, is_of, is_of_some, is_precomputed, join_equalities, join_equality, joined_fields, joined_line, joined_sides, line_for, lines_behind, precomputed_line, tree_join_line, tree_merge_line}
+use Rattle.mm_query.specs.Plans.{built_hash_line, count_of, hash_join_line, is_equality, is_of, is_of_some, is_precomputed, join_equalities, join_equality}
+use Rattle.mm_query.specs.Plans.{joined_fields, joined_line, joined_sides, line_for, lines_behind, precomputed_line, tree_join_line, tree_merge_line}
 use Rattle.mm_query.specs.Plans as plans
 use Rattle.mm_query.specs.Resolving.{column_of, has_duplicate_aliases, placed_field, places_in}
 use Rattle.mm_query.specs.Serving.{is_key_field, refers_to_table, tree_on}
@@ -256,7 +260,8 @@ module _ (schema : Schema) (store : Tables) (kept : AreKept schema store) (keys 
 
       by_tests : (a b : Bool) → forward ≡ a → backward ≡ b
           → Paired plain (cond a (Some left_key) (cond b (Some right_key) None))
-          (cond a (Some (record { own = left; earlier = right; is_shifted = shifted })) (cond b (Some (record { own = right; earlier = left; is_shifted = shifted })) None))
+          (cond a (Some (record { own = left; earlier = right; is_shifted = shifted }))
+          (cond b (Some (record { own = right; earlier = left; is_shifted = shifted })) None))
       by_tests true b forth back =
           let told = and_parts (own_left.place == q) (nat_lt own_right.place q) (forward_is ∙ forth) in
           record {
@@ -283,17 +288,21 @@ module _ (schema : Schema) (store : Tables) (kept : AreKept schema store) (keys 
 
       between_paired : Paired plain (key_between q (place_of left) (place_of right) by) (joined_fields earlier item.alias shifted left right)
       between_paired =
-          subst (λ (p : FieldPlace). Paired plain (key_between q p (place_of right) by) (joined_fields earlier item.alias shifted left right)) (sym (placed_is own_left))
+          subst (λ (p : FieldPlace). Paired plain (key_between q p (place_of right) by) (joined_fields earlier item.alias shifted left right))
+          (sym (placed_is own_left))
           (subst
-          (λ (p : FieldPlace). Paired plain (key_between q (record { place = own_left.place; column = own_left.number }) p by) (joined_fields earlier item.alias shifted left right))
+          (λ (p : FieldPlace). Paired plain (key_between q (record { place = own_left.place; column = own_left.number }) p by)
+          (joined_fields earlier item.alias shifted left right))
           (sym (placed_is own_right))
           (subst (λ b. Paired plain (cond b (Some left_key) (cond ((own_right.place == q) && nat_lt own_left.place q) (Some right_key) None))
           (joined_fields earlier item.alias shifted left right)) (sym forward_is)
-          (subst (λ b. Paired plain (cond forward (Some left_key) (cond b (Some right_key) None)) (joined_fields earlier item.alias shifted left right)) (sym backward_is)
+          (subst (λ b. Paired plain (cond forward (Some left_key) (cond b (Some right_key) None)) (joined_fields earlier item.alias shifted left right))
+          (sym backward_is)
           (by_tests forward backward refl refl))))
 
     sides_paired : (left : FieldName) (right : Operand FieldName) → IsOwn left → ((field : FieldName) → column_of right ≡ Some field → IsOwn field)
-        → Paired (is_plain (mapped_operand place_of right)) (key_beside q (place_of left) (mapped_operand place_of right)) (joined_sides earlier item.alias left right)
+        → Paired (is_plain (mapped_operand place_of right)) (key_beside q (place_of left) (mapped_operand place_of right))
+        (joined_sides earlier item.alias left right)
     sides_paired left (Literal value) own others = tt
     sides_paired left (Other right) own others = between_paired left right own (others right refl) (pos 0) false true refl
     sides_paired left (Shifted right by) own others = between_paired left right own (others right refl) by true false refl
@@ -303,29 +312,35 @@ module _ (schema : Schema) (store : Tables) (kept : AreKept schema store) (keys 
     atom_paired atom own others = by_test (is_equality atom.comparison)
       where
         by_test : (b : Bool) → Paired (is_plain (mapped_operand place_of atom.right))
-            (cond b (key_beside q (place_of atom.left) (mapped_operand place_of atom.right)) None) (cond b (joined_sides earlier item.alias atom.left atom.right) None)
+            (cond b (key_beside q (place_of atom.left) (mapped_operand place_of atom.right)) None)
+            (cond b (joined_sides earlier item.alias atom.left atom.right) None)
         by_test true = sides_paired atom.left atom.right own others
         by_test false = tt
 
     -- A rule by places and by names.
     module _ (rule : JoinRule) (line_of : JoinEquality → Option PlanLine)
-        (agree : (i : ℕ) (right : Operand FieldPlace) (key : JoinKey) (equality : JoinEquality) → key_by atoms q i ≡ Some key → Matches (is_plain right) key equality
+        (agree : (i : ℕ) (right : Operand FieldPlace) (key : JoinKey) (equality : JoinEquality) → key_by atoms q i ≡ Some key
+        → Matches (is_plain right) key equality
         → option_map name (join_rule rule store atoms outers of.place i right key) ≡ line_of equality) where
-      by_pair : (i : ℕ) (right : Operand FieldPlace) (o : Option JoinKey) (equality : Option JoinEquality) → key_by atoms q i ≡ o → Paired (is_plain right) o equality
+      by_pair : (i : ℕ) (right : Operand FieldPlace) (o : Option JoinKey) (equality : Option JoinEquality) → key_by atoms q i ≡ o
+          → Paired (is_plain right) o equality
           → option_map name (option_and_then (join_rule rule store atoms outers of.place i right) o) ≡ option_and_then line_of equality
       by_pair i right None None is pair = refl
       by_pair i right None (Some equality) is pair = absurd pair
       by_pair i right (Some key) None is pair = absurd pair
       by_pair i right (Some key) (Some equality) is pair = agree i right key equality is pair
 
-      rule_named : option_map name (first_from (joined_by rule store atoms outers of.place) 0 atoms) ≡ first_given line_of (join_equalities earlier item.alias query.atoms)
+      rule_named : option_map name (first_from (joined_by rule store atoms outers of.place) 0 atoms)
+          ≡ first_given line_of (join_equalities earlier item.alias query.atoms)
       rule_named =
-          first_named name place_of (joined_by rule store atoms outers of.place) (λ atom. option_and_then line_of (join_equality earlier item.alias atom)) 0 query.atoms
+          first_named name place_of (joined_by rule store atoms outers of.place) (λ atom. option_and_then line_of (join_equality earlier item.alias atom)) 0
+          query.atoms
           (λ i place atom is found.
           let here : place ≡ i = omega (arith, is) in
           let placed : slice_get atoms place ≡ Some (mapped_atom place_of atom) =
           ap (slice_get atoms) here ∙ (slice_get-map (mapped_atom place_of) query.atoms i ∙ ap (option_map (mapped_atom place_of)) found) in
-          ap (λ n. option_map name (option_and_then (join_rule rule store atoms outers of.place place (mapped_operand place_of atom.right)) (key_of n (mapped_atom place_of atom))))
+          ap (λ n. option_map name (option_and_then (join_rule rule store atoms outers of.place place (mapped_operand place_of atom.right))
+          (key_of n (mapped_atom place_of atom))))
           (length-map earlier (λ (x : FromItem). unwrap_or (table_place x.table schema) 0))
           ∙ by_pair place (mapped_operand place_of atom.right) (key_of q (mapped_atom place_of atom)) (join_equality earlier item.alias atom)
           (ap (option_and_then (key_of q)) placed)
@@ -339,7 +354,8 @@ module _ (schema : Schema) (store : Tables) (kept : AreKept schema store) (keys 
         sym (table_at schema store.tables query.from m.own.place m.own.item m.own.of m.own.item_is)
         ∙ (ap (λ n. get_or (places_in schema query.from) n 0) m.own_here ∙ table_at schema store.tables query.from q item of at)
 
-    module _ (i : ℕ) (right : Operand FieldPlace) (key : JoinKey) (equality : JoinEquality) (is : key_by atoms q i ≡ Some key) (m : Matches (is_plain right) key equality) where
+    module _ (i : ℕ) (right : Operand FieldPlace) (key : JoinKey) (equality : JoinEquality) (is : key_by atoms q i ≡ Some key)
+        (m : Matches (is_plain right) key equality) where
       built : option_map name (join_rule join.BuiltHash store atoms outers of.place i right key) ≡ built_hash_line item equality
       built =
           ap Some (λ j. line.BuiltHash (alias_is j) (column_is j))
@@ -390,10 +406,12 @@ module _ (schema : Schema) (store : Tables) (kept : AreKept schema store) (keys 
           (slice_get-map place_in earlier m.other.place
           ∙ (ap (option_map place_in) other_there ∙ ap (λ (o : Option ℕ). Some (unwrap_or o 0)) m.other.of.place_is))
 
-      joined_along : option_map name (join_rule join.TreeJoin store atoms outers of.place i right key) ≡ tree_join_line schema counts query.from earlier item equality
+      joined_along : option_map name (join_rule join.TreeJoin store atoms outers of.place i right key)
+          ≡ tree_join_line schema counts query.from earlier item equality
       joined_along =
           guarded_named name (follows_shorter store outers of.place) (plans.follows_shorter schema counts earlier item)
-          (option_map (λ own. step.TreeJoin own i) (tree_at store of.place key.column)) (option_map (line.TreeJoin item.alias) (tree_on schema query.from equality.own))
+          (option_map (λ own. step.TreeJoin own i) (tree_at store of.place key.column))
+          (option_map (line.TreeJoin item.alias) (tree_on schema query.from equality.own))
           (shorter_is earlier (item ∷ others) item of split)
           (λ short. each (tree_at store of.place key.column) ∙ ap (option_map (line.TreeJoin item.alias)) own_tree)
         where
@@ -416,7 +434,8 @@ module _ (schema : Schema) (store : Tables) (kept : AreKept schema store) (keys 
       merged : option_map name (join_rule join.TreeMerge store atoms outers of.place i right key) ≡ tree_merge_line schema query earlier item equality
       merged =
           guarded_named name (follows_scan store atoms outers) (plans.follows_scan schema query earlier) (merge_of store outers of.place i key)
-          (option_and_then (λ outer. option_map (line.TreeMerge item.alias outer) (tree_on schema query.from equality.own)) (tree_on schema query.from equality.earlier))
+          (option_and_then (λ outer. option_map (line.TreeMerge item.alias outer) (tree_on schema query.from equality.own))
+          (tree_on schema query.from equality.earlier))
           (scan_is earlier (item ∷ others) split)
           (λ scans.
           let one = only_one outers (scan_is earlier (item ∷ others) split ∙ scans) in
@@ -424,7 +443,8 @@ module _ (schema : Schema) (store : Tables) (kept : AreKept schema store) (keys 
           ∙ (λ j. option_and_then (λ outer. option_map (line.TreeMerge item.alias outer) (own_tree j)) (other_tree (one_earlier one.0 one.1) j)))
         where
           pairs : (to with : Option IndexRef) → option_map name (option_and_then (λ outer. option_map (λ inner. step.TreeMerge outer inner i) with) to)
-              ≡ option_and_then (λ outer. option_map (line.TreeMerge item.alias outer) (option_map (tree_named all_names q) with)) (option_map (tree_named all_names 0) to)
+              ≡ option_and_then (λ outer. option_map (line.TreeMerge item.alias outer) (option_map (tree_named all_names q) with))
+              (option_map (tree_named all_names 0) to)
           pairs None with = refl
           pairs (Some outer) None = refl
           pairs (Some outer) (Some inner) = ap Some (λ j. line.TreeMerge (alias_is j) (tree_named all_names 0 outer) (tree_named all_names q inner))
@@ -438,7 +458,8 @@ module _ (schema : Schema) (store : Tables) (kept : AreKept schema store) (keys 
       target_there : (target : List ℕ) → target_of m.other.column ≡ Some target → Stands schema store.tables (record { table = target; alias = [] })
       target_there target is =
           let table = m.other.of.table in
-          let here : get_or schema.tables m.other.of.place table ≡ table = get_or_from_slice_get schema.tables m.other.of.place table table m.other.of.table_is in
+          let here : get_or schema.tables m.other.of.place table
+          ≡ table = get_or_from_slice_get schema.tables m.other.of.place table table m.other.of.table_is in
           let none : list_any (lacks_target schema) table.definition.columns ≡ false =
           subst (λ (t : Table). list_any (lacks_target schema) t.definition.columns ≡ false) here
           (All-get_or (λ (t : Table). list_any (lacks_target schema) t.definition.columns ≡ false) schema.tables m.other.of.place table
@@ -455,7 +476,8 @@ module _ (schema : Schema) (store : Tables) (kept : AreKept schema store) (keys 
           m.other.of.table_is m.other.column_is agree
           ∙ sym (ap (λ (o : Option Column). option_map_or (refers_to item.table) o false) (column_found m.other)))
         where
-          agree : (target : List ℕ) → target_of m.other.column ≡ Some target → (of.place == unwrap_or (table_place target schema) 0) ≡ same_name item.table target
+          agree : (target : List ℕ) → target_of m.other.column ≡ Some target → (of.place == unwrap_or (table_place target schema) 0)
+              ≡ same_name item.table target
           agree target is =
               let has = target_there target is in
               ap (λ (o : Option ℕ). of.place == unwrap_or o 0) has.place_is
@@ -522,17 +544,21 @@ module _ (schema : Schema) (store : Tables) (kept : AreKept schema store) (keys 
       of : Stands schema store.tables item
       of = stands_at (length earlier) item at
 
-      here : named all_names atoms (length earlier) (step_for store atoms (places_in schema earlier) (place_in item)) ≡ line_for schema counts query earlier item
+      here : named all_names atoms (length earlier) (step_for store atoms (places_in schema earlier) (place_in item))
+          ≡ line_for schema counts query earlier item
       here =
-          ap (λ t. named all_names atoms (length earlier) (step_for store atoms (places_in schema earlier) t)) (ap (λ (o : Option ℕ). unwrap_or o 0) of.place_is)
+          ap (λ t. named all_names atoms (length earlier) (step_for store atoms (places_in schema earlier) t))
+          (ap (λ (o : Option ℕ). unwrap_or o 0) of.place_is)
           ∙ step_named earlier item items split at of
 
       many : suc (length earlier) ≡ length (earlier ++ item ∷ [])
       many = let count = length-append earlier (item ∷ []) in omega (arith, count)
 
-      later : named_from all_names atoms (length (earlier ++ item ∷ [])) (steps_behind store atoms (places_in schema (earlier ++ item ∷ [])) (places_in schema items))
+      later : named_from all_names atoms (length (earlier ++ item ∷ []))
+          (steps_behind store atoms (places_in schema (earlier ++ item ∷ [])) (places_in schema items))
           ≡ lines_behind schema counts query (earlier ++ item ∷ []) items
-          → named_from all_names atoms (suc (length earlier)) (steps_behind store atoms (places_in schema earlier ++ place_in item ∷ []) (places_in schema items))
+          → named_from all_names atoms (suc (length earlier))
+          (steps_behind store atoms (places_in schema earlier ++ place_in item ∷ []) (places_in schema items))
           ≡ lines_behind schema counts query (earlier ++ item ∷ []) items
       later rest =
           (λ j. named_from all_names atoms (many j) (steps_behind store atoms (sym (map-append place_in earlier (item ∷ [])) j) (places_in schema items)))

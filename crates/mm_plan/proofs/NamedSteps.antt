@@ -11,7 +11,8 @@ use Rattle.mm_plan.specs.Kept.{AreKept, HaveOneKey, instance_of}
 use Rattle.mm_plan.specs.Naming.{named_steps, names_of}
 use Rattle.mm_query.proofs.PlacedQueries.{none_hold}
 use Rattle.mm_query.specs.Plans.{plan_of}
-use Rattle.mm_query.specs.Resolving.{column_of, field_lacks_column, has_duplicate_aliases, lacks_alias, lacks_position, placed_query, places_in, query_conditions, some_field, some_side}
+use Rattle.mm_query.specs.Resolving.{column_of, field_lacks_column, has_duplicate_aliases, lacks_alias, lacks_position, placed_query, places_in}
+use Rattle.mm_query.specs.Resolving.{query_conditions, some_field, some_side}
 use Rattle.mm_query.specs.declared.atom.Atom.{Atom}
 use Rattle.mm_query.specs.Fields.{FieldName}
 use Rattle.mm_query.specs.declared.query.FromItem.{FromItem}
@@ -31,13 +32,14 @@ module _ (schema : Schema) (store : Tables) (query : Query) (kept : AreKept sche
   duplicates : has_duplicate_aliases query.from ≡ false
   duplicates = none.1.1.0
 
-  module _ (test : FieldName → Bool) (passed : some_field test query ≡ false) (i : ℕ) (atom : Atom FieldName) (found : slice_get query.atoms i ≡ Some atom) where
-    sides : (test atom.left ≡ false) × (option_map_or test (column_of atom.right) false ≡ false)
-    sides = or_parts (test atom.left) (option_map_or test (column_of atom.right) false)
-        (fails_at (some_side test) query.atoms i atom (or_parts (list_any test query.fields) (list_any (some_side test) query.atoms) passed).1 found)
+  module _ (test : FieldName → Bool) (passed : some_field test query ≡ false) (i : ℕ) (atom : Atom FieldName) (found : slice_get query.atoms i ≡ Some atom)
+    where
+      sides : (test atom.left ≡ false) × (option_map_or test (column_of atom.right) false ≡ false)
+      sides = or_parts (test atom.left) (option_map_or test (column_of atom.right) false)
+          (fails_at (some_side test) query.atoms i atom (or_parts (list_any test query.fields) (list_any (some_side test) query.atoms) passed).1 found)
 
-    other : (field : FieldName) → column_of atom.right ≡ Some field → test field ≡ false
-    other field is = sym (ap (λ (o : Option FieldName). option_map_or test o false) is) ∙ sides.1
+      other : (field : FieldName) → column_of atom.right ≡ Some field → test field ≡ false
+      other field is = sym (ap (λ (o : Option FieldName). option_map_or test o false) is) ∙ sides.1
 
   columns : some_field (field_lacks_column schema query.from) query ≡ false
   columns = (or_parts (some_field (field_lacks_column schema query.from) query) (list_any (lacks_position query.fields) query.order) none.1.0).0

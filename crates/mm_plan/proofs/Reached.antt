@@ -1,5 +1,6 @@
 -- A test of the store's references tells what a column of the catalog refers to.
-use Rattle.std.proofs.Common.{◌≡◌, ℕ, zero, suc, ◌+◌, ◌<◌, Bool, true, false, not, ◌&&◌, ◌||◌, List, [], ◌∷◌, map, Option, Some, None, refl, sym, ap, ◌∙◌, arith}
+use Rattle.std.proofs.Common.{◌≡◌, ℕ, zero, suc, ◌+◌, ◌<◌, Bool, true, false, not, ◌&&◌, ◌||◌, List, [], ◌∷◌, map, Option, Some, None, refl, sym, ap, ◌∙◌}
+use Rattle.std.proofs.Common.{arith}
 use Rattle.std.specs.Prelude.{◌==◌, slice_get}
 use Rattle.std.specs.List.{list_any}
 use Rattle.std.specs.Option.{option_map_or, unwrap_or}
@@ -134,5 +135,6 @@ module _ (schema : Schema) (store : Tables) (links : store.links ≡ all_referen
   refers_by_name =
       ap (λ (rs : List Reference). list_any (same_reference (record { from = from; column = column; to = to })) rs
       && not (list_any (differs_in_target (record { from = from; column = column; to = to })) rs)) links
-      ∙ ((λ i. of_column schema from column (λ n. to == n) table own found has i && not (of_column schema from column (λ n. not (to == n)) table own found has i))
+      ∙ ((λ i. of_column schema from column (λ n. to == n) table own found has i && not
+      (of_column schema from column (λ n. not (to == n)) table own found has i))
       ∙ by_target (target_of own) refl)

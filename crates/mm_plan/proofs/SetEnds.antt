@@ -99,5 +99,6 @@ module _ (stored : StoredRows) (atoms : List (Atom FieldPlace)) (index : IndexRe
       → (row : List Value) → lies_between (get_or atoms place d).left.column low high row ≡ may_look atoms 0 own [] row
   range_along d own is low high low_is high_is row =
       (λ i. lies_between (get_or atoms place d).left.column (low_is i) (high_is i) row)
-      ∙ (sym (ap (λ o. option_map_or (λ (a : Atom FieldPlace). lies_between a.left.column (low_end atoms a.left.column) (high_end atoms a.left.column) row) o true)
+      ∙ (sym (ap (λ o. option_map_or (λ (a : Atom FieldPlace). lies_between a.left.column (low_end atoms a.left.column) (high_end atoms a.left.column) row) o
+      true)
       (range_atom d)) ∙ ap (λ (s : Step). may_look atoms 0 s [] row) (sym is))

@@ -8,7 +8,8 @@ use Rattle.std.proofs.lemmas.Option.{cond_some, same_Some, slice_get-get_or, sli
 use Rattle.mm_join.specs.Keys.{key_beside, key_of}
 use Rattle.mm_join.specs.declared.key.JoinKey.{JoinKey}
 use Rattle.mm_plan.proofs.Allowed.{AllGive, as_many, beside_earlier, followed, from_start, guarded, mapped, step_at}
-use Rattle.mm_plan.specs.Choosing.{first_from, follows_scan, follows_shorter, hash_at, is_plain, is_referred, join_rule, joined_by, merge_of, next_step, steps_of, tree_at}
+use Rattle.mm_plan.specs.Choosing.{first_from, follows_scan, follows_shorter, hash_at, is_plain, is_referred, join_rule, joined_by, merge_of, next_step}
+use Rattle.mm_plan.specs.Choosing.{steps_of, tree_at}
 use Rattle.mm_plan.specs.declared.choosing.JoinRule.{JoinRule}
 use Rattle.mm_plan.specs.declared.choosing.JoinRule.TheVariants as join
 use Rattle.mm_plan.specs.declared.step.Step.{Step}
@@ -63,7 +64,8 @@ module _ (store : Tables) (atoms : List (Atom FieldPlace)) (outers : List ℕ) (
       let (inner, has, is) = mapped (λ inner. step.TreeMerge outer inner place) (tree_at store table key.column) s rest in
       let same : step.TreeMerge outer inner place ≡ step.NestedLoops = is ∙ nested in cc
   rule_is_other join.TreeJoin place own key s e = λ nested.
-      let (follows, joins) = guarded (follows_shorter store outers table) (option_map (λ index. step.TreeJoin index place) (tree_at store table key.column)) s e in
+      let (follows, joins) = guarded (follows_shorter store outers table) (option_map (λ index. step.TreeJoin index place) (tree_at store table key.column)) s
+      e in
       let (index, has, is) = mapped (λ index. step.TreeJoin index place) (tree_at store table key.column) s joins in
       let same : step.TreeJoin index place ≡ step.NestedLoops = is ∙ nested in cc
   rule_is_other join.HashJoin place own key s e = λ nested.

@@ -1,7 +1,8 @@
 -- The steps of a query: one for each table of FROM, chosen by fixed rules. Of the atoms that fit a rule the first written is taken, and
 -- for it the index created first; that on the key counts as the first tree (the access paths and join methods of Lehman and Carey,
 -- SIGMOD 1986).
-use Rattle.std.specs.Prelude.{ℕ, suc, ◌*◌, ◌==◌, ◌&&◌, Bool, true, false, not, if◌then◌else◌, List, [], ◌∷◌, ◌++◌, Option, Some, None, get_or, length, nat_lt, position, slice_get}
+use Rattle.std.specs.Prelude.{ℕ, suc, ◌*◌, ◌==◌, ◌&&◌, Bool, true, false, not, if◌then◌else◌, List, [], ◌∷◌, ◌++◌, Option, Some, None, get_or, length, nat_lt}
+use Rattle.std.specs.Prelude.{position, slice_get}
 use Rattle.std.specs.List.{list_any}
 use Rattle.std.specs.Option.{option_and_then, option_map, unwrap_or}
 use Rattle.mm_join.specs.Keys.{key_of}

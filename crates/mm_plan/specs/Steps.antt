@@ -1,5 +1,6 @@
 -- The steps of a plan: which a query allows, and how many rows running them may look at.
-use Rattle.std.specs.Prelude.{◌≡◌, ℕ, suc, ◌+◌, ◌==◌, ◌++◌, ◌∷◌, ◌&&◌, not, pos, if◌then◌else◌, Bool, true, List, [], Option, Some, None, length, slice_get, slice_index, take}
+use Rattle.std.specs.Prelude.{◌≡◌, ℕ, suc, ◌+◌, ◌==◌, ◌++◌, ◌∷◌, ◌&&◌, not, pos, if◌then◌else◌, Bool, true, List, [], Option, Some, None, length, slice_get}
+use Rattle.std.specs.Prelude.{slice_index, take}
 use Rattle.std.specs.List.{sum_by}
 use Rattle.std.specs.Option.{option_map_or}
 use Rattle.std.specs.declared.cmp.Ordering.{Ordering}

@@ -59,7 +59,8 @@ module _ (schema : Schema) where
   update_place (written.Update name written_assignments written_tests) place assignments tests binds = binds.table
   update_place (written.Delete name written_tests) place assignments tests binds = absurd binds
 
-  pub update_pairs : (mutation : Mutation) (place : ℕ) (assignments : List (Assignment ℕ)) (tests : List (Atom FieldPlace)) (state : State) → state.schema ≡ schema
+  pub update_pairs : (mutation : Mutation) (place : ℕ) (assignments : List (Assignment ℕ)) (tests : List (Atom FieldPlace)) (state : State) → state.schema
+      ≡ schema
       → Binds schema mutation (bound.Update place assignments tests)
       → own_pairs mutation state
       ≡ map (λ (row : List Value). (Some row, Some (updated_row assignments row)))

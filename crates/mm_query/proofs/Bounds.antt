@@ -10,7 +10,8 @@ use Rattle.mm_schema.specs.Schema.{Schema, lacks_table, table_place}
 use Rattle.mm_value.specs.declared.refusal.Refusal.TheVariants.{AliasTaken, NoSuchTable}
 use Rattle.mm_query.specs.Faults.{fault_conditions, noted}
 use Rattle.mm_query.specs.Placing.{mismatches}
-use Rattle.mm_query.specs.Resolving.{field_lacks_column, field_type, has_duplicate_aliases, lacks_alias, lacks_position, passes_query_limits, places_in, query_conditions, some_side}
+use Rattle.mm_query.specs.Resolving.{field_lacks_column, field_type, has_duplicate_aliases, lacks_alias, lacks_position, exceeds_query_limits, places_in}
+use Rattle.mm_query.specs.Resolving.{query_conditions, some_side}
 use Rattle.mm_query.specs.declared.atom.Atom.{Atom}
 use Rattle.mm_query.specs.declared.faults.Faults.{Faults}
 use Rattle.mm_query.specs.Fields.{FieldName}
@@ -44,7 +45,7 @@ module _ (schema : Schema) (query : Query) (catalog : Schema) (catalog_is : cata
         duplicate = has_duplicate_aliases query.from;
         alias = false;
         mismatch = false;
-        too_many = passes_query_limits query;
+        too_many = exceeds_query_limits query;
       }
       → first ≡ with_fields form → all ≡ with_atoms first → first_refusal (query_conditions query schema) ≡ first_refusal (fault_conditions AliasTaken all)
   due_by_faults there form first all form_is first_is all_is =
@@ -60,7 +61,7 @@ module _ (schema : Schema) (query : Query) (catalog : Schema) (catalog_is : cata
         duplicate = has_duplicate_aliases query.from;
         alias = list_any (lacks_alias (from_is i)) (fields_are i) || list_any (some_side (lacks_alias (from_is i))) query.atoms;
         mismatch = list_any (λ (a : Atom FieldName). mismatches (field_type (catalog_is i) (from_is i)) a.left a.right) query.atoms;
-        too_many = passes_query_limits query;
+        too_many = exceeds_query_limits query;
       })))
 
 -- The places of tables that are there lie within the catalog.

@@ -1,5 +1,6 @@
 -- The names of a query, resolved by the places of its tables.
-use Rattle.std.proofs.Common.{◌≡◌, ℕ, ◌+◌, ◌<◌, ◌≤◌, ◌||◌, ◌⊎◌, Bool, true, false, List, [], ◌∷◌, ◌++◌, Option, Some, None, find, get_or, inl, inr, is_none, length, slice_get, take, refl, sym, ap, ◌∙◌, arith}
+use Rattle.std.proofs.Common.{◌≡◌, ℕ, ◌+◌, ◌<◌, ◌≤◌, ◌||◌, ◌⊎◌, Bool, true, false, List, [], ◌∷◌, ◌++◌, Option, Some, None, find, get_or, inl, inr, is_none}
+use Rattle.std.proofs.Common.{length, slice_get, take, refl, sym, ap, ◌∙◌, arith}
 use Rattle.std.specs.List.{list_any}
 use Rattle.std.specs.Option.{option_and_then, option_map, option_map_or, unwrap_or}
 use Rattle.std.proofs.lemmas.Bool.{false≢true}
@@ -74,7 +75,8 @@ module _ (schema : Schema) (from : List FromItem) (field : FieldName) where
     pub nowhere_noted : (faults : Faults) → record faults { alias = true } ≡ noted (field_lacks_column schema from field) (lacks_alias from field) false faults
     nowhere_noted faults =
         sym (noted_alias faults)
-        ∙ λ i. noted (option_map_or (λ (t : Table). lacks_column t.definition.columns field.column) (sym no_table_of i) false) (is_none (sym nowhere i)) false faults
+        ∙ λ i. noted (option_map_or (λ (t : Table). lacks_column t.definition.columns field.column) (sym no_table_of i) false) (is_none (sym nowhere i)) false
+        faults
 
   module _ (tables : List ℕ) (there : list_any (is_missing schema) from ≡ false) (places : tables ≡ places_in schema from)
       (i : ℕ) (at : alias_place from field.alias ≡ Some i) where

@@ -12,7 +12,8 @@ use Rattle.mm_value.specs.declared.refusal.Refusal.{Refusal}
 use Rattle.mm_value.specs.declared.refusal.Refusal.TheVariants.{NameTaken, NoSuchColumn, NoSuchTable}
 use Rattle.mm_query.specs.Binding.{AssignmentsWithin, BindsDelete, BindsUpdate, TestsWithin, assignments_for, at_first, atoms_for, tests_for}
 use Rattle.mm_query.specs.Faults.{fault_conditions, noted}
-use Rattle.mm_query.specs.Placing.{assignment_lacks_column, atom_lacks_column, column_conditions, has_duplicate_targets, mapped_atom, mismatches, placed_assignment, placed_atom, type_named}
+use Rattle.mm_query.specs.Placing.{assignment_lacks_column, atom_lacks_column, column_conditions, has_duplicate_targets, mapped_atom, mismatches}
+use Rattle.mm_query.specs.Placing.{placed_assignment, placed_atom, type_named}
 use Rattle.mm_query.specs.declared.atom.Assignment.{Assignment}
 use Rattle.mm_query.specs.declared.atom.Atom.{Atom}
 use Rattle.mm_query.specs.declared.bound_query.FieldPlace.{FieldPlace}

@@ -1,5 +1,6 @@
 -- A query in which no condition holds names what is there.
-use Rattle.std.proofs.Common.{◌≡◌, ℕ, zero, suc, ◌-◌, ◌<◌, Bool, true, false, cond, ◌==◌, List, [], ◌∷◌, Option, Some, None, find, is_none, length, map, nat_lt, inl, inr, refl, sym, ap, ◌∙◌, subst, arith}
+use Rattle.std.proofs.Common.{◌≡◌, ℕ, zero, suc, ◌-◌, ◌<◌, Bool, true, false, cond, ◌==◌, List, [], ◌∷◌, Option, Some, None, find, is_none, length, map}
+use Rattle.std.proofs.Common.{nat_lt, inl, inr, refl, sym, ap, ◌∙◌, subst, arith}
 use Rattle.std.specs.List.{All, AllByRecursion, list_any}
 use Rattle.std.specs.Option.{option_and_then, option_map_or, unwrap_or}
 use Rattle.std.proofs.lemmas.Bool.{false≢true, ltb-false, or_parts}
@@ -12,7 +13,8 @@ use Rattle.mm_schema.specs.Refused.{Condition, first_refusal}
 use Rattle.mm_schema.specs.Schema.{Schema, columns_named, lacks_table, table_named}
 use Rattle.mm_schema.specs.declared.table.Table.{Table}
 use Rattle.mm_query.specs.Placing.{lacks_column, mapped_atom, mapped_operand, placed}
-use Rattle.mm_query.specs.Resolving.{IsAtomWithin, IsFieldWithin, IsQueryWithin, alias_place, column_of, field_lacks_column, lacks_alias, lacks_position, placed_field, placed_query, query_conditions, some_field, some_side, table_of, width_at}
+use Rattle.mm_query.specs.Resolving.{IsAtomWithin, IsFieldWithin, IsQueryWithin, alias_place, column_of, field_lacks_column, lacks_alias, lacks_position}
+use Rattle.mm_query.specs.Resolving.{placed_field, placed_query, query_conditions, some_field, some_side, table_of, width_at}
 use Rattle.mm_query.specs.declared.atom.Atom.{Atom}
 use Rattle.mm_query.specs.declared.atom.Operand.{Operand}
 use Rattle.mm_query.specs.declared.atom.Operand.TheVariants.{Literal, Column, Shifted}
@@ -48,7 +50,8 @@ module _ (schema : Schema) (from : List FromItem) (field : FieldName) where
       ap (λ (t : Option Table). option_map_or (λ (u : Table). placed u.definition.columns field.column) t 0) of in
       let wide : width_at schema from (placed_field schema from field).place ≡ length columns =
       ap (λ (o : Option ℕ). width_at schema from (unwrap_or o 0)) at
-      ∙ (ap (λ (o : Option FromItem). option_map_or (λ (x : FromItem). length (columns_named x.table schema)) o 0) (sym (find_at_place is_item from i at) ∙ found)
+      ∙ (ap (λ (o : Option FromItem). option_map_or (λ (x : FromItem). length (columns_named x.table schema)) o 0)
+      (sym (find_at_place is_item from i at) ∙ found)
       ∙ ap (λ (t : Option Table). length (option_map_or (λ (u : Table). u.definition.columns) t [])) named) in
       omega (arith, column_is, wide, placed_within columns field.column here)
 
@@ -94,7 +97,8 @@ module _ (schema : Schema) (from : List FromItem) (tables : list_any (λ (item :
       → (field : FieldPlace) → column_of (mapped_operand place_of operand) ≡ Some field → IsFieldWithin schema from field
   operand_within (Literal value) c a field is = cc
   operand_within (Column f) c a field is = let same : place_of f ≡ field = cc in subst (IsFieldWithin schema from) same (field_within schema from f tables c a)
-  operand_within (Shifted f by) c a field is = let same : place_of f ≡ field = cc in subst (IsFieldWithin schema from) same (field_within schema from f tables c a)
+  operand_within (Shifted f by) c a field is = let same : place_of f
+      ≡ field = cc in subst (IsFieldWithin schema from) same (field_within schema from f tables c a)
 
   atoms_within : (atoms : List (Atom FieldName)) → list_any (some_side (field_lacks_column schema from)) atoms ≡ false
       → list_any (some_side (lacks_alias from)) atoms ≡ false → All (IsAtomWithin schema from) (map (mapped_atom place_of) atoms)
@@ -123,7 +127,8 @@ pub query_within : (schema : Schema) (query : Query) → first_refusal (query_co
 query_within schema query none =
     let hold = none_hold (query_conditions query schema) none in
     let columns = or_parts (some_field (field_lacks_column schema query.from) query) (list_any (lacks_position query.fields) query.order) hold.1.0 in
-    let missing = or_parts (list_any (field_lacks_column schema query.from) query.fields) (list_any (some_side (field_lacks_column schema query.from)) query.atoms) columns.0 in
+    let missing = or_parts (list_any (field_lacks_column schema query.from) query.fields)
+    (list_any (some_side (field_lacks_column schema query.from)) query.atoms) columns.0 in
     let aliases = or_parts (list_any (lacks_alias query.from) query.fields) (list_any (some_side (lacks_alias query.from)) query.atoms) hold.1.1.1.0 in
     record {
       tables = hold.0;

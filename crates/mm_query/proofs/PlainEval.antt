@@ -1,5 +1,6 @@
 -- What the plain evaluation finds is the bag of the query.
-use Rattle.std.proofs.Common.{◌≡◌, ℕ, ◌+◌, ◌≤◌, ◌<◌, Bool, true, false, cond, List, [], ◌∷◌, ◌++◌, Option, Some, None, get_or, length, map, nat_lt, take, Bor, refl, sym, ap, ◌∙◌, arith, append_assoc}
+use Rattle.std.proofs.Common.{◌≡◌, ℕ, ◌+◌, ◌≤◌, ◌<◌, Bool, true, false, cond, List, [], ◌∷◌, ◌++◌, Option, Some, None, get_or, length, map, nat_lt, take, Bor}
+use Rattle.std.proofs.Common.{refl, sym, ap, ◌∙◌, arith, append_assoc}
 use Rattle.std.specs.List.{filter, flat_map}
 use Rattle.std.specs.Option.{option_copied}
 use Rattle.std.proofs.lemmas.Bool.{le-ltb, lt-ltb, ltb-false, ltb-true}
@@ -58,7 +59,8 @@ module _ (query : BoundQuery) where
       ∙ ap (λ l. map (values_of query.fields) (filter (none_fails query.atoms) (map Some l ∷ []))) (sym (append-nil front))
   found_is (next ∷ lists) front = each next (found_is lists)
     where
-      each : (rows : List Row) → ((f : List Row) → found_behind query (map Some f) lists ≡ among f (combinations lists)) → flat_map (λ row. found_behind query (map Some front ++ Some row ∷ []) lists) rows
+      each : (rows : List Row) → ((f : List Row) → found_behind query (map Some f) lists ≡ among f (combinations lists))
+          → flat_map (λ row. found_behind query (map Some front ++ Some row ∷ []) lists) rows
           ≡ among front (flat_map (λ row. map (λ c. row ∷ c) (combinations lists)) rows)
       each [] behind = refl
       each (row ∷ rows) behind =
@@ -124,4 +126,12 @@ module _ (f : Row → List Row) (old : List Row) (rows : List Row) (i : ℕ) (ro
   next_is_part =
       let part : length (flat_map f (take i rows)) + length (f (get_or rows i row)) ≤ length (flat_map f rows) = length-flat_map-take f rows i row inside in
       let same : length (f row) ≡ length (f (get_or rows i row)) = ap (λ r. length (f r)) is in
-      omega (arith, ap length so_far, length-append found (f row), length-append old (flat_map f (take i rows)), length-append old (flat_map f rows), part, same)
+      omega (
+        arith,
+        ap length so_far,
+        length-append found (f row),
+        length-append old (flat_map f (take i rows)),
+        length-append old (flat_map f rows),
+        part,
+        same,
+      )

@@ -9,7 +9,8 @@ use Rattle.mm_schema.specs.Columns.{column_place}
 use Rattle.mm_schema.specs.Name.{same_name}
 use Rattle.mm_schema.specs.declared.column.Column.{Column}
 use Rattle.mm_query.specs.Atoms.{IsWithin, ReadsWithin}
-use Rattle.mm_query.specs.Placing.{assignment_lacks_column, atom_lacks_column, lacks_column, operand_lacks_column, placed, placed_assignment, placed_atom, placed_operand, type_named}
+use Rattle.mm_query.specs.Placing.{assignment_lacks_column, atom_lacks_column, lacks_column, operand_lacks_column, placed, placed_assignment, placed_atom}
+use Rattle.mm_query.specs.Placing.{placed_operand, type_named}
 use Rattle.mm_query.specs.declared.atom.Assignment.{Assignment}
 use Rattle.mm_query.specs.declared.atom.Atom.{Atom}
 use Rattle.mm_query.specs.declared.atom.Operand.{Operand}

@@ -13,7 +13,8 @@ use Rattle.mm_schema.specs.Sorting.{in_order}
 use Rattle.mm_schema.specs.declared.index.IndexDef.{IndexDef}
 use Rattle.mm_schema.specs.declared.table.Table.{Table}
 use Rattle.mm_value.specs.declared.refusal.Refusal.{Refusal}
-use Rattle.mm_value.specs.declared.refusal.Refusal.TheVariants.{NoSuchIndex, NoSuchSavepoint, NoSuchTable, NoTransaction, NotInTransaction, TooMany, TransactionOpen}
+use Rattle.mm_value.specs.declared.refusal.Refusal.TheVariants.{NoSuchIndex, NoSuchSavepoint, NoSuchTable, NoTransaction, NotInTransaction, TooMany}
+use Rattle.mm_value.specs.declared.refusal.Refusal.TheVariants.{TransactionOpen}
 use Rattle.mm_value.specs.declared.values.Value.{Value}
 use Rattle.mm_query.specs.Binding.{binding_conditions}
 use Rattle.mm_query.specs.Edits.{changed_table, edits, own_pairs, value_conditions}
@@ -22,7 +23,8 @@ use Rattle.mm_query.specs.Resolving.{query_conditions, select_conditions, select
 use Rattle.mm_query.specs.Standing.{after_unwatch, after_watch, growth_conditions, listing, shown_rows, unwatch_conditions, watch_conditions}
 use Rattle.mm_query.specs.State.{Saved, Savepoint, State, has_transaction, rows_in, savepoints_of}
 use Rattle.mm_query.specs.declared.command.Command.{Command}
-use Rattle.mm_query.specs.declared.command.Command.TheVariants.{Nothing, Define, Change, Scan, ScanIndex, Select, Explain, Show, Tables, Begin, Commit, Rollback, Savepoint as SetSavepoint, RollbackTo}
+use Rattle.mm_query.specs.declared.command.Command.TheVariants.{Nothing, Define, Change, Scan, ScanIndex, Select, Explain, Show, Tables, Begin, Commit}
+use Rattle.mm_query.specs.declared.command.Command.TheVariants.{Rollback, Savepoint as SetSavepoint, RollbackTo}
 use Rattle.mm_query.specs.declared.command.Definition.{Definition}
 use Rattle.mm_query.specs.declared.command.Definition.TheVariants as define
 use Rattle.mm_query.specs.declared.command.Mutation.{Mutation}

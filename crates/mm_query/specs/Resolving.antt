@@ -1,5 +1,6 @@
 -- What the names of a query stand for, and what refuses it by the catalog alone.
-use Rattle.std.specs.Prelude.{◌≡◌, ℕ, ◌-◌, ◌<◌, ◌==◌, Bool, false, ◌||◌, All, List, [], ◌∷◌, ◌++◌, Option, Some, None, find, is_none, length, map, nat_lt, position, slice_get}
+use Rattle.std.specs.Prelude.{◌≡◌, ℕ, ◌-◌, ◌<◌, ◌==◌, Bool, false, ◌||◌, All, List, [], ◌∷◌, ◌++◌, Option, Some, None, find, is_none, length, map, nat_lt}
+use Rattle.std.specs.Prelude.{position, slice_get}
 use Rattle.std.specs.List.{list_any}
 use Rattle.std.specs.Option.{option_and_then, option_map_or, unwrap_or}
 use Rattle.mm_schema.specs.Name.{same_name}
@@ -94,8 +95,8 @@ abbrev pub lacks_position : List FieldName → ℕ → Bool
 lacks_position fields position = (position == 0) || nat_lt (length fields) position
 
 -- More than 4 tables, or more than 16 fields, atoms or positions of ORDER.
-abbrev pub passes_query_limits : Query → Bool
-passes_query_limits query =
+abbrev pub exceeds_query_limits : Query → Bool
+exceeds_query_limits query =
     nat_lt 4 (length query.from) || nat_lt 16 (length query.fields) || nat_lt 16 (length query.atoms) || nat_lt 16 (length query.order)
 
 -- What refuses a query by tables, columns and positions that are missing, in the one order.
@@ -124,7 +125,7 @@ abbrev pub query_conditions : Query → Schema → List Condition
 query_conditions query schema =
     missing_conditions query schema
     ++ ill_formed_conditions query schema
-    ++ record { holds = passes_query_limits query; refusal = TooMany }
+    ++ record { holds = exceeds_query_limits query; refusal = TooMany }
     ∷ []
 
 -- ---- what a query in which no condition holds reads

@@ -11,7 +11,7 @@ use Rattle.mm_schema.specs.declared.table.Table.{Table}
 use Rattle.mm_value.specs.declared.refusal.Refusal.TheVariants.{NameTaken, StandingListTooLarge, TooMany}
 use Rattle.mm_value.specs.declared.values.Value.{Value}
 use Rattle.mm_query.specs.Queries.{bag}
-use Rattle.mm_query.specs.Resolving.{IsQueryWithin, answer_in, ill_formed_conditions, missing_conditions, passes_query_limits, placed_query}
+use Rattle.mm_query.specs.Resolving.{IsQueryWithin, answer_in, ill_formed_conditions, missing_conditions, exceeds_query_limits, placed_query}
 use Rattle.mm_query.specs.State.{State, rows_in}
 use Rattle.mm_query.specs.declared.bound_query.BoundQuery.{BoundQuery}
 use Rattle.mm_query.specs.declared.listing.Listing.{Listing}
@@ -70,7 +70,7 @@ watch_conditions name query state =
     missing_conditions query state.schema
     ++ record { holds = is_some (standing_named name state.schema); refusal = NameTaken }
     ∷ ill_formed_conditions query state.schema
-    ++ record { holds = passes_query_limits query || nat_le 32 (length state.schema.standing); refusal = TooMany }
+    ++ record { holds = exceeds_query_limits query || nat_le 32 (length state.schema.standing); refusal = TooMany }
     ∷ record { holds = outgrows state (placed_query state.schema query); refusal = StandingListTooLarge }
     ∷ []
 

@@ -9,7 +9,7 @@ ghost use Rattle.mm_value.specs.declared.refusal.Refusal.TheVariants.{Memory, No
 ghost use Rattle.mm_query.specs.Faults.{noted};
 ghost use Rattle.mm_query.specs.Fields.{FieldName as Field};
 ghost use Rattle.mm_query.specs.Placing.{differ, mapped_atom, mapped_operand, mismatches, operand_type, shifts_text};
-ghost use Rattle.mm_query.specs.Resolving.{alias_place, column_of, field_lacks_column, field_type, has_duplicate_aliases, lacks_alias, lacks_position, passes_query_limits, placed_field, places_in, some_side};
+ghost use Rattle.mm_query.specs.Resolving.{alias_place, column_of, field_lacks_column, field_type, has_duplicate_aliases, lacks_alias, lacks_position, exceeds_query_limits, placed_field, places_in, some_side};
 ghost use Rattle.mm_query.specs.declared.atom.Atom.{Atom as Test};
 ghost use Rattle.mm_query.specs.declared.query.FromItem.{FromItem as Item};
 
@@ -222,7 +222,7 @@ pub(crate) fn form_faults(query: &Query<'_>) -> Faults
       duplicate = has_duplicate_aliases query.now.from;
       alias = false;
       mismatch = false;
-      too_many = passes_query_limits query.now;
+      too_many = exceeds_query_limits query.now;
     } }
 {
     Faults {
@@ -230,7 +230,7 @@ pub(crate) fn form_faults(query: &Query<'_>) -> Faults
         duplicate: has_duplicate_aliases(query.from.as_slice()),
         alias: false,
         mismatch: false,
-        too_many: passes_limits(query),
+        too_many: exceeds_limits(query),
     }
 }
 
@@ -265,8 +265,8 @@ fn misses_position(query: &Query<'_>) -> bool
 }
 
 /// Whether a query has too many tables, fields, atoms or positions of ORDER.
-fn passes_limits(query: &Query<'_>) -> bool
-    ensures { result ≡ passes_query_limits query.now }
+fn exceeds_limits(query: &Query<'_>) -> bool
+    ensures { result ≡ exceeds_query_limits query.now }
 {
     query.from.as_slice().len() > MAX_FROM
         || query.fields.as_slice().len() > MAX_PARTS

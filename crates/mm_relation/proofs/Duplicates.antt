@@ -48,7 +48,7 @@ duplicates_together key (x ∷ xs) ys =
     ap (λ b. b || has_duplicate_keys key (xs ++ ys)) (list_any-append (same_in_column key x) xs ys)
     ∙ ap (λ b. (list_any (same_in_column key x) xs || list_any (same_in_column key x) ys) || b) (duplicates_together key xs ys)
     ∙ regrouped (list_any (same_in_column key x) xs) (list_any (same_in_column key x) ys) (has_duplicate_keys key xs) (has_duplicate_keys key ys)
-        (meet key xs ys)
+    (meet key xs ys)
 
 list_any-agree : {X : Type 0} (p q : X → Bool) → ((x : X) → p x ≡ q x) → (xs : List X) → list_any p xs ≡ list_any q xs
 list_any-agree p q same [] = refl
@@ -91,7 +91,7 @@ module _ (key : ℕ) (outs kept : List Row) (none : has_duplicate_keys key (outs
     parts : has_duplicate_keys key (fresh ++ kept) ≡ (has_duplicate_keys key sorted || meet key sorted kept)
     parts = has_duplicate_keys-IsPermutation key (fresh ++ kept) (sorted ++ kept) (IsPermutation-append_left kept fresh sorted moved)
         ∙ (duplicates_together key sorted kept ∙ ap (λ b. (has_duplicate_keys key sorted || b) || meet key sorted kept) none_kept
-            ∙ without (has_duplicate_keys key sorted))
+        ∙ without (has_duplicate_keys key sorted))
       where
         without : (b : Bool) → ((b || false) || meet key sorted kept) ≡ (b || meet key sorted kept)
         without true = refl

@@ -1,11 +1,13 @@
 -- Whether two rows have one key once edits are made.
 use denote.Ref.{Bor}
-use Rattle.std.proofs.Common.{◌≡◌, ℕ, ◌+◌, ◌-◌, ◌≤◌, Bool, true, false, ◌||◌, cond, List, [], ◌∷◌, ◌++◌, length, get_or, Option, None, Some, refl, sym, ap, ap₂, ◌∙◌, subst, append_assoc, arith}
+use Rattle.std.proofs.Common.{◌≡◌, ℕ, ◌+◌, ◌-◌, ◌≤◌, Bool, true, false, ◌||◌, cond, List, [], ◌∷◌, ◌++◌, length, get_or, Option, None, Some, refl, sym, ap}
+use Rattle.std.proofs.Common.{ap₂, ◌∙◌, subst, append_assoc, arith}
 use Rattle.std.specs.Prelude.{◌≢◌, ◌↔◌, ◌&&◌, filter_map, map, not, slice_get, IsPermutation}
 use Rattle.std.specs.List.{All, Contains, cons_option, list_any}
 use Rattle.std.proofs.lemmas.List.{map-append, length-append, length-map}
 use Rattle.std.proofs.lemmas.List.Elements.{Contains-get_or, Contains-append_left}
-use Rattle.std.proofs.lemmas.List.Sorted.{IsPermutation-append_left, IsPermutation-cons, IsPermutation-map, IsPermutation-middle, IsPermutation-refl, IsPermutation-sym}
+use Rattle.std.proofs.lemmas.List.Sorted.{IsPermutation-append_left, IsPermutation-cons, IsPermutation-map, IsPermutation-middle, IsPermutation-refl}
+use Rattle.std.proofs.lemmas.List.Sorted.{IsPermutation-sym}
 use Rattle.std.proofs.lemmas.List.Sorted.{IsPermutation-trans, Contains-permutation, length_permutation}
 use Rattle.std.specs.Option.{option_cmp}
 use Rattle.std.specs.Ordering.{is_eq}
@@ -222,7 +224,16 @@ module _ (now : Slots) (refs : List RowRef) (edits : List Edit) (kept : List Row
   -- how many rows there are after the edits
   pub rows_after_count : length refs - removal_count edits + added_count edits ≡ length (rows_after now edits kept)
   rows_after_count =
-      omega (arith, whole, olds_counted edits, news_counted edits, removals_named edits, length-append (new_rows edits) (map (row_at now) kept), length-map kept (row_at now))
+      omega (
+        arith,
+        whole,
+        olds_counted edits,
+        news_counted edits,
+        removals_named edits,
+        length-append (new_rows edits) (map (row_at now) kept),
+        length-map
+            kept (row_at now),
+      )
 
 -- edits of rows that are there stand
 pub Standing-of_refs : (width key : ℕ) (now : Slots) (refs : List RowRef) (indexes : List Index) → IsKept width key now refs indexes → (edits : List Edit)

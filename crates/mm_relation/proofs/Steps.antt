@@ -179,7 +179,8 @@ then_second Greater b p = cc
 key_total : (key : ℕ) (now : Slots) → IsTotalOrder (λ (a b : RowRef). column_cmp key (row_at now a) (row_at now b))
 key_total key now = on_total (λ at. slice_get (row_at now at) key) (options_total value_cmp_total)
 
-pub keys_turn : (key : ℕ) (now : Slots) (a b : RowRef) → column_cmp key (row_at now a) (row_at now b) ≢ Equal → column_cmp key (row_at now b) (row_at now a) ≢ Equal
+pub keys_turn : (key : ℕ) (now : Slots) (a b : RowRef) → column_cmp key (row_at now a) (row_at now b) ≢ Equal
+    → column_cmp key (row_at now b) (row_at now a) ≢ Equal
 keys_turn key now a b differ same = differ ((key_total key now).antisymm a b ∙ ap ordering_reverse same)
 
 pub KeysApart-permutation : (key : ℕ) (now : Slots) (xs ys : List RowRef) → IsPermutation xs ys → KeysApart key now xs → KeysApart key now ys

@@ -24,5 +24,5 @@ mod tree_reads;
 
 pub use edits::{Edit, count_added};
 pub use index::Index;
-pub use log::{UndoRecord, Log};
+pub use log::{Log, UndoRecord};
 pub use relation::Relation;

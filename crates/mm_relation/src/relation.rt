@@ -6,6 +6,7 @@ ghost use Rattle.mm_schema.specs.Rows.{most_rows};
 
 mod apply;
 mod checks;
+mod duplicates;
 mod indexing;
 mod laws;
 mod look_up;
@@ -15,7 +16,6 @@ mod revert;
 mod served;
 mod settle;
 mod spares;
-mod duplicates;
 
 use crate::index::Index;
 use mm_order::OrderedRefs;

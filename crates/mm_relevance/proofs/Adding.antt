@@ -1,5 +1,6 @@
 -- Combinations with a row that has a cycle add nothing.
-use Rattle.std.proofs.Common.{◌≡◌, ℕ, suc, zero, ◌<◌, Bool, false, cond, ◌||◌, ◌⊎◌, inl, inr, List, [], ◌∷◌, ◌++◌, Option, Some, None, get_or, length, map, refl, sym, ap, subst, ◌∙◌, arith}
+use Rattle.std.proofs.Common.{◌≡◌, ℕ, suc, zero, ◌<◌, Bool, false, cond, ◌||◌, ◌⊎◌, inl, inr, List, [], ◌∷◌, ◌++◌, Option, Some, None, get_or, length, map}
+use Rattle.std.proofs.Common.{refl, sym, ap, subst, ◌∙◌, arith}
 use Rattle.std.specs.Prelude.{filter, slice_get}
 use Rattle.std.specs.List.{AllByRecursion, flat_map, list_any}
 use Rattle.std.specs.Option.{option_map}
@@ -81,7 +82,8 @@ among_all P (y ∷ ys) x h (inl e) = subst P e h.0
 among_all P (y ∷ ys) x h (inr m) = among_all P ys x h.1 m
 
 module _ (lists : List Rows) (rows : Rows) (p : IsPicked lists rows) where
-  text_at : (column : ℕ) (o : Option Row) → ((r : Row) → o ≡ Some r → is_text (Some (value_in column r)) ≡ false) → is_text (option_map (value_in column) o) ≡ false
+  text_at : (column : ℕ) (o : Option Row) → ((r : Row) → o ≡ Some r → is_text (Some (value_in column r)) ≡ false) → is_text (option_map (value_in column) o)
+      ≡ false
   text_at column None f = refl
   text_at column (Some r) f = f r refl
 
@@ -115,7 +117,8 @@ only : (row r : Row) → Among (row ∷ []) r → row ≡ r
 only row r (inl e) = e
 only row r (inr m) = absurd m
 
-module _ (query : BoundQuery) (place : ℕ) (row : Row) (lists : List Rows) (whole : length lists ≡ length query.from) (alone : slice_get lists place ≡ Some (row ∷ []))
+module _ (query : BoundQuery) (place : ℕ) (row : Row) (lists : List Rows) (whole : length lists ≡ length query.from)
+    (alone : slice_get lists place ≡ Some (row ∷ []))
     (adds : AddsToNumbers query (λ j. get_or lists j [])) where
   with_row : (rows : Rows) → IsPicked lists rows → IsCombinationWith query place row rows
   with_row rows p =

@@ -1,5 +1,6 @@
 -- The check of a cycle.
-use Rattle.std.proofs.Common.{◌≡◌, ℕ, suc, zero, ◌+◌, ◌<◌, ◌≤◌, Bool, true, false, cond, List, [], ◌∷◌, pos, ◌+ℤ◌, Option, Some, None, length, map, get_or, drop, drop-cons, refl, sym, ap, subst, ◌∙◌, arith}
+use Rattle.std.proofs.Common.{◌≡◌, ℕ, suc, zero, ◌+◌, ◌<◌, ◌≤◌, Bool, true, false, cond, List, [], ◌∷◌, pos, ◌+ℤ◌, Option, Some, None, length, map, get_or}
+use Rattle.std.proofs.Common.{drop, drop-cons, refl, sym, ap, subst, ◌∙◌, arith}
 use Rattle.std.specs.Prelude.{◌<ℤ◌, IsTrue, ◌↔◌}
 use Rattle.std.proofs.lemmas.Int.{ints}
 use Rattle.mm_value.specs.declared.values.Value.{Value}
@@ -24,7 +25,8 @@ module _ (query : BoundQuery) (place : ℕ) (row : List Value) where
   IsFollowed cycle from to =
       (es : List Edge) × (map (edge_at query place row) cycle ≡ map Some es) × IsWalk from.at es to.at × (to.sum ≡ from.sum +ℤ total es)
 
-  edge_if : (c : Bool) (e : Edge) (from r : Reached) → (c ≡ true → e.left ≡ from.at) → cond c (Some (record { at = e.right; sum = from.sum +ℤ e.cost })) None ≡ Some r
+  edge_if : (c : Bool) (e : Edge) (from r : Reached) → (c ≡ true → e.left ≡ from.at) → cond c (Some (record { at = e.right; sum = from.sum +ℤ e.cost })) None
+      ≡ Some r
       → (e.left ≡ from.at) × (e.right ≡ r.at) × (r.sum ≡ from.sum +ℤ e.cost)
   edge_if false e from r f h = absurd (let b : ⊥ = cc in b)
   edge_if true e from r f h =
@@ -38,7 +40,8 @@ module _ (query : BoundQuery) (place : ℕ) (row : List Value) where
       ([], refl, ap (λ (x : Reached). x.at) same, (let e : to.sum ≡ from.sum = ap (λ (x : Reached). x.sum) (sym same) in omega (arith, ints, e)))
   follow_sound (n ∷ cycle) from to h = go (λ r k. follow_sound cycle r to k) (edge_at query place row n) refl h
     where
-      more : ((r : Reached) → follow query place row r cycle ≡ Some to → IsFollowed cycle r to) → (e : Edge) (o : Option Reached) → edge_at query place row n ≡ Some e → follow_edge from (Some e) ≡ o → then_follow o (λ r. follow query place row r cycle) ≡ Some to → IsFollowed (n ∷ cycle) from to
+      more : ((r : Reached) → follow query place row r cycle ≡ Some to → IsFollowed cycle r to) → (e : Edge) (o : Option Reached) → edge_at query place row n
+          ≡ Some e → follow_edge from (Some e) ≡ o → then_follow o (λ r. follow query place row r cycle) ≡ Some to → IsFollowed (n ∷ cycle) from to
       more ih e None is f h = absurd (let b : ⊥ = cc in b)
       more ih e (Some r) is f h =
           let one = edge_if (point_eq e.left from.at) e from r (point_eq_true e.left from.at) f in
@@ -48,12 +51,14 @@ module _ (query : BoundQuery) (place : ℕ) (row : List Value) where
           let named = next.1 in
           (e ∷ next.0, (λ i. is i ∷ named i), (one.0, subst (λ p. IsWalk p next.0 to.at) (sym one.1) next.2), omega (arith, ints, a, b))
 
-      go : ((r : Reached) → follow query place row r cycle ≡ Some to → IsFollowed cycle r to) → (o : Option Edge) → edge_at query place row n ≡ o → then_follow (follow_edge from o) (λ r. follow query place row r cycle) ≡ Some to → IsFollowed (n ∷ cycle) from to
+      go : ((r : Reached) → follow query place row r cycle ≡ Some to → IsFollowed cycle r to) → (o : Option Edge) → edge_at query place row n ≡ o
+          → then_follow (follow_edge from o) (λ r. follow query place row r cycle) ≡ Some to → IsFollowed (n ∷ cycle) from to
       go ih None is h = absurd (let b : ⊥ = cc in b)
       go ih (Some e) is h = more ih e (follow_edge from (Some e)) is refl h
 
   -- .. and a path is followed.
-  pub follow_complete : (cycle : List CycleEdge) (es : List Edge) (from : Reached) (q : Point) → map (edge_at query place row) cycle ≡ map Some es → IsWalk from.at es q
+  pub follow_complete : (cycle : List CycleEdge) (es : List Edge) (from : Reached) (q : Point) → map (edge_at query place row) cycle ≡ map Some es
+      → IsWalk from.at es q
       → (to : Reached) × (follow query place row from cycle ≡ Some to) × (to.at ≡ q) × (to.sum ≡ from.sum +ℤ total es)
   follow_complete [] [] from q h path = (from, refl, path, omega (arith, ints))
   follow_complete [] (e ∷ es) from q h path = absurd (let b : ⊥ = cc in b)
@@ -69,7 +74,8 @@ module _ (query : BoundQuery) (place : ℕ) (row : List Value) where
       (next.0, ap (λ o. then_follow o (λ x. follow query place row x cycle)) step ∙ next.1, next.2, omega (arith, ints, a))
 
   -- One more edge of a loop.
-  pub follow_more : (cycle : List CycleEdge) (i : ℕ) (d : CycleEdge) (whole : Option Reached) (now next : Reached) (o : Option Reached) → i < length cycle → whole ≡ follow query place row now (drop i cycle)
+  pub follow_more : (cycle : List CycleEdge) (i : ℕ) (d : CycleEdge) (whole : Option Reached) (now next : Reached) (o : Option Reached) → i < length cycle
+      → whole ≡ follow query place row now (drop i cycle)
       → o ≡ follow_edge now (edge_at query place row (get_or cycle i d)) → o ≡ Some next → whole ≡ follow query place row next (drop (i + 1) cycle)
   follow_more cycle i d whole now next o inside h e is =
       let same : suc i ≡ i + 1 = omega arith in
@@ -77,7 +83,8 @@ module _ (query : BoundQuery) (place : ℕ) (row : List Value) where
       let k : drop i cycle ≡ n ∷ drop (i + 1) cycle = drop-cons cycle i d inside ∙ (λ t. n ∷ drop (same t) cycle) in
       h ∙ ap (follow query place row now) k ∙ ap (λ x. then_follow x (λ r. follow query place row r (drop (i + 1) cycle))) (sym e ∙ is)
 
-  pub follow_stops : (cycle : List CycleEdge) (i : ℕ) (d : CycleEdge) (whole : Option Reached) (now : Reached) (o : Option Reached) → i < length cycle → whole ≡ follow query place row now (drop i cycle)
+  pub follow_stops : (cycle : List CycleEdge) (i : ℕ) (d : CycleEdge) (whole : Option Reached) (now : Reached) (o : Option Reached) → i < length cycle → whole
+      ≡ follow query place row now (drop i cycle)
       → o ≡ follow_edge now (edge_at query place row (get_or cycle i d)) → o ≡ None → whole ≡ None
   follow_stops cycle i d whole now o inside h e is =
       let same : suc i ≡ i + 1 = omega arith in
@@ -85,10 +92,12 @@ module _ (query : BoundQuery) (place : ℕ) (row : List Value) where
       let k : drop i cycle ≡ n ∷ drop (i + 1) cycle = drop-cons cycle i d inside ∙ (λ t. n ∷ drop (same t) cycle) in
       h ∙ ap (follow query place row now) k ∙ ap (λ x. then_follow x (λ r. follow query place row r (drop (i + 1) cycle))) (sym e ∙ is)
 
-  pub follow_ends : (cycle : List CycleEdge) (i : ℕ) (whole : Option Reached) (now : Reached) → length cycle ≤ i → whole ≡ follow query place row now (drop i cycle) → whole ≡ Some now
+  pub follow_ends : (cycle : List CycleEdge) (i : ℕ) (whole : Option Reached) (now : Reached) → length cycle ≤ i → whole
+      ≡ follow query place row now (drop i cycle) → whole ≡ Some now
   follow_ends cycle i whole now past h = h ∙ ap (follow query place row now) (drop_past cycle i past)
 
-  first_left : (cycle : List CycleEdge) (d n : CycleEdge) (e : Edge) → 1 ≤ length cycle → n ≡ get_or cycle 0 d → edge_at query place row n ≡ Some e → (c : IsNegativeCycle query place row cycle) → e.left ≡ c.point
+  first_left : (cycle : List CycleEdge) (d n : CycleEdge) (e : Edge) → 1 ≤ length cycle → n ≡ get_or cycle 0 d → edge_at query place row n ≡ Some e
+      → (c : IsNegativeCycle query place row cycle) → e.left ≡ c.point
   first_left [] d n e some is h c = absurd (omega arith)
   first_left (m ∷ cycle) d n e some is h c = go c.edges c.named c.closed
     where
@@ -101,7 +110,8 @@ module _ (query : BoundQuery) (place : ℕ) (row : List Value) where
           ap (λ (y : Edge). y.left) same ∙ path.0
 
   -- The first edge is there.
-  pub none_accepted : (cycle : List CycleEdge) (d n : CycleEdge) → 1 ≤ length cycle → n ≡ get_or cycle 0 d → edge_at query place row n ≡ None → IsNegativeCycle query place row cycle → ⊥
+  pub none_accepted : (cycle : List CycleEdge) (d n : CycleEdge) → 1 ≤ length cycle → n ≡ get_or cycle 0 d → edge_at query place row n ≡ None
+      → IsNegativeCycle query place row cycle → ⊥
   none_accepted [] d n some is h c = omega arith
   none_accepted (m ∷ cycle) d n some is h c = go c.edges c.named
     where
@@ -113,7 +123,8 @@ module _ (query : BoundQuery) (place : ℕ) (row : List Value) where
           (let b : ⊥ = cc in b)
 
   -- Where nothing is followed, nothing is accepted ..
-  pub lost : (cycle : List CycleEdge) (d n : CycleEdge) (e : Edge) (from : Reached) → 1 ≤ length cycle → n ≡ get_or cycle 0 d → edge_at query place row n ≡ Some e → from ≡ record { at = e.left; sum = pos 0 }
+  pub lost : (cycle : List CycleEdge) (d n : CycleEdge) (e : Edge) (from : Reached) → 1 ≤ length cycle → n ≡ get_or cycle 0 d → edge_at query place row n
+      ≡ Some e → from ≡ record { at = e.left; sum = pos 0 }
       → follow query place row from cycle ≡ None → IsNegativeCycle query place row cycle → ⊥
   lost cycle d n e from some is h f none c =
       let at : from.at ≡ c.point = ap (λ (x : Reached). x.at) f ∙ first_left cycle d n e some is h c in
@@ -122,8 +133,10 @@ module _ (query : BoundQuery) (place : ℕ) (row : List Value) where
       (let bad : ⊥ = cc in bad)
 
   -- .. and else the cycle is accepted where it closes.
-  pub closed : (cycle : List CycleEdge) (d n : CycleEdge) (e : Edge) (from to : Reached) → 1 ≤ length cycle → length cycle ≤ 32 → n ≡ get_or cycle 0 d → edge_at query place row n ≡ Some e
-      → from ≡ record { at = e.left; sum = pos 0 } → follow query place row from cycle ≡ Some to → ((to.at ≡ e.left) × (to.sum <ℤ pos 0)) ↔ IsNegativeCycle query place row cycle
+  pub closed : (cycle : List CycleEdge) (d n : CycleEdge) (e : Edge) (from to : Reached) → 1 ≤ length cycle → length cycle ≤ 32 → n ≡ get_or cycle 0 d
+      → edge_at query place row n ≡ Some e
+      → from ≡ record { at = e.left; sum = pos 0 } → follow query place row from cycle ≡ Some to
+      → ((to.at ≡ e.left) × (to.sum <ℤ pos 0)) ↔ IsNegativeCycle query place row cycle
   closed cycle d n e from to some few is h f done = (one, two)
     where
       start : from.at ≡ e.left

@@ -1,5 +1,6 @@
 -- The steps of the search.
-use Rattle.std.proofs.Common.{◌≡◌, ℕ, suc, zero, ◌+◌, ◌-◌, ◌<◌, ◌≤◌, List, [], ◌∷◌, ◌++◌, ℤ, pos, ◌+ℤ◌, Bool, true, false, cond, ◌⊎◌, inl, inr, length-append, Option, Some, None, length, map, get_or, refl, sym, ap, subst, ◌∙◌, arith}
+use Rattle.std.proofs.Common.{◌≡◌, ℕ, suc, zero, ◌+◌, ◌-◌, ◌<◌, ◌≤◌, List, [], ◌∷◌, ◌++◌, ℤ, pos, ◌+ℤ◌, Bool, true, false, cond, ◌⊎◌, inl, inr, length-append}
+use Rattle.std.proofs.Common.{Option, Some, None, length, map, get_or, refl, sym, ap, subst, ◌∙◌, arith}
 use Rattle.std.specs.Prelude.{◌<ℤ◌, IsTrue, ◌↔◌}
 use Rattle.std.specs.List.{All, AllByRecursion, Contains}
 use Rattle.std.proofs.lemmas.Int.{ints}
@@ -16,10 +17,12 @@ use Rattle.mm_relevance.proofs.Sums.{stepped_reaches, stays, reaches_fit, attain
 pub fits_at : (es : List Edge) (target : Point) (n : ℕ) (rs : List Reach) → rs ≡ reaches_of es target n → n ≤ 31 → All IsNear es → All IsFit rs
 fits_at es target n rs is le near = subst (All IsFit) (sym is) (reaches_fit es target n le near)
 
-pub next_is : (es : List Edge) (target : Point) (n : ℕ) (rs next : List Reach) → rs ≡ reaches_of es target n → next ≡ stepped rs → next ≡ reaches_of es target (n + 1)
+pub next_is : (es : List Edge) (target : Point) (n : ℕ) (rs next : List Reach) → rs ≡ reaches_of es target n → next ≡ stepped rs → next
+    ≡ reaches_of es target (n + 1)
 next_is es target n rs next is h = h ∙ ap stepped is ∙ stepped_reaches es target n ∙ ap (reaches_of es target) (let e : suc n ≡ n + 1 = omega arith in e)
 
-pub last_is : (es : List Edge) (target : Point) (n m : ℕ) (rs : List Reach) → rs ≡ reaches_of es target n → stepped rs ≡ rs → n ≤ m → rs ≡ reaches_of es target m
+pub last_is : (es : List Edge) (target : Point) (n m : ℕ) (rs : List Reach) → rs ≡ reaches_of es target n → stepped rs ≡ rs → n ≤ m → rs
+    ≡ reaches_of es target m
 last_is es target n m rs is h le = go m le
   where
     same : stepped (reaches_of es target n) ≡ reaches_of es target n
@@ -45,7 +48,8 @@ all_push : {X : Type 0} (P : X → Type 0) (xs : List X) (x : X) → AllByRecurs
 all_push P [] x h k = (k, tt)
 all_push P (y ∷ xs) x h k = (h.0, all_push P xs x h.1 k)
 
-reach_among : (f : Point → Option ℤ) (es : List Edge) (r : Reach) (k : ℕ) → k < length (map (reach_of f) es) → get_or (map (reach_of f) es) k r ≡ r → Contains es r.edge × (r.sum ≡ f r.edge.right)
+reach_among : (f : Point → Option ℤ) (es : List Edge) (r : Reach) (k : ℕ) → k < length (map (reach_of f) es) → get_or (map (reach_of f) es) k r ≡ r
+    → Contains es r.edge × (r.sum ≡ f r.edge.right)
 reach_among f [] r k h is = absurd (omega arith)
 reach_among f (e ∷ es) r zero h is =
     let same : e ≡ r.edge = ap (λ (x : Reach). x.edge) is in
@@ -87,7 +91,8 @@ module _ (es : List Edge) (target : Point) (first : Option ℤ) where
   pub walking_start : (n : ℕ) → n ≤ 31 → first ≡ least target None (reaches_of es target n) → IsNegative first → Walking es target first (n + 1) target first []
   walking_start n le h neg = let s = some_of first neg in start_of n s.0 le s.1 h
 
-  pub walking_takes : (left m : ℕ) (at : Point) (owed : Option ℤ) (cycle : List Edge) (rs : List Reach) (r : Reach) → Walking es target first left at owed cycle → left ≡ suc m
+  pub walking_takes : (left m : ℕ) (at : Point) (owed : Option ℤ) (cycle : List Edge) (rs : List Reach) (r : Reach)
+      → Walking es target first left at owed cycle → left ≡ suc m
       → rs ≡ reaches_of es target m → Takes at owed r → Contains rs r → Walking es target first m r.edge.right r.sum (cycle ++ r.edge ∷ [])
   walking_takes left m at owed cycle rs r w e is t among =
       let here : Contains (reaches_of es target m) r = subst (λ l. Contains l r) is among in
@@ -108,7 +113,8 @@ module _ (es : List Edge) (target : Point) (first : Option ℤ) where
       some_is : (a b : ℤ) → Some a ≡ Some b → a ≡ b
       some_is a b h = cc
 
-  pub walking_stays : (left m : ℕ) (at : Point) (owed : Option ℤ) (cycle : List Edge) (rs : List Reach) → Walking es target first left at owed cycle → left ≡ suc m
+  pub walking_stays : (left m : ℕ) (at : Point) (owed : Option ℤ) (cycle : List Edge) (rs : List Reach) → Walking es target first left at owed cycle → left
+      ≡ suc m
       → rs ≡ reaches_of es target m → All (λ r. Takes at owed r → ⊥) rs → Walking es target first m at owed cycle
   walking_stays left m at owed cycle rs w e is none =
       let few = w.few in
@@ -135,7 +141,8 @@ module _ (es : List Edge) (target : Point) (first : Option ℤ) where
   not_empty [] h = absurd (omega (arith, ints))
   not_empty (e ∷ cycle) h = omega arith
 
-  pub walking_done : (left : ℕ) (at : Point) (owed : Option ℤ) (cycle : List Edge) → Walking es target first left at owed cycle → left ≤ 0 → IsNegative first → IsNegativeWalk es cycle
+  pub walking_done : (left : ℕ) (at : Point) (owed : Option ℤ) (cycle : List Edge) → Walking es target first left at owed cycle → left ≤ 0 → IsNegative first
+      → IsNegativeWalk es cycle
   walking_done left at owed cycle w none_left neg =
       let few = w.few in
       let last = go w.least in
@@ -162,12 +169,15 @@ module _ (es : List Edge) (target : Point) (first : Option ℤ) where
           end_of at w.after (point_eq at target) (point_eq_true at target) (ap (λ n. rest es target n at) (sym z) ∙ h ∙ w.owes)
       go (inr (k, is, h)) = absurd (omega arith)
 
-pub walking_moved : (es : List Edge) (target : Point) (first : Option ℤ) (m : ℕ) (at at' : Point) (owed owed' : Option ℤ) (cycle cycle' : List Edge) → at' ≡ at → owed' ≡ owed → cycle' ≡ cycle
+pub walking_moved : (es : List Edge) (target : Point) (first : Option ℤ) (m : ℕ) (at at' : Point) (owed owed' : Option ℤ) (cycle cycle' : List Edge) → at'
+    ≡ at → owed' ≡ owed → cycle' ≡ cycle
     → Walking es target first m at owed cycle → Walking es target first m at' owed' cycle'
 walking_moved es target first m at at' owed owed' cycle cycle' e f g w =
-    subst (λ p. Walking es target first m p owed' cycle') (sym e) (subst (λ o. Walking es target first m at o cycle') (sym f) (subst (Walking es target first m at owed) (sym g) w))
+    subst (λ p. Walking es target first m p owed' cycle') (sym e)
+    (subst (λ o. Walking es target first m at o cycle') (sym f) (subst (Walking es target first m at owed) (sym g) w))
 
-pub never_negative : (es : List Edge) (target : Point) (n : ℕ) (rs : List Reach) → rs ≡ reaches_of es target n → stepped rs ≡ rs → n ≤ 31 → (IsNegative (least target None rs) → ⊥)
+pub never_negative : (es : List Edge) (target : Point) (n : ℕ) (rs : List Reach) → rs ≡ reaches_of es target n → stepped rs ≡ rs → n ≤ 31
+    → (IsNegative (least target None rs) → ⊥)
     → IsNegative (least target None (reaches_of es target 31)) → ⊥
 never_negative es target n rs is h le never k =
     never (subst (λ l. IsNegative (least target None l)) (sym (last_is es target n 31 rs is h le)) k)
@@ -176,5 +186,6 @@ not_from : (b : Bool) (P : Type 0) → b ≡ false → (IsTrue b ↔ P) → P �
 not_from true P h e p = let t : true ≡ false = h in cc
 not_from false P h e p = let t : false ≡ true = e.1 p in cc
 
-pub never_here : (target : Point) (rs : List Reach) (b : Bool) (owed : Option ℤ) → b ≡ false → (IsTrue b ↔ IsNegative owed) → owed ≡ least target None rs → IsNegative (least target None rs) → ⊥
+pub never_here : (target : Point) (rs : List Reach) (b : Bool) (owed : Option ℤ) → b ≡ false → (IsTrue b ↔ IsNegative owed) → owed ≡ least target None rs
+    → IsNegative (least target None rs) → ⊥
 never_here target rs b owed h e is k = not_from b (IsNegative owed) h e (subst IsNegative (sym is) k)

@@ -1,5 +1,6 @@
 -- Atoms on whole numbers say what their edges say.
-use Rattle.std.proofs.Common.{◌≡◌, ℕ, ◌<◌, ◌≤◌, Bool, true, false, cond, ◌==◌, ℤ, pos, ◌+ℤ◌, List, Option, Some, None, IfSome, length, map, refl, sym, ap, subst, ◌∙◌, ◌⊎◌, inl, inr, arith}
+use Rattle.std.proofs.Common.{◌≡◌, ℕ, ◌<◌, ◌≤◌, Bool, true, false, cond, ◌==◌, ℤ, pos, ◌+ℤ◌, List, Option, Some, None, IfSome, length, map, refl, sym, ap}
+use Rattle.std.proofs.Common.{subst, ◌∙◌, ◌⊎◌, inl, inr, arith}
 use Rattle.std.specs.Prelude.{◌<ℤ◌, ◌≤ℤ◌, ◌↔◌, nat_lt, slice_get}
 use Rattle.std.specs.Cmp.{int_ranks}
 use Rattle.std.specs.Option.{option_and_then, option_map}
@@ -24,7 +25,8 @@ use Rattle.mm_query.specs.declared.bound_query.FieldPlace.{FieldPlace}
 use Rattle.mm_relevance.specs.declared.cycle.CycleEdge.{CycleEdge}
 use Rattle.mm_relevance.specs.declared.term.Point.TheVariants.{Zero, Column as At}
 use Rattle.mm_relevance.specs.declared.term.Term.{Term}
-use Rattle.mm_relevance.specs.Relevance.{ComparesNumbers, IsCombinationWith, IsTrueOf, edge_at, edge_between, edge_of, field_term, lower_edge, moved, number_at, number_of, number_term, operand_term, upper_edge}
+use Rattle.mm_relevance.specs.Relevance.{ComparesNumbers, IsCombinationWith, IsTrueOf, edge_at, edge_between, edge_of, field_term, lower_edge, moved}
+use Rattle.mm_relevance.specs.Relevance.{number_at, number_of, number_term, operand_term, upper_edge}
 use Rattle.mm_relevance.specs.Walks.{name_of}
 use Rattle.mm_relevance.proofs.Irrelevance.{at_or_none, other_value, own_value, point_value}
 use Rattle.mm_relevance.proofs.Points.{eq_from, ge_from, gt_from, le_from, lt_from, same_number}
@@ -108,10 +110,12 @@ module _ (query : BoundQuery) (place : ℕ) (row : List Value) (rows : List (Lis
       go : (f.place < length rows) ⊎ (length rows ≤ f.place) → f.place < length rows
       go (inl k) = k
       go (inr k) =
-          absurd (let e : None ≡ Some (Int x) = sym (ap (option_map (value_in f.column)) (at_or_none rows f.place ∙ slice_get_past rows f.place k)) ∙ h in let b : ⊥ = cc in b)
+          absurd (let e : None ≡ Some (Int x) = sym (ap (option_map (value_in f.column)) (at_or_none rows f.place ∙ slice_get_past rows f.place k))
+          ∙ h in let b : ⊥ = cc in b)
 
   field_has_by : (f : FieldPlace) (x : ℤ) (own : Bool) → (own ≡ true → f.place ≡ place) → value_at (map Some rows) f ≡ Some (Int x)
-      → HasTerm (cond own (number_term (value_in f.column row)) (cond (nat_lt f.place (length query.from)) (Some (record { point = At f; offset = pos 0 })) None)) x
+      → HasTerm (cond own (number_term (value_in f.column row))
+      (cond (nat_lt f.place (length query.from)) (Some (record { point = At f; offset = pos 0 })) None)) x
   field_has_by f x true is h =
       number_has (value_in f.column row) x (some_int (value_in f.column row) x (sym (own_value rows query place row with f (is refl)) ∙ h))
   field_has_by f x false is h =
@@ -160,7 +164,8 @@ module _ (query : BoundQuery) (place : ℕ) (row : List Value) (rows : List (Lis
 
       there : holds (value_at (map Some rows)) atom ≡ true → (upper : Bool) → IfSome (edge_at query place row (name_of conjunct upper)) (IsTrueOf rows)
       there h upper =
-          subst (λ o. IfSome o (IsTrueOf rows)) (sym (given upper)) (says rows (name_of conjunct) a.0 b.0 c.left c.right a.2 b.2 atom.comparison (sym compared ∙ h) upper)
+          subst (λ o. IfSome o (IsTrueOf rows)) (sym (given upper))
+          (says rows (name_of conjunct) a.0 b.0 c.left c.right a.2 b.2 atom.comparison (sym compared ∙ h) upper)
 
       back : ((upper : Bool) → IfSome (edge_at query place row (name_of conjunct upper)) (IsTrueOf rows)) → holds (value_at (map Some rows)) atom ≡ true
       back h =

@@ -1,5 +1,6 @@
 -- A row with a cycle is irrelevant.
-use Rattle.std.proofs.Common.{◌≡◌, ℕ, suc, zero, ◌<◌, Bool, true, false, cond, ◌&&◌, ◌||◌, ◌==◌, not, inl, inr, ℤ, pos, ◌+ℤ◌, ◌-ℤ◌, List, [], ◌∷◌, Option, Some, None, get_or, length, map, refl, sym, ap, subst, ◌∙◌, arith}
+use Rattle.std.proofs.Common.{◌≡◌, ℕ, suc, zero, ◌<◌, Bool, true, false, cond, ◌&&◌, ◌||◌, ◌==◌, not, inl, inr, ℤ, pos, ◌+ℤ◌, ◌-ℤ◌, List, [], ◌∷◌, Option}
+use Rattle.std.proofs.Common.{Some, None, get_or, length, map, refl, sym, ap, subst, ◌∙◌, arith}
 use Rattle.std.specs.Prelude.{nat_lt, slice_get}
 use Rattle.std.specs.List.{AllByRecursion, list_all, list_any}
 use Rattle.std.specs.Option.{option_and_then, option_map, option_map_or}
@@ -27,7 +28,9 @@ use Rattle.mm_relevance.specs.declared.edge.Edge.{Edge}
 use Rattle.mm_relevance.specs.declared.term.Point.{Point}
 use Rattle.mm_relevance.specs.declared.term.Point.TheVariants.{Zero, Column as At}
 use Rattle.mm_relevance.specs.declared.term.Term.{Term}
-use Rattle.mm_relevance.specs.Relevance.{IsAccepted, IsCombinationWith, IsCyclic, IsIrrelevant, IsNegativeCycle, IsWalk, edge_at, edge_between, edge_of, fails_on_texts, field_term, is_text, known, lower_edge, moved, number_term, operand_term, shifts_text, total, upper_edge}
+use Rattle.mm_relevance.specs.Relevance.{IsAccepted, IsCombinationWith, IsCyclic, IsIrrelevant, IsNegativeCycle, IsWalk, edge_at, edge_between, edge_of}
+use Rattle.mm_relevance.specs.Relevance.{fails_on_texts, field_term, is_text, known, lower_edge, moved, number_term, operand_term, shifts_text, total}
+use Rattle.mm_relevance.specs.Relevance.{upper_edge}
 use Rattle.mm_relevance.proofs.Bounds.{IsPlain, UpTo, at_most_says, below_says, never_below_itself, up_to_itself, up_to_on}
 use Rattle.mm_relevance.proofs.Points.{and_true, same_number}
 
@@ -38,7 +41,8 @@ at_or_none [] i = refl
 at_or_none (row ∷ rows) zero = refl
 at_or_none (row ∷ rows) (suc i) = at_or_none rows i
 
-all_get : (p : Atom FieldPlace → Bool) (atoms : List (Atom FieldPlace)) (i : ℕ) (a : Atom FieldPlace) → list_all p atoms ≡ true → slice_get atoms i ≡ Some a → p a ≡ true
+all_get : (p : Atom FieldPlace → Bool) (atoms : List (Atom FieldPlace)) (i : ℕ) (a : Atom FieldPlace) → list_all p atoms ≡ true → slice_get atoms i ≡ Some a
+    → p a ≡ true
 all_get p [] i a h k = absurd (let b : ⊥ = cc in b)
 all_get p (x ∷ atoms) zero a h k = let same : x ≡ a = cc in ap p (sym same) ∙ (and_true (p x) (list_all p atoms) h).0
 all_get p (x ∷ atoms) (suc i) a h k = all_get p atoms i a (and_true (p x) (list_all p atoms) h).1 k
@@ -47,7 +51,8 @@ or_false : (a b : Bool) → (a || b) ≡ false → (a ≡ false) × (b ≡ false
 or_false true b h = absurd (let b : ⊥ = cc in b)
 or_false false b h = (refl, h)
 
-any_get : (p : Atom FieldPlace → Bool) (atoms : List (Atom FieldPlace)) (i : ℕ) (a : Atom FieldPlace) → list_any p atoms ≡ false → slice_get atoms i ≡ Some a → p a ≡ false
+any_get : (p : Atom FieldPlace → Bool) (atoms : List (Atom FieldPlace)) (i : ℕ) (a : Atom FieldPlace) → list_any p atoms ≡ false → slice_get atoms i ≡ Some a
+    → p a ≡ false
 any_get p [] i a h k = absurd (let b : ⊥ = cc in b)
 any_get p (x ∷ atoms) zero a h k = let same : x ≡ a = cc in ap p (sym same) ∙ (or_false (p x) (list_any p atoms) h).0
 any_get p (x ∷ atoms) (suc i) a h k = any_get p atoms i a (or_false (p x) (list_any p atoms) h).1 k
@@ -104,7 +109,8 @@ module _ (rows : List (List Value)) where
     other_stands f t false inside h = absurd (let b : ⊥ = cc in b)
 
     field_either : (f : FieldPlace) (t : Term) (own : Bool) → (own ≡ true → f.place ≡ place)
-        → cond own (number_term (value_in f.column row)) (cond (nat_lt f.place (length query.from)) (Some (record { point = At f; offset = pos 0 })) None) ≡ Some t
+        → cond own (number_term (value_in f.column row)) (cond (nat_lt f.place (length query.from)) (Some (record { point = At f; offset = pos 0 })) None)
+        ≡ Some t
         → StandsFor (value_at (map Some rows) f) t
     field_either f t true is h = subst (λ v. StandsFor v t) (sym (own_value f (is refl))) (number_stands (value_in f.column row) t h)
     field_either f t false is h = other_stands f t (nat_lt f.place (length query.from)) (ltb-true f.place (length query.from)) h
@@ -166,35 +172,38 @@ module _ (rows : List (List Value)) where
     above order.Equal p is h = absurd (let b : ⊥ = cc in b)
     above order.Greater p is h = ap is_lt is
 
-    module _ (name : CycleEdge) (a b : Term) (e : Edge) (plain_a : IsPlain (point_value a.point) a.offset) (plain_b : IsPlain (point_value b.point) b.offset) where
-      turned : value_cmp (term_value b) (term_value a) ≡ ordering_reverse (value_cmp (term_value a) (term_value b))
-      turned = value_cmp_total.antisymm (term_value b) (term_value a)
+    module _ (name : CycleEdge) (a b : Term) (e : Edge) (plain_a : IsPlain (point_value a.point) a.offset) (plain_b : IsPlain (point_value b.point) b.offset)
+      where
+        turned : value_cmp (term_value b) (term_value a) ≡ ordering_reverse (value_cmp (term_value a) (term_value b))
+        turned = value_cmp_total.antisymm (term_value b) (term_value a)
 
-      up_to_b : is_gt (value_cmp (term_value a) (term_value b)) ≡ false → UpTo (point_value a.point) (point_value b.point) (b.offset -ℤ a.offset)
-      up_to_b h = at_most_says (point_value a.point) (point_value b.point) a.offset b.offset plain_a plain_b h
+        up_to_b : is_gt (value_cmp (term_value a) (term_value b)) ≡ false → UpTo (point_value a.point) (point_value b.point) (b.offset -ℤ a.offset)
+        up_to_b h = at_most_says (point_value a.point) (point_value b.point) a.offset b.offset plain_a plain_b h
 
-      up_to_a : is_gt (value_cmp (term_value b) (term_value a)) ≡ false → UpTo (point_value b.point) (point_value a.point) (a.offset -ℤ b.offset)
-      up_to_a h = at_most_says (point_value b.point) (point_value a.point) b.offset a.offset plain_b plain_a h
+        up_to_a : is_gt (value_cmp (term_value b) (term_value a)) ≡ false → UpTo (point_value b.point) (point_value a.point) (a.offset -ℤ b.offset)
+        up_to_a h = at_most_says (point_value b.point) (point_value a.point) b.offset a.offset plain_b plain_a h
 
-      lower_says : (comparison : Comparison) → stands comparison (value_cmp (term_value a) (term_value b)) ≡ true → lower_edge comparison name a b ≡ Some e → Says e
-      lower_says Equal h k = said _ e k (up_to_b (tied (value_cmp (term_value a) (term_value b)) h))
-      lower_says Less h k = said _ e k (below_says (point_value a.point) (point_value b.point) a.offset b.offset h)
-      lower_says LessOrEqual h k = said _ e k (up_to_b (up (value_cmp (term_value a) (term_value b)) h))
-      lower_says Greater h k = absurd (let b : ⊥ = cc in b)
-      lower_says GreaterOrEqual h k = absurd (let b : ⊥ = cc in b)
+        lower_says : (comparison : Comparison) → stands comparison (value_cmp (term_value a) (term_value b)) ≡ true → lower_edge comparison name a b ≡ Some e
+            → Says e
+        lower_says Equal h k = said _ e k (up_to_b (tied (value_cmp (term_value a) (term_value b)) h))
+        lower_says Less h k = said _ e k (below_says (point_value a.point) (point_value b.point) a.offset b.offset h)
+        lower_says LessOrEqual h k = said _ e k (up_to_b (up (value_cmp (term_value a) (term_value b)) h))
+        lower_says Greater h k = absurd (let b : ⊥ = cc in b)
+        lower_says GreaterOrEqual h k = absurd (let b : ⊥ = cc in b)
 
-      upper_says : (comparison : Comparison) → stands comparison (value_cmp (term_value a) (term_value b)) ≡ true → upper_edge comparison name a b ≡ Some e → Says e
-      upper_says Equal h k = said _ e k (up_to_a (tied_down (value_cmp (term_value a) (term_value b)) _ turned h))
-      upper_says Less h k = absurd (let b : ⊥ = cc in b)
-      upper_says LessOrEqual h k = absurd (let b : ⊥ = cc in b)
-      upper_says Greater h k =
-          said _ e k (below_says (point_value b.point) (point_value a.point) b.offset a.offset (above (value_cmp (term_value a) (term_value b)) _ turned h))
-      upper_says GreaterOrEqual h k = said _ e k (up_to_a (down (value_cmp (term_value a) (term_value b)) _ turned h))
+        upper_says : (comparison : Comparison) → stands comparison (value_cmp (term_value a) (term_value b)) ≡ true → upper_edge comparison name a b ≡ Some e
+            → Says e
+        upper_says Equal h k = said _ e k (up_to_a (tied_down (value_cmp (term_value a) (term_value b)) _ turned h))
+        upper_says Less h k = absurd (let b : ⊥ = cc in b)
+        upper_says LessOrEqual h k = absurd (let b : ⊥ = cc in b)
+        upper_says Greater h k =
+            said _ e k (below_says (point_value b.point) (point_value a.point) b.offset a.offset (above (value_cmp (term_value a) (term_value b)) _ turned h))
+        upper_says GreaterOrEqual h k = said _ e k (up_to_a (down (value_cmp (term_value a) (term_value b)) _ turned h))
 
-      either_says : (upper : Bool) (comparison : Comparison) → stands comparison (value_cmp (term_value a) (term_value b)) ≡ true
-          → cond upper (upper_edge comparison name a b) (lower_edge comparison name a b) ≡ Some e → Says e
-      either_says true comparison h k = upper_says comparison h k
-      either_says false comparison h k = lower_says comparison h k
+        either_says : (upper : Bool) (comparison : Comparison) → stands comparison (value_cmp (term_value a) (term_value b)) ≡ true
+            → cond upper (upper_edge comparison name a b) (lower_edge comparison name a b) ≡ Some e → Says e
+        either_says true comparison h k = upper_says comparison h k
+        either_says false comparison h k = lower_says comparison h k
 
     between_says : (comparison : Comparison) (name : CycleEdge) (v w : Option Value) (s t : Option Term) (e : Edge)
         → ((a : Term) → s ≡ Some a → StandsFor v a) → ((b : Term) → t ≡ Some b → StandsFor w b)
@@ -260,10 +269,12 @@ module _ (rows : List (List Value)) where
     known_operand (Column f) v h = known_value f v h
     known_operand (Shifted f by) v h = known_shifted f by v (known place row f) refl h
 
-    false_of : (comparison : Comparison) (v w : Option Value) (x y : Option Value) → ((u : Value) → v ≡ Some u → x ≡ Some u) → ((u : Value) → w ≡ Some u → y ≡ Some u)
+    false_of : (comparison : Comparison) (v w : Option Value) (x y : Option Value) → ((u : Value) → v ≡ Some u → x ≡ Some u)
+        → ((u : Value) → w ≡ Some u → y ≡ Some u)
         → (is_text v && (is_text w && not (holds_of comparison v w))) ≡ true → holds_of comparison x y ≡ true → ⊥
     false_of comparison (Some u) (Some t) x y f g h k =
-        go (is_text (Some u)) (is_text (Some t)) (holds_of comparison (Some u) (Some t)) h ((λ i. holds_of comparison (sym (f u refl) i) (sym (g t refl) i)) ∙ k)
+        go (is_text (Some u)) (is_text (Some t)) (holds_of comparison (Some u) (Some t)) h
+        ((λ i. holds_of comparison (sym (f u refl) i) (sym (g t refl) i)) ∙ k)
       where
         go : (a b c : Bool) → (a && (b && not c)) ≡ true → c ≡ true → ⊥
         go true true true h k = (let b : ⊥ = cc in b)
@@ -276,10 +287,12 @@ module _ (rows : List (List Value)) where
 
     atom_false : (a : Atom FieldPlace) → fails_on_texts place row a ≡ true → holds (value_at (map Some rows)) a ≡ true → ⊥
     atom_false a h k =
-        false_of a.comparison (known place row a.left) (operand_of (known place row) a.right) (value_at (map Some rows) a.left) (operand_of (value_at (map Some rows)) a.right)
+        false_of a.comparison (known place row a.left) (operand_of (known place row) a.right) (value_at (map Some rows) a.left)
+        (operand_of (value_at (map Some rows)) a.right)
         (known_value a.left) (known_operand a.right) h k
 
-    no_fit_by : (i : ℕ) (o : Option (Atom FieldPlace)) → slice_get query.atoms i ≡ o → option_map_or (fails_on_texts place row) o false ≡ true → fits query rows ≡ true → ⊥
+    no_fit_by : (i : ℕ) (o : Option (Atom FieldPlace)) → slice_get query.atoms i ≡ o → option_map_or (fails_on_texts place row) o false ≡ true
+        → fits query rows ≡ true → ⊥
     no_fit_by i None is h fit = (let b : ⊥ = cc in b)
     no_fit_by i (Some a) is h fit = atom_false a h (all_get (holds (value_at (map Some rows))) query.atoms i a fit is)
 

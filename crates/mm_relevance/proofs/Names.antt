@@ -1,5 +1,6 @@
 -- The edges of a query and their names, and closed walks over them.
-use Rattle.std.proofs.Common.{◌≡◌, ℕ, suc, zero, ◌+◌, ◌<◌, Bool, true, false, cond, ◌⊎◌, inl, inr, List, [], ◌∷◌, ◌++◌, Option, Some, None, IfSome, append_assoc, drop, drop-cons, length, map, get_or, refl, sym, ap, subst, ◌∙◌, arith}
+use Rattle.std.proofs.Common.{◌≡◌, ℕ, suc, zero, ◌+◌, ◌<◌, Bool, true, false, cond, ◌⊎◌, inl, inr, List, [], ◌∷◌, ◌++◌, Option, Some, None, IfSome}
+use Rattle.std.proofs.Common.{append_assoc, drop, drop-cons, length, map, get_or, refl, sym, ap, subst, ◌∙◌, arith}
 use Rattle.std.specs.Prelude.{slice_get}
 use Rattle.std.specs.List.{All, AllByRecursion, Contains}
 use Rattle.std.specs.Option.{option_and_then}
@@ -71,7 +72,8 @@ module _ (query : BoundQuery) (place : ℕ) (row : List Value) where
   all_option P None f = tt
   all_option P (Some e) f = (f e refl, tt)
 
-  there_here : (i : ℕ) (upper : Bool) (a : Atom FieldPlace) (atoms : List (Atom FieldPlace)) (e : Edge) → edge_of query place row (name_of i upper) a ≡ Some e → IsThere i (a ∷ atoms) e
+  there_here : (i : ℕ) (upper : Bool) (a : Atom FieldPlace) (atoms : List (Atom FieldPlace)) (e : Edge) → edge_of query place row (name_of i upper) a ≡ Some e
+      → IsThere i (a ∷ atoms) e
   there_here i upper a atoms e h =
       let n : e.name ≡ name_of i upper = name_edge a (name_of i upper) e h in
       (0, (let k = ap (λ (x : CycleEdge). x.conjunct) n in omega (arith, k)), ap (λ m. edge_of query place row m a) n ∙ h)
@@ -82,7 +84,8 @@ module _ (query : BoundQuery) (place : ℕ) (row : List Value) where
   all_there : (i : ℕ) (atoms : List (Atom FieldPlace)) → AllByRecursion (IsThere i atoms) (edges_from query place row i atoms)
   all_there i [] = tt
   all_there i (a ∷ atoms) =
-      all_both (IsThere i (a ∷ atoms)) (option_list (edge_of query place row (name_of i false) a) ++ option_list (edge_of query place row (name_of i true) a)) (edges_from query place row (i + 1) atoms)
+      all_both (IsThere i (a ∷ atoms)) (option_list (edge_of query place row (name_of i false) a) ++ option_list (edge_of query place row (name_of i true) a))
+      (edges_from query place row (i + 1) atoms)
       (all_both (IsThere i (a ∷ atoms)) (option_list (edge_of query place row (name_of i false) a)) (option_list (edge_of query place row (name_of i true) a))
       (all_option _ (edge_of query place row (name_of i false) a) (there_here i false a atoms))
       (all_option _ (edge_of query place row (name_of i true) a) (there_here i true a atoms)))
@@ -110,7 +113,8 @@ module _ (query : BoundQuery) (place : ℕ) (row : List Value) where
       let n : next ≡ (out ++ option_list (edge_of query place row (name_of i false) a)) ++ option_list (edge_of query place row (name_of i true) a) =
       e ∙ (λ t. (m ∙ ap (λ o. out ++ option_list o) l) t ++ option_list (u t)) in
       ap (λ l. l ++ edges_from query place row (i + 1) (drop (i + 1) atoms)) n
-      ∙ regroup out (option_list (edge_of query place row (name_of i false) a)) (option_list (edge_of query place row (name_of i true) a)) (edges_from query place row (i + 1) (drop (i + 1) atoms))
+      ∙ regroup out (option_list (edge_of query place row (name_of i false) a)) (option_list (edge_of query place row (name_of i true) a))
+      (edges_from query place row (i + 1) (drop (i + 1) atoms))
       ∙ ap (λ l. out ++ edges_from query place row i l) (sym k) ∙ h
 
   near_option : (o : Option Edge) → IfSome o IsNear → All IsNear (option_list o)
@@ -144,23 +148,30 @@ module _ (query : BoundQuery) (place : ℕ) (row : List Value) where
 
   among_here : (i : ℕ) (a : Atom FieldPlace) (upper : Bool) (e : Edge) → edge_of query place row (name_of i upper) a ≡ Some e
       → Among (option_list (edge_of query place row (name_of i false) a) ++ option_list (edge_of query place row (name_of i true) a)) e
-  among_here i a false e h = among_left _ (option_list (edge_of query place row (name_of i true) a)) e (among_option (edge_of query place row (name_of i false) a) e h)
-  among_here i a true e h = among_right (option_list (edge_of query place row (name_of i false) a)) _ e (among_option (edge_of query place row (name_of i true) a) e h)
+  among_here i a false e h = among_left _ (option_list (edge_of query place row (name_of i true) a)) e
+      (among_option (edge_of query place row (name_of i false) a) e h)
+  among_here i a true e h = among_right (option_list (edge_of query place row (name_of i false) a)) _ e
+      (among_option (edge_of query place row (name_of i true) a) e h)
 
-  among_from : (i j : ℕ) (upper : Bool) (atoms : List (Atom FieldPlace)) (e : Edge) → edge_of_some (slice_get atoms j) (name_of (i + j) upper) ≡ Some e → Among (edges_from query place row i atoms) e
+  among_from : (i j : ℕ) (upper : Bool) (atoms : List (Atom FieldPlace)) (e : Edge) → edge_of_some (slice_get atoms j) (name_of (i + j) upper) ≡ Some e
+      → Among (edges_from query place row i atoms) e
   among_from i j upper [] e h = absurd (let b : ⊥ = cc in b)
   among_from i zero upper (a ∷ atoms) e h =
-      among_left (option_list (edge_of query place row (name_of i false) a) ++ option_list (edge_of query place row (name_of i true) a)) (edges_from query place row (i + 1) atoms) e
+      among_left (option_list (edge_of query place row (name_of i false) a) ++ option_list (edge_of query place row (name_of i true) a))
+      (edges_from query place row (i + 1) atoms) e
       (among_here i a upper e (ap (λ k. edge_of query place row (name_of k upper) a) (let z : i ≡ i + 0 = omega arith in z) ∙ h))
   among_from i (suc j) upper (a ∷ atoms) e h =
-      among_right (option_list (edge_of query place row (name_of i false) a) ++ option_list (edge_of query place row (name_of i true) a)) (edges_from query place row (i + 1) atoms) e
-      (among_from (i + 1) j upper atoms e (ap (λ k. edge_of_some (slice_get atoms j) (name_of k upper)) (let z : (i + 1) + j ≡ i + suc j = omega arith in z) ∙ h))
+      among_right (option_list (edge_of query place row (name_of i false) a) ++ option_list (edge_of query place row (name_of i true) a))
+      (edges_from query place row (i + 1) atoms) e
+      (among_from (i + 1) j upper atoms e (ap (λ k. edge_of_some (slice_get atoms j) (name_of k upper)) (let z : (i + 1) + j ≡ i + suc j = omega arith in z)
+      ∙ h))
 
   -- .. and each name's edge is there.
   contains_named : (name : CycleEdge) (e : Edge) → edge_at query place row name ≡ Some e → Contains (edges query place row) e
   contains_named name e h =
       among_contains (edges query place row) e
-      (among_from 0 name.conjunct name.upper query.atoms e (ap (λ k. edge_of_some (slice_get query.atoms name.conjunct) (name_of k name.upper)) (let z : 0 + name.conjunct ≡ name.conjunct = omega arith in z) ∙ h))
+      (among_from 0 name.conjunct name.upper query.atoms e (ap (λ k. edge_of_some (slice_get query.atoms name.conjunct) (name_of k name.upper))
+      (let z : 0 + name.conjunct ≡ name.conjunct = omega arith in z) ∙ h))
 
   -- ---- What is found is a cycle, and a cycle would be found
 
@@ -185,7 +196,8 @@ module _ (query : BoundQuery) (place : ℕ) (row : List Value) where
       let long = ap length is ∙ length_names walk in
       record {
         edges = walk;
-        named = ap (map (edge_at query place row)) is ∙ names_at walk (all_map (Contains es) IsNamed (λ e h. at_contained IsNamed es e (subst (All IsNamed) (sym same) all) h) walk by);
+        named = ap (map (edge_at query place row)) is ∙ names_at walk
+            (all_map (Contains es) IsNamed (λ e h. at_contained IsNamed es e (subst (All IsNamed) (sym same) all) h) walk by);
         not_empty = omega (arith, some, long);
         few = omega (arith, few, long);
         point = c.point;
@@ -193,12 +205,16 @@ module _ (query : BoundQuery) (place : ℕ) (row : List Value) where
         negative = c.negative;
       }
 
-  all_contained : (cycle : List CycleEdge) (es : List Edge) → map (edge_at query place row) cycle ≡ map Some es → AllByRecursion (Contains (edges query place row)) es
+  all_contained : (cycle : List CycleEdge) (es : List Edge) → map (edge_at query place row) cycle ≡ map Some es
+      → AllByRecursion (Contains (edges query place row)) es
   all_contained [] [] h = tt
   all_contained [] (e ∷ es) h = absurd (let b : ⊥ = cc in b)
   all_contained (n ∷ cycle) [] h = tt
-  all_contained (n ∷ cycle) (e ∷ es) h =
-      (contains_named n e (let k : edge_at query place row n ≡ Some e = cc in k), all_contained cycle es (let k : map (edge_at query place row) cycle ≡ map Some es = cc in k))
+  all_contained (n ∷ cycle) (e ∷ es) h = (
+    contains_named n e (let k : edge_at query place row n ≡ Some e = cc in k),
+    all_contained cycle es
+        (let k : map (edge_at query place row) cycle ≡ map Some es = cc in k),
+  )
 
   same_length : (cycle : List CycleEdge) (es : List Edge) → map (edge_at query place row) cycle ≡ map Some es → length es ≡ length cycle
   same_length [] [] h = refl
@@ -215,7 +231,8 @@ module _ (query : BoundQuery) (place : ℕ) (row : List Value) where
       never c.edges (record {
         point = c.point;
         closed = c.closed;
-        among = subst (λ l. All (Contains l) c.edges) (sym same) (All-from_recursion (Contains (edges query place row)) c.edges (all_contained cycle c.edges c.named));
+        among = subst (λ l. All (Contains l) c.edges) (sym same)
+            (All-from_recursion (Contains (edges query place row)) c.edges (all_contained cycle c.edges c.named));
         not_empty = omega (arith, some, long);
         few = omega (arith, few, long);
         negative = c.negative;

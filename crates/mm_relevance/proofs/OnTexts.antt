@@ -20,12 +20,14 @@ lower_name n h = (λ i. record { conjunct = n.conjunct; upper = h i })
 
 -- ---- The first that fails
 
-found_from : {X : Type 0} (p : X → Bool) (xs : List X) (i j : ℕ) → position_from p i xs ≡ Some j → (k : ℕ) × (j ≡ i + k) × (option_map_or p (slice_get xs k) false ≡ true)
+found_from : {X : Type 0} (p : X → Bool) (xs : List X) (i j : ℕ) → position_from p i xs ≡ Some j → (k : ℕ) × (j ≡ i + k)
+    × (option_map_or p (slice_get xs k) false ≡ true)
 found_from p [] i j h = absurd (let b : ⊥ = cc in b)
 found_from {X} p (x ∷ xs) i j h = go (found_from p xs (i + 1) j) (p x) refl h
   where
     go : (position_from p (i + 1) xs ≡ Some j → (k : ℕ) × (j ≡ (i + 1) + k) × (option_map_or p (slice_get xs k) false ≡ true))
-        → (b : Bool) → p x ≡ b → cond b (Some i) (position_from p (i + 1) xs) ≡ Some j → (k : ℕ) × (j ≡ i + k) × (option_map_or p (slice_get (x ∷ xs) k) false ≡ true)
+        → (b : Bool) → p x ≡ b → cond b (Some i) (position_from p (i + 1) xs) ≡ Some j → (k : ℕ) × (j ≡ i + k)
+        × (option_map_or p (slice_get (x ∷ xs) k) false ≡ true)
     go later true is h = let same : i ≡ j = cc in (0, omega (arith, same), is)
     go later false is h = let r = later h in (suc r.0, (let e = r.1 in omega (arith, e)), r.2)
 
@@ -56,7 +58,8 @@ module _ (query : BoundQuery) (place : ℕ) (row : List Value) where
 
       back : IsFalseOnTexts query place row cycle → IsTrue r
       back f =
-          is ∙ ap (λ (n : CycleEdge). option_map_or (fails_on_texts place row) (slice_get query.atoms n.conjunct) false) (first_of_one cycle d (name_of f.conjunct false) f.only)
+          is ∙ ap (λ (n : CycleEdge). option_map_or (fails_on_texts place row) (slice_get query.atoms n.conjunct) false)
+          (first_of_one cycle d (name_of f.conjunct false) f.only)
           ∙ f.fails
 
   pub found : (cycle : List CycleEdge) (conjunct : ℕ) → position (fails_on_texts place row) query.atoms ≡ Some conjunct → cycle ≡ name_of conjunct false ∷ []
@@ -72,4 +75,5 @@ module _ (query : BoundQuery) (place : ℕ) (row : List Value) where
       }
 
   pub none_found : position (fails_on_texts place row) query.atoms ≡ None → (cycle : List CycleEdge) → IsFalseOnTexts query place row cycle → ⊥
-  none_found h cycle f = none_from (fails_on_texts place row) query.atoms 0 (sym (position_from-zero (fails_on_texts place row) query.atoms) ∙ h) f.conjunct f.fails
+  none_found h cycle f = none_from (fails_on_texts place row) query.atoms 0 (sym (position_from-zero (fails_on_texts place row) query.atoms) ∙ h) f.conjunct
+      f.fails

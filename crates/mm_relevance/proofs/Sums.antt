@@ -1,5 +1,6 @@
 -- The least sums of paths.
-use Rattle.std.proofs.Common.{◌≡◌, ℕ, suc, zero, ◌+◌, ◌*◌, ◌^◌, ◌<◌, ◌≤◌, Bool, true, false, cond, ℤ, pos, ◌+ℤ◌, List, [], ◌∷◌, Option, Some, None, map, length, get_or, refl, sym, ap, subst, ◌∙◌, arith}
+use Rattle.std.proofs.Common.{◌≡◌, ℕ, suc, zero, ◌+◌, ◌*◌, ◌^◌, ◌<◌, ◌≤◌, Bool, true, false, cond, ℤ, pos, ◌+ℤ◌, List, [], ◌∷◌, Option, Some, None, map}
+use Rattle.std.proofs.Common.{length, get_or, refl, sym, ap, subst, ◌∙◌, arith}
 use Rattle.std.specs.Prelude.{int_lt, ◌<ℤ◌, ◌≤ℤ◌}
 use Rattle.std.specs.List.{fold, All, AllByRecursion, Contains}
 use Rattle.std.proofs.lemmas.Int.{ints}
@@ -60,11 +61,13 @@ fold_keeps : (at : Point) (rs : List Reach) (best : Option ℤ) (v : ℤ) → At
 fold_keeps at [] best v h = h
 fold_keeps at (r ∷ rs) best v h = fold_keeps at rs (better at best r) v (better_keeps at best r v h)
 
-better_takes : (at : Point) (best : Option ℤ) (f : Point → Option ℤ) (e : Edge) (v : ℤ) → e.left ≡ at → AtMostBy (f e.right) v → AtMostBy (better at best (reach_of f e)) (e.cost +ℤ v)
+better_takes : (at : Point) (best : Option ℤ) (f : Point → Option ℤ) (e : Edge) (v : ℤ) → e.left ≡ at → AtMostBy (f e.right) v
+    → AtMostBy (better at best (reach_of f e)) (e.cost +ℤ v)
 better_takes at best f e v h k =
     subst (λ c. AtMostBy (cond c (better_by best e.cost (f e.right)) best) (e.cost +ℤ v)) (sym (point_eq_is e.left at h)) (by_takes best e.cost (f e.right) v k)
 
-fold_takes : (at : Point) (f : Point → Option ℤ) (es : List Edge) (best : Option ℤ) (e : Edge) (k : ℕ) → k < length es → get_or es k e ≡ e → e.left ≡ at → (v : ℤ) → AtMostBy (f e.right) v
+fold_takes : (at : Point) (f : Point → Option ℤ) (es : List Edge) (best : Option ℤ) (e : Edge) (k : ℕ) → k < length es → get_or es k e ≡ e → e.left ≡ at
+    → (v : ℤ) → AtMostBy (f e.right) v
     → AtMostBy (fold (better at) best (map (reach_of f) es)) (e.cost +ℤ v)
 fold_takes at f [] best e k inside is left v h = absurd (omega arith)
 fold_takes at f (x ∷ es) best e zero inside is left v h =
@@ -78,7 +81,8 @@ module _ (es : List Edge) (target : Point) where
   rest_there (suc n) p h = fold_keeps p (reaches_of es target n) (rest es target n p) (pos 0) (rest_there n p h)
 
   -- No path of at most n edges has a lesser sum.
-  pub path_bound : (path : List Edge) (n : ℕ) (p : Point) → IsWalk p path target → AllByRecursion (Contains es) path → length path ≤ n → AtMostBy (rest es target n p) (total path)
+  pub path_bound : (path : List Edge) (n : ℕ) (p : Point) → IsWalk p path target → AllByRecursion (Contains es) path → length path ≤ n
+      → AtMostBy (rest es target n p) (total path)
   path_bound [] n p h all few = rest_there n p h
   path_bound (e ∷ path) zero p h all few = absurd (omega arith)
   path_bound (e ∷ path) (suc n) p h all few =
@@ -117,12 +121,14 @@ within_lesser : (m : ℕ) (best : Option ℤ) (b : ℤ) → IsWithinSum m best �
 within_lesser m None b h k = k
 within_lesser m (Some a) b h k = within_if (int_lt b a) m (Some b) (Some a) k h
 
-within_by : (m k : ℕ) (best : Option ℤ) (cost : ℤ) (sum : Option ℤ) → IsWithinSum m best → IsWithin (2 ^ 66) cost → IsWithinSum k sum → k + 2 ^ 66 ≤ m → IsWithinSum m (better_by best cost sum)
+within_by : (m k : ℕ) (best : Option ℤ) (cost : ℤ) (sum : Option ℤ) → IsWithinSum m best → IsWithin (2 ^ 66) cost → IsWithinSum k sum → k + 2 ^ 66 ≤ m
+    → IsWithinSum m (better_by best cost sum)
 within_by m k best cost None h near w le = h
 within_by m k best cost (Some u) h near w le =
     within_lesser m best (cost +ℤ u) h (let a = near.0 in let b = near.1 in let c = w.0 in let d = w.1 in (omega (arith, ints), omega (arith, ints)))
 
-within_fold : (at : Point) (f : Point → Option ℤ) (m k : ℕ) → k + 2 ^ 66 ≤ m → ((p : Point) → IsWithinSum k (f p)) → (es : List Edge) (best : Option ℤ) → AllByRecursion IsNear es → IsWithinSum m best
+within_fold : (at : Point) (f : Point → Option ℤ) (m k : ℕ) → k + 2 ^ 66 ≤ m → ((p : Point) → IsWithinSum k (f p)) → (es : List Edge) (best : Option ℤ)
+    → AllByRecursion IsNear es → IsWithinSum m best
     → IsWithinSum m (fold (better at) best (map (reach_of f) es))
 within_fold at f m k le w [] best near h = h
 within_fold at f m k le w (e ∷ es) best near h =
@@ -167,7 +173,8 @@ by_attained at (Some a) r v true (Some u) left is h never = go (int_lt (r.edge.c
     go true h = absurd (never (record { left = left refl; after = u; reached = is; sums = sym h }))
     go false h = h
 
-fold_attained : (at : Point) (rs : List Reach) (best : Option ℤ) (v : ℤ) → fold (better at) best rs ≡ Some v → AllByRecursion (λ r. Takes at (Some v) r → ⊥) rs → best ≡ Some v
+fold_attained : (at : Point) (rs : List Reach) (best : Option ℤ) (v : ℤ) → fold (better at) best rs ≡ Some v
+    → AllByRecursion (λ r. Takes at (Some v) r → ⊥) rs → best ≡ Some v
 fold_attained at [] best v h none = h
 fold_attained at (r ∷ rs) best v h none =
     by_attained at best r v (point_eq r.edge.left at) r.sum (point_eq_true r.edge.left at) refl (fold_attained at rs (better at best r) v h none.1) none.0

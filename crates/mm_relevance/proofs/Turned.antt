@@ -1,5 +1,6 @@
 -- A closed walk of negative sum, begun at an edge of negative cost.
-use Rattle.std.proofs.Common.{◌≡◌, ℕ, suc, zero, ◌+◌, ◌<◌, ◌≤◌, Bool, true, false, ◌⊎◌, inl, inr, List, [], ◌∷◌, ◌++◌, ℤ, pos, ◌+ℤ◌, Option, Some, None, length, length-append, get_or, ◌&&◌, ◌||◌, take, refl, sym, ap, subst, ◌∙◌, arith}
+use Rattle.std.proofs.Common.{◌≡◌, ℕ, suc, zero, ◌+◌, ◌<◌, ◌≤◌, Bool, true, false, ◌⊎◌, inl, inr, List, [], ◌∷◌, ◌++◌, ℤ, pos, ◌+ℤ◌, Option, Some, None}
+use Rattle.std.proofs.Common.{length, length-append, get_or, ◌&&◌, ◌||◌, take, refl, sym, ap, subst, ◌∙◌, arith}
 use Rattle.std.specs.Prelude.{◌<ℤ◌, ◌≤ℤ◌, int_lt}
 use Rattle.std.specs.List.{AllByRecursion, Contains, list_any}
 use Rattle.std.proofs.lemmas.Int.{ints}
@@ -72,7 +73,8 @@ no_walk es never walk w = turned (split walk w.negative)
     turned : Split walk → ⊥
     turned s =
         let parts = walk_parts s.before (s.edge ∷ s.behind) w.point w.point (subst (λ l. IsWalk w.point l w.point) s.is w.closed) in
-        let all = all_parts (Contains es) s.before (s.edge ∷ s.behind) (subst (AllByRecursion (Contains es)) s.is (recursion_from_All (Contains es) walk w.among)) in
+        let all = all_parts (Contains es) s.before (s.edge ∷ s.behind)
+        (subst (AllByRecursion (Contains es)) s.is (recursion_from_All (Contains es) walk w.among)) in
         let m : Point = parts.0 in
         let path : IsWalk m (s.edge ∷ (s.behind ++ s.before)) m =
         (parts.2.0, walk_whole s.behind s.before s.edge.right w.point m parts.2.1 parts.1) in
@@ -105,7 +107,8 @@ get_or_any (x ∷ xs) (suc i) d f h = get_or_any xs i d f (omega arith)
 abbrev pub Starts : List Edge → Edge → Type 0
 Starts es e = (e.cost <ℤ pos 0) × Begins es e
 
-pub none_starts : (es : List Edge) (i : ℕ) (d : Edge) → i < length es → ((k : ℕ) (d : Edge) → k < i → Starts es (get_or es k d) → ⊥) → (Begins es (get_or es i d) → ⊥)
+pub none_starts : (es : List Edge) (i : ℕ) (d : Edge) → i < length es → ((k : ℕ) (d : Edge) → k < i → Starts es (get_or es k d) → ⊥)
+    → (Begins es (get_or es i d) → ⊥)
     → (k : ℕ) (d : Edge) → k < i + 1 → Starts es (get_or es k d) → ⊥
 none_starts es i d inside before now k f h p = go (cases_lt k i)
   where
@@ -119,7 +122,8 @@ pub skipped : (es : List Edge) (i : ℕ) → i < length es → IsNoStart es i �
     → (k : ℕ) (d : Edge) → k < i + 1 → Starts es (get_or es k d) → ⊥
 skipped es i inside none before k f h p = go (cases_lt k i)
   where
-    no : (pos 0 ≤ℤ (get_or es i f).cost) ⊎ ((j : ℕ) × (j < i) × ((get_or es j f).cost <ℤ pos 0) × ((get_or es j f).left ≡ (get_or es i f).left)) → Starts es (get_or es i f) → ⊥
+    no : (pos 0 ≤ℤ (get_or es i f).cost) ⊎ ((j : ℕ) × (j < i) × ((get_or es j f).cost <ℤ pos 0) × ((get_or es j f).left ≡ (get_or es i f).left))
+        → Starts es (get_or es i f) → ⊥
     no (inl high) q = (let low = q.0 in omega (arith, ints, high, low))
     no (inr (j, less, low, same)) q = before j f less (low, subst (λ at. IsNegative (least at None (reaches_of es at 31))) (sym same) q.1)
 
@@ -137,7 +141,8 @@ any_before test [] (suc i) d h = absurd (let b : ⊥ = cc in b)
 any_before test (e ∷ es) zero d h = absurd (let b : ⊥ = cc in b)
 any_before test (e ∷ es) (suc i) d h = go (any_before test es i d) (test e) refl h
   where
-    go : (list_any test (take i es) ≡ true → (k : ℕ) × (k < i) × (test (get_or es k d) ≡ true)) → (b : Bool) → test e ≡ b → (b || list_any test (take i es)) ≡ true
+    go : (list_any test (take i es) ≡ true → (k : ℕ) × (k < i) × (test (get_or es k d) ≡ true)) → (b : Bool) → test e ≡ b → (b || list_any test (take i es))
+        ≡ true
         → (k : ℕ) × (k < suc i) × (test (get_or (e ∷ es) k d) ≡ true)
     go later true is h = (0, omega arith, is)
     go later false is h = let r = later h in (suc r.0, (let l = r.1 in omega arith), r.2)

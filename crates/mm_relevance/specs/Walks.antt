@@ -1,5 +1,6 @@
 -- The steps of the search for a negative cycle, and of the check of one.
-use Rattle.std.specs.Prelude.{◌≡◌, ◌⊎◌, ◌<◌, get_or, ℕ, suc, zero, ◌+◌, ◌*◌, ◌%◌, ◌^◌, ◌≤◌, ◌==◌, ◌&&◌, Bool, true, false, not, ℤ, pos, int_lt, ◌+ℤ◌, ◌≤ℤ◌, ◌<ℤ◌, if◌then◌else◌, List, [], ◌∷◌, ◌++◌, Option, Some, None, length, map}
+use Rattle.std.specs.Prelude.{◌≡◌, ◌⊎◌, ◌<◌, get_or, ℕ, suc, zero, ◌+◌, ◌*◌, ◌%◌, ◌^◌, ◌≤◌, ◌==◌, ◌&&◌, Bool, true, false, not, ℤ, pos, int_lt, ◌+ℤ◌, ◌≤ℤ◌}
+use Rattle.std.specs.Prelude.{◌<ℤ◌, if◌then◌else◌, List, [], ◌∷◌, ◌++◌, Option, Some, None, length, map}
 use Rattle.std.specs.List.{All, Contains, fold}
 use Rattle.std.specs.Ordering.{nat_cmp}
 use Rattle.std.specs.Cmp.Lexicographic.{slice_cmp}
@@ -77,7 +78,8 @@ name_of conjunct upper = record { conjunct = conjunct; upper = upper }
 abbrev pub edges_from : BoundQuery → ℕ → List Value → ℕ → List (Atom FieldPlace) → List Edge
 edges_from query place row i [] = []
 edges_from query place row i (a ∷ atoms) =
-    (option_list (edge_of query place row (name_of i false) a) ++ option_list (edge_of query place row (name_of i true) a)) ++ edges_from query place row (i + 1) atoms
+    (option_list (edge_of query place row (name_of i false) a) ++ option_list (edge_of query place row (name_of i true) a)) ++ edges_from query place row
+    (i + 1) atoms
 
 -- The edges of a query.
 abbrev pub edges : BoundQuery → ℕ → List Value → List Edge

@@ -1,5 +1,6 @@
 -- The entries of the catalog's map, seen as its tables.
-use Rattle.std.proofs.Common.{◌≡◌, ℕ, ◌+◌, Bool, true, false, cond, not, List, [], ◌∷◌, ◌++◌, Some, None, All, map, filter, find, position, ltb, refl, sym, ap, ◌∙◌, subst}
+use Rattle.std.proofs.Common.{◌≡◌, ℕ, ◌+◌, Bool, true, false, cond, not, List, [], ◌∷◌, ◌++◌, Some, None, All, map, filter, find, position, ltb, refl, sym}
+use Rattle.std.proofs.Common.{ap, ◌∙◌, subst}
 use Rattle.std.specs.List.{AllByRecursion, IsDistinct, position_or_len}
 use Rattle.std.specs.Map.{keys_of, lookup}
 use Rattle.std.proofs.lemmas.List.{length-map, map-append}
@@ -41,7 +42,8 @@ place_in_names name [] = refl
 place_in_names name (t ∷ ts) = ap (λ n. cond (not (same_name name t.definition.name)) (1 + n) 0) (place_in_names name ts)
 
 -- The place of a key is the place of the table of that name.
-pub place_of_key : {standing : List StandingDef} (name : List ℕ) (tables : Tables) (schema : Schema) → IsKeyedByName tables → record { tables = tables_of tables; standing = standing } ≡ schema
+pub place_of_key : {standing : List StandingDef} (name : List ℕ) (tables : Tables) (schema : Schema) → IsKeyedByName tables
+    → record { tables = tables_of tables; standing = standing } ≡ schema
     → position (same_name name) (keys_of tables.entries) ≡ table_place name schema
 place_of_key name tables schema keyed view =
     ap (position (same_name name)) (keys_are_names tables keyed)
@@ -50,7 +52,8 @@ place_of_key name tables schema keyed view =
     ∙ ap (table_place name) view
 
 -- Keys that differ are names that differ.
-pub distinct_names : {standing : List StandingDef} (tables : Tables) (schema : Schema) → IsKeyedByName tables → record { tables = tables_of tables; standing = standing } ≡ schema
+pub distinct_names : {standing : List StandingDef} (tables : Tables) (schema : Schema) → IsKeyedByName tables
+    → record { tables = tables_of tables; standing = standing } ≡ schema
     → IsDistinct same_name (keys_of tables.entries) → HasDistinctNames schema
 distinct_names tables schema keyed view distinct =
     subst HasDistinctNames view (subst (IsDistinct same_name) (keys_are_names tables keyed) distinct)
@@ -63,13 +66,15 @@ found name (e ∷ es) keyed =
     ∙ ap (cond (same_name name e.1.definition.name) (Some e.1)) (found name es keyed.1)
 
 -- A name without a table is no key.
-absent_key : {standing : List StandingDef} (name : List ℕ) (tables : Tables) (schema : Schema) → IsKeyedByName tables → record { tables = tables_of tables; standing = standing } ≡ schema
+absent_key : {standing : List StandingDef} (name : List ℕ) (tables : Tables) (schema : Schema) → IsKeyedByName tables
+    → record { tables = tables_of tables; standing = standing } ≡ schema
     → table_named name schema ≡ None → lookup (same_name name) tables.entries ≡ None
 absent_key name tables schema keyed view none =
     found name tables.entries (recursion_from_All IsKeyed tables.entries keyed) ∙ ap (table_named name) view ∙ none
 
 -- A table that nothing refuses has a new name, so its entry comes last.
-pub entry_comes_last : {standing : List StandingDef} (definition : TableDef) (tables : Tables) (schema : Schema) → IsKeyedByName tables → record { tables = tables_of tables; standing = standing } ≡ schema
+pub entry_comes_last : {standing : List StandingDef} (definition : TableDef) (tables : Tables) (schema : Schema) → IsKeyedByName tables
+    → record { tables = tables_of tables; standing = standing } ≡ schema
     → first_refusal (table_conditions definition schema) ≡ None → (table : Table)
     → insert_entry same_name tables.entries definition.name table ≡ tables.entries ++ (definition.name, table) ∷ []
 entry_comes_last definition tables schema keyed view due table =
@@ -143,7 +148,8 @@ module _ (name : List ℕ) where
       by true later = keyed.1
       by false later = (keyed.0, later)
 
-  module _ {standing : List StandingDef} (old new : Tables) (schema : Schema) (sound : IsSound old) (view : record { tables = tables_of old; standing = standing } ≡ schema)
+  module _ {standing : List StandingDef} (old new : Tables) (schema : Schema) (sound : IsSound old)
+      (view : record { tables = tables_of old; standing = standing } ≡ schema)
       (distinct : HasDistinctNames schema) (removed : new.entries ≡ shift_remove_entry (same_name name) old.entries) where
     left : tables_of new ≡ filter other (tables_of old)
     left =

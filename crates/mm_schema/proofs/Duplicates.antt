@@ -1,5 +1,6 @@
 -- Rows with one key: which lists have two, whatever their order.
-use Rattle.std.proofs.Common.{◌≡◌, ℕ, suc, ◌+◌, ◌<◌, ◌≤◌, Bool, true, false, cond, ◌||◌, List, [], ◌∷◌, ◌++◌, length, get_or, inl, inr, refl, sym, ap, ◌∙◌, arith, add-one}
+use Rattle.std.proofs.Common.{◌≡◌, ℕ, suc, ◌+◌, ◌<◌, ◌≤◌, Bool, true, false, cond, ◌||◌, List, [], ◌∷◌, ◌++◌, length, get_or, inl, inr, refl, sym, ap, ◌∙◌}
+use Rattle.std.proofs.Common.{arith, add-one}
 use Rattle.std.specs.Cmp.{IsTotalOrder}
 use Rattle.std.specs.Cmp.Lexicographic.{options_total}
 use Rattle.std.specs.List.{AllByRecursion, list_any, count_by}
@@ -16,7 +17,8 @@ use Rattle.mm_schema.specs.Rows.{column_cmp, same_in_column, has_duplicate_keys}
 use Rattle.mm_value.specs.declared.values.Value.{Value}
 use Rattle.mm_value.proofs.Orders.{value_cmp_total}
 use Rattle.mm_schema.proofs.Orderings.{is_eq_reversed, equal_from_is_eq, less_from_no_tie}
-use Rattle.mm_schema.proofs.StrictOrder.{IsStrictlySortedBy-nil, IsStrictlySortedBy-cons, IsStrictlySortedBy-head, IsStrictlySortedBy-tail, IsStrictlySortedBy-before}
+use Rattle.mm_schema.proofs.StrictOrder.{IsStrictlySortedBy-nil, IsStrictlySortedBy-cons, IsStrictlySortedBy-head, IsStrictlySortedBy-tail}
+use Rattle.mm_schema.proofs.StrictOrder.{IsStrictlySortedBy-before}
 
 -- a row as its list of values
 abbrev pub Row : Type 0

@@ -7,10 +7,12 @@ use Rattle.std.specs.Ordering.{is_gt, is_lt, ordering_reverse}
 use Rattle.std.specs.declared.cmp.Ordering.{Ordering}
 use Rattle.std.specs.declared.cmp.Ordering.TheVariants.{Less, Equal, Greater}
 use Rattle.std.proofs.lemmas.Bool.{or_parts, cases_Bool}
-use Rattle.std.proofs.lemmas.List.Sorted.{IsPermutation-refl, IsPermutation-cons, IsPermutation-sym, IsPermutation-trans, IsPermutation-middle, Contains-permutation, list_any-IsPermutation}
+use Rattle.std.proofs.lemmas.List.Sorted.{IsPermutation-refl, IsPermutation-cons, IsPermutation-sym, IsPermutation-trans, IsPermutation-middle}
+use Rattle.std.proofs.lemmas.List.Sorted.{Contains-permutation, list_any-IsPermutation}
 use Rattle.mm_schema.specs.Rows.{column_cmp, same_in_column, has_duplicate_keys}
 use Rattle.mm_schema.specs.Sorting.{put_in_order, in_order}
-use Rattle.mm_schema.proofs.StrictOrder.{IsStrictlySortedBy-nil, IsStrictlySortedBy-cons, IsStrictlySortedBy-head, IsStrictlySortedBy-tail, IsStrictlySortedBy-before, IsIn, IsIn-from_Contains, Contains-from_IsIn, same_from_elements, less_from_greater}
+use Rattle.mm_schema.proofs.StrictOrder.{IsStrictlySortedBy-nil, IsStrictlySortedBy-cons, IsStrictlySortedBy-head, IsStrictlySortedBy-tail}
+use Rattle.mm_schema.proofs.StrictOrder.{IsStrictlySortedBy-before, IsIn, IsIn-from_Contains, Contains-from_IsIn, same_from_elements, less_from_greater}
 use Rattle.mm_schema.proofs.Orderings.{less_from_neither, greater_from_is_gt}
 use Rattle.mm_schema.proofs.Duplicates.{Row, column_cmp_total, has_duplicate_keys-IsPermutation, no_duplicates_in_order, same_in_column_comm}
 

@@ -1,12 +1,14 @@
 -- Indexes that come and go, in the entries of the catalog's map.
-use Rattle.std.proofs.Common.{◌≡◌, ℕ, zero, suc, ◌+◌, ◌||◌, Bool, true, false, cond, not, List, [], ◌∷◌, ◌++◌, Option, Some, None, Result, Ok, Err, OnOk, OnErr, IfErr, All, find, is_none, is_some, map, position, slice_get, inr, refl, sym, ap, ◌∙◌, subst, arith}
+use Rattle.std.proofs.Common.{◌≡◌, ℕ, zero, suc, ◌+◌, ◌||◌, Bool, true, false, cond, not, List, [], ◌∷◌, ◌++◌, Option, Some, None, Result, Ok, Err, OnOk}
+use Rattle.std.proofs.Common.{OnErr, IfErr, All, find, is_none, is_some, map, position, slice_get, inr, refl, sym, ap, ◌∙◌, subst, arith}
 use Rattle.std.specs.List.{AllByRecursion, IsDistinct, list_any, position_or_len}
 use Rattle.std.proofs.lemmas.List.Elements.{All-filter, All-from_recursion, All-map, All-push, All-weaker, recursion_from_All}
 use Rattle.std.proofs.lemmas.List.Folds.{list_any-append}
 use Rattle.std.proofs.lemmas.Map.Keys.{IsDistinct-tail}
 use Rattle.indexmap.specs.IndexMap.{set_value_at}
 use Rattle.mm_schema.specs.Catalog.{Tables, IsSound, tables_of}
-use Rattle.mm_schema.specs.Indexes.{HasOwnIndexes, has_duplicate_indexes, index_conditions, index_named, indexes_of, lacks_index, table_with_index, table_without_index, with_index, without_index}
+use Rattle.mm_schema.specs.Indexes.{HasOwnIndexes, has_duplicate_indexes, index_conditions, index_named, indexes_of, lacks_index, table_with_index}
+use Rattle.mm_schema.specs.Indexes.{table_without_index, with_index, without_index}
 use Rattle.mm_schema.specs.Name.{same_name}
 use Rattle.mm_schema.specs.Refused.{AnswersDue, first_refusal}
 use Rattle.mm_schema.specs.Schema.{HasDistinctNames, Schema, table_place}
@@ -154,7 +156,8 @@ pub only_memory : {T : Type 0} (due : Option Refusal) (result : Result T Refusal
 only_memory due (Ok value) none memory = none
 only_memory due (Err refusal) none memory = inr memory
 
-module _ {standing : List StandingDef} (index : IndexDef) (old : Tables) (schema : Schema) (sound : IsSound old) (view : record { tables = tables_of old; standing = standing } ≡ schema)
+module _ {standing : List StandingDef} (index : IndexDef) (old : Tables) (schema : Schema) (sound : IsSound old)
+    (view : record { tables = tables_of old; standing = standing } ≡ schema)
     (distinct : HasDistinctNames schema) (due : first_refusal (index_conditions index schema) ≡ None) (place : ℕ)
     (placed : table_place index.table schema ≡ Some place) (t : Table) (here : slice_get (tables_of old) place ≡ Some t) where
   abbrev has_name : Table → Bool
@@ -212,7 +215,8 @@ module _ {standing : List StandingDef} (index : IndexDef) (old : Tables) (schema
 
 -- ---- an index gone
 
-module _ {standing : List StandingDef} (name : List ℕ) (old : Tables) (schema : Schema) (sound : IsSound old) (view : record { tables = tables_of old; standing = standing } ≡ schema) (place : ℕ)
+module _ {standing : List StandingDef} (name : List ℕ) (old : Tables) (schema : Schema) (sound : IsSound old)
+    (view : record { tables = tables_of old; standing = standing } ≡ schema) (place : ℕ)
     (placed : position (λ t. is_taken name t.indexes) schema.tables ≡ Some place) (t : Table) (here : slice_get (tables_of old) place ≡ Some t) where
   abbrev has_index : Table → Bool
   has_index u = is_taken name u.indexes

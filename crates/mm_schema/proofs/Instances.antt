@@ -105,7 +105,7 @@ module _ (name : List ℕ) (pairs : List Pair) where
   -- Rows in key order are so after a change of one table, unless two of its rows have one key then.
   pub AreInKeyOrder-changed : (tables : List Table) (rows : Instance) → AreInKeyOrder tables rows → IsDistinct same_name (map name_of tables)
       → NoDuplicates tables (changed_instance tables (edits_of_one name pairs) rows)
-          → AreInKeyOrder tables (changed_instance tables (edits_of_one name pairs) rows)
+      → AreInKeyOrder tables (changed_instance tables (edits_of_one name pairs) rows)
   AreInKeyOrder-changed [] [] order distinct none = tt
   AreInKeyOrder-changed (t ∷ ts) (r ∷ rs) order distinct none =
       first_or_others t ts r rs (same_name name (name_of t)) refl order distinct none

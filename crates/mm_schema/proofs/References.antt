@@ -1,5 +1,6 @@
 -- Columns that refer to tables which are there.
-use Rattle.std.proofs.Common.{◌≡◌, ℕ, Bool, true, false, cond, not, ◌&&◌, List, [], ◌∷◌, ◌++◌, Option, Some, None, filter, find, is_none, map, refl, sym, ap, ◌∙◌}
+use Rattle.std.proofs.Common.{◌≡◌, ℕ, Bool, true, false, cond, not, ◌&&◌, List, [], ◌∷◌, ◌++◌, Option, Some, None, filter, find, is_none, map, refl, sym, ap}
+use Rattle.std.proofs.Common.{◌∙◌}
 use Rattle.std.specs.List.{AllByRecursion, list_any}
 use Rattle.std.specs.Option.{option_map_or}
 use Rattle.std.proofs.lemmas.Bool.{or_from, or_parts}
@@ -9,7 +10,8 @@ use Rattle.mm_schema.specs.Indexes.{table_with_index, table_without_index, with_
 use Rattle.mm_schema.specs.Name.{same_name}
 use Rattle.mm_schema.specs.References.{HasTargets}
 use Rattle.mm_schema.specs.Refused.{first_refusal}
-use Rattle.mm_schema.specs.Schema.{Schema, drop_table_conditions, is_other_referring_to, lacks_table, lacks_target, reads_table, table_conditions, with_table, without_table}
+use Rattle.mm_schema.specs.Schema.{Schema, drop_table_conditions, is_other_referring_to, lacks_table, lacks_target, reads_table, table_conditions, with_table}
+use Rattle.mm_schema.specs.Schema.{without_table}
 use Rattle.mm_schema.specs.declared.column.Column.{Column}
 use Rattle.mm_schema.specs.declared.index.IndexDef.{IndexDef}
 use Rattle.mm_schema.specs.declared.table.Table.{Table}

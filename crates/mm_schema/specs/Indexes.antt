@@ -1,5 +1,6 @@
 -- The indexes of the tables, and what refuses that one is made or dropped.
-use Rattle.std.specs.Prelude.{◌≡◌, ℕ, Bool, false, not, ◌||◌, if◌then◌else◌, List, [], ◌∷◌, ◌++◌, Option, All, filter, find, is_none, is_some, length, map, nat_le}
+use Rattle.std.specs.Prelude.{◌≡◌, ℕ, Bool, false, not, ◌||◌, if◌then◌else◌, List, [], ◌∷◌, ◌++◌, Option, All, filter, find, is_none, is_some, length, map}
+use Rattle.std.specs.Prelude.{nat_le}
 use Rattle.std.specs.List.{flat_map, list_any}
 use Rattle.mm_schema.specs.Columns.{column_place}
 use Rattle.mm_schema.specs.Name.{same_name}

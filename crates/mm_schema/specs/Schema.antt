@@ -1,5 +1,6 @@
 -- The catalog: its tables and its standing queries, and what refuses that a table is made or dropped.
-use Rattle.std.specs.Prelude.{ℕ, Bool, false, not, List, [], ◌∷◌, ◌++◌, Option, filter, length, map, find, position, is_some, is_none, nat_lt, nat_le, ◌||◌, ◌&&◌}
+use Rattle.std.specs.Prelude.{ℕ, Bool, false, not, List, [], ◌∷◌, ◌++◌, Option, filter, length, map, find, position, is_some, is_none, nat_lt, nat_le, ◌||◌}
+use Rattle.std.specs.Prelude.{◌&&◌}
 use Rattle.std.specs.List.{IsDistinct, list_any}
 use Rattle.std.specs.Option.{option_map_or, unwrap_or}
 use Rattle.mm_schema.specs.Name.{same_name}
@@ -49,8 +50,8 @@ abbrev pub column_place_in : List ℕ → List ℕ → Schema → ℕ
 column_place_in table column schema = option_map_or (λ t. unwrap_or (column_place column t.definition.columns) 0) (table_named table schema) 0
 
 -- At most 64 tables, of at most 16 columns each.
-abbrev pub passes_table_limits : TableDef → Schema → Bool
-passes_table_limits definition schema = nat_le 64 (length schema.tables) || nat_lt 16 (length definition.columns)
+abbrev pub exceeds_table_limits : TableDef → Schema → Bool
+exceeds_table_limits definition schema = nat_le 64 (length schema.tables) || nat_lt 16 (length definition.columns)
 
 -- The column refers to a table that isn't there.
 abbrev pub lacks_target : Schema → Column → Bool
@@ -67,7 +68,7 @@ table_conditions definition schema =
     record { holds = list_any (lacks_target schema) definition.columns; refusal = NoSuchTable }
     ∷ record { holds = is_some (table_named definition.name schema) || has_duplicate_names definition.columns; refusal = NameTaken }
     ∷ record { holds = list_any (mismatches_target schema) definition.columns; refusal = TypeMismatch }
-    ∷ record { holds = passes_table_limits definition schema; refusal = TooMany }
+    ∷ record { holds = exceeds_table_limits definition schema; refusal = TooMany }
     ∷ []
 
 -- The catalog with a new table, which comes last and has no indexes.

@@ -7,7 +7,7 @@ ghost use Rattle.mm_schema.specs.Indexes.{HasDistinctIndexes, HasIndexesInPlace,
 ghost use Rattle.mm_schema.specs.Name.{same_name};
 ghost use Rattle.mm_schema.specs.References.{reference_at, references_of};
 ghost use Rattle.mm_schema.specs.Refused.{AnswersDue, first_refusal};
-ghost use Rattle.mm_schema.specs.Schema.{HasDistinctNames, drop_table_conditions, is_in_use, is_other_referring_to, lacks_target, mismatches_target, passes_table_limits, table_conditions, table_named, table_place, with_table, without_table};
+ghost use Rattle.mm_schema.specs.Schema.{HasDistinctNames, drop_table_conditions, is_in_use, is_other_referring_to, lacks_target, mismatches_target, exceeds_table_limits, table_conditions, table_named, table_place, with_table, without_table};
 ghost use Rattle.mm_schema.specs.Standing.{HasDistinctStanding, drop_standing_conditions, lacks_some_table, standing_conditions, standing_named, standing_place, with_standing, without_standing};
 
 use crate::column::{Column, Columns};
@@ -97,7 +97,7 @@ impl Catalog {
             Some(Refusal::NameTaken)
         } else if self.mismatches_some_target(definition) {
             Some(Refusal::TypeMismatch)
-        } else if self.passes_limits(definition) {
+        } else if self.exceeds_limits(definition) {
             Some(Refusal::TooMany)
         } else {
             None
@@ -149,8 +149,8 @@ impl Catalog {
     }
 
     /// Whether there are 64 tables already, or the new one has more than 16 columns.
-    fn passes_limits(&self, definition: &TableDef) -> bool
-        ensures { result ≡ passes_table_limits definition.now self.now }
+    fn exceeds_limits(&self, definition: &TableDef) -> bool
+        ensures { result ≡ exceeds_table_limits definition.now self.now }
     {
         self.tables.len() >= MAX_TABLES || definition.columns.as_slice().len() > MAX_COLUMNS
     }

@@ -52,9 +52,12 @@ turned : (a b : Value) (o : Ordering) → value_cmp a b ≡ o → value_cmp b a 
 turned a b o is = value_cmp_total.antisymm b a ∙ ap ordering_reverse is
 
 same_behind : (value end other : Value) (o : Ordering) → value_cmp value end ≡ o → value_cmp end other ≡ ordering.Equal → value_cmp value other ≡ o
-same_behind value end other ordering.Less is same = turned other value ordering.Greater (value_cmp_total.congr other end value (turned end other ordering.Equal same) ∙ turned value end ordering.Less is)
-same_behind value end other ordering.Equal is same = turned other value ordering.Equal (value_cmp_total.congr other end value (turned end other ordering.Equal same) ∙ turned value end ordering.Equal is)
-same_behind value end other ordering.Greater is same = turned other value ordering.Less (value_cmp_total.congr other end value (turned end other ordering.Equal same) ∙ turned value end ordering.Greater is)
+same_behind value end other ordering.Less is same = turned other value ordering.Greater
+    (value_cmp_total.congr other end value (turned end other ordering.Equal same) ∙ turned value end ordering.Less is)
+same_behind value end other ordering.Equal is same = turned other value ordering.Equal
+    (value_cmp_total.congr other end value (turned end other ordering.Equal same) ∙ turned value end ordering.Equal is)
+same_behind value end other ordering.Greater is same = turned other value ordering.Less
+    (value_cmp_total.congr other end value (turned end other ordering.Equal same) ∙ turned value end ordering.Greater is)
 
 greater_behind : (value end other : Value) → value_cmp value end ≡ ordering.Greater → (o : Ordering) → value_cmp end other ≡ o → is_ge o ≡ true
     → value_cmp value other ≡ ordering.Greater
@@ -129,7 +132,8 @@ module _ (row : List Value) where
       subst (λ n. stands c (value_cmp (value_in n row) other) ≡ true) (sym is)
       (elim (cases_Bool from) [
         | inl above ↦ from_stands (value_in on row) other c (option_copied low) between.0 above
-        | inr silent ↦ up_to_stands (value_in on row) other c (option_copied high) between.1 (ap (λ b. b || stand_up_to (option_copied high) c other) (sym silent) ∙ both.1)
+        | inr silent ↦ up_to_stands (value_in on row) other c (option_copied high) between.1
+            (ap (λ b. b || stand_up_to (option_copied high) c other) (sym silent) ∙ both.1)
       ])
 
   -- A field of the first table has the row's value.

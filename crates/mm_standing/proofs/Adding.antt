@@ -1,5 +1,6 @@
 -- What the bags have where one of them is another.
-use Rattle.std.proofs.Common.{◌≡◌, ◌≢◌, ℕ, zero, suc, ℤ, pos, ◌+◌, ◌+ℤ◌, ◌≤◌, ◌<◌, ◌≤ℤ◌, ◌<ℤ◌, ◌^◌, ◌⊎◌, inl, inr, ⊎_elim, Bool, true, false, true≢false, cond, List, [], ◌∷◌, length, map, get_or, set, refl, sym, ap, ◌∙◌, arith}
+use Rattle.std.proofs.Common.{◌≡◌, ◌≢◌, ℕ, zero, suc, ℤ, pos, ◌+◌, ◌+ℤ◌, ◌≤◌, ◌<◌, ◌≤ℤ◌, ◌<ℤ◌, ◌^◌, ◌⊎◌, inl, inr, ⊎_elim, Bool, true, false, true≢false}
+use Rattle.std.proofs.Common.{cond, List, [], ◌∷◌, length, map, get_or, set, refl, sym, ap, ◌∙◌, arith}
 use Rattle.std.specs.Prelude.{◌==◌}
 use Rattle.std.proofs.lemmas.Int.{ints}
 use Rattle.std.proofs.lemmas.Bool.{eq-eqb, eqb-true}
@@ -89,7 +90,8 @@ module _ (bags : List Counts) (at : ℕ) (b0 b1 : Counts) (there : at < length b
       by true e =
           let same : at ≡ list = eqb-true at list e in
           let before_it : room_at bags list ≡ b0.room = ap (room_at bags) (sym same) ∙ room_here in
-          let after_it : room_at (set bags at b1) list ≡ b1.room = ap (room_at (set bags at b1)) (sym same) ∙ set_here (λ (b : Counts). b.room) bags at b1 0 there in
+          let after_it : room_at (set bags at b1) list ≡ b1.room = ap (room_at (set bags at b1)) (sym same)
+          ∙ set_here (λ (b : Counts). b.room) bags at b1 0 there in
           omega (arith, used, before_it, after_it)
       by false e =
           let same : room_at (set bags at b1) list ≡ room_at bags list = set_other (λ (b : Counts). b.room) bags at list b1 0 (not_same at list e) in
@@ -101,7 +103,8 @@ module _ (bags : List Counts) (c : ListChange) (b0 b1 : Counts) (there : c.list 
       → b0.room ≤ b1.room + 1 → AddedTo c bags (set bags c.list b1)
   added adds total used = record {
     counts = λ list row.
-        lifted bags c.list b0 b1 there is (λ es. pos (count_in row es)) (λ x b. x +ℤ cond b (signed_count row (c.change ∷ [])) (pos 0)) (λ x. sym (none_more x)) (adds.counts row) list;
+        lifted bags c.list b0 b1 there is (λ es. pos (count_in row es)) (λ x b. x +ℤ cond b (signed_count row (c.change ∷ [])) (pos 0))
+        (λ x. sym (none_more x)) (adds.counts row) list;
     totals = λ list.
         lifted bags c.list b0 b1 there is (λ es. pos (total_of es)) (λ x b. x +ℤ cond b c.change.count (pos 0)) (λ x. sym (none_more x)) total list;
     found = ap (has_entry c.change.row) (set_here (λ (b : Counts). b.entries) bags c.list b1 [] there)
@@ -189,7 +192,8 @@ no_more : (d : ℤ) → d +ℤ pos 0 ≡ d
 no_more d = omega (arith, ints)
 
 -- What one change asks of the count of its row.
-pub count_here : (bags : List Counts) (c : ListChange) → IsWithin bags (c ∷ []) → pos 0 ≤ℤ (pos (count_in c.change.row (entries_at bags c.list)) +ℤ c.change.count)
+pub count_here : (bags : List Counts) (c : ListChange) → IsWithin bags (c ∷ [])
+    → pos 0 ≤ℤ (pos (count_in c.change.row (entries_at bags c.list)) +ℤ c.change.count)
 count_here bags c w =
     least (pos (count_in c.change.row (entries_at bags c.list))) (row_change c.list c.change.row c) c.change.count
     (ap (λ b. cond b (signed_count c.change.row (c.change ∷ [])) (pos 0)) (eq_itself c.list)

@@ -1,5 +1,6 @@
 -- Changes put into another order: those that bring rows before those that take rows away.
-use Rattle.std.proofs.Common.{◌≡◌, ◌≢◌, ℕ, zero, suc, ℤ, pos, ◌+◌, ◌+ℤ◌, ◌-ℤ◌, neg_ℤ, ◌≤◌, ◌<◌, ◌≤ℤ◌, ◌<ℤ◌, ◌^◌, ◌⊎◌, inl, inr, ⊎_elim, List, [], ◌∷◌, drop, get_or, length, set, refl, sym, take, ap, ◌∙◌, subst, arith}
+use Rattle.std.proofs.Common.{◌≡◌, ◌≢◌, ℕ, zero, suc, ℤ, pos, ◌+◌, ◌+ℤ◌, ◌-ℤ◌, neg_ℤ, ◌≤◌, ◌<◌, ◌≤ℤ◌, ◌<ℤ◌, ◌^◌, ◌⊎◌, inl, inr, ⊎_elim, List, [], ◌∷◌, drop}
+use Rattle.std.proofs.Common.{get_or, length, set, refl, sym, take, ap, ◌∙◌, subst, arith}
 use Rattle.std.specs.List.{All, SwappedAt, swap}
 use Rattle.std.specs.List.Sorted.{IsPermutation}
 use Rattle.std.proofs.lemmas.Bool.{cases_eq}
@@ -62,7 +63,8 @@ count_permuted row old new moved =
 -- And each row has at most one of them, if it had before.
 pub once_permuted : (old new : List Signed) → IsPermutation old new → IsOnceEach old → IsOnceEach new
 once_permuted old new moved once =
-    IsDistinct-IsPermutation same_row (λ a b. same_row_equiv.symm a b) (rows_in old) (rows_in new) (IsPermutation-map (λ (c : Signed). c.row) old new moved) once
+    IsDistinct-IsPermutation same_row (λ a b. same_row_equiv.symm a b) (rows_in old) (rows_in new) (IsPermutation-map (λ (c : Signed). c.row) old new moved)
+    once
 
 -- ---- the order
 
@@ -98,7 +100,8 @@ parted_gain old new gains i behind swapped gain parted = (
     above k least same = absurd (omega (arith, least, same))
 
 -- The next one brings none, and stays.
-pub parted_loss : (changes : List Signed) (gains i : ℕ) → ((d : Signed) → (get_or changes i d).count ≤ℤ pos 0) → AreParted changes gains i → AreParted changes gains (i + 1)
+pub parted_loss : (changes : List Signed) (gains i : ℕ) → ((d : Signed) → (get_or changes i d).count ≤ℤ pos 0) → AreParted changes gains i
+    → AreParted changes gains (i + 1)
 parted_loss changes gains i loss parted = (
   parted.0,
   λ k d least less.
@@ -135,7 +138,8 @@ itself a = omega (arith, ints)
 no_gain : (changes : List Signed) → All (λ (c : Signed). c.count ≤ℤ pos 0) changes → (k : ℕ) → sum_of (drop k changes) ≤ℤ pos 0
 no_gain [] all zero = nothing
 no_gain [] all (suc k) = nothing
-no_gain (c ∷ cs) all zero = both c.count (sum_of cs) (All-head (λ (x : Signed). x.count ≤ℤ pos 0) c cs all) (no_gain cs (All-tail (λ (x : Signed). x.count ≤ℤ pos 0) c cs all) zero)
+no_gain (c ∷ cs) all zero = both c.count (sum_of cs) (All-head (λ (x : Signed). x.count ≤ℤ pos 0) c cs all)
+    (no_gain cs (All-tail (λ (x : Signed). x.count ≤ℤ pos 0) c cs all) zero)
   where
     both : (a b : ℤ) → a ≤ℤ pos 0 → b ≤ℤ pos 0 → (a +ℤ b) ≤ℤ pos 0
     both a b p q = omega (arith, ints)

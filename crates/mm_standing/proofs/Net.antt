@@ -1,5 +1,6 @@
 -- What changes add up to, of which each row has at most one.
-use Rattle.std.proofs.Common.{◌≡◌, ℕ, zero, suc, ℤ, pos, ◌+◌, ◌+ℤ◌, ◌-ℤ◌, ◌≤ℤ◌, ◌⊎◌, inl, inr, Bool, true, false, cond, List, [], ◌∷◌, drop, length, map, refl, sym, ap, ◌∙◌, subst, arith}
+use Rattle.std.proofs.Common.{◌≡◌, ℕ, zero, suc, ℤ, pos, ◌+◌, ◌+ℤ◌, ◌-ℤ◌, ◌≤ℤ◌, ◌⊎◌, inl, inr, Bool, true, false, cond, List, [], ◌∷◌, drop, length, map}
+use Rattle.std.proofs.Common.{refl, sym, ap, ◌∙◌, subst, arith}
 use Rattle.std.specs.List.{AllByRecursion, IsDistinct}
 use Rattle.std.proofs.lemmas.Int.{ints}
 use Rattle.std.proofs.lemmas.List.Sorted.{length_permutation}
@@ -31,7 +32,8 @@ abbrev pub pick : Bool → ℤ → ℤ
 pick b n = cond b n (pos 0)
 
 -- A row that has none of the changes.
-unchanged : (row : List Value) (changes : List Signed) → AllByRecursion (λ other. same_row row other ≡ false) (rows_in changes) → signed_count row changes ≡ pos 0
+unchanged : (row : List Value) (changes : List Signed) → AllByRecursion (λ other. same_row row other ≡ false) (rows_in changes) → signed_count row changes
+    ≡ pos 0
 unchanged row [] h = refl
 unchanged row (c ∷ cs) h = none (pick (same_row row c.row) c.count) (signed_count row cs) (ap (λ b. pick b c.count) h.0) (unchanged row cs h.1)
   where
@@ -82,7 +84,8 @@ pub sum_is_difference : (changes : List Signed) (after before : Rows) → IsOnce
     → ((row : List Value) → signed_count row changes ≡ pos (count_of row after) -ℤ pos (count_of row before))
     → sum_of changes ≡ pos (length after) -ℤ pos (length before)
 sum_is_difference [] after before once h =
-    level (length after) (length before) (sym (length_permutation after before (permutation_from_counts after before (λ row. equal (count_of row after) (count_of row before) (h row)))))
+    level (length after) (length before) (sym (length_permutation after before
+    (permutation_from_counts after before (λ row. equal (count_of row after) (count_of row before) (h row)))))
   where
     equal : (a b : ℕ) → pos 0 ≡ pos a -ℤ pos b → a ≡ b
     equal a b e = omega (arith, ints)
@@ -90,7 +93,8 @@ sum_is_difference [] after before once h =
     level : (a b : ℕ) → a ≡ b → pos 0 ≡ pos a -ℤ pos b
     level a b e = omega (arith, ints)
 sum_is_difference (c ∷ cs) after before once h =
-    both c.count (sum_of cs) (length after) (length before) (count_of c.row after) (count_of c.row before) (length (others c.row after)) (length (others c.row before))
+    both c.count (sum_of cs) (length after) (length before) (count_of c.row after) (count_of c.row before) (length (others c.row after))
+    (length (others c.row before))
     (sym (first_is c cs once) ∙ h c.row)
     (sum_is_difference cs (others c.row after) (others c.row before) (once_tail c cs once) left)
     (length_others c.row after) (length_others c.row before)
@@ -129,7 +133,8 @@ module _ (entries : Entries) (changes : List Signed) (after before : Rows) (once
   -- The number of rows with all changes added.
   pub total_after : pos (total_of entries) +ℤ sum_of changes ≡ pos (length after)
   total_after =
-      new (total_of entries) (length before) (length after) (sum_of changes) (total_is_length entries before keys bag) (sum_is_difference changes after before once change)
+      new (total_of entries) (length before) (length after) (sum_of changes) (total_is_length entries before keys bag)
+      (sum_is_difference changes after before once change)
     where
       new : (n b a : ℕ) (z : ℤ) → n ≡ b → z ≡ pos a -ℤ pos b → pos n +ℤ z ≡ pos a
       new n b a z p q = omega (arith, ints)

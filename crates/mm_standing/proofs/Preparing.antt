@@ -1,5 +1,6 @@
 -- What is sound with more room, and with changes that are ready.
-use Rattle.std.proofs.Common.{◌≡◌, ◌≢◌, Bool, false, set, slice_index, ℕ, pos, ◌+◌, ◌+ℤ◌, ◌≤◌, ◌<◌, ◌≤ℤ◌, true, List, [], length, map, get_or, refl, sym, ap, ◌∙◌, subst, arith}
+use Rattle.std.proofs.Common.{◌≡◌, ◌≢◌, Bool, false, set, slice_index, ℕ, pos, ◌+◌, ◌+ℤ◌, ◌≤◌, ◌<◌, ◌≤ℤ◌, true, List, [], length, map, get_or, refl, sym, ap}
+use Rattle.std.proofs.Common.{◌∙◌, subst, arith}
 use Rattle.std.specs.List.{All}
 use Rattle.std.specs.Prelude.{◌==◌}
 use Rattle.std.proofs.lemmas.Bool.{eqb-true}
@@ -29,7 +30,8 @@ module _ (old new : List Counts) (same : map (λ (b : Counts). b.entries) new �
       → IsSound old prepared log → IsSound new prepared log
   sound_roomier prepared log rooms s = record {
     within = λ k. within_roomier _ (s.within k);
-    there = All-weaker (λ (d : ListChange). d.list < length old) (λ (d : ListChange). d.list < length new) (λ d h. omega (arith, h, size)) (done_of prepared) s.there;
+    there = All-weaker (λ (d : ListChange). d.list < length old) (λ (d : ListChange). d.list < length new) (λ d h. omega (arith, h, size)) (done_of prepared)
+        s.there;
     opposites = s.opposites;
     rooms = λ list. let a = s.rooms list in let b = rooms list in omega (arith, a, b);
     undo = λ k. within_roomier _ (s.undo k);

@@ -1,5 +1,6 @@
 -- What is read where no table is edited, and in worked examples.
-use Rattle.std.proofs.Common.{◌≡◌, ℕ, ◌+◌, ◌<◌, pos, Bool, true, false, cond, Option, Some, None, List, [], ◌∷◌, ◌++◌, get_or, length, refl, sym, ap, ◌∙◌, arith, inl, rules}
+use Rattle.std.proofs.Common.{◌≡◌, ℕ, ◌+◌, ◌<◌, pos, Bool, true, false, cond, Option, Some, None, List, [], ◌∷◌, ◌++◌, get_or, length, refl, sym, ap, ◌∙◌}
+use Rattle.std.proofs.Common.{arith, inl, rules}
 use Rattle.std.specs.Prelude.{is_some}
 use Rattle.std.specs.List.{All, range_with_len, sum_by}
 use Rattle.std.proofs.lemmas.List.Elements.{All-get_or}
@@ -153,9 +154,12 @@ module _ (store : Tables) (changes : List TableChange) (skipped : RowTests) (onl
   pub triples : query_reads store changes skipped equal_triples ≡ 27
   triples =
       all_three (term_at store changes skipped equal_triples) 7 9 11
-      (one_combined store changes skipped equal_triples 0 6 fourth adds.added (combined 0 (record { complete = refl; has_row = refl; no_text_is_shifted = refl })) first_beside)
-      (one_combined store changes skipped equal_triples 1 8 fourth adds.added (combined 1 (record { complete = refl; has_row = refl; no_text_is_shifted = refl })) second_beside)
-      (one_combined store changes skipped equal_triples 2 10 fourth adds.added (combined 2 (record { complete = refl; has_row = refl; no_text_is_shifted = refl })) third_beside)
+      (one_combined store changes skipped equal_triples 0 6 fourth adds.added
+      (combined 0 (record { complete = refl; has_row = refl; no_text_is_shifted = refl })) first_beside)
+      (one_combined store changes skipped equal_triples 1 8 fourth adds.added
+      (combined 1 (record { complete = refl; has_row = refl; no_text_is_shifted = refl })) second_beside)
+      (one_combined store changes skipped equal_triples 2 10 fourth adds.added
+      (combined 2 (record { complete = refl; has_row = refl; no_text_is_shifted = refl })) third_beside)
 
 -- ---- an irrelevant row
 
@@ -204,5 +208,6 @@ module _ (store : Tables) (changes : List TableChange) (skipped : RowTests) wher
       reads : beside store changes skipped below_some_below_5 0 (row_of 2 3) ≡ 1
       reads =
           those_of_one_place (λ j. has_index store (get_or below_some_below_5.tables j 0)) below_some_below_5.query.atoms
-          (λ j. before_at store (get_or below_some_below_5.tables j 0)) (walked store changes below_some_below_5.tables 0) 1 (Some (row_of 2 3) ∷ None ∷ []) refl
+          (λ j. before_at store (get_or below_some_below_5.tables j 0)) (walked store changes below_some_below_5.tables 0) 1 (Some (row_of 2 3) ∷ None ∷ [])
+          refl
           ∙ ap (λ rows. length (having None rows)) adds.before

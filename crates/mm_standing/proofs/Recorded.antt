@@ -1,5 +1,6 @@
 -- What the log records of entries whose count is 0, where a change is made, undone or forgotten.
-use Rattle.std.proofs.Common.{◌≡◌, ℕ, zero, suc, ℤ, pos, ◌+ℤ◌, ◌≤ℤ◌, ◌<◌, ◌≤◌, ◌⊎◌, inl, inr, ⊎_elim, Bool, true, false, true≢false, not, cond, ◌||◌, List, [], ◌∷◌, ◌++◌, length, get_or, take, drop, refl, sym, ap, ◌∙◌, subst, arith}
+use Rattle.std.proofs.Common.{◌≡◌, ℕ, zero, suc, ℤ, pos, ◌+ℤ◌, ◌≤ℤ◌, ◌<◌, ◌≤◌, ◌⊎◌, inl, inr, ⊎_elim, Bool, true, false, true≢false, not, cond, ◌||◌, List}
+use Rattle.std.proofs.Common.{[], ◌∷◌, ◌++◌, length, get_or, take, drop, refl, sym, ap, ◌∙◌, subst, arith}
 use Rattle.std.specs.Prelude.{◌==◌}
 use Rattle.std.specs.List.{All}
 use Rattle.std.proofs.lemmas.Bool.{eq-eqb, eqb-true}
@@ -14,7 +15,8 @@ use Rattle.mm_value.specs.EqualityLaws.{same_row_equiv}
 use Rattle.mm_value.specs.declared.values.Value.{Value}
 use Rattle.mm_value.proofs.SameRows.{rows_exact}
 use Rattle.mm_multiset.specs.Counts.{Counts, Entries, count_in, has_entry}
-use Rattle.mm_standing.specs.Bags.{AddedTo, HasEntry, IsLean, IsRecorded, IsSound, IsWithin, Purges, Records, count_with, entries_at, is_named, list_change, names, opposite, room_at, row_change, sum_over, undos}
+use Rattle.mm_standing.specs.Bags.{AddedTo, HasEntry, IsLean, IsRecorded, IsSound, IsWithin, Purges, Records, count_with, entries_at, is_named, list_change}
+use Rattle.mm_standing.specs.Bags.{names, opposite, room_at, row_change, sum_over, undos}
 use Rattle.mm_standing.specs.declared.change.ListChange.{ListChange}
 use Rattle.mm_standing.specs.declared.change.UndoRecord.{UndoRecord}
 use Rattle.mm_standing.proofs.Stages.{count_back, count_moved}
@@ -208,7 +210,7 @@ module _ (c : ListChange) (old new : List Counts) (adds : AddedTo c old new) whe
             → Records new (take i (undos (log ++ new_record ∷ []))) (get_or (log ++ new_record ∷ []) i d) (drop i (undos (log ++ new_record ∷ [])))
         last i d at =
             subst (λ n. Records new (take n (undos (log ++ new_record ∷ []))) (get_or (log ++ new_record ∷ []) n d) (drop n (undos (log ++ new_record ∷ []))))
-                (sym at)
+            (sym at)
             (subst (λ (m : UndoRecord). Records new (take (length log) (undos (log ++ new_record ∷ []))) m (drop (length log) (undos (log ++ new_record ∷ []))))
             (sym (get_or-append_seam log new_record [] d))
             (subst (λ (cs : List ListChange). Records new cs new_record (drop (length log) (undos (log ++ new_record ∷ [])))) (sym (take_here log new_record))
@@ -271,8 +273,10 @@ module _ (rest : List UndoRecord) (made : UndoRecord) (bags added new : List Cou
           let entry = get_or rest i d in
           let t : Records bags (take i (undos rest)) entry (drop i (undos rest) ++ made.undo ∷ []) =
           subst (λ (m : UndoRecord). Records bags (take i (undos rest)) m (drop i (undos rest) ++ made.undo ∷ [])) (get_or-append rest (made ∷ []) d i within)
-          (subst (λ (cs : List ListChange). Records bags cs (get_or (rest ++ made ∷ []) i d) (drop i (undos rest) ++ made.undo ∷ [])) (take_before rest made i within)
-          (subst (λ (cs : List ListChange). Records bags (take i (undos (rest ++ made ∷ []))) (get_or (rest ++ made ∷ []) i d) cs) (drop_before rest made i within)
+          (subst (λ (cs : List ListChange). Records bags cs (get_or (rest ++ made ∷ []) i d) (drop i (undos rest) ++ made.undo ∷ []))
+          (take_before rest made i within)
+          (subst (λ (cs : List ListChange). Records bags (take i (undos (rest ++ made ∷ []))) (get_or (rest ++ made ∷ []) i d) cs)
+          (drop_before rest made i within)
           (recorded.each i d (omega (arith, within, many))))) in
           record {
             first = t.first;
@@ -353,7 +357,8 @@ recorded_roomier old new at log recorded = record {
       let again : entry.is_new ≡ false → count_with new (drop i (undos log)) entry.undo.list entry.undo.change.row ≡ pos 0
       → is_named entry.undo.list entry.undo.change.row (take i (undos log)) ≡ true =
       λ isnt is_0.
-      t.again isnt (ap (λ (es : Entries). pos (count_in entry.undo.change.row es) +ℤ sum_over (row_change entry.undo.list entry.undo.change.row) (drop i (undos log))) (sym (at entry.undo.list)) ∙ is_0) in
+      t.again isnt (ap (λ (es : Entries). pos (count_in entry.undo.change.row es) +ℤ sum_over (row_change entry.undo.list entry.undo.change.row)
+      (drop i (undos log))) (sym (at entry.undo.list)) ∙ is_0) in
       record { first = t.first; again = again };
   lean = λ list row has is_0.
       recorded.lean list row (ap (has_entry row) (sym (at list)) ∙ has) (ap (count_in row) (sym (at list)) ∙ is_0);

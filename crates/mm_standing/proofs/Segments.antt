@@ -1,5 +1,6 @@
 -- The changes of one list behind those of the lists before it.
-use Rattle.std.proofs.Common.{◌≡◌, ◌≢◌, ℕ, zero, suc, ℤ, pos, ◌+◌, ◌+ℤ◌, ◌<◌, ◌≤ℤ◌, ◌⊎◌, inl, inr, Bool, true, false, cond, List, [], ◌∷◌, ◌++◌, Some, drop, get_or, length, map, refl, sym, take, ap, ◌∙◌, subst, arith}
+use Rattle.std.proofs.Common.{◌≡◌, ◌≢◌, ℕ, zero, suc, ℤ, pos, ◌+◌, ◌+ℤ◌, ◌<◌, ◌≤ℤ◌, ◌⊎◌, inl, inr, Bool, true, false, cond, List, [], ◌∷◌, ◌++◌, Some, drop}
+use Rattle.std.proofs.Common.{get_or, length, map, refl, sym, take, ap, ◌∙◌, subst, arith}
 use Rattle.std.specs.Prelude.{◌==◌, slice_get}
 use Rattle.std.specs.List.{All}
 use Rattle.std.specs.Option.{unwrap_or}
@@ -54,7 +55,8 @@ sum_joined f (x ∷ xs) ys = ap (λ s. f x +ℤ s) (sum_joined f xs ys) ∙ apar
     apart a b c = omega (arith, ints)
 
 -- One term more.
-pub sum_more : {X : Type 0} (f : X → ℤ) (xs : List X) (i : ℕ) (d : X) → i < length xs → sum_over f (take (suc i) xs) ≡ sum_over f (take i xs) +ℤ f (get_or xs i d)
+pub sum_more : {X : Type 0} (f : X → ℤ) (xs : List X) (i : ℕ) (d : X) → i < length xs → sum_over f (take (suc i) xs)
+    ≡ sum_over f (take i xs) +ℤ f (get_or xs i d)
 sum_more f [] i d within = absurd (omega (arith, within))
 sum_more f (x ∷ xs) zero d within = one (f x)
   where
@@ -67,7 +69,8 @@ sum_more f (x ∷ xs) (suc i) d within =
     apart a b c = omega (arith, ints)
 
 -- What the changes of a list add to the count of a row.
-row_sum : (at list : ℕ) (row : List Value) (changes : List Signed) → sum_over (row_change list row) (changes_in at changes) ≡ pick (at == list) (signed_count row changes)
+row_sum : (at list : ℕ) (row : List Value) (changes : List Signed) → sum_over (row_change list row) (changes_in at changes)
+    ≡ pick (at == list) (signed_count row changes)
 row_sum at list row [] = by (at == list)
   where
     by : (b : Bool) → pos 0 ≡ pick b (pos 0)
@@ -127,7 +130,8 @@ module _ (bags : List Counts) (n : ℕ) (bag : Counts) (there : n < length bags)
     count_here list row e =
         let same : n ≡ list = eqb-true n list e in
         subst (λ l. count_with bags (rest ++ changes_in n changes) l row ≡ pos (count_in row bag.entries) +ℤ signed_count row changes) same
-        (join (count_in row (entries_at bags n)) (count_in row bag.entries) _ (sum_over (row_change n row) rest) (sum_over (row_change n row) (changes_in n changes)) (signed_count row changes)
+        (join (count_in row (entries_at bags n)) (count_in row bag.entries) _ (sum_over (row_change n row) rest)
+        (sum_over (row_change n row) (changes_in n changes)) (signed_count row changes)
         (ap (count_in row) here) (sum_joined (row_change n row) rest (changes_in n changes))
         (none_of_it n (row_change n row) (λ c apart. ap (λ b. pick b (signed_count row (c.change ∷ []))) apart) rest below)
         (row_sum n n row changes ∙ ap (λ b. pick b (signed_count row changes)) (subst (λ l. (n == l) ≡ true) (sym same) e)))
@@ -139,7 +143,8 @@ module _ (bags : List Counts) (n : ℕ) (bag : Counts) (there : n < length bags)
     total_here list e =
         let same : n ≡ list = eqb-true n list e in
         subst (λ l. total_with bags (rest ++ changes_in n changes) l ≡ pos (total_of bag.entries) +ℤ sum_of changes) same
-        (join (total_of (entries_at bags n)) (total_of bag.entries) _ (sum_over (list_change n) rest) (sum_over (list_change n) (changes_in n changes)) (sum_of changes)
+        (join (total_of (entries_at bags n)) (total_of bag.entries) _ (sum_over (list_change n) rest) (sum_over (list_change n) (changes_in n changes))
+        (sum_of changes)
         (ap total_of here) (sum_joined (list_change n) rest (changes_in n changes))
         (none_of_it n (list_change n) (λ c apart. ap (λ b. pick b c.change.count) apart) rest below)
         (list_sum n n changes ∙ ap (λ b. pick b (sum_of changes)) (subst (λ l. (n == l) ≡ true) (sym same) e)))
@@ -147,7 +152,8 @@ module _ (bags : List Counts) (n : ℕ) (bag : Counts) (there : n < length bags)
         join : (a b : ℕ) (s r t z : ℤ) → a ≡ b → s ≡ r +ℤ t → r ≡ pos 0 → t ≡ z → pos a +ℤ s ≡ pos b +ℤ z
         join a b s r t z p q u v = omega (arith, ints)
 
-    count_elsewhere : (list : ℕ) (row : List Value) → (n == list) ≡ false → count_with bags (rest ++ changes_in n changes) list row ≡ count_with bags rest list row
+    count_elsewhere : (list : ℕ) (row : List Value) → (n == list) ≡ false → count_with bags (rest ++ changes_in n changes) list row
+        ≡ count_with bags rest list row
     count_elsewhere list row e =
         join (count_in row (entries_at bags list)) _ (sum_over (row_change list row) rest) (sum_over (row_change list row) (changes_in n changes))
         (sum_joined (row_change list row) rest (changes_in n changes))
@@ -206,7 +212,8 @@ module _ {Q : Type 0} (bags : List Counts) (queries : List Q) (over : Q → Rows
     joined : CanAdd bags (found ++ changes_in n changes)
     joined k = by (drop_joined k found (changes_in n changes))
       where
-        by : ((drop k (found ++ changes_in n changes) ≡ drop k found ++ changes_in n changes) ⊎ ((j : ℕ) × (drop k (found ++ changes_in n changes) ≡ drop j (changes_in n changes))))
+        by : ((drop k (found ++ changes_in n changes) ≡ drop k found ++ changes_in n changes) ⊎
+            ((j : ℕ) × (drop k (found ++ changes_in n changes) ≡ drop j (changes_in n changes))))
             → IsWithin bags (drop k (found ++ changes_in n changes))
         by (inl e) =
             subst (IsWithin bags) (sym e)

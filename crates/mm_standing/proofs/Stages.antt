@@ -1,5 +1,6 @@
 -- The stages through which changes are added, from the last to the first.
-use Rattle.std.proofs.Common.{◌≡◌, ℕ, zero, suc, ℤ, pos, ◌+ℤ◌, neg_ℤ, ◌≤ℤ◌, ◌⊎◌, inl, inr, Bool, true, false, cond, List, [], ◌∷◌, ◌++◌, length, drop, refl, sym, ap, ◌∙◌, subst, arith}
+use Rattle.std.proofs.Common.{◌≡◌, ℕ, zero, suc, ℤ, pos, ◌+ℤ◌, neg_ℤ, ◌≤ℤ◌, ◌⊎◌, inl, inr, Bool, true, false, cond, List, [], ◌∷◌, ◌++◌, length, drop, refl}
+use Rattle.std.proofs.Common.{sym, ap, ◌∙◌, subst, arith}
 use Rattle.std.specs.Prelude.{◌==◌}
 use Rattle.std.proofs.lemmas.Int.{ints}
 use Rattle.std.proofs.Math.Seq.{drop-length, drop-nil}
@@ -107,6 +108,7 @@ module _ (c : ListChange) (old new : List Counts) (adds : AddedTo c old new) whe
   pub can_undo : (log : List ListChange) → IsWithin new [] → CanAdd old log → CanAdd new (log ++ opposite c ∷ [])
   can_undo log now can k = by (drop_cases k log (opposite c))
     where
-      by : ((drop k (log ++ opposite c ∷ []) ≡ drop k log ++ opposite c ∷ []) ⊎ (drop k (log ++ opposite c ∷ []) ≡ [])) → IsWithin new (drop k (log ++ opposite c ∷ []))
+      by : ((drop k (log ++ opposite c ∷ []) ≡ drop k log ++ opposite c ∷ []) ⊎ (drop k (log ++ opposite c ∷ []) ≡ []))
+          → IsWithin new (drop k (log ++ opposite c ∷ []))
       by (inl e) = subst (IsWithin new) (sym e) (within_back (drop k log) (can k))
       by (inr e) = subst (IsWithin new) (sym e) now

@@ -62,7 +62,8 @@ module _ (bags : List Counts) (rest : List Prepared) (next : Prepared) (log : Li
     pub sound_made : IsSound bags' rest (log ++ next.undo ∷ [])
     sound_made = record {
       within = still;
-      there = All-weaker (λ (c : ListChange). c.list < length bags) (λ (c : ListChange). c.list < length bags') (λ c h. omega (arith, h, adds.size)) (done_of rest) places.0;
+      there = All-weaker (λ (c : ListChange). c.list < length bags) (λ (c : ListChange). c.list < length bags') (λ c h. omega (arith, h, adds.size))
+          (done_of rest) places.0;
       opposites = (All_left (λ (p : Prepared). p.undo ≡ opposite p.done) rest next sound.opposites).0;
       rooms = λ list. omega (arith, number list, sound.rooms list, adds.rooms list);
       undo = subst (λ u. CanAdd bags' (log ++ u ∷ [])) (sym undo_is)
@@ -128,7 +129,8 @@ positive : (n : ℕ) → pos 0 ≤ℤ (pos n +ℤ pos 0)
 positive n = omega (arith, ints)
 
 -- With nothing ready and an empty log all is sound, where no list has more rows than before.
-pub sound_emptied : (old new : List Counts) → IsWithin old [] → ((list : ℕ) → total_of (entries_at new list) ≡ total_of (entries_at old list)) → IsSound new [] []
+pub sound_emptied : (old new : List Counts) → IsWithin old [] → ((list : ℕ) → total_of (entries_at new list) ≡ total_of (entries_at old list))
+    → IsSound new [] []
 sound_emptied old new w same =
     let now : IsWithin new [] = record {
       counts = λ list row. positive (count_in row (entries_at new list));

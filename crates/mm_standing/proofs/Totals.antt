@@ -1,5 +1,6 @@
 -- A bag as counts has as many rows as the rows that it stands for, and shows the same.
-use Rattle.std.proofs.Common.{◌≡◌, ℕ, zero, suc, pos, ◌+◌, ◌<◌, ◌≤◌, min, Bool, true, false, true≢false, cond, is_some, List, [], ◌∷◌, get_or, length, map, replicate, Some, None, refl, sym, ap, ◌∙◌, arith}
+use Rattle.std.proofs.Common.{◌≡◌, ℕ, zero, suc, pos, ◌+◌, ◌<◌, ◌≤◌, min, Bool, true, false, true≢false, cond, is_some, List, [], ◌∷◌, get_or, length, map}
+use Rattle.std.proofs.Common.{replicate, Some, None, refl, sym, ap, ◌∙◌, arith}
 use Rattle.std.specs.List.{All, filter, sum_by}
 use Rattle.std.specs.List.Sorted.{IsPermutation}
 use Rattle.std.specs.Map.{keys_of, lookup, values_of}
@@ -46,7 +47,8 @@ copies row x zero = by (same_row row x)
     by : (b : Bool) → ◌≡◌ {A = ℕ} 0 (cond b 0 0)
     by true = refl
     by false = refl
-copies row x (suc n) = sum_by-cons (λ y. cond (same_row row y) 1 0) x (replicate n x) ∙ ap (λ m. cond (same_row row x) 1 0 + m) (copies row x n) ∙ by (same_row row x)
+copies row x (suc n) = sum_by-cons (λ y. cond (same_row row y) 1 0) x (replicate n x) ∙ ap (λ m. cond (same_row row x) 1 0 + m) (copies row x n)
+    ∙ by (same_row row x)
   where
     by : (b : Bool) → ◌≡◌ {A = ℕ} (cond b 1 0 + cond b n 0) (cond b (suc n) 0)
     by true = omega arith
@@ -66,7 +68,8 @@ module _ (distinct : Bool) where
       ∙ by (same_row row e.0) refl
     where
       by : (b : Bool) → same_row row e.0 ≡ b
-          → cond b (times_shown distinct e.1) 0 + times_shown distinct (count_in row es) ≡ times_shown distinct (unwrap_or (cond b (Some e.1) (lookup (same_row row) es)) 0)
+          → cond b (times_shown distinct e.1) 0 + times_shown distinct (count_in row es)
+          ≡ times_shown distinct (unwrap_or (cond b (Some e.1) (lookup (same_row row) es)) 0)
       by true is =
           let none = ap (λ o. unwrap_or o 0) (lookup-none (same_row row) es (none_past_head same_row_equiv row e es once is)) in
           let no_more : times_shown distinct (count_in row es) ≡ 0 = ap (times_shown distinct) none ∙ never distinct in

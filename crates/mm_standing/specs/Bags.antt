@@ -1,5 +1,6 @@
 -- The bags of standing queries, and changes of the counts of their rows.
-use Rattle.std.specs.Prelude.{◌≡◌, ◌==◌, ℕ, ℤ, pos, ◌+◌, ◌≤◌, ◌<◌, ◌⊎◌, ◌^◌, ◌+ℤ◌, ◌≤ℤ◌, neg_ℤ, Bool, true, false, if◌then◌else◌, All, length, List, [], ◌∷◌, count_by, drop, map, slice_index_or, take}
+use Rattle.std.specs.Prelude.{◌≡◌, ◌==◌, ℕ, ℤ, pos, ◌+◌, ◌≤◌, ◌<◌, ◌⊎◌, ◌^◌, ◌+ℤ◌, ◌≤ℤ◌, neg_ℤ, Bool, true, false, if◌then◌else◌, All, length, List, [], ◌∷◌}
+use Rattle.std.specs.Prelude.{count_by, drop, map, slice_index_or, take}
 use Rattle.std.specs.List.{list_any}
 use Rattle.mm_value.specs.Equality.{same_row}
 use Rattle.mm_value.specs.declared.values.Value.{Value}

@@ -124,7 +124,8 @@ module _ (tables : List StoredRows) (place : ℕ) (old : StoredRows) (there : sl
   same_orphans reference ties joined =
       and_same (reference.from == place) _ _
       (λ holds.
-      subst (λ (o : Option StoredRows). list_any (lacks_target_row reference.column (option_map_or (λ (s : StoredRows). s.key) o 0) (option_map_or rows_of o []))
+      subst (λ (o : Option StoredRows). list_any (lacks_target_row reference.column (option_map_or (λ (s : StoredRows). s.key) o 0)
+      (option_map_or rows_of o []))
       (new_rows edits) ≡ list_any (lacks_target_row reference.column (option_map_or (λ (s : StoredRows). s.key) o 0) (option_map_or rows_of o []))
       (rows_with old edits)) (sym joined.target_at)
       (sym (any_row (lacks_target_row reference.column joined.target.key (rows_of joined.target))
@@ -167,7 +168,8 @@ module _ (tables : List StoredRows) (place : ℕ) (old : StoredRows) (there : sl
   has_targets reference target target_there is none row here =
       let p = lacks_target_row reference.column target.key (rows_of target) in
       let no_row : list_any p (rows_with old edits) ≡ false =
-      subst (λ (o : Option StoredRows). list_any (lacks_target_row reference.column (option_map_or (λ (s : StoredRows). s.key) o 0) (option_map_or rows_of o []))
+      subst (λ (o : Option StoredRows). list_any (lacks_target_row reference.column (option_map_or (λ (s : StoredRows). s.key) o 0)
+      (option_map_or rows_of o []))
       (rows_with old edits) ≡ false) target_there (and_true _ _ (eq-eqb reference.from place is) none) in
       has_row reference.column target (table_at tables reference.to target all target_there) row
       (All-contains (λ x. p x ≡ false) (rows_with old edits) row (none_of p (rows_with old edits) no_row) here)

@@ -34,7 +34,8 @@ module _ (items : List StoredRows) (links : List Reference) (len place : ℕ) (c
     told_of P told = subst (λ (v : Tables). P v relation) (sym is) (told relation there)
 
     -- what becomes of it becomes of each that is there
-    pub becomes : (rows : StoredRows → List (List Value)) (new : StoredRows) → HasRows relation (rows relation) new → (stored : StoredRows) → IsAt view place stored
+    pub becomes : (rows : StoredRows → List (List Value)) (new : StoredRows) → HasRows relation (rows relation) new → (stored : StoredRows)
+        → IsAt view place stored
         → (x : StoredRows) × (slice_set items place new ≡ slice_set view.tables place x) × HasRows stored (rows stored) x
     becomes rows new has stored here = (
       new,

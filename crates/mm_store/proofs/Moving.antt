@@ -1,5 +1,6 @@
 -- Links when a table comes or goes.
-use Rattle.std.proofs.Common.{◌≡◌, ◌≢◌, ℕ, zero, suc, ◌-◌, ◌+◌, ◌<◌, ◌≤◌, ◌⊎◌, inl, inr, Bool, true, false, cond, not, List, [], ◌∷◌, ◌++◌, length, get_or, Some, ⊎_elim, refl, sym, ap, ◌∙◌, subst, arith}
+use Rattle.std.proofs.Common.{◌≡◌, ◌≢◌, ℕ, zero, suc, ◌-◌, ◌+◌, ◌<◌, ◌≤◌, ◌⊎◌, inl, inr, Bool, true, false, cond, not, List, [], ◌∷◌, ◌++◌, length, get_or}
+use Rattle.std.proofs.Common.{Some, ⊎_elim, refl, sym, ap, ◌∙◌, subst, arith}
 use Rattle.std.specs.Prelude.{map, slice_get}
 use Rattle.std.specs.Bool.{◌==◌}
 use Rattle.std.specs.List.{All, filter, remove}
@@ -54,7 +55,8 @@ module _ (tables : List StoredRows) (new : StoredRows) where
         column_in = is.column;
         follows = λ at.
             let free : IsTied link.reference.column ready.target.key (slot_at ready.target.places) Free (target_of link.ties at) = ready.untied at in
-            subst (λ (c : Content). IsTied link.reference.column ready.target.key (slot_at ready.target.places) c (target_of link.ties at)) (sym (empty at)) free;
+            subst (λ (c : Content). IsTied link.reference.column ready.target.key (slot_at ready.target.places) c (target_of link.ties at)) (sym (empty at))
+            free;
         room = record { referrers = omega (arith, none); targets = ready.targets };
       };
     }

@@ -1,5 +1,6 @@
 -- What two tests of links say of a column.
-use Rattle.std.proofs.Common.{◌≡◌, ℕ, zero, suc, ◌<◌, Bool, true, false, not, ◌&&◌, ◌↔◌, List, [], ◌∷◌, get_or, length, refl, sym, ⊎_elim, ap, ◌∙◌, subst, arith}
+use Rattle.std.proofs.Common.{◌≡◌, ℕ, zero, suc, ◌<◌, Bool, true, false, not, ◌&&◌, ◌↔◌, List, [], ◌∷◌, get_or, length, refl, sym, ⊎_elim, ap, ◌∙◌, subst}
+use Rattle.std.proofs.Common.{arith}
 use Rattle.std.specs.Prelude.{◌==◌}
 use Rattle.std.specs.List.{Contains, list_any}
 use Rattle.std.proofs.lemmas.Bool.{and_from, and_parts, cases_Bool, eq-eqb, eqb-true, false≢true, not-true, or_cases, or_left, or_right}
@@ -84,6 +85,7 @@ module _ (links : List Reference) (from column to : ℕ) where
     λ (does : b ≡ true). told (sym is ∙ does),
     λ (refers : IsReference links from column to).
         is ∙ and_from has (not has_other)
-        (passes (same_reference own) links own refers.0.0 refers.0.1 refers.0.2 (and_from (same_column own own) (to == to) (own_column own to) (eq-eqb to to refl)))
+        (passes (same_reference own) links own refers.0.0 refers.0.1 refers.0.2
+        (and_from (same_column own own) (to == to) (own_column own to) (eq-eqb to to refl)))
         (ap not (none_other refers)),
   )

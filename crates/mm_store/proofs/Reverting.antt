@@ -150,5 +150,6 @@ module _ (tables : List StoredRows) (links : List Link) (sound : IsSound tables 
         (targets_back (get_or links k d) (reference_in links k d within))
 
     -- .. and then the store is sound
-    pub IsSound-back : (after : List Link) → EachTurns (IsRetied (slice_set tables place new) place new) links after → IsSound (slice_set tables place new) after
+    pub IsSound-back : (after : List Link) → EachTurns (IsRetied (slice_set tables place new) place new) links after
+        → IsSound (slice_set tables place new) after
     IsSound-back after retied = IsSound-turned tables place old new there width key links after sound.all IsTable-back all_can retied

@@ -126,7 +126,7 @@ module _ (commands : List LoggedCommand) (command : LoggedCommand) (counts : Lis
           counted =
               counted_set n (map logged_of (commands ++ command ∷ [])) within
               (let own : undo_room_for command.table (logged_of command) ≡ command.needed = undo_room_for-own command.table (logged_of command) refl
-                  ∙ sym needed in
+              ∙ sym needed in
               omega (arith, is, tallied.counted command.table, undo_room_more command.table, own))
               (λ place apart. let none : undo_room_for place (logged_of command) ≡ 0 = undo_room_for-other place (logged_of command) apart in
               omega (arith, tallied.counted place, undo_room_more place, none));

@@ -1,5 +1,6 @@
 -- Columns refer to tables that stand before their own.
-use Rattle.std.proofs.Common.{◌≡◌, ℕ, zero, suc, ◌+◌, ◌<◌, ◌||◌, Bool, true, false, cond, ltb, not, List, [], ◌∷◌, ◌++◌, Some, None, length, map, slice_get, refl, sym, subst, ◌∙◌, append_assoc, add-zero, arith}
+use Rattle.std.proofs.Common.{◌≡◌, ℕ, zero, suc, ◌+◌, ◌<◌, ◌||◌, Bool, true, false, cond, ltb, not, List, [], ◌∷◌, ◌++◌, Some, None, length, map, slice_get}
+use Rattle.std.proofs.Common.{refl, sym, subst, ◌∙◌, append_assoc, add-zero, arith}
 use Rattle.std.specs.List.{All, AllByRecursion, list_any, position_or_len}
 use Rattle.std.specs.Option.{unwrap_or}
 use Rattle.std.proofs.lemmas.Bool.Decides.{nat_tests}
@@ -78,7 +79,8 @@ module _ (schema : Schema) where
   tables_back : (place : ℕ) (ts : List Table) → AreOlder place ts → All (λ (r : Reference). r.to < r.from) (references_behind schema place ts)
   tables_back place [] older = All-nil (λ (r : Reference). r.to < r.from)
   tables_back place (t ∷ ts) older =
-      All-append (λ (r : Reference). r.to < r.from) (map (reference_at schema place) (references_of t.definition.columns)) (references_behind schema (place + 1) ts)
+      All-append (λ (r : Reference). r.to < r.from) (map (reference_at schema place) (references_of t.definition.columns))
+      (references_behind schema (place + 1) ts)
       (columns_back place (references_of t.definition.columns) older.0) (tables_back (place + 1) ts older.1)
 
   module _ (back : RefersBack [] schema.tables) where

@@ -1,5 +1,6 @@
 -- What the loops over edits, columns and tables find.
-use Rattle.std.proofs.Common.{◌≡◌, ◌≢◌, ℕ, suc, ◌+◌, ◌<◌, ◌≤◌, Bool, true, false, cond, ◌||◌, ◌==◌, List, [], ◌∷◌, ◌++◌, Option, Some, None, inl, inr, drop, drop-cons, filter, find, get_or, length, map, slice_get, take, refl, sym, ap, ◌∙◌, subst, arith}
+use Rattle.std.proofs.Common.{◌≡◌, ◌≢◌, ℕ, suc, ◌+◌, ◌<◌, ◌≤◌, Bool, true, false, cond, ◌||◌, ◌==◌, List, [], ◌∷◌, ◌++◌, Option, Some, None, inl, inr, drop}
+use Rattle.std.proofs.Common.{drop-cons, filter, find, get_or, length, map, slice_get, take, refl, sym, ap, ◌∙◌, subst, arith}
 use Rattle.std.specs.List.{All, Contains, cons_option, filter_map, list_any}
 use Rattle.std.specs.Option.{option_map_or}
 use Rattle.std.proofs.lemmas.Bool.{eq-eqb, ne_eqb}
@@ -89,7 +90,8 @@ pub removals_found : (own : PlacedEdits) (cascaded : List RelationEdits) (place 
     → x.table ≡ place → own.0 ≢ place → edits_at (map placed (drop k cascaded)) place ≡ edits_at (map placed cascaded) place
     → x.edits.items ≡ edits_at (own ∷ map placed cascaded) place
 removals_found own cascaded place k x within is here other rest =
-    sym (ap (λ b. option_map_or (λ (d : PlacedEdits). d.1) (cond b (Some (placed x)) (find (λ (d : PlacedEdits). d.0 == place) (map placed (drop (suc k) cascaded)))) [])
+    sym (ap (λ b. option_map_or (λ (d : PlacedEdits). d.1) (cond b (Some (placed x))
+    (find (λ (d : PlacedEdits). d.0 == place) (map placed (drop (suc k) cascaded)))) [])
     (eq-eqb x.table place here))
     ∙ ap (λ xs. edits_at (map placed xs) place) (sym (drop-cons cascaded k x within ∙ ap (λ y. y ∷ drop (suc k) cascaded) (sym is)))
     ∙ rest
@@ -107,7 +109,7 @@ cascade_so P cascades all cs same k c within is =
 
 pub placed_cascade_push : (rs : List StoredRows) (cs : List Cascade) (k : ℕ) (c : Cascade) → k < length cs → c ≡ get_or cs k c → (row : Row)
     → (is_cascaded_by_some rs (map placed_cascade (take k cs)) row || is_cascaded_by rs c.column (c.to, c.gone.now) row)
-        ≡ is_cascaded_by_some rs (map placed_cascade (take (k + 1) cs)) row
+    ≡ is_cascaded_by_some rs (map placed_cascade (take (k + 1) cs)) row
 placed_cascade_push rs cs k c within is row = sym
     (ap (λ xs. is_cascaded_by_some rs (map placed_cascade xs) row) (take_more cs k c within ∙ ap (λ x. take k cs ++ x ∷ []) (sym is))
     ∙ ap (λ xs. is_cascaded_by_some rs xs row) (map-append placed_cascade (take k cs) (c ∷ []))

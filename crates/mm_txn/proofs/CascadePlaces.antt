@@ -1,5 +1,6 @@
 -- The rows that named edits take away, and the columns that rows go by, at the places of tables.
-use Rattle.std.proofs.Common.{◌≡◌, ℕ, zero, suc, ◌+◌, ◌<◌, ◌≤◌, ◌==◌, Bool, true, false, cond, ◌⊎◌, List, [], ◌∷◌, ◌++◌, Option, Some, None, inl, inr, filter, find, length, map, slice_get, refl, sym, ap, ◌∙◌, subst, append-nil, arith}
+use Rattle.std.proofs.Common.{◌≡◌, ℕ, zero, suc, ◌+◌, ◌<◌, ◌≤◌, ◌==◌, Bool, true, false, cond, ◌⊎◌, List, [], ◌∷◌, ◌++◌, Option, Some, None, inl, inr, filter}
+use Rattle.std.proofs.Common.{find, length, map, slice_get, refl, sym, ap, ◌∙◌, subst, append-nil, arith}
 use Rattle.std.specs.List.{AllByRecursion, AllPairs, IsDistinct, filter_map, flat_map, list_any}
 use Rattle.std.specs.Option.{option_map_or, unwrap_or}
 use Rattle.std.proofs.lemmas.Bool.{eq-eqb, eqb-true, false≢true, ne_eqb}
@@ -47,7 +48,8 @@ one_place (x ∷ xs) distinct zero (suc k) t u at_j at_k same =
     ∙ ap (λ (v : Table). same_name (name_of v) (name_of u)) own ∙ same))
 one_place (x ∷ xs) distinct (suc j) zero t u at_j at_k same =
     let own : x ≡ u = cc in
-    absurd (false≢true (sym (differs_back (name_of x) (name_of t) (lacks_at (name_of x) xs (IsDistinct-head same_name (name_of x) (map name_of xs) distinct) j t at_j))
+    absurd (false≢true (sym (differs_back (name_of x) (name_of t)
+    (lacks_at (name_of x) xs (IsDistinct-head same_name (name_of x) (map name_of xs) distinct) j t at_j))
     ∙ ap (λ (v : Table). same_name (name_of t) (name_of v)) own ∙ same))
 one_place (x ∷ xs) distinct (suc j) (suc k) t u at_j at_k same =
     ap suc (one_place xs (IsDistinct-tail same_name (name_of x) (map name_of xs) distinct) j k t u at_j at_k same)
@@ -120,25 +122,33 @@ module _ (schema : Schema) (distinct : HasDistinctNames schema) (relations : Lis
   others_none : (cs : List PlacedEdits) → AllByRecursion IsThere cs → AllByRecursion (λ (d : PlacedEdits). (d.0 == to) ≡ false) cs → pairs_behind cs ≡ []
   others_none [] there differ = refl
   others_none (c ∷ cs) there differ =
-      ap (λ b. flat_map (λ (e : TableEdits). e.pairs) (cond b (named schema relations c ∷ filter (λ (e : TableEdits). same_name e.table name) (map (named schema relations) cs))
-      (filter (λ (e : TableEdits). same_name e.table name) (map (named schema relations) cs)))) (same_place schema distinct name to placed c.0 there.0 ∙ differ.0)
+      ap (λ b. flat_map (λ (e : TableEdits). e.pairs) (cond b
+      (named schema relations c ∷ filter (λ (e : TableEdits). same_name e.table name) (map (named schema relations) cs))
+      (filter (λ (e : TableEdits). same_name e.table name) (map (named schema relations) cs))))
+      (same_place schema distinct name to placed c.0 there.0 ∙ differ.0)
       ∙ others_none cs there.1 differ.1
 
   later_differ : (c : PlacedEdits) → c.0 ≡ to → (cs : List PlacedEdits) → AllByRecursion (λ (d : PlacedEdits). c.0 < d.0) cs
       → AllByRecursion (λ (d : PlacedEdits). (d.0 == to) ≡ false) cs
   later_differ c here [] later = tt
-  later_differ c here (d ∷ ds) later = (ne_eqb d.0 to (λ same. let before = later.0 in absurd (omega (arith, before, here, same))), later_differ c here ds later.1)
+  later_differ c here (d ∷ ds) later = (
+    ne_eqb d.0 to (λ same. let before = later.0 in absurd (omega (arith, before, here, same))),
+    later_differ c here ds
+        later.1,
+  )
 
   -- The pairs of a name are those of the edits at its place.
   pub pairs_of_place : (cs : List PlacedEdits) → AllByRecursion IsThere cs → Ascends cs → pairs_behind cs ≡ pairs_at relations (to, edits_at cs to)
   pairs_of_place [] there ascend = sym (no_pairs relations to)
   pairs_of_place (c ∷ cs) there ascend =
-      ap (λ b. flat_map (λ (e : TableEdits). e.pairs) (cond b (named schema relations c ∷ filter (λ (e : TableEdits). same_name e.table name) (map (named schema relations) cs))
+      ap (λ b. flat_map (λ (e : TableEdits). e.pairs) (cond b
+      (named schema relations c ∷ filter (λ (e : TableEdits). same_name e.table name) (map (named schema relations) cs))
       (filter (λ (e : TableEdits). same_name e.table name) (map (named schema relations) cs)))) (same_place schema distinct name to placed c.0 there.0)
       ∙ by (c.0 == to) refl (pairs_of_place cs there.1 ascend.1)
     where
       by : (b : Bool) → (c.0 == to) ≡ b → pairs_behind cs ≡ pairs_at relations (to, edits_at cs to)
-          → flat_map (λ (e : TableEdits). e.pairs) (cond b (named schema relations c ∷ filter (λ (e : TableEdits). same_name e.table name) (map (named schema relations) cs))
+          → flat_map (λ (e : TableEdits). e.pairs) (cond b (named schema relations c ∷ filter (λ (e : TableEdits). same_name e.table name)
+          (map (named schema relations) cs))
           (filter (λ (e : TableEdits). same_name e.table name) (map (named schema relations) cs)))
           ≡ pairs_at relations (to, option_map_or (λ (d : PlacedEdits). d.1) (cond b (Some c) (find (λ (d : PlacedEdits). d.0 == to) cs)) [])
       by true is later =
@@ -215,7 +225,8 @@ module _ (schema : Schema) where
       let first : i ≡ i + 0 = omega arith in
       in_first (reference_at schema (i + 0) r) (map (reference_at schema i) (references_of x.definition.columns)) (references_behind schema (i + 1) xs)
       (subst (λ n. IsIn (reference_at schema n r) (map (reference_at schema i) (references_of x.definition.columns))) first
-      (mapped (reference_at schema i) (references_of x.definition.columns) r (subst (λ (u : Table). IsIn r (references_of u.definition.columns)) (sym same) here)))
+      (mapped (reference_at schema i) (references_of x.definition.columns) r
+      (subst (λ (u : Table). IsIn r (references_of u.definition.columns)) (sym same) here)))
   there_behind i (x ∷ xs) (suc j) t at r here =
       let next : (i + 1) + j ≡ i + suc j = omega arith in
       in_second (reference_at schema (i + suc j) r) (map (reference_at schema i) (references_of x.definition.columns)) (references_behind schema (i + 1) xs)
@@ -257,7 +268,8 @@ module _ (schema : Schema) where
   is_reference place table at column name among to placed = (
     Contains-from_IsIn (all_references schema) (record { from = place; column = column; to = to })
         (subst (λ n. IsIn {X = Reference} (record { from = place; column = column; to = n }) (all_references schema)) target
-        (subst (λ n. IsIn (reference_at schema n (column, name)) (all_references schema)) first (there_behind 0 schema.tables place table at (column, name) among))),
+        (subst (λ n. IsIn (reference_at schema n (column, name)) (all_references schema)) first
+        (there_behind 0 schema.tables place table at (column, name) among))),
     λ other there.
         let found = origin 0 schema.tables (record { from = place; column = column; to = other })
         (IsIn-from_Contains (all_references schema) (record { from = place; column = column; to = other }) there) in

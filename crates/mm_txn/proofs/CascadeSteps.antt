@@ -1,5 +1,6 @@
 -- The cascaded removals, table by table.
-use Rattle.std.proofs.Common.{◌≡◌, ◌≢◌, ℕ, zero, suc, ◌+◌, ◌≤◌, Bool, true, false, cond, ◌||◌, List, [], ◌∷◌, ◌++◌, Some, None, inl, inr, drop, filter, length, map, slice_get, refl, sym, ap, ◌∙◌, arith}
+use Rattle.std.proofs.Common.{◌≡◌, ◌≢◌, ℕ, zero, suc, ◌+◌, ◌≤◌, Bool, true, false, cond, ◌||◌, List, [], ◌∷◌, ◌++◌, Some, None, inl, inr, drop, filter}
+use Rattle.std.proofs.Common.{length, map, slice_get, refl, sym, ap, ◌∙◌, arith}
 use Rattle.std.specs.List.{AllByRecursion, IsDistinct, filter_map, list_any}
 use Rattle.std.proofs.lemmas.Bool.{cases_Bool, false≢true}
 use Rattle.std.proofs.lemmas.List.Folds.{list_any-append}
@@ -38,7 +39,8 @@ module _ (schema : Schema) (own : TableEdits) where
       (pairs_of-other own.table own.pairs r.1
       (AllByRecursion-IsIn (λ (q : ℕ × List ℕ). same_name own.table q.1 ≡ false) (references_of columns) r others (among_references 0 columns r here))))
 
-  none_left : (columns : List Column) (rows : List Row) → ((row : Row) → is_cascaded schema es columns row ≡ false) → filter (is_cascaded schema es columns) rows ≡ []
+  none_left : (columns : List Column) (rows : List Row) → ((row : Row) → is_cascaded schema es columns row ≡ false)
+      → filter (is_cascaded schema es columns) rows ≡ []
   none_left columns [] none = refl
   none_left columns (r ∷ rs) none =
       ap (λ b. cond b (r ∷ filter (is_cascaded schema es columns) rs) (filter (is_cascaded schema es columns) rs)) (none r) ∙ none_left columns rs none
@@ -105,7 +107,8 @@ pub also_some : (es : List TableEdits) (name : List ℕ) (pairs : List Pair) →
 also_some edits name [] some = absurd (some refl)
 also_some edits name (p ∷ ps) some = refl
 
-pub all_done : (schema : Schema) (ts : List Table) (rows : Instance) (k : ℕ) (es : List TableEdits) → length ts ≤ k → with_cascades schema (drop k ts) (drop k rows) es ≡ es
+pub all_done : (schema : Schema) (ts : List Table) (rows : Instance) (k : ℕ) (es : List TableEdits) → length ts ≤ k
+    → with_cascades schema (drop k ts) (drop k rows) es ≡ es
 all_done schema ts rows k es past = ap (λ us. with_cascades schema us (drop k rows) es) (none ts k past)
   where
     none : (us : List Table) (n : ℕ) → length us ≤ n → drop n us ≡ []

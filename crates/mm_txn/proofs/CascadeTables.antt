@@ -1,5 +1,6 @@
 -- The tables that CASCADE columns refer to, and the relations there.
-use Rattle.std.proofs.Common.{◌≡◌, ◌≢◌, ℕ, zero, suc, ◌+◌, ◌<◌, Bool, true, false, cond, ◌||◌, ◌==◌, List, [], ◌∷◌, Option, Some, None, inl, inr, find, is_none, length, map, slice_get, refl, sym, ap, ◌∙◌, subst, arith}
+use Rattle.std.proofs.Common.{◌≡◌, ◌≢◌, ℕ, zero, suc, ◌+◌, ◌<◌, Bool, true, false, cond, ◌||◌, ◌==◌, List, [], ◌∷◌, Option, Some, None, inl, inr, find}
+use Rattle.std.proofs.Common.{is_none, length, map, slice_get, refl, sym, ap, ◌∙◌, subst, arith}
 use Rattle.std.specs.List.{All, AllByRecursion, cons_option, filter_map, list_any}
 use Rattle.std.specs.Option.{option_map_or, unwrap_or}
 use Rattle.std.proofs.lemmas.Bool.{eqb-true, false≢true}
@@ -115,7 +116,8 @@ all_within : (store : Tables) (n : ℕ) → n ≡ length store.tables → (cs : 
 all_within store n same [] fit = tt
 all_within store n same (c ∷ cs) fit = (let first = fits_within store c fit.0 in omega (arith, first, same), all_within store n same cs fit.1)
 
-find_fits : (store : Tables) (place : ℕ) (cs : List PlacedEdits) → AllByRecursion (FitsAt store) cs → edits_at cs place ≢ [] → FitsAt store (place, edits_at cs place)
+find_fits : (store : Tables) (place : ℕ) (cs : List PlacedEdits) → AllByRecursion (FitsAt store) cs → edits_at cs place ≢ []
+    → FitsAt store (place, edits_at cs place)
 find_fits store place [] fit some = absurd (some refl)
 find_fits store place (c ∷ cs) fit some = by (c.0 == place) refl some (find_fits store place cs fit.1)
   where
@@ -155,7 +157,7 @@ no_row_gone rs column to row = by (slice_get rs to)
 
 goes_unless : (rs : List StoredRows) (column to : ℕ) (edits : List Edit) (rest : List PlacedCascade) (row : Row)
     → is_cascaded_by_some rs (cons_option (unless_none column to edits) rest) row
-        ≡ (is_cascaded_by rs column (to, edits) row || is_cascaded_by_some rs rest row)
+    ≡ (is_cascaded_by rs column (to, edits) row || is_cascaded_by_some rs rest row)
 goes_unless rs column to [] rest row = ap (λ b. b || is_cascaded_by_some rs rest row) (sym (no_row_gone rs column to row))
 goes_unless rs column to (edit ∷ edits) rest row = refl
 
@@ -191,7 +193,8 @@ module _ (schema : Schema) (store : Tables) (kept : AreKept schema store) (disti
           let rest = later (λ q here. each q (inr here)) in
           ap (λ k. is_cascaded_by_some rs (cons_option (unless_none n k (edits_at cs k)) (cascades_from schema cs (n + 1) columns)) row) to
           ∙ goes_unless rs n r.to (edits_at cs r.to) (cascades_from schema cs (n + 1) columns) row
-          ∙ (λ i. sym (goes_at_place schema distinct rs name r.to r.placed (key_of_place schema rs kept.relations name r.to r.placed) n cs there ascend row) i || rest i)
+          ∙ (λ i. sym (goes_at_place schema distinct rs name r.to r.placed (key_of_place schema rs kept.relations name r.to r.placed) n cs there ascend row) i
+          || rest i)
 
   -- .. and these refer as they say.
   are_cascades : (n : ℕ) (columns : List Column) → ((r : ℕ × List ℕ) → IsIn r (cascading_from n columns) → Refers schema store place r)
@@ -204,7 +207,11 @@ module _ (schema : Schema) (store : Tables) (kept : AreKept schema store) (disti
           → AllByRecursion IsPlacedCascade (cons_option (unless_none n to edits) rest)
       one to link [] is rest later = later
       one to link (edit ∷ edits) is rest later = (
-        record { link = link; fit = subst (λ (es : List Edit). FitsAt store (to, es)) is (find_fits store to cs fit (λ none. let both : [] ≡ edit ∷ edits = sym none ∙ is in cc)) },
+        record {
+          link = link;
+          fit = subst (λ (es : List Edit). FitsAt store (to, es)) is
+              (find_fits store to cs fit (λ none. let both : [] ≡ edit ∷ edits = sym none ∙ is in cc));
+        },
         later,
       )
 

@@ -1,5 +1,6 @@
 -- A change of rows as a step of the machine, by the edits of its table.
-use Rattle.std.proofs.Common.{◌≡◌, ℕ, ◌<◌, ◌==◌, ◌&&◌, ◌||◌, Bool, true, false, cond, not, Result, Err, List, [], ◌∷◌, ◌++◌, Option, Some, None, filter, find, map, inl, inr, zero, suc, length, get_or, slice_get, refl, sym, ap, subst, ◌∙◌, ⊎_elim, arith}
+use Rattle.std.proofs.Common.{◌≡◌, ℕ, ◌<◌, ◌==◌, ◌&&◌, ◌||◌, Bool, true, false, cond, not, Result, Err, List, [], ◌∷◌, ◌++◌, Option, Some, None, filter, find}
+use Rattle.std.proofs.Common.{map, inl, inr, zero, suc, length, get_or, slice_get, refl, sym, ap, subst, ◌∙◌, ⊎_elim, arith}
 use Rattle.std.specs.List.{All, AllByRecursion, list_any}
 use Rattle.std.specs.Option.{option_map_or, unwrap_or}
 use Rattle.std.proofs.lemmas.Bool.{eq-eqb, eqb-true, or_parts}
@@ -46,14 +47,16 @@ use Rattle.mm_plan.specs.Finding.{meets}
 use Rattle.mm_plan.specs.Kept.{AreOf, instance_of}
 use Rattle.mm_txn.specs.Kept.{state_of, watched_state}
 use Rattle.mm_txn.specs.RowEdits.{updates_of}
-use Rattle.mm_txn.specs.PlacedEdits.{AreEditsOf, AreOwnEditsOf, FitsAt, HaveRows, PlacedEdits, edits_at, edits_conditions, leaves_orphan, leaves_orphans, named, pairs_at, rows_edited}
+use Rattle.mm_txn.specs.PlacedEdits.{AreEditsOf, AreOwnEditsOf, FitsAt, HaveRows, PlacedEdits, edits_at, edits_conditions, leaves_orphan, leaves_orphans}
+use Rattle.mm_txn.specs.PlacedEdits.{named, pairs_at, rows_edited}
 use Rattle.mm_txn.specs.Listed.{IsPlaced, queries_of, rows_by_place}
 use Rattle.mm_txn.proofs.BackLinks.{IsOlder, first_of, older_at}
 use Rattle.mm_txn.proofs.DatabaseSteps.{key_is, rows_of_name, rows_there}
 use Rattle.mm_txn.proofs.ListedRows.{growth_placed, have_formed, rows_kept}
 use Rattle.mm_txn.proofs.Placed.{rows_by_name}
 use Rattle.mm_txn.proofs.SavedRows.{edits_watched, values_watched}
-use Rattle.mm_txn.proofs.ReferenceRows.{AreToOthers, IsToKept, IsToOther, all_there, key_by_name, lacks_are, loses_are, others_at, placed_itself, rows_by_name as rows_at_name, some_place}
+use Rattle.mm_txn.proofs.ReferenceRows.{AreToOthers, IsToKept, IsToOther, all_there, key_by_name, lacks_are, loses_are, others_at, placed_itself}
+use Rattle.mm_txn.proofs.ReferenceRows.{rows_by_name as rows_at_name, some_place}
 use Rattle.mm_txn.proofs.RowsBeside.{AreOf-formed, IsBeside, as_many_rows, beside}
 use Rattle.mm_txn.proofs.RowsMade.{InTurn, after_edited, in_turn, instance_is, many_after, none_at, none_later, rows_after}
 
@@ -331,7 +334,8 @@ module _ (schema : Schema) (store : Tables) (are : AreOf schema.tables store.tab
 
     lacking : some_lacks_target name after ≡ has_orphans store own.0 (rows_with stored own.1)
     lacking =
-        (λ i. list_any (λ (r : ℕ × List ℕ). list_any (lacks_target_row r.0 (key_named r.1 schema) (rows_in after r.1)) (own_rows i)) (references_of (columns_named name schema)))
+        (λ i. list_any (λ (r : ℕ × List ℕ). list_any (lacks_target_row r.0 (key_named r.1 schema) (rows_in after r.1)) (own_rows i))
+        (references_of (columns_named name schema)))
         ∙ (sym (lacks_are schema store.tables are name own.0 are_edits.placed after.rows (rows_with stored own.1) at.table at.there
         (all_both (references_of at.table.definition.columns) (others_at schema name own.0 are_edits.placed at.table at.there targets)
         (older_at schema back own.0 at.table at.there)))
@@ -352,7 +356,8 @@ module _ (schema : Schema) (store : Tables) (are : AreOf schema.tables store.tab
         let called : n ≡ (named schema store.tables c).table = sym (ap (λ (t : Option Table). option_map_or name_of t []) here.there) in
         let key : key_at store.tables c.0 ≡ key_named n schema = sym (key_by_name schema store.tables are n c.0 placed) in
         ap (list_any (leaves_orphan store all_edits c)) links
-        ∙ ((λ i. list_any (λ (r : Reference). (r.to == c.0) && lose_targets r.column (key i) (rows_edited store all_edits r.from) (pairs_at store.tables c)) (all_references schema))
+        ∙ ((λ i. list_any (λ (r : Reference). (r.to == c.0) && lose_targets r.column (key i) (rows_edited store all_edits r.from) (pairs_at store.tables c))
+        (all_references schema))
         ∙ (loses_are schema n c.0 placed here.table here.there (rows_edited store all_edits) after.rows rows_of_table (key_named n schema)
         (pairs_at store.tables c) (all_there schema targets)
         ∙ ap (λ (m : List ℕ). is_referred_to after (record { table = m; pairs = pairs_at store.tables c })) called))
@@ -381,7 +386,8 @@ module _ (schema : Schema) (store : Tables) (are : AreOf schema.tables store.tab
         (ap (λ values. first_refusal (binding_conditions mutation schema ++ values)) (sym (values_watched schema store.tables queries mutation)) ∙ none)
         ∙ λ i. first_refusal (table_rows_conditions (key i) (own_rows i) (lacking i) (referred i) ++ growth i))
 
-  pub change_due : (lists : List StandingQuery) → All (IsPlaced schema) lists → AreToOthers schema → RefersBack [] schema.tables → store.links ≡ all_references schema
+  pub change_due : (lists : List StandingQuery) → All (IsPlaced schema) lists → AreToOthers schema → RefersBack [] schema.tables → store.links
+      ≡ all_references schema
       → first_refusal (binding_conditions mutation schema ++ value_conditions mutation (state_of schema store.tables)) ≡ None
       → {T : Type 0} (result : Result T Refusal)
       → ((stored : StoredRows) → IsAt store own.0 stored

@@ -50,7 +50,8 @@ module _ (schema : Schema) (rs : List StoredRows) (are : AreOf schema.tables rs)
   table_dropped name place placed distinct =
       let found : place ≡ position_or_len (λ t. same_name name t.definition.name) schema.tables = place_found name place placed in
       let both = dropped_at_place name schema.tables rs are distinct (subst (λ p. p < length rs) found (rows_there name place placed)) in (
-        ap (λ rows. record { schema = without_table name schema; rows = rows; queries = []; saved = None }) (ap (λ p. instance_of (remove rs p)) found ∙ sym both.0),
+        ap (λ rows. record { schema = without_table name schema; rows = rows; queries = []; saved = None })
+            (ap (λ p. instance_of (remove rs p)) found ∙ sym both.0),
         subst (λ p. AreOf (without_table name schema).tables (remove rs p)) (sym found) both.1,
       )
 

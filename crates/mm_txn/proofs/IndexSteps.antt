@@ -1,5 +1,6 @@
 -- Indexes made and dropped as steps of the machine.
-use Rattle.std.proofs.Common.{◌≡◌, ℕ, zero, suc, ◌+◌, ◌<◌, ◌≤◌, ◌||◌, Bool, true, false, cond, not, List, [], ◌∷◌, ◌++◌, Result, Ok, Err, Some, None, is_none, length, get_or, map, slice_get, slice_index_or, slice_set, refl, sym, ap, subst, ◌∙◌, arith}
+use Rattle.std.proofs.Common.{◌≡◌, ℕ, zero, suc, ◌+◌, ◌<◌, ◌≤◌, ◌||◌, Bool, true, false, cond, not, List, [], ◌∷◌, ◌++◌, Result, Ok, Err, Some, None, is_none}
+use Rattle.std.proofs.Common.{length, get_or, map, slice_get, slice_index_or, slice_set, refl, sym, ap, subst, ◌∙◌, arith}
 use Rattle.std.specs.Prelude.{MatchResult, OnOk, find, position}
 use Rattle.std.specs.List.{All, AllByRecursion, IsDistinct, list_any, position_or_len, remove}
 use Rattle.std.specs.Option.{option_map_or, unwrap_or}
@@ -14,7 +15,8 @@ use Rattle.mm_relation.specs.Reads.{AddsIndex, HasIndex}
 use Rattle.mm_relation.specs.RowLists.{rows_of}
 use Rattle.mm_relation.specs.declared.index.Index.{Index}
 use Rattle.mm_schema.specs.Columns.{column_place}
-use Rattle.mm_schema.specs.Indexes.{HasDistinctIndexes, HasIndexesInPlace, HasOwnIndexes, drop_index_conditions, index_conditions, index_named, indexes_of, lacks_index, table_with_index, with_index, without_index}
+use Rattle.mm_schema.specs.Indexes.{HasDistinctIndexes, HasIndexesInPlace, HasOwnIndexes, drop_index_conditions, index_conditions, index_named, indexes_of}
+use Rattle.mm_schema.specs.Indexes.{lacks_index, table_with_index, with_index, without_index}
 use Rattle.mm_schema.specs.Name.{same_name}
 use Rattle.mm_schema.specs.Refused.{first_refusal}
 use Rattle.mm_schema.specs.Rows.{rows_by}
@@ -158,7 +160,14 @@ held name (t ∷ ts) d found own =
     by true here later =
         let at : slice_get t.indexes (position_or_len (λ i. same_name name i.name) t.indexes) ≡ Some d =
         sym (find_at (λ i. same_name name i.name) t.indexes) ∙ here in
-        record { place = 0; table = t; there = refl; here = at; own = own_at t (All-head HasOwnIndexes t ts own) (position_or_len (λ i. same_name name i.name) t.indexes) d at }
+        record {
+          place = 0;
+          table = t;
+          there = refl;
+          here = at;
+          own = own_at t (All-head HasOwnIndexes t ts own)
+              (position_or_len (λ i. same_name name i.name) t.indexes) d at;
+        }
     by false here later =
         let rest = later here in
         record { place = suc rest.place; table = rest.table; there = rest.there; here = rest.here; own = rest.own }
@@ -207,7 +216,8 @@ module _ (schema : Schema) (rs : List StoredRows) (are : AreOf schema.tables rs)
     -- An index that comes and goes leaves the catalog as it was.
     pub taken_back : {T : Type 0} (name : List ℕ) (mid after : Schema) (result : Result T Refusal) → name ≡ index.name → mid ≡ with_index index schema
         → first_refusal (index_conditions index schema) ≡ None
-        → MatchResult result (λ _. first_refusal (drop_index_conditions name mid) ≡ None) (λ refusal. first_refusal (drop_index_conditions name mid) ≡ Some refusal)
+        → MatchResult result (λ _. first_refusal (drop_index_conditions name mid) ≡ None)
+        (λ refusal. first_refusal (drop_index_conditions name mid) ≡ Some refusal)
         → OnOk result (after ≡ without_index name mid) → after ≡ schema
     taken_back name mid after result is made free due ok =
         let named : table_named index.table schema ≡ Some table = table_at_place index.table schema place placed ∙ at in

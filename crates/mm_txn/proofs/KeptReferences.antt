@@ -1,5 +1,6 @@
 -- The references that the store keeps are those of the catalog.
-use Rattle.std.proofs.Common.{◌≡◌, ◌≢◌, ℕ, suc, ◌+◌, ◌<◌, ◌==◌, ◌&&◌, true, false, cond, not, List, [], ◌∷◌, ◌++◌, Option, Some, None, inl, inr, filter, length, map, slice_get, refl, sym, ap, subst, ◌∙◌, append-nil, arith}
+use Rattle.std.proofs.Common.{◌≡◌, ◌≢◌, ℕ, suc, ◌+◌, ◌<◌, ◌==◌, ◌&&◌, true, false, cond, not, List, [], ◌∷◌, ◌++◌, Option, Some, None, inl, inr, filter}
+use Rattle.std.proofs.Common.{length, map, slice_get, refl, sym, ap, subst, ◌∙◌, append-nil, arith}
 use Rattle.std.specs.List.{All, AllByRecursion, Contains, list_any, remove}
 use Rattle.std.specs.Option.{option_map_or, unwrap_or}
 use Rattle.std.proofs.lemmas.Bool.Decides.{nat_tests}
@@ -9,15 +10,18 @@ use Rattle.std.proofs.lemmas.List.Elements.{All-append, All-cons, All-from_recur
 use Rattle.mm_schema.specs.Columns.{refers_to, target_of}
 use Rattle.mm_schema.specs.Indexes.{table_with_index, table_without_index, with_index, without_index}
 use Rattle.mm_schema.specs.Name.{same_name}
-use Rattle.mm_schema.specs.References.{HasTargets, RefersToOthers, above, all_references, in_front, moved_up, reference_at, references_behind, references_from, references_of}
+use Rattle.mm_schema.specs.References.{HasTargets, RefersToOthers, above, all_references, in_front, moved_up, reference_at, references_behind}
+use Rattle.mm_schema.specs.References.{references_from, references_of}
 use Rattle.mm_schema.specs.Refused.{first_refusal}
-use Rattle.mm_schema.specs.Schema.{HasDistinctNames, Schema, drop_table_conditions, is_other_referring_to, lacks_table, lacks_target, reads_table, table_conditions, table_place, with_table, without_table}
+use Rattle.mm_schema.specs.Schema.{HasDistinctNames, Schema, drop_table_conditions, is_other_referring_to, lacks_table, lacks_target, reads_table}
+use Rattle.mm_schema.specs.Schema.{table_conditions, table_place, with_table, without_table}
 use Rattle.mm_schema.specs.declared.column.Column.{Column}
 use Rattle.mm_schema.specs.declared.index.IndexDef.{IndexDef}
 use Rattle.mm_schema.specs.declared.reference.Reference.{Reference}
 use Rattle.mm_schema.specs.declared.table.Table.{Table}
 use Rattle.mm_schema.specs.declared.table.TableDef.{TableDef}
-use Rattle.mm_schema.proofs.AllReferences.{IsReferenceWithin, others_added, others_indexed, others_left, others_unindexed, reference_there, references_with_index, references_with_table, references_without_index, references_without_table}
+use Rattle.mm_schema.proofs.AllReferences.{IsReferenceWithin, others_added, others_indexed, others_left, others_unindexed, reference_there}
+use Rattle.mm_schema.proofs.AllReferences.{references_with_index, references_with_table, references_without_index, references_without_table}
 use Rattle.mm_schema.proofs.Instances.{name_of}
 use Rattle.mm_schema.proofs.NameLemmas.{differs_back, same_bytes}
 use Rattle.mm_schema.proofs.References.{same_with, same_without, second_none, targets_added, targets_indexed, targets_left, targets_unindexed}
@@ -109,7 +113,8 @@ module _ (schema : Schema) (name : List ℕ) (place : ℕ) (placed : table_place
       → All (λ r. r.to ≢ place) (all_references schema)
   none_to_dropped targets others due =
       tables_aside 0 schema.tables
-      (each schema.tables (recursion_from_All _ schema.tables targets) (recursion_from_All _ schema.tables others) (or_parts (list_any (is_other_referring_to name) schema.tables) (list_any (reads_table name) schema.standing) (second_none _ _ _ _ _ due)).0)
+      (each schema.tables (recursion_from_All _ schema.tables targets) (recursion_from_All _ schema.tables others)
+      (or_parts (list_any (is_other_referring_to name) schema.tables) (list_any (reads_table name) schema.standing) (second_none _ _ _ _ _ due)).0)
     where
       each : (ts : List Table) → AllByRecursion (λ t. list_any (lacks_target schema) t.definition.columns ≡ false) ts
           → AllByRecursion (λ t. list_any (refers_to t.definition.name) t.definition.columns ≡ false) ts → list_any (is_other_referring_to name) ts ≡ false
@@ -167,7 +172,8 @@ module _ (definition : TableDef) (schema : Schema) (targets : HasTargets schema)
   new_references_fit =
       fit_all (references_of definition.columns)
       (λ r among. reference_there (with_table definition schema) (targets_added definition schema targets due) (others_added definition schema others due) r
-      (subst (λ rs. Contains rs r) (sym (references_with_table definition schema targets due)) (Contains-append_right (all_references schema) (new_references definition schema) r among)))
+      (subst (λ rs. Contains rs r) (sym (references_with_table definition schema targets due))
+      (Contains-append_right (all_references schema) (new_references definition schema) r among)))
 
 -- ---- references that come and go again
 

@@ -1,5 +1,6 @@
 -- The lists of standing queries through changes of rows, and through what keeps or takes these back.
-use Rattle.std.proofs.Common.{◌≡◌, ℕ, ◌≤◌, pos, ◌+ℤ◌, List, [], ◌++◌, Some, None, Err, inl, inr, drop, length, map, slice_get, slice_index_or, sym, ap, subst, ◌∙◌, ⊎_elim, add-zero, arith}
+use Rattle.std.proofs.Common.{◌≡◌, ℕ, ◌≤◌, pos, ◌+ℤ◌, List, [], ◌++◌, Some, None, Err, inl, inr, drop, length, map, slice_get, slice_index_or, sym, ap, subst}
+use Rattle.std.proofs.Common.{◌∙◌, ⊎_elim, add-zero, arith}
 use Rattle.mm_multiset.specs.Counts.{Counts, Entries, count_in}
 use Rattle.mm_schema.specs.Instance.{Instance}
 use Rattle.mm_schema.specs.Refused.{AnswersDue, Condition, first_refusal}

@@ -1,5 +1,6 @@
 -- The rows that standing queries read: the machine finds tables by their names, the lists by their places.
-use Rattle.std.proofs.Common.{◌≡◌, ℕ, suc, ◌<◌, ◌==◌, ◌||◌, Bool, true, false, cond, List, [], ◌∷◌, Option, Some, get_or, length, map, slice_get, refl, sym, ap, subst, ◌∙◌, arith}
+use Rattle.std.proofs.Common.{◌≡◌, ℕ, suc, ◌<◌, ◌==◌, ◌||◌, Bool, true, false, cond, List, [], ◌∷◌, Option, Some, get_or, length, map, slice_get, refl, sym}
+use Rattle.std.proofs.Common.{ap, subst, ◌∙◌, arith}
 use Rattle.std.specs.Prelude.{find}
 use Rattle.std.specs.List.{All, AllByRecursion, list_any}
 use Rattle.std.specs.Option.{option_map_or}
@@ -108,7 +109,8 @@ fit_each store changes fit = λ place stored there.
 -- ---- the rows of all tables after a change
 
 rows_same : (old new : List StoredRows) → length new ≡ length old
-    → ((place : ℕ) (stored : StoredRows) → slice_get old place ≡ Some stored → (now : StoredRows) × (slice_get new place ≡ Some now) × (rows_of now ≡ rows_of stored))
+    → ((place : ℕ) (stored : StoredRows) → slice_get old place ≡ Some stored → (now : StoredRows) × (slice_get new place ≡ Some now)
+    × (rows_of now ≡ rows_of stored))
     → instance_of new ≡ instance_of old
 rows_same [] [] count each = refl
 rows_same [] (n ∷ ns) count each = absurd (omega (arith, count))

@@ -7,7 +7,8 @@ use Rattle.mm_txn.specs.Rest.{comes_before_name, earlier_refusal}
 -- The refusal that is due of a query.
 abbrev pub query_due : (a b c d e f : Bool) → Option Refusal
 query_due a b c d e f =
-    cond a (Some NoSuchTable) (cond b (Some NoSuchColumn) (cond c (Some AliasTaken) (cond d (Some NoSuchAlias) (cond e (Some TypeMismatch) (cond f (Some TooMany) None)))))
+    cond a (Some NoSuchTable) (cond b (Some NoSuchColumn) (cond c (Some AliasTaken)
+    (cond d (Some NoSuchAlias) (cond e (Some TypeMismatch) (cond f (Some TooMany) None)))))
 
 -- The refusal that is due of a name.
 abbrev pub name_due : (t m : Bool) → Option Refusal

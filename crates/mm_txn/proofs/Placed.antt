@@ -1,5 +1,6 @@
 -- The rows of the tables of a standing query, by the places of the tables and by their names.
-use Rattle.std.proofs.Common.{◌≡◌, ℕ, zero, suc, ◌+◌, ◌<◌, Bool, true, false, cond, ltb, not, List, [], ◌∷◌, Some, None, find, is_none, length, map, slice_index_or, refl, sym, ap, subst, ◌∙◌, arith}
+use Rattle.std.proofs.Common.{◌≡◌, ℕ, zero, suc, ◌+◌, ◌<◌, Bool, true, false, cond, ltb, not, List, [], ◌∷◌, Some, None, find, is_none, length, map}
+use Rattle.std.proofs.Common.{slice_index_or, refl, sym, ap, subst, ◌∙◌, arith}
 use Rattle.std.specs.List.{All, list_any, position_or_len}
 use Rattle.std.specs.Option.{unwrap_or}
 use Rattle.std.proofs.lemmas.Bool.Decides.{nat_tests}
@@ -101,7 +102,8 @@ lists_by_place schema rows (item ∷ items) there =
 pub bag_by_place : (state : State) (standing : StandingQuery) → IsPlaced state.schema standing
     → bag standing.query (rows_in state) ≡ bag_over (rows_by_place state.rows) standing
 bag_by_place state standing is =
-    ap (bag_of standing.query) (lists_by_place state.schema state.rows standing.query.from is.within.tables ∙ ap (map (rows_by_place state.rows)) (sym is.places))
+    ap (bag_of standing.query) (lists_by_place state.schema state.rows standing.query.from is.within.tables
+    ∙ ap (map (rows_by_place state.rows)) (sym is.places))
 
 -- The rows of the relation at a place are those at the place.
 pub rows_at_place : (stored : List StoredRows) (place : ℕ) → rows_at stored place ≡ rows_by_place (instance_of stored) place

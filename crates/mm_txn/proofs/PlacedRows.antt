@@ -1,6 +1,7 @@
 -- Edits of several tables that are made one after the other, the last table first: the rows in between, and those that refer to a
 -- row that goes.
-use Rattle.std.proofs.Common.{◌≡◌, ◌≢◌, ℕ, ◌<◌, ◌≤◌, Bool, true, false, cond, ◌&&◌, ◌||◌, List, [], ◌∷◌, ◌++◌, Option, Some, None, length, refl, sym, ap, subst, ◌∙◌, ⊎_elim, inl, inr, arith}
+use Rattle.std.proofs.Common.{◌≡◌, ◌≢◌, ℕ, ◌<◌, ◌≤◌, Bool, true, false, cond, ◌&&◌, ◌||◌, List, [], ◌∷◌, ◌++◌, Option, Some, None, length, refl, sym, ap}
+use Rattle.std.proofs.Common.{subst, ◌∙◌, ⊎_elim, inl, inr, arith}
 use Rattle.std.specs.Prelude.{find, slice_get, slice_set}
 use Rattle.std.specs.Bool.{◌==◌}
 use Rattle.std.specs.List.{All, list_any}
@@ -51,7 +52,8 @@ module _ (place : ℕ) where
 past_all : (tables : List StoredRows) (place : ℕ) → slice_get tables place ≡ None → length tables ≤ place
 past_all tables place gone =
     ⊎_elim
-    (λ (within : place < length tables). absurd (let there = some_at tables place within in let both : ◌≡◌ {A = Option StoredRows} None (Some there.0) = sym gone ∙ there.1 in cc))
+    (λ (within : place < length tables). absurd (let there = some_at tables place within in let both : ◌≡◌ {A = Option StoredRows} None (Some there.0) = sym
+    gone ∙ there.1 in cc))
     (λ (past : length tables ≤ place). past)
     (cases_lt place (length tables))
 
@@ -114,7 +116,8 @@ module _ (old : Tables) (c : PlacedEdits) (done : List PlacedEdits) (mid : Table
   within : c.0 < length mid.tables
   within = slice_get_within mid.tables c.0 stored still_there
 
-  module _ (new : Tables) (next : StoredRows) (turned : Turns mid c.0 next new) (has : HasRows stored (rows_with stored c.1) next) (links : new.links ≡ mid.links) where
+  module _ (new : Tables) (next : StoredRows) (turned : Turns mid c.0 next new) (has : HasRows stored (rows_with stored c.1) next)
+      (links : new.links ≡ mid.links) where
     own_place : (place : ℕ) → c.0 ≡ place → (s : StoredRows) → IsAt old place s
         → (now : StoredRows) × IsAt new place now × HasRows s (rows_edited old (c ∷ done) place) now
     own_place place same s at =
@@ -175,7 +178,8 @@ module _ (old : Tables) (front : List PlacedEdits) (c : PlacedEdits) (done : Lis
   rows_behind from past =
       edited_have old mid done partly.have from
       ∙ ap (λ (es : List Edit). option_map_or (λ (s : StoredRows). rows_with s es) (slice_get old.tables from) [])
-      (sym (edits_behind from front (c ∷ done) (All-weaker (λ (d : PlacedEdits). d.0 < c.0) (λ (d : PlacedEdits). d.0 < from) (λ d less. omega (arith, less, past)) front before)
+      (sym (edits_behind from front (c ∷ done) (All-weaker (λ (d : PlacedEdits). d.0 < c.0) (λ (d : PlacedEdits). d.0 < from)
+      (λ d less. omega (arith, less, past)) front before)
       ∙ edits_other from c done (λ same. absurd (omega (arith, same, past)))))
 
   same_orphan : (r : Reference) → r.to < r.from → makes_orphan mid.tables c.0 stored.key pairs r ≡ leaves_orphan old all c r

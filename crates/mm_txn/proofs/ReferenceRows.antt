@@ -1,5 +1,6 @@
 -- Foreign keys of the state by the places of tables and the relations there.
-use Rattle.std.proofs.Common.{◌≡◌, ◌≢◌, ℕ, zero, suc, ◌+◌, ◌<◌, ◌==◌, ◌&&◌, ◌||◌, Bool, true, false, cond, List, [], ◌∷◌, Some, None, find, map, slice_get, refl, sym, ap, subst, ◌∙◌, inl, inr, add-zero, zero-add, arith}
+use Rattle.std.proofs.Common.{◌≡◌, ◌≢◌, ℕ, zero, suc, ◌+◌, ◌<◌, ◌==◌, ◌&&◌, ◌||◌, Bool, true, false, cond, List, [], ◌∷◌, Some, None, find, map, slice_get}
+use Rattle.std.proofs.Common.{refl, sym, ap, subst, ◌∙◌, inl, inr, add-zero, zero-add, arith}
 use Rattle.std.specs.List.{AllByRecursion, list_any}
 use Rattle.std.specs.Option.{option_map_or, unwrap_or}
 use Rattle.std.proofs.lemmas.Bool.{cases_Bool, eq-eqb, false≢true, ne_eqb}
@@ -188,7 +189,8 @@ pub placed_itself : (schema : Schema) → HasDistinctNames schema → (i : ℕ) 
 placed_itself schema distinct i t here =
     let first = own_place schema.tables i t here distinct in
     elim (table_place (name_of t) schema) as (λ p. table_place (name_of t) schema ≡ p → table_place (name_of t) schema ≡ Some i) [
-      | None ↦ λ e. absurd (let past = past_from_none _ schema.tables e in let within = slice_get_within schema.tables i t here in omega (arith, past, first, within))
+      | None ↦ λ e. absurd (let past = past_from_none _ schema.tables e in let within = slice_get_within schema.tables i t here in omega
+          (arith, past, first, within))
       | Some k ↦ λ e. e ∙ ap (λ n. Some n) (place_from_some _ schema.tables k e ∙ first)
     ] refl
 
@@ -248,7 +250,8 @@ module _ (schema : Schema) (name : List ℕ) (place : ℕ) (placed : table_place
         ∙ λ k. loses_same i t here targets.0 k
         || loses_from (i + 1) ts (λ n u at. subst (λ m. slice_get schema.tables m ≡ Some u) (omega arith) (behind (suc n) u at)) targets.1 k
 
-    pub loses_are : AllByRecursion (λ (t : Table). AllByRecursion (λ (r : ℕ × List ℕ). lacks_table r.1 schema ≡ false) (references_of t.definition.columns)) schema.tables
+    pub loses_are : AllByRecursion (λ (t : Table). AllByRecursion (λ (r : ℕ × List ℕ). lacks_table r.1 schema ≡ false) (references_of t.definition.columns))
+        schema.tables
         → list_any loses_by (all_references schema)
         ≡ list_any (λ (t : Table). list_any (λ (r : ℕ × List ℕ). same_name r.1 name && lose_targets r.0 key (rows_named (name_of t) schema.tables after) pairs)
         (references_of t.definition.columns)) schema.tables

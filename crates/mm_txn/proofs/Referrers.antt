@@ -118,7 +118,8 @@ module _ (stored : StoredRows) where
     skipped none = record {
       live = adds.live;
       found = λ at here. adds.found at here ∙ ap (λ b. list_any (same_ref at) old || b) (sym (tests_push (row_at (slot_at stored.places) at)
-          ∙ ap (λ rows. tests column key (rows_taken then done) (row_at (slot_at stored.places) at) || tests column key rows (row_at (slot_at stored.places) at)) (none_taken then edit none)
+          ∙ ap (λ rows. tests column key (rows_taken then done) (row_at (slot_at stored.places) at) || tests column key rows
+          (row_at (slot_at stored.places) at)) (none_taken then edit none)
           ∙ or_false (tests column key (rows_taken then done) (row_at (slot_at stored.places) at))));
     }
       where

@@ -1,5 +1,6 @@
 -- Rows that are taken out of tables from the last one to the first.
-use Rattle.std.proofs.Common.{◌≡◌, ℕ, suc, ◌<◌, ◌≤◌, Bool, true, false, cond, List, [], ◌∷◌, ◌++◌, Option, Some, None, Err, Ok, Result, length, get_or, map, refl, sym, ap, subst, ◌∙◌, inl, inr, arith}
+use Rattle.std.proofs.Common.{◌≡◌, ℕ, suc, ◌<◌, ◌≤◌, Bool, true, false, cond, List, [], ◌∷◌, ◌++◌, Option, Some, None, Err, Ok, Result, length, get_or, map}
+use Rattle.std.proofs.Common.{refl, sym, ap, subst, ◌∙◌, inl, inr, arith}
 use Rattle.std.specs.List.{All, AllPairs, list_any}
 use Rattle.std.specs.Prelude.{OnOk}
 use Rattle.std.specs.Result.{result_and}
@@ -198,7 +199,8 @@ module _ (old : Tables) (own : RelationEdits) (cascaded : List RelationEdits) (a
     module _ (none : left ≡ []) where
       gone_behind : AreGone old all (map placed cascaded) mid
       gone_behind =
-          subst (λ (xs : List RelationEdits). AreGone old all (map placed xs) mid) (sym (now.is ∙ ap (λ (xs : List RelationEdits). xs ++ now.done) none)) now.gone
+          subst (λ (xs : List RelationEdits). AreGone old all (map placed xs) mid) (sym (now.is ∙ ap (λ (xs : List RelationEdits). xs ++ now.done) none))
+          now.gone
 
       pub last_can : CanGo mid (placed own)
       last_can = can_go old all [] (placed own) (map placed cascaded) refl are back mid gone_behind many

@@ -1,5 +1,6 @@
 -- Standing queries and their lists after a change of the tables of the catalog.
-use Rattle.std.proofs.Common.{◌≡◌, ℕ, suc, ◌+◌, ◌≤◌, Bool, true, false, cond, not, Result, Ok, Err, OnOk, OnErr, List, [], ◌∷◌, ◌++◌, zero, Option, Some, None, filter, find, is_none, map, pos, slice_get, refl, sym, ap, subst, ◌∙◌, arith}
+use Rattle.std.proofs.Common.{◌≡◌, ℕ, suc, ◌+◌, ◌≤◌, Bool, true, false, cond, not, Result, Ok, Err, OnOk, OnErr, List, [], ◌∷◌, ◌++◌, zero, Option, Some}
+use Rattle.std.proofs.Common.{None, filter, find, is_none, map, pos, slice_get, refl, sym, ap, subst, ◌∙◌, arith}
 use Rattle.std.specs.List.{All, AllByRecursion, IsDistinct, list_any}
 use Rattle.std.specs.Option.{unwrap_or}
 use Rattle.std.proofs.lemmas.Bool.Decides.{nat_tests}
@@ -12,7 +13,8 @@ use Rattle.mm_schema.specs.Instance.{Instance, rows_named, without_rows}
 use Rattle.mm_schema.specs.Name.{same_name}
 use Rattle.mm_schema.specs.References.{above}
 use Rattle.mm_schema.specs.Refused.{AnswersDue, first_refusal}
-use Rattle.mm_schema.specs.Schema.{HasDistinctNames, Schema, drop_table_conditions, is_other_referring_to, lacks_table, reads_table, table_place, with_table, without_table}
+use Rattle.mm_schema.specs.Schema.{HasDistinctNames, Schema, drop_table_conditions, is_other_referring_to, lacks_table, reads_table, table_place, with_table}
+use Rattle.mm_schema.specs.Schema.{without_table}
 use Rattle.mm_schema.specs.declared.index.IndexDef.{IndexDef}
 use Rattle.mm_schema.specs.declared.standing.StandingDef.{StandingDef}
 use Rattle.mm_schema.specs.declared.table.Table.{Table}
@@ -162,12 +164,14 @@ module _ (schema : Schema) (store : Tables) (lists : Lists) (rest : AreAtRest sc
 
     -- An index moves no table and changes no rows, ..
     rest_by_change : (change : Table → Table) → ((t : Table) → (change t).definition ≡ t.definition)
-        → AreBeside schema.standing (queries_of lists.queries) × All (IsQueryWithin (record schema { tables = map change schema.tables })) (queries_of lists.queries)
+        → AreBeside schema.standing (queries_of lists.queries)
+        × All (IsQueryWithin (record schema { tables = map change schema.tables })) (queries_of lists.queries)
         → schema' ≡ record schema { tables = map change schema.tables } → instance_of store'.tables ≡ instance_of store.tables → AreAtRest schema' store' lists
     rest_by_change change same after tables rows = record {
       kept = kept;
       placed = subst (λ s. ArePlaced s lists.queries) (sym tables)
-          (placed_kept schema (record schema { tables = map change schema.tables }) (keeps_changed change same schema) lists.queries after.0 after.1 rest.placed.placed);
+          (placed_kept schema (record schema { tables = map change schema.tables }) (keeps_changed change same schema) lists.queries after.0 after.1
+          rest.placed.placed);
       listed = subst (λ r. AreListed r lists) (sym rows) rest.listed;
     }
 
@@ -194,7 +198,8 @@ module _ (schema : Schema) (store : Tables) (lists : Lists) (rest : AreAtRest sc
     }
 
     -- So they stand still whatever is answered.
-    pub rest_still : {T : Type 0} (r : Result T Refusal) (due : Option Refusal) (B : Type 0) → AnswersDue due r → (due ≡ None → B → AreAtRest schema' store' lists)
+    pub rest_still : {T : Type 0} (r : Result T Refusal) (due : Option Refusal) (B : Type 0) → AnswersDue due r
+        → (due ≡ None → B → AreAtRest schema' store' lists)
         → OnOk r B → OnErr r (state_of schema' store'.tables ≡ state_of schema store.tables) → AreAtRest schema' store' lists
     rest_still (Ok value) due B none done ok err = done none ok
     rest_still (Err refusal) due B answers done ok err = rest_refused err

@@ -35,7 +35,8 @@ module _ (name : List ℕ) (held : Holdings) (undo : List Logged) (is_open : Boo
       ∙ ap (λ (b : Bool). cond b (Some NoSuchSavepoint) None) is_lacking
 
   -- It is where no mark has the name, ..
-  pub refused_due : AllByRecursion (λ (mark : Mark). same_name name mark.name ≡ false) marks → first_refusal (conditions (RollbackTo name) state) ≡ Some NoSuchSavepoint
+  pub refused_due : AllByRecursion (λ (mark : Mark). same_name name mark.name ≡ false) marks → first_refusal (conditions (RollbackTo name) state)
+      ≡ Some NoSuchSavepoint
   refused_due none = by_parts true (lacks_is ∙ ap not (none_named name undo store marks none))
 
   -- .. and not where one has it.

@@ -1,5 +1,6 @@
 -- A catalog's tables, and the relations beside them.
-use Rattle.std.proofs.Common.{◌≡◌, ℕ, zero, suc, ◌+◌, ◌<◌, Bool, true, false, cond, not, List, [], ◌∷◌, ◌++◌, Some, length, map, slice_get, slice_set, refl, sym, ap, subst, ◌∙◌, arith}
+use Rattle.std.proofs.Common.{◌≡◌, ℕ, zero, suc, ◌+◌, ◌<◌, Bool, true, false, cond, not, List, [], ◌∷◌, ◌++◌, Some, length, map, slice_get, slice_set, refl}
+use Rattle.std.proofs.Common.{sym, ap, subst, ◌∙◌, arith}
 use Rattle.std.specs.List.{IsDistinct, filter, position_or_len, remove}
 use Rattle.std.proofs.lemmas.Map.Keys.{IsDistinct-tail}
 use Rattle.mm_schema.specs.Instance.{rows_named, without_rows}
@@ -48,7 +49,8 @@ beside ts [] place stored are h = cc
 beside [] (r ∷ rs) place stored are h = absurd are
 
 first_or_later : (b : Bool) (r stored : StoredRows) (rs : List StoredRows) (n : ℕ) (others : List Row)
-    → slice_get (r ∷ rs) (cond (not b) (1 + n) 0) ≡ Some stored → (slice_get rs n ≡ Some stored → others ≡ rows_of stored) → cond b (rows_of r) others ≡ rows_of stored
+    → slice_get (r ∷ rs) (cond (not b) (1 + n) 0) ≡ Some stored → (slice_get rs n ≡ Some stored → others ≡ rows_of stored) → cond b (rows_of r) others
+    ≡ rows_of stored
 first_or_later true r stored rs n others here rest = let same : r ≡ stored = cc in ap rows_of same
 first_or_later false r stored rs n others here rest =
     let next : 1 + n ≡ suc n = omega arith in rest (subst (λ k. slice_get (r ∷ rs) k ≡ Some stored) next here)
@@ -75,7 +77,8 @@ AreIndexes-turned columns (d ∷ ds) [] ys turned are = absurd are
 AreIndexes-turned columns (d ∷ ds) (x ∷ xs) [] turned are = absurd (let size = turned.size in omega arith)
 AreIndexes-turned columns (d ∷ ds) (x ∷ xs) (y ∷ ys) turned are =
     let first : SameIndex x y = turned.each 0 x (omega arith) in
-    let later : EachTurns SameIndex xs ys = record { size = (let size = turned.size in omega arith); each = λ k e below. turned.each (suc k) e (omega arith) } in (
+    let later : EachTurns SameIndex xs ys = record { size = (let size = turned.size in omega arith); each = λ k e below. turned.each (suc k) e (omega arith) }
+    in (
       record { column = are.0.column ∙ ap (λ c. Some c) (sym first.0); kind = first.1 ∙ are.0.kind },
       AreIndexes-turned columns ds xs ys later are.1,
     )
@@ -89,7 +92,8 @@ AreOf-formed (t ∷ ts) [] new formed are = absurd are
 AreOf-formed (t ∷ ts) (r ∷ rs) [] formed are = absurd (let size = formed.size in omega arith)
 AreOf-formed (t ∷ ts) (r ∷ rs) (n ∷ ns) formed are =
     let first : SameForm r n = formed.each 0 r (omega arith) in
-    let later : EachTurns SameForm rs ns = record { size = (let size = formed.size in omega arith); each = λ k e below. formed.each (suc k) e (omega arith) } in (
+    let later : EachTurns SameForm rs ns = record { size = (let size = formed.size in omega arith); each = λ k e below. formed.each (suc k) e (omega arith) }
+    in (
       record {
         key = first.key ∙ are.0.key;
         width = first.width ∙ are.0.width;

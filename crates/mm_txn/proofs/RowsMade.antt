@@ -1,5 +1,6 @@
 -- The rows of all tables once the edits of several tables are made, place by place.
-use Rattle.std.proofs.Common.{◌≡◌, ℕ, zero, suc, ◌<◌, ◌≤◌, ◌==◌, Bool, true, false, cond, List, [], ◌∷◌, Option, Some, None, find, length, map, slice_get, refl, sym, ap, subst, ◌∙◌, inl, inr, arith}
+use Rattle.std.proofs.Common.{◌≡◌, ℕ, zero, suc, ◌<◌, ◌≤◌, ◌==◌, Bool, true, false, cond, List, [], ◌∷◌, Option, Some, None, find, length, map, slice_get}
+use Rattle.std.proofs.Common.{refl, sym, ap, subst, ◌∙◌, inl, inr, arith}
 use Rattle.std.specs.List.{All, AllByRecursion, AllPairs, position_or_len}
 use Rattle.std.specs.Option.{option_map_or}
 use Rattle.std.proofs.lemmas.Bool.{cases_Bool, eqb-false, eqb-true, ne_eqb}
@@ -91,7 +92,8 @@ module _ (schema : Schema) (distinct : HasDistinctNames schema) where
     | inl same ↦
         let one : i ≡ k =
         sym (own_place schema.tables i u at distinct)
-        ∙ (ap (λ n. position_or_len (λ v. same_name n (name_of v)) schema.tables) (same_bytes (name_of u) (name_of t) same) ∙ own_place schema.tables k t there distinct) in
+        ∙ (ap (λ n. position_or_len (λ v. same_name n (name_of v)) schema.tables) (same_bytes (name_of u) (name_of t) same)
+        ∙ own_place schema.tables k t there distinct) in
         absurd (eqb-false i k differs one)
     | inr other ↦ other
   ]
@@ -130,11 +132,13 @@ module _ (schema : Schema) (distinct : HasDistinctNames schema) where
         where
           by : (b : Bool) → (c.0 == k) ≡ b
               → changed key (pairs_there cs) (changed key (cond b (pairs_at rs c) []) (rows_by_place rows k))
-              ≡ changed key (edit_pairs (slot_at stored.places) (option_map_or (λ (d : PlacedEdits). d.1) (cond b (Some c) (find (λ (d : PlacedEdits). d.0 == k) cs)) []))
+              ≡ changed key (edit_pairs (slot_at stored.places)
+              (option_map_or (λ (d : PlacedEdits). d.1) (cond b (Some c) (find (λ (d : PlacedEdits). d.0 == k) cs)) []))
               (rows_by_place rows k)
           by true is =
               let same : c.0 ≡ k = eqb-true c.0 k is in
-              let none : edits_at cs k ≡ [] = none_at k cs (none_later k cs (subst (λ (n : ℕ). AllByRecursion (λ (d : PlacedEdits). n < d.0) cs) same turn.1)) in
+              let none : edits_at cs k ≡ [] = none_at k cs (none_later k cs (subst (λ (n : ℕ). AllByRecursion (λ (d : PlacedEdits). n < d.0) cs) same turn.1))
+              in
               let own : pairs_at rs c ≡ edit_pairs (slot_at stored.places) c.1 =
               ap (λ (s : Option StoredRows). option_map_or (λ stored. edit_pairs (slot_at stored.places) c.1) s []) (ap (slice_get rs) same ∙ at) in
               λ i. changed key (edit_pairs (slot_at stored.places) (none i)) (changed key (own i) (rows_by_place rows k))

@@ -1,5 +1,6 @@
 -- Standing queries add numbers only to numbers of the rows before a change and of those after it.
-use Rattle.std.proofs.Common.{◌≡◌, ℕ, zero, suc, false, List, [], ◌∷◌, Option, Some, None, get_or, length, map, slice_get, refl, sym, ap, subst, ◌<◌, ◌∙◌, arith}
+use Rattle.std.proofs.Common.{◌≡◌, ℕ, zero, suc, false, List, [], ◌∷◌, Option, Some, None, get_or, length, map, slice_get, refl, sym, ap, subst, ◌<◌, ◌∙◌}
+use Rattle.std.proofs.Common.{arith}
 use Rattle.std.specs.List.{All, list_any}
 use Rattle.std.specs.Option.{option_and_then, option_map, option_map_or, unwrap_or}
 use Rattle.std.proofs.lemmas.Bool.{or_parts}
@@ -64,7 +65,8 @@ module _ (schema : Schema) (rows : Instance) where
   from_there from field typed = by (slice_get from field.place) refl typed
     where
       by : (found : Option FromItem) → slice_get from field.place ≡ found
-          → option_map (λ (c : Column). c.col_type) (option_and_then (λ (item : FromItem). slice_get (columns_named item.table schema) field.column) found) ≡ Some type.Int
+          → option_map (λ (c : Column). c.col_type) (option_and_then (λ (item : FromItem). slice_get (columns_named item.table schema) field.column) found)
+          ≡ Some type.Int
           → (item : FromItem) × (slice_get from field.place ≡ Some item)
       by None at typed = absurd (let b : ⊥ = cc in b)
       by (Some item) at typed = (item, at)

@@ -1,5 +1,6 @@
 -- Types of rows and of standing queries through changes of the catalog and of rows.
-use Rattle.std.proofs.Common.{◌≡◌, ◌⊎◌, ℕ, Bool, true, false, cond, not, ◌&&◌, Result, Ok, Err, OnOk, OnErr, List, ◌++◌, Option, Some, None, is_some, length, inl, inr, refl, sym, ap, subst, ◌∙◌, ⊎_elim, arith}
+use Rattle.std.proofs.Common.{◌≡◌, ◌⊎◌, ℕ, Bool, true, false, cond, not, ◌&&◌, Result, Ok, Err, OnOk, OnErr, List, ◌++◌, Option, Some, None, is_some, length}
+use Rattle.std.proofs.Common.{inl, inr, refl, sym, ap, subst, ◌∙◌, ⊎_elim, arith}
 use Rattle.std.proofs.lemmas.Bool.{cases_Bool}
 use Rattle.mm_schema.specs.Refused.{AnswersDue, Condition, first_refusal}
 use Rattle.mm_schema.specs.Schema.{HasDistinctNames}

@@ -1,5 +1,7 @@
 -- A standing query that comes, and one that goes.
-use Rattle.std.proofs.Common.{◌≡◌, ◌⊎◌, ℕ, zero, suc, ◌+◌, ◌<◌, ◌≤◌, Bool, true, false, cond, not, Result, Ok, Err, OnOk, MatchResult, List, [], ◌∷◌, ◌++◌, Option, Some, None, inl, inr, filter, find, is_none, is_some, length, map, nat_le, nat_lt, pos, slice_get, refl, sym, ap, subst, ◌∙◌, ⊎_elim, arith}
+use Rattle.std.proofs.Common.{◌≡◌, ◌⊎◌, ℕ, zero, suc, ◌+◌, ◌<◌, ◌≤◌, Bool, true, false, cond, not, Result, Ok, Err, OnOk, MatchResult, List, [], ◌∷◌, ◌++◌}
+use Rattle.std.proofs.Common.{Option, Some, None, inl, inr, filter, find, is_none, is_some, length, map, nat_le, nat_lt, pos, slice_get, refl, sym, ap, subst}
+use Rattle.std.proofs.Common.{◌∙◌, ⊎_elim, arith}
 use Rattle.std.specs.List.{All, AllByRecursion, IsDistinct, list_any, position_or_len, remove}
 use Rattle.std.proofs.lemmas.Bool.Decides.{nat_tests}
 use Rattle.std.proofs.lemmas.Bool.{or_from, or_parts}
@@ -10,7 +12,8 @@ use Rattle.mm_schema.specs.Instance.{Instance}
 use Rattle.mm_schema.specs.Name.{same_name}
 use Rattle.mm_schema.specs.Refused.{Condition, first_refusal}
 use Rattle.mm_schema.specs.Schema.{Schema, lacks_table}
-use Rattle.mm_schema.specs.Standing.{HasDistinctStanding, drop_standing_conditions, lacks_some_table, lacks_standing, standing_named, standing_place, with_standing, without_standing}
+use Rattle.mm_schema.specs.Standing.{HasDistinctStanding, drop_standing_conditions, lacks_some_table, lacks_standing, standing_named, standing_place}
+use Rattle.mm_schema.specs.Standing.{with_standing, without_standing}
 use Rattle.mm_schema.specs.declared.standing.StandingDef.{StandingDef}
 use Rattle.mm_schema.proofs.Dues.{due_behind, due_in_front}
 use Rattle.mm_schema.proofs.NameLemmas.{same_bytes, same_name_refl}
@@ -22,7 +25,7 @@ use Rattle.mm_value.specs.declared.refusal.Refusal.{Refusal}
 use Rattle.mm_value.specs.declared.refusal.Refusal.TheVariants.{NoSuchStandingQuery, StandingListTooLarge}
 use Rattle.mm_value.specs.declared.values.Value.{Value}
 use Rattle.mm_query.specs.Queries.{bag, bag_of}
-use Rattle.mm_query.specs.Resolving.{IsQueryWithin, passes_query_limits, placed_query, places_in}
+use Rattle.mm_query.specs.Resolving.{IsQueryWithin, exceeds_query_limits, placed_query, places_in}
 use Rattle.mm_query.specs.Standing.{AreBeside, after_watch, outgrows, tables_read, watch_conditions, without_query}
 use Rattle.mm_query.specs.State.{State, rows_in}
 use Rattle.mm_query.specs.declared.bound_query.BoundQuery.{BoundQuery}
@@ -50,8 +53,8 @@ module _ (name : List ℕ) (query : Query) (schema : Schema) (none : first_refus
   hold : AllByRecursion (λ (c : Condition). c.holds ≡ false) (naming_conditions name query schema)
   hold = none_hold (naming_conditions name query schema) none
 
-  limits : (passes_query_limits query ≡ false) × (nat_le 32 (length schema.standing) ≡ false)
-  limits = or_parts (passes_query_limits query) (nat_le 32 (length schema.standing)) hold.1.1.1.1.1.1.0
+  limits : (exceeds_query_limits query ≡ false) × (nat_le 32 (length schema.standing) ≡ false)
+  limits = or_parts (exceeds_query_limits query) (nat_le 32 (length schema.standing)) hold.1.1.1.1.1.1.0
 
   -- Its tables are there, ..
   pub tables_there : list_any (λ (item : FromItem). lacks_table item.table schema) query.from ≡ false
@@ -403,7 +406,8 @@ standing_found name schema place found =
 pub standing_missing : (name : List ℕ) (schema : Schema) → standing_place name schema ≡ None
     → first_refusal (drop_standing_conditions name schema) ≡ Some NoSuchStandingQuery
 standing_missing name schema nowhere =
-    ap (λ (q : Option StandingDef). cond (is_none q) (Some NoSuchStandingQuery) None) (find_nowhere (λ (q : StandingDef). same_name name q.name) schema.standing nowhere)
+    ap (λ (q : Option StandingDef). cond (is_none q) (Some NoSuchStandingQuery) None)
+    (find_nowhere (λ (q : StandingDef). same_name name q.name) schema.standing nowhere)
 
 -- All is at rest without it.
 pub rest_left : (name : List ℕ) (schema : Schema) (store : Tables) (lists : Lists) → AreAtRest schema store lists → (place : ℕ)

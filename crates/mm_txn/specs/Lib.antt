@@ -3,12 +3,12 @@ pub mod Cascades
 pub mod Contents
 pub mod IndexPlaces
 pub mod Kept
+pub mod Listed
 pub mod Marks
+pub mod PlacedEdits
 pub mod Requests
 pub mod Rest
 pub mod RowEdits
 pub mod Saved
 pub mod Sources
 pub mod Steps
-pub mod PlacedEdits
-pub mod Listed

@@ -10,7 +10,7 @@ use Rattle.mm_standing.specs.State.{Lists}
 use Rattle.mm_store.specs.Tables.{Tables}
 use Rattle.mm_value.specs.declared.refusal.Refusal.{Refusal}
 use Rattle.mm_value.specs.declared.refusal.Refusal.TheVariants.{Memory, NameTaken, NoSuchColumn, NoSuchTable, TooMany}
-use Rattle.mm_query.specs.Resolving.{ill_formed_conditions, missing_conditions, passes_query_limits}
+use Rattle.mm_query.specs.Resolving.{ill_formed_conditions, missing_conditions, exceeds_query_limits}
 use Rattle.mm_query.specs.Standing.{shown_rows}
 use Rattle.mm_query.specs.State.{State, rows_in}
 use Rattle.mm_query.specs.declared.listing.ListedQuery.{ListedQuery}
@@ -48,7 +48,7 @@ naming_conditions name query schema =
     missing_conditions query schema
     ++ record { holds = is_some (standing_named name schema); refusal = NameTaken }
     ∷ ill_formed_conditions query schema
-    ++ record { holds = passes_query_limits query || nat_le 32 (length schema.standing); refusal = TooMany }
+    ++ record { holds = exceeds_query_limits query || nat_le 32 (length schema.standing); refusal = TooMany }
     ∷ []
 
 -- A name that is taken is answered behind these.

@@ -81,7 +81,7 @@ fn cascaded_edits(
     ensures pairs { IfOk result (λ edits. (t : Table) → slice_get catalog.now.tables table ≡ Some t
         → pairs_at store.now.tables (table, edits.items)
         ≡ removals_of (filter (is_cascaded catalog.now (map (named catalog.now store.now.tables) (placed own.now ∷ map placed cascaded.now))
-            t.definition.columns)
+        t.definition.columns)
         (rows_at store.now.tables table))) }
     ensures memory { IfErr result (λ refusal. refusal ≡ Memory) }
 {
@@ -153,7 +153,11 @@ fn cascading_target(column: &Column) -> Option<&Name>
 }
 
 /// What is taken out of the table at a place.
-fn removals_of<'a>(own: &'a RelationEdits, cascaded: &'a [RelationEdits], place: usize) -> &'a [Edit]
+fn removals_of<'a>(
+    own: &'a RelationEdits,
+    cascaded: &'a [RelationEdits],
+    place: usize,
+) -> &'a [Edit]
     ensures { result.now ≡ edits_at (placed own.entry.now ∷ map placed cascaded.entry.now) place }
 {
     if own.table == place {

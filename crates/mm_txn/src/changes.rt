@@ -49,7 +49,14 @@ impl Contents {
         if cascaded.is_empty() {
             edit_table(alloc, &mut self.store, &mut self.standing, own, undo)
         } else {
-            remove_rows(alloc, &mut self.store, &mut self.standing, own, cascaded, undo)
+            remove_rows(
+                alloc,
+                &mut self.store,
+                &mut self.standing,
+                own,
+                cascaded,
+                undo,
+            )
         }
     }
 }

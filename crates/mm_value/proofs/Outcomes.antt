@@ -1,5 +1,6 @@
 -- What a reading of a literal answers, by the outcome.
-use Rattle.std.proofs.Common.{◌≡◌, ◌⊎◌, ◌↔◌, inl, inr, ◌<◌, ◌≤◌, ℕ, List, ◌∷◌, length, Result, Ok, Err, MatchResult, IfOk, IfErr, IsErrOf, Bool, true, false, pos, get_or, ◌≢◌, refl, sym, ap, subst, ◌∙◌, arith}
+use Rattle.std.proofs.Common.{◌≡◌, ◌⊎◌, ◌↔◌, inl, inr, ◌<◌, ◌≤◌, ℕ, List, ◌∷◌, length, Result, Ok, Err, MatchResult, IfOk, IfErr, IsErrOf, Bool, true, false}
+use Rattle.std.proofs.Common.{pos, get_or, ◌≢◌, refl, sym, ap, subst, ◌∙◌, arith}
 use Rattle.std.specs.Int.{w64}
 use Rattle.std.specs.Str.Parse.{digits_value}
 use Rattle.std.specs.Int.RustNames.{FitsSigned}
@@ -13,7 +14,8 @@ use Rattle.mm_value.specs.declared.values.Value.TheVariants.{Int, Text}
 use Rattle.mm_value.specs.Literal.{IsNumeral, SpellsInt, SpellsText, Spells, IsWithinLimit}
 use Rattle.mm_value.specs.Reading.{ReadsInt, ReadsText, Closes, signed_value}
 use Rattle.mm_value.proofs.Limits.{int_within, within_int, text_within, within_text}
-use Rattle.mm_value.proofs.Spelling.{Spells-unique, SpellsInt-unique, SpellsInt-no_text, SpellsText-unique, SpellsText-closes, Closes-spells, quote_no_int, minus_no_digits, minus_no_text}
+use Rattle.mm_value.proofs.Spelling.{Spells-unique, SpellsInt-unique, SpellsInt-no_text, SpellsText-unique, SpellsText-closes, Closes-spells, quote_no_int}
+use Rattle.mm_value.proofs.Spelling.{minus_no_digits, minus_no_text}
 
 -- each outcome with what the bytes are
 abbrev pub Outcome : List ℕ → Result Value Refusal → Type 0

@@ -80,7 +80,8 @@ texts_keep zero a b less = omega arith
 texts_keep (suc k) [] b less = omega arith
 texts_keep (suc k) (x ∷ xs) [] less = cc
 texts_keep (suc k) (x ∷ xs) (y ∷ ys) less =
-    elim (nat_cmp x y) as (λ r. nat_cmp x y ≡ r → ordering_then r (slice_cmp nat_cmp xs ys) ≡ Less → big_endian (suc k) (x ∷ xs) ≤ big_endian (suc k) (y ∷ ys)) [
+    elim (nat_cmp x y) as (λ r. nat_cmp x y ≡ r → ordering_then r (slice_cmp nat_cmp xs ys) ≡ Less
+    → big_endian (suc k) (x ∷ xs) ≤ big_endian (suc k) (y ∷ ys)) [
       | Less ↦ λ is _. steps_keep x y (big_endian k xs) (big_endian k ys) (256 ^ k) (256 ^ suc k)
           (subst (λ r. MatchOrdering r (x < y) (x ≡ y) (y < x)) is (ranks x y)) (big_endian_below k xs)
       | Equal ↦ λ is rest.

@@ -8,8 +8,8 @@ ghost use Rattle.mm_value.specs.Prefix.{big_endian, order_prefix};
 use crate::values::Value;
 
 /// A number of 64 bits by which most values can be put in order without a look at them: a value with a smaller
-/// number comes first in the value order, and values with equal numbers are still to be compared. Whole numbers between
-/// -2^62 and 2^62 - 1 have numbers of their own, and those beyond have the number of the nearer end. A text has 2^63 and
+/// number comes first in the value order, and values with equal numbers are still to be compared. Whole numbers from
+/// -2^62 to 2^62 - 1 have different numbers, and those beyond share that of the nearer end. A text has 2^63 and
 /// half of its first 8 bytes in big-endian (the normalized keys of Graefe, Modern B-Tree Techniques, 2011).
 pub fn order_prefix(value: &Value) -> u64
     ensures { result ≡ order_prefix value.now }

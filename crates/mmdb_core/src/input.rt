@@ -4,8 +4,8 @@ ghost use Rattle.mm_lang.specs.Lines.{HasNoFeed};
 ghost use Rattle.mmdb_core.specs.steps.Input.{fills_to_come, Advances, Comes, Finds, IsFault, StopsInLine};
 ghost use Rattle.mmdb_core.specs.steps.Feeds.{EndsLine, EndsWith, LooksLike};
 
-use crate::run_error::RunError;
 use crate::limits::Limits;
+use crate::run_error::RunError;
 use crate::window::Window;
 use bstr::ByteSlice;
 use mm_lang::MAX_LINE_BYTES;

@@ -15,8 +15,8 @@ ghost use Rattle.mm_value.specs.declared.refusal.Refusal.TheVariants.{Memory, No
 ghost use Rattle.mmdb_core.specs.Run.{answer, outcome_of, Answers, ReachedEnd, TakesWithin};
 ghost use Rattle.mmdb_core.specs.declared.limits.Totals.{Totals};
 
-use crate::run_error::RunError;
 use crate::limits::{Limits, Totals};
+use crate::run_error::RunError;
 use mm_value::Watched;
 use std::io::{Read, Write};
 

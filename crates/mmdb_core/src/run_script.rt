@@ -5,9 +5,9 @@ ghost use Rattle.mmdb_core.specs.steps.Respond.{GoesOn};
 ghost use Rattle.mmdb_core.specs.Run.{BrokeOff, ReachedEnd, TakesWithin};
 
 use crate::answer::{answer_line, send, without_return};
-use crate::run_error::RunError;
 use crate::input::{Input, Next};
 use crate::limits::{Limits, Totals};
+use crate::run_error::RunError;
 use mm_lang::Reply;
 use mm_txn::Db;
 use mm_value::{Refusal, Watched};

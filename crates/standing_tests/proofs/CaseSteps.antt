@@ -54,7 +54,8 @@ module _ (store new : Tables) (undo later : List Logged) (lists left : Lists) (q
 
 -- Lists that keep their counts and their queries leave a case.
 pub case_listed : (store : Tables) (undo : List Logged) (lists left : Lists) → left.queries ≡ lists.queries
-    → ((list : ℕ) (row : List Value) → count_now left list row ≡ count_now lists list row) → left.prepared ≡ [] → IsCase store undo lists → IsCase store undo left
+    → ((list : ℕ) (row : List Value) → count_now left list row ≡ count_now lists list row) → left.prepared ≡ [] → IsCase store undo lists
+    → IsCase store undo left
 case_listed store undo lists left queries counts ready was =
     case_still store store undo undo lists left queries was refl was.plain was.undoable (before_at store) refl
     (counts_still (count_now lists) (count_now left) (before_at store) lists.queries left.queries queries counts was.fits) ready

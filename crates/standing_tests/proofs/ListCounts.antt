@@ -1,5 +1,6 @@
 -- The counts of the rows of lists through the steps of a case.
-use Rattle.std.proofs.Common.{◌≡◌, ◌⊎◌, ℕ, ℤ, zero, suc, pos, ◌<◌, ◌≤◌, ◌+ℤ◌, Result, Ok, Err, OnOk, List, [], ◌∷◌, ◌++◌, Some, None, cond, Bool, true, false, inl, inr, drop, length, map, nat_lt, slice_get, slice_index_or, take, refl, sym, ap, subst, ◌∙◌, ⊎_elim, add-zero, arith}
+use Rattle.std.proofs.Common.{◌≡◌, ◌⊎◌, ℕ, ℤ, zero, suc, pos, ◌<◌, ◌≤◌, ◌+ℤ◌, Result, Ok, Err, OnOk, List, [], ◌∷◌, ◌++◌, Some, None, cond, Bool, true, false}
+use Rattle.std.proofs.Common.{inl, inr, drop, length, map, nat_lt, slice_get, slice_index_or, take, refl, sym, ap, subst, ◌∙◌, ⊎_elim, add-zero, arith}
 use Rattle.std.specs.List.{All, AllByRecursion, list_any, remove}
 use Rattle.std.proofs.lemmas.Bool.{ltb-false, or_parts}
 use Rattle.std.proofs.lemmas.Bool.Decides.{nat_tests}
@@ -77,7 +78,8 @@ module _ (old mid new : Lists) (made : Made mid.bags mid.prepared mid.log new.ba
       counts_still _ (count_now new) rows mid.queries new.queries queries (λ list row. sym (count_plain new.bags list row) ∙ made.counts list row) fits
 
   -- Where nothing was ready nothing changes.
-  pub none_made : entries_of mid.bags ≡ entries_of old.bags → mid.prepared ≡ [] → (list : ℕ) (row : List Value) → count_now new list row ≡ count_now old list row
+  pub none_made : entries_of mid.bags ≡ entries_of old.bags → mid.prepared ≡ [] → (list : ℕ) (row : List Value) → count_now new list row
+      ≡ count_now old list row
   none_made entries none list row =
       sym (count_plain new.bags list row) ∙ made.counts list row
       ∙ ap (λ ps. count_with mid.bags (map (λ p. p.done) ps) list row) none

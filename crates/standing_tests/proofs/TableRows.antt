@@ -1,5 +1,6 @@
 -- The rows of the tables of a case before and after a step.
-use Rattle.std.proofs.Common.{◌≡◌, ℕ, zero, suc, ◌<◌, ◌==◌, Bool, true, false, cond, List, [], ◌∷◌, Option, Some, None, get_or, length, map, slice_get, slice_index_or, slice_set, refl, sym, ap, subst, ◌∙◌, arith}
+use Rattle.std.proofs.Common.{◌≡◌, ℕ, zero, suc, ◌<◌, ◌==◌, Bool, true, false, cond, List, [], ◌∷◌, Option, Some, None, get_or, length, map, slice_get}
+use Rattle.std.proofs.Common.{slice_index_or, slice_set, refl, sym, ap, subst, ◌∙◌, arith}
 use Rattle.std.specs.List.{All, list_all}
 use Rattle.std.specs.Option.{option_map_or}
 use Rattle.std.proofs.lemmas.Bool.{and_parts, eqb-false, eqb-true, false≢true}
@@ -47,7 +48,8 @@ before_same old new same = before_listed new (map (λ (s : StoredRows). rows_of 
 module _ (store new : Tables) (table : ℕ) (within : table < length store.tables) (rows : StoredRows → List (List Value))
     (each : (stored : StoredRows) → IsAt store table stored → (x : StoredRows) × Turns store table x new × HasRows stored (rows stored) x) where
   -- Where the rows at one place turn, those at each other place stay.
-  pub rows_turned : (place : ℕ) → rows_at new.tables place ≡ cond (table == place) (option_map_or rows (slice_get store.tables place) []) (rows_at store.tables place)
+  pub rows_turned : (place : ℕ) → rows_at new.tables place ≡ cond (table == place) (option_map_or rows (slice_get store.tables place) [])
+      (rows_at store.tables place)
   rows_turned place = rows_listed new.tables place ∙ ap (λ rs. slice_index_or rs place []) are ∙ by (table == place) refl
     where
       found : (stored : StoredRows) × IsAt store table stored

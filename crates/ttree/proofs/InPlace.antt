@@ -1,5 +1,6 @@
 -- Edits of a node that leave the tree's shape.
-use Rattle.std.proofs.Common.{◌≡◌, ℕ, suc, ◌+◌, ◌-◌, ◌<◌, ◌≤◌, List, [], ◌∷◌, ◌++◌, length, get_or, take, drop, refl, sym, ap, ◌∙◌, subst, append_assoc, length-append, arith}
+use Rattle.std.proofs.Common.{◌≡◌, ℕ, suc, ◌+◌, ◌-◌, ◌<◌, ◌≤◌, List, [], ◌∷◌, ◌++◌, length, get_or, take, drop, refl, sym, ap, ◌∙◌, subst, append_assoc}
+use Rattle.std.proofs.Common.{length-append, arith}
 use Rattle.std.proofs.lemmas.List.{get_or_default}
 use Rattle.std.proofs.lemmas.List.Edits.{length-insert, length-remove}
 use Rattle.std.proofs.lemmas.Option.{get_or_from_slice_get}
@@ -9,10 +10,12 @@ use Rattle.std.specs.Prelude.{Some, Contains, slice_get}
 use Rattle.mm_value.specs.declared.row_ref.RowRef.{RowRef}
 use Rattle.ttree_node.specs.Entries.{first_entry}
 use Rattle.ttree_node.specs.Tree.{Tree, Empty, Fork, IsFork, Root, fork, in_order, height_of}
-use Rattle.ttree_node.specs.Paths.{HasRoomAtEnd, HasRoomOnLeft, HasSpareAtEnd, HasSpareOnLeft, tree_at, with_root, with_entries, with_tree, pushed, exchanged, popped, borrowed, end_of, lead, trail}
+use Rattle.ttree_node.specs.Paths.{HasRoomAtEnd, HasRoomOnLeft, HasSpareAtEnd, HasSpareOnLeft, tree_at, with_root, with_entries, with_tree, pushed, exchanged}
+use Rattle.ttree_node.specs.Paths.{popped, borrowed, end_of, lead, trail}
 use Rattle.ttree_node.specs.declared.slides.Side.{Side}
 use Rattle.ttree_node.specs.declared.slides.Side.TheVariants.{Left, Right}
-use Rattle.ttree_node.proofs.PathLemmas.{in_order-with, in_order_with_tree, height_with_tree, pushed_height, pushed_in_order, popped_height, popped_in_order, exchanged_root, borrowed_root}
+use Rattle.ttree_node.proofs.PathLemmas.{in_order-with, in_order_with_tree, height_with_tree, pushed_height, pushed_in_order, popped_height, popped_in_order}
+use Rattle.ttree_node.proofs.PathLemmas.{exchanged_root, borrowed_root}
 use Rattle.ttree.specs.Balanced.{IsTTree, IsNode}
 use Rattle.ttree.specs.Shuffle.{IsShuffle}
 use Rattle.ttree.proofs.Parts.{moved_least}
@@ -146,7 +149,8 @@ pub in_order-exchanged_at : (path : List Side) (i : ℕ) (entry : RowRef) (n : R
     → in_order (with_tree path (exchanged i entry (fork n)) t) ≡ in_order (with_entries path (insert n.entries i entry) t)
 in_order-exchanged_at path i entry n t here above some room =
     in_order_with_tree path (exchanged i entry (fork n)) t (subst IsFork (sym here) tt)
-    ∙ ap (λ xs. lead path t ++ xs ++ trail path t) (in_order-exchanged i entry n above some room ∙ ap (λ s. in_order (with_root (insert n.entries i entry) s)) (sym here))
+    ∙ ap (λ xs. lead path t ++ xs ++ trail path t) (in_order-exchanged i entry n above some room
+    ∙ ap (λ s. in_order (with_root (insert n.entries i entry) s)) (sym here))
     ∙ sym (in_order-with path (insert n.entries i entry) t)
 
 -- a root that borrows the last entry of its left side

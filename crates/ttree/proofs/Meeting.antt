@@ -31,7 +31,8 @@ module _ (Covers : RowRef → Type 0) (cmp : RowRef → RowRef → Ordering) (Re
   -- Where the last entry lies before the range, that is the right side.
   pub behind_root : low (last_entry n.entries) ≡ Less → between (in_order (fork n)) ≡ between right
   behind_root last =
-      let none = none_from_low low high n.entries is_low.balanced.2.filled (risen Covers cmp ReachesLow low n is_low) (risen Covers cmp ReachesHigh high n is_high) last in
+      let none = none_from_low low high n.entries is_low.balanced.2.filled (risen Covers cmp ReachesLow low n is_low)
+      (risen Covers cmp ReachesHigh high n is_high) last in
       let first : low (first_entry n.entries) ≡ Less =
       less_up_to low n.entries (length n.entries - 1) _ (risen Covers cmp ReachesLow low n is_low) (omega (arith, is_low.balanced.2.filled)) last 0
       (record { part = 0; slot = 0 }) (omega (arith, is_low.balanced.2.filled)) (omega (arith)) in
@@ -41,7 +42,8 @@ module _ (Covers : RowRef → Type 0) (cmp : RowRef → RowRef → Ordering) (Re
   -- Where the first entry lies behind the range, it is the left side.
   pub before_root : high (first_entry n.entries) ≡ Greater → between (in_order (fork n)) ≡ between left
   before_root first =
-      let none = none_to_high low high n.entries is_low.balanced.2.filled (risen Covers cmp ReachesLow low n is_low) (risen Covers cmp ReachesHigh high n is_high) first in
+      let none = none_to_high low high n.entries is_low.balanced.2.filled (risen Covers cmp ReachesLow low n is_low)
+      (risen Covers cmp ReachesHigh high n is_high) first in
       let last : high (last_entry n.entries) ≡ Greater =
       greater_from high n.entries 0 _ (risen Covers cmp ReachesHigh high n is_high) is_low.balanced.2.filled first (length n.entries - 1)
       (record { part = 0; slot = 0 }) (omega (arith)) (omega (arith, is_low.balanced.2.filled)) in

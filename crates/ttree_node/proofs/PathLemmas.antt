@@ -7,7 +7,8 @@ use Rattle.std.specs.List.{remove}
 use Rattle.ttree_node.specs.Entries.{last_entry}
 use Rattle.mm_value.specs.declared.row_ref.RowRef.{RowRef}
 use Rattle.ttree_node.specs.Tree.{Tree, Empty, Fork, IsFork, in_order, height_of, node_count}
-use Rattle.ttree_node.specs.Paths.{HasSpareAtEnd, borrowed, end_of, popped, tree_at, root_entries, exchanged, pushed, with_root, with_entries, with_tree, lead, trail}
+use Rattle.ttree_node.specs.Paths.{HasSpareAtEnd, borrowed, end_of, popped, tree_at, root_entries, exchanged, pushed, with_root, with_entries, with_tree}
+use Rattle.ttree_node.specs.Paths.{lead, trail}
 use Rattle.ttree_node.specs.declared.slides.Side.{Side}
 use Rattle.ttree_node.specs.declared.slides.Side.TheVariants.{Left, Right}
 
@@ -165,14 +166,16 @@ last_back : (entries : List RowRef) → 1 ≤ length entries → remove entries 
 last_back entries some =
     let n : ℕ = length entries - 1 in
     let none : drop (suc n) entries ≡ [] = drop_of_length-le entries {i = suc n} (omega arith) in
-    let end : drop n entries ≡ last_entry entries ∷ [] = drop-cons entries n (record { part = 0; slot = 0 }) (omega arith) ∙ ap (λ xs. last_entry entries ∷ xs) none in
+    let end : drop n entries ≡ last_entry entries ∷ [] = drop-cons entries n (record { part = 0; slot = 0 }) (omega arith)
+    ∙ ap (λ xs. last_entry entries ∷ xs) none in
     ap (λ ys. take n entries ++ ys ++ last_entry entries ∷ []) none ∙ ap (λ ys. ys ++ last_entry entries ∷ []) (append-nil (take n entries))
     ∙ sym (ap (λ ys. take n entries ++ ys) end) ∙ take-append-drop n entries
 
 pub popped_in_order : (t : Tree) → HasSpareAtEnd t → in_order (popped t) ++ end_of t ∷ [] ≡ in_order t
 popped_in_order Empty spare = absurd spare
 popped_in_order (Fork Empty entries Empty) spare =
-    ap (λ xs. xs ++ last_entry entries ∷ []) (append-nil (remove entries (length entries - 1))) ∙ last_back entries (omega (arith, spare)) ∙ sym (append-nil entries)
+    ap (λ xs. xs ++ last_entry entries ∷ []) (append-nil (remove entries (length entries - 1))) ∙ last_back entries (omega (arith, spare))
+    ∙ sym (append-nil entries)
 popped_in_order (Fork (Fork l es r) entries Empty) spare = absurd spare
 popped_in_order (Fork Empty entries (Fork l es r)) spare =
     append_assoc entries (in_order (popped (Fork l es r))) (end_of (Fork l es r) ∷ []) ∙ ap (λ xs. entries ++ xs) (popped_in_order (Fork l es r) spare)

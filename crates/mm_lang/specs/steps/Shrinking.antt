@@ -8,8 +8,10 @@ use Rattle.mm_lang.specs.declared.token.Symbol.TheVariants.{Open, Close, Comma}
 use Rattle.mm_lang.specs.declared.token.Symbol.TheVariants as symbol
 use Rattle.mm_value.specs.Literal.{is_numeral}
 use Rattle.mm_value.specs.declared.values.Value.{Value}
-use Rattle.mm_lang.specs.Grammar.{literal_of, name, col_type, on_delete_of, reference_to, reference, role_behind, role, column, comma_list, tuple, comparison, numbered, digits, shift, operand_behind, operand_on, test_on, assignment, field, from_item, position}
-use Rattle.mm_lang.specs.Phrases.{Phrase, ◌>>=◌, say, one, word_of, the_symbol, the_keyword, behind_item, at_most, list_of, only_if, optional, maybe, has_keyword, in_parentheses}
+use Rattle.mm_lang.specs.Grammar.{literal_of, name, col_type, on_delete_of, reference_to, reference, role_behind, role, column, comma_list, tuple, comparison}
+use Rattle.mm_lang.specs.Grammar.{numbered, digits, shift, operand_behind, operand_on, test_on, assignment, field, from_item, position}
+use Rattle.mm_lang.specs.Phrases.{Phrase, ◌>>=◌, say, one, word_of, the_symbol, the_keyword, behind_item, at_most, list_of, only_if, optional, maybe}
+use Rattle.mm_lang.specs.Phrases.{has_keyword, in_parentheses}
 use Rattle.mm_lang.specs.Tokens.{Token, Signed, Mark}
 use Rattle.mm_lang.specs.steps.Parsing.{NeverLonger}
 use Rattle.mm_lang.specs.steps.Parts.{Front, said_same, tested, then_parts, one_parts, optional_parts}

@@ -18,9 +18,13 @@ use std::alloc::{AllocError, Global};
 
 impl Relation {
     /// Whether two rows would have one key after the edits, each of which names another row of the relation or
-    /// none. For m edits, of which k bring another key than their row has, among n rows it takes
-    /// O(m + k log k + k log n) comparisons, and memory only where k is not 0. `AllocError` where memory is refused.
-    pub(crate) fn has_duplicates_after(&self, alloc: Global, edits: &[Edit]) -> Result<bool, AllocError>
+    /// none. For m edits, of which k bring another key than their row has and g take a key away, among n rows it takes
+    /// O(m + k log k + g log g + k log n) comparisons, and memory only where k is not 0. `AllocError` where memory is refused.
+    pub(crate) fn has_duplicates_after(
+        &self,
+        alloc: Global,
+        edits: &[Edit],
+    ) -> Result<bool, AllocError>
         requires { (kept : List RowRef) × Stay self.now.refs edits.now kept }
         ensures { IfOk result (λ duplicates. (kept : List RowRef) → Stay self.now.refs edits.now kept
             → duplicates ≡ has_duplicate_keys self.now.key (rows_after (slot_at self.now.places) edits.now kept)) }

@@ -59,7 +59,8 @@ impl Store {
         self.edit(alloc, table, edits, undo_room, &mut undo.idle)?;
         let log = mem::replace(&mut undo.idle, Log::new(alloc));
         undo.undo_room[table] = undo_room + needed;
-        undo.commands.push_reserved(LoggedCommand { table, needed, log });
+        undo.commands
+            .push_reserved(LoggedCommand { table, needed, log });
         Ok(())
     }
 

@@ -19,7 +19,8 @@ is_kept-requires c =
     (c.requires.there c.loop-place.place 0 c.loop-place-test.true)
 
 pub add_term-requires-clause-there : goal.add_term-requires-clause-there
-add_term-requires-clause-there c = subst (λ (s : Tables). All (λ table. table < length s.tables) c.args.tables.now) (sym c.loop-place.invariant.same) c.requires.there
+add_term-requires-clause-there c = subst (λ (s : Tables). All (λ table. table < length s.tables) c.args.tables.now) (sym c.loop-place.invariant.same)
+    c.requires.there
 
 pub add_term-requires-clause-fit : goal.add_term-requires-clause-fit
 add_term-requires-clause-fit c =
@@ -34,7 +35,8 @@ add_term-requires-clause-typed c =
 pub loop-place-init : goal.loop-place-init
 loop-place-init c = record {
   same = refl;
-  counts = λ row. counts_none row c.new-comes.result.entries c.new-goes.result.entries (count_of row (bag_of c.args.query.now (map (before_at c.args.view.now.store) c.args.tables.now))) c.new-comes.ensures c.new-goes.ensures;
+  counts = λ row. counts_none row c.new-comes.result.entries c.new-goes.result.entries
+      (count_of row (bag_of c.args.query.now (map (before_at c.args.view.now.store) c.args.tables.now))) c.new-comes.ensures c.new-goes.ensures;
   reads = λ skipped only. omega arith;
 }
 
@@ -47,7 +49,9 @@ loop-place-preserved c = record {
       let changes = c.in_ok-indexed.ensures.ok in
       let at = some_at c.args.view.now.store.tables (get_or c.args.tables.now k 0) (c.requires.there k 0 c.loop-place-test.true) in
       let was = c.is_kept.ensures.kept at.0 (subst (λ s. IsAt s (get_or c.args.tables.now k 0) at.0) (sym same) at.1) in
-      counts_more c.args.query.now c.args.view.now.store c.args.changes.now c.args.tables.now row k at.0 (count_of row (bag_of c.args.query.now (map (before_at c.args.view.now.store) c.args.tables.now))) (count_in row c.loop-place.comes.entries) (count_in row c.add_term.new.comes.entries)
+      counts_more c.args.query.now c.args.view.now.store c.args.changes.now c.args.tables.now row k at.0
+      (count_of row (bag_of c.args.query.now (map (before_at c.args.view.now.store) c.args.tables.now))) (count_in row c.loop-place.comes.entries)
+      (count_in row c.add_term.new.comes.entries)
       (count_in row c.loop-place.goes.entries) (count_in row c.add_term.new.goes.entries) c.loop-place-test.true at.1 was c.requires.fit
       (c.loop-place.invariant.counts row)
       (subst (λ (s : Tables). count_in row c.add_term.new.comes.entries + count_in row c.loop-place.goes.entries
@@ -56,13 +60,16 @@ loop-place-preserved c = record {
       + count_of row (bag_of c.args.query.now (lists_around 0 (after_at s c.args.changes.now) (come_at c.args.changes.now) (before_at s) c.args.tables.now k)))
       same
       (subst (λ (es : List TableChange). count_in row c.add_term.new.comes.entries + count_in row c.loop-place.goes.entries
-      + count_of row (bag_of c.args.query.now (lists_around 0 (after_at c.loop-place.view.store es) (gone_at c.loop-place.view.store es) (before_at c.loop-place.view.store) c.args.tables.now k))
+      + count_of row (bag_of c.args.query.now (lists_around 0 (after_at c.loop-place.view.store es) (gone_at c.loop-place.view.store es)
+      (before_at c.loop-place.view.store) c.args.tables.now k))
       ≡ count_in row c.add_term.new.goes.entries + count_in row c.loop-place.comes.entries
-      + count_of row (bag_of c.args.query.now (lists_around 0 (after_at c.loop-place.view.store es) (come_at es) (before_at c.loop-place.view.store) c.args.tables.now k)))
+      + count_of row (bag_of c.args.query.now (lists_around 0 (after_at c.loop-place.view.store es) (come_at es) (before_at c.loop-place.view.store)
+      c.args.tables.now k)))
       changes (c.in_ok-add_term.ensures.net row)));
   reads = λ skipped only.
       let k = c.loop-place.place in
-      let moved : term_reads c.args.query.now c.loop-place.view.store c.in_ok-indexed.indexed c.args.tables.now skipped k ≡ term_reads c.args.query.now c.args.view.now.store c.args.changes.now c.args.tables.now skipped k =
+      let moved : term_reads c.args.query.now c.loop-place.view.store c.in_ok-indexed.indexed c.args.tables.now skipped k
+      ≡ term_reads c.args.query.now c.args.view.now.store c.args.changes.now c.args.tables.now skipped k =
       λ i. term_reads c.args.query.now (c.loop-place.invariant.same i) (c.in_ok-indexed.ensures.ok i) c.args.tables.now skipped k in
       omega (
         arith,
@@ -77,7 +84,8 @@ pub returns-in_err-add_term-clause-reads : goal.returns-in_err-add_term-clause-r
 returns-in_err-add_term-clause-reads c = λ skipped only.
     let k = c.loop-place.place in
     let n = length c.args.tables.now in
-    let moved : term_reads c.args.query.now c.loop-place.view.store c.in_ok-indexed.indexed c.args.tables.now skipped k ≡ term_reads c.args.query.now c.args.view.now.store c.args.changes.now c.args.tables.now skipped k =
+    let moved : term_reads c.args.query.now c.loop-place.view.store c.in_ok-indexed.indexed c.args.tables.now skipped k
+    ≡ term_reads c.args.query.now c.args.view.now.store c.args.changes.now c.args.tables.now skipped k =
     λ i. term_reads c.args.query.now (c.loop-place.invariant.same i) (c.in_ok-indexed.ensures.ok i) c.args.tables.now skipped k in
     let all : (k + 1) + (n - (k + 1)) ≡ n = omega (arith, c.loop-place-test.true) in
     omega (
@@ -94,7 +102,8 @@ pub returns-clause-change : goal.returns-clause-change
 returns-clause-change c =
     IfOk-weaker c.net_changes.result _ _
     (λ found change row.
-    counts_all c.args.query.now c.args.view.now.store c.args.changes.now c.args.tables.now row c.loop-place.place (count_in row c.loop-place.comes.entries) (count_in row c.loop-place.goes.entries) (signed_count row found.items)
+    counts_all c.args.query.now c.args.view.now.store c.args.changes.now c.args.tables.now row c.loop-place.place (count_in row c.loop-place.comes.entries)
+    (count_in row c.loop-place.goes.entries) (signed_count row found.items)
     (omega (arith, c.loop-place-test.false, c.loop-place.auto.place-end)) (c.loop-place.invariant.counts row) (change row))
     c.net_changes.ensures.change
 

@@ -21,13 +21,15 @@ bounds-outer-field-2 c =
 pub prefix_of-requires-clause-there : goal.prefix_of-requires-clause-there
 prefix_of-requires-clause-there c =
     let store = c.args.view.now.store in
-    let (stored, here, live) = live_at store c.args.outer.tables.now c.args.outer.refs.now c.requires c.args.field.place (record { part = 0; slot = 0 }) c.if-field-outer.false in
+    let (stored, here, live) = live_at store c.args.outer.tables.now c.args.outer.refs.now c.requires c.args.field.place (record { part = 0; slot = 0 })
+    c.if-field-outer.false in
     slice_get_within store.tables (get_or c.args.outer.tables.now c.args.field.place 0) stored here
 
 pub prefix_of-requires-clause-live : goal.prefix_of-requires-clause-live
 prefix_of-requires-clause-live c = λ stored here.
     let d : RowRef = record { part = 0; slot = 0 } in
-    let (found, there, live) = live_at c.args.view.now.store c.args.outer.tables.now c.args.outer.refs.now c.requires c.args.field.place d c.if-field-outer.false in
+    let (found, there, live) = live_at c.args.view.now.store c.args.outer.tables.now c.args.outer.refs.now c.requires c.args.field.place d
+    c.if-field-outer.false in
     subst (λ (s : StoredRows). IsLive s.places (get_or c.args.outer.refs.now c.args.field.place d)) (one_relation found stored (sym there ∙ here)) live
 
 pub returns : goal.returns

@@ -10,7 +10,8 @@ pub returns-in_err-name : goal.returns-in_err-name
 returns-in_err-name c =
     let p = err_from_is_err_and c.from_residual.result c.from_residual.ensures.1 in
     rw (p.1, p.2)
-    (scan_no_name c.args.reader.now c.skip_keyword-by_index.new.self c.skip_keyword-by_index.result c.skip_keyword-by_index.ensures _ (inl c.in_err-name.ensures))
+    (scan_no_name c.args.reader.now c.skip_keyword-by_index.new.self c.skip_keyword-by_index.result c.skip_keyword-by_index.ensures _
+    (inl c.in_err-name.ensures))
 
 pub returns-then-by_index : goal.returns-then-by_index
 returns-then-by_index c =

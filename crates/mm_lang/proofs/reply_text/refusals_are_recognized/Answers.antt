@@ -1,10 +1,15 @@
-use Rattle.std.proofs.Common.{◌+◌, ◌/◌, ◌%◌, ◌^◌, ◌<◌, ◌≤◌, sym, ◌∙◌, ◌≡◌, ◌≢◌, ◌⊎◌, inl, inr, true, List, ℕ, [], ◌∷◌, ◌++◌, codes, decimal, length, get_or, refl, ap, append_assoc, arith}
+use Rattle.std.proofs.Common.{◌+◌, ◌/◌, ◌%◌, ◌^◌, ◌<◌, ◌≤◌, sym, ◌∙◌, ◌≡◌, ◌≢◌, ◌⊎◌, inl, inr, true, List, ℕ, [], ◌∷◌, ◌++◌, codes, decimal, length, get_or}
+use Rattle.std.proofs.Common.{refl, ap, append_assoc, arith}
 use Rattle.std.proofs.lemmas.Fmt.{decimal_digit, decimal_step}
 use Rattle.std.specs.Char.{is_ascii_digit}
 use Rattle.std.specs.List.{flat_map}
 use Rattle.mm_value.specs.Refusals.{refusal_number, refusal_text}
 use Rattle.mm_value.specs.declared.refusal.Refusal.{Refusal}
-use Rattle.mm_value.specs.declared.refusal.Refusal.TheVariants.{LineTooLong, Syntax, NumberOutOfRange, TextTooLong, NoSuchTable, NoSuchColumn, NoSuchIndex, NoSuchStandingQuery, NameTaken, AliasTaken, NoSuchAlias, TypeMismatch, WrongNumberOfValues, ArithmeticOutOfRange, DuplicateKey, NoTargetRow, RowIsReferenced, InUse, TableFull, ResultTooLarge, StandingListTooLarge, TooMany, TransactionOpen, NoTransaction, NotInTransaction, NoSuchSavepoint, Memory}
+use Rattle.mm_value.specs.declared.refusal.Refusal.TheVariants.{LineTooLong, Syntax, NumberOutOfRange, TextTooLong, NoSuchTable, NoSuchColumn, NoSuchIndex}
+use Rattle.mm_value.specs.declared.refusal.Refusal.TheVariants.{NoSuchStandingQuery, NameTaken, AliasTaken, NoSuchAlias, TypeMismatch, WrongNumberOfValues}
+use Rattle.mm_value.specs.declared.refusal.Refusal.TheVariants.{ArithmeticOutOfRange, DuplicateKey, NoTargetRow, RowIsReferenced, InUse, TableFull}
+use Rattle.mm_value.specs.declared.refusal.Refusal.TheVariants.{ResultTooLarge, StandingListTooLarge, TooMany, TransactionOpen, NoTransaction}
+use Rattle.mm_value.specs.declared.refusal.Refusal.TheVariants.{NotInTransaction, NoSuchSavepoint, Memory}
 use Rattle.mm_query.specs.declared.plan_line.PlanLine.{PlanLine}
 use Rattle.mm_query.specs.declared.reply.Reply.{Reply}
 use Rattle.mm_query.specs.declared.reply.Reply.TheVariants.{Done, Count, Rows, Steps, Listing, Refused}
@@ -21,7 +26,8 @@ ends (Rows rows) = (flat_map row_line rows ++ codes "rows " ++ decimal (length r
 ends (Steps steps) = (flat_map (item_line line_text (codes "steps ")) steps ++ codes "steps " ++ decimal (length steps), refl)
 ends (Listing listing) = (
   flat_map table_lines listing.tables ++ flat_map query_line listing.standing ++ (codes "tables " ++ decimal (length listing.tables)),
-  sym (append_assoc (flat_map table_lines listing.tables ++ flat_map query_line listing.standing) (codes "tables " ++ decimal (length listing.tables)) (10 ∷ [])),
+  sym (append_assoc (flat_map table_lines listing.tables ++ flat_map query_line listing.standing) (codes "tables " ++ decimal (length listing.tables))
+      (10 ∷ [])),
 )
 ends (Refused refusal) = (codes "error " ++ decimal (refusal_number refusal) ++ 32 ∷ refusal_text refusal, refl)
 

@@ -1,6 +1,7 @@
 use Rattle.std.proofs.Common.{Err, Ok}
 use Rattle.std.proofs.lemmas.Result.{err_from_is_err_and}
-use Rattle.mm_lang.proofs.SelectReadings.{query_distinct, query_fields, query_from, query_tables, query_no_fields, query_no_from, query_no_tables, query_no_tests, query_no_order, query_given}
+use Rattle.mm_lang.proofs.SelectReadings.{query_distinct, query_fields, query_from, query_tables, query_no_fields, query_no_from, query_no_tables}
+use Rattle.mm_lang.proofs.SelectReadings.{query_no_tests, query_no_order, query_given}
 use Rattle.mm_lang.proofs.select.read_query.Goals as goal
 
 pub returns-in_err-fields : goal.returns-in_err-fields

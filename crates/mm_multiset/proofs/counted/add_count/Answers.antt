@@ -23,8 +23,10 @@ returns-then-is_new-clause-added c =
     let kept = c.change_found-is_new.ensures.kept lacks in
     let is = c.changed.ensures ∙ ap (λ z. pos 0 +ℤ z) (to_z-of_z w128 c.args.change c.ranges.change) in
     let updates = subst (λ m. Updates same_row m c.insert.new.self c.args.row (Some c.changed.result)) kept
-    (subst (λ r. OnOk r (Updates same_row c.change_found-is_new.new.counts c.insert.new.self c.args.row (Some c.changed.result))) c.unwrap.ensures c.insert.ensures.updates) in
-    let entries = subst (λ r. OnOk r (c.insert.new.self.entries ≡ insert_entry same_row c.change_found-is_new.new.counts.entries c.args.row c.changed.result)) c.unwrap.ensures c.insert.ensures.entries
+    (subst (λ r. OnOk r (Updates same_row c.change_found-is_new.new.counts c.insert.new.self c.args.row (Some c.changed.result))) c.unwrap.ensures
+    c.insert.ensures.updates) in
+    let entries = subst (λ r. OnOk r (c.insert.new.self.entries ≡ insert_entry same_row c.change_found-is_new.new.counts.entries c.args.row c.changed.result))
+    c.unwrap.ensures c.insert.ensures.entries
     ∙ ap (λ m. insert_entry same_row m.entries c.args.row c.changed.result) kept
     ∙ insert_entry-new same_row c.args.counts.now c.args.row c.changed.result none in
     adds_at_end c.args.row c.args.change c.args.counts.now.entries c.insert.new.self.entries c.changed.result updates.0 none is entries
@@ -36,8 +38,10 @@ returns-then-is_new-clause-total c =
     let kept = c.change_found-is_new.ensures.kept lacks in
     let is = c.changed.ensures ∙ ap (λ z. pos 0 +ℤ z) (to_z-of_z w128 c.args.change c.ranges.change) in
     let updates = subst (λ m. Updates same_row m c.insert.new.self c.args.row (Some c.changed.result)) kept
-    (subst (λ r. OnOk r (Updates same_row c.change_found-is_new.new.counts c.insert.new.self c.args.row (Some c.changed.result))) c.unwrap.ensures c.insert.ensures.updates) in
-    let entries = subst (λ r. OnOk r (c.insert.new.self.entries ≡ insert_entry same_row c.change_found-is_new.new.counts.entries c.args.row c.changed.result)) c.unwrap.ensures c.insert.ensures.entries
+    (subst (λ r. OnOk r (Updates same_row c.change_found-is_new.new.counts c.insert.new.self c.args.row (Some c.changed.result))) c.unwrap.ensures
+    c.insert.ensures.updates) in
+    let entries = subst (λ r. OnOk r (c.insert.new.self.entries ≡ insert_entry same_row c.change_found-is_new.new.counts.entries c.args.row c.changed.result))
+    c.unwrap.ensures c.insert.ensures.entries
     ∙ ap (λ m. insert_entry same_row m.entries c.args.row c.changed.result) kept
     ∙ insert_entry-new same_row c.args.counts.now c.args.row c.changed.result none in
     total_at_end c.args.row c.args.change c.args.counts.now.entries c.insert.new.self.entries c.changed.result updates.0 none is entries

@@ -65,7 +65,8 @@ loop-row-preserved c =
       | else-count-ne0-via-then-count-ne0+else-not-has_entry w ↦
           (let has : has_entry row comes ≡ true = sym w.has_entry.ensures ∙ w.if-not-has_entry.false in ap (λ b. cond b (pos 0) (neg_ℤ (pos count))) has)
       | else-count-ne0-via-else-count-ne0 w ↦
-          (let none : count ≡ 0 = w.if-count-ne0.false in ap (λ (n : ℕ). cond (has_entry row comes) (pos 0) (neg_ℤ (pos n))) none ∙ none_brought (has_entry row comes))
+          (let none : count ≡ 0 = w.if-count-ne0.false in ap (λ (n : ℕ). cond (has_entry row comes) (pos 0) (neg_ℤ (pos n))) none
+          ∙ none_brought (has_entry row comes))
     ] in
     passes_over (without_entry_in comes) all found (row, count) left passes nothing
 

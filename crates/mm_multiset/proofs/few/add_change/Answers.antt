@@ -14,7 +14,11 @@ returns-in-Some-clause-added c =
     let i = c.in-Some.i in
     on_ok_weaker c.add_at.result
     (λ added. added change
-    ∙ ap (λ (z : ℤ). set c.args.changes.now.items i (record { row = (get_or c.args.changes.now.items i change).row; count = (get_or c.args.changes.now.items i change).count +ℤ z }))
+    ∙ ap (λ (z : ℤ). set c.args.changes.now.items i (record {
+      row = (get_or c.args.changes.now.items i change).row;
+      count =
+          (get_or c.args.changes.now.items i change).count +ℤ z;
+    }))
     (to_z-of_z w128 change.count (small_fits change.count c.requires.change.0 c.requires.change.1))
     ∙ subst (λ (l : List Signed). set l i (record { row = (get_or l i change).row; count = (get_or l i change).count +ℤ change.count }) ≡ with_change change l)
     c.deref.ensures.value
@@ -25,4 +29,5 @@ pub returns-in_ok-push-in-None-clause-added : goal.returns-in_ok-push-in-None-cl
 returns-in_ok-push-in-None-clause-added c =
     let change = c.args.change in
     c.in_ok-push-in-None.ensures.items
-    ∙ subst (λ (l : List Signed). l ++ change ∷ [] ≡ with_change change l) c.deref.ensures.value (with_change_new change c.deref.result.now c.in-None.ensures.none)
+    ∙ subst (λ (l : List Signed). l ++ change ∷ [] ≡ with_change change l) c.deref.ensures.value
+    (with_change_new change c.deref.result.now c.in-None.ensures.none)

@@ -18,6 +18,7 @@ pub returns-else-is_empty-clause-change : goal.returns-else-is_empty-clause-chan
 returns-else-is_empty-clause-change c =
     IfOk-weaker c.merged-else-is_empty.result _ _
     (λ found sum row.
-    less (signed_count row found.items) (signed_count row c.turn.new.changes.items) (signed_count row c.args.comes.items) (signed_count row c.args.goes.items) (sum row)
+    less (signed_count row found.items) (signed_count row c.turn.new.changes.items) (signed_count row c.args.comes.items) (signed_count row c.args.goes.items)
+    (sum row)
     (ap (λ (xs : List Signed). signed_count row xs) c.turn.ensures ∙ signed_turned row c.args.goes.items))
     c.merged-else-is_empty.ensures.change

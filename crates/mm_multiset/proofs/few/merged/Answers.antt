@@ -31,7 +31,8 @@ add_change-requires-clause-known c = c.loop-change.invariant.are.small
 
 pub add_change-requires-clause-change : goal.add_change-requires-clause-change
 add_change-requires-clause-change c =
-    All-head small c.in-Some.change c.next.new.self.rest.items (subst (λ (xs : List Signed). All small xs) c.in-Some.ensures.steps.0 c.loop-change.invariant.left)
+    All-head small c.in-Some.change c.next.new.self.rest.items
+    (subst (λ (xs : List Signed). All small xs) c.in-Some.ensures.steps.0 c.loop-change.invariant.left)
 
 moved : (f g h s d t : ℤ) → f +ℤ s ≡ t → s ≡ d +ℤ g → h ≡ f +ℤ (d +ℤ pos 0) → h +ℤ g ≡ t
 moved f g h s d t e split sum = omega (arith, ints, e, split, sum)
@@ -48,7 +49,8 @@ loop-change-preserved c =
       ends = tt;
       size = omega (arith, sizes, steps.1, c.loop-change.invariant.size);
       are = record {
-        once = subst (λ (xs : List Signed). IsDistinct same_row (rows_changed xs)) (sym added) (once_with change c.loop-change.found.items c.loop-change.invariant.are.once);
+        once = subst (λ (xs : List Signed). IsDistinct same_row (rows_changed xs)) (sym added)
+            (once_with change c.loop-change.found.items c.loop-change.invariant.are.once);
         small = c.in_ok-add_change.ensures.small;
       };
       left = All-tail small change left (subst (λ (xs : List Signed). All small xs) steps.0 c.loop-change.invariant.left);
@@ -56,7 +58,8 @@ loop-change-preserved c =
           moved (signed_count row c.loop-change.found.items) (signed_count row left) (signed_count row c.add_change.new.changes.items)
           (signed_count row c.loop-change.change-iterator.rest.items) (cond (same_row row change.row) change.count (pos 0))
           (signed_count row c.args.first.items +ℤ signed_count row c.args.more.items) (c.loop-change.invariant.sum row)
-          (ap (λ (xs : List Signed). signed_count row xs) steps.0) (ap (λ (xs : List Signed). signed_count row xs) added ∙ signed_with row change c.loop-change.found.items);
+          (ap (λ (xs : List Signed). signed_count row xs) steps.0)
+          (ap (λ (xs : List Signed). signed_count row xs) added ∙ signed_with row change c.loop-change.found.items);
     }
 
 all_found : (f s t : ℤ) → f +ℤ s ≡ t → s ≡ pos 0 → f ≡ t
@@ -65,11 +68,13 @@ all_found f s t e none = omega (arith, ints, e, none)
 pub returns-clause-change : goal.returns-clause-change
 returns-clause-change c = λ row.
     let steps = c.in-None.ensures.steps in
-    let none : c.loop-change.change-iterator.rest.items ≡ [] = nothing c.loop-change.change-iterator.rest.items (omega (arith, steps.0, c.loop-change.invariant.size)) in
+    let none : c.loop-change.change-iterator.rest.items ≡ [] = nothing c.loop-change.change-iterator.rest.items
+    (omega (arith, steps.0, c.loop-change.invariant.size)) in
     ap (λ (xs : List Signed). signed_count row xs) c.drop_nothings.ensures
     ∙ signed_some row c.loop-change.found.items
     ∙ all_found (signed_count row c.loop-change.found.items) (signed_count row c.loop-change.change-iterator.rest.items)
-    (signed_count row c.args.first.items +ℤ signed_count row c.args.more.items) (c.loop-change.invariant.sum row) (ap (λ (xs : List Signed). signed_count row xs) none)
+    (signed_count row c.args.first.items +ℤ signed_count row c.args.more.items) (c.loop-change.invariant.sum row)
+    (ap (λ (xs : List Signed). signed_count row xs) none)
 
 pub returns-clause-net : goal.returns-clause-net
 returns-clause-net c = subst IsNet (sym c.drop_nothings.ensures) (net_some c.loop-change.found.items c.loop-change.invariant.are)

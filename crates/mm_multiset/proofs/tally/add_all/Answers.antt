@@ -60,6 +60,8 @@ all_added f s t e none = omega (arith, ints, e, none)
 pub returns-clause-added : goal.returns-clause-added
 returns-clause-added c = λ row.
     let steps = c.in-None.ensures.steps in
-    let none : c.loop-change.change-iterator.rest.items ≡ [] = nothing c.loop-change.change-iterator.rest.items (omega (arith, steps.0, c.loop-change.invariant.size)) in
+    let none : c.loop-change.change-iterator.rest.items ≡ [] = nothing c.loop-change.change-iterator.rest.items
+    (omega (arith, steps.0, c.loop-change.invariant.size)) in
     all_added (pos (count_in row c.loop-change.many.entries)) (signed_count row c.loop-change.change-iterator.rest.items)
-    (pos (count_in row c.args.many.now.entries) +ℤ signed_count row c.args.few.items) (c.loop-change.invariant.sum row) (ap (λ (xs : List Signed). signed_count row xs) none)
+    (pos (count_in row c.args.many.now.entries) +ℤ signed_count row c.args.few.items) (c.loop-change.invariant.sum row)
+    (ap (λ (xs : List Signed). signed_count row xs) none)

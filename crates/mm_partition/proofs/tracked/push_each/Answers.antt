@@ -21,10 +21,12 @@ loop-tracked-preserved c contents spare all =
     let swept = c.loop-tracked.invariant contents spare all in
     let here = swept.left c.loop-tracked.tracked-index c.tracked-item.result (omega arith) (omega arith) in
     Swept-more _ _ _ _ _ (omega arith)
-    (Tracks-pushed contents spare c.args.row.now c.prefix_in.result _ _ c.push_reserved.ensures.items c.push_reserved.ensures.capacity c.prefix_in.ensures here) swept
+    (Tracks-pushed contents spare c.args.row.now c.prefix_in.result _ _ c.push_reserved.ensures.items c.push_reserved.ensures.capacity c.prefix_in.ensures
+    here) swept
 
 pub returns : goal.returns
 returns c contents spare all =
     subst (All (Tracks (contents ++ Live c.args.row.now ∷ []) spare))
-    (sym (written_back c.loop-tracked.tracked-items _ c.args.columns.now.len (omega (arith, c.deref_mut-tracked-items.ensures.len, c.loop-tracked.auto.tracked-items))))
+    (sym (written_back c.loop-tracked.tracked-items _ c.args.columns.now.len
+    (omega (arith, c.deref_mut-tracked-items.ensures.len, c.loop-tracked.auto.tracked-items))))
     (Swept-all _ _ _ _ (omega arith) (c.loop-tracked.invariant contents spare all))

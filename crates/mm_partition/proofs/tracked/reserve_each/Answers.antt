@@ -14,7 +14,11 @@ pub returns-in_err-reserve-clause-stays : goal.returns-in_err-reserve-clause-sta
 returns-in_err-reserve-clause-stays c contents spare all =
     let swept = c.loop-tracked.invariant contents spare all in
     let here = swept.left c.loop-tracked.tracked-index c.tracked-item.result (omega arith) (omega arith) in
-    let stopped : Tracked = record { column = (get_or c.loop-tracked.tracked-items c.loop-tracked.tracked-index c.tracked-item.result).column; prefixes = c.reserve.new.self } in
+    let stopped : Tracked = record {
+      column = (get_or c.loop-tracked.tracked-items c.loop-tracked.tracked-index c.tracked-item.result).column;
+      prefixes =
+          c.reserve.new.self;
+    } in
     let items : List Tracked = set c.loop-tracked.tracked-items c.loop-tracked.tracked-index stopped in
     let size = length-set c.loop-tracked.tracked-items c.loop-tracked.tracked-index stopped in
     subst (All (Tracks contents spare))
@@ -40,11 +44,13 @@ loop-tracked-preserved c contents spare all =
 pub returns-clause-stays : goal.returns-clause-stays
 returns-clause-stays c contents spare all =
     subst (All (Tracks contents spare))
-    (sym (written_back c.loop-tracked.tracked-items _ c.args.columns.now.len (omega (arith, c.deref_mut-tracked-items.ensures.len, c.loop-tracked.auto.tracked-items))))
+    (sym (written_back c.loop-tracked.tracked-items _ c.args.columns.now.len
+    (omega (arith, c.deref_mut-tracked-items.ensures.len, c.loop-tracked.auto.tracked-items))))
     (λ k d h. (Swept-all _ _ _ _ (omega arith) (c.loop-tracked.invariant contents spare all) k d h).0)
 
 pub returns-clause-room : goal.returns-clause-room
 returns-clause-room c contents spare all =
     subst (All (Tracks contents c.args.n))
-    (sym (written_back c.loop-tracked.tracked-items _ c.args.columns.now.len (omega (arith, c.deref_mut-tracked-items.ensures.len, c.loop-tracked.auto.tracked-items))))
+    (sym (written_back c.loop-tracked.tracked-items _ c.args.columns.now.len
+    (omega (arith, c.deref_mut-tracked-items.ensures.len, c.loop-tracked.auto.tracked-items))))
     (λ k d h. (Swept-all _ _ _ _ (omega arith) (c.loop-tracked.invariant contents spare all) k d h).1)

@@ -25,5 +25,6 @@ loop-tracked-preserved c contents spare within all =
 pub returns : goal.returns
 returns c contents spare within all =
     subst (All (Tracks (set contents c.args.index (Live c.args.row.now)) spare))
-    (sym (written_back c.loop-tracked.tracked-items _ c.args.columns.now.len (omega (arith, c.deref_mut-tracked-items.ensures.len, c.loop-tracked.auto.tracked-items))))
+    (sym (written_back c.loop-tracked.tracked-items _ c.args.columns.now.len
+    (omega (arith, c.deref_mut-tracked-items.ensures.len, c.loop-tracked.auto.tracked-items))))
     (Swept-all _ _ _ _ (omega arith) (c.loop-tracked.invariant contents spare within all))

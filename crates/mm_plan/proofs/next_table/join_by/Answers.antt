@@ -53,7 +53,8 @@ returns-in-TreeJoin-clause-reads c = λ table next.
     let rows = rows_at store.tables table in
     let found = combo_rows store c.args.join.now.outer.now in
     let is = subst (λ (ts : List ℕ). HasKey atoms (length ts) atom (λ k. k ≡ key)) c.descriptor.ensures.tables c.key_at-key-in-TreeJoin.ensures.is in
-    let sums : sum_by (reads_each atoms (length outers) (step.TreeJoin c.in-TreeJoin.index atom) rows) found ≡ sum_by (reads_behind (has_sought key) rows) found =
+    let sums : sum_by (reads_each atoms (length outers) (step.TreeJoin c.in-TreeJoin.index atom) rows) found
+    ≡ sum_by (reads_behind (has_sought key) rows) found =
     reads_by_key atoms (length outers) atom key is has_sought rows found in
     let bound = c.look_up.ensures.reads table next in
     let by = λ (s : Step). c.look_up.new.view.reads ≤ c.args.view.now.reads + step_reads atoms (length outers) s rows found in

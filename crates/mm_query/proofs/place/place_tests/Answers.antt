@@ -17,7 +17,8 @@ loop-test-preserved c =
       placed = placed_next make (make c.args.tests) c.loop-test.atoms c.push.new.self items rest c.in-Some.test c.place_test.result
           c.loop-test.invariant.placed c.in-Some.ensures.steps c.in_ok-push.ensures.ok (ap (λ y. y ∷ make rest) (sym c.place_test.ensures.place));
       faults = c.loop-test.invariant.faults
-          ∙ noted_next (atom_lacks_column columns) mismatch (λ _. false) items rest c.in-Some.test false c.loop-test.faults c.place_test.new.faults c.in-Some.ensures.steps refl
+          ∙ noted_next (atom_lacks_column columns) mismatch (λ _. false) items rest c.in-Some.test false c.loop-test.faults c.place_test.new.faults
+          c.in-Some.ensures.steps refl
           c.place_test.ensures.faults;
     }
 
@@ -34,4 +35,5 @@ returns-clause-faults c =
     let columns = c.args.columns.now in
     let make : List (Atom (List ℕ)) → List (Atom FieldPlace) = λ l. map (mapped_atom at_first) (map (placed_atom columns) l) in
     let mismatch : Atom (List ℕ) → Bool = λ x. mismatches (type_named columns) x.left x.right in
-    sym (c.loop-test.invariant.faults ∙ noted_all (atom_lacks_column columns) mismatch (λ _. false) c.loop-test.test-iterator c.loop-test.faults c.in-None.ensures.steps.0 refl)
+    sym (c.loop-test.invariant.faults ∙ noted_all (atom_lacks_column columns) mismatch (λ _. false) c.loop-test.test-iterator c.loop-test.faults
+    c.in-None.ensures.steps.0 refl)

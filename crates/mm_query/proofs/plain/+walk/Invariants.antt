@@ -13,5 +13,6 @@ invariant-loop-row l = record {
   chosen : l.chosen.items ≡ l.fn.chosen.items;
   small : length l.found.items ≤ most_rows;
   found : l.found.items ≡ l.fn.found.items
-      ++ flat_map (λ row. found_behind l.query (map option_copied l.fn.chosen.items ++ Some row ∷ []) (map (λ rows. rows.now) l.rest)) (take l.row-index l.rows);
+      ++ flat_map (λ row. found_behind l.query (map option_copied l.fn.chosen.items ++ Some row ∷ []) (map (λ rows. rows.now) l.rest))
+      (take l.row-index l.rows);
 }

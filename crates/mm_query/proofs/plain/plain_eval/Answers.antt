@@ -13,7 +13,8 @@ returns-in_err-walk-clause-due c =
     let query = c.args.query.now in
     let bag : c.new-found.result.items
     ++ found_behind query (map option_copied c.in_ok-chosen.chosen.items) (map (λ rows. rows.now) c.as_slice-lists.result.now) ≡ bag_of query c.args.rows.now =
-    (λ i. c.new-found.ensures.items i ++ found_behind query (map option_copied (c.in_ok-chosen.ensures.items i)) (map (λ rows. rows.now) (c.as_slice-lists.ensures.value i)))
+    (λ i. c.new-found.ensures.items i ++ found_behind query (map option_copied (c.in_ok-chosen.ensures.items i))
+    (map (λ rows. rows.now) (c.as_slice-lists.ensures.value i)))
     ∙ (found_is_bag query (map (λ rows. rows.now) c.rows.inside.lists.items) ∙ ap (bag_of query) c.rows.view_is) in
     rw (p.1, p.2) (elim c.in_err-walk.ensures.due [ inl due ↦ inl (ap (λ l. first_refusal (size_conditions l)) (sym bag) ∙ due) | inr memory ↦ inr memory ])
 
@@ -22,7 +23,8 @@ returns-clause-due c =
     let query = c.args.query.now in
     let bag : c.new-found.result.items
     ++ found_behind query (map option_copied c.in_ok-chosen.chosen.items) (map (λ rows. rows.now) c.as_slice-lists.result.now) ≡ bag_of query c.args.rows.now =
-    (λ i. c.new-found.ensures.items i ++ found_behind query (map option_copied (c.in_ok-chosen.ensures.items i)) (map (λ rows. rows.now) (c.as_slice-lists.ensures.value i)))
+    (λ i. c.new-found.ensures.items i ++ found_behind query (map option_copied (c.in_ok-chosen.ensures.items i))
+    (map (λ rows. rows.now) (c.as_slice-lists.ensures.value i)))
     ∙ (found_is_bag query (map (λ rows. rows.now) c.rows.inside.lists.items) ∙ ap (bag_of query) c.rows.view_is) in
     ap (λ l. first_refusal (size_conditions l)) (sym bag) ∙ c.in_ok-walk.ensures.due
 
@@ -30,5 +32,6 @@ pub returns-clause-ok : goal.returns-clause-ok
 returns-clause-ok c =
     let query = c.args.query.now in
     c.in_ok-walk.ensures.ok
-    ∙ ((λ i. c.new-found.ensures.items i ++ found_behind query (map option_copied (c.in_ok-chosen.ensures.items i)) (map (λ rows. rows.now) (c.as_slice-lists.ensures.value i)))
+    ∙ ((λ i. c.new-found.ensures.items i ++ found_behind query (map option_copied (c.in_ok-chosen.ensures.items i))
+    (map (λ rows. rows.now) (c.as_slice-lists.ensures.value i)))
     ∙ (found_is_bag query (map (λ rows. rows.now) c.rows.inside.lists.items) ∙ ap (bag_of query) c.rows.view_is))

@@ -32,7 +32,8 @@ loop-edit-preserved c =
     elim c.match-moved_name.branch [
       | in-Some+in_ok-push w ↦
           let more : moving edit_name edit_other c.args.key c.args.key (slot_at c.args.places.now) Old (take (c.loop-edit.edit-index + 1) c.args.edits.now)
-          ≡ moving edit_name edit_other c.args.key c.args.key (slot_at c.args.places.now) Old (take c.loop-edit.edit-index c.args.edits.now) ++ w.in-Some.at ∷ [] =
+          ≡ moving edit_name edit_other c.args.key c.args.key (slot_at c.args.places.now) Old (take c.loop-edit.edit-index c.args.edits.now) ++ w.in-Some.at ∷
+          [] =
           gathered_some (λ e. moved edit_name edit_other c.args.key c.args.key (slot_at c.args.places.now) e Old) c.args.edits.now c.loop-edit.edit-index
           c.edit-item.result w.in-Some.at c.loop-edit-test.true c.edit-item.is
           (sym c.moved_name.ensures ∙ w.in-Some.is) in
@@ -40,11 +41,14 @@ loop-edit-preserved c =
           (ap rows_of w.in_ok-push.ensures.items
           ∙ (map_push (λ r. r.now) c.loop-edit.rows.items w.get.result
           ∙ (ap (λ xs. xs ++ w.get.result.now ∷ []) c.loop-edit.invariant
-          ∙ (ap (λ x. map f (moving edit_name edit_other c.args.key c.args.key (slot_at c.args.places.now) Old (take c.loop-edit.edit-index c.args.edits.now)) ++ x ∷ []) (sym (ap row_in w.get.ensures))
-          ∙ (sym (map_push f (moving edit_name edit_other c.args.key c.args.key (slot_at c.args.places.now) Old (take c.loop-edit.edit-index c.args.edits.now)) w.in-Some.at) ∙ ap (λ xs. map f xs) (sym more))))))
+          ∙ (ap (λ x. map f (moving edit_name edit_other c.args.key c.args.key (slot_at c.args.places.now) Old (take c.loop-edit.edit-index c.args.edits.now))
+          ++ x ∷ []) (sym (ap row_in w.get.ensures))
+          ∙ (sym (map_push f (moving edit_name edit_other c.args.key c.args.key (slot_at c.args.places.now) Old
+          (take c.loop-edit.edit-index c.args.edits.now)) w.in-Some.at) ∙ ap (λ xs. map f xs) (sym more))))))
       | in_default w ↦
           rw w.rows-is
           (c.loop-edit.invariant
-          ∙ ap (λ xs. map f xs) (sym (gathered_none (λ e. moved edit_name edit_other c.args.key c.args.key (slot_at c.args.places.now) e Old) c.args.edits.now c.loop-edit.edit-index c.edit-item.result c.loop-edit-test.true
+          ∙ ap (λ xs. map f xs) (sym (gathered_none (λ e. moved edit_name edit_other c.args.key c.args.key (slot_at c.args.places.now) e Old) c.args.edits.now
+          c.loop-edit.edit-index c.edit-item.result c.loop-edit-test.true
           c.edit-item.is (sym c.moved_name.ensures ∙ w.in_default.is))))
     ]

@@ -17,7 +17,8 @@ returns-clause-ordered c =
     let list : List Sortable = c.in_ok-list.list.items in
     let sorted : List Sortable = c.sort.new.list.items in
     let moved : IsPermutation c.args.refs.now (map ref_of sorted) =
-    subst (λ (xs : List RowRef). IsPermutation xs (map ref_of sorted)) c.in_ok-list.ensures.refs (IsPermutation-map ref_of list sorted c.sort.ensures.permutation)
+    subst (λ (xs : List RowRef). IsPermutation xs (map ref_of sorted)) c.in_ok-list.ensures.refs
+    (IsPermutation-map ref_of list sorted c.sort.ensures.permutation)
     in
     let ordered : InOrder c.args.column c.args.key now (map ref_of sorted) =
     InOrder-sorted c.args.column c.args.key now sorted
@@ -32,7 +33,8 @@ returns-clause-same c =
     let list : List Sortable = c.in_ok-list.list.items in
     let sorted : List Sortable = c.sort.new.list.items in
     let moved : IsPermutation c.args.refs.now (map ref_of sorted) =
-    subst (λ (xs : List RowRef). IsPermutation xs (map ref_of sorted)) c.in_ok-list.ensures.refs (IsPermutation-map ref_of list sorted c.sort.ensures.permutation)
+    subst (λ (xs : List RowRef). IsPermutation xs (map ref_of sorted)) c.in_ok-list.ensures.refs
+    (IsPermutation-map ref_of list sorted c.sort.ensures.permutation)
     in
     IfOk-weaker c.refs_of.result _ _
     (λ refs made. subst (λ (xs : List RowRef). IsPermutation xs c.args.refs.now) (sym (made ∙ ap (map ref_of) c.as_slice.ensures.value))

@@ -10,7 +10,8 @@ loop-name-preserved c =
     let a = near.0 in
     let b = near.1 in
     record {
-      followed = follow_more c.args.query.now c.args.place c.args.row.now c.args.cycle.now c.loop-name.name-index _ _ c.loop-name.now c.in-Some-advance.next c.advance.result
+      followed = follow_more c.args.query.now c.args.place c.args.row.now c.args.cycle.now c.loop-name.name-index _ _ c.loop-name.now c.in-Some-advance.next
+          c.advance.result
           c.loop-name-test.true c.loop-name.invariant.followed c.advance.ensures.value c.in-Some-advance.is;
       high = omega (arith, ints);
       low = omega (arith, ints);
@@ -32,5 +33,7 @@ pub returns : goal.returns
 returns c =
     let s : 1 ≤ length c.args.cycle.now = omega arith in
     through c.closes.result _ _ c.closes.ensures
-    (closed c.args.query.now c.args.place c.args.row.now c.args.cycle.now _ _ c.in-Some.first _ c.loop-name.now s (omega arith) refl (sym c.in-Some.ensures.value) refl
-    (follow_ends c.args.query.now c.args.place c.args.row.now c.args.cycle.now c.loop-name.name-index _ c.loop-name.now c.loop-name-test.false c.loop-name.invariant.followed))
+    (closed c.args.query.now c.args.place c.args.row.now c.args.cycle.now _ _ c.in-Some.first _ c.loop-name.now s (omega arith) refl
+    (sym c.in-Some.ensures.value) refl
+    (follow_ends c.args.query.now c.args.place c.args.row.now c.args.cycle.now c.loop-name.name-index _ c.loop-name.now c.loop-name-test.false
+    c.loop-name.invariant.followed))

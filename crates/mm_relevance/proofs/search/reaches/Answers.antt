@@ -4,7 +4,8 @@ use Rattle.mm_relevance.proofs.Closing.{fits_at, next_is, last_is}
 use Rattle.mm_relevance.proofs.search.reaches.Goals as goal
 
 pub stepped-requires : goal.stepped-requires
-stepped-requires c = fits_at c.args.edges.now c.args.target c.loop-done.done c.deref.result.now (c.deref.ensures.value ∙ c.loop-done.invariant) (omega arith) c.requires.near
+stepped-requires c = fits_at c.args.edges.now c.args.target c.loop-done.done c.deref.result.now (c.deref.ensures.value ∙ c.loop-done.invariant) (omega arith)
+    c.requires.near
 
 pub returns-in-None : goal.returns-in-None
 returns-in-None c =

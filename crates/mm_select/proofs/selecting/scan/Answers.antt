@@ -64,7 +64,8 @@ returns-clause-reads c =
     let (stored, here) = some_at store.tables c.args.table c.requires in
     omega (
       arith,
-      walk_counted store c.args.table stored here c.walk-at-items.result (ap (map (row_at (slot_at stored.places))) (c.walk-at-items.ensures.keys refl stored here)),
+      walk_counted store c.args.table stored here c.walk-at-items.result
+          (ap (map (row_at (slot_at stored.places))) (c.walk-at-items.ensures.keys refl stored here)),
       ap length c.into_iter-at-iterator.ensures.into_iter_gives,
       ap length c.loop-at.invariant.split,
       length-append c.loop-at.yielded c.loop-at.at-iterator,
@@ -77,7 +78,8 @@ returns-in_err-push-clause-reads c =
     let (stored, here) = some_at store.tables c.args.table c.requires in
     omega (
       arith,
-      walk_counted store c.args.table stored here c.walk-at-items.result (ap (map (row_at (slot_at stored.places))) (c.walk-at-items.ensures.keys refl stored here)),
+      walk_counted store c.args.table stored here c.walk-at-items.result
+          (ap (map (row_at (slot_at stored.places))) (c.walk-at-items.ensures.keys refl stored here)),
       ap length c.into_iter-at-iterator.ensures.into_iter_gives,
       ap length c.loop-at.invariant.split,
       ap length c.in-Some.ensures.steps,

@@ -19,7 +19,8 @@ pub add_found-requires-clause-count : goal.add_found-requires-clause-count
 add_found-requires-clause-count c =
     let bags = c.args.bags.now.items in
     let here = entries_here bags c.args.change.now.list c.index_mut.result.now c.index_mut.result.now c.requires.found.0 c.index_mut.ensures.value in
-    subst (λ (es : Entries). pos 0 ≤ℤ (pos (count_in c.args.change.now.change.row es) +ℤ c.args.change.now.change.count)) here (count_here bags c.args.change.now c.requires.within)
+    subst (λ (es : Entries). pos 0 ≤ℤ (pos (count_in c.args.change.now.change.row es) +ℤ c.args.change.now.change.count)) here
+    (count_here bags c.args.change.now c.requires.within)
 
 pub add_found-requires-clause-total : goal.add_found-requires-clause-total
 add_found-requires-clause-total c =

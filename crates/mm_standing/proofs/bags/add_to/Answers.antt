@@ -17,7 +17,8 @@ pub add-requires-clause-count : goal.add-requires-clause-count
 add-requires-clause-count c =
     let bags = c.args.bags.now.items in
     let here = entries_here bags c.args.change.list c.index_mut.result.now c.index_mut.result.now c.requires.there c.index_mut.ensures.value in
-    subst (λ (es : Entries). pos 0 ≤ℤ (pos (count_in c.args.change.change.row es) +ℤ c.args.change.change.count)) here (count_here bags c.args.change c.requires.within)
+    subst (λ (es : Entries). pos 0 ≤ℤ (pos (count_in c.args.change.change.row es) +ℤ c.args.change.change.count)) here
+    (count_here bags c.args.change c.requires.within)
 
 pub add-requires-clause-total : goal.add-requires-clause-total
 add-requires-clause-total c =

@@ -22,15 +22,18 @@ sound_with c =
 
 pub add_to-is_new-requires-clause-there : goal.add_to-is_new-requires-clause-there
 add_to-is_new-requires-clause-there c =
-    next_there c.loop-next.bags.items c.pop.new.self.items c.in-Some.next (undos c.loop-next.log.items) (sound_with (goal.at.add_to-is_new-requires-clause-there c).In-Some)
+    next_there c.loop-next.bags.items c.pop.new.self.items c.in-Some.next (undos c.loop-next.log.items)
+    (sound_with (goal.at.add_to-is_new-requires-clause-there c).In-Some)
 
 pub add_to-is_new-requires-clause-room : goal.add_to-is_new-requires-clause-room
 add_to-is_new-requires-clause-room c =
-    inr (next_room c.loop-next.bags.items c.pop.new.self.items c.in-Some.next (undos c.loop-next.log.items) (sound_with (goal.at.add_to-is_new-requires-clause-room c).In-Some))
+    inr (next_room c.loop-next.bags.items c.pop.new.self.items c.in-Some.next (undos c.loop-next.log.items)
+    (sound_with (goal.at.add_to-is_new-requires-clause-room c).In-Some))
 
 pub add_to-is_new-requires-clause-within : goal.add_to-is_new-requires-clause-within
 add_to-is_new-requires-clause-within c =
-    next_within c.loop-next.bags.items c.pop.new.self.items c.in-Some.next (undos c.loop-next.log.items) (sound_with (goal.at.add_to-is_new-requires-clause-within c).In-Some)
+    next_within c.loop-next.bags.items c.pop.new.self.items c.in-Some.next (undos c.loop-next.log.items)
+    (sound_with (goal.at.add_to-is_new-requires-clause-within c).In-Some)
 
 pub loop-next-preserved : goal.loop-next-preserved
 loop-next-preserved c =

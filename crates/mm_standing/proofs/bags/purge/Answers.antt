@@ -39,7 +39,8 @@ loop-made-preserved c =
     let purges = c.purge_row.ensures in
     let so_far = c.loop-made.invariant in
     record {
-      there = All-weaker (λ (d : ListChange). d.list < length bags) (λ (d : ListChange). d.list < length new) (λ d h. omega (arith, h, purges.size)) (undos rest)
+      there = All-weaker (λ (d : ListChange). d.list < length bags) (λ (d : ListChange). d.list < length new) (λ d h. omega (arith, h, purges.size))
+          (undos rest)
           (places (goal.at.loop-made-preserved c).In-Some).0;
       counts = λ list row. purges.counts list row ∙ so_far.counts list row;
       totals = λ list. purges.totals list ∙ so_far.totals list;

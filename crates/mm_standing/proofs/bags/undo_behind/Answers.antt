@@ -15,16 +15,19 @@ use Rattle.mm_standing.proofs.bags.undo_behind.Goals.{After-index-log-left}
 split : (log : List UndoRecord) (left : ℕ) (made : UndoRecord) → 0 < left → left ≤ length log → made ≡ get_or log (left - 1) made
     → take left log ≡ take (left - 1) log ++ made ∷ []
 split log left made some within is =
-    ap (λ n. take n log) (omega (arith, some)) ∙ (take_at_read log (left - 1) made (omega (arith, some, within))).1 ∙ ap (λ m. take (left - 1) log ++ m ∷ []) (sym is)
+    ap (λ n. take n log) (omega (arith, some)) ∙ (take_at_read log (left - 1) made (omega (arith, some, within))).1
+    ∙ ap (λ m. take (left - 1) log ++ m ∷ []) (sym is)
 
 parts : (c : After-index-log-left) → take c.loop-left.left c.args.log.now ≡ take (c.loop-left.left - 1) c.args.log.now ++ c.index-log-left.result ∷ []
 parts c =
     let test = c.loop-left-test.true in
     split c.args.log.now c.loop-left.left c.index-log-left.result (omega (arith, test)) c.loop-left.invariant.most c.index-log-left.is
 
-sound_with : (c : After-index-log-left) → IsSound c.loop-left.bags.items [] (undos (take (c.loop-left.left - 1) c.args.log.now) ++ c.index-log-left.result.undo ∷ [])
+sound_with : (c : After-index-log-left) → IsSound c.loop-left.bags.items []
+    (undos (take (c.loop-left.left - 1) c.args.log.now) ++ c.index-log-left.result.undo ∷ [])
 sound_with c =
-    subst (IsSound c.loop-left.bags.items []) (ap (λ (l : List UndoRecord). undos l) (parts c) ∙ joined (take (c.loop-left.left - 1) c.args.log.now) c.index-log-left.result)
+    subst (IsSound c.loop-left.bags.items []) (ap (λ (l : List UndoRecord). undos l) (parts c)
+    ∙ joined (take (c.loop-left.left - 1) c.args.log.now) c.index-log-left.result)
     c.loop-left.invariant.sound
 
 pub loop-left-init : goal.loop-left-init
@@ -41,11 +44,13 @@ loop-left-init c =
 
 pub undo-requires-clause-found : goal.undo-requires-clause-found
 undo-requires-clause-found c =
-    newest_entry c.loop-left.bags.items (undos (take (c.loop-left.left - 1) c.args.log.now)) c.index-log-left.result.undo (sound_with (goal.at.undo-requires-clause-found c).After-index-log-left)
+    newest_entry c.loop-left.bags.items (undos (take (c.loop-left.left - 1) c.args.log.now)) c.index-log-left.result.undo
+    (sound_with (goal.at.undo-requires-clause-found c).After-index-log-left)
 
 pub undo-requires-clause-within : goal.undo-requires-clause-within
 undo-requires-clause-within c =
-    newest_within c.loop-left.bags.items (undos (take (c.loop-left.left - 1) c.args.log.now)) c.index-log-left.result.undo (sound_with (goal.at.undo-requires-clause-within c).After-index-log-left)
+    newest_within c.loop-left.bags.items (undos (take (c.loop-left.left - 1) c.args.log.now)) c.index-log-left.result.undo
+    (sound_with (goal.at.undo-requires-clause-within c).After-index-log-left)
 
 pub loop-left-preserved : goal.loop-left-preserved
 loop-left-preserved c =
@@ -71,7 +76,8 @@ loop-left-preserved c =
       counts = λ earlier within list row.
           same_with rest made bags added new recorded adds purges (drop earlier (undos rest)) list row
           ∙ count_moved made.undo bags added adds (drop earlier (undos rest)) list row
-          ∙ ap (λ (cs : List ListChange). count_with bags cs list row) (sym (drop-append-le earlier (undos rest) (made.undo ∷ []) (omega (arith, within, long))))
+          ∙ ap (λ (cs : List ListChange). count_with bags cs list row)
+          (sym (drop-append-le earlier (undos rest) (made.undo ∷ []) (omega (arith, within, long))))
           ∙ ap (λ (cs : List ListChange). count_with bags (drop earlier cs) list row) (sym (joined rest made))
           ∙ ap (λ (l : List UndoRecord). count_with bags (drop earlier (undos l)) list row) (sym is)
           ∙ so_far.counts earlier (omega (arith, within)) list row;

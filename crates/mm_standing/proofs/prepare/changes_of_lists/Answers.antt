@@ -1,5 +1,6 @@
 -- One list more has its changes, or is too large.
-use Rattle.std.proofs.Common.{◌≡◌, ◌+◌, ◌+ℤ◌, ◌<◌, ◌≤◌, ◌≤ℤ◌, ◌⊎◌, inl, inr, ℕ, Bool, true, false, cond, true≢false, add-one, is_some, List, Some, None, get_or, length, pos, take, refl, sym, ap, ◌∙◌, subst, arith}
+use Rattle.std.proofs.Common.{◌≡◌, ◌+◌, ◌+ℤ◌, ◌<◌, ◌≤◌, ◌≤ℤ◌, ◌⊎◌, inl, inr, ℕ, Bool, true, false, cond, true≢false, add-one, is_some, List, Some, None}
+use Rattle.std.proofs.Common.{get_or, length, pos, take, refl, sym, ap, ◌∙◌, subst, arith}
 use Rattle.std.specs.List.{All, list_any, sum_by}
 use Rattle.std.proofs.lemmas.Int.{ints}
 use Rattle.std.proofs.lemmas.List.{take_all}
@@ -68,7 +69,8 @@ reads_within f queries list query now was first one inside is more same so_far =
 pub returns-in_err-changed-clause-reads : goal.returns-in_err-changed-clause-reads
 returns-in_err-changed-clause-reads c =
     λ skipped cyclic.
-    (reads_within (query_reads c.args.view.now.store c.args.changes.now skipped) c.args.queries.now c.loop-list.list c.index-queries-list.result _ c.loop-list.view.reads c.args.view.now.reads _
+    (reads_within (query_reads c.args.view.now.store c.args.changes.now skipped) c.args.queries.now c.loop-list.list c.index-queries-list.result _
+    c.loop-list.view.reads c.args.view.now.reads _
     c.loop-list-test.true c.index-queries-list.is (c.changes_of_list.ensures.reads skipped cyclic)
     (ap (λ (s : Tables). query_reads s c.args.changes.now skipped c.index-queries-list.result) c.loop-list.invariant.same)
     (c.loop-list.invariant.reads skipped cyclic)).1
@@ -76,7 +78,8 @@ returns-in_err-changed-clause-reads c =
 pub returns-in_err-push_changes-clause-reads : goal.returns-in_err-push_changes-clause-reads
 returns-in_err-push_changes-clause-reads c =
     λ skipped cyclic.
-    (reads_within (query_reads c.args.view.now.store c.args.changes.now skipped) c.args.queries.now c.loop-list.list c.index-queries-list.result _ c.loop-list.view.reads c.args.view.now.reads _
+    (reads_within (query_reads c.args.view.now.store c.args.changes.now skipped) c.args.queries.now c.loop-list.list c.index-queries-list.result _
+    c.loop-list.view.reads c.args.view.now.reads _
     c.loop-list-test.true c.index-queries-list.is (c.changes_of_list.ensures.reads skipped cyclic)
     (ap (λ (s : Tables). query_reads s c.args.changes.now skipped c.index-queries-list.result) c.loop-list.invariant.same)
     (c.loop-list.invariant.reads skipped cyclic)).1
@@ -87,7 +90,8 @@ changes_of_list-requires-clause-edits c =
 
 pub changes_of_list-requires-clause-typed : goal.changes_of_list-requires-clause-typed
 changes_of_list-requires-clause-typed c =
-    subst (λ (s : Tables). IsTypeTested c.index-queries-list.result.query s c.args.changes.now c.index-queries-list.result.tables) (sym c.loop-list.invariant.same)
+    subst (λ (s : Tables). IsTypeTested c.index-queries-list.result.query s c.args.changes.now c.index-queries-list.result.tables)
+    (sym c.loop-list.invariant.same)
     (subst (λ (q : StandingQuery). IsTypeTested q.query c.args.view.now.store c.args.changes.now q.tables) (sym c.index-queries-list.is)
     (c.requires.typed c.loop-list.list c.index-queries-list.result c.loop-list-test.true))
 
@@ -137,7 +141,8 @@ loop-list-preserved c =
     subst (λ (s : Tables). Brings changed bag.entries (bag_over (after_at s c.args.changes.now) query)) so_far.same c.in_ok-changed.ensures.brings in
     let few : is_too_large (over query) ≡ false =
     allowed (is_too_large (over query))
-    (subst (λ (s : Tables). cond (is_too_large (bag_over (after_at s c.args.changes.now) query)) (Some StandingListTooLarge) None ≡ None) so_far.same c.in_ok-changed.ensures.due) in
+    (subst (λ (s : Tables). cond (is_too_large (bag_over (after_at s c.args.changes.now) query)) (Some StandingListTooLarge) None ≡ None) so_far.same
+    c.in_ok-changed.ensures.due) in
     record {
       stage = subst (IsStage bags queries over (list + 1)) (sym c.in_ok-push_changes.ensures.ok)
           (stage_more bags queries over list c.loop-list.found.items bag query changed so_far.stage there c.index-bags-list.is at brings);
@@ -162,7 +167,8 @@ pub returns-clause-reads : goal.returns-clause-reads
 returns-clause-reads c =
     let all = take_all c.loop-list.list c.args.queries.now c.loop-list-test.false in
     λ skipped cyclic.
-    subst (λ (qs : List StandingQuery). c.loop-list.view.reads ≤ c.args.view.now.reads + sum_by (query_reads c.args.view.now.store c.args.changes.now skipped) qs) all
+    subst (λ (qs : List StandingQuery). c.loop-list.view.reads ≤ c.args.view.now.reads + sum_by (query_reads c.args.view.now.store c.args.changes.now skipped)
+    qs) all
     (c.loop-list.invariant.reads skipped cyclic)
 
 pub returns-clause-counts : goal.returns-clause-counts

@@ -12,7 +12,8 @@ overflow_add-index_mut c =
     let i = c.loop-change.change-index in
     let item = c.change-item.result in
     let numbers = c.loop-change.numbers.items in
-    let there : item.list < c.args.lists = subst (λ (x : ListChange). x.list < c.args.lists) (sym c.change-item.is) (c.requires i item c.loop-change-test.true) in
+    let there : item.list < c.args.lists = subst (λ (x : ListChange). x.list < c.args.lists) (sym c.change-item.is)
+    (c.requires i item c.loop-change-test.true) in
     let size = c.loop-change.invariant.size in
     let read : c.index_mut.result.now ≡ slice_index numbers item.list =
     c.index_mut.ensures.value ∙ get_or_default numbers item.list c.index_mut.result.now 0 (omega (arith, there, size)) in

@@ -27,7 +27,8 @@ loop-i-preserved c =
     λ d. c.index.ensures ∙ get_or_default changes c.loop-i.i c.index.result.now d within in
     elim c.if-index-gt0.branch [
       | goal.then-index-gt0 w ↦ rw (w.changes-is, w.gains-is) (record {
-        moved = IsPermutation-trans _ _ _ so_far.moved (IsPermutation-swap changes w.swap.new.self.items c.loop-i.gains c.loop-i.i (omega (arith, behind, within)) within w.swap.ensures.items);
+        moved = IsPermutation-trans _ _ _ so_far.moved (IsPermutation-swap changes w.swap.new.self.items c.loop-i.gains c.loop-i.i
+            (omega (arith, behind, within)) within w.swap.ensures.items);
         parted = parted_gain changes w.swap.new.self.items c.loop-i.gains c.loop-i.i behind w.swap.ensures.by_index
             (λ d. subst (λ (x : Signed). pos 0 ≤ℤ x.count) (is d) (let pass = w.if-index-gt0.true in omega (arith, ints, pass))) so_far.parted;
         behind = omega (arith, behind);

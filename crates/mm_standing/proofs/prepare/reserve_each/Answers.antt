@@ -17,7 +17,8 @@ returns-in_err-reserve-clause-kept c = λ k.
     let sizes = c.requires in
     let inside = c.loop-list-test.true in
     let within : c.loop-list.list < length c.loop-list.bags.items = omega (arith, same, sizes, inside) in
-    let grown = room_grown c.loop-list.bags.items c.loop-list.list c.index_mut.result.now c.reserve.new.self within c.index_mut.ensures.value c.reserve.ensures.kept k in
+    let grown = room_grown c.loop-list.bags.items c.loop-list.list c.index_mut.result.now c.reserve.new.self within c.index_mut.ensures.value
+    c.reserve.ensures.kept k in
     let so_far = c.loop-list.invariant.kept k in
     omega (arith, grown, so_far)
 
@@ -33,7 +34,8 @@ loop-list-preserved c =
     let within : at < length bags = omega (arith, same, sizes, inside) in
     let is = c.index_mut.ensures.value in
     record {
-      entries = map-set_same (λ (b : Counts). b.entries) bags at new bag (c.reserve.ensures.entries ∙ ap (λ (b : Counts). b.entries) is) ∙ c.loop-list.invariant.entries;
+      entries = map-set_same (λ (b : Counts). b.entries) bags at new bag (c.reserve.ensures.entries ∙ ap (λ (b : Counts). b.entries) is)
+          ∙ c.loop-list.invariant.entries;
       kept = λ k.
           let grown = room_grown bags at bag new within is c.reserve.ensures.kept k in
           let so_far = c.loop-list.invariant.kept k in

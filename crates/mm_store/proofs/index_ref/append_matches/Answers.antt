@@ -9,5 +9,6 @@ returns-in-Tree-clause-ok c =
     let stored = c.args.relation.now in
     on_ok_weaker c.tree_range.result
     (λ each column on.
-    appends_matches column stored c.args.value.now c.args.out.now.items c.tree_range.new.out.items (each column (subst (IsIndexOn stored column) c.in-Tree.is on)))
+    appends_matches column stored c.args.value.now c.args.out.now.items c.tree_range.new.out.items
+    (each column (subst (IsIndexOn stored column) c.in-Tree.is on)))
     c.tree_range.ensures.ok

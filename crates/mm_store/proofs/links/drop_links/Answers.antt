@@ -18,7 +18,8 @@ returns c =
     ran.4 ∙ kept_is _ test _ (λ x b q k. search (rules, tests)) ran.0 c.args.links.now.items ran.1 ran.2 ran.3 in
     let turned : EachTurns (HasMovedUp c.args.table) kept c.loop-link.link-items =
     subst (λ (start : List Link). EachTurns (HasMovedUp c.args.table) start c.loop-link.link-items) c.deref_mut-link-items.ensures.value
-    (record { size = c.loop-link.invariant.size; each = λ k d within. c.loop-link.invariant.done k d (omega (arith, within, c.loop-link-test.false)) within }) in (
+    (record { size = c.loop-link.invariant.size; each = λ k d within. c.loop-link.invariant.done k d (omega (arith, within, c.loop-link-test.false)) within })
+    in (
       kept,
       is,
       subst (EachTurns (HasMovedUp c.args.table) kept) (sym

@@ -66,13 +66,15 @@ loop-edit-preserved c = record {
             let row = w.row.ensures.row target (subst (λ (s : Tables). IsAt s cascade.to target) (sym same) there) in
             let has = ap (λ content. slice_get (row_in content) target.key) row
             ∙ ap (slice_get w.row.result.now) (sym (c.key_of-column.ensures.key target there)) ∙ w.value-key.ensures in
-            subst (λ es. AddsReferrers stored (tests cascade.column target.key (rows_taken (slot_at target.places) es)) c.args.found.now.items c.match-row_gone.found.items)
+            subst (λ es. AddsReferrers stored (tests cascade.column target.key (rows_taken (slot_at target.places) es)) c.args.found.now.items
+            c.match-row_gone.found.items)
             (sym more)
             (rw w.found-is (matches_added stored cascade.column target.key (slot_at target.places) (take k cascade.gone.now)
             c.edit-item.result c.args.found.now.items c.loop-edit.found.items was w.in-Some.at (sym c.row_gone.ensures ∙ w.in-Some.is)
             w.value-key.result.now has told.0 _ told.1 told.2 (w.in_ok-matches.ensures.live stored seen)))
         | in_default w ↦
-            subst (λ es. AddsReferrers stored (tests cascade.column target.key (rows_taken (slot_at target.places) es)) c.args.found.now.items c.match-row_gone.found.items)
+            subst (λ es. AddsReferrers stored (tests cascade.column target.key (rows_taken (slot_at target.places) es)) c.args.found.now.items
+            c.match-row_gone.found.items)
             (sym more)
             (rw w.found-is (skipped stored cascade.column target.key (slot_at target.places) (take k cascade.gone.now)
             c.edit-item.result c.args.found.now.items c.loop-edit.found.items was (sym c.row_gone.ensures ∙ w.in_default.is)))

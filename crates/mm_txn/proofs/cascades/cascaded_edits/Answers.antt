@@ -54,7 +54,7 @@ loop-cascade-preserved c = record {
       adds_same stored (λ row. is_cascaded_by_some rs (map placed_cascade (take k items)) row || is_cascaded_by rs item.column (item.to, item.gone.now) row) _
       (placed_cascade_push rs items k item c.loop-cascade-test.true c.cascade-item.is) [] c.add_referrers.new.found.items
       (adds_both stored (is_cascaded_by_some rs (map placed_cascade (take k items))) (is_cascaded_by rs item.column (item.to, item.gone.now)) []
-          c.loop-cascade.found.items
+      c.loop-cascade.found.items
       c.add_referrers.new.found.items (c.loop-cascade.invariant.found stored at) (adds stored at));
 }
 
@@ -88,7 +88,7 @@ returns-clause-pairs c = λ t at.
     let q : RowRef → Bool = λ x. list_any (same_ref x) c.loop-cascade.found.items in
     let goes : (row : Row) → is_cascaded_by_some store.tables (map placed_cascade (take k items)) row ≡ p row =
     λ row. ap (λ xs. is_cascaded_by_some store.tables (map placed_cascade xs) row)
-        (take_all k items c.loop-cascade-test.false ∙ c.deref-cascade-items.ensures.value)
+    (take_all k items c.loop-cascade-test.false ∙ c.deref-cascade-items.ensures.value)
     ∙ ap (λ xs. is_cascaded_by_some store.tables xs row) (c.in_ok-columns.ensures.found t at)
     ∙ cascades_go schema store c.requires.kept c.requires.distinct cs c.requires.are c.args.table t at row in
     ap (λ o. option_map_or (λ (s : StoredRows). edit_pairs (slot_at s.places) c.in_ok-removals_at.field-0.items) o []) here

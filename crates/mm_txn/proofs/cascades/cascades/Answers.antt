@@ -1,5 +1,6 @@
 -- Table by table the cascaded rows are found.
-use Rattle.std.proofs.Common.{◌≡◌, ◌≢◌, ◌<◌, ◌≤◌, ◌+◌, List, [], ◌∷◌, ◌++◌, Some, drop, length, map, slice_get, ap, ◌∙◌, rules, subst, sym, vec_len, arith, eq-eqb}
+use Rattle.std.proofs.Common.{◌≡◌, ◌≢◌, ◌<◌, ◌≤◌, ◌+◌, List, [], ◌∷◌, ◌++◌, Some, drop, length, map, slice_get, ap, ◌∙◌, rules, subst, sym, vec_len, arith}
+use Rattle.std.proofs.Common.{eq-eqb}
 use Rattle.std.specs.List.{All, filter}
 use Rattle.std.proofs.lemmas.Bool.{eqb-true, false≢true}
 use Rattle.std.proofs.lemmas.Grind.{common_steps}
@@ -38,7 +39,8 @@ loop-table-init c =
       removals = subst (λ cs. All (λ (d : PlacedEdits). new_rows d.1 ≡ []) (own ∷ cs)) (sym none)
           (All-cons (λ (d : PlacedEdits). new_rows d.1 ≡ []) own [] c.requires.removals (All-nil (λ (d : PlacedEdits). new_rows d.1 ≡ [])));
       rest = rest_at_first schema store c.requires.kept c.requires.distinct own c.requires.fit
-          ∙ ap (λ cs. with_cascades schema (drop (own.0 + 1) schema.tables) (drop (own.0 + 1) (instance_of store.tables)) (map (named schema store.tables) (own ∷ cs))) (sym none);
+          ∙ ap (λ cs. with_cascades schema (drop (own.0 + 1) schema.tables) (drop (own.0 + 1) (instance_of store.tables))
+          (map (named schema store.tables) (own ∷ cs))) (sym none);
     }
 
 pub loop-table-preserved : goal.loop-table-preserved
@@ -68,7 +70,8 @@ loop-table-preserved c =
           false≢true (sym w.if-not-is_empty.true ∙ c.is_empty.ensures ∙ eq-eqb (vec_len c.in_ok-edits.edits) 0 zero) in
           record {
             are = subst (AreEdits store) (sym more)
-                (one_more store cs (table, edits) c.loop-table.invariant.are c.in_ok-edits.ensures.fit c.loop-table.invariant.before c.loop-table.invariant.removals
+                (one_more store cs (table, edits) c.loop-table.invariant.are c.in_ok-edits.ensures.fit c.loop-table.invariant.before
+                c.loop-table.invariant.removals
                 c.in_ok-edits.ensures.removals);
             before = subst (All (λ (d : PlacedEdits). d.0 < table + 1)) (sym more)
                 (All-push (λ (d : PlacedEdits). d.0 < table + 1) cs (table, edits) before (omega arith));

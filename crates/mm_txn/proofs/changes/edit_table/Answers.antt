@@ -34,7 +34,8 @@ returns-in_err-check-clause-due c =
     let refusal = c.in_err-check.field-0.0 in
     rw (p.1, p.2) (λ stored at.
     front_due (edits_conditions store stored own []) (list_conditions (rows_edited store (own ∷ [])) c.args.standing.now.queries) refusal
-    (subst (λ (cs : List Condition). AnswersDue {T = Unit {0}} (first_refusal cs) (Err refusal)) (sym (one_refused store own c.requires.are c.requires.back stored at))
+    (subst (λ (cs : List Condition). AnswersDue {T = Unit {0}} (first_refusal cs) (Err refusal))
+    (sym (one_refused store own c.requires.are c.requires.back stored at))
     (subst (λ (es : List Edit). AnswersDue {T = Unit {0}} (first_refusal (edit_conditions store own.0 stored es)) (Err refusal)) c.as_slice.ensures.value
     (c.in_err-check.ensures.due stored at))))
 
@@ -50,7 +51,8 @@ prepare_lists-requires-clause-listed c = c.requires.listed
 
 pub prepare_lists-requires-clause-typed : goal.prepare_lists-requires-clause-typed
 prepare_lists-requires-clause-typed c =
-    subst (λ (p : PlacedEdits). All (IsTested (rows_by_place (instance_of c.args.store.now.tables)) (rows_edited c.args.store.now (p ∷ []))) c.args.standing.now.queries)
+    subst (λ (p : PlacedEdits). All (IsTested (rows_by_place (instance_of c.args.store.now.tables)) (rows_edited c.args.store.now (p ∷ [])))
+    c.args.standing.now.queries)
     (sym c.as_change.ensures) c.requires.typed
 
 pub returns-in_err-prepare_lists-clause-due : goal.returns-in_err-prepare_lists-clause-due
@@ -63,7 +65,8 @@ returns-in_err-prepare_lists-clause-due c =
     behind_due (edits_conditions store stored own []) (list_conditions (rows_edited store (own ∷ [])) c.args.standing.now.queries) refusal
     (subst (λ (cs : List Condition). first_refusal cs ≡ None) (sym (one_refused store own c.requires.are c.requires.back stored at))
     (subst (λ (es : List Edit). first_refusal (edit_conditions store own.0 stored es) ≡ None) c.as_slice.ensures.value (c.in_ok-check.ensures.due stored at)))
-    (subst (λ (p : PlacedEdits). AnswersDue {T = Unit {0}} (first_refusal (list_conditions (rows_edited store (p ∷ [])) c.args.standing.now.queries)) (Err refusal))
+    (subst (λ (p : PlacedEdits). AnswersDue {T = Unit {0}} (first_refusal (list_conditions (rows_edited store (p ∷ [])) c.args.standing.now.queries))
+    (Err refusal))
     c.as_change.ensures c.in_err-prepare_lists.ensures.due))
 
 pub returns-clause-due : goal.returns-clause-due
@@ -155,7 +158,8 @@ returns-clause-made c = record {
       c.apply_prepared.ensures.prepared;
   queries = search rules;
   log = search rules;
-  log_longer = longer_made c.args.standing.now c.prepare_lists.new.standing c.apply_prepared.new.self c.prepare_lists.ensures.entries c.apply_prepared.ensures.made
+  log_longer = longer_made c.args.standing.now c.prepare_lists.new.standing c.apply_prepared.new.self c.prepare_lists.ensures.entries
+      c.apply_prepared.ensures.made
       c.prepare_lists.ensures.log;
   saved = search rules;
   undone = undone_made c.args.standing.now c.prepare_lists.new.standing c.apply_prepared.new.self c.prepare_lists.ensures.entries c.apply_prepared.ensures.made

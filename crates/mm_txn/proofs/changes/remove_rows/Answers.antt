@@ -36,7 +36,8 @@ returns-in-Err-clause-due c =
     (own_fit store c.args.own c.args.cascaded.items c.requires.may.are c.requires.may.back c.requires.several stored at)
     (own_removals store c.args.own c.args.cascaded.items c.requires.may.are c.requires.may.back c.requires.several) (leaves_orphans store all))
     c.remove_each.ensures.due
-    (subst (λ (es : List RelationEdits). AnswersDue {T = Unit {0}} (first_refusal (list_conditions (rows_edited store (placed c.args.own ∷ map placed es)) queries))
+    (subst (λ (es : List RelationEdits). AnswersDue {T = Unit {0}}
+    (first_refusal (list_conditions (rows_edited store (placed c.args.own ∷ map placed es)) queries))
     c.prepare_removals-prepared.result) c.as_slice.ensures.value c.prepare_removals-prepared.ensures.due))
 
 pub returns-clause-due : goal.returns-clause-due
@@ -53,7 +54,8 @@ returns-clause-due c =
     (own_fit store c.args.own c.args.cascaded.items c.requires.may.are c.requires.may.back c.requires.several stored at)
     (own_removals store c.args.own c.args.cascaded.items c.requires.may.are c.requires.may.back c.requires.several) (leaves_orphans store all))
     c.remove_each.ensures.due
-    (subst (λ (es : List RelationEdits). AnswersDue {T = Unit {0}} (first_refusal (list_conditions (rows_edited store (placed c.args.own ∷ map placed es)) queries))
+    (subst (λ (es : List RelationEdits). AnswersDue {T = Unit {0}}
+    (first_refusal (list_conditions (rows_edited store (placed c.args.own ∷ map placed es)) queries))
     c.prepare_removals-prepared.result) c.as_slice.ensures.value c.prepare_removals-prepared.ensures.due))
 
 pub returns-in-Err-Memory-clause-made : goal.returns-in-Err-Memory-clause-made

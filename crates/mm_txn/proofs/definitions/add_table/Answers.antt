@@ -9,7 +9,8 @@ use Rattle.mm_schema.specs.declared.reference.Reference.{Reference}
 use Rattle.mm_store.specs.Tables.{IsFrom, links_without}
 use Rattle.mm_plan.specs.Kept.{AreKept, AreOf}
 use Rattle.mm_txn.proofs.DatabaseSteps.{rows_added}
-use Rattle.mm_txn.proofs.KeptReferences.{back_to_old, kept_by_rows, kept_by_table, new_references, new_references_fit, none_to_last, references_before, remove_last}
+use Rattle.mm_txn.proofs.KeptReferences.{back_to_old, kept_by_rows, kept_by_table, new_references, new_references_fit, none_to_last, references_before}
+use Rattle.mm_txn.proofs.KeptReferences.{remove_last}
 use Rattle.mm_txn.proofs.RowsBeside.{as_many_rows}
 use Rattle.mm_txn.proofs.definitions.add_table.Goals as goal
 

@@ -38,7 +38,8 @@ pub returns-clause-kept : goal.returns-clause-kept
 returns-clause-kept c =
     let dropped = index_dropped c.args.catalog.now c.args.store.now.tables c.requires.relations c.args.name.now c.in_ok-table.table
     (sym c.place_with_index.ensures.place ∙ c.in_ok-table.ensures.ok_part) c.table_at.result.now c.table_at.ensures
-    c.place_with_index.ensures.distinct c.in_ok-index.index (sym c.place_of.ensures ∙ c.in_ok-index.ensures.ok_part) c.drop_index-2.new.self.tables c.drop_index-2.ensures.tables in
+    c.place_with_index.ensures.distinct c.in_ok-index.index (sym c.place_of.ensures ∙ c.in_ok-index.ensures.ok_part) c.drop_index-2.new.self.tables
+    c.drop_index-2.ensures.tables in
     subst (λ (schema : Schema). AreKept schema c.drop_index-2.new.self) (sym c.in_ok-drop_index.ensures.ok)
     (kept_by_no_index c.args.catalog.now c.args.store.now c.drop_index-2.new.self c.requires c.args.name.now dropped.1 c.drop_index-2.ensures.links)
 
@@ -46,5 +47,6 @@ pub returns-clause-ok : goal.returns-clause-ok
 returns-clause-ok c =
     let dropped = index_dropped c.args.catalog.now c.args.store.now.tables c.requires.relations c.args.name.now c.in_ok-table.table
     (sym c.place_with_index.ensures.place ∙ c.in_ok-table.ensures.ok_part) c.table_at.result.now c.table_at.ensures
-    c.place_with_index.ensures.distinct c.in_ok-index.index (sym c.place_of.ensures ∙ c.in_ok-index.ensures.ok_part) c.drop_index-2.new.self.tables c.drop_index-2.ensures.tables in
+    c.place_with_index.ensures.distinct c.in_ok-index.index (sym c.place_of.ensures ∙ c.in_ok-index.ensures.ok_part) c.drop_index-2.new.self.tables
+    c.drop_index-2.ensures.tables in
     λ i. record { schema = c.in_ok-drop_index.ensures.ok i; rows = dropped.0 i; queries = []; saved = None }

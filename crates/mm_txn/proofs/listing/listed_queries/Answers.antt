@@ -21,7 +21,8 @@ loop-place-preserved c = λ rows are.
     let at : slice_get schema.standing c.loop-place.place ≡ Some d =
     slice_get_read schema.standing (length schema.standing) c.loop-place.place d refl within
     (c.query-item.is ∙ ap (λ ss. slice_index_or ss c.loop-place.place d) c.standing-query-items.ensures.value) in
-    let count = counted_by_place schema lists c.requires rows are None c.standing.ensures.distinct c.loop-place.place d at within c.count.result c.count.ensures in
+    let count = counted_by_place schema lists c.requires rows are None c.standing.ensures.distinct c.loop-place.place d at within c.count.result
+    c.count.ensures in
     c.in_ok-push.ensures.items
     ∙ (λ i. c.loop-place.invariant rows are i ++ record { name = c.copy.ensures i; rows = count i } ∷ [])
     ∙ next_told (query_listed (listed_state schema rows lists)) schema.standing c.loop-place.place d at

@@ -69,6 +69,7 @@ returns-clause-rows c =
     ∙ ap (λ (s : Tables). result_rows s c.in_ok-list.list c.in_ok-bound.bound.query.distinct c.as_slice-2.result.now)
     (c.run_query.ensures.same ∙ c.view-view.ensures.store)
     ∙ (ap (result_rows store c.in_ok-list.list c.in_ok-bound.bound.query.distinct) c.as_slice-2.ensures
-    ∙ rows_of_list schema store c.requires.kept query c.in_ok-bound.ensures.due there c.in_ok-bound.bound.query bound_is c.as_slice.result.now tables_are c.in_ok-list.list
+    ∙ rows_of_list schema store c.requires.kept query c.in_ok-bound.ensures.due there c.in_ok-bound.bound.query bound_is c.as_slice.result.now tables_are
+    c.in_ok-list.list
     c.in_ok-list.ensures.tables c.in_ok-list.ensures.fields
     (subst (λ (s : Tables). AreFitting s c.in_ok-bound.bound.query.atoms c.in_ok-list.list) c.view-view.ensures.store c.in_ok-list.ensures.fitting))

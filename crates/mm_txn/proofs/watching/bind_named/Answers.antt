@@ -10,7 +10,8 @@ returns-in-Err-clause-due c =
     let own = c.standing_refusal-taken.ensures in
     let told = c.earlier_refusal.ensures in
     ⊎_elim
-    (λ h. inl (refused_due _ _ _ _ _ _ _ _ c.in-Err.refusal h ∙ ap (λ x. Some (earlier_refusal c.in-Err.refusal x)) (sym own) ∙ ap (λ (r : Refusal). Some r) (sym told)))
+    (λ h. inl (refused_due _ _ _ _ _ _ _ _ c.in-Err.refusal h ∙ ap (λ x. Some (earlier_refusal c.in-Err.refusal x)) (sym own)
+    ∙ ap (λ (r : Refusal). Some r) (sym told)))
     (λ memory. inr (told ∙ ap (λ x. earlier_refusal x c.standing_refusal-taken.result) memory))
     c.in-Err.ensures.due
 

@@ -5,7 +5,8 @@ use Rattle.mmdb_core.specs.steps.Respond.{GoesOn}
 use Rattle.mmdb_core.specs.Run.{BrokeOff}
 use Rattle.mmdb_core.specs.declared.run_error.RunError.{RunError}
 use Rattle.mmdb_core.proofs.Inputs.{at-fault}
-use Rattle.mmdb_core.proofs.Runs.{broke_off, none_answered, passed_nearer, reached_end, read_at_fault, running_first, running_more, taken_at_end, taken_at_fault, write_at_end, write_at_fault}
+use Rattle.mmdb_core.proofs.Runs.{broke_off, none_answered, passed_nearer, reached_end, read_at_fault, running_first, running_more, taken_at_end}
+use Rattle.mmdb_core.proofs.Runs.{taken_at_fault, write_at_end, write_at_fault}
 use Rattle.mmdb_core.proofs.run_script.run.Goals as goal
 
 pub loop-database-init : goal.loop-database-init

@@ -33,7 +33,8 @@ tree_merge-requires-clause-served g c = λ table stored next here.
     subst (IsFirstSuch IsTree stored column) c.expect-tree.ensures (c.tree_on-tree.ensures stored there) in (
       found.0,
       found.1,
-      subst (λ o. IfSome o (λ key. (atoms : List (Atom FieldPlace)) (outers : List ℕ) → Contains atoms c.equal.result → length outers ≡ 1 → IsJoin atoms outers key))
+      subst (λ o. IfSome o (λ key. (atoms : List (Atom FieldPlace)) (outers : List ℕ) → Contains atoms c.equal.result → length outers ≡ 1
+          → IsJoin atoms outers key))
           c.expect-key.ensures c.join_key.ensures.key (c.equal.result ∷ []) c.in_ok-outer.outer.tables (Contains-push [] c.equal.result)
           (ap (λ ts. length ts) c.in_ok-outer.ensures.tables),
     )

@@ -31,7 +31,8 @@ revert-requires-clause-lawful t c =
     let now : StoredRows = c.match-checked_add.relation in
     let slots : before es (slot_at now.places) ≡ slot_at old.places = elim c.match-checked_add.branch [
       | in-Some-checked_add w ↦
-          ap (λ (v : StoredRows). before es (slot_at v.places)) w.relation-is ∙ (ap (before es) w.there_and_back-shown.ensures.slots ∙ c.in_ok-apply.ensures.back)
+          ap (λ (v : StoredRows). before es (slot_at v.places)) w.relation-is
+          ∙ (ap (before es) w.there_and_back-shown.ensures.slots ∙ c.in_ok-apply.ensures.back)
       | in-None w ↦ ap (λ (v : StoredRows). before es (slot_at v.places)) w.relation-is ∙ c.in_ok-apply.ensures.back
     ] in
     let width : now.width ≡ old.width = elim c.match-checked_add.branch [

@@ -35,7 +35,8 @@ returns-then-len-lt16-clause-tree g c =
     let at = c.place_among-at.result in
     let path = c.as_slice.result.now in
     let entries = entries_at path (fork c.args.root.now) in
-    let is : entries ≡ c.in-Some.node.now.entries = ap (λ p. entries_at p (fork c.args.root.now)) c.as_slice.ensures.value ∙ ap root_entries c.in-Some.ensures.at in
+    let is : entries ≡ c.in-Some.node.now.entries = ap (λ p. entries_at p (fork c.args.root.now)) c.as_slice.ensures.value
+    ∙ ap root_entries c.in-Some.ensures.at in
     let within : at ≤ length entries = omega (arith, ap length is, ap length c.entries-2.ensures.value, c.place_among-at.ensures.in_bounds) in
     let long = length-insert entries at c.args.added within in
     let room : length entries < 16 = omega (arith, ap length is, ap length c.entries.ensures.value, c.len-len.ensures.value, c.if-len-lt16.true) in

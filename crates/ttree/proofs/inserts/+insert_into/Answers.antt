@@ -46,7 +46,8 @@ insert_into-requires g t c κs within =
     let apart : All P (in_order n.left ++ n.entries ++ in_order n.right) = rw c.in-Some.is at c.requires.apart in
     let ordered = IsOrdered-front _ _ (in_order n.left) n.entries (IsOrdered-front _ _ (in_order n.left ++ n.entries) (in_order n.right) was) in
     let left_apart = All-append_left P (in_order n.left) n.entries (All-append_left P (in_order n.left ++ n.entries) (in_order n.right) apart) in
-    let behind : IfSome c.args.bound (λ b. All (λ a. cmp b a ≡ Less) (in_order n.left ++ n.entries ++ in_order n.right)) = rw c.in-Some.is at c.requires.behind in
+    let behind : IfSome c.args.bound (λ b. All (λ a. cmp b a ≡ Less) (in_order n.left ++ n.entries ++ in_order n.right)) = rw c.in-Some.is at
+    c.requires.behind in
     let left_behind : IfSome c.args.bound (λ b. All (λ a. cmp b a ≡ Less) (in_order n.left)) = behind_front cmp c.args.bound (in_order n.left) n.entries
     (behind_front cmp c.args.bound (in_order n.left ++ n.entries) (in_order n.right) behind) in (
       search rules,
@@ -201,7 +202,8 @@ returns-then-len-lt16-2-clause-behind g t c =
     let cmp : RowRef → RowRef → Ordering = g.O.RefOrder.cmp c.args.order.now in
     let was : IsOrdered (g.O.RefOrder.covers c.args.order.now) cmp (in_order n.left ++ n.entries ++ in_order n.right) = rw c.in-Some.is at c.requires.ordered in
     let tree : IsTTree (fork n) = rw c.in-Some.is at c.requires.tree in
-    let behind : IfSome c.args.bound (λ b. All (λ a. cmp b a ≡ Less) (in_order n.left ++ n.entries ++ in_order n.right)) = rw c.in-Some.is at c.requires.behind in
+    let behind : IfSome c.args.bound (λ b. All (λ a. cmp b a ≡ Less) (in_order n.left ++ n.entries ++ in_order n.right)) = rw c.in-Some.is at
+    c.requires.behind in
     not_below _ _ (g.met.O.RefOrder.total c.args.order.now) (in_order n.left) n.entries (in_order n.right) was tree.2.filled c.args.added c.requires.covered
     (λ less. let e = sym (c.is_before.ensures.1 less) ∙ c.if-is_before.false in cc) c.args.bound c.requires.bound_covered behind
 
@@ -211,7 +213,8 @@ returns-in-Ok-insert_into-clause-behind g t c =
     let cmp : RowRef → RowRef → Ordering = g.O.RefOrder.cmp c.args.order.now in
     let was : IsOrdered (g.O.RefOrder.covers c.args.order.now) cmp (in_order n.left ++ n.entries ++ in_order n.right) = rw c.in-Some.is at c.requires.ordered in
     let tree : IsTTree (fork n) = rw c.in-Some.is at c.requires.tree in
-    let behind : IfSome c.args.bound (λ b. All (λ a. cmp b a ≡ Less) (in_order n.left ++ n.entries ++ in_order n.right)) = rw c.in-Some.is at c.requires.behind in
+    let behind : IfSome c.args.bound (λ b. All (λ a. cmp b a ≡ Less) (in_order n.left ++ n.entries ++ in_order n.right)) = rw c.in-Some.is at
+    c.requires.behind in
     not_below _ _ (g.met.O.RefOrder.total c.args.order.now) (in_order n.left) n.entries (in_order n.right) was tree.2.filled c.args.added c.requires.covered
     (λ less. let e = sym (c.is_before.ensures.1 less) ∙ c.if-is_before.false in cc) c.args.bound c.requires.bound_covered behind
 
@@ -221,6 +224,7 @@ returns-in-Err-insert_into-clause-behind g t c =
     let cmp : RowRef → RowRef → Ordering = g.O.RefOrder.cmp c.args.order.now in
     let was : IsOrdered (g.O.RefOrder.covers c.args.order.now) cmp (in_order n.left ++ n.entries ++ in_order n.right) = rw c.in-Some.is at c.requires.ordered in
     let tree : IsTTree (fork n) = rw c.in-Some.is at c.requires.tree in
-    let behind : IfSome c.args.bound (λ b. All (λ a. cmp b a ≡ Less) (in_order n.left ++ n.entries ++ in_order n.right)) = rw c.in-Some.is at c.requires.behind in
+    let behind : IfSome c.args.bound (λ b. All (λ a. cmp b a ≡ Less) (in_order n.left ++ n.entries ++ in_order n.right)) = rw c.in-Some.is at
+    c.requires.behind in
     not_below _ _ (g.met.O.RefOrder.total c.args.order.now) (in_order n.left) n.entries (in_order n.right) was tree.2.filled c.args.added c.requires.covered
     (λ less. let e = sym (c.is_before.ensures.1 less) ∙ c.if-is_before.false in cc) c.args.bound c.requires.bound_covered behind

@@ -1,4 +1,5 @@
-use Rattle.std.proofs.Common.{◌≡◌, ◌≢◌, ℕ, true, false, ◌+◌, ◌-◌, ◌/◌, ◌^◌, ◌<◌, ◌≤◌, get_or, length, take, drop, refl, sym, ap, ◌∙◌, subst, arith, length-take, length-drop}
+use Rattle.std.proofs.Common.{◌≡◌, ◌≢◌, ℕ, true, false, ◌+◌, ◌-◌, ◌/◌, ◌^◌, ◌<◌, ◌≤◌, get_or, length, take, drop, refl, sym, ap, ◌∙◌, subst, arith}
+use Rattle.std.proofs.Common.{length-take, length-drop}
 use Rattle.std.proofs.lemmas.List.{get_or-take, get_or-drop, get_or_default}
 use Rattle.std.specs.List.{All}
 use Rattle.std.specs.List.Sorted.{IsNonDecreasingBy}
@@ -74,7 +75,8 @@ loop-preserved g c =
         first = subst (λ k. place (get_or entries k d) ≡ Less) (sym w.low-is) was.first;
         after = λ k e above below. greater_from place entries middle d rising inside
             (is_greater (place (get_or entries middle d)) (subst (λ o. o ≢ Less) (sym answer)
-            (not_less_from_is_lt c.compare.result (sym c.is_lt.ensures ∙ w.if-is_lt.false))) (c.requires.apart middle d inside)) k e (omega (arith, w.low-is)) below;
+            (not_less_from_is_lt c.compare.result (sym c.is_lt.ensures ∙ w.if-is_lt.false))) (c.requires.apart middle d inside)) k e (omega (arith, w.low-is))
+            below;
       }
     ]
 

@@ -50,7 +50,8 @@ loop-kept-preserved c =
 
 pub returns-else-count-refs-clause-fewer : goal.returns-else-count-refs-clause-fewer
 returns-else-count-refs-clause-fewer c =
-    no_more c.args.node.now.entries c.args.start c.requires c.args.refs.now c.loop-kept.kept c.loop-kept.count c.loop-kept.node.entries c.loop-kept.invariant.along
+    no_more c.args.node.now.entries c.args.start c.requires c.args.refs.now c.loop-kept.kept c.loop-kept.count c.loop-kept.node.entries
+    c.loop-kept.invariant.along
 
 pub returns-else-count-refs-clause-taken : goal.returns-else-count-refs-clause-taken
 returns-else-count-refs-clause-taken c =
@@ -60,7 +61,8 @@ returns-else-count-refs-clause-taken c =
 
 pub returns-after-loop-kept-clause-fewer : goal.returns-after-loop-kept-clause-fewer
 returns-after-loop-kept-clause-fewer c =
-    no_more c.args.node.now.entries c.args.start c.requires c.args.refs.now c.loop-kept.kept c.loop-kept.count c.loop-kept.node.entries c.loop-kept.invariant.along
+    no_more c.args.node.now.entries c.args.start c.requires c.args.refs.now c.loop-kept.kept c.loop-kept.count c.loop-kept.node.entries
+    c.loop-kept.invariant.along
 
 pub returns-after-loop-kept-clause-taken : goal.returns-after-loop-kept-clause-taken
 returns-after-loop-kept-clause-taken c =

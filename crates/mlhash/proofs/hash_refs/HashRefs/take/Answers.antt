@@ -11,7 +11,8 @@ use Rattle.mlhash.specs.Table.{entries, IsTable}
 use Rattle.mlhash.proofs.AddressLemmas.{level_small}
 use Rattle.mlhash.proofs.BagLemmas.{held}
 use Rattle.mlhash.proofs.TableLemmas.{bucket_in}
-use Rattle.mlhash.proofs.TakeLemmas.{bucket_at, bucket_has_all, Finds-read, pair_in, freed, not_found, taking, first_below, some_entry, take_table, take_entries, spare_more}
+use Rattle.mlhash.proofs.TakeLemmas.{bucket_at, bucket_has_all, Finds-read, pair_in, freed, not_found, taking, first_below, some_entry, take_table}
+use Rattle.mlhash.proofs.TakeLemmas.{take_entries, spare_more}
 use Rattle.mlhash.proofs.hash_refs.HashRefs.take.Goals as goal
 
 pub bucket_of-bucket-requires : goal.bucket_of-bucket-requires

@@ -11,7 +11,8 @@ use Rattle.mm_delta.proofs.unseen.Sight.seen_rows.Goals as goal
 
 pub add_seen-requires-clause-live : goal.add_seen-requires-clause-live
 add_seen-requires-clause-live c = λ stored at.
-    All-one_gathered (λ e. edit_name e Old) (IsLive stored.places) c.args.edits.now c.loop-edit.edit-index c.edit-item.result c.loop-edit-test.true c.edit-item.is
+    All-one_gathered (λ e. edit_name e Old) (IsLive stored.places) c.args.edits.now c.loop-edit.edit-index c.edit-item.result c.loop-edit-test.true
+    c.edit-item.is
     (c.requires.fit stored (subst (λ s. IsAt s c.args.table stored) c.loop-edit.invariant.same at)).standing.live
 
 pub returns-in_err-add_seen-clause-reads : goal.returns-in_err-add_seen-clause-reads

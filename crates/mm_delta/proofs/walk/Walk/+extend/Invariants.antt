@@ -14,9 +14,11 @@ abbrev pub invariant-loop-row : goal.invariant-loop-row
 invariant-loop-row l = record {
   same : l.view.store ≡ l.fn.view.store;
   counted : (other : List Value) → count_in other l.out.entries ≡ count_in other l.fn.out.entries
-      + sum_by (λ row. count_of other (found l.fn.self.query.now (walked l.fn.view.store l.fn.self.changes.now l.fn.self.tables.now l.fn.self.place) l.rest (set l.chosen l.place (Some row))))
+      + sum_by (λ row. count_of other (found l.fn.self.query.now (walked l.fn.view.store l.fn.self.changes.now l.fn.self.tables.now l.fn.self.place) l.rest
+      (set l.chosen l.place (Some row))))
       (map (λ row. row.now) (take l.row-index l.row-items));
   reads : l.view.reads ≤ l.initial.view.reads
-      + sum_by (λ row. reads_for l.fn.self.query.now l.fn.view.store l.fn.self.changes.now l.fn.self.tables.now l.fn.self.place l.rest (set l.chosen l.place (Some row)))
+      + sum_by (λ row. reads_for l.fn.self.query.now l.fn.view.store l.fn.self.changes.now l.fn.self.tables.now l.fn.self.place l.rest
+      (set l.chosen l.place (Some row)))
       (map (λ row. row.now) (take l.row-index l.row-items));
 }

@@ -34,7 +34,8 @@ pub from_rows-requires-clause-fit : goal.from_rows-requires-clause-fit
 from_rows-requires-clause-fit c = subst (λ s. EachFit s c.args.self.now.changes.now) (sym c.in_ok-seen.ensures.same) c.requires.fit
 
 pub from_rows-requires-clause-typed : goal.from_rows-requires-clause-typed
-from_rows-requires-clause-typed c = subst (λ s. IsTypeTested c.args.self.now.query.now s c.args.self.now.changes.now c.args.self.now.tables.now) (sym c.in_ok-seen.ensures.same) c.requires.typed
+from_rows-requires-clause-typed c = subst (λ s. IsTypeTested c.args.self.now.query.now s c.args.self.now.changes.now c.args.self.now.tables.now)
+    (sym c.in_ok-seen.ensures.same) c.requires.typed
 
 pub from_rows-requires-clause-edited : goal.from_rows-requires-clause-edited
 from_rows-requires-clause-edited c =
@@ -53,15 +54,18 @@ from_rows-requires-clause-edited c =
 
 pub from_rows-requires-2-clause-there : goal.from_rows-requires-2-clause-there
 from_rows-requires-2-clause-there c =
-    subst (λ s. HasTables c.args.self.now.tables.now s (other_places (length c.args.self.now.tables.now) c.args.self.now.place)) (sym (c.in_ok-from_rows.ensures.same ∙ c.in_ok-seen.ensures.same))
+    subst (λ s. HasTables c.args.self.now.tables.now s (other_places (length c.args.self.now.tables.now) c.args.self.now.place))
+    (sym (c.in_ok-from_rows.ensures.same ∙ c.in_ok-seen.ensures.same))
     (others_there c.args.self.now.tables.now c.args.view.now.store c.args.self.now.place c.requires.there)
 
 pub from_rows-requires-2-clause-fit : goal.from_rows-requires-2-clause-fit
-from_rows-requires-2-clause-fit c = subst (λ s. EachFit s c.args.self.now.changes.now) (sym (c.in_ok-from_rows.ensures.same ∙ c.in_ok-seen.ensures.same)) c.requires.fit
+from_rows-requires-2-clause-fit c = subst (λ s. EachFit s c.args.self.now.changes.now) (sym (c.in_ok-from_rows.ensures.same ∙ c.in_ok-seen.ensures.same))
+    c.requires.fit
 
 pub from_rows-requires-2-clause-typed : goal.from_rows-requires-2-clause-typed
 from_rows-requires-2-clause-typed c =
-    subst (λ s. IsTypeTested c.args.self.now.query.now s c.args.self.now.changes.now c.args.self.now.tables.now) (sym (c.in_ok-from_rows.ensures.same ∙ c.in_ok-seen.ensures.same)) c.requires.typed
+    subst (λ s. IsTypeTested c.args.self.now.query.now s c.args.self.now.changes.now c.args.self.now.tables.now)
+    (sym (c.in_ok-from_rows.ensures.same ∙ c.in_ok-seen.ensures.same)) c.requires.typed
 
 pub from_rows-requires-2-clause-edited : goal.from_rows-requires-2-clause-edited
 from_rows-requires-2-clause-edited c =
@@ -114,7 +118,8 @@ returns-in_err-seen-clause-reads c = λ skipped only.
       arith,
       c.in_err-seen.ensures.reads,
       gone_length c.args.view.now.store c.args.self.now.changes.now table at.0 at.1 c.edits_of-edits.result.now c.edits_of-edits.ensures,
-      bound_is (row_reads c.args.self.now.query.now c.args.view.now.store c.args.self.now.changes.now c.args.self.now.tables.now skipped c.args.self.now.place) (gone_at c.args.view.now.store c.args.self.now.changes.now table) (come_at c.args.self.now.changes.now table),
+      bound_is (row_reads c.args.self.now.query.now c.args.view.now.store c.args.self.now.changes.now c.args.self.now.tables.now skipped
+          c.args.self.now.place) (gone_at c.args.view.now.store c.args.self.now.changes.now table) (come_at c.args.self.now.changes.now table),
     )
 
 pub returns-in_err-from_rows-clause-reads : goal.returns-in_err-from_rows-clause-reads
@@ -135,7 +140,8 @@ returns-in_err-from_rows-clause-reads c = λ skipped only.
       c.in_err-from_rows.ensures.reads skipped only,
       reads_same q store c.seen_rows.new.view.store changes tables skipped k (map (λ row. row.now) c.deref.result.now) (seen_gone q k slots edits)
           c.in_ok-seen.ensures.same
-          (ap (map (λ row. row.now)) c.deref.ensures.value ∙ c.in_ok-seen.ensures.gone at.0 at.1 ∙ ap (filter_map (gone_seen q k slots)) c.edits_of-edits.ensures),
+          (ap (map (λ row. row.now)) c.deref.ensures.value ∙ c.in_ok-seen.ensures.gone at.0 at.1
+          ∙ ap (filter_map (gone_seen q k slots)) c.edits_of-edits.ensures),
       fewer_gone q k slots reads edits,
       ap (sum_by reads) (gone_is store changes table at.0 at.1),
       gone_length store changes table at.0 at.1 c.edits_of-edits.result.now c.edits_of-edits.ensures,
@@ -161,12 +167,14 @@ returns-clause-reads c = λ skipped only.
       c.from_rows-2.ensures.reads skipped only,
       reads_same q store c.seen_rows.new.view.store changes tables skipped k (map (λ row. row.now) c.deref.result.now) (seen_gone q k slots edits)
           c.in_ok-seen.ensures.same
-          (ap (map (λ row. row.now)) c.deref.ensures.value ∙ c.in_ok-seen.ensures.gone at.0 at.1 ∙ ap (filter_map (gone_seen q k slots)) c.edits_of-edits.ensures),
+          (ap (map (λ row. row.now)) c.deref.ensures.value ∙ c.in_ok-seen.ensures.gone at.0 at.1
+          ∙ ap (filter_map (gone_seen q k slots)) c.edits_of-edits.ensures),
       fewer_gone q k slots reads edits,
       ap (sum_by reads) (gone_is store changes table at.0 at.1),
       reads_same q store c.from_rows.new.view.store changes tables skipped k (map (λ row. row.now) c.deref-2.result.now) (seen_come q k slots edits)
           (c.in_ok-from_rows.ensures.same ∙ c.in_ok-seen.ensures.same)
-          (ap (map (λ row. row.now)) c.deref-2.ensures.value ∙ c.in_ok-seen.ensures.come at.0 at.1 ∙ ap (filter_map (come_seen q k slots)) c.edits_of-edits.ensures),
+          (ap (map (λ row. row.now)) c.deref-2.ensures.value ∙ c.in_ok-seen.ensures.come at.0 at.1
+          ∙ ap (filter_map (come_seen q k slots)) c.edits_of-edits.ensures),
       fewer_come q k slots reads edits,
       gone_length store changes table at.0 at.1 c.edits_of-edits.result.now c.edits_of-edits.ensures,
       bound_is reads (gone_at store changes table) (come_at changes table),

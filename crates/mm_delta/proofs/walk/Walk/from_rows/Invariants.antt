@@ -13,8 +13,10 @@ abbrev pub invariant-loop-row : goal.invariant-loop-row
 invariant-loop-row l = record {
   same : l.view.store ≡ l.fn.view.store;
   counted : (other : List Value) → count_in other l.out.entries ≡ count_in other l.fn.out.entries
-      + sum_by (λ x. count_of other (bag_of l.fn.self.query.now (lists_around 0 (after_at l.fn.view.store l.fn.self.changes.now) (λ _. x ∷ []) (before_at l.fn.view.store) l.fn.self.tables.now l.fn.self.place)))
+      + sum_by (λ x. count_of other (bag_of l.fn.self.query.now
+      (lists_around 0 (after_at l.fn.view.store l.fn.self.changes.now) (λ _. x ∷ []) (before_at l.fn.view.store) l.fn.self.tables.now l.fn.self.place)))
       (map (λ row. row.now) (take l.row-index l.rows));
   reads : (skipped : ℕ → List Value → Bool) → IsOfCyclicRows l.fn.self.query.now skipped → l.view.reads ≤ l.fn.view.reads
-      + sum_by (row_reads l.fn.self.query.now l.fn.view.store l.fn.self.changes.now l.fn.self.tables.now skipped l.fn.self.place) (map (λ row. row.now) (take l.row-index l.rows));
+      + sum_by (row_reads l.fn.self.query.now l.fn.view.store l.fn.self.changes.now l.fn.self.tables.now skipped l.fn.self.place)
+      (map (λ row. row.now) (take l.row-index l.rows));
 }

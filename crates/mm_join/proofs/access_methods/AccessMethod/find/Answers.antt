@@ -70,7 +70,8 @@ returns-in_ok-push-in-Followed-clause-found c =
     let kept = c.is_kept.ensures.kept stored here in
     let asked = subst (IsAccessMethod store outer.tables.now inner) c.in-Followed.is c.requires.method stored here in
     let d : RowRef = record { part = 0; slot = 0 } in
-    let one : c.push.new.self.items ≡ c.partner.result ∷ [] = c.in_ok-push-in-Followed.ensures.items ∙ ap (λ l. l ++ c.partner.result ∷ []) c.clear.ensures.items in
+    let one : c.push.new.self.items ≡ c.partner.result ∷ [] = c.in_ok-push-in-Followed.ensures.items
+    ∙ ap (λ l. l ++ c.partner.result ∷ []) c.clear.ensures.items in
     let have = partner_have store outer.tables.now outer.refs.now c.requires.live field asked.0 (map Some rows) refl inner.table stored here kept d
     asked.1.1 c.partner.result c.partner.ensures in
     subst (λ (w : AccessMethod). AreCandidates store inner.table inner.atoms.now rows (found_behind w (rows_at store.tables inner.table) rows)

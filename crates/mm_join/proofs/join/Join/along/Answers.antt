@@ -127,7 +127,8 @@ returns-in_err-add_all-clause-joins c = λ table is.
     c.in_ok-choose.ensures.rows ∙ (λ j. map Some (rows_of_combo (c.loop-i.invariant.same j) (c.descriptor.ensures.tables j) front)) in
     let are = candidates_here store join table c.inner-inner.result inner c.choose.new.view.store same front c.descriptor.result.tables.now
     c.descriptor.ensures.tables _ _ c.in_ok-find.ensures.found in
-    let tried : List (List RowRef) = c.loop-i.list.combos ++ matches c.choose.new.view.store c.inner-inner.result.table c.inner-inner.result.atoms.now rows front
+    let tried : List (List RowRef) = c.loop-i.list.combos ++ matches c.choose.new.view.store c.inner-inner.result.table c.inner-inner.result.atoms.now rows
+    front
     c.candidates-candidates.result.now in
     let step : Progress store outer.tables c.inner-inner.result.table join.atoms.now outer.combos (c.loop-i.i + 1) tried =
     subst (λ l. Progress store outer.tables c.inner-inner.result.table join.atoms.now outer.combos (c.loop-i.i + 1)
@@ -190,7 +191,8 @@ loop-i-preserved c =
     c.in_ok-choose.ensures.rows ∙ (λ j. map Some (rows_of_combo (c.loop-i.invariant.same j) (c.descriptor.ensures.tables j) front)) in
     let are = candidates_here store join table c.inner-inner.result inner c.choose.new.view.store same front c.descriptor.result.tables.now
     c.descriptor.ensures.tables _ _ c.in_ok-find.ensures.found in
-    let tried : List (List RowRef) = c.loop-i.list.combos ++ matches c.choose.new.view.store c.inner-inner.result.table c.inner-inner.result.atoms.now rows front
+    let tried : List (List RowRef) = c.loop-i.list.combos ++ matches c.choose.new.view.store c.inner-inner.result.table c.inner-inner.result.atoms.now rows
+    front
     c.candidates-candidates.result.now in
     let step : Progress store outer.tables c.inner-inner.result.table join.atoms.now outer.combos (c.loop-i.i + 1) tried =
     subst (λ l. Progress store outer.tables c.inner-inner.result.table join.atoms.now outer.combos (c.loop-i.i + 1)

@@ -20,15 +20,16 @@ along-requires c =
     let (table, can) = c.requires.next in
     let inner = c.inner.ensures table can.0.0 in
     record {
-      next = subst (λ (s : Tables). (n : ℕ) × CanJoin s join n × IsAccessMethod s join.outer.now.tables (inner_of join n) c.by.result) (sym c.hashed_rows.ensures.same) (
-        table,
-        can,
-        subst (IsAccessMethod store join.outer.now.tables (inner_of join table)) (sym c.by.ensures) (
-          c.requires.asked table can.0,
-          λ stored here.
-              c.in_ok-pairs.ensures.pairs stored (subst (λ (x : Inner). IsAt store x.table stored) (sym inner) here),
-        ),
-      );
+      next = subst (λ (s : Tables). (n : ℕ) × CanJoin s join n × IsAccessMethod s join.outer.now.tables (inner_of join n) c.by.result)
+          (sym c.hashed_rows.ensures.same) (
+            table,
+            can,
+            subst (IsAccessMethod store join.outer.now.tables (inner_of join table)) (sym c.by.ensures) (
+              c.requires.asked table can.0,
+              λ stored here.
+                  c.in_ok-pairs.ensures.pairs stored (subst (λ (x : Inner). IsAt store x.table stored) (sym inner) here),
+            ),
+          );
     }
 
 pub returns-in_err-pairs-clause-reads : goal.returns-in_err-pairs-clause-reads

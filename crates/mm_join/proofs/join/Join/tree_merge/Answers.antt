@@ -32,14 +32,14 @@ along-requires c =
     record {
       next = subst (λ (s : Tables). (n : ℕ) × CanJoin s join n × IsAccessMethod s join.outer.now.tables (inner_of join n) c.by.result)
           (sym c.new.ensures.same) (
-        table,
-        can,
-        subst (IsAccessMethod store join.outer.now.tables (inner_of join table)) (sym c.by.ensures) (
-          (c.requires.served table some can.0 there).2,
-          λ stored here.
-              c.in_ok-cursor.ensures.walk stored (subst (λ (x : Inner). IsAt store x.table stored) (sym inner) here),
-        ),
-      );
+            table,
+            can,
+            subst (IsAccessMethod store join.outer.now.tables (inner_of join table)) (sym c.by.ensures) (
+              (c.requires.served table some can.0 there).2,
+              λ stored here.
+                  c.in_ok-cursor.ensures.walk stored (subst (λ (x : Inner). IsAt store x.table stored) (sym inner) here),
+            ),
+          );
     }
 
 pub returns-in_err-cursor-clause-reads : goal.returns-in_err-cursor-clause-reads

@@ -14,7 +14,8 @@ changed-self-inside-requires-clause-least c =
     let within = count_within row c.args.self.now.entries in
     let fits = c.self.ranges in
     let least = c.requires.count in
-    let short = change_fits (count_in row c.args.self.now.entries) (total_of c.args.self.now.entries) change within (omega (arith, total)) least c.requires.total in
+    let short = change_fits (count_in row c.args.self.now.entries) (total_of c.args.self.now.entries) change within (omega (arith, total)) least
+    c.requires.total in
     subst (λ z. pos 0 ≤ℤ (pos c.self.inside.total +ℤ z)) (sym (to_z-of_z w128 change short)) (omega (arith, ints))
 
 pub change_found-requires-clause-most : goal.change_found-requires-clause-most
@@ -26,5 +27,6 @@ change_found-requires-clause-most c =
     let within = count_within row c.args.self.now.entries in
     let fits = c.self.ranges in
     let most = c.requires.total in
-    let short = change_fits (count_in row c.args.self.now.entries) (total_of c.args.self.now.entries) change within (omega (arith, total)) c.requires.count most in
+    let short = change_fits (count_in row c.args.self.now.entries) (total_of c.args.self.now.entries) change within (omega (arith, total)) c.requires.count
+    most in
     subst (λ z. (pos (count_in row c.self.inside.counts.entries) +ℤ z) <ℤ pos (2 ^ 64)) (sym (to_z-of_z w128 change short)) (omega (arith, ints))

@@ -30,7 +30,8 @@ returns-in-Some-default-default-eq0-clause-counts c =
     let row = c.args.row.now in
     let same = lookup_key_same rows_exact row es w.field-0-1.now (sym c.get_full.ensures.key ∙ ap (λ r. option_map (λ p. p.1.now) r) w.is) in
     let at = w.ensures.entry ∙ (λ j. Some (sym same j, w.field-0-2-test j)) in
-    let updates = subst (λ r. IfSome r (λ p. Updates same_row c.self.inside.counts c.swap_remove_index.new.self p.0 None)) (c.swap_remove_index.ensures.entry ∙ at) c.swap_remove_index.ensures.updates in
+    let updates = subst (λ r. IfSome r (λ p. Updates same_row c.self.inside.counts c.swap_remove_index.new.self p.0 None))
+    (c.swap_remove_index.ensures.entry ∙ at) c.swap_remove_index.ensures.updates in
     λ other. counts_stay row w.i es fs c.self.invariant.0 at updates.0 other ∙ ap (λ v. count_in other v.entries) c.self.view_is
 
 pub returns-in-Some-default-default-eq0-clause-gone :
@@ -42,7 +43,8 @@ returns-in-Some-default-default-eq0-clause-gone c =
     let row = c.args.row.now in
     let same = lookup_key_same rows_exact row es w.field-0-1.now (sym c.get_full.ensures.key ∙ ap (λ r. option_map (λ p. p.1.now) r) w.is) in
     let at = w.ensures.entry ∙ (λ j. Some (sym same j, w.field-0-2-test j)) in
-    let updates = subst (λ r. IfSome r (λ p. Updates same_row c.self.inside.counts c.swap_remove_index.new.self p.0 None)) (c.swap_remove_index.ensures.entry ∙ at) c.swap_remove_index.ensures.updates in
+    let updates = subst (λ r. IfSome r (λ p. Updates same_row c.self.inside.counts c.swap_remove_index.new.self p.0 None))
+    (c.swap_remove_index.ensures.entry ∙ at) c.swap_remove_index.ensures.updates in
     λ zero. entry_gone row w.i es fs c.self.invariant.0 at updates.0
 
 pub returns-in-Some-default-default-eq0-clause-total :
@@ -66,7 +68,8 @@ returns-in-Some-default-default-eq0-clause-others c =
     let row = c.args.row.now in
     let same = lookup_key_same rows_exact row es w.field-0-1.now (sym c.get_full.ensures.key ∙ ap (λ r. option_map (λ p. p.1.now) r) w.is) in
     let at = w.ensures.entry ∙ (λ j. Some (sym same j, w.field-0-2-test j)) in
-    let updates = subst (λ r. IfSome r (λ p. Updates same_row c.self.inside.counts c.swap_remove_index.new.self p.0 None)) (c.swap_remove_index.ensures.entry ∙ at) c.swap_remove_index.ensures.updates in
+    let updates = subst (λ r. IfSome r (λ p. Updates same_row c.self.inside.counts c.swap_remove_index.new.self p.0 None))
+    (c.swap_remove_index.ensures.entry ∙ at) c.swap_remove_index.ensures.updates in
     λ other had. subst (λ v. has_entry other v.entries ≡ true) c.self.view_is (entry_was row w.i es fs c.self.invariant.0 at updates.0 other had)
 
 pub returns-in-Some-default-default-eq0-clause-beside :
@@ -78,5 +81,6 @@ returns-in-Some-default-default-eq0-clause-beside c =
     let row = c.args.row.now in
     let same = lookup_key_same rows_exact row es w.field-0-1.now (sym c.get_full.ensures.key ∙ ap (λ r. option_map (λ p. p.1.now) r) w.is) in
     let at = w.ensures.entry ∙ (λ j. Some (sym same j, w.field-0-2-test j)) in
-    let updates = subst (λ r. IfSome r (λ p. Updates same_row c.self.inside.counts c.swap_remove_index.new.self p.0 None)) (c.swap_remove_index.ensures.entry ∙ at) c.swap_remove_index.ensures.updates in
+    let updates = subst (λ r. IfSome r (λ p. Updates same_row c.self.inside.counts c.swap_remove_index.new.self p.0 None))
+    (c.swap_remove_index.ensures.entry ∙ at) c.swap_remove_index.ensures.updates in
     λ other apart. entry_beside row w.i es fs c.self.invariant.0 at updates.0 other apart ∙ ap (λ v. has_entry other v.entries) c.self.view_is

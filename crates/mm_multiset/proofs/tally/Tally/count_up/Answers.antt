@@ -27,7 +27,9 @@ returns-clause-counted c =
     on_ok_weaker c.count_up.result
     (λ adds other.
     ap (λ (xs : List Signed). count_in other (listed xs ++ c.count_up.new.self.entries)) none
-    ∙ counted_many c.args.row other c.self.inside.few.items c.self.inside.many.entries c.add_all.new.many.entries c.count_up.new.self.entries c.self.invariant.0 c.self.invariant.1
-    (subst (λ (xs : List Signed). pos (count_in other c.add_all.new.many.entries) ≡ pos (count_in other c.self.inside.many.entries) +ℤ signed_count other xs) were (c.in_ok-add_all.ensures.added other)) adds
+    ∙ counted_many c.args.row other c.self.inside.few.items c.self.inside.many.entries c.add_all.new.many.entries c.count_up.new.self.entries
+    c.self.invariant.0 c.self.invariant.1
+    (subst (λ (xs : List Signed). pos (count_in other c.add_all.new.many.entries) ≡ pos (count_in other c.self.inside.many.entries) +ℤ signed_count other xs)
+    were (c.in_ok-add_all.ensures.added other)) adds
     ∙ ap (λ (es : Entries). count_in other es + count_of other (c.args.row ∷ [])) (ap (λ v. v.entries) c.self.view_is))
     c.count_up.ensures.counted

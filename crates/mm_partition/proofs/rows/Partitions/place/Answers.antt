@@ -13,23 +13,31 @@ use Rattle.mm_partition.proofs.rows.Partitions.place.Goals as goal
 pub push_each-requires : goal.push_each-requires
 push_each-requires c =
     let slots : List Slot = c.self.inside.slots.items in
-    let none : c.self.inside.free_count ≡ 0 = none_free slots _ (subst (λ h. LinksFree slots h c.self.inside.free_count) c.in_default.is c.self.invariant.free) in
+    let none : c.self.inside.free_count ≡ 0 = none_free slots _
+    (subst (λ h. LinksFree slots h c.self.inside.free_count) c.in_default.is c.self.invariant.free) in
     let room : c.self.inside.free_count + c.self.inside.spare ≡ c.args.self.now.room = ap (λ (p : Places). p.room) c.self.view_is in
-    let some : c.self.inside.spare ≡ (c.self.inside.spare - 1) + 1 = omega (arith, none, room, c.requires) in
-    (map content_of slots, c.self.inside.spare - 1, subst (λ n. All (Tracks (map content_of slots) n) c.self.inside.tracked.items) some c.self.invariant.tracked)
+    let some : c.self.inside.spare ≡ (c.self.inside.spare - 1) + 1 = omega (arith, none, room, c.requires) in (
+      map content_of slots,
+      c.self.inside.spare - 1,
+      subst (λ n. All (Tracks (map content_of slots) n) c.self.inside.tracked.items) some
+          c.self.invariant.tracked,
+    )
 
 pub invariant_of-self : goal.invariant_of-self
 invariant_of-self c =
     let slots : List Slot = c.self.inside.slots.items in
     let old : IsStored slots None c.self.inside.free_count c.self.inside.slots.cap c.self.inside.spare c.self.inside.tracked.items =
-    subst (λ h. IsStored slots h c.self.inside.free_count c.self.inside.slots.cap c.self.inside.spare c.self.inside.tracked.items) c.in_default.is c.self.invariant in
+    subst (λ h. IsStored slots h c.self.inside.free_count c.self.inside.slots.cap c.self.inside.spare c.self.inside.tracked.items) c.in_default.is
+    c.self.invariant in
     let room : c.self.inside.free_count + c.self.inside.spare ≡ c.args.self.now.room = ap (λ (p : Places). p.room) c.self.view_is in
     let none : c.self.inside.free_count ≡ 0 = none_free slots _ old.free in
     let some : c.self.inside.spare ≡ (c.self.inside.spare - 1) + 1 = omega (arith, none, room, c.requires) in
     let tracked = subst (λ n. All (Tracks (map content_of slots) n) c.self.inside.tracked.items) some c.self.invariant.tracked in
     let pushed = IsStored-pushed slots c.self.inside.free_count c.self.inside.slots.cap c.self.inside.spare c.args.row c.self.inside.tracked.items
-    c.push_each.new.columns.items c.is_storable.ensures (c.push_each.ensures (map content_of slots) (c.self.inside.spare - 1) tracked) (omega (arith, some)) old in
-    subst (λ h. IsStored c.push_reserved.new.self.items h c.self.inside.free_count c.push_reserved.new.self.cap (c.self.inside.spare - 1) c.push_each.new.columns.items)
+    c.push_each.new.columns.items c.is_storable.ensures (c.push_each.ensures (map content_of slots) (c.self.inside.spare - 1) tracked) (omega (arith, some))
+    old in
+    subst (λ h. IsStored c.push_reserved.new.self.items h c.self.inside.free_count c.push_reserved.new.self.cap (c.self.inside.spare - 1)
+    c.push_each.new.columns.items)
     (sym c.in_default.is)
     (subst (λ n. IsStored c.push_reserved.new.self.items None c.self.inside.free_count n (c.self.inside.spare - 1) c.push_each.new.columns.items)
     (sym c.push_reserved.ensures.capacity)

@@ -34,9 +34,11 @@ invariant_of-self c =
     subst (λ x. IsStored (set slots c.index_of-2.result x) c.self.inside.first_free c.self.inside.free_count c.self.inside.slots.cap
     c.self.inside.spare c.set_each.new.columns.items) (sym c.replace.ensures.after)
     (IsStored-set slots _ _ _ _ _ _ c.index_of-2.result c.args.row _ _ c.is_storable.ensures free
-    (subst (λ i. All (Tracks (set (map content_of slots) i (Alive c.args.row)) c.self.inside.spare) c.set_each.new.columns.items) same tracked) c.self.invariant)
+    (subst (λ i. All (Tracks (set (map content_of slots) i (Alive c.args.row)) c.self.inside.spare) c.set_each.new.columns.items) same tracked)
+    c.self.invariant)
 
 pub returns-clause-replaced : goal.returns-clause-replaced
 returns-clause-replaced c =
     let view : map content_of c.self.inside.slots.items ≡ c.args.self.now.slots = ap (λ p. p.slots) c.self.view_is in
-    ChangesOnly-set _ _ _ _ _ _ _ (ap content_of c.replace.ensures.after) view (IsLive-refers c.args.self.now _ c.args.at _ view c.index_of-2.ensures c.requires)
+    ChangesOnly-set _ _ _ _ _ _ _ (ap content_of c.replace.ensures.after) view
+    (IsLive-refers c.args.self.now _ c.args.at _ view c.index_of-2.ensures c.requires)

@@ -16,10 +16,13 @@ loop-atom-preserved c =
     let items = c.loop-atom.atom-iterator in
     let rest = c.next.new.self in
     record {
-      placed = placed_next (map (mapped_atom (placed_field schema from))) ((map (mapped_atom (placed_field schema from))) c.args.atoms) c.loop-atom.placed c.push.new.self items rest c.in-Some.atom c.place_atom.result
-          c.loop-atom.invariant.placed c.in-Some.ensures.steps c.in_ok-push.ensures.ok (ap (λ y. y ∷ (map (mapped_atom (placed_field schema from))) rest) (sym c.place_atom.ensures.place));
+      placed = placed_next (map (mapped_atom (placed_field schema from))) ((map (mapped_atom (placed_field schema from))) c.args.atoms) c.loop-atom.placed
+          c.push.new.self items rest c.in-Some.atom c.place_atom.result
+          c.loop-atom.invariant.placed c.in-Some.ensures.steps c.in_ok-push.ensures.ok
+          (ap (λ y. y ∷ (map (mapped_atom (placed_field schema from))) rest) (sym c.place_atom.ensures.place));
       faults = c.loop-atom.invariant.faults
-          ∙ noted_next (some_side (field_lacks_column schema from)) mismatch (list_any lacks) items rest c.in-Some.atom (lacks c.in-Some.atom) c.loop-atom.faults c.place_atom.new.faults c.in-Some.ensures.steps refl
+          ∙ noted_next (some_side (field_lacks_column schema from)) mismatch (list_any lacks) items rest c.in-Some.atom (lacks c.in-Some.atom)
+          c.loop-atom.faults c.place_atom.new.faults c.in-Some.ensures.steps refl
           c.place_atom.ensures.faults;
     }
 
@@ -29,7 +32,8 @@ returns-clause-ok c =
     let from = c.args.self.now.from in
     let mismatch : Atom FieldName → Bool = λ a. mismatches (field_type schema from) a.left a.right in
     let lacks : Atom FieldName → Bool = some_side (lacks_alias from) in
-    placed_all (map (mapped_atom (placed_field schema from))) ((map (mapped_atom (placed_field schema from))) c.args.atoms) c.loop-atom.placed c.loop-atom.atom-iterator c.loop-atom.invariant.placed
+    placed_all (map (mapped_atom (placed_field schema from))) ((map (mapped_atom (placed_field schema from))) c.args.atoms) c.loop-atom.placed
+    c.loop-atom.atom-iterator c.loop-atom.invariant.placed
     c.in-None.ensures.steps.0 refl
 
 pub returns-clause-faults : goal.returns-clause-faults
@@ -38,4 +42,5 @@ returns-clause-faults c =
     let from = c.args.self.now.from in
     let mismatch : Atom FieldName → Bool = λ a. mismatches (field_type schema from) a.left a.right in
     let lacks : Atom FieldName → Bool = some_side (lacks_alias from) in
-    sym (c.loop-atom.invariant.faults ∙ noted_all (some_side (field_lacks_column schema from)) mismatch (list_any lacks) c.loop-atom.atom-iterator c.loop-atom.faults c.in-None.ensures.steps.0 refl)
+    sym (c.loop-atom.invariant.faults ∙ noted_all (some_side (field_lacks_column schema from)) mismatch (list_any lacks) c.loop-atom.atom-iterator
+    c.loop-atom.faults c.in-None.ensures.steps.0 refl)

@@ -23,7 +23,8 @@ use Rattle.mm_relation.proofs.Removed.{removed_hidden, hidden_stays}
 use Rattle.mm_relation.proofs.Staying.{staying}
 use Rattle.mm_relation.specs.Differs.{Differs}
 use Rattle.mm_relation.proofs.WaysBack.{StandsBack-changes, Differs-back, old_names}
-use Rattle.mm_relation.proofs.Apply.{split, keep_split, wide_olds, length-news, keys_apart, rows_moved, wide_news, order_stands, held_beside, keep_some, wide_some, spare_some, after}
+use Rattle.mm_relation.proofs.Apply.{split, keep_split, wide_olds, length-news, keys_apart, rows_moved, wide_news, order_stands, held_beside, keep_some}
+use Rattle.mm_relation.proofs.Apply.{wide_some, spare_some, after}
 use Rattle.mm_relation.proofs.relation.Relation.change.Goals as goal
 
 pub take_each-requires-clause-held : goal.take_each-requires-clause-held
@@ -108,7 +109,8 @@ put_each-requires-clause-apart c =
     (staying edit_name edit_other c.self.inside.key c.self.inside.key (slot_at c.self.inside.rows) Old es ++ parts.0)) c.as_slice.ensures.value
     (c.take_each.ensures.refs parts.0
     (subst (λ (es : List Edit). IsPermutation c.self.inside.by_key.refs (named edit_name Old es ++ parts.0)) (sym c.as_slice.ensures.value) parts.1)) in
-    let beside = held_beside c.self.inside.width c.self.inside.key (slot_at c.self.inside.rows) c.self.inside.by_key.refs c.self.inside.indexes.items c.self.invariant
+    let beside = held_beside c.self.inside.width c.self.inside.key (slot_at c.self.inside.rows) c.self.inside.by_key.refs c.self.inside.indexes.items
+    c.self.invariant
     c.args.edits.items standing (slot_at c.change_each.new.rows) c.change_each.new.log.entries c.change_each.ensures.changes parts.0 parts.1 sizes
     c.take_each.new.tree.refs holds in
     rw c.entries.ensures (
@@ -204,7 +206,8 @@ invariant_of-self c =
     (staying edit_name edit_other c.self.inside.key c.self.inside.key (slot_at c.self.inside.rows) Old es ++ parts.0)) c.as_slice.ensures.value
     (c.take_each.ensures.refs parts.0
     (subst (λ (es : List Edit). IsPermutation c.self.inside.by_key.refs (named edit_name Old es ++ parts.0)) (sym c.as_slice.ensures.value) parts.1)) in
-    let beside = held_beside c.self.inside.width c.self.inside.key (slot_at c.self.inside.rows) c.self.inside.by_key.refs c.self.inside.indexes.items c.self.invariant
+    let beside = held_beside c.self.inside.width c.self.inside.key (slot_at c.self.inside.rows) c.self.inside.by_key.refs c.self.inside.indexes.items
+    c.self.invariant
     c.args.edits.items standing (slot_at c.change_each.new.rows) c.change_each.new.log.entries c.change_each.ensures.changes parts.0 parts.1 sizes
     c.take_each.new.tree.refs holds in
     let more : IsPermutation c.put_each.new.tree.refs (news c.change_each.new.log.entries ++ parts.0) = subst
@@ -247,7 +250,8 @@ returns-clause-rows c =
     (staying edit_name edit_other c.self.inside.key c.self.inside.key (slot_at c.self.inside.rows) Old es ++ parts.0)) c.as_slice.ensures.value
     (c.take_each.ensures.refs parts.0
     (subst (λ (es : List Edit). IsPermutation c.self.inside.by_key.refs (named edit_name Old es ++ parts.0)) (sym c.as_slice.ensures.value) parts.1)) in
-    let beside = held_beside c.self.inside.width c.self.inside.key (slot_at c.self.inside.rows) c.self.inside.by_key.refs c.self.inside.indexes.items c.self.invariant
+    let beside = held_beside c.self.inside.width c.self.inside.key (slot_at c.self.inside.rows) c.self.inside.by_key.refs c.self.inside.indexes.items
+    c.self.invariant
     c.args.edits.items standing (slot_at c.change_each.new.rows) c.change_each.new.log.entries c.change_each.ensures.changes parts.0 parts.1 sizes
     c.take_each.new.tree.refs holds in
     let more : IsPermutation c.put_each.new.tree.refs (news c.change_each.new.log.entries ++ parts.0) = subst
@@ -276,7 +280,8 @@ returns-clause-row_list c =
     (staying edit_name edit_other c.self.inside.key c.self.inside.key (slot_at c.self.inside.rows) Old es ++ parts.0)) c.as_slice.ensures.value
     (c.take_each.ensures.refs parts.0
     (subst (λ (es : List Edit). IsPermutation c.self.inside.by_key.refs (named edit_name Old es ++ parts.0)) (sym c.as_slice.ensures.value) parts.1)) in
-    let beside = held_beside c.self.inside.width c.self.inside.key (slot_at c.self.inside.rows) c.self.inside.by_key.refs c.self.inside.indexes.items c.self.invariant
+    let beside = held_beside c.self.inside.width c.self.inside.key (slot_at c.self.inside.rows) c.self.inside.by_key.refs c.self.inside.indexes.items
+    c.self.invariant
     c.args.edits.items standing (slot_at c.change_each.new.rows) c.change_each.new.log.entries c.change_each.ensures.changes parts.0 parts.1 sizes
     c.take_each.new.tree.refs holds in
     let more : IsPermutation c.put_each.new.tree.refs (news c.change_each.new.log.entries ++ parts.0) = subst

@@ -11,7 +11,8 @@ use Rattle.mm_relation.specs.Kept.{StoredRows}
 use Rattle.mm_relation.specs.Lawful.{IsLawful}
 use Rattle.mm_relation.specs.declared.log.UndoRecord.{UndoRecord}
 use Rattle.mm_relation.specs.declared.names.Side.TheVariants.{Old, New}
-use Rattle.mm_relation.proofs.Reverted.{parts, keep_parts, wide_parts, wide_back, apart_back, order_back, beside_back, keep_back, wide_each, spare_each, IsKept-reverted}
+use Rattle.mm_relation.proofs.Reverted.{parts, keep_parts, wide_parts, wide_back, apart_back, order_back, beside_back, keep_back, wide_each, spare_each}
+use Rattle.mm_relation.proofs.Reverted.{IsKept-reverted}
 use Rattle.mm_relation.proofs.Rooms.{spares_changed}
 use Rattle.mm_relation.proofs.Staying.{staying}
 use Rattle.mm_relation.proofs.TakenBack.{names_inverted}
@@ -33,7 +34,11 @@ take_from_all-requires-clause-keep c =
     let differs : Differs now (before es now) (named record_name New es) (named record_name Old es) =
     subst (λ (v : StoredRows). Differs (slot_at v.places) (before es (slot_at v.places)) (named record_name New es) (named record_name Old es))
     (sym c.self.view_is) c.requires.differs in
-    rw c.entries-2.ensures ((parts c.self.inside.width c.self.inside.key now c.self.inside.by_key.refs c.self.inside.indexes.items c.self.invariant es differs).0, keep_parts c.self.inside.width c.self.inside.key now c.self.inside.by_key.refs c.self.inside.indexes.items c.self.invariant es differs)
+    rw c.entries-2.ensures (
+      (parts c.self.inside.width c.self.inside.key now c.self.inside.by_key.refs c.self.inside.indexes.items c.self.invariant es
+          differs).0,
+      keep_parts c.self.inside.width c.self.inside.key now c.self.inside.by_key.refs c.self.inside.indexes.items c.self.invariant es differs,
+    )
 
 pub take_from_all-requires-clause-wide : goal.take_from_all-requires-clause-wide
 take_from_all-requires-clause-wide c =
@@ -42,7 +47,8 @@ take_from_all-requires-clause-wide c =
     let differs : Differs now (before es now) (named record_name New es) (named record_name Old es) =
     subst (λ (v : StoredRows). Differs (slot_at v.places) (before es (slot_at v.places)) (named record_name New es) (named record_name Old es))
     (sym c.self.view_is) c.requires.differs in
-    rw c.entries-2.ensures (wide_parts c.self.inside.width c.self.inside.key now c.self.inside.by_key.refs c.self.inside.indexes.items c.self.invariant es differs)
+    rw c.entries-2.ensures (wide_parts c.self.inside.width c.self.inside.key now c.self.inside.by_key.refs c.self.inside.indexes.items c.self.invariant es
+    differs)
 
 pub put_each-requires-clause-spare : goal.put_each-requires-clause-spare
 put_each-requires-clause-spare c =
@@ -51,7 +57,8 @@ put_each-requires-clause-spare c =
     let then = slot_at c.take_back_each.new.rows in
     let ns : List UndoRecord = c.take_back_each.new.log.entries in
     let names : length (named record_name Old c.entries-3.result.now) ≡ length (named record_name Old es) =
-    ap (λ (xs : List UndoRecord). length (named record_name Old xs)) c.entries-3.ensures ∙ ap (λ (xs : List RowRef). length xs) (names_inverted now es ns Old c.take_back_each.ensures.inverted) in
+    ap (λ (xs : List UndoRecord). length (named record_name Old xs)) c.entries-3.ensures
+    ∙ ap (λ (xs : List RowRef). length xs) (names_inverted now es ns Old c.take_back_each.ensures.inverted) in
     let spare : length (named record_name Old es) ≤ c.self.inside.by_key.spare =
     subst (λ (v : StoredRows). length (named record_name Old es) ≤ v.spare) (sym c.self.view_is) c.requires.spare in
     omega (arith, names, spare, c.take_each.ensures.spare)
@@ -72,7 +79,8 @@ put_each-requires-clause-ordered c =
     subst (λ (xs : List UndoRecord). IsPermutation c.self.inside.by_key.refs (named record_name New xs ++ left.0)
     → IsPermutation c.take_each.new.tree.refs (staying record_name record_other c.self.inside.key c.self.inside.key now New xs ++ left.0)) c.entries.ensures
     (c.take_each.ensures.refs left.0) left.1 in
-    order_back c.self.inside.width c.self.inside.key now c.self.inside.by_key.refs c.self.inside.indexes.items c.self.invariant es differs then ns c.take_back_each.ensures.slots c.take_back_each.ensures.inverted lawful c.take_each.new.tree.refs holds c.take_each.ensures.ordered
+    order_back c.self.inside.width c.self.inside.key now c.self.inside.by_key.refs c.self.inside.indexes.items c.self.invariant es differs then ns
+    c.take_back_each.ensures.slots c.take_back_each.ensures.inverted lawful c.take_each.new.tree.refs holds c.take_each.ensures.ordered
 
 pub put_each-requires-clause-wide : goal.put_each-requires-clause-wide
 put_each-requires-clause-wide c =
@@ -85,7 +93,8 @@ put_each-requires-clause-wide c =
     let ns : List UndoRecord = c.take_back_each.new.log.entries in
     let lawful : IsLawful c.self.inside.width c.self.inside.key (before es now) =
     subst (λ (v : StoredRows). IsLawful v.width v.key (before es (slot_at v.places))) (sym c.self.view_is) c.requires.lawful in
-    rw c.entries-3.ensures (wide_back c.self.inside.width c.self.inside.key now c.self.inside.by_key.refs c.self.inside.indexes.items c.self.invariant es differs then ns c.take_back_each.ensures.slots c.take_back_each.ensures.inverted lawful c.self.inside.key c.self.invariant.key_in)
+    rw c.entries-3.ensures (wide_back c.self.inside.width c.self.inside.key now c.self.inside.by_key.refs c.self.inside.indexes.items c.self.invariant es
+    differs then ns c.take_back_each.ensures.slots c.take_back_each.ensures.inverted lawful c.self.inside.key c.self.invariant.key_in)
 
 pub put_each-requires-clause-apart : goal.put_each-requires-clause-apart
 put_each-requires-clause-apart c =
@@ -103,7 +112,13 @@ put_each-requires-clause-apart c =
     subst (λ (xs : List UndoRecord). IsPermutation c.self.inside.by_key.refs (named record_name New xs ++ left.0)
     → IsPermutation c.take_each.new.tree.refs (staying record_name record_other c.self.inside.key c.self.inside.key now New xs ++ left.0)) c.entries.ensures
     (c.take_each.ensures.refs left.0) left.1 in
-    rw c.entries-3.ensures (left.0, beside_back c.self.inside.width c.self.inside.key now c.self.inside.by_key.refs c.self.inside.indexes.items c.self.invariant es differs then ns c.take_back_each.ensures.slots c.take_back_each.ensures.inverted lawful c.take_each.new.tree.refs holds, apart_back c.self.inside.width c.self.inside.key now c.self.inside.by_key.refs c.self.inside.indexes.items c.self.invariant es differs then ns c.take_back_each.ensures.slots c.take_back_each.ensures.inverted lawful)
+    rw c.entries-3.ensures (
+      left.0,
+      beside_back c.self.inside.width c.self.inside.key now c.self.inside.by_key.refs c.self.inside.indexes.items
+          c.self.invariant es differs then ns c.take_back_each.ensures.slots c.take_back_each.ensures.inverted lawful c.take_each.new.tree.refs holds,
+      apart_back c.self.inside.width c.self.inside.key now c.self.inside.by_key.refs c.self.inside.indexes.items c.self.invariant es differs then ns
+          c.take_back_each.ensures.slots c.take_back_each.ensures.inverted lawful,
+    )
 
 pub put_into_all-requires-clause-keep : goal.put_into_all-requires-clause-keep
 put_into_all-requires-clause-keep c =
@@ -121,7 +136,15 @@ put_into_all-requires-clause-keep c =
     subst (λ (xs : List UndoRecord). EachTurns (λ x. Taken c.self.inside.key now (named record_name New xs)
     (unmoved record_name record_other c.self.inside.key now New xs x) x) c.self.inside.indexes.items c.take_from_all.new.indexes.items)
     c.entries-2.ensures c.take_from_all.ensures.taken in
-    rw c.entries-4.ensures ((parts c.self.inside.width c.self.inside.key now c.self.inside.by_key.refs c.self.inside.indexes.items c.self.invariant es differs).0, keep_back c.self.inside.width c.self.inside.key now c.self.inside.by_key.refs c.self.inside.indexes.items c.self.invariant es differs then ns c.take_back_each.ensures.slots c.take_back_each.ensures.inverted lawful c.take_from_all.new.indexes.items taken, apart_back c.self.inside.width c.self.inside.key now c.self.inside.by_key.refs c.self.inside.indexes.items c.self.invariant es differs then ns c.take_back_each.ensures.slots c.take_back_each.ensures.inverted lawful)
+    rw c.entries-4.ensures (
+      (parts c.self.inside.width c.self.inside.key now c.self.inside.by_key.refs c.self.inside.indexes.items c.self.invariant es
+          differs).0,
+      keep_back c.self.inside.width c.self.inside.key now c.self.inside.by_key.refs c.self.inside.indexes.items c.self.invariant es differs then
+          ns c.take_back_each.ensures.slots c.take_back_each.ensures.inverted lawful c.take_from_all.new.indexes.items taken,
+      apart_back c.self.inside.width
+          c.self.inside.key now c.self.inside.by_key.refs c.self.inside.indexes.items c.self.invariant es differs then ns c.take_back_each.ensures.slots
+          c.take_back_each.ensures.inverted lawful,
+    )
 
 pub put_into_all-requires-clause-wide : goal.put_into_all-requires-clause-wide
 put_into_all-requires-clause-wide c =
@@ -139,7 +162,8 @@ put_into_all-requires-clause-wide c =
     subst (λ (xs : List UndoRecord). EachTurns (λ x. Taken c.self.inside.key now (named record_name New xs)
     (unmoved record_name record_other c.self.inside.key now New xs x) x) c.self.inside.indexes.items c.take_from_all.new.indexes.items)
     c.entries-2.ensures c.take_from_all.ensures.taken in
-    rw c.entries-4.ensures (wide_each c.self.inside.width c.self.inside.key now c.self.inside.by_key.refs c.self.inside.indexes.items c.self.invariant es differs then ns c.take_back_each.ensures.slots c.take_back_each.ensures.inverted lawful c.take_from_all.new.indexes.items taken)
+    rw c.entries-4.ensures (wide_each c.self.inside.width c.self.inside.key now c.self.inside.by_key.refs c.self.inside.indexes.items c.self.invariant es
+    differs then ns c.take_back_each.ensures.slots c.take_back_each.ensures.inverted lawful c.take_from_all.new.indexes.items taken)
 
 pub put_into_all-requires-clause-spare : goal.put_into_all-requires-clause-spare
 put_into_all-requires-clause-spare c =
@@ -159,7 +183,8 @@ put_into_all-requires-clause-spare c =
     c.entries-2.ensures c.take_from_all.ensures.taken in
     let spares : All (λ x. length (named record_name Old es) ≤ spare_of x) c.self.inside.indexes.items =
     subst (λ (v : StoredRows). All (λ x. length (named record_name Old es) ≤ spare_of x) v.indexes) (sym c.self.view_is) c.requires.spares in
-    rw c.entries-4.ensures (spare_each c.self.inside.width c.self.inside.key now c.self.inside.by_key.refs c.self.inside.indexes.items c.self.invariant es differs then ns c.take_back_each.ensures.slots c.take_back_each.ensures.inverted lawful c.take_from_all.new.indexes.items taken spares)
+    rw c.entries-4.ensures (spare_each c.self.inside.width c.self.inside.key now c.self.inside.by_key.refs c.self.inside.indexes.items c.self.invariant es
+    differs then ns c.take_back_each.ensures.slots c.take_back_each.ensures.inverted lawful c.take_from_all.new.indexes.items taken spares)
 
 pub invariant_of-self : goal.invariant_of-self
 invariant_of-self c =
@@ -183,15 +208,19 @@ invariant_of-self c =
     (unmoved record_name record_other c.self.inside.key now New xs x) x) c.self.inside.indexes.items c.take_from_all.new.indexes.items)
     c.entries-2.ensures c.take_from_all.ensures.taken in
     let moved : IsPermutation c.put_each.new.tree.refs (named record_name Old ns ++ left.0) =
-    subst (λ (xs : List UndoRecord). IsPermutation c.take_each.new.tree.refs (staying record_name record_other c.self.inside.key c.self.inside.key then Old xs ++ left.0)
+    subst (λ (xs : List UndoRecord). IsPermutation c.take_each.new.tree.refs
+    (staying record_name record_other c.self.inside.key c.self.inside.key then Old xs ++ left.0)
     → IsPermutation c.put_each.new.tree.refs (named record_name Old xs ++ left.0)) c.entries-3.ensures (c.put_each.ensures.refs left.0)
-    (beside_back c.self.inside.width c.self.inside.key now c.self.inside.by_key.refs c.self.inside.indexes.items c.self.invariant es differs then ns c.take_back_each.ensures.slots c.take_back_each.ensures.inverted lawful c.take_each.new.tree.refs holds) in
+    (beside_back c.self.inside.width c.self.inside.key now c.self.inside.by_key.refs c.self.inside.indexes.items c.self.invariant es differs then ns
+    c.take_back_each.ensures.slots c.take_back_each.ensures.inverted lawful c.take_each.new.tree.refs holds) in
     let put : EachTurns (λ x. Put c.self.inside.key then (named record_name Old ns) (unmoved record_name record_other c.self.inside.key then Old ns x) x)
     c.take_from_all.new.indexes.items c.put_into_all.new.indexes.items =
     subst (λ (xs : List UndoRecord). EachTurns (λ x. Put c.self.inside.key then (named record_name Old xs)
     (unmoved record_name record_other c.self.inside.key then Old xs x) x) c.take_from_all.new.indexes.items c.put_into_all.new.indexes.items)
     c.entries-4.ensures c.put_into_all.ensures.put in
-    IsKept-reverted c.self.inside.width c.self.inside.key now c.self.inside.by_key.refs c.self.inside.indexes.items c.self.invariant es differs then ns c.take_back_each.ensures.slots c.take_back_each.ensures.inverted lawful c.take_from_all.new.indexes.items taken c.put_each.new.tree.refs moved c.put_into_all.new.indexes.items put c.put_each.ensures.ordered
+    IsKept-reverted c.self.inside.width c.self.inside.key now c.self.inside.by_key.refs c.self.inside.indexes.items c.self.invariant es differs then ns
+    c.take_back_each.ensures.slots c.take_back_each.ensures.inverted lawful c.take_from_all.new.indexes.items taken c.put_each.new.tree.refs moved
+    c.put_into_all.new.indexes.items put c.put_each.ensures.ordered
 
 pub returns-clause-spare : goal.returns-clause-spare
 returns-clause-spare c =
@@ -200,7 +229,8 @@ returns-clause-spare c =
     let then = slot_at c.take_back_each.new.rows in
     let ns : List UndoRecord = c.take_back_each.new.log.entries in
     let names : length (named record_name Old c.entries-3.result.now) ≡ length (named record_name Old es) =
-    ap (λ (xs : List UndoRecord). length (named record_name Old xs)) c.entries-3.ensures ∙ ap (λ (xs : List RowRef). length xs) (names_inverted now es ns Old c.take_back_each.ensures.inverted) in
+    ap (λ (xs : List UndoRecord). length (named record_name Old xs)) c.entries-3.ensures
+    ∙ ap (λ (xs : List RowRef). length xs) (names_inverted now es ns Old c.take_back_each.ensures.inverted) in
     subst (λ (v : StoredRows). v.spare ≤ c.put_each.new.tree.spare + length (named record_name Old es)) c.self.view_is
     (omega (arith, names, c.take_each.ensures.spare, c.put_each.ensures.spare))
 
@@ -213,7 +243,8 @@ returns-clause-spares c =
     let outs : List RowRef = named record_name New c.entries-2.result.now in
     let ins : List RowRef = named record_name Old c.entries-4.result.now in
     let names : length ins ≡ length (named record_name Old es) =
-    ap (λ (xs : List UndoRecord). length (named record_name Old xs)) c.entries-4.ensures ∙ ap (λ (xs : List RowRef). length xs) (names_inverted now es ns Old c.take_back_each.ensures.inverted) in
+    ap (λ (xs : List UndoRecord). length (named record_name Old xs)) c.entries-4.ensures
+    ∙ ap (λ (xs : List RowRef). length xs) (names_inverted now es ns Old c.take_back_each.ensures.inverted) in
     subst (λ (v : StoredRows). EachTurns (λ x y. spare_of x ≤ spare_of y + length (named record_name Old es)) v.indexes c.put_into_all.new.indexes.items)
     c.self.view_is
     (subst (λ (n : ℕ). EachTurns (λ x y. spare_of x ≤ spare_of y + n) c.self.inside.indexes.items c.put_into_all.new.indexes.items) names

@@ -46,7 +46,8 @@ invariant_of-self-2 c =
       subst (λ (l : List UndoRecord). IsSound bags ps (undos l)) (sym c.reserve.ensures.items) ready,
       omega (arith, length_is, mapped, room, asked, c.in_ok-self-inside.field-0.ok.0, c.args.changes.ok.0),
       c.self.invariant.2 ∙ sym many,
-      subst (λ (l : List UndoRecord). IsRecorded bags l) (sym c.reserve.ensures.items) (recorded_roomier old.bags.items bags (at old.bags.items bags same) old.log.items c.self.invariant.3),
+      subst (λ (l : List UndoRecord). IsRecorded bags l) (sym c.reserve.ensures.items)
+          (recorded_roomier old.bags.items bags (at old.bags.items bags same) old.log.items c.self.invariant.3),
     )
 
 -- The bags have their entries on each way out, and the log is as it was.

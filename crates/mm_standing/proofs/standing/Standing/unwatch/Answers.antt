@@ -31,5 +31,6 @@ invariant_of-self c =
           (subst (IsSound (remove old.bags.items place) []) (sym log) (sound_less old.bags.items place sound))),
       c.self.invariant.1,
       omega (arith, same, q, b, queries, bags),
-      subst (λ (bs : List Counts). IsRecorded bs old.log.items) (sym c.remove-10.ensures.items) (recorded_none (remove old.bags.items place) old.log.items log (lean_less old.bags.items place lean)),
+      subst (λ (bs : List Counts). IsRecorded bs old.log.items) (sym c.remove-10.ensures.items)
+          (recorded_none (remove old.bags.items place) old.log.items log (lean_less old.bags.items place lean)),
     )

@@ -40,5 +40,6 @@ invariant_of-self-2 c =
           (subst (IsSound (old.bags.items ++ bag ∷ []) []) (sym log) more)),
       c.self.invariant.1,
       omega (arith, same, queries, kept, q, b, bags_long),
-      subst (λ (bs : List Counts). IsRecorded bs old.log.items) (sym bags) (recorded_none (old.bags.items ++ bag ∷ []) old.log.items log (lean_more old.bags.items bag c.in_ok-bag.ensures.positive lean)),
+      subst (λ (bs : List Counts). IsRecorded bs old.log.items) (sym bags)
+          (recorded_none (old.bags.items ++ bag ∷ []) old.log.items log (lean_more old.bags.items bag c.in_ok-bag.ensures.positive lean)),
     )

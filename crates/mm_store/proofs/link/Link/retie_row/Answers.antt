@@ -28,8 +28,12 @@ retie_switched-requires-in-Removed-clause-switches c =
     let ties = c.args.self.now.ties in
     let rest = c.requires.behind.0 in
     let here : IsBehind column key now then (Removed c.in-Removed.at ∷ rest) ties =
-    subst (λ (e : UndoRecord). IsBehind column key now then (e ∷ rest) ties) c.in-Removed.is c.requires.behind.1 in
-    (here.was, first_described column key then now (Removed c.in-Removed.at) rest ties here, first_pending column key then now (Removed c.in-Removed.at) rest ties here)
+    subst (λ (e : UndoRecord). IsBehind column key now then (e ∷ rest) ties) c.in-Removed.is c.requires.behind.1 in (
+      here.was,
+      first_described column key then now (Removed c.in-Removed.at) rest ties here,
+      first_pending column key then now (Removed c.in-Removed.at) rest
+          ties here,
+    )
 
 pub retie_changed-requires-clause-live : goal.retie_changed-requires-clause-live
 retie_changed-requires-clause-live c =
@@ -91,4 +95,5 @@ returns-in-Removed-clause-behind c =
     λ rest behind.
     let here : IsBehind column key now then (Removed c.in-Removed.at ∷ rest) ties =
     subst (λ (e : UndoRecord). IsBehind column key now then (e ∷ rest) ties) c.in-Removed.is behind in
-    IsBehind-next column key then now (Removed c.in-Removed.at) rest ties here c.retie_switched-in-Removed.new.self.ties c.retie_switched-in-Removed.ensures.tied
+    IsBehind-next column key then now (Removed c.in-Removed.at) rest ties here c.retie_switched-in-Removed.new.self.ties
+    c.retie_switched-in-Removed.ensures.tied

@@ -81,7 +81,11 @@ module _ (c : After-index) where
       (c.requires.fits.spare c.args.table relation was_there).each))
 
   abbrev new_store : Tables
-  new_store = record { tables = slice_set c.self.inside.tables.items c.args.table c.add_index.new.self; links = map (λ link. link.reference) c.self.inside.links.items }
+  new_store = record {
+    tables = slice_set c.self.inside.tables.items c.args.table c.add_index.new.self;
+    links = map (λ link. link.reference)
+        c.self.inside.links.items;
+  }
 
   still_fits : CanUndo new_store c.args.undo.now
   still_fits =

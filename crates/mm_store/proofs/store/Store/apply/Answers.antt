@@ -173,7 +173,7 @@ invariant_of-undo-2 c =
     let sum : c.in_ok-undo_room.undo_room + c.count_old-needed.result ≡ slice_index counts c.args.table + c.count_old-needed.result =
     ap (λ (n : ℕ). n + c.count_old-needed.result) c.in_ok-undo_room.ensures.count in
     subst (λ (cs : List LoggedCommand). IsTallied cs (slice_set counts c.args.table (c.in_ok-undo_room.undo_room + c.count_old-needed.result))
-        c.replace-log.new.dest.entries)
+    c.replace-log.new.dest.entries)
     (sym c.push_reserved.ensures.items)
     (subst (IsTallied (commands ++ last ∷ []) (slice_set counts c.args.table (c.in_ok-undo_room.undo_room + c.count_old-needed.result))) (sym emptied)
     (IsTallied-push commands last counts left tallied c.in_ok-undo_room.ensures.there needed (c.in_ok-undo_room.undo_room + c.count_old-needed.result) sum))

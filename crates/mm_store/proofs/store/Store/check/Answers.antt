@@ -65,7 +65,8 @@ returns-then-has_orphans_with-clause-due c =
     let full = nat_lt most_rows (length rows) in
     each (λ (s : StoredRows). AnswersDue {T = Unit {0}} (first_refusal (edit_conditions view c.args.table s edits)) (Err NoTargetRow))
     view c.args.table relation c.table-relation.ensures.at
-    (inl (orphans_due duplicates orphans losses full (sym c.in_ok-has_duplicates_with.ensures.duplicates ∙ c.if-branch.false) (sym (c.has_orphans_with.ensures relation c.table-relation.ensures.at) ∙ c.if-has_orphans_with.true)))
+    (inl (orphans_due duplicates orphans losses full (sym c.in_ok-has_duplicates_with.ensures.duplicates ∙ c.if-branch.false)
+    (sym (c.has_orphans_with.ensures relation c.table-relation.ensures.at) ∙ c.if-has_orphans_with.true)))
 
 pub returns-then-makes_orphans_with-clause-due : goal.returns-then-makes_orphans_with-clause-due
 returns-then-makes_orphans_with-clause-due c =
@@ -79,7 +80,9 @@ returns-then-makes_orphans_with-clause-due c =
     let full = nat_lt most_rows (length rows) in
     each (λ (s : StoredRows). AnswersDue {T = Unit {0}} (first_refusal (edit_conditions view c.args.table s edits)) (Err RowIsReferenced))
     view c.args.table relation c.table-relation.ensures.at
-    (inl (losses_due duplicates orphans losses full (sym c.in_ok-has_duplicates_with.ensures.duplicates ∙ c.if-branch.false) (sym (c.has_orphans_with.ensures relation c.table-relation.ensures.at) ∙ c.if-has_orphans_with.false) (sym (c.makes_orphans_with.ensures relation c.table-relation.ensures.at) ∙ c.if-makes_orphans_with.true)))
+    (inl (losses_due duplicates orphans losses full (sym c.in_ok-has_duplicates_with.ensures.duplicates ∙ c.if-branch.false)
+    (sym (c.has_orphans_with.ensures relation c.table-relation.ensures.at) ∙ c.if-has_orphans_with.false)
+    (sym (c.makes_orphans_with.ensures relation c.table-relation.ensures.at) ∙ c.if-makes_orphans_with.true)))
 
 pub returns-then-len_with-gt-MAX_ROWS-clause-due : goal.returns-then-len_with-gt-MAX_ROWS-clause-due
 returns-then-len_with-gt-MAX_ROWS-clause-due c =
@@ -93,7 +96,9 @@ returns-then-len_with-gt-MAX_ROWS-clause-due c =
     let full = nat_lt most_rows (length rows) in
     each (λ (s : StoredRows). AnswersDue {T = Unit {0}} (first_refusal (edit_conditions view c.args.table s edits)) (Err TableFull))
     view c.args.table relation c.table-relation.ensures.at
-    (inl (full_due duplicates orphans losses full (sym c.in_ok-has_duplicates_with.ensures.duplicates ∙ c.if-branch.false) (sym (c.has_orphans_with.ensures relation c.table-relation.ensures.at) ∙ c.if-has_orphans_with.false) (sym (c.makes_orphans_with.ensures relation c.table-relation.ensures.at) ∙ c.if-makes_orphans_with.false)
+    (inl (full_due duplicates orphans losses full (sym c.in_ok-has_duplicates_with.ensures.duplicates ∙ c.if-branch.false)
+    (sym (c.has_orphans_with.ensures relation c.table-relation.ensures.at) ∙ c.if-has_orphans_with.false)
+    (sym (c.makes_orphans_with.ensures relation c.table-relation.ensures.at) ∙ c.if-makes_orphans_with.false)
     (ap (nat_lt most_rows) (sym c.len_with.ensures) ∙ lt-ltb most_rows c.len_with.result c.if-len_with-gt-MAX_ROWS.true)))
 
 pub returns-clause-lawful : goal.returns-clause-lawful

@@ -86,7 +86,11 @@ module _ (c : After-index) where
       ∙ ap (λ xs. record relation { indexes = xs }) (sym (ap (λ (s : StoredRows). s.indexes) c.drop_index.ensures))
 
   abbrev new_store : Tables
-  new_store = record { tables = slice_set c.self.inside.tables.items c.args.table c.drop_index.new.self; links = map (λ link. link.reference) c.self.inside.links.items }
+  new_store = record {
+    tables = slice_set c.self.inside.tables.items c.args.table c.drop_index.new.self;
+    links = map (λ link. link.reference)
+        c.self.inside.links.items;
+  }
 
   module _ (undo : List Logged) (fits : CanUndo c.args.self.now undo) where
     still_fits : CanUndo new_store undo

@@ -119,7 +119,9 @@ returns-in_err-apply-clause-err c =
     rw (p.1) (λ stored at. (
       c.apply.new.self,
       ap (λ (v : Tables). slice_set v.tables c.args.table c.apply.new.self) c.self.view_is,
-      subst (λ (s : StoredRows). SameButRoom s c.apply.new.self) (sym (only c.self.inside.tables.items _ _ c.args.table refl c.args.self.now c.self.view_is c.requires.there c.index_mut.result.now c.index_mut.ensures.value stored at)) c.in_err-apply.ensures.err,
+      subst (λ (s : StoredRows). SameButRoom s c.apply.new.self)
+          (sym (only c.self.inside.tables.items _ _ c.args.table refl c.args.self.now c.self.view_is c.requires.there c.index_mut.result.now
+          c.index_mut.ensures.value stored at)) c.in_err-apply.ensures.err,
     ))
 
 -- ---- after the edits

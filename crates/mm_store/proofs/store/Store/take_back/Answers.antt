@@ -169,7 +169,7 @@ retie_all-requires-clause-behind c =
     subst (λ (ts : List StoredRows). All (λ link. link.reference.from ≡ place at → CanRetie ts stored c.entries.result.now link) (links at)) (sym is)
     (subst (λ (s : StoredRows). All (λ link. link.reference.from ≡ place at → CanRetie tables s c.entries.result.now link) (links at)) same
     (subst (λ (es : List UndoRecord). All (λ link. link.reference.from ≡ place at → CanRetie tables (new at) es link) (links at)) (sym c.entries.ensures)
-        behind))
+    behind))
 
 pub invariant_of-self : goal.invariant_of-self
 invariant_of-self c =

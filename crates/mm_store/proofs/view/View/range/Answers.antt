@@ -16,7 +16,8 @@ returns-clause-ok c =
     on_ok_weaker c.append_range.result
     (λ each stored column at on.
     let same : c.relation-relation.result.now ≡ stored = one_relation c.relation-relation.result.now stored (sym c.relation-relation.ensures.at ∙ at) in
-    subst (λ (s : StoredRows). Appends (IsRange column s (option_copied c.args.low) (option_copied c.args.high)) c.args.out.now.items c.append_range.new.out.items) same
+    subst (λ (s : StoredRows). Appends (IsRange column s (option_copied c.args.low) (option_copied c.args.high)) c.args.out.now.items
+    c.append_range.new.out.items) same
     (each column (subst (λ (s : StoredRows). IsIndexOn s column c.args.index) (sym same) on)))
     c.append_range.ensures.ok
 
@@ -27,7 +28,8 @@ returns-clause-live c =
     let same : c.relation-relation.result.now ≡ stored = one_relation c.relation-relation.result.now stored (sym c.relation-relation.ensures.at ∙ at) in
     let (column, on, tree) = c.requires.tree stored at in
     subst (λ (s : StoredRows). All (IsLive s.places) c.args.out.now.items → All (IsLive s.places) c.append_range.new.out.items) same
-    (live_range c.relation-relation.result.now c.is_kept.ensures column (option_copied c.args.low) (option_copied c.args.high) c.args.out.now.items c.append_range.new.out.items
+    (live_range c.relation-relation.result.now c.is_kept.ensures column (option_copied c.args.low) (option_copied c.args.high) c.args.out.now.items
+    c.append_range.new.out.items
     (each column (subst (λ (s : StoredRows). IsIndexOn s column c.args.index) (sym same) on))))
     c.append_range.ensures.ok
 

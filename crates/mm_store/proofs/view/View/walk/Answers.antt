@@ -15,7 +15,8 @@ returns-clause-walk c = λ stored column at on.
 
 pub returns-clause-keys : goal.returns-clause-keys
 returns-clause-keys c = λ is stored at.
-    subst (λ (s : StoredRows). c.tree_walk.result ≡ s.refs) (one_relation c.relation.result.now stored (sym c.relation.ensures.at ∙ at)) (c.tree_walk.ensures.keys is)
+    subst (λ (s : StoredRows). c.tree_walk.result ≡ s.refs) (one_relation c.relation.result.now stored (sym c.relation.ensures.at ∙ at))
+    (c.tree_walk.ensures.keys is)
 
 pub returns-clause-live : goal.returns-clause-live
 returns-clause-live c = λ stored at.

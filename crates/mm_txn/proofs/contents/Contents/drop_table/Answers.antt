@@ -38,11 +38,13 @@ drop_table-requires-2-clause-there c =
 pub drop_table-requires-2-clause-unused : goal.drop_table-requires-2-clause-unused
 drop_table-requires-2-clause-unused c =
     let placed = sym c.place_of.ensures.place ∙ c.in_ok-place.ensures.ok_part in
-    let stored = some_there c.self.inside.store.tables c.in_ok-place.place (rows_there c.self.inside.catalog c.self.inside.store.tables c.self.invariant.kept.relations
+    let stored = some_there c.self.inside.store.tables c.in_ok-place.place
+    (rows_there c.self.inside.catalog c.self.inside.store.tables c.self.invariant.kept.relations
     c.args.name.now c.in_ok-place.place placed) in
     let at = beside c.self.inside.catalog.tables c.self.inside.store.tables c.in_ok-place.place stored.0 c.self.invariant.kept.relations stored.1 in
     subst (All (λ (r : Reference). r.to ≢ c.in_ok-place.place)) (sym c.self.invariant.kept.links)
-    (none_to_dropped c.self.inside.catalog c.args.name.now c.in_ok-place.place placed at.table at.there c.self.invariant.kept.targets c.self.invariant.kept.others
+    (none_to_dropped c.self.inside.catalog c.args.name.now c.in_ok-place.place placed at.table at.there c.self.invariant.kept.targets
+    c.self.invariant.kept.others
     c.in_ok-drop_table.ensures.due)
 
 pub invariant_of-self-2 : goal.invariant_of-self-2

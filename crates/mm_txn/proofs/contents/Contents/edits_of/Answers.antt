@@ -8,7 +8,8 @@ use Rattle.mm_txn.proofs.contents.Contents.edits_of.Goals.{in-Delete, in_default
 
 pub cascades-requires-clause-fit : goal.cascades-requires-clause-fit
 cascades-requires-clause-fit c =
-    own_fit c.self.inside.catalog c.self.inside.store c.self.invariant.kept.relations c.args.mutation c.in_ok-own.own.table c.in_ok-own.own.edits.items c.in_ok-own.ensures.ok
+    own_fit c.self.inside.catalog c.self.inside.store c.self.invariant.kept.relations c.args.mutation c.in_ok-own.own.table c.in_ok-own.own.edits.items
+    c.in_ok-own.ensures.ok
 
 pub cascades-requires-clause-removals : goal.cascades-requires-clause-removals
 cascades-requires-clause-removals c =
@@ -33,7 +34,7 @@ returns-clause-ok c =
     elim c.if-cascades_rows.branch [
       | then-cascades_rows+in_ok-cascaded w ↦
           subst (λ (es : List PlacedEdits). AreEditsOf c.args.mutation schema store (placed own) es)
-              (ap (λ cascaded. map placed cascaded.items) (sym w.cascaded-is))
+          (ap (λ cascaded. map placed cascaded.items) (sym w.cascaded-is))
           (edits_with_others schema store are c.args.mutation own.table own.edits.items c.in_ok-own.ensures.ok (is ∙ w.if-cascades_rows.true)
           (map placed w.in_ok-cascaded.cascaded.items) w.in_ok-cascaded.ensures.are w.in_ok-cascaded.ensures.cascades)
       | else-cascades_rows w ↦

@@ -36,7 +36,8 @@ pub returns-then-is_empty-clause-due : goal.returns-then-is_empty-clause-due
 returns-then-is_empty-clause-due c =
     let cascaded = c.args.edits.cascaded in
     let none = nil_from_none cascaded.items (omega (arith, eqb-true _ 0 (sym c.is_empty.ensures ∙ c.if-is_empty.true), cascaded.ok)) in
-    subst (λ (es : List RelationEdits). IsDue c.args.self.now.store c.args.self.now.lists (placed c.args.edits.own) (map placed es) c.edit_table.result) (sym none)
+    subst (λ (es : List RelationEdits). IsDue c.args.self.now.store c.args.self.now.lists (placed c.args.edits.own) (map placed es) c.edit_table.result)
+    (sym none)
     (subst (λ (h : Holdings). IsDue h.store h.lists (placed c.args.edits.own) [] c.edit_table.result) c.self.view_is c.edit_table.ensures.due)
 
 pub returns-then-is_empty-clause-made : goal.returns-then-is_empty-clause-made
@@ -56,7 +57,7 @@ returns-else-is_empty-clause-due c =
 pub returns-else-is_empty-clause-made : goal.returns-else-is_empty-clause-made
 returns-else-is_empty-clause-made c =
     subst (λ (h : Holdings). Makes (rows_edited h.store (placed c.args.edits.own ∷ map placed c.args.edits.cascaded.items)) h.store c.remove_rows.new.store
-        h.lists
+    h.lists
     c.remove_rows.new.standing c.args.undo.now c.remove_rows.new.undo c.remove_rows.result) c.self.view_is c.remove_rows.ensures.made
 
 pub returns-then-is_empty-clause-schema : goal.returns-then-is_empty-clause-schema

@@ -20,7 +20,8 @@ returns-in_err-place-clause-due c =
     let p = err_from_is_err_and c.from_residual.result c.from_residual.ensures.1 in
     let told : NoSuchStandingQuery ≡ c.in_err-place.field-0.0 = grind arith in
     let seen = ap (λ (h : Holdings). first_refusal (drop_standing_conditions c.args.name.now h.schema)) c.self.view_is in
-    rw (p.1, p.2) (inl (sym seen ∙ (standing_missing c.args.name.now c.self.inside.catalog (sym c.standing_place_of.ensures.place ∙ c.in_err-place.ensures.ok_part)
+    rw (p.1, p.2) (inl (sym seen ∙ (standing_missing c.args.name.now c.self.inside.catalog
+    (sym c.standing_place_of.ensures.place ∙ c.in_err-place.ensures.ok_part)
     ∙ ap (λ (r : Refusal). Some r) told)))
 
 pub unwatch-requires-clause-place : goal.unwatch-requires-clause-place

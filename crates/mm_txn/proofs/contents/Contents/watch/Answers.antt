@@ -10,7 +10,8 @@ use Rattle.mm_query.specs.declared.query.FromItem.{FromItem}
 use Rattle.mm_schema.specs.Schema.{Schema}
 use Rattle.mm_schema.specs.Standing.{lacks_some_table}
 use Rattle.mm_txn.specs.Rest.{AreAtRest, state_at_rest}
-use Rattle.mm_txn.proofs.WatchSteps.{as_many_lists, name_free, name_taken_back, rest_by_watch, state_by_watch, watch_due, watch_few, watch_refused, watch_served, watch_tables_there}
+use Rattle.mm_txn.proofs.WatchSteps.{as_many_lists, name_free, name_taken_back, rest_by_watch, state_by_watch, watch_due, watch_few, watch_refused}
+use Rattle.mm_txn.proofs.WatchSteps.{watch_served, watch_tables_there}
 use Rattle.mm_txn.proofs.contents.Contents.watch.Goals as goal
 
 pub prove-unreachable-requires : goal.prove-unreachable-requires
@@ -27,7 +28,8 @@ returns-in_err-bound-clause-due c =
     let name = c.args.named.name in
     let query = c.args.named.query in
     let p = err_from_is_err_and c.from_residual.result c.from_residual.ensures.1 in
-    rw (p.1, p.2) (⊎_elim (λ h. inl (sym seen ∙ watch_refused schema store lists c.self.invariant name query c.in_err-bound.field-0.0 h)) (λ m. inr m) c.in_err-bound.ensures.due)
+    rw (p.1, p.2) (⊎_elim (λ h. inl (sym seen ∙ watch_refused schema store lists c.self.invariant name query c.in_err-bound.field-0.0 h)) (λ m. inr m)
+    c.in_err-bound.ensures.due)
 
 pub add_standing-requires : goal.add_standing-requires
 add_standing-requires c =
@@ -42,7 +44,8 @@ add_standing-requires c =
     let names_are : c.in_ok-names.names ≡ tables_read bound =
     c.in_ok-names.ensures.names ∙ ap (map (λ (item : FromItem). item.table)) c.as_slice.ensures in
     subst (λ ns. lacks_some_table ns schema ≡ false) (sym names_are)
-    (watch_tables_there schema store lists c.self.invariant name query c.in_ok-bound.ensures.due bound c.in_ok-bound.ensures.ok c.in_ok-bound.bound.tables tables_are)
+    (watch_tables_there schema store lists c.self.invariant name query c.in_ok-bound.ensures.due bound c.in_ok-bound.ensures.ok c.in_ok-bound.bound.tables
+    tables_are)
 
 pub watch-requires-clause-there : goal.watch-requires-clause-there
 watch-requires-clause-there c =
@@ -53,7 +56,8 @@ watch-requires-clause-there c =
     let query = c.args.named.query in
     let bound = c.in_ok-bound.bound.query in
     let tables_are : c.in_ok-tables.tables.items ≡ places_in schema bound.from =
-    c.in_ok-tables.ensures ∙ c.as_slice-2.ensures ∙ c.in_ok-bound.ensures.tables ∙ sym (ap (λ (b : BoundQuery). places_in schema b.from) c.in_ok-bound.ensures.ok) in
+    c.in_ok-tables.ensures ∙ c.as_slice-2.ensures ∙ c.in_ok-bound.ensures.tables
+    ∙ sym (ap (λ (b : BoundQuery). places_in schema b.from) c.in_ok-bound.ensures.ok) in
     watch_served schema store lists c.self.invariant name query c.in_ok-bound.ensures.due bound c.in_ok-bound.ensures.ok c.in_ok-tables.tables.items tables_are
 
 pub watch-requires-clause-few : goal.watch-requires-clause-few
@@ -65,7 +69,8 @@ watch-requires-clause-few c =
     let query = c.args.named.query in
     let bound = c.in_ok-bound.bound.query in
     let tables_are : c.in_ok-tables.tables.items ≡ places_in schema bound.from =
-    c.in_ok-tables.ensures ∙ c.as_slice-2.ensures ∙ c.in_ok-bound.ensures.tables ∙ sym (ap (λ (b : BoundQuery). places_in schema b.from) c.in_ok-bound.ensures.ok) in
+    c.in_ok-tables.ensures ∙ c.as_slice-2.ensures ∙ c.in_ok-bound.ensures.tables
+    ∙ sym (ap (λ (b : BoundQuery). places_in schema b.from) c.in_ok-bound.ensures.ok) in
     watch_few schema store lists c.self.invariant name query c.in_ok-bound.ensures.due bound c.in_ok-bound.ensures.ok c.in_ok-tables.tables.items tables_are
 
 pub returns-in-Err-clause-due : goal.returns-in-Err-clause-due
@@ -78,8 +83,10 @@ returns-in-Err-clause-due c =
     let query = c.args.named.query in
     let bound = c.in_ok-bound.bound.query in
     let tables_are : c.in_ok-tables.tables.items ≡ places_in schema bound.from =
-    c.in_ok-tables.ensures ∙ c.as_slice-2.ensures ∙ c.in_ok-bound.ensures.tables ∙ sym (ap (λ (b : BoundQuery). places_in schema b.from) c.in_ok-bound.ensures.ok) in
-    let due = watch_due schema store lists c.self.invariant name query c.in_ok-bound.ensures.due bound c.in_ok-bound.ensures.ok c.in_ok-tables.tables.items tables_are in
+    c.in_ok-tables.ensures ∙ c.as_slice-2.ensures ∙ c.in_ok-bound.ensures.tables
+    ∙ sym (ap (λ (b : BoundQuery). places_in schema b.from) c.in_ok-bound.ensures.ok) in
+    let due = watch_due schema store lists c.self.invariant name query c.in_ok-bound.ensures.due bound c.in_ok-bound.ensures.ok c.in_ok-tables.tables.items
+    tables_are in
     ⊎_elim (λ h. inl (sym seen ∙ (sym due ∙ h))) (λ m. inr m) c.in-Err.ensures.due
 
 pub returns-in-Err-clause-err : goal.returns-in-Err-clause-err
@@ -116,9 +123,11 @@ returns-clause-due c =
     let query = c.args.named.query in
     let bound = c.in_ok-bound.bound.query in
     let tables_are : c.in_ok-tables.tables.items ≡ places_in schema bound.from =
-    c.in_ok-tables.ensures ∙ c.as_slice-2.ensures ∙ c.in_ok-bound.ensures.tables ∙ sym (ap (λ (b : BoundQuery). places_in schema b.from) c.in_ok-bound.ensures.ok) in
+    c.in_ok-tables.ensures ∙ c.as_slice-2.ensures ∙ c.in_ok-bound.ensures.tables
+    ∙ sym (ap (λ (b : BoundQuery). places_in schema b.from) c.in_ok-bound.ensures.ok) in
     sym seen
-    ∙ (sym (watch_due schema store lists c.self.invariant name query c.in_ok-bound.ensures.due bound c.in_ok-bound.ensures.ok c.in_ok-tables.tables.items tables_are)
+    ∙ (sym (watch_due schema store lists c.self.invariant name query c.in_ok-bound.ensures.due bound c.in_ok-bound.ensures.ok c.in_ok-tables.tables.items
+    tables_are)
     ∙ c.in_default.ensures.due)
 
 pub returns-clause-ok : goal.returns-clause-ok
@@ -130,11 +139,13 @@ returns-clause-ok c =
     let query = c.args.named.query in
     let bound = c.in_ok-bound.bound.query in
     let tables_are : c.in_ok-tables.tables.items ≡ places_in schema bound.from =
-    c.in_ok-tables.ensures ∙ c.as_slice-2.ensures ∙ c.in_ok-bound.ensures.tables ∙ sym (ap (λ (b : BoundQuery). places_in schema b.from) c.in_ok-bound.ensures.ok) in
+    c.in_ok-tables.ensures ∙ c.as_slice-2.ensures ∙ c.in_ok-bound.ensures.tables
+    ∙ sym (ap (λ (b : BoundQuery). places_in schema b.from) c.in_ok-bound.ensures.ok) in
     let names_are : c.in_ok-names.names ≡ tables_read bound =
     c.in_ok-names.ensures.names ∙ ap (map (λ (item : FromItem). item.table)) c.as_slice.ensures in
     let new = c.in_default.ensures.ok in
-    state_by_watch schema store lists c.self.invariant name query c.in_ok-bound.ensures.due bound c.in_ok-bound.ensures.ok c.in_ok-tables.tables.items tables_are
+    state_by_watch schema store lists c.self.invariant name query c.in_ok-bound.ensures.due bound c.in_ok-bound.ensures.ok c.in_ok-tables.tables.items
+    tables_are
     c.in_ok-names.names names_are c.copy.result c.copy.ensures new.0 new.1 c.add_standing.new.self c.in_ok-add_standing.ensures.ok
     c.watch.new.self new.2
     ∙ ap (λ (h : Holdings). after_watch name query (state_held h)) c.self.view_is
@@ -148,11 +159,13 @@ invariant_of-self-in_default c =
     let query = c.args.named.query in
     let bound = c.in_ok-bound.bound.query in
     let tables_are : c.in_ok-tables.tables.items ≡ places_in schema bound.from =
-    c.in_ok-tables.ensures ∙ c.as_slice-2.ensures ∙ c.in_ok-bound.ensures.tables ∙ sym (ap (λ (b : BoundQuery). places_in schema b.from) c.in_ok-bound.ensures.ok) in
+    c.in_ok-tables.ensures ∙ c.as_slice-2.ensures ∙ c.in_ok-bound.ensures.tables
+    ∙ sym (ap (λ (b : BoundQuery). places_in schema b.from) c.in_ok-bound.ensures.ok) in
     let names_are : c.in_ok-names.names ≡ tables_read bound =
     c.in_ok-names.ensures.names ∙ ap (map (λ (item : FromItem). item.table)) c.as_slice.ensures in
     let new = c.in_default.ensures.ok in
-    let due = sym (watch_due schema store lists c.self.invariant name query c.in_ok-bound.ensures.due bound c.in_ok-bound.ensures.ok c.in_ok-tables.tables.items tables_are)
+    let due = sym (watch_due schema store lists c.self.invariant name query c.in_ok-bound.ensures.due bound c.in_ok-bound.ensures.ok
+    c.in_ok-tables.tables.items tables_are)
     ∙ c.in_default.ensures.due in
     rest_by_watch schema store lists c.self.invariant name query c.in_ok-bound.ensures.due bound c.in_ok-bound.ensures.ok c.in_ok-tables.tables.items tables_are
     c.in_ok-names.names names_are c.copy.result c.copy.ensures new.0 new.1 c.add_standing.new.self c.in_ok-add_standing.ensures.ok

@@ -42,14 +42,17 @@ make_edits-requires c =
     let state = watched_state held.schema held.store.tables (queries_of lists) in
     record {
       are = known.ok.are;
-      back = subst (λ (links : List Reference). All (λ (r : Reference). r.to < r.from) links) (sym rest.kept.links) (references_back held.schema rest.kept.back);
+      back = subst (λ (links : List Reference). All (λ (r : Reference). r.to < r.from) links) (sym rest.kept.links)
+          (references_back held.schema rest.kept.back);
       fits = c.self.invariant.fits;
       served = served held.schema held.store rest.kept.relations lists rest.placed.placed;
       listed = rest.listed;
       typed = subst (λ (r : RowsByPlace). All (IsTested (rows_by_place (instance_of held.store.tables)) r) lists)
-          (sym (edited_after held.schema held.store rest.kept.relations known.distinct c.args.mutation (placed edits.own) (map placed edits.cascaded.items) known.ok
+          (sym (edited_after held.schema held.store rest.kept.relations known.distinct c.args.mutation (placed edits.own) (map placed edits.cascaded.items)
+          known.ok
           (queries_of lists)))
-          (queries_tested held.schema (instance_of held.store.tables) (after_change c.args.mutation state).rows lists rest.placed.placed c.self.invariant.typed.rows
+          (queries_tested held.schema (instance_of held.store.tables) (after_change c.args.mutation state).rows lists rest.placed.placed
+          c.self.invariant.typed.rows
           (rows_typed_after c.args.mutation state (value_conditions c.args.mutation (state_of held.schema held.store.tables)) known.distinct known.due
           c.self.invariant.typed.rows)
           c.self.invariant.typed.queries);
@@ -76,7 +79,8 @@ returns-in_err-make_edits-clause-due c =
     let known = c.in_ok-edits.ensures in
     let saved = saved_rows c.self.inside.is_open c.self.inside.undo held.store c.self.inside.marks.items in
     let lists = held.lists.queries in
-    let due = change_due held.schema held.store rest.kept.relations known.distinct c.args.mutation (placed edits.own) (map placed edits.cascaded.items) known.ok lists
+    let due = change_due held.schema held.store rest.kept.relations known.distinct c.args.mutation (placed edits.own) (map placed edits.cascaded.items)
+    known.ok lists
     rest.placed.placed (all_to_others held.schema rest.kept.targets rest.kept.others) rest.kept.back rest.kept.links known.due {T = ℕ}
     (Err c.in_err-make_edits.field-0.0) c.in_err-make_edits.ensures.due in
     rw (p.1, p.2) (due_beside held.schema held.store.tables (queries_of lists) saved c.args.mutation c.args.self.now c.self.view_is {T = ℕ}
@@ -124,7 +128,8 @@ returns-clause-due c =
     let known = c.in_ok-edits.ensures in
     let saved = saved_rows c.self.inside.is_open c.self.inside.undo held.store c.self.inside.marks.items in
     let lists = held.lists.queries in
-    let due = change_due held.schema held.store rest.kept.relations known.distinct c.args.mutation (placed edits.own) (map placed edits.cascaded.items) known.ok lists
+    let due = change_due held.schema held.store rest.kept.relations known.distinct c.args.mutation (placed edits.own) (map placed edits.cascaded.items)
+    known.ok lists
     rest.placed.placed (all_to_others held.schema rest.kept.targets rest.kept.others) rest.kept.back rest.kept.links known.due {T = Unit {0}} (Ok tt)
     c.in_ok-make_edits.ensures.due in
     due_beside held.schema held.store.tables (queries_of lists) saved c.args.mutation c.args.self.now c.self.view_is {T = Unit {0}} (Ok tt) due

@@ -1,5 +1,6 @@
 -- The rows are those at the latest savepoint of the name, to which the transaction can go back still.
-use Rattle.std.proofs.Common.{◌≡◌, ℕ, suc, ◌+◌, ◌<◌, ◌≤◌, Bool, true, false, List, length, Option, Some, IfSome, take, get_or, slice_get, refl, sym, ap, subst, ◌∙◌, arith}
+use Rattle.std.proofs.Common.{◌≡◌, ℕ, suc, ◌+◌, ◌<◌, ◌≤◌, Bool, true, false, List, length, Option, Some, IfSome, take, get_or, slice_get, refl, sym, ap}
+use Rattle.std.proofs.Common.{subst, ◌∙◌, arith}
 use Rattle.std.specs.List.{All}
 use Rattle.std.proofs.lemmas.List.Elements.{recursion_from_All}
 use Rattle.std.proofs.lemmas.Option.{slice_get_read}
@@ -29,7 +30,8 @@ returns-in_err-place-clause-due c =
     let due = refused_due c.args.name.now inside.contents inside.undo inside.is_open inside.marks.items c.if-not-self.false
     (recursion_from_All (λ (m : Mark). same_name c.args.name.now m.name ≡ false) inside.marks.items none) in
     let told : NoSuchSavepoint ≡ c.in_err-place.field-0.0 = grind arith in
-    rw (p.1, p.2) (ap (λ (s : State). first_refusal (conditions (RollbackTo c.args.name.now) s)) (sym c.self.view_is) ∙ (due ∙ ap (λ (r : Refusal). Some r) told))
+    rw (p.1, p.2) (ap (λ (s : State). first_refusal (conditions (RollbackTo c.args.name.now) s)) (sym c.self.view_is)
+    ∙ (due ∙ ap (λ (r : Refusal). Some r) told))
 
 module _ (c : After-lengths-commands) where
   abbrev marks : List Mark
@@ -56,7 +58,8 @@ module _ (c : After-lengths-commands) where
       (subst (λ (ms : List Mark). (d : Mark) → same_name c.args.name.now (get_or ms place d).name ≡ true) c.as_slice.ensures.value
       (subst (λ (r : Option ℕ). IfSome r (λ k. (d : Mark) → same_name c.args.name.now (get_or c.as_slice.result.now k d).name ≡ true))
       c.in_ok-place.ensures.ok_part c.latest.ensures.named))
-      (subst (λ (ms : List Mark). (k : ℕ) (d : Mark) → place < k → k < length ms → same_name c.args.name.now (get_or ms k d).name ≡ false) c.as_slice.ensures.value
+      (subst (λ (ms : List Mark). (k : ℕ) (d : Mark) → place < k → k < length ms → same_name c.args.name.now (get_or ms k d).name ≡ false)
+      c.as_slice.ensures.value
       (subst (λ (r : Option ℕ). IfSome r (λ p. (k : ℕ) (d : Mark) → p < k → k < length c.as_slice.result.now
       → same_name c.args.name.now (get_or c.as_slice.result.now k d).name ≡ false)) c.in_ok-place.ensures.ok_part c.latest.ensures.latest))
 

@@ -31,7 +31,8 @@ list-requires-clause-place c =
 
 pub list-requires-clause-fits : goal.list-requires-clause-fits
 list-requires-clause-fits c =
-    list_is_some_bag c.contents.inside.catalog c.contents.inside.standing c.contents.invariant.placed (instance_of c.contents.inside.store.tables) c.contents.invariant.listed
+    list_is_some_bag c.contents.inside.catalog c.contents.inside.standing c.contents.invariant.placed (instance_of c.contents.inside.store.tables)
+    c.contents.invariant.listed
     c.in_ok-place.place
 
 pub returns-clause-due : goal.returns-clause-due
@@ -46,6 +47,7 @@ pub returns-clause-rows : goal.returns-clause-rows
 returns-clause-rows c =
     let seen = ap (λ (h : Holdings). kept_state h c.self.inside.undo c.self.inside.is_open c.self.inside.marks.items) c.contents.view_is ∙ c.self.view_is in
     subst (λ (s : State). IfOk c.list.result (λ rows. rows ≡ shown_rows c.args.name.now s)) seen
-    (shown_if_ok c.contents.inside.catalog c.contents.inside.standing c.contents.invariant.placed (instance_of c.contents.inside.store.tables) c.contents.invariant.listed
+    (shown_if_ok c.contents.inside.catalog c.contents.inside.standing c.contents.invariant.placed (instance_of c.contents.inside.store.tables)
+    c.contents.invariant.listed
     (saved_rows c.self.inside.is_open c.self.inside.undo c.contents.inside.store c.self.inside.marks.items) c.args.name.now c.in_ok-place.place
     (sym c.standing_place_of.ensures.place ∙ c.in_ok-place.ensures.ok_part) c.list.result c.list.ensures.shown)

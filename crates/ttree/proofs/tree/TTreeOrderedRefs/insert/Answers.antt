@@ -11,5 +11,6 @@ returns-clause-ordered g c =
 
 pub returns-then-insert_in_place-clause-ordered : goal.returns-then-insert_in_place-clause-ordered
 returns-then-insert_in_place-clause-ordered g c =
-    let adds : AddsInOrder (g.O.RefOrder.cmp c.args.order.now) c.args.self.now.refs c.args.added (in_order (tree_of c.insert_in_place.new.tree)) = search rules in
+    let adds : AddsInOrder (g.O.RefOrder.cmp c.args.order.now) c.args.self.now.refs c.args.added (in_order (tree_of c.insert_in_place.new.tree)) = search
+    rules in
     IsOrdered-added _ _ c.args.self.now.refs c.args.added (in_order (tree_of c.insert_in_place.new.tree)) c.requires.ordered c.requires.covered adds

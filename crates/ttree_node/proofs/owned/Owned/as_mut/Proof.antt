@@ -8,7 +8,8 @@ use base.Fraction.{full_share}
 use base.Logic.{SProp}
 use base.Fml.{Fml, GName, ftrue, flft}
 use types.Logic.{sem}
-use types.Kit.{‵, raw, ◌⊛◌, some, later, at_ret, ◌$◌, ◌∵◌, !, qed, move, keep, use1, split, split3, join, pick, fsplit, fsplit3, fjoin, rewrite, suffices, frame, group, await, done}
+use types.Kit.{‵, raw, ◌⊛◌, some, later, at_ret, ◌$◌, ◌∵◌, !, qed, move, keep, use1, split, split3, join, pick, fsplit, fsplit3, fjoin, rewrite, suffices}
+use types.Kit.{frame, group, await, done}
 use types.Part.{whole, sub, look_in}
 use types.Run.{enter, addr, stop, hop, fld, of_opd, first, blocks, exec, returns}
 use types.ByLocal.{alloc_all, pass_all, free_all, look_at, get, through, sets, sets_last, env}
