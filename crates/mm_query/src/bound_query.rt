@@ -1,7 +1,6 @@
 //! Queries whose names were resolved.
-ghost use Rattle.std.specs.Prelude.{◌≡◌, ◌-◌, ◌<◌, ◌≤◌, length, map, All, IfErr, IfOk};
+ghost use Rattle.std.specs.Prelude.{◌≡◌, ◌-◌, ◌<◌, ◌≤◌, length, map, All, IfOk};
 ghost use Rattle.mm_schema.specs.Refused.{AnswersDue, first_refusal};
-ghost use Rattle.mm_value.specs.declared.refusal.Refusal.TheVariants.{Memory};
 ghost use Rattle.mm_query.specs.Resolving.{IsQueryWithin, placed_query, places_in, query_conditions};
 
 use crate::atom::Atom;
@@ -11,7 +10,7 @@ use crate::scope::{Scope, form_faults};
 use crate::short_list::ShortList;
 use mm_schema::Catalog;
 use mm_value::Refusal;
-use std::alloc::Global;
+use std::alloc::{AllocError, Global};
 
 /// A column of a row of a combination.
 #[derive(Clone, Copy, Debug, Default, PartialEq, Eq)]
@@ -85,10 +84,9 @@ pub fn bind_query(alloc: Global, catalog: &Catalog, query: Query<'_>) -> Result<
     Ok(Bound { query, tables })
 }
 
-/// Positions counted from 0 in place of those counted from 1. `Memory` is the only refusal.
-fn place_positions(alloc: Global, positions: &[usize]) -> Result<ShortList<usize, 4>, Refusal>
+/// Positions counted from 0 in place of those counted from 1. `AllocError` where memory is refused.
+fn place_positions(alloc: Global, positions: &[usize]) -> Result<ShortList<usize, 4>, AllocError>
     ensures ok { IfOk result (λ columns. columns ≡ map (λ position. position - 1) positions.now) }
-    ensures memory { IfErr result (λ refusal. refusal ≡ Memory) }
 {
     let mut columns = ShortList::with_capacity(alloc, positions.len())?;
     for position in positions {

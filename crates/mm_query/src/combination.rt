@@ -1,16 +1,15 @@
 //! Combinations of rows, as far as their rows are there.
-ghost use Rattle.std.specs.Prelude.{◌≡◌, None, get_or, map, pos, IfErr, IfOk};
+ghost use Rattle.std.specs.Prelude.{◌≡◌, None, get_or, map, pos, IfOk};
 ghost use Rattle.std.specs.Option.{option_copied, option_map, unwrap_or};
 ghost use Rattle.mm_value.specs.Order.{value_cmp};
-ghost use Rattle.mm_value.specs.declared.refusal.Refusal.TheVariants.{Memory};
 ghost use Rattle.mm_value.specs.declared.values.Value.TheVariants.{Int};
 ghost use Rattle.mm_query.specs.Atoms.{holds, operand_of, value_in};
 ghost use Rattle.mm_query.specs.Queries.{none_fails, value_at, values_of};
 
 use crate::atom::{Atom, Operand, compare_shifted};
 use crate::bound_query::FieldPlace;
-use mm_value::{Refusal, Row, Value, compare};
-use std::alloc::Global;
+use mm_value::{Row, Value, compare};
+use std::alloc::{AllocError, Global};
 use std::cmp::Ordering;
 
 /// The value of a row in a column, and this 0 past its end.
@@ -81,10 +80,9 @@ pub fn none_fails(atoms: &[Atom<FieldPlace>], rows: &[Option<&Row>]) -> bool
     atoms.iter().all(|atom| atom.admits(rows))
 }
 
-/// A copy of the value of a field; one whose place has no row reads as 0. `Memory` is the only refusal.
-fn copy_value(alloc: Global, field: FieldPlace, rows: &[Option<&Row>]) -> Result<Value, Refusal>
+/// A copy of the value of a field; one whose place has no row reads as 0. `AllocError` where memory is refused.
+fn copy_value(alloc: Global, field: FieldPlace, rows: &[Option<&Row>]) -> Result<Value, AllocError>
     ensures ok { IfOk result (λ value. value ≡ unwrap_or (value_at (map option_copied rows.now) field) (Int (pos 0))) }
-    ensures memory { IfErr result (λ refusal. refusal ≡ Memory) }
 {
     let zero = Value::Int(0);
     match row_at(rows, field.place) {
@@ -93,14 +91,13 @@ fn copy_value(alloc: Global, field: FieldPlace, rows: &[Option<&Row>]) -> Result
     }
 }
 
-/// The row of the values of fields; one whose place has no row reads as 0. `Memory` is the only refusal.
+/// The row of the values of fields; one whose place has no row reads as 0. `AllocError` where memory is refused.
 pub fn values_of(
     alloc: Global,
     fields: &[FieldPlace],
     rows: &[Option<&Row>],
-) -> Result<Row, Refusal>
+) -> Result<Row, AllocError>
     ensures ok { IfOk result (λ row. row ≡ values_of fields.now (map option_copied rows.now)) }
-    ensures memory { IfErr result (λ refusal. refusal ≡ Memory) }
 {
     let mut values = Vec::with_capacity(alloc, fields.len())?;
     for field in fields {

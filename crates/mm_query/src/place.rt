@@ -1,8 +1,7 @@
 //! Tests and assignments resolved against the columns of their table: each name is looked up once.
-ghost use Rattle.std.specs.Prelude.{◌≡◌, ◌||◌, ℕ, List, false, IfErr, IfOk, OnOk, length, map, nat_lt};
+ghost use Rattle.std.specs.Prelude.{◌≡◌, ◌||◌, ℕ, List, false, IfOk, OnOk, length, map, nat_lt};
 ghost use Rattle.std.specs.List.{list_any};
 ghost use Rattle.mm_schema.specs.Name.{same_name};
-ghost use Rattle.mm_value.specs.declared.refusal.Refusal.TheVariants.{Memory};
 ghost use Rattle.mm_query.specs.Binding.{at_first};
 ghost use Rattle.mm_query.specs.Faults.{noted};
 ghost use Rattle.mm_query.specs.Placing.{assignment_lacks_column, atom_lacks_column, differ, has_duplicate_targets, lacks_column, mapped_atom, mapped_operand, mismatches, operand_lacks_column, operand_type, placed, placed_assignment, placed_atom, placed_operand, shifts_text, type_named};
@@ -15,8 +14,8 @@ use crate::faults::{Faults, Resolved};
 use crate::few::Few;
 use crate::short_list::ShortList;
 use mm_schema::{Columns, NameRef};
-use mm_value::{ColType, Refusal};
-use std::alloc::Global;
+use mm_value::ColType;
+use std::alloc::{AllocError, Global};
 
 /// The most tests of a change.
 pub const MAX_TESTS: usize = 16;
@@ -167,17 +166,16 @@ fn place_test(columns: &Columns, test: Atom<NameRef<'_>>, faults: &mut Faults) -
     }
 }
 
-/// Tests as atoms of a query of the table alone, and what is amiss with them. `Memory` is the only refusal.
+/// Tests as atoms of a query of the table alone, and what is amiss with them. `AllocError` where memory is refused.
 pub(crate) fn place_tests(
     alloc: Global,
     columns: &Columns,
     tests: Few<Atom<NameRef<'_>>>,
     faults: &mut Faults,
-) -> Result<ShortList<Atom<FieldPlace>, 2>, Refusal>
+) -> Result<ShortList<Atom<FieldPlace>, 2>, AllocError>
     ensures ok { IfOk result (λ atoms. atoms ≡ map (mapped_atom at_first) (map (placed_atom columns.now) tests.entry)) }
     ensures faults { OnOk result (faults.new ≡ noted (list_any (atom_lacks_column columns.now) tests.entry) false
         (list_any (λ (t : Test (List ℕ)). mismatches (type_named columns.now) t.left t.right) tests.entry) faults.old) }
-    ensures memory { IfErr result (λ refusal. refusal ≡ Memory) }
 {
     let mut atoms = ShortList::with_capacity(alloc, tests.as_slice().len())?;
     for test in tests {
@@ -186,17 +184,16 @@ pub(crate) fn place_tests(
     Ok(atoms)
 }
 
-/// Assignments with places for their columns, and what is amiss with them. `Memory` is the only refusal.
+/// Assignments with places for their columns, and what is amiss with them. `AllocError` where memory is refused.
 pub(crate) fn place_assignments(
     alloc: Global,
     columns: &Columns,
     assignments: Few<Assignment<NameRef<'_>>>,
     faults: &mut Faults,
-) -> Result<ShortList<Assignment<usize>, 2>, Refusal>
+) -> Result<ShortList<Assignment<usize>, 2>, AllocError>
     ensures ok { IfOk result (λ placed. placed ≡ map (placed_assignment columns.now) assignments.entry) }
     ensures faults { OnOk result (faults.new ≡ noted (list_any (assignment_lacks_column columns.now) assignments.entry) false
         (list_any (λ (a : Assigned (List ℕ)). mismatches (type_named columns.now) a.column a.source) assignments.entry) faults.old) }
-    ensures memory { IfErr result (λ refusal. refusal ≡ Memory) }
 {
     let mut placed = ShortList::with_capacity(alloc, assignments.as_slice().len())?;
     for assignment in assignments {

@@ -1,9 +1,8 @@
 //! The plain evaluation of a query, row by row.
-ghost use Rattle.std.specs.Prelude.{◌≡◌, ◌≤◌, ◌++◌, ◌∷◌, [], length, map, IfErr, IfOk, OnErr, OnOk};
+ghost use Rattle.std.specs.Prelude.{◌≡◌, ◌≤◌, ◌++◌, ◌∷◌, [], length, map, IfOk, OnErr, OnOk};
 ghost use Rattle.std.specs.Option.{option_copied};
 ghost use Rattle.mm_schema.specs.Refused.{AnswersDue, first_refusal};
 ghost use Rattle.mm_schema.specs.Rows.{most_rows};
-ghost use Rattle.mm_value.specs.declared.refusal.Refusal.TheVariants.{Memory};
 ghost use Rattle.mm_query.specs.Queries.{bag_of, size_conditions};
 ghost use Rattle.mm_query.specs.Walk.{found_behind};
 
@@ -11,7 +10,7 @@ use crate::bound_query::BoundQuery;
 use crate::combination::{none_fails, values_of};
 use mm_schema::MAX_ROWS;
 use mm_value::{Refusal, Row};
-use std::alloc::Global;
+use std::alloc::{AllocError, Global};
 use std::marker::Model;
 
 /// The most combinations that may fit a query: as many as a table may have rows.
@@ -42,11 +41,10 @@ impl<'a> PlainRows<'a> {
         }
     }
 
-    /// Adds the rows of the next table of FROM. `Memory` is the only refusal, and changes nothing.
-    pub fn add(&mut self, rows: &'a [Row]) -> Result<(), Refusal>
+    /// Adds the rows of the next table of FROM. `AllocError` where memory is refused, and then nothing changes.
+    pub fn add(&mut self, rows: &'a [Row]) -> Result<(), AllocError>
         ensures ok { OnOk result (self.new ≡ self.old ++ rows.now ∷ []) }
         ensures err { OnErr result (self.new ≡ self.old) }
-        ensures memory { IfErr result (λ refusal. refusal ≡ Memory) }
     {
         self.lists.push(rows)?;
         Ok(())

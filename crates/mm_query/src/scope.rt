@@ -1,11 +1,11 @@
 //! The tables of FROM, by which the names of a query are resolved: each is looked up once.
-ghost use Rattle.std.specs.Prelude.{◌≡◌, ◌||◌, ◌∷◌, [], false, map, IfErr, IfOk, OnOk};
+ghost use Rattle.std.specs.Prelude.{◌≡◌, ◌||◌, ◌∷◌, [], false, map, IfOk, OnOk};
 ghost use Rattle.std.specs.List.{list_any};
 ghost use Rattle.std.specs.Option.{option_map_or};
 ghost use Rattle.mm_schema.specs.Name.{same_name};
 ghost use Rattle.mm_schema.specs.Refused.{AnswersDue, first_refusal};
 ghost use Rattle.mm_schema.specs.Schema.{lacks_table};
-ghost use Rattle.mm_value.specs.declared.refusal.Refusal.TheVariants.{Memory, NoSuchTable};
+ghost use Rattle.mm_value.specs.declared.refusal.Refusal.TheVariants.{NoSuchTable};
 ghost use Rattle.mm_query.specs.Faults.{noted};
 ghost use Rattle.mm_query.specs.Fields.{FieldName as Field};
 ghost use Rattle.mm_query.specs.Placing.{differ, mapped_atom, mapped_operand, mismatches, operand_type, shifts_text};
@@ -22,7 +22,7 @@ use crate::query::{FieldName, FromItem, Query};
 use crate::short_list::ShortList;
 use mm_schema::{Catalog, Name, NameRef};
 use mm_value::{ColType, Refusal};
-use std::alloc::Global;
+use std::alloc::{AllocError, Global};
 
 /// The most tables of FROM.
 pub const MAX_FROM: usize = 4;
@@ -43,7 +43,7 @@ pub(crate) struct Scope<'a> {
     ghost places: { tables ≡ places_in catalog.now from },
 }
 
-/// The places of tables in the catalog's order of creation. `NoSuchTable` where one isn't there; else `Memory` is the only refusal.
+/// The places of tables in the catalog's order of creation. `NoSuchTable` where one isn't there; `Memory` where memory is refused.
 fn find_tables(
     alloc: Global,
     catalog: &Catalog,
@@ -64,7 +64,7 @@ fn find_tables(
 }
 
 impl<'a> Scope<'a> {
-    /// The tables of FROM, each looked up in the catalog. `NoSuchTable` where one isn't there; else `Memory` is the only refusal.
+    /// The tables of FROM, each looked up in the catalog. `NoSuchTable` where one isn't there; `Memory` where memory is refused.
     pub(crate) fn find(
         alloc: Global,
         catalog: &'a Catalog,
@@ -121,17 +121,16 @@ impl<'a> Scope<'a> {
         }
     }
 
-    /// The places of fields, and what is amiss with them. `Memory` is the only refusal.
+    /// The places of fields, and what is amiss with them. `AllocError` where memory is refused.
     pub(crate) fn place_fields(
         &self,
         alloc: Global,
         fields: &[FieldName<NameRef<'_>>],
         faults: &mut Faults,
-    ) -> Result<ShortList<FieldPlace, 4>, Refusal>
+    ) -> Result<ShortList<FieldPlace, 4>, AllocError>
         ensures ok { IfOk result (λ placed. placed ≡ map (placed_field self.now.catalog.now self.now.from) fields.now) }
         ensures faults { OnOk result (faults.new ≡ noted (list_any (field_lacks_column self.now.catalog.now self.now.from) fields.now)
             (list_any (lacks_alias self.now.from) fields.now) false faults.old) }
-        ensures memory { IfErr result (λ refusal. refusal ≡ Memory) }
     {
         let mut placed = ShortList::with_capacity(alloc, fields.len())?;
         for field in fields {
@@ -192,20 +191,19 @@ impl<'a> Scope<'a> {
         }
     }
 
-    /// Atoms with places for their fields, and what is amiss with them. `Memory` is the only refusal.
+    /// Atoms with places for their fields, and what is amiss with them. `AllocError` where memory is refused.
     pub(crate) fn place_atoms(
         &self,
         alloc: Global,
         atoms: Few<Atom<FieldName<NameRef<'_>>>>,
         faults: &mut Faults,
-    ) -> Result<ShortList<Atom<FieldPlace>, 2>, Refusal>
+    ) -> Result<ShortList<Atom<FieldPlace>, 2>, AllocError>
         ensures ok { IfOk result (λ placed. placed ≡ map (mapped_atom (placed_field self.now.catalog.now self.now.from)) atoms.entry) }
         ensures faults { OnOk result (faults.new ≡ noted
             (list_any (some_side (field_lacks_column self.now.catalog.now self.now.from)) atoms.entry)
             (list_any (some_side (lacks_alias self.now.from)) atoms.entry)
             (list_any (λ (a : Test Field). mismatches (field_type self.now.catalog.now self.now.from) a.left a.right) atoms.entry)
             faults.old) }
-        ensures memory { IfErr result (λ refusal. refusal ≡ Memory) }
     {
         let mut placed = ShortList::with_capacity(alloc, atoms.as_slice().len())?;
         for atom in atoms {

@@ -22,18 +22,18 @@ fn sum_in_range(number: i64, shift: i64) -> Result<i64, Refusal>
 
 impl Operand<usize> {
     /// Its value for a row, in memory of its own. `ArithmeticOutOfRange` where it is past the range of whole numbers; else
-    /// `Memory` is the only refusal.
+    /// `Memory` where memory is refused.
     fn value_for(&self, alloc: Global, row: &Row) -> Result<Value, Refusal>
         requires { IsWithin (length row.now) self.now }
         ensures due { AnswersDue (first_refusal (range_conditions (value_for row.now self.now ∷ []))) result }
         ensures ok { IfOk result (λ value. value ≡ value_for row.now self.now) }
     {
         match self {
-            Operand::Literal(value) => value.copy(alloc),
-            Operand::Column(column) => row.value(*column).copy(alloc),
+            Operand::Literal(value) => Ok(value.copy(alloc)?),
+            Operand::Column(column) => Ok(row.value(*column).copy(alloc)?),
             Operand::Shifted(column, shift) => match row.value(*column) {
                 Value::Int(number) => Ok(Value::Int(sum_in_range(*number, *shift)?)),
-                text => text.copy(alloc),
+                text => Ok(text.copy(alloc)?),
             },
         }
     }
@@ -62,12 +62,12 @@ fn updated_value(
 {
     match assignment_to(assignments, column) {
         Some(assignment) => assignment.source.value_for(alloc, row),
-        None => old.copy(alloc),
+        None => Ok(old.copy(alloc)?),
     }
 }
 
 /// The row that assignments make of a row; each value is computed from the old row alone. `ArithmeticOutOfRange` where some
-/// value is past the range of whole numbers; else `Memory` is the only refusal.
+/// value is past the range of whole numbers; `Memory` where memory is refused.
 pub fn updated_row(
     alloc: Global,
     row: &Row,

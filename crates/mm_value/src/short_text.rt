@@ -5,7 +5,7 @@ ghost use Rattle.mm_value.specs.declared.refusal.Refusal.TheVariants.{Syntax, Te
 
 use crate::refusal::Refusal;
 use smallvec::SmallVec;
-use std::alloc::Global;
+use std::alloc::{AllocError, Global};
 use std::marker::Model;
 
 /// A text: 0 to 64 bytes, any but a line feed. Up to 16 bytes lie in the value itself.
@@ -58,10 +58,9 @@ impl Text {
         self.bytes.as_slice()
     }
 
-    /// A text of the same bytes. `Memory` is the only refusal, and answered only for more than 16 bytes.
-    pub fn copy(&self, alloc: Global) -> Result<Text, Refusal>
+    /// A text of the same bytes. `AllocError` where memory is refused; only more than 16 bytes take any.
+    pub fn copy(&self, alloc: Global) -> Result<Text, AllocError>
         ensures ok { IfOk result (λ text. text ≡ self.now) }
-        ensures memory { IfErr result (λ e. e ≡ Memory) }
         ensures short { length self.now ≤ 16 → IsOk result }
     {
         Ok(Text {

@@ -1,11 +1,9 @@
 //! Rows.
-ghost use Rattle.std.specs.Prelude.{◌≡◌, ◌<◌, length, slice_get, Some, IfOk, IfErr};
+ghost use Rattle.std.specs.Prelude.{◌≡◌, ◌<◌, length, slice_get, Some, IfOk};
 ghost use Rattle.mm_value.specs.Storable.{AreStorable};
-ghost use Rattle.mm_value.specs.declared.refusal.Refusal.TheVariants.{Memory};
 
-use crate::refusal::Refusal;
 use crate::values::Value;
-use std::alloc::Global;
+use std::alloc::{AllocError, Global};
 use std::marker::Model;
 
 /// A row: its values from left to right.
@@ -66,11 +64,9 @@ impl Row {
         self.values.as_slice()
     }
 
-    /// A row of the same values. `Memory` where memory is refused for the list of them or for a text; that is the only
-    /// refusal.
-    pub fn copy(&self, alloc: Global) -> Result<Row, Refusal>
+    /// A row of the same values. `AllocError` where memory is refused for the list of them or for a text.
+    pub fn copy(&self, alloc: Global) -> Result<Row, AllocError>
         ensures ok { IfOk result (λ row. row ≡ self.now) }
-        ensures memory { IfErr result (λ e. e ≡ Memory) }
     {
         let mut values = Vec::with_capacity(alloc, self.len())?;
         for value in &self.values {
