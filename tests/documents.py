@@ -111,7 +111,7 @@ def all_words():
 @functools.cache
 def keywords():
     """The keywords of the command language."""
-    return frozenset(re.findall(r'=> b"([A-Z]+)"', read("crates/mm_lang/src/keyword.rt")))
+    return frozenset(re.findall(r'=> b"([A-Z]+)"', read("crates/mm_lang/src/read/keyword.rt")))
 
 
 @functools.cache

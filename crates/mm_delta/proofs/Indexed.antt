@@ -10,7 +10,7 @@ use Rattle.std.proofs.lemmas.List.Folds.{list_any_at, list_any_none}
 use Rattle.mm_relation.specs.Index.{column_of, kind_of}
 use Rattle.mm_relation.specs.Kept.{StoredRows}
 use Rattle.mm_relation.specs.Reads.{HasIndex, IsOn}
-use Rattle.mm_relation.specs.declared.index.Index.{Index}
+use Rattle.mm_relation.specs.declared.indexes.index.Index.{Index}
 use Rattle.mm_schema.specs.declared.index.IndexKind.{IndexKind}
 use Rattle.mm_schema.specs.declared.index.IndexKind.TheVariants as kind
 use Rattle.mm_store.specs.Looked.{IsFirstOn, IsIndexOn}

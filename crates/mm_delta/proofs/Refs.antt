@@ -12,7 +12,7 @@ use Rattle.mm_partition.specs.Places.{IsLive, slot_at}
 use Rattle.mm_relation.specs.Kept.{IsKept, StoredRows}
 use Rattle.mm_relation.specs.Reads.{Appends, AreMatches, IsRange, has_value}
 use Rattle.mm_relation.specs.Refs.{Slots, row_at, row_in}
-use Rattle.mm_relation.specs.declared.index.Index.{Index}
+use Rattle.mm_relation.specs.declared.indexes.index.Index.{Index}
 use Rattle.mm_store.specs.Looked.{IsIndexOn}
 use Rattle.mm_store.specs.declared.index_ref.IndexRef.{IndexRef}
 use Rattle.mm_store.specs.declared.index_ref.IndexRef.TheVariants.{Key, Tree, Hash}

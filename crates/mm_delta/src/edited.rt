@@ -2,7 +2,7 @@
 ghost use Rattle.std.specs.Prelude.{◌≡◌, not};
 ghost use Rattle.std.specs.Option.{option_copied};
 ghost use Rattle.mm_relation.specs.Edits.{edit_name, new_row};
-ghost use Rattle.mm_relation.specs.declared.names.Side.TheVariants.{Old};
+ghost use Rattle.mm_relation.specs.declared.indexes.names.Side.TheVariants.{Old};
 ghost use Rattle.mm_delta.specs.Edited.{edits_at};
 ghost use Rattle.mm_delta.specs.Steps.{stays, takes};
 

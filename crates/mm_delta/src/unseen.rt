@@ -4,7 +4,7 @@ ghost use Rattle.std.specs.List.{cons_option, list_all};
 ghost use Rattle.mm_partition.specs.Places.{IsLive, slot_at};
 ghost use Rattle.mm_relation.specs.Edits.{edit_name, named};
 ghost use Rattle.mm_relation.specs.Kept.{StoredRows};
-ghost use Rattle.mm_relation.specs.declared.names.Side.TheVariants.{Old};
+ghost use Rattle.mm_relation.specs.declared.indexes.names.Side.TheVariants.{Old};
 ghost use Rattle.mm_store.specs.Tables.{AreFit, IsAt};
 ghost use Rattle.mm_value.specs.declared.refusal.Refusal.TheVariants.{Memory};
 ghost use Rattle.mm_delta.specs.Unseen.{agree_for, agree_in, come_seen, gone_seen, looks_alike};

@@ -3,8 +3,8 @@ use Rattle.std.proofs.Common.{◌≡◌, ◌<◌, ⊎_elim, ℕ, Bool, true, fal
 use Rattle.std.proofs.Common.{arith, append_assoc, length-append}
 use Rattle.std.specs.Option.{option_map, option_and_then, option_or}
 use Rattle.std.proofs.lemmas.Option.{none-some}
-use Rattle.mm_lang.specs.declared.keyword.Keyword.{Keyword}
-use Rattle.mm_lang.specs.declared.token.Symbol.TheVariants.{Open, Close}
+use Rattle.mm_lang.specs.declared.read.keyword.Keyword.{Keyword}
+use Rattle.mm_lang.specs.declared.read.token.Symbol.TheVariants.{Open, Close}
 use Rattle.mm_lang.specs.Phrases.{Phrase, ◌>>=◌, say, one, the_symbol, the_keyword, has_keyword, behind_item, at_most, list_of, clause_behind, clause}
 use Rattle.mm_lang.specs.Phrases.{in_parentheses}
 use Rattle.mm_lang.specs.Spelling.{word, SpellsOne, SpellsList, SpellsClause, SpellsInParentheses}

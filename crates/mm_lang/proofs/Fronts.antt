@@ -5,10 +5,10 @@ use Rattle.std.specs.List.{prefix_len}
 use Rattle.std.proofs.lemmas.Bool.{cases_Bool, cond-false, ne_eqb}
 use Rattle.std.proofs.lemmas.List.{take_rest}
 use Rattle.std.proofs.lemmas.List.Sums.{prefix_len-le-length}
-use Rattle.mm_lang.specs.declared.token.Symbol.{Symbol}
-use Rattle.mm_lang.specs.declared.token.Symbol.TheVariants.{Minus}
-use Rattle.mm_lang.specs.declared.token.Token.{Token as Shown}
-use Rattle.mm_lang.specs.declared.token.Token.TheVariants as shown
+use Rattle.mm_lang.specs.declared.read.token.Symbol.{Symbol}
+use Rattle.mm_lang.specs.declared.read.token.Symbol.TheVariants.{Minus}
+use Rattle.mm_lang.specs.declared.read.token.Token.{Token as Shown}
+use Rattle.mm_lang.specs.declared.read.token.Token.TheVariants as shown
 use Rattle.mm_lang.specs.Tokens.{Token, Word, Signed, Mark, Unreadable, Inside, tokens, lexed, is_word_byte, begins_word, begins_equal, onto_minus}
 use Rattle.mm_lang.specs.Tokens.{onto_equal, onto_symbol}
 use Rattle.mm_lang.specs.steps.Splitting.{Splits, begins_blank}

@@ -2,7 +2,7 @@
 use Rattle.std.proofs.Common.{◌≡◌, ◌≢◌, ℕ, Bool, true, false, ⊎_elim, suc, one-add, eqb, List, [], ◌∷◌, ◌++◌, get_or, take, drop, refl, sym, ap, ◌∙◌}
 use Rattle.std.specs.List.{prefix_len}
 use Rattle.std.proofs.lemmas.Bool.{cases_Bool, false≢true, cond-true, cond-false, or_from, ne_eqb}
-use Rattle.mm_lang.specs.declared.token.Symbol.TheVariants.{Equal}
+use Rattle.mm_lang.specs.declared.read.token.Symbol.TheVariants.{Equal}
 use Rattle.mm_lang.specs.Tokens.{Token, Word, Quoted, Mark, Unreadable, Inside, tokens, lexed, is_blank, is_word_byte, begins_word, onto_word, onto_text}
 use Rattle.mm_lang.specs.Tokens.{onto_symbol}
 use Rattle.mm_lang.specs.steps.Splitting.{begins_blank}

@@ -6,9 +6,9 @@ use Rattle.std.specs.Option.{option_map, option_and_then, option_or}
 use Rattle.std.proofs.lemmas.List.Concat.{flat_map-append}
 use Rattle.mm_value.specs.declared.refusal.Refusal.{Refusal}
 use Rattle.mm_value.specs.declared.values.Value.{Value}
-use Rattle.mm_lang.specs.declared.reader.Reader.{Reader}
-use Rattle.mm_lang.specs.declared.phrase.Separator.{Separator}
-use Rattle.mm_lang.specs.declared.phrase.Separator.TheVariants.{Comma, And}
+use Rattle.mm_lang.specs.declared.read.reader.Reader.{Reader}
+use Rattle.mm_lang.specs.declared.read.phrase.Separator.{Separator}
+use Rattle.mm_lang.specs.declared.read.phrase.Separator.TheVariants.{Comma, And}
 use Rattle.mm_lang.specs.Phrases.{Phrase, the_separator, behind_item, at_most, list_of}
 use Rattle.mm_lang.specs.Reading.{first_fault}
 use Rattle.mm_lang.specs.Tokens.{Token, tokens}

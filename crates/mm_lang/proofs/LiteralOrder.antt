@@ -25,9 +25,9 @@ use Rattle.mm_query.specs.declared.command.Command.TheVariants as command
 use Rattle.mm_query.specs.declared.command.Definition.TheVariants as define
 use Rattle.mm_query.specs.declared.command.Mutation.TheVariants as change
 use Rattle.mm_query.specs.declared.query.Query.{Query}
-use Rattle.mm_lang.specs.declared.keyword.Keyword.{Keyword}
-use Rattle.mm_lang.specs.declared.keyword.Keyword.TheVariants as keyword
-use Rattle.mm_lang.specs.declared.token.Symbol.TheVariants.{Open, Close, Comma, Dot, Equal}
+use Rattle.mm_lang.specs.declared.read.keyword.Keyword.{Keyword}
+use Rattle.mm_lang.specs.declared.read.keyword.Keyword.TheVariants as keyword
+use Rattle.mm_lang.specs.declared.read.token.Symbol.TheVariants.{Open, Close, Comma, Dot, Equal}
 use Rattle.mm_lang.specs.Grammar.{command_of}
 use Rattle.mm_lang.specs.Reading.{assignment_literals, first_fault, literals_among, literals_of, operand_literals, past_limit, position_literals}
 use Rattle.mm_lang.specs.Reading.{query_literals, test_literals}

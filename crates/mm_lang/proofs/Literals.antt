@@ -14,9 +14,9 @@ use Rattle.mm_value.specs.declared.values.Value.TheVariants.{Int, Text}
 use Rattle.mm_value.specs.Literal.{is_numeral, is_within_limit, IsNumeral, SpellsInt, SpellsText, Spells, IsWithinLimit, doubled}
 use Rattle.mm_value.proofs.Limits.{int_within}
 use Rattle.mm_value.proofs.Spelling.{minus_no_digits, minus_no_text}
-use Rattle.mm_lang.specs.declared.token.Token.{Token as Shown}
-use Rattle.mm_lang.specs.declared.token.Token.TheVariants as shown
-use Rattle.mm_lang.specs.declared.reader.Reader.{Reader}
+use Rattle.mm_lang.specs.declared.read.token.Token.{Token as Shown}
+use Rattle.mm_lang.specs.declared.read.token.Token.TheVariants as shown
+use Rattle.mm_lang.specs.declared.read.reader.Reader.{Reader}
 use Rattle.mm_lang.specs.Grammar.{literal_of}
 use Rattle.mm_lang.specs.Phrases.{one}
 use Rattle.mm_lang.specs.Reading.{checked, unless, literal_fault, past_limit}

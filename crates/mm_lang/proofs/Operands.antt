@@ -17,8 +17,8 @@ use Rattle.mm_query.specs.declared.atom.Atom.{Atom}
 use Rattle.mm_query.specs.declared.atom.Comparison.{Comparison}
 use Rattle.mm_query.specs.declared.atom.Operand.{Operand}
 use Rattle.mm_query.specs.declared.atom.Operand.TheVariants as kind_of
-use Rattle.mm_lang.specs.declared.reader.Reader.{Reader}
-use Rattle.mm_lang.specs.declared.token.Symbol.TheVariants as symbol
+use Rattle.mm_lang.specs.declared.read.reader.Reader.{Reader}
+use Rattle.mm_lang.specs.declared.read.token.Symbol.TheVariants as symbol
 use Rattle.mm_lang.specs.Grammar.{literal_of, name, comparison, numbered, digits, shift, with_shift, operand_behind, operand_on, test_on, assignment}
 use Rattle.mm_lang.specs.Phrases.{Phrase, ◌>>=◌, ◌>>◌, say, one, the_symbol, maybe}
 use Rattle.mm_lang.specs.Reading.{assignment_literals, first_fault, operand_literals, test_literals}

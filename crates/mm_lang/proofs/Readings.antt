@@ -10,9 +10,9 @@ use Rattle.mm_value.specs.declared.col_type.ColType.{ColType}
 use Rattle.mm_value.specs.declared.refusal.Refusal.{Refusal}
 use Rattle.mm_value.specs.declared.refusal.Refusal.TheVariants.{Syntax}
 use Rattle.mm_value.specs.declared.values.Value.{Value}
-use Rattle.mm_lang.specs.declared.keyword.Keyword.{Keyword}
-use Rattle.mm_lang.specs.declared.keyword.Keyword.TheVariants as keyword
-use Rattle.mm_lang.specs.declared.reader.Reader.{Reader}
+use Rattle.mm_lang.specs.declared.read.keyword.Keyword.{Keyword}
+use Rattle.mm_lang.specs.declared.read.keyword.Keyword.TheVariants as keyword
+use Rattle.mm_lang.specs.declared.read.reader.Reader.{Reader}
 use Rattle.mm_lang.specs.Grammar.{name, col_type, on_delete_of, reference_to, reference, role_behind, role, column}
 use Rattle.mm_lang.specs.Phrases.{Phrase, ◌>>=◌, say, one, one_word, word_of, the_keyword, has_keyword, list_of, clause_behind, clause}
 use Rattle.mm_lang.specs.Reading.{first_fault, literal_fault}

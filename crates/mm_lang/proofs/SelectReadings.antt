@@ -17,9 +17,9 @@ use Rattle.mm_query.specs.declared.command.Definition.TheVariants as define
 use Rattle.mm_query.specs.Fields.{FieldName}
 use Rattle.mm_query.specs.declared.query.FromItem.{FromItem}
 use Rattle.mm_query.specs.declared.query.Query.{Query}
-use Rattle.mm_lang.specs.declared.keyword.Keyword.TheVariants as keyword
-use Rattle.mm_lang.specs.declared.reader.Reader.{Reader}
-use Rattle.mm_lang.specs.declared.token.Symbol.TheVariants as symbol
+use Rattle.mm_lang.specs.declared.read.keyword.Keyword.TheVariants as keyword
+use Rattle.mm_lang.specs.declared.read.reader.Reader.{Reader}
+use Rattle.mm_lang.specs.declared.read.token.Symbol.TheVariants as symbol
 use Rattle.mm_lang.specs.Grammar.{name, comma_list, explain, field, from_item, position, order, query, select, tests_on, watch}
 use Rattle.mm_lang.specs.Phrases.{Phrase, ◌>>=◌, ◌>>◌, say, one, word_of, the_symbol, the_keyword, has_keyword}
 use Rattle.mm_lang.specs.Reading.{literals_of, position_literals, query_literals, test_literals}

@@ -18,10 +18,10 @@ use Rattle.mm_query.specs.declared.command.Command.{Command}
 use Rattle.mm_query.specs.declared.command.Command.TheVariants as command
 use Rattle.mm_query.specs.declared.command.Mutation.TheVariants as change
 use Rattle.mm_query.specs.Fields.{FieldName}
-use Rattle.mm_lang.specs.declared.keyword.Keyword.TheVariants as keyword
-use Rattle.mm_lang.specs.declared.phrase.Separator.TheVariants.{And}
-use Rattle.mm_lang.specs.declared.token.Symbol.{Symbol}
-use Rattle.mm_lang.specs.declared.token.Symbol.TheVariants as symbol
+use Rattle.mm_lang.specs.declared.read.keyword.Keyword.TheVariants as keyword
+use Rattle.mm_lang.specs.declared.read.phrase.Separator.TheVariants.{And}
+use Rattle.mm_lang.specs.declared.read.token.Symbol.{Symbol}
+use Rattle.mm_lang.specs.declared.read.token.Symbol.TheVariants as symbol
 use Rattle.mm_lang.specs.Grammar.{literal_of, name, comparison, comparison_of, comma_list, numbered, digits, shift, with_shift, operand_behind, operand_on}
 use Rattle.mm_lang.specs.Grammar.{test_on, assignment, field, tests_on, update, delete}
 use Rattle.mm_lang.specs.Phrases.{Phrase, ◌>>=◌, ◌>>◌, say, one, word_of, mark_of, the_symbol, the_keyword, the_separator, maybe, list_of}

@@ -13,8 +13,8 @@ use Rattle.mm_query.specs.declared.command.Definition.TheVariants as define
 use Rattle.mm_query.specs.Fields.{FieldName}
 use Rattle.mm_query.specs.declared.query.FromItem.{FromItem}
 use Rattle.mm_query.specs.declared.query.Query.{Query}
-use Rattle.mm_lang.specs.declared.keyword.Keyword.TheVariants as keyword
-use Rattle.mm_lang.specs.declared.token.Symbol.TheVariants as symbol
+use Rattle.mm_lang.specs.declared.read.keyword.Keyword.TheVariants as keyword
+use Rattle.mm_lang.specs.declared.read.token.Symbol.TheVariants as symbol
 use Rattle.mm_lang.specs.Grammar.{name, comma_list, field, from_item, position, explain, order, query, select, shift, tests_on, watch}
 use Rattle.mm_lang.specs.Phrases.{Phrase, ◌>>=◌, ◌>>◌, say, word_of, the_symbol, the_keyword, has_keyword}
 use Rattle.mm_lang.specs.Spelling.{word, SpellsCommand, SpellsDistinct, SpellsField, SpellsFromItem, SpellsList, SpellsOne, SpellsOrder, SpellsPosition}

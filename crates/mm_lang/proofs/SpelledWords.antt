@@ -12,10 +12,10 @@ use Rattle.mm_schema.specs.Name.{is_name, IsName, is_lower, is_name_byte, is_nam
 use Rattle.mm_value.specs.Literal.{is_numeral}
 use Rattle.mm_value.specs.declared.values.Value.{Value}
 use Rattle.mm_value.specs.declared.values.Value.TheVariants.{Int, Text}
-use Rattle.mm_lang.specs.declared.keyword.Keyword.{Keyword}
-use Rattle.mm_lang.specs.declared.keyword.TheConstants.{KEYWORDS}
-use Rattle.mm_lang.specs.declared.token.Symbol.{Symbol}
-use Rattle.mm_lang.specs.declared.token.Symbol.TheVariants.{Open, Close, Comma, Dot, Equal, Less, AtMost, Greater, AtLeast, Plus, Minus}
+use Rattle.mm_lang.specs.declared.read.keyword.Keyword.{Keyword}
+use Rattle.mm_lang.specs.declared.read.keyword.TheConstants.{KEYWORDS}
+use Rattle.mm_lang.specs.declared.read.token.Symbol.{Symbol}
+use Rattle.mm_lang.specs.declared.read.token.Symbol.TheVariants.{Open, Close, Comma, Dot, Equal, Less, AtMost, Greater, AtLeast, Plus, Minus}
 use Rattle.mm_lang.specs.Grammar.{literal_of, name}
 use Rattle.mm_lang.specs.Phrases.{◌>>◌, say, is_mark, the_keyword, the_symbol, has_keyword}
 use Rattle.mm_lang.specs.Spelling.{word, SpellsLiteral}

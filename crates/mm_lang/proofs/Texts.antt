@@ -8,7 +8,7 @@ use Rattle.std.proofs.lemmas.List.Elements.{All-push}
 use Rattle.std.proofs.lemmas.List.Concat.{flat_map-append}
 use Rattle.std.proofs.Math.Seq.{take-add}
 use Rattle.mm_value.specs.Literal.{doubled}
-use Rattle.mm_lang.specs.declared.token.Token.TheVariants as shown
+use Rattle.mm_lang.specs.declared.read.token.Token.TheVariants as shown
 use Rattle.mm_lang.specs.Tokens.{Quoted, Unreadable, Inside, tokens, lexed}
 use Rattle.mm_lang.specs.steps.Splitting.{Splits, StandsForByte, EndsText}
 use Rattle.mm_lang.proofs.Lexing.{tokens_none, onto_texts, onto_texts_none, onto_texts_push, onto_texts_quoted, onto_texts_unreadable, text_none}

@@ -2,7 +2,7 @@
 use Rattle.std.proofs.Common.{◌≡◌, ◌<◌, ℕ, Bool, List, map, get_or, refl, ap, ◌∙◌, arith}
 use Rattle.std.specs.List.{range_with_len}
 use Rattle.std.proofs.lemmas.List.FromFn.{get_or-map-range_with_len}
-use Rattle.mm_lang.specs.declared.token.TheConstants.{WORD_BYTES}
+use Rattle.mm_lang.specs.declared.read.token.TheConstants.{WORD_BYTES}
 use Rattle.mm_lang.specs.Tokens.{is_word_byte}
 
 table_is : WORD_BYTES ≡ map is_word_byte (range_with_len 0 256)

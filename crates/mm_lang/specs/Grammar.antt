@@ -31,11 +31,11 @@ use Rattle.mm_query.specs.declared.command.Mutation.TheVariants as change
 use Rattle.mm_query.specs.Fields.{FieldName}
 use Rattle.mm_query.specs.declared.query.FromItem.{FromItem}
 use Rattle.mm_query.specs.declared.query.Query.{Query}
-use Rattle.mm_lang.specs.declared.keyword.Keyword.{Keyword}
-use Rattle.mm_lang.specs.declared.keyword.Keyword.TheVariants as keyword
-use Rattle.mm_lang.specs.declared.phrase.Separator.TheVariants.{And}
-use Rattle.mm_lang.specs.declared.token.Symbol.{Symbol}
-use Rattle.mm_lang.specs.declared.token.Symbol.TheVariants as symbol
+use Rattle.mm_lang.specs.declared.read.keyword.Keyword.{Keyword}
+use Rattle.mm_lang.specs.declared.read.keyword.Keyword.TheVariants as keyword
+use Rattle.mm_lang.specs.declared.read.phrase.Separator.TheVariants.{And}
+use Rattle.mm_lang.specs.declared.read.token.Symbol.{Symbol}
+use Rattle.mm_lang.specs.declared.read.token.Symbol.TheVariants as symbol
 use Rattle.mm_lang.specs.Phrases.{Phrase, ◌>>=◌, ◌>>◌, say, never, one, one_word, word_of, mark_of, the_symbol, the_keyword, the_separator, only_if, maybe}
 use Rattle.mm_lang.specs.Phrases.{has_keyword, list_of, clause, in_parentheses, whole}
 use Rattle.mm_lang.specs.Tokens.{Token, Word, Signed, Quoted, Mark, Unreadable}

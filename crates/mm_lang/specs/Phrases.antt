@@ -1,13 +1,13 @@
 -- Phrases: what the front of some tokens says, and how phrases are put together.
 use Rattle.std.specs.Prelude.{ℕ, zero, suc, Bool, true, false, if◌then◌else◌, List, [], ◌∷◌, Option, Some, None, length}
 use Rattle.std.specs.Option.{option_map, option_and_then, option_or}
-use Rattle.mm_lang.specs.declared.keyword.Keyword.{Keyword}
-use Rattle.mm_lang.specs.declared.keyword.Keyword.TheVariants as keyword
-use Rattle.mm_lang.specs.declared.token.Symbol.{Symbol}
-use Rattle.mm_lang.specs.declared.token.Symbol.TheVariants.{Open, Close}
-use Rattle.mm_lang.specs.declared.token.Symbol.TheVariants as symbol
-use Rattle.mm_lang.specs.declared.phrase.Separator.{Separator}
-use Rattle.mm_lang.specs.declared.phrase.Separator.TheVariants.{Comma, And}
+use Rattle.mm_lang.specs.declared.read.keyword.Keyword.{Keyword}
+use Rattle.mm_lang.specs.declared.read.keyword.Keyword.TheVariants as keyword
+use Rattle.mm_lang.specs.declared.read.token.Symbol.{Symbol}
+use Rattle.mm_lang.specs.declared.read.token.Symbol.TheVariants.{Open, Close}
+use Rattle.mm_lang.specs.declared.read.token.Symbol.TheVariants as symbol
+use Rattle.mm_lang.specs.declared.read.phrase.Separator.{Separator}
+use Rattle.mm_lang.specs.declared.read.phrase.Separator.TheVariants.{Comma, And}
 use Rattle.mm_lang.specs.Tokens.{Token, Word, Mark}
 use Rattle.mm_lang.specs.Words.{is_symbol, is_word}
 

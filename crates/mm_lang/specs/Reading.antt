@@ -21,7 +21,7 @@ use Rattle.mm_query.specs.declared.command.Mutation.TheVariants.{Insert, Update,
 use Rattle.mm_query.specs.declared.query.Query.{Query}
 use Rattle.mm_lang.specs.Grammar.{command_of, literal_of}
 use Rattle.mm_lang.specs.Tokens.{Token, Word, Signed, Mark, tokens, is_blank}
-use Rattle.mm_lang.specs.declared.token.Symbol.TheVariants.{Minus}
+use Rattle.mm_lang.specs.declared.read.token.Symbol.TheVariants.{Minus}
 
 -- the refusal of a value past its limit
 abbrev pub past_limit : Value → Refusal

@@ -24,7 +24,7 @@ use Rattle.mm_query.specs.declared.plan_line.PlanLine.{PlanLine}
 use Rattle.mm_query.specs.declared.plan_line.PlanLine.TheVariants as line
 use Rattle.mm_query.specs.declared.reply.Reply.{Reply}
 use Rattle.mm_query.specs.declared.reply.Reply.TheVariants.{Done, Count, Rows, Steps, Listing, Refused}
-use Rattle.mm_lang.specs.declared.keyword.Keyword.TheVariants as keyword
+use Rattle.mm_lang.specs.declared.read.keyword.Keyword.TheVariants as keyword
 use Rattle.mm_lang.specs.Spelling.{kind_word, type_word}
 use Rattle.mm_lang.specs.Words.{keyword_text}
 

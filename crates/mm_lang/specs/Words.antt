@@ -2,13 +2,14 @@
 use Rattle.std.specs.Prelude.{ℕ, Bool, List, Option, codes, nat_eq}
 use Rattle.std.specs.List.{find}
 use lib.Pointwise.{pointwise}
-use Rattle.mm_lang.specs.declared.keyword.Keyword.{Keyword}
-use Rattle.mm_lang.specs.declared.keyword.Keyword.TheVariants.{And, Begin, Cascade, Commit, Delete, Distinct, Drop, Explain, From, Hash, Index, Insert, Int}
-use Rattle.mm_lang.specs.declared.keyword.Keyword.TheVariants.{Key, On, Order, Ref, Rollback, Savepoint, Scan, Select, Set, Show, Table, Tables, Text, To}
-use Rattle.mm_lang.specs.declared.keyword.Keyword.TheVariants.{Tree, Unwatch, Update, Watch, Where}
-use Rattle.mm_lang.specs.declared.token.Symbol.{Symbol}
-use Rattle.mm_lang.specs.declared.token.Symbol.TheVariants.{Open, Close, Comma, Dot, Equal, Less, AtMost, Greater, AtLeast, Plus, Minus}
-use Rattle.mm_lang.specs.declared.keyword.TheConstants.{KEYWORDS}
+use Rattle.mm_lang.specs.declared.read.keyword.Keyword.{Keyword}
+use Rattle.mm_lang.specs.declared.read.keyword.Keyword.TheVariants.{And, Begin, Cascade, Commit, Delete, Distinct}
+use Rattle.mm_lang.specs.declared.read.keyword.Keyword.TheVariants.{Drop, Explain, From, Hash, Index, Insert, Int}
+use Rattle.mm_lang.specs.declared.read.keyword.Keyword.TheVariants.{Key, On, Order, Ref, Rollback, Savepoint, Scan, Select, Set, Show, Table, Tables, Text, To}
+use Rattle.mm_lang.specs.declared.read.keyword.Keyword.TheVariants.{Tree, Unwatch, Update, Watch, Where}
+use Rattle.mm_lang.specs.declared.read.token.Symbol.{Symbol}
+use Rattle.mm_lang.specs.declared.read.token.Symbol.TheVariants.{Open, Close, Comma, Dot, Equal, Less, AtMost, Greater, AtLeast, Plus, Minus}
+use Rattle.mm_lang.specs.declared.read.keyword.TheConstants.{KEYWORDS}
 
 abbrev pub keyword_text : Keyword → List ℕ
 keyword_text And = codes "AND"

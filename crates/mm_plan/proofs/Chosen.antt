@@ -15,7 +15,7 @@ use Rattle.mm_relation.specs.RowLists.{rows_of}
 use Rattle.mm_relation.specs.Index.{column_of, kind_of}
 use Rattle.mm_relation.specs.Reads.{HasIndex, IsOn}
 use Rattle.mm_relation.specs.Served.{is_on, same_kind}
-use Rattle.mm_relation.specs.declared.index.Index.{Index}
+use Rattle.mm_relation.specs.declared.indexes.index.Index.{Index}
 use Rattle.mm_schema.specs.declared.index.IndexKind.{IndexKind}
 use Rattle.mm_schema.specs.declared.index.IndexKind.TheVariants as kind
 use Rattle.mm_store.proofs.Joining.{some_at}

@@ -3,7 +3,7 @@ use Rattle.std.specs.Prelude.{◌≡◌, All, List, [], ◌∷◌, Some, length,
 use Rattle.mm_relation.specs.Index.{column_of, kind_of}
 use Rattle.mm_relation.specs.Kept.{StoredRows}
 use Rattle.mm_relation.specs.RowLists.{rows_of}
-use Rattle.mm_relation.specs.declared.index.Index.{Index}
+use Rattle.mm_relation.specs.declared.indexes.index.Index.{Index}
 use Rattle.mm_schema.specs.Columns.{column_place, key_count, key_place}
 use Rattle.mm_schema.specs.Instance.{Instance}
 use Rattle.mm_schema.specs.References.{HasTargets, RefersBack, RefersToOthers, all_references}

@@ -21,8 +21,8 @@ use Rattle.mm_relation.specs.Index.{InOrder, KeysApart, Keeps, Taken, Put, EachT
 use Rattle.mm_relation.specs.Kept.{IsKept, Stay, rows_after, RowsApart}
 use Rattle.mm_relation.specs.declared.log.UndoRecord.{UndoRecord}
 use Rattle.mm_relation.specs.declared.edits.Edit.{Edit}
-use Rattle.mm_relation.specs.declared.index.Index.{Index}
-use Rattle.mm_relation.specs.declared.names.Side.TheVariants.{Old, New}
+use Rattle.mm_relation.specs.declared.indexes.index.Index.{Index}
+use Rattle.mm_relation.specs.declared.indexes.names.Side.TheVariants.{Old, New}
 use Rattle.mm_relation.proofs.RefTests.{only}
 use Rattle.mm_relation.proofs.Steps.{refs_cancel}
 use Rattle.mm_relation.proofs.Changed.{olds, row_stays, new_rows_stand, rows_from}

@@ -14,7 +14,7 @@ use Rattle.mm_relation.specs.declared.log.UndoRecord.{UndoRecord}
 use Rattle.mm_relation.specs.declared.log.UndoRecord.TheVariants.{Added, Changed, Removed}
 use Rattle.mm_relation.specs.declared.edits.Edit.{Edit}
 use Rattle.mm_relation.specs.declared.edits.Edit.TheVariants.{Add, Swap, Gone}
-use Rattle.mm_relation.specs.declared.names.Side.TheVariants.{New}
+use Rattle.mm_relation.specs.declared.indexes.names.Side.TheVariants.{New}
 use Rattle.mm_relation.proofs.RefTests.{same_or_apart, only}
 use Rattle.mm_relation.proofs.Changed.{olds, olds_split, single}
 

@@ -17,7 +17,7 @@ use Rattle.mm_relation.specs.declared.log.UndoRecord.{UndoRecord}
 use Rattle.mm_relation.specs.declared.log.UndoRecord.TheVariants.{Added, Changed, Removed}
 use Rattle.mm_relation.specs.declared.edits.Edit.{Edit}
 use Rattle.mm_relation.specs.declared.edits.Edit.TheVariants.{Add, Swap, Gone}
-use Rattle.mm_relation.specs.declared.names.Side.TheVariants.{Old, New}
+use Rattle.mm_relation.specs.declared.indexes.names.Side.TheVariants.{Old, New}
 use Rattle.mm_relation.proofs.RefTests.{same_from_test, test_from_same, picked}
 use Rattle.mm_relation.proofs.RefTests.{alike}
 

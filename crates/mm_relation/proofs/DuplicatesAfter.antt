@@ -22,12 +22,12 @@ use Rattle.mm_relation.specs.Refs.{Slots, HasRow, row_at}
 use Rattle.mm_relation.specs.Edits.{edit_name, edit_other, new_rows, added_count}
 use Rattle.mm_relation.specs.Index.{InOrder}
 use Rattle.mm_relation.specs.Changes.{Standing}
-use Rattle.mm_relation.specs.declared.index.Index.{Index}
+use Rattle.mm_relation.specs.declared.indexes.index.Index.{Index}
 use Rattle.mm_relation.specs.Kept.{IsKept, Stay, StoredRows, KeysStayApart, rows_after}
 use Rattle.mm_relation.specs.KeyRows.{rows_of, rows_with_new_keys, is_removal, removal_count}
 use Rattle.mm_relation.specs.declared.edits.Edit.{Edit}
 use Rattle.mm_relation.specs.declared.edits.Edit.TheVariants.{Add, Swap, Gone}
-use Rattle.mm_relation.specs.declared.names.Side.TheVariants.{Old}
+use Rattle.mm_relation.specs.declared.indexes.names.Side.TheVariants.{Old}
 use Rattle.mm_order.proofs.Pairs.{AllPairs-append_left}
 use Rattle.mm_relation.proofs.Phase.{distinct}
 use Rattle.mm_relation.proofs.Steps.{AllPairs-permutation}

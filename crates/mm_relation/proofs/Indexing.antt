@@ -10,8 +10,8 @@ use Rattle.mlhash.specs.Bag.{Bag}
 use Rattle.mm_relation.specs.Refs.{Slots, row_in, row_at, refs_by, IsWide}
 use Rattle.mm_relation.specs.HashedPairs.{hash_of, hashed_pair}
 use Rattle.mm_relation.specs.Index.{InOrder, Keeps, Put}
-use Rattle.mm_relation.specs.declared.index.Index.{Index}
-use Rattle.mm_relation.specs.declared.index.Index.TheVariants.{Tree, Hash}
+use Rattle.mm_relation.specs.declared.indexes.index.Index.{Index}
+use Rattle.mm_relation.specs.declared.indexes.index.Index.TheVariants.{Tree, Hash}
 use Rattle.mm_relation.proofs.Ordered.{IsOrdered-agree}
 
 -- the order of the kept references doesn't matter

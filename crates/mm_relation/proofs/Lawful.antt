@@ -10,7 +10,7 @@ use Rattle.mm_relation.specs.Index.{KeysApart}
 use Rattle.mm_relation.specs.Kept.{IsKept}
 use Rattle.mm_relation.specs.Lawful.{IsLawful}
 use Rattle.mm_relation.specs.Refs.{Slots, HasRow, row_in, row_at}
-use Rattle.mm_relation.specs.declared.index.Index.{Index}
+use Rattle.mm_relation.specs.declared.indexes.index.Index.{Index}
 use Rattle.mm_relation.proofs.RowLists.{KeysApart-ordered}
 use Rattle.mm_relation.proofs.Steps.{keys_turn}
 

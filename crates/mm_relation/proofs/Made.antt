@@ -8,8 +8,8 @@ use Rattle.mm_relation.specs.Edits.{named, ref_name, ref_other}
 use Rattle.mm_relation.specs.Index.{KeysApart, Keeps, column_of, tie_column, unmoved}
 use Rattle.mm_relation.specs.Kept.{IsKept}
 use Rattle.mm_relation.specs.Moves.{stayed}
-use Rattle.mm_relation.specs.declared.index.Index.{Index}
-use Rattle.mm_relation.specs.declared.names.Side.{Side}
+use Rattle.mm_relation.specs.declared.indexes.index.Index.{Index}
+use Rattle.mm_relation.specs.declared.indexes.names.Side.{Side}
 use Rattle.mm_relation.proofs.RowLists.{KeysApart-ordered}
 
 -- references name themselves

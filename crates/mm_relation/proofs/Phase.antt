@@ -19,8 +19,8 @@ use Rattle.mm_relation.specs.Edits.{Among, named}
 use Rattle.mm_relation.specs.Index.{InOrder, KeysApart, Keeps, Taken, Put, EachTurns, column_of, spare_of, tie_column, unmoved}
 use Rattle.mm_relation.specs.Kept.{IsKept}
 use Rattle.mm_relation.specs.Lawful.{IsLawful}
-use Rattle.mm_relation.specs.declared.index.Index.{Index}
-use Rattle.mm_relation.specs.declared.names.Side.{Side}
+use Rattle.mm_relation.specs.declared.indexes.index.Index.{Index}
+use Rattle.mm_relation.specs.declared.indexes.names.Side.{Side}
 use Rattle.mm_relation.proofs.RefTests.{only}
 use Rattle.mm_relation.proofs.Ordered.{less_than_itself}
 use Rattle.mm_relation.proofs.Steps.{AllPairs-permutation}

@@ -16,7 +16,7 @@ use Rattle.mm_relation.specs.declared.log.UndoRecord.{UndoRecord}
 use Rattle.mm_relation.specs.declared.log.UndoRecord.TheVariants.{Added, Changed, Removed}
 use Rattle.mm_relation.specs.declared.edits.Edit.{Edit}
 use Rattle.mm_relation.specs.declared.edits.Edit.TheVariants.{Add, Swap, Gone}
-use Rattle.mm_relation.specs.declared.index.Index.{Index}
+use Rattle.mm_relation.specs.declared.indexes.index.Index.{Index}
 use Rattle.mm_relation.proofs.RefTests.{only, same_or_apart}
 use Rattle.mm_relation.proofs.Changed.{olds, single, first_absent, Standing-rest}
 use Rattle.mm_relation.proofs.Came.{empty}

@@ -14,10 +14,10 @@ use Rattle.mm_relation.specs.Kept.{IsKept}
 use Rattle.mm_relation.specs.Lawful.{IsLawful}
 use Rattle.mm_relation.specs.Refs.{Slots, IsWide}
 use Rattle.mm_relation.specs.Inverted.{Inverted}
-use Rattle.mm_relation.specs.declared.index.Index.{Index}
+use Rattle.mm_relation.specs.declared.indexes.index.Index.{Index}
 use Rattle.mm_relation.specs.declared.log.UndoRecord.{UndoRecord}
 use Rattle.mm_relation.specs.declared.log.UndoRecord.TheVariants.{Added, Changed, Removed}
-use Rattle.mm_relation.specs.declared.names.Side.TheVariants.{Old, New}
+use Rattle.mm_relation.specs.declared.indexes.names.Side.TheVariants.{Old, New}
 use Rattle.mm_relation.proofs.Phase as phase
 use Rattle.mm_relation.proofs.Staying.{staying}
 use Rattle.mm_relation.proofs.TakenBack.{names_inverted, restored}

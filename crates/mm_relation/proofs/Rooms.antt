@@ -14,8 +14,8 @@ use Rattle.mm_relation.specs.declared.log.UndoRecord.{UndoRecord}
 use Rattle.mm_relation.specs.HashedPairs.{hashed_pair}
 use Rattle.mm_relation.specs.Index.{InOrder, Keeps, EachTurns, Taken, Put, SameIndex, SameEntries, Grown, column_of, kind_of, spare_of}
 use Rattle.mm_relation.specs.Kept.{StoredRows, IsKept, SameButRoom, KeysStayApart, HasRowsAfter, Stay, rows_after, RowsApart}
-use Rattle.mm_relation.specs.declared.index.Index.{Index}
-use Rattle.mm_relation.specs.declared.index.Index.TheVariants.{Tree, Hash}
+use Rattle.mm_relation.specs.declared.indexes.index.Index.{Index}
+use Rattle.mm_relation.specs.declared.indexes.index.Index.TheVariants.{Tree, Hash}
 use Rattle.mm_relation.proofs.RefTests.{alike}
 use Rattle.mm_relation.proofs.Turning.{All-turned, EachTurns-twice, EachTurns-weaker, Grown-refl}
 

@@ -16,7 +16,7 @@ use Rattle.mm_schema.proofs.StrictOrder.{IsStrictlySortedBy-at, IsStrictlySorted
 use Rattle.mm_relation.specs.Index.{InOrder, KeysApart}
 use Rattle.mm_relation.specs.Refs.{Slots, IsWide, refs_by, row_at}
 use Rattle.mm_relation.specs.Sorting.{AreSorted, IsOf, ref_of, sortable_cmp}
-use Rattle.mm_relation.specs.declared.sorting.Sortable.{Sortable}
+use Rattle.mm_relation.specs.declared.indexes.sorting.Sortable.{Sortable}
 use Rattle.mm_relation.proofs.RowLists.{not_tied}
 use Rattle.mm_relation.proofs.Steps.{then_second}
 

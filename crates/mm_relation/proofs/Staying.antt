@@ -13,7 +13,7 @@ use Rattle.mm_relation.specs.Refs.{Slots}
 use Rattle.mm_relation.specs.Edits.{named}
 use Rattle.mm_relation.specs.Index.{KeysApart}
 use Rattle.mm_relation.specs.Moves.{moves, passed, moved, stayed}
-use Rattle.mm_relation.specs.declared.names.Side.{Side}
+use Rattle.mm_relation.specs.declared.indexes.names.Side.{Side}
 use Rattle.mm_relation.proofs.Steps.{named-some, named-none, KeysApart-permutation}
 
 -- a reference stands in the one list or in the other

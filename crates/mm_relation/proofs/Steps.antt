@@ -27,7 +27,7 @@ use Rattle.mm_relation.specs.Refs.{Slots, row_at, refs_by, IsWide}
 use Rattle.mm_relation.specs.Index.{KeysApart}
 use Rattle.mm_relation.specs.Before.{same_ref}
 use Rattle.mm_relation.specs.Edits.{named}
-use Rattle.mm_relation.specs.declared.names.Side.{Side}
+use Rattle.mm_relation.specs.declared.indexes.names.Side.{Side}
 use Rattle.mm_relation.proofs.RefTests.{same_pair, pair_from_test, pair_itself}
 use Rattle.mm_relation.proofs.Bags.{IsPermutation-uncons}
 use Rattle.ttree.proofs.Shuffles.{shuffle_permutation}

@@ -19,8 +19,8 @@ use Rattle.mm_relation.specs.Refs.{Slots, Turns}
 use Rattle.mm_relation.specs.Inverted.{Inverted}
 use Rattle.mm_relation.specs.declared.log.UndoRecord.{UndoRecord}
 use Rattle.mm_relation.specs.declared.log.UndoRecord.TheVariants.{Added, Changed, Removed}
-use Rattle.mm_relation.specs.declared.names.Side.{Side}
-use Rattle.mm_relation.specs.declared.names.Side.TheVariants.{Old, New}
+use Rattle.mm_relation.specs.declared.indexes.names.Side.{Side}
+use Rattle.mm_relation.specs.declared.indexes.names.Side.TheVariants.{Old, New}
 use Rattle.mm_relation.proofs.Changed.{first_absent, single}
 use Rattle.mm_relation.proofs.RefTests.{alike, picked, same_from_test, test_from_same}
 

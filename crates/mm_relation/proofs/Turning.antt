@@ -6,8 +6,8 @@ use Rattle.std.proofs.lemmas.Bool.{cases_lt}
 use Rattle.std.proofs.lemmas.List.{get_or-set_same, get_or-set_other, length-set, get_or_default}
 use Rattle.std.proofs.Math.Seq.{take-append_seam}
 use Rattle.mm_relation.specs.Index.{TurnedTo, EachTurns, SameEntries, Grown}
-use Rattle.mm_relation.specs.declared.index.Index.{Index}
-use Rattle.mm_relation.specs.declared.index.Index.TheVariants.{Tree, Hash}
+use Rattle.mm_relation.specs.declared.indexes.index.Index.{Index}
+use Rattle.mm_relation.specs.declared.indexes.index.Index.TheVariants.{Tree, Hash}
 
 module _ {X : Type 0} (R : X → X → Type 0) where
   pub TurnedTo-more : (i : ℕ) (start now : List X) (d y : X) → i < length start → TurnedTo R i start now → R (get_or now i d) y

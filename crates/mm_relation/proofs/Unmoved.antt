@@ -22,15 +22,15 @@ use Rattle.mm_relation.specs.Edits.{edit_name, edit_other, record_name, record_o
 use Rattle.mm_relation.specs.Changes.{Step, Changes, Standing}
 use Rattle.mm_relation.specs.Index.{InOrder, Keeps, column_of, kind_of, tie_column, unmoved}
 use Rattle.mm_relation.specs.Moves.{agree, moves, passed}
-use Rattle.mm_relation.specs.declared.index.Index.{Index}
-use Rattle.mm_relation.specs.declared.index.Index.TheVariants.{Tree, Hash}
+use Rattle.mm_relation.specs.declared.indexes.index.Index.{Index}
+use Rattle.mm_relation.specs.declared.indexes.index.Index.TheVariants.{Tree, Hash}
 use Rattle.mm_schema.specs.declared.index.IndexKind.TheVariants as kind
 use Rattle.mm_relation.specs.declared.log.UndoRecord.{UndoRecord}
 use Rattle.mm_relation.specs.declared.log.UndoRecord.TheVariants.{Added, Changed, Removed}
 use Rattle.mm_relation.specs.declared.edits.Edit.{Edit}
 use Rattle.mm_relation.specs.declared.edits.Edit.TheVariants.{Add, Swap, Gone}
-use Rattle.mm_relation.specs.declared.names.Side.{Side}
-use Rattle.mm_relation.specs.declared.names.Side.TheVariants.{Old, New}
+use Rattle.mm_relation.specs.declared.indexes.names.Side.{Side}
+use Rattle.mm_relation.specs.declared.indexes.names.Side.TheVariants.{Old, New}
 use Rattle.mm_relation.proofs.Changed.{olds, olds_split, first_absent, Standing-rest, step_others, row_stays}
 use Rattle.mm_relation.proofs.Ordered.{IsOrdered-agree}
 use Rattle.mm_relation.proofs.Staying.{staying}

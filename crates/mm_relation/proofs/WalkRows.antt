@@ -23,8 +23,8 @@ use Rattle.mm_relation.specs.Kept.{IsKept, RowsApart, StoredRows}
 use Rattle.mm_relation.specs.Reads.{HasIndex, IsWalk}
 use Rattle.mm_relation.specs.Refs.{Slots, row_at}
 use Rattle.mm_relation.specs.RowLists.{rows_of}
-use Rattle.mm_relation.specs.declared.index.Index.{Index}
-use Rattle.mm_relation.specs.declared.index.Index.TheVariants.{Tree}
+use Rattle.mm_relation.specs.declared.indexes.index.Index.{Index}
+use Rattle.mm_relation.specs.declared.indexes.index.Index.TheVariants.{Tree}
 use Rattle.mm_relation.proofs.RowLists.{KeysApart-ordered, at_place, not_tied}
 use Rattle.mm_relation.proofs.Steps.{AllPairs-permutation, then_second}
 

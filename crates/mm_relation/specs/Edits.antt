@@ -6,8 +6,8 @@ use Rattle.mm_relation.specs.declared.log.UndoRecord.{UndoRecord}
 use Rattle.mm_relation.specs.declared.log.UndoRecord.TheVariants.{Added, Changed, Removed}
 use Rattle.mm_relation.specs.declared.edits.Edit.{Edit}
 use Rattle.mm_relation.specs.declared.edits.Edit.TheVariants.{Add, Swap, Gone}
-use Rattle.mm_relation.specs.declared.names.Side.{Side}
-use Rattle.mm_relation.specs.declared.names.Side.TheVariants.{Old, New}
+use Rattle.mm_relation.specs.declared.indexes.names.Side.{Side}
+use Rattle.mm_relation.specs.declared.indexes.names.Side.TheVariants.{Old, New}
 
 -- the reference of the old row of an edit; the place of a new row isn't known before it stands
 abbrev pub edit_name : Edit → Side → Option RowRef

@@ -9,9 +9,9 @@ use Rattle.mm_partition.specs.Places.{Live}
 use Rattle.mm_relation.specs.Edits.{named}
 use Rattle.mm_relation.specs.HashedPairs.{hashed_pair}
 use Rattle.mm_relation.specs.Moves.{stayed}
-use Rattle.mm_relation.specs.declared.names.Side.{Side}
-use Rattle.mm_relation.specs.declared.index.Index.{Index}
-use Rattle.mm_relation.specs.declared.index.Index.TheVariants.{Tree, Hash}
+use Rattle.mm_relation.specs.declared.indexes.names.Side.{Side}
+use Rattle.mm_relation.specs.declared.indexes.index.Index.{Index}
+use Rattle.mm_relation.specs.declared.indexes.index.Index.TheVariants.{Tree, Hash}
 use Rattle.mm_schema.specs.declared.index.IndexKind.{IndexKind}
 use Rattle.mm_schema.specs.declared.index.IndexKind.TheVariants as kind
 use Rattle.mm_relation.specs.Refs.{Slots, IsWide, refs_by, row_at}

@@ -6,8 +6,8 @@ use Rattle.mm_value.specs.declared.values.Value.{Value}
 use Rattle.mm_schema.specs.Rows.{column_cmp}
 use Rattle.mm_partition.specs.Places.{Places, Live, slot_at, IsUnchanged, extent_of}
 use Rattle.mm_relation.specs.declared.edits.Edit.{Edit}
-use Rattle.mm_relation.specs.declared.names.Side.TheVariants.{Old}
-use Rattle.mm_relation.specs.declared.index.Index.{Index}
+use Rattle.mm_relation.specs.declared.indexes.names.Side.TheVariants.{Old}
+use Rattle.mm_relation.specs.declared.indexes.index.Index.{Index}
 use Rattle.mm_relation.specs.Refs.{Slots, HasRow, row_at}
 use Rattle.mm_relation.specs.Edits.{edit_name, named, new_rows}
 use Rattle.mm_relation.specs.Index.{InOrder, Keeps, EachTurns, Grown, column_of}

@@ -7,7 +7,7 @@ use Rattle.mm_schema.specs.Rows.{column_cmp, same_in_column}
 use Rattle.mm_partition.specs.Places.{Places, slot_at}
 use Rattle.mm_relation.specs.declared.edits.Edit.{Edit}
 use Rattle.mm_relation.specs.declared.edits.Edit.TheVariants.{Add, Swap, Gone}
-use Rattle.mm_relation.specs.declared.names.Side.TheVariants.{Old}
+use Rattle.mm_relation.specs.declared.indexes.names.Side.TheVariants.{Old}
 use Rattle.mm_relation.specs.Edits.{edit_name, edit_other, named}
 use Rattle.mm_relation.specs.Moves.{moved}
 use Rattle.mm_relation.specs.Refs.{Slots, row_at}

@@ -3,7 +3,7 @@ use Rattle.std.specs.Prelude.{ℕ, Bool, true, ◌&&◌, not, cond, List, Option
 use Rattle.mm_value.specs.declared.row_ref.RowRef.{RowRef}
 use Rattle.mm_value.specs.declared.values.Value.{Value}
 use Rattle.mm_schema.specs.Rows.{same_in_column}
-use Rattle.mm_relation.specs.declared.names.Side.{Side}
+use Rattle.mm_relation.specs.declared.indexes.names.Side.{Side}
 use Rattle.mm_relation.specs.Refs.{Slots, row_at}
 
 -- Two rows have the same value in each of two columns.

@@ -10,7 +10,7 @@ use Rattle.mm_partition.specs.Places.{slot_at}
 use Rattle.mm_relation.specs.Refs.{Slots, place_by}
 use Rattle.mm_relation.specs.Index.{InOrder, column_of, kind_of}
 use Rattle.mm_relation.specs.Kept.{StoredRows}
-use Rattle.mm_relation.specs.declared.index.Index.{Index}
+use Rattle.mm_relation.specs.declared.indexes.index.Index.{Index}
 use Rattle.mm_schema.specs.declared.index.IndexKind.{IndexKind}
 
 -- the index has this column and is of this kind

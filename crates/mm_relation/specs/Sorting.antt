@@ -6,7 +6,7 @@ use Rattle.std.specs.declared.cmp.Ordering.{Ordering}
 use Rattle.mm_value.specs.Order.{value_cmp}
 use Rattle.mm_value.specs.declared.row_ref.RowRef.{RowRef}
 use Rattle.mm_relation.specs.Refs.{Slots, IsWide, row_at}
-use Rattle.mm_relation.specs.declared.sorting.Sortable.{Sortable}
+use Rattle.mm_relation.specs.declared.indexes.sorting.Sortable.{Sortable}
 
 -- its reference
 abbrev pub ref_of : Sortable → RowRef

@@ -4,7 +4,7 @@ ghost use Rattle.mm_partition.specs.Places.{slot_at, extent_of};
 ghost use Rattle.std.specs.Prelude.{Contains};
 ghost use Rattle.mm_value.specs.declared.row_ref.RowRef.{RowRef};
 ghost use Rattle.mm_partition.specs.Places.{Free};
-ghost use Rattle.mm_relation.specs.declared.names.Side.TheVariants.{New, Old};
+ghost use Rattle.mm_relation.specs.declared.indexes.names.Side.TheVariants.{New, Old};
 ghost use Rattle.mm_relation.specs.Before.{Stands, StandsBack, step_back, before};
 ghost use Rattle.mm_relation.specs.Changes.{Standing, Step, Changes, AreHidden};
 ghost use Rattle.mm_relation.specs.Edits.{added_count, named, record_name, removed};

@@ -1,10 +1,10 @@
 //! Edits of a table's rows.
 ghost use Rattle.std.specs.Prelude.{◌≡◌, ◌+◌, ◌≤◌, ◌^◌, length, IfSome, IsNone};
-ghost use Rattle.mm_relation.specs.declared.names.Side.TheVariants as side;
+ghost use Rattle.mm_relation.specs.declared.indexes.names.Side.TheVariants as side;
 ghost use Rattle.mm_relation.specs.KeyRows.{removal_count};
 ghost use Rattle.mm_relation.specs.Edits.{edit_name, edit_other, added_count, named, new_rows};
 
-use crate::names::{Names, Side};
+use crate::indexes::names::{Names, Side};
 use mm_value::{Row, RowRef};
 
 /// One change that is asked for.

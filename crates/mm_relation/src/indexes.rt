@@ -6,8 +6,20 @@ ghost use Rattle.mm_relation.specs.Refs.{IsWide};
 ghost use Rattle.mm_relation.specs.Edits.{named};
 ghost use Rattle.mm_relation.specs.Index.{KeysApart, Keeps, Taken, Put, EachTurns, Grown, GrownTo, Trimmed, column_of, spare_of, unmoved};
 
-use crate::index::Index;
-use crate::names::{Names, Side};
+pub(crate) mod at_end;
+pub(crate) mod at_value;
+pub(crate) mod by_column;
+pub(crate) mod hash_entries;
+pub(crate) mod hash_reads;
+pub(crate) mod in_column;
+pub(crate) mod index;
+pub(crate) mod names;
+pub(crate) mod sorting;
+pub(crate) mod tree_entries;
+pub(crate) mod tree_reads;
+
+use crate::indexes::index::Index;
+use crate::indexes::names::{Names, Side};
 use mm_partition::Partitions;
 use std::alloc::{AllocError, Global};
 

@@ -5,14 +5,14 @@ ghost use Rattle.std.specs.List.Sorted.{IsPermutation};
 ghost use Rattle.std.specs.Option.{option_copied};
 ghost use Rattle.mm_schema.specs.Rows.{same_in_column, has_duplicate_keys};
 ghost use Rattle.mm_partition.specs.Places.{slot_at};
-ghost use Rattle.mm_relation.specs.declared.names.Side.TheVariants as side;
+ghost use Rattle.mm_relation.specs.declared.indexes.names.Side.TheVariants as side;
 ghost use Rattle.mm_relation.specs.Edits.{edit_name, named};
 ghost use Rattle.mm_relation.specs.KeyRows.{rows_of, AreByKey, row_with_new_key as row_with_new_key_of, rows_with_new_keys as rows_with_new_keys_of, rows_that_free_keys as rows_that_free_keys_of};
 ghost use Rattle.mm_relation.specs.Refs.{HasRow};
 
 use crate::edits::Edit;
+use crate::indexes::names::Side;
 use crate::moves::{compare_in, moved_name};
-use crate::names::Side;
 use mm_partition::Partitions;
 use mm_value::Row;
 use std::alloc::{AllocError, Global};

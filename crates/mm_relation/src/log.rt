@@ -1,9 +1,9 @@
 //! What one command changed, so that it can be taken back.
 ghost use Rattle.std.specs.Prelude.{◌≡◌, ◌+◌, ◌<◌, ◌≤◌, [], ◌∷◌, ◌++◌, length, slice_get, slice_set, IsOk, OnOk, Some};
-ghost use Rattle.mm_relation.specs.declared.names.Side.TheVariants.{Old};
+ghost use Rattle.mm_relation.specs.declared.indexes.names.Side.TheVariants.{Old};
 ghost use Rattle.mm_relation.specs.Edits.{named, record_name, record_other, removed_by};
 
-use crate::names::{Names, Side};
+use crate::indexes::names::{Names, Side};
 use mm_value::{Row, RowRef};
 use std::alloc::{AllocError, Global};
 use std::marker::Model;

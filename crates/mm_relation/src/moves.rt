@@ -6,7 +6,7 @@ ghost use Rattle.mm_partition.specs.Places.{slot_at};
 ghost use Rattle.mm_relation.specs.Refs.{HasRow};
 ghost use Rattle.mm_relation.specs.Moves.{agree as agree_in, moved};
 
-use crate::names::{Names, Side};
+use crate::indexes::names::{Names, Side};
 use mm_partition::Partitions;
 use mm_value::{Row, RowRef, compare};
 use std::cmp::Ordering;

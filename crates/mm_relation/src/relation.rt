@@ -17,7 +17,7 @@ mod served;
 mod settle;
 mod spares;
 
-use crate::index::Index;
+use crate::indexes::index::Index;
 use mm_order::OrderedRefs;
 use mm_partition::Partitions;
 use mm_value::{Row, RowRef};

@@ -18,7 +18,7 @@ use Rattle.mm_relation.specs.Refs.{HasRow, Slots}
 use Rattle.mm_relation.specs.Inverted.{Inverted}
 use Rattle.mm_relation.specs.declared.log.UndoRecord.{UndoRecord}
 use Rattle.mm_relation.specs.declared.log.UndoRecord.TheVariants.{Added, Changed, Removed}
-use Rattle.mm_relation.specs.declared.names.Side.TheVariants.{New, Old}
+use Rattle.mm_relation.specs.declared.indexes.names.Side.TheVariants.{New, Old}
 use Rattle.mm_relation.proofs.Came.{empty}
 use Rattle.mm_relation.proofs.Changed.{first_absent, single}
 use Rattle.mm_relation.proofs.RefTests.{only, same_from_test, test_from_same}

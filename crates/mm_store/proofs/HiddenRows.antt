@@ -14,7 +14,7 @@ use Rattle.mm_relation.specs.Edits.{named, record_name, removed}
 use Rattle.mm_relation.specs.Kept.{StoredRows}
 use Rattle.mm_relation.specs.RowLists.{rows_of}
 use Rattle.mm_relation.specs.Refs.{HasRow, Slots}
-use Rattle.mm_relation.specs.declared.names.Side.TheVariants.{Old}
+use Rattle.mm_relation.specs.declared.indexes.names.Side.TheVariants.{Old}
 use Rattle.mm_relation.proofs.Came.{empty}
 use Rattle.mm_relation.proofs.Changed.{first_absent}
 use Rattle.mm_relation.proofs.RefTests.{same_number}

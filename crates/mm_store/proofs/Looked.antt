@@ -21,7 +21,7 @@ use Rattle.mm_relation.specs.Kept.{IsKept, StoredRows}
 use Rattle.mm_relation.specs.Reads.{Appends, AreMatches, HasIndex, IsOn, IsRange, IsWalk, end_place, has_value}
 use Rattle.mm_relation.specs.Refs.{Slots, place_by}
 use Rattle.mm_relation.specs.Served.{is_on, same_kind}
-use Rattle.mm_relation.specs.declared.index.Index.{Index}
+use Rattle.mm_relation.specs.declared.indexes.index.Index.{Index}
 use Rattle.mm_schema.specs.declared.index.IndexKind.{IndexKind}
 use Rattle.mm_schema.specs.declared.index.IndexKind.TheVariants as kind
 use Rattle.mm_value.specs.declared.row_ref.RowRef.{RowRef}

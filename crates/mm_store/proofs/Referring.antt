@@ -18,7 +18,7 @@ use Rattle.mm_partition.specs.Places.{Content, Free, Live, Hidden}
 use Rattle.mm_relation.specs.Index.{KeysApart}
 use Rattle.mm_relation.specs.Kept.{IsKept}
 use Rattle.mm_relation.specs.Refs.{HasRow, IsWide, Slots, row_at, row_in}
-use Rattle.mm_relation.specs.declared.index.Index.{Index}
+use Rattle.mm_relation.specs.declared.indexes.index.Index.{Index}
 use Rattle.mm_relation.proofs.RowLists.{KeysApart-ordered}
 use Rattle.mm_relation.proofs.Seeks.{place_exact}
 use Rattle.mm_relation.proofs.Duplicates.{list_any-map}

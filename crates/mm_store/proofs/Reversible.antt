@@ -18,7 +18,7 @@ use Rattle.mm_relation.specs.Kept.{StoredRows}
 use Rattle.mm_relation.specs.Lawful.{IsLawful}
 use Rattle.mm_relation.specs.Refs.{HasRow, Slots, row_at, row_in}
 use Rattle.mm_relation.specs.declared.log.UndoRecord.{UndoRecord}
-use Rattle.mm_relation.specs.declared.names.Side.TheVariants.{New, Old}
+use Rattle.mm_relation.specs.declared.indexes.names.Side.TheVariants.{New, Old}
 use Rattle.mm_relation.proofs.Phase.{split_off}
 use Rattle.mm_relation.proofs.Lawful.{IsLawful-kept}
 use Rattle.mm_schema.specs.Rows.{column_cmp, most_rows}

@@ -14,7 +14,7 @@ use Rattle.mm_relation.specs.Lawful.{IsLawful}
 use Rattle.mm_relation.specs.Refs.{Slots}
 use Rattle.mm_relation.specs.Inverted.{Inverted}
 use Rattle.mm_relation.specs.declared.log.UndoRecord.{UndoRecord}
-use Rattle.mm_relation.specs.declared.names.Side.TheVariants.{New, Old}
+use Rattle.mm_relation.specs.declared.indexes.names.Side.TheVariants.{New, Old}
 use Rattle.mm_relation.proofs.Phase.{distinct}
 use Rattle.mm_value.specs.declared.row_ref.RowRef.{RowRef}
 use Rattle.mm_value.specs.declared.values.Value.{Value}

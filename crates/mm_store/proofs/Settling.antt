@@ -6,7 +6,7 @@ use Rattle.mm_partition.specs.Places.{extent_of, slot_at}
 use Rattle.mm_relation.specs.Changes.{AreHidden}
 use Rattle.mm_relation.specs.Index.{EachTurns, SameIndex, Trimmed}
 use Rattle.mm_relation.specs.Kept.{StoredRows}
-use Rattle.mm_relation.specs.declared.index.Index.{Index}
+use Rattle.mm_relation.specs.declared.indexes.index.Index.{Index}
 use Rattle.mm_relation.proofs.Removed.{Frees}
 use Rattle.mm_relation.proofs.Rooms.{column_same, kind_same}
 use Rattle.mm_value.specs.declared.row_ref.RowRef.{RowRef}

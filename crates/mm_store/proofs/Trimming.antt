@@ -3,8 +3,8 @@ use Rattle.std.proofs.Common.{◌≡◌, ◌≢◌, ℕ, List, get_or, slice_get
 use Rattle.std.specs.Prelude.{◌≤◌, min}
 use Rattle.mm_relation.specs.Index.{EachTurns, Trimmed, kind_of, spare_of}
 use Rattle.mm_relation.specs.Kept.{StoredRows}
-use Rattle.mm_relation.specs.declared.index.Index.{Index}
-use Rattle.mm_relation.specs.declared.index.Index.TheVariants.{Tree, Hash}
+use Rattle.mm_relation.specs.declared.indexes.index.Index.{Index}
+use Rattle.mm_relation.specs.declared.indexes.index.Index.TheVariants.{Tree, Hash}
 use Rattle.mm_relation.proofs.RefTests.{same_number}
 use Rattle.mm_relation.proofs.Rooms.{kind_same}
 use Rattle.mm_schema.specs.declared.index.IndexKind.TheVariants as kind

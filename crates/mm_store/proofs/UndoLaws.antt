@@ -8,7 +8,7 @@ use Rattle.mm_relation.specs.Before.{before}
 use Rattle.mm_relation.specs.Edits.{named, record_name}
 use Rattle.mm_relation.specs.Index.{Grown, spare_of}
 use Rattle.mm_relation.specs.Kept.{SameButRoom, StoredRows}
-use Rattle.mm_relation.specs.declared.names.Side.TheVariants.{Old}
+use Rattle.mm_relation.specs.declared.indexes.names.Side.TheVariants.{Old}
 use Rattle.mm_relation.proofs.RefTests.{same_number}
 use Rattle.mm_relation.proofs.Rooms.{slots_same}
 use Rattle.mm_relation.proofs.Turning.{All-turned}

@@ -8,7 +8,7 @@ use Rattle.std.proofs.lemmas.List.Elements.{All-append, All-cons, All-head, All-
 use Rattle.std.proofs.lemmas.List.Sums.{sum_by_push}
 use Rattle.mm_relation.specs.Edits.{named, record_name}
 use Rattle.mm_relation.specs.declared.log.UndoRecord.{UndoRecord}
-use Rattle.mm_relation.specs.declared.names.Side.TheVariants.{Old}
+use Rattle.mm_relation.specs.declared.indexes.names.Side.TheVariants.{Old}
 use Rattle.mm_relation.proofs.RefTests.{same_number}
 use Rattle.mm_store.specs.Tally.{IsCounted, IsTallied, logged_of}
 use Rattle.mm_store.specs.Undoing.{undo_room, undo_room_for}

@@ -7,7 +7,7 @@ use Rattle.mm_relation.specs.Kept.{StoredRows}
 use Rattle.mm_relation.specs.RowLists.{rows_of}
 use Rattle.mm_relation.specs.declared.edits.Edit.{Edit}
 use Rattle.mm_relation.specs.declared.log.UndoRecord.{UndoRecord}
-use Rattle.mm_relation.specs.declared.names.Side.TheVariants.{Old}
+use Rattle.mm_relation.specs.declared.indexes.names.Side.TheVariants.{Old}
 use Rattle.mm_value.specs.declared.row_ref.RowRef.{RowRef}
 use Rattle.mm_store.specs.Tables.{HasRows, SameForm, rows_with}
 use Rattle.mm_store.specs.Undoing.{HasSpare}

@@ -2,7 +2,7 @@
 use Rattle.std.specs.Prelude.{◌≡◌, ℕ, ◌<◌, List, [], length, map, slice_index, All}
 use Rattle.mm_relation.specs.Edits.{named, record_name}
 use Rattle.mm_relation.specs.declared.log.UndoRecord.{UndoRecord}
-use Rattle.mm_relation.specs.declared.names.Side.TheVariants.{Old}
+use Rattle.mm_relation.specs.declared.indexes.names.Side.TheVariants.{Old}
 use Rattle.mm_store.specs.Undoing.{undo_room}
 use Rattle.mm_store.specs.Snapshots.{Logged}
 use Rattle.mm_store.specs.declared.undo.LoggedCommand.{LoggedCommand}

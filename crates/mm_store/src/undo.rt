@@ -1,7 +1,7 @@
 //! What is to be taken back.
 ghost use Rattle.std.specs.Prelude.{◌≡◌, ◌+◌, ◌<◌, ◌≤◌, ◌^◌, ◌++◌, ℕ, [], ◌∷◌, length, slice_index, vec_len, vec_capacity, MatchOption, IfOk, OnOk};
 ghost use Rattle.mm_relation.specs.Edits.{edit_name, named};
-ghost use Rattle.mm_relation.specs.declared.names.Side.TheVariants as side;
+ghost use Rattle.mm_relation.specs.declared.indexes.names.Side.TheVariants as side;
 ghost use Rattle.mm_store.specs.Undoing.{undo_room};
 
 use mm_relation::{Edit, Log};

@@ -16,7 +16,7 @@ use Rattle.mm_relation.specs.Refs.{HasRow, Slots, row_at}
 use Rattle.mm_relation.specs.RowLists.{edit_pairs}
 use Rattle.mm_relation.specs.declared.edits.Edit.{Edit}
 use Rattle.mm_relation.specs.declared.edits.Edit.TheVariants.{Add, Gone}
-use Rattle.mm_relation.specs.declared.names.Side.TheVariants.{Old}
+use Rattle.mm_relation.specs.declared.indexes.names.Side.TheVariants.{Old}
 use Rattle.mm_select.proofs.Fits.{filter-map}
 use Rattle.mm_store.specs.Tables.{AreFit}
 use Rattle.mm_txn.specs.RowEdits.{swap_of, updates_of}

@@ -13,7 +13,7 @@ use Rattle.mm_relation.specs.Index.{column_of, kind_of}
 use Rattle.mm_relation.specs.Kept.{StoredRows}
 use Rattle.mm_relation.specs.Reads.{AddsIndex, HasIndex}
 use Rattle.mm_relation.specs.RowLists.{rows_of}
-use Rattle.mm_relation.specs.declared.index.Index.{Index}
+use Rattle.mm_relation.specs.declared.indexes.index.Index.{Index}
 use Rattle.mm_schema.specs.Columns.{column_place}
 use Rattle.mm_schema.specs.Indexes.{HasDistinctIndexes, HasIndexesInPlace, HasOwnIndexes, drop_index_conditions, index_conditions, index_named, indexes_of}
 use Rattle.mm_schema.specs.Indexes.{lacks_index, table_with_index, with_index, without_index}

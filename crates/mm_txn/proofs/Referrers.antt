@@ -22,7 +22,7 @@ use Rattle.mm_relation.specs.Refs.{HasRow, Slots, row_at}
 use Rattle.mm_relation.specs.RowLists.{edit_pairs}
 use Rattle.mm_relation.specs.declared.edits.Edit.{Edit}
 use Rattle.mm_relation.specs.declared.edits.Edit.TheVariants.{Add, Gone, Swap}
-use Rattle.mm_relation.specs.declared.names.Side.TheVariants.{Old}
+use Rattle.mm_relation.specs.declared.indexes.names.Side.TheVariants.{Old}
 use Rattle.mm_schema.proofs.StrictOrder.{Contains-from_IsIn, IsIn, IsIn-from_Contains}
 use Rattle.mm_schema.proofs.Duplicates.{Row}
 use Rattle.mm_schema.specs.References.{refers}

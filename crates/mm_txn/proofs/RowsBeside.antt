@@ -11,7 +11,7 @@ use Rattle.mm_schema.proofs.Duplicates.{Row}
 use Rattle.mm_plan.specs.Kept.{AreIndexes, AreOf, IsOf, instance_of}
 use Rattle.mm_relation.specs.Index.{EachTurns, SameIndex}
 use Rattle.mm_relation.specs.Kept.{StoredRows}
-use Rattle.mm_relation.specs.declared.index.Index.{Index}
+use Rattle.mm_relation.specs.declared.indexes.index.Index.{Index}
 use Rattle.mm_schema.specs.declared.column.Column.{Column}
 use Rattle.mm_schema.specs.declared.index.IndexDef.{IndexDef}
 use Rattle.mm_relation.specs.RowLists.{rows_of}

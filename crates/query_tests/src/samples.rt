@@ -1,7 +1,7 @@
 //! Stores for tests.
 ghost use Rattle.std.specs.Prelude.{◌≡◌, ◌<◌, [], length, All, IfOk};
 ghost use Rattle.mm_relation.specs.Edits.{edit_name, named, new_rows};
-ghost use Rattle.mm_relation.specs.declared.names.Side.TheVariants as side;
+ghost use Rattle.mm_relation.specs.declared.indexes.names.Side.TheVariants as side;
 ghost use Rattle.query_tests.specs.Sample.{IsSample};
 
 use crate::pair::pair;

@@ -5,7 +5,7 @@ ghost use Rattle.mm_delta.specs.Edited.{before_at};
 ghost use Rattle.mm_query.specs.Queries.{bag_of};
 ghost use Rattle.mm_relation.specs.Edits.{edit_name, named, new_rows};
 ghost use Rattle.mm_relation.specs.Kept.{StoredRows};
-ghost use Rattle.mm_relation.specs.declared.names.Side.TheVariants as side;
+ghost use Rattle.mm_relation.specs.declared.indexes.names.Side.TheVariants as side;
 ghost use Rattle.mm_partition.specs.Places.{IsLive};
 ghost use Rattle.mm_standing.specs.State.{AreServed, FitNow, FitPrepared, count_at, count_now};
 ghost use Rattle.mm_store.specs.Tables.{AreFit, IsAt, rows_at};

@@ -6,7 +6,7 @@ use Rattle.std.proofs.lemmas.List.Elements.{All-cons, All-append, All-push, filt
 use Rattle.std.proofs.lemmas.List.Sorted.{IsPermutation-refl}
 use Rattle.mm_value.specs.declared.row_ref.RowRef.{RowRef}
 use Rattle.mm_value.specs.declared.values.Value.{Value}
-use Rattle.mm_relation.specs.declared.names.Side.TheVariants.{Old}
+use Rattle.mm_relation.specs.declared.indexes.names.Side.TheVariants.{Old}
 use Rattle.mm_relation.specs.declared.edits.Edit.{Edit}
 use Rattle.mm_relation.specs.declared.edits.Edit.TheVariants.{Add}
 use Rattle.mm_relation.specs.Edits.{edit_name, Among, new_row, new_rows}

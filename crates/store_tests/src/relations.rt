@@ -1,7 +1,7 @@
 //! What no clause says: that ample memory is never refused. And each call once on real rows.
 ghost use Rattle.std.specs.Prelude.{◌≡◌, ◌≤◌, List, ◌<◌, [], ◌∷◌, length, All, Contains, Some, IfSome, IfOk};
 ghost use Rattle.mm_value.specs.declared.row_ref.RowRef.{RowRef as Ref};
-ghost use Rattle.mm_relation.specs.declared.names.Side.TheVariants as side;
+ghost use Rattle.mm_relation.specs.declared.indexes.names.Side.TheVariants as side;
 ghost use Rattle.mm_partition.specs.Places.{slot_at};
 ghost use Rattle.mm_relation.specs.Changes.{Standing};
 ghost use Rattle.mm_relation.specs.Edits.{Among, edit_name, named, new_rows};

@@ -1,6 +1,6 @@
 -- The first letters of keywords.
 use Rattle.std.specs.Prelude.{ℕ, ◌==◌, Bool, false, List, [], ◌∷◌}
-use Rattle.mm_lang.specs.declared.keyword.Keyword.{Keyword}
+use Rattle.mm_lang.specs.declared.read.keyword.Keyword.{Keyword}
 use Rattle.mm_lang.specs.Words.{keyword_text}
 
 -- the bytes begin with this one

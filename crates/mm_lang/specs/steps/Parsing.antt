@@ -7,10 +7,10 @@ use Rattle.mm_value.specs.declared.refusal.Refusal.TheVariants.{Syntax, NumberOu
 use Rattle.mm_value.specs.declared.values.Value.{Value}
 use Rattle.mm_value.specs.declared.values.Value.TheVariants.{Int}
 use Rattle.mm_query.specs.declared.command.Command.{Command}
-use Rattle.mm_lang.specs.declared.keyword.Keyword.{Keyword}
-use Rattle.mm_lang.specs.declared.keyword.Keyword.TheVariants as keyword
-use Rattle.mm_lang.specs.declared.reader.Reader.{Reader}
-use Rattle.mm_lang.specs.declared.token.Symbol.{Symbol}
+use Rattle.mm_lang.specs.declared.read.keyword.Keyword.{Keyword}
+use Rattle.mm_lang.specs.declared.read.keyword.Keyword.TheVariants as keyword
+use Rattle.mm_lang.specs.declared.read.reader.Reader.{Reader}
+use Rattle.mm_lang.specs.declared.read.token.Symbol.{Symbol}
 use Rattle.mm_lang.specs.Phrases.{Phrase}
 use Rattle.mm_lang.specs.Reading.{first_fault, reading_takes_memory}
 use Rattle.mm_lang.specs.Tokens.{Token, Word, Signed, Mark, tokens}

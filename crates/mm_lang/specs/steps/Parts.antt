@@ -4,7 +4,7 @@ use Rattle.std.specs.Option.{option_map, option_and_then, option_or}
 use Rattle.std.proofs.lemmas.Option.{none-some, same_Some}
 use Rattle.mm_lang.specs.Phrases.{Phrase, ◌>>=◌, one, one_word, word_of, say, optional, in_parentheses, the_symbol}
 use Rattle.mm_lang.specs.Tokens.{Token, Word}
-use Rattle.mm_lang.specs.declared.token.Symbol.TheVariants.{Open, Close}
+use Rattle.mm_lang.specs.declared.read.token.Symbol.TheVariants.{Open, Close}
 
 pub tested : {A : Type 0} (b : Bool) (o : Option A) (y : A) → cond b o None ≡ Some y → (b ≡ true) × (o ≡ Some y)
 tested true o y e = (refl, e)

@@ -2,10 +2,10 @@
 use Rattle.std.proofs.Common.{◌≡◌, ◌≤◌, ⊎_elim, ℕ, Bool, true, false, zero, suc, List, [], ◌∷◌, Option, Some, None, length, refl, ap, arith}
 use Rattle.std.proofs.lemmas.Option.{none-some}
 use Rattle.mm_schema.specs.declared.column.Role.TheVariants.{Plain, Key, Reference}
-use Rattle.mm_lang.specs.declared.keyword.Keyword.{Keyword}
-use Rattle.mm_lang.specs.declared.keyword.Keyword.TheVariants as keyword
-use Rattle.mm_lang.specs.declared.token.Symbol.TheVariants.{Open, Close, Comma}
-use Rattle.mm_lang.specs.declared.token.Symbol.TheVariants as symbol
+use Rattle.mm_lang.specs.declared.read.keyword.Keyword.{Keyword}
+use Rattle.mm_lang.specs.declared.read.keyword.Keyword.TheVariants as keyword
+use Rattle.mm_lang.specs.declared.read.token.Symbol.TheVariants.{Open, Close, Comma}
+use Rattle.mm_lang.specs.declared.read.token.Symbol.TheVariants as symbol
 use Rattle.mm_value.specs.Literal.{is_numeral}
 use Rattle.mm_value.specs.declared.values.Value.{Value}
 use Rattle.mm_lang.specs.Grammar.{literal_of, name, col_type, on_delete_of, reference_to, reference, role_behind, role, column, comma_list, tuple, comparison}

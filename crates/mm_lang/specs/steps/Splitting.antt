@@ -1,10 +1,10 @@
 -- What splitting the first token off some bytes gives.
 use Rattle.std.specs.Prelude.{◌≡◌, ◌≢◌, ℕ, ◌<◌, ◌≤◌, Bool, true, false, List, [], ◌∷◌, length, take, drop}
 use Rattle.mm_value.specs.Literal.{SpellsText, doubled}
-use Rattle.mm_lang.specs.declared.token.Token.{Token as Shown}
-use Rattle.mm_lang.specs.declared.token.Token.TheVariants as shown
-use Rattle.mm_lang.specs.declared.token.Piece.{Piece}
-use Rattle.mm_lang.specs.declared.token.Piece.TheVariants.{Bytes, End, Fault}
+use Rattle.mm_lang.specs.declared.read.token.Token.{Token as Shown}
+use Rattle.mm_lang.specs.declared.read.token.Token.TheVariants as shown
+use Rattle.mm_lang.specs.declared.read.token.Piece.{Piece}
+use Rattle.mm_lang.specs.declared.read.token.Piece.TheVariants.{Bytes, End, Fault}
 use Rattle.mm_lang.specs.Tokens.{Token, Word, Signed, Quoted, Mark, Unreadable, Inside, tokens, lexed, is_blank, begins_word, onto_text}
 
 -- The bytes of a token as they stand in a line show the token.

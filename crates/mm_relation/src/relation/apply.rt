@@ -3,7 +3,7 @@ ghost use Rattle.std.specs.Prelude.{◌≡◌, ◌+◌, ◌≤◌, [], List, len
 ghost use Rattle.mm_value.specs.declared.row_ref.RowRef.{RowRef};
 ghost use Rattle.mm_value.specs.declared.values.Value.{Value};
 ghost use Rattle.mm_partition.specs.Places.{Hidden, slot_at, extent_of};
-ghost use Rattle.mm_relation.specs.declared.names.Side.TheVariants.{New, Old};
+ghost use Rattle.mm_relation.specs.declared.indexes.names.Side.TheVariants.{New, Old};
 ghost use Rattle.mm_relation.specs.Before.{before, StandsBack};
 ghost use Rattle.mm_relation.specs.Differs.{Differs};
 ghost use Rattle.mm_relation.specs.Edits.{named, edit_name, record_name, new_rows, added_count, removed};
@@ -16,10 +16,10 @@ ghost use Rattle.mm_relation.specs.Kept.{SameButRoom, KeysStayApart, HasRowsAfte
 use super::Relation;
 use crate::change::change_each;
 use crate::edits::{Edit, count_added, count_places};
+use crate::indexes::names::Side;
+use crate::indexes::tree_entries::{put_each, take_each};
 use crate::indexes::{put_into_all, reserve_all, take_from_all};
 use crate::log::Log;
-use crate::names::Side;
-use crate::tree_entries::{put_each, take_each};
 use mm_order::OrderedRefs;
 use std::alloc::{AllocError, Global};
 

@@ -6,8 +6,8 @@ ghost use Rattle.mm_relation.specs.Reads.{AddsIndex};
 ghost use Rattle.mm_schema.specs.Rows.{most_rows};
 
 use super::Relation;
-use crate::index::Index;
-use crate::tree_reads::copy_refs;
+use crate::indexes::index::Index;
+use crate::indexes::tree_reads::copy_refs;
 use mm_partition::Partitions;
 use mm_schema::IndexKind;
 use std::alloc::{AllocError, Global};

@@ -4,8 +4,8 @@ ghost use Rattle.mm_partition.specs.Places.{slot_at};
 ghost use Rattle.mm_relation.specs.Refs.{row_at};
 
 use super::Relation;
-use crate::at_value::AtValue;
-use crate::by_column::ByColumn;
+use crate::indexes::at_value::AtValue;
+use crate::indexes::by_column::ByColumn;
 use mm_order::Seek;
 use mm_value::{RowRef, Value, order_prefix};
 

@@ -10,10 +10,10 @@ ghost use Rattle.mm_relation.specs.Refs.{row_at};
 ghost use Rattle.mm_relation.specs.RowLists.{rows_of};
 
 use super::Relation;
-use crate::hash_reads::copy_matches;
-use crate::index::Index;
-use crate::sorting::sorted_refs;
-use crate::tree_reads::{Ends, copy_range, copy_refs};
+use crate::indexes::hash_reads::copy_matches;
+use crate::indexes::index::Index;
+use crate::indexes::sorting::sorted_refs;
+use crate::indexes::tree_reads::{Ends, copy_range, copy_refs};
 use mm_value::{RowRef, Value};
 use std::alloc::{AllocError, Global};
 use ttree::{Iter, TTree};

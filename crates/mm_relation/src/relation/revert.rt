@@ -1,7 +1,7 @@
 //! A command that is taken back.
 ghost use Rattle.std.specs.Prelude.{◌≡◌, ◌+◌, ◌≤◌, length, All};
 ghost use Rattle.mm_partition.specs.Places.{slot_at, extent_of};
-ghost use Rattle.mm_relation.specs.declared.names.Side.TheVariants.{New, Old};
+ghost use Rattle.mm_relation.specs.declared.indexes.names.Side.TheVariants.{New, Old};
 ghost use Rattle.mm_relation.specs.Before.{before, StandsBack};
 ghost use Rattle.mm_relation.specs.Differs.{Differs};
 ghost use Rattle.mm_relation.specs.Edits.{named, record_name};
@@ -11,10 +11,10 @@ ghost use Rattle.mm_relation.specs.Inverted.{Inverted};
 
 use super::Relation;
 use crate::change::take_back_each;
+use crate::indexes::names::Side;
+use crate::indexes::tree_entries::{put_each, take_each};
 use crate::indexes::{put_into_all, take_from_all};
 use crate::log::Log;
-use crate::names::Side;
-use crate::tree_entries::{put_each, take_each};
 
 impl Relation {
     /// Takes the command of the log back, its newest change first: the references of the rows that came go out of every

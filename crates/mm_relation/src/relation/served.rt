@@ -7,8 +7,8 @@ ghost use Rattle.mm_relation.specs.Reads.{HasIndex, end_place};
 ghost use Rattle.mm_relation.specs.Served.{is_on};
 
 use super::Relation;
-use crate::index::Index;
-use crate::tree_reads::{Ends, copy_range};
+use crate::indexes::index::Index;
+use crate::indexes::tree_reads::{Ends, copy_range};
 use mm_schema::IndexKind;
 use mm_value::{RowRef, Value, compare};
 use std::alloc::{AllocError, Global};

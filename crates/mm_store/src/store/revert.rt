@@ -5,7 +5,7 @@ ghost use Rattle.mm_relation.specs.Index.{EachTurns};
 ghost use Rattle.mm_relation.specs.Kept.{StoredRows};
 ghost use Rattle.mm_relation.specs.RowLists.{rows_of};
 ghost use Rattle.mm_relation.specs.declared.edits.Edit.{Edit};
-ghost use Rattle.mm_relation.specs.declared.names.Side.TheVariants as side;
+ghost use Rattle.mm_relation.specs.declared.indexes.names.Side.TheVariants as side;
 ghost use Rattle.mm_schema.specs.Refused.{first_refusal};
 ghost use Rattle.mm_schema.specs.Rows.{table_rows_conditions};
 ghost use Rattle.mm_store.specs.Commands.{IsTakenBack};

@@ -7,8 +7,8 @@ use Rattle.mm_partition.specs.Places.{Hidden, slot_at}
 use Rattle.mm_relation.specs.Edits.{removed, removed_by}
 use Rattle.mm_relation.specs.Changes.{AreHidden}
 use Rattle.mm_relation.specs.declared.log.UndoRecord.{UndoRecord}
-use Rattle.mm_relation.specs.declared.names.Side.{Side}
-use Rattle.mm_relation.specs.declared.names.Side.TheVariants.{Old}
+use Rattle.mm_relation.specs.declared.indexes.names.Side.{Side}
+use Rattle.mm_relation.specs.declared.indexes.names.Side.TheVariants.{Old}
 use Rattle.mm_relation.proofs.Removed.{Freeing, Freeing-start, Freeing-step, Freeing-end, Frees}
 use Rattle.mm_relation.proofs.Steps.{named-some, named-none}
 use Rattle.mm_relation.proofs.change.release_each.Goals as goal

@@ -2,7 +2,7 @@ use Rattle.std.proofs.Common.{◌≡◌, List, length, drop, sym, subst, arith}
 use Rattle.std.specs.Prelude.{slice_set}
 use Rattle.std.proofs.lemmas.List.{length-set}
 use Rattle.mm_relation.specs.Index.{EachTurns, Grown, GrownTo}
-use Rattle.mm_relation.specs.declared.index.Index.{Index}
+use Rattle.mm_relation.specs.declared.indexes.index.Index.{Index}
 use Rattle.mm_relation.proofs.Turning.{TurnedTo-more, EachTurns-stopped, Grown-refl, written_back}
 use Rattle.mm_relation.proofs.indexes.reserve_all.Goals as goal
 

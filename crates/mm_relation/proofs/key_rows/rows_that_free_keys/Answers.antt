@@ -3,7 +3,7 @@ use Rattle.std.proofs.lemmas.List.{map_push}
 use Rattle.mm_value.specs.declared.row_ref.RowRef.{RowRef}
 use Rattle.mm_value.specs.declared.values.Value.{Value}
 use Rattle.mm_partition.specs.Places.{slot_at}
-use Rattle.mm_relation.specs.declared.names.Side.TheVariants.{Old}
+use Rattle.mm_relation.specs.declared.indexes.names.Side.TheVariants.{Old}
 use Rattle.mm_relation.specs.Edits.{edit_name, edit_other}
 use Rattle.mm_relation.specs.KeyRows.{rows_of}
 use Rattle.mm_relation.specs.Moves.{moved}

@@ -5,7 +5,7 @@ use Rattle.mm_partition.specs.Places.{slot_at}
 use Rattle.mm_relation.specs.KeyRows.{rows_of, row_with_new_key}
 use Rattle.mm_relation.specs.Edits.{edit_name}
 use Rattle.mm_relation.specs.Refs.{HasRow}
-use Rattle.mm_relation.specs.declared.names.Side.TheVariants.{Old}
+use Rattle.mm_relation.specs.declared.indexes.names.Side.TheVariants.{Old}
 use Rattle.mm_relation.proofs.Gathered.{gathered_some, gathered_none, All-one_gathered}
 use Rattle.mm_relation.proofs.key_rows.rows_with_new_keys.Goals as goal
 use Rattle.mm_relation.proofs.key_rows.rows_with_new_keys.Goals.{in-Some+in_ok-push, in_default}

@@ -7,7 +7,7 @@ use Rattle.mm_relation.specs.Kept.{StoredRows}
 use Rattle.mm_relation.specs.Lawful.{IsLawful}
 use Rattle.mm_relation.specs.Refs.{Slots}
 use Rattle.mm_relation.specs.declared.log.UndoRecord.{UndoRecord}
-use Rattle.mm_relation.specs.declared.names.Side.TheVariants.{Old, New}
+use Rattle.mm_relation.specs.declared.indexes.names.Side.TheVariants.{Old, New}
 use Rattle.mm_relation.proofs.Lawful.{IsLawful-kept}
 use Rattle.store_tests.proofs.relations.+there_and_back.Goals as goal
 use Rattle.store_tests.proofs.relations.+there_and_back.Goals.{in-Some-checked_add, in-None}

@@ -1,7 +1,7 @@
 use Rattle.std.proofs.Common.{◌+◌, [], map, ◌∙◌, subst, sym, arith}
 use Rattle.mm_partition.specs.Places.{IsLive, slot_at}
 use Rattle.mm_relation.specs.Edits.{edit_name}
-use Rattle.mm_relation.specs.declared.names.Side.TheVariants.{Old}
+use Rattle.mm_relation.specs.declared.indexes.names.Side.TheVariants.{Old}
 use Rattle.mm_relation.proofs.Gathered.{All-one_gathered}
 use Rattle.mm_store.specs.Tables.{IsAt}
 use Rattle.mm_delta.specs.Unseen.{come_seen, gone_seen}

@@ -3,7 +3,7 @@ use Rattle.std.specs.List.{filter_map}
 use Rattle.mm_partition.specs.Places.{slot_at}
 use Rattle.mm_relation.specs.Edits.{edit_name, named}
 use Rattle.mm_relation.specs.Kept.{StoredRows}
-use Rattle.mm_relation.specs.declared.names.Side.TheVariants.{Old}
+use Rattle.mm_relation.specs.declared.indexes.names.Side.TheVariants.{Old}
 use Rattle.mm_store.specs.Tables.{IsAt}
 use Rattle.mm_delta.specs.Unseen.{come_seen, gone_seen}
 use Rattle.mm_delta.proofs.unseen.Sight.seen_rows.Given as goal

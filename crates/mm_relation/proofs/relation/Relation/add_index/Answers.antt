@@ -5,7 +5,7 @@ use Rattle.mm_partition.specs.Places.{Places, slot_at}
 use Rattle.mm_relation.specs.Refs.{IsWide}
 use Rattle.mm_relation.specs.Index.{KeysApart, Keeps, column_of}
 use Rattle.mm_relation.specs.Kept.{StoredRows, IsKept}
-use Rattle.mm_relation.specs.declared.index.Index.{Index}
+use Rattle.mm_relation.specs.declared.indexes.index.Index.{Index}
 use Rattle.mm_relation.proofs.Made.{wide_refs, apart_refs, IsKept-added}
 use Rattle.mm_relation.proofs.relation.Relation.add_index.Goals as goal
 

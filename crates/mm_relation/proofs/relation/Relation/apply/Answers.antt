@@ -5,7 +5,7 @@ use Rattle.mm_partition.specs.Places.{slot_at}
 use Rattle.mm_relation.specs.Edits.{named, edit_name, record_name, new_rows}
 use Rattle.mm_relation.specs.Index.{spare_of}
 use Rattle.mm_relation.specs.declared.edits.Edit.{Edit}
-use Rattle.mm_relation.specs.declared.names.Side.TheVariants.{Old, New}
+use Rattle.mm_relation.specs.declared.indexes.names.Side.TheVariants.{Old, New}
 use Rattle.mm_relation.proofs.Rooms.{slots_same, Standing-same, Changes-same, KeysStayApart-same, HasRowsAfter-same, row_list_same, Differs-same, hidden_same}
 use Rattle.mm_relation.proofs.Rooms.{indexes_same}
 use Rattle.mm_relation.proofs.Turning.{All-turned}

@@ -15,7 +15,7 @@ use Rattle.mm_relation.proofs.RowLists.{changed_is, in_key_order}
 use Rattle.mm_relation.specs.Kept.{StoredRows, Stay, rows_after, RowsApart}
 use Rattle.mm_relation.specs.declared.log.UndoRecord.{UndoRecord}
 use Rattle.mm_relation.specs.declared.edits.Edit.{Edit}
-use Rattle.mm_relation.specs.declared.names.Side.TheVariants.{Old, New}
+use Rattle.mm_relation.specs.declared.indexes.names.Side.TheVariants.{Old, New}
 use Rattle.mm_relation.proofs.Changed.{olds, before_changes}
 use Rattle.mm_relation.proofs.Came.{news}
 use Rattle.mm_relation.proofs.Rooms.{indexes_changed, spares_changed}

@@ -1,7 +1,7 @@
 use Rattle.std.proofs.Common.{List, sym, subst}
 use Rattle.mm_partition.specs.Places.{Places, slot_at}
 use Rattle.mm_relation.specs.Kept.{IsKept}
-use Rattle.mm_relation.specs.declared.index.Index.{Index}
+use Rattle.mm_relation.specs.declared.indexes.index.Index.{Index}
 use Rattle.mm_relation.proofs.Made.{IsKept-removed}
 use Rattle.mm_relation.proofs.relation.Relation.drop_index.Goals as goal
 

@@ -10,7 +10,7 @@ use Rattle.mm_relation.specs.Index.{Taken, Put, EachTurns, spare_of, unmoved}
 use Rattle.mm_relation.specs.Kept.{StoredRows}
 use Rattle.mm_relation.specs.Lawful.{IsLawful}
 use Rattle.mm_relation.specs.declared.log.UndoRecord.{UndoRecord}
-use Rattle.mm_relation.specs.declared.names.Side.TheVariants.{Old, New}
+use Rattle.mm_relation.specs.declared.indexes.names.Side.TheVariants.{Old, New}
 use Rattle.mm_relation.proofs.Reverted.{parts, keep_parts, wide_parts, wide_back, apart_back, order_back, beside_back, keep_back, wide_each, spare_each}
 use Rattle.mm_relation.proofs.Reverted.{IsKept-reverted}
 use Rattle.mm_relation.proofs.Rooms.{spares_changed}

@@ -6,7 +6,7 @@ use Rattle.mm_partition.specs.Places.{IsLive, slot_at}
 use Rattle.mm_relation.specs.Index.{Keeps}
 use Rattle.mm_relation.specs.Kept.{IsKept, StoredRows}
 use Rattle.mm_relation.specs.Reads.{IsWalk}
-use Rattle.mm_relation.specs.declared.index.Index.TheVariants.{Tree}
+use Rattle.mm_relation.specs.declared.indexes.index.Index.TheVariants.{Tree}
 use Rattle.mm_relation.proofs.Made.{live_refs}
 use Rattle.mm_relation.proofs.WalkRows.{kept_walk, walk_rows}
 use Rattle.mm_relation.proofs.relation.Relation.tree_walk.Goals as goal

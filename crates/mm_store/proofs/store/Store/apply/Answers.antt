@@ -6,7 +6,7 @@ use Rattle.mm_relation.specs.Edits.{edit_name, named, record_name}
 use Rattle.mm_relation.specs.Kept.{SameButRoom, StoredRows}
 use Rattle.mm_relation.specs.declared.edits.Edit.{Edit}
 use Rattle.mm_relation.specs.declared.log.UndoRecord.{UndoRecord}
-use Rattle.mm_relation.specs.declared.names.Side.TheVariants.{Old}
+use Rattle.mm_relation.specs.declared.indexes.names.Side.TheVariants.{Old}
 use Rattle.mm_relation.proofs.Rooms.{slots_same}
 use Rattle.mm_store.specs.Commands.{IsEdited}
 use Rattle.mm_store.specs.Tables.{IsAt, Turns}

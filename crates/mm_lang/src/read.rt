@@ -1,0 +1,12 @@
+//! What a line reads as.
+
+pub(crate) mod atoms;
+pub(crate) mod columns;
+pub(crate) mod keyword;
+pub(crate) mod lookahead;
+pub(crate) mod phrase;
+pub(crate) mod reader;
+pub(crate) mod reading;
+pub(crate) mod select;
+pub(crate) mod token;
+pub(crate) mod tuples;

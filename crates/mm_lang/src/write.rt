@@ -1,0 +1,5 @@
+//! The text of a reply.
+
+pub(crate) mod listing_text;
+pub(crate) mod reply_text;
+pub(crate) mod row_line;

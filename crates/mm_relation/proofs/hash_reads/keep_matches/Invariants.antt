@@ -1,9 +1,0 @@
-use Rattle.mm_partition.specs.Places.{slot_at}
-use Rattle.mm_relation.specs.Index.{HasColumn}
-use Rattle.mm_relation.specs.Reads.{has_value}
-use Rattle.mm_relation.proofs.Matches.{Keeping}
-use Rattle.mm_relation.proofs.hash_reads.keep_matches.Given as goal
-
-abbrev pub invariant-loop-i : goal.invariant-loop-i
-invariant-loop-i l =
-    Keeping (has_value l.column (slot_at l.rows) l.value) (HasColumn l.column (slot_at l.rows)) l.from l.fn.out.items l.out.items l.kept l.i

@@ -1,0 +1,73 @@
+//! Reading along a tree.
+ghost use Rattle.std.specs.Prelude.{◌≡◌, ◌≤◌, ◌++◌, length, IfOk, OnOk, OnErr};
+ghost use Rattle.std.specs.Option.{option_copied};
+ghost use Rattle.mm_order.specs.Probe.{entries_between};
+ghost use Rattle.mm_partition.specs.Places.{slot_at};
+ghost use Rattle.mm_relation.specs.Index.{InOrder};
+ghost use Rattle.mm_relation.specs.Reads.{end_place};
+ghost use Rattle.mm_schema.specs.Rows.{most_rows};
+
+use crate::indexes::at_end::{AtEnd, prefix_of_end};
+use crate::indexes::by_column::ByColumn;
+use mm_order::OrderedRefs;
+use mm_partition::Partitions;
+use mm_value::{RowRef, Value};
+use std::alloc::{AllocError, Global};
+use ttree::TTree;
+
+/// The ends of a range of values; one that is not there leaves the range open on its side.
+#[derive(Clone, Copy)]
+pub struct Ends<'a> {
+    pub low: Option<&'a Value>,
+    pub high: Option<&'a Value>,
+}
+
+/// Appends the references of a tree whose values are between the ends, in order.
+pub fn copy_range(
+    alloc: Global,
+    rows: &Partitions,
+    column: usize,
+    key: usize,
+    tree: &TTree,
+    ends: Ends,
+    out: &mut Vec<RowRef>,
+) -> Result<(), AllocError>
+    requires { InOrder column key (slot_at rows.now) tree.now.refs }
+    ensures ok { OnOk result (out.new.items ≡ out.old.items ++ entries_between
+        (end_place column (slot_at rows.now) (option_copied ends.entry.low))
+        (end_place column (slot_at rows.now) (option_copied ends.entry.high)) tree.now.refs) }
+    ensures err { OnErr result (out.new.items ≡ out.old.items) }
+{
+    let prefixes = rows.prefixes(column);
+    let order = ByColumn {
+        rows,
+        column,
+        key,
+        prefixes,
+    };
+    let low = AtEnd {
+        rows,
+        column,
+        key,
+        end: ends.low,
+        prefix: prefix_of_end(ends.low),
+        prefixes,
+    };
+    let high = AtEnd {
+        rows,
+        column,
+        key,
+        end: ends.high,
+        prefix: prefix_of_end(ends.high),
+        prefixes,
+    };
+    tree.copy_range(alloc, &order, &low, &high, out)
+}
+
+/// All references of a tree of at most 1,048,576, in order.
+pub fn copy_refs(alloc: Global, tree: &TTree) -> Result<Vec<RowRef>, AllocError>
+    requires { length tree.now.refs ≤ most_rows }
+    ensures { IfOk result (λ refs. refs.items ≡ tree.now.refs) }
+{
+    tree.iter().collect(alloc)
+}
