@@ -3,7 +3,7 @@
 
     bench/all [--quick] [--part NAME ..] [--rows NUMBER,..] [--runs NUMBER] [--to FOLDER] [PROGRAM]
 
-PROGRAM is crates/mmdb/out/mmdb if it is left out. A whole run takes about a quarter of an hour on a machine with nothing else to do. With
+PROGRAM is crates/mmdb/out/mmdb if it is left out. A whole run takes about twenty minutes on a machine with nothing else to do. With
 --quick it has fewer rows and runs and the first three parts alone, and takes about two minutes. The parts:
 
     instructions  instructions and blocks of memory of single commands, over 20,000 rows. Other work does not move these figures.

@@ -16,7 +16,7 @@ use mm_query::{
 };
 use mm_schema::{Catalog, Name};
 use mm_value::{Refusal, Row};
-use std::alloc::Global;
+use std::alloc::{AllocError, Global};
 use std::process::Abort;
 use std::test::Fail;
 
@@ -344,8 +344,8 @@ fn add_twice<'a>(
     tuples: &'a RowList,
 ) -> Result<(), Fail> {
     for _ in 0..2 {
-        if let Err(refusal) = lists.add(tuples.as_slice()) {
-            tell_refused(rt, refusal)?;
+        if let Err(AllocError) = lists.add(tuples.as_slice()) {
+            tell_refused(rt, Refusal::Memory)?;
             lists.add(tuples.as_slice())?;
         }
     }

@@ -6,8 +6,8 @@ ghost use Rattle.mm_query.specs.declared.bound_query.BoundQuery.{BoundQuery};
 ghost use Rattle.mm_delta.specs.Change.{change_of};
 ghost use Rattle.mm_delta.specs.Terms.{term};
 
-/// The change of a row's count is the sum of its terms, one for each place of FROM, whatever tables are changed: where the rows
-/// after the change and those that go are, in some order, the rows before it and those that come.
+/// The change of a row's count is the sum of its terms, one for each place of FROM, whatever tables are changed, provided
+/// that the rows after the change plus the deleted rows are, in any order, the rows before it plus the inserted rows.
 pub fn change_is_the_sum_of_its_terms()
     ensures { (query : BoundQuery) (before after gone come : List ℕ → List (List Value)) (row : List Value)
         → ((name : List ℕ) → IsPermutation (after name ++ gone name) (before name ++ come name))

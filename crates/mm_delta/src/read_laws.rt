@@ -26,8 +26,8 @@ pub fn left_out_rows_are_not_combined()
         ≡ reads_for query store changes tables k (other_places (length tables) k) (one_row (length tables) k row) }
 {}
 
-/// A place of FROM whose table has no edited row reads nothing. One all of whose edited rows are left out reads just these. One
-/// with a single edited row reads it, and what it may be combined with.
+/// A place of FROM whose table has no edited row reads nothing. If all edited rows of a place are left out, only these
+/// rows are read. A place with a single edited row reads it, and what it may be combined with.
 pub fn each_edited_row_is_read_once()
     ensures unedited { (query : BoundQuery) (store : Tables) (changes : List TableChange) (tables : List ℕ) (skipped : ℕ → List Value → Bool) (k : ℕ)
         → gone_at store changes (get_or tables k 0) ≡ [] → come_at changes (get_or tables k 0) ≡ []
@@ -41,8 +41,8 @@ pub fn each_edited_row_is_read_once()
         → term_reads query store changes tables skipped k ≡ 1 + row_reads query store changes tables skipped k row }
 {}
 
-/// Rows of which an atom is false read nothing, however many places are still without a row. Nor do rows at all places. Where one
-/// place is without a row, and no atom is false, the rows are read that were there before and have what is required.
+/// If an atom is already false, nothing more is read, however many places are still empty. Nothing more is read either once every
+/// place has a row. If one place is empty and no atom is false, the rows are read that were there before and have what is required.
 pub fn rows_that_fail_have_no_candidates()
     ensures fails { (indexed : ℕ → ℕ → Bool) (atoms : List (Atom FieldPlace)) (before rows : ℕ → List (List Value)) (places : List ℕ) (m : Partial)
         → none_fails atoms m ≡ false → candidates indexed atoms before rows places m ≡ 0 }
@@ -53,7 +53,7 @@ pub fn rows_that_fail_have_no_candidates()
         ≡ length (having (required (indexed place) atoms m place) (before place)) }
 {}
 
-/// The first atom that requires something of a row decides what is required. Nothing is where none does.
+/// The first atom that requires something of a row decides what is required. If no atom requires anything, nothing is required.
 pub fn the_first_atom_that_requires_decides()
     ensures first { (indexed : ℕ → Bool) (atom : Atom FieldPlace) (atoms : List (Atom FieldPlace)) (m : Partial) (place : ℕ) (asked : Required)
         → asked_by indexed place m atom atom.comparison ≡ Some asked → required indexed (atom ∷ atoms) m place ≡ Some asked }
@@ -70,7 +70,7 @@ pub fn rows_with_what_is_required_meet_the_atom()
         → has_required asked row ≡ holds (value_at (set m place (Some row))) atom }
 {}
 
-/// No row has a required number that is none of 64 bits, so no row is read for it.
+/// No row contains a number that does not fit into 64 bits, so looking one up reads no row.
 pub fn no_row_has_a_number_past_64_bits()
     ensures { (column : ℕ) (number : ℤ) (rows : List (List Value)) → ¬ FitsSigned w64 number → All AreStorable rows
         → having (Some (column, Int number)) rows ≡ [] }

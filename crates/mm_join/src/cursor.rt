@@ -61,8 +61,8 @@ impl Cursor {
         Ok(Cursor { entries, at: 0 })
     }
 
-    /// Whether an entry has this prefix. A prefix that is not less than the one looked up last is sought from there on, in steps of
-    /// which each is as long as the way so far, and any other one from the front on.
+    /// Whether an entry has this prefix. If the prefix is not less than the last one, the search goes on from there in
+    /// doubling steps. Otherwise it starts at the front.
     pub fn has(&mut self, prefix: u64) -> bool
         ensures none { result ≡ false → filter (λ entry. entry.prefix == prefix) self.old ≡ [] }
         ensures same { self.new ≡ self.old }

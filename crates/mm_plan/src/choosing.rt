@@ -12,11 +12,11 @@ use std::alloc::{AllocError, Global};
 /// A rule for the first table.
 #[derive(Clone, Copy)]
 pub enum FirstRule {
-    /// A column that is to be a value has a HASH index.
+    /// An atom `column = literal` whose column has a HASH index.
     Hash,
-    /// A column that is to be a value has a tree.
+    /// An atom `column = literal` whose column has a tree.
     Tree,
-    /// A column that is to be on one side of a value has a tree.
+    /// An atom `column < literal` (or `<=`, `>`, `>=`) whose column has a tree.
     Range,
 }
 

@@ -53,8 +53,8 @@ pub fn find_rows(
     in_key_order(alloc, view, table, found)
 }
 
-/// Those of a table's references that are among these, each once and in key order, however these stand. Where there are several,
-/// each row is looked at once. `AllocError` where memory is refused. It takes O(m log m) comparisons for m references, and m where
+/// Those of the given references that belong to the table, each once and in key order, whatever order they were given in. If
+/// there are several, each row is looked at once. `AllocError` where memory is refused. It takes O(m log m) comparisons for m references, and m where
 /// they are in key order.
 pub fn in_key_order(
     alloc: Global,

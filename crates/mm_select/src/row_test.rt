@@ -21,8 +21,8 @@ pub(crate) struct RowTest<'q> {
     pub table: usize,
     pub atoms: &'q [Atom<FieldPlace>],
     pub access: Access<'q>,
-    /// Whether one of them asks something of that table alone that not every row along the access meets. If not, each row
-    /// passes, with no look at it.
+    /// Whether some atom tests this table alone and is not already guaranteed by the access. If not, every row passes
+    /// without a look at it.
     pub asks: bool,
     ghost told: { asks ≡ list_any (asks_along access) atoms.now },
 }

@@ -117,7 +117,7 @@ impl Standing {
         make_all(&mut self.bags, &mut self.prepared, &mut self.log);
     }
 
-    /// Gives every list back as it was at a mark. It asks for nothing prepared. It takes no memory. A row whose count is 0 keeps
+    /// Gives every list back as it was at a mark. It requires that nothing is prepared. It takes no memory. A row whose count is 0 keeps
     /// its entry only where what is left of the log names it.
     pub fn revert(&mut self, mark: usize)
         requires prepared { self.old.prepared ≡ [] }
@@ -133,8 +133,8 @@ impl Standing {
         self.log.truncate(mark);
     }
 
-    /// Forgets the log, after which no change can be undone. No row whose count is 0 has an entry from then on. It asks for
-    /// nothing prepared. No count changes.
+    /// Empties the log, so that no change can be undone any more, and drops the entries whose count is 0. It requires that
+    /// nothing is prepared. No count changes.
     pub fn settle(&mut self)
         requires { self.old.prepared ≡ [] }
         ensures lean { IsLean self.new.bags self.new.log }
@@ -146,7 +146,7 @@ impl Standing {
         purge(&mut self.bags, &mut self.log);
     }
 
-    /// Drops the standing query at a place and its list; those behind it move up. It asks for nothing prepared and an empty log.
+    /// Drops the standing query at a place and its list; those behind it move up. It requires that nothing is prepared and the log is empty.
     pub fn unwatch(&mut self, place: usize)
         requires place { place < length self.old.queries }
         requires prepared { self.old.prepared ≡ [] }
@@ -158,8 +158,8 @@ impl Standing {
     }
 
     /// Keeps a query as a standing query, which comes last, with the rows that it gives over the rows of the store, found by its
-    /// plan. `tables` are the places in the store of the tables of its FROM list, at most 4. It asks for nothing prepared and an
-    /// empty log. `StandingListTooLarge` where more than 1,048,576 combinations fit; `Memory` may come in its place and in that of
+    /// plan. `tables` are the places in the store of the tables of its FROM list, at most 4. It requires that nothing is prepared and
+    /// the log is empty. `StandingListTooLarge` where more than 1,048,576 combinations fit; `Memory` may come in its place and in that of
     /// success. A refused call changes nothing.
     pub fn watch(
         &mut self,
@@ -224,7 +224,7 @@ impl Standing {
     }
 
     /// Makes ready what edits of tables change of the lists, with all memory that the change and its undoing ask for. The edits
-    /// fit the view's rows and are not made yet. It asks for nothing prepared, and for a view that has read no row. Of the view's
+    /// fit the view's rows and are not made yet. It requires that nothing is prepared and that the view has read no row. Of the view's
     /// rows it asks that the table of each place of a FROM list is there, that the lists fit the rows, and that no query adds a
     /// number to a text, neither of a row before the edits nor of one after them. The change of each list is the sum of the terms
     /// of Blakeley, Larson and Tompa's expansion: only rows that the edits concern are read, and none is combined with an edited
@@ -264,8 +264,8 @@ impl Standing {
         self.put_prepared(alloc, found?)
     }
 
-    /// Makes changes ready, in order from the last to the first, with all memory that they and their undoing ask for. It asks for
-    /// nothing prepared. `Memory` is the only refusal, and then nothing is prepared.
+    /// Makes changes ready, in order from the last to the first, with all memory that they and their undoing need. It requires
+    /// that nothing is prepared. `Memory` is the only refusal, and then nothing is prepared.
     pub(crate) fn put_prepared(
         &mut self,
         alloc: Global,

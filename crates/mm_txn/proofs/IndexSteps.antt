@@ -1,6 +1,6 @@
 -- Indexes made and dropped as steps of the machine.
 use Rattle.std.proofs.Common.{◌≡◌, ℕ, zero, suc, ◌+◌, ◌<◌, ◌≤◌, ◌||◌, Bool, true, false, cond, not, List, [], ◌∷◌, ◌++◌, Result, Ok, Err, Some, None, is_none}
-use Rattle.std.proofs.Common.{length, get_or, map, slice_get, slice_index_or, slice_set, refl, sym, ap, subst, ◌∙◌, arith}
+use Rattle.std.proofs.Common.{Option, length, get_or, map, slice_get, slice_index_or, slice_set, refl, sym, ap, subst, ◌∙◌, arith}
 use Rattle.std.specs.Prelude.{MatchResult, OnOk, find, position}
 use Rattle.std.specs.List.{All, AllByRecursion, IsDistinct, list_any, position_or_len, remove}
 use Rattle.std.specs.Option.{option_map_or, unwrap_or}
@@ -40,6 +40,11 @@ use Rattle.mm_txn.specs.Kept.{state_of}
 use Rattle.mm_txn.proofs.DatabaseSteps.{key_is, place_found, rows_of_name, rows_there, some_there}
 use Rattle.mm_txn.proofs.IndexesBeside.{AreOf-with_index, AreOf-without_index}
 use Rattle.mm_txn.proofs.RowsBeside.{as_many_rows, beside, instance_of-set}
+
+-- what a look-up by a name that lies elsewhere finds
+pub column_found : {at name : List ℕ} {found wanted : Option ℕ} (columns : List Column) → at ≡ name → found ≡ column_place at columns → found ≡ wanted
+    → column_place name columns ≡ wanted
+column_found columns same is told = ap (λ n. column_place n columns) (sym same) ∙ sym is ∙ told
 
 -- ---- what refuses an index
 

@@ -30,9 +30,8 @@ use std::alloc::{AllocError, Global};
 
 impl Contents {
     /// Makes all edits of a change that its rows and the standing queries allow, and logs them, or none. Each list
-    /// follows its query. The refusals are those of [`Store::check`] for the table that the change names, where
-    /// `RowIsReferenced` is also due where a row refers that no edit takes out to one of another table that goes; and
-    /// behind them those of [`Standing::prepare`].
+    /// follows its query. The refusals are those of [`Store::check`] for the table that the change names, and then those
+    /// of [`Standing::prepare`]. `RowIsReferenced` is also due if a row that stays refers to a deleted row of another table.
     pub(crate) fn make_edits(
         &mut self,
         alloc: Global,

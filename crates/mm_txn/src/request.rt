@@ -33,7 +33,7 @@ pub enum Change<'l> {
     /// column or two sides differ in type, or a text is shifted; `WrongNumberOfValues` where a row is longer or shorter than its
     /// table is wide; `TooMany` where there are more than 16 tests. By the rows: `ArithmeticOutOfRange` where a new value doesn't
     /// fit 64 bits; `DuplicateKey` where two rows would have one key; `NoTargetRow` where a foreign key would refer to no row;
-    /// `RowIsReferenced` where a row would be gone, or its key, to which a row of another table refers that stays; `TableFull`
+    /// `RowIsReferenced` if a row that another table refers to would be deleted or get another key, and the referring row stays; `TableFull`
     /// where there would be more than 1,048,576 rows. By the standing queries: `StandingListTooLarge` where over the rows after
     /// the change more than 1,048,576 combinations fit one of them. `Memory` may come in their place and in that of success.
     Edit(Mutation<'l>),

@@ -41,7 +41,7 @@ pub fn commands_take_memory()
         → ((command : Command) → reading line ≡ Ok command → is_done_without_memory command ≡ false) → takes_memory line ≡ true }
 {}
 
-/// In a transaction ROLLBACK is never refused, for want of memory neither: the rows are those that were saved at BEGIN, and
+/// In a transaction ROLLBACK is never refused, not even for lack of memory: the rows are those that were saved at BEGIN, and
 /// the catalog stays. Outside one it is refused with `NoTransaction`.
 pub fn rollback_is_never_refused()
     ensures done { (line : List ℕ) (state : State) (saved : Saved) (choice : Bool) → reading line ≡ Ok Rollback → state.saved ≡ Some saved
@@ -51,7 +51,7 @@ pub fn rollback_is_never_refused()
         → answer choice line state ≡ record { reply = Some (Refused NoTransaction); state = state } }
 {}
 
-/// ROLLBACK TO is not refused where the open transaction has a savepoint of the name, for want of memory neither: the rows are those
+/// ROLLBACK TO is not refused, not even for lack of memory, if the open transaction has a savepoint of the name: the rows are those
 /// that were saved there, the savepoint and those before it stay, and so does the catalog.
 pub fn rollback_to_is_never_refused()
     ensures { (line name : List ℕ) (state : State) (saved : Saved) (choice : Bool) → reading line ≡ Ok (RollbackTo name) → state.saved ≡ Some saved

@@ -20,8 +20,8 @@ use std::io::{Read, Write};
 /// rows to the lines of an input, in order, and nothing else, where a line that takes memory may be answered
 /// `error 90 memory` instead and then changes nothing; `ROLLBACK` takes none, so in a transaction it is never refused. The
 /// totals count the lines of this input and the `error` replies. It has no more bytes than the limit, and it is all that the
-/// reader had left, where that is known. Of a reader that does not tell its bytes, as standard input, it is not said that
-/// it gave this input. At most one byte more than the limit is taken.
+/// reader had left, where that is known. For a reader that does not reveal its bytes, such as standard input, the contract does
+/// not say that this input came from it. At most one byte more than the limit is taken.
 ///
 /// `Read` where the reader answered an error, `Write` where the writer answered one or took 0 of some bytes, `TooLong`
 /// where the reader gave more bytes than the limit.

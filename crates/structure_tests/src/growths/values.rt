@@ -3,7 +3,7 @@ use crate::assertions::{assert_same, assert_that};
 use crate::growths::asked_again;
 use crate::samples::{is_equal, text};
 use mm_value::{Refusal, Row, Text, Value, read_literal};
-use std::alloc::Global;
+use std::alloc::{AllocError, Global};
 use std::process::Abort;
 use std::test::Fail;
 
@@ -36,8 +36,8 @@ fn text_growths(rt: HostRuntime) -> Result<(), Fail> {
 fn copy_again(rt: &(impl Abort + AllocGlobal + Print), text: &Text) -> Result<Text, Fail> {
     match text.copy(rt.alloc()) {
         Ok(copy) => Ok(copy),
-        Err(refusal) => {
-            assert_no_memory(rt, refusal)?;
+        Err(AllocError) => {
+            asked_again(rt)?;
             Ok(text.copy(rt.alloc())?)
         }
     }
@@ -63,8 +63,8 @@ fn text_copy_growths(rt: HostRuntime) -> Result<(), Fail> {
 fn copy_value_again(rt: &(impl Abort + AllocGlobal + Print), value: &Value) -> Result<Value, Fail> {
     match value.copy(rt.alloc()) {
         Ok(copy) => Ok(copy),
-        Err(refusal) => {
-            assert_no_memory(rt, refusal)?;
+        Err(AllocError) => {
+            asked_again(rt)?;
             Ok(value.copy(rt.alloc())?)
         }
     }
@@ -111,8 +111,8 @@ fn copy_row_again(
 ) -> Result<Row, Fail> {
     match row.copy(rt.alloc()) {
         Ok(copy) => Ok(copy),
-        Err(refusal) => {
-            assert_no_memory(rt, refusal)?;
+        Err(AllocError) => {
+            asked_again(rt)?;
             assert_that(rt, is_same(row, same));
             Ok(row.copy(rt.alloc())?)
         }

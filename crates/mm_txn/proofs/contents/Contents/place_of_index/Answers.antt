@@ -7,7 +7,7 @@ use Rattle.mm_value.specs.declared.refusal.Refusal.{Refusal}
 use Rattle.mm_value.specs.declared.refusal.Refusal.TheVariants.{NoSuchIndex}
 use Rattle.mm_query.specs.Machine.{rows_by_index}
 use Rattle.mm_query.specs.State.{State}
-use Rattle.mm_txn.proofs.IndexSteps.{along_within, column_there, has_index, index_here, relation_there, rows_along, table_there}
+use Rattle.mm_txn.proofs.IndexSteps.{along_within, column_found, column_there, has_index, index_here, relation_there, rows_along, table_there}
 use Rattle.mm_relation.specs.Kept.{StoredRows}
 use Rattle.mm_relation.specs.Reads.{HasIndex}
 use Rattle.mm_store.specs.Ordered.{rows_in_order}
@@ -44,7 +44,7 @@ returns-in_err-column-clause-due c =
     absurd (column_there c.self.inside.catalog c.self.inside.store.tables c.self.invariant.kept.relations c.args.name.now c.in_ok-index.index.now
     (sym c.find_index.ensures.found ∙ ap option_copied c.in_ok-index.ensures.ok_part) c.find_index.ensures.in_place c.place_of.ensures.distinct c.in_ok-at.at
     (sym c.place_of.ensures.place ∙ c.in_ok-at.ensures.ok_part) c.table_at-table.result.now c.table_at-table.ensures
-    (sym c.place_of-3.ensures ∙ c.in_err-column.ensures.ok_part))
+    (column_found c.table_at-table.result.now.definition.columns c.as_ref.ensures c.place_of-3.ensures c.in_err-column.ensures.ok_part))
 
 pub returns-clause-due : goal.returns-clause-due
 returns-clause-due c =
@@ -69,7 +69,8 @@ returns-clause-there c =
           (sym c.find_index.ensures.found ∙ ap option_copied c.in_ok-index.ensures.ok_part) c.find_index.ensures.in_place c.place_of.ensures.distinct
           c.in_ok-at.at
           (sym c.place_of.ensures.place ∙ c.in_ok-at.ensures.ok_part) c.table_at-table.result.now c.table_at-table.ensures c.in_ok-place.place
-          (sym c.place_of-2.ensures ∙ c.in_ok-place.ensures.ok_part) c.in_ok-column.column (sym c.place_of-3.ensures ∙ c.in_ok-column.ensures.ok_part) stored
+          (sym c.place_of-2.ensures ∙ c.in_ok-place.ensures.ok_part) c.in_ok-column.column
+          (column_found c.table_at-table.result.now.definition.columns c.as_ref.ensures c.place_of-3.ensures c.in_ok-column.ensures.ok_part) stored
           at);
       index = subst (λ (s : Tables). (stored : StoredRows) → IsAt s c.in_ok-at.at stored
           → HasIndex stored.indexes c.in_ok-place.place c.in_ok-column.column c.in_ok-index.index.now.kind) same
@@ -77,7 +78,8 @@ returns-clause-there c =
           (sym c.find_index.ensures.found ∙ ap option_copied c.in_ok-index.ensures.ok_part) c.find_index.ensures.in_place c.place_of.ensures.distinct
           c.in_ok-at.at
           (sym c.place_of.ensures.place ∙ c.in_ok-at.ensures.ok_part) c.table_at-table.result.now c.table_at-table.ensures c.in_ok-place.place
-          (sym c.place_of-2.ensures ∙ c.in_ok-place.ensures.ok_part) c.in_ok-column.column (sym c.place_of-3.ensures ∙ c.in_ok-column.ensures.ok_part) stored
+          (sym c.place_of-2.ensures ∙ c.in_ok-place.ensures.ok_part) c.in_ok-column.column
+          (column_found c.table_at-table.result.now.definition.columns c.as_ref.ensures c.place_of-3.ensures c.in_ok-column.ensures.ok_part) stored
           at);
     }
 
@@ -90,5 +92,6 @@ returns-clause-rows c =
     rows_along c.self.inside.catalog c.self.inside.store.tables c.self.invariant.kept.relations c.args.name.now c.in_ok-index.index.now
     (sym c.find_index.ensures.found ∙ ap option_copied c.in_ok-index.ensures.ok_part) c.find_index.ensures.in_place c.place_of.ensures.distinct c.in_ok-at.at
     (sym c.place_of.ensures.place ∙ c.in_ok-at.ensures.ok_part) c.table_at-table.result.now c.table_at-table.ensures c.in_ok-place.place
-    (sym c.place_of-2.ensures ∙ c.in_ok-place.ensures.ok_part) c.in_ok-column.column (sym c.place_of-3.ensures ∙ c.in_ok-column.ensures.ok_part) stored at
+    (sym c.place_of-2.ensures ∙ c.in_ok-place.ensures.ok_part) c.in_ok-column.column
+    (column_found c.table_at-table.result.now.definition.columns c.as_ref.ensures c.place_of-3.ensures c.in_ok-column.ensures.ok_part) stored at
     ∙ ap (λ (s : State). rows_by_index s c.args.name.now) (ap state_held c.self.view_is))
