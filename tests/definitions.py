@@ -31,7 +31,7 @@ import sys
 TOP = os.path.dirname(os.path.dirname(os.path.abspath(__file__)))
 START = ("crates/mmdb_core/src/run_script.rt", "run")
 # More lines than these are too many. Whoever raises a limit should know for what a reader is asked to believe more.
-MOST_LINES_OF_DEFINITIONS = 2000
+MOST_LINES_OF_DEFINITIONS = 2040
 MOST_LINES_OF_TYPES = 770
 
 IMPORT = re.compile(r"^\s*(?:ghost )?(?:pub )?use\s+([^{};]+?)(?:\.?(?:::)?\{([^}]*)\})?\s*;?\s*$", re.M)

@@ -17,3 +17,5 @@ mod replies;
 mod runs;
 #[cfg(test)]
 mod samples;
+#[cfg(test)]
+mod templates;

@@ -1,8 +1,8 @@
 -- A whole line as a command, and lines by what they hold.
-use Rattle.std.proofs.Common.{◌≡◌, ◌≢◌, ◌<◌, ◌≤◌, inl, inr, ℕ, Bool, true, false, cond, ltb, List, [], ◌∷◌, Option, Some, None, Result, Ok, Err, length, refl}
-use Rattle.std.proofs.Common.{sym, ap, subst, ◌∙◌}
+use Rattle.std.proofs.Common.{◌≡◌, ◌≢◌, ◌<◌, ◌≤◌, inl, inr, ⊎_elim, ℕ, Bool, true, false, cond, ltb, List, [], ◌∷◌, Option, Some, None, Result, Ok, Err, length}
+use Rattle.std.proofs.Common.{refl, sym, ap, subst, ◌∙◌}
 use Rattle.std.specs.Option.{option_and_then, option_or}
-use Rattle.std.proofs.lemmas.Bool.{cond-true, cond-false, false≢true, lt-ltb, le-ltb}
+use Rattle.std.proofs.lemmas.Bool.{cases_Bool, cond-true, cond-false, false≢true, lt-ltb, le-ltb}
 use Rattle.mm_value.specs.declared.refusal.Refusal.{Refusal}
 use Rattle.mm_value.specs.declared.refusal.Refusal.TheVariants.{LineTooLong, Syntax, Memory}
 use Rattle.mm_value.specs.declared.values.Value.{Value}
@@ -17,10 +17,10 @@ use Rattle.mm_lang.specs.declared.read.keyword.Keyword.TheVariants as keyword
 use Rattle.mm_lang.specs.declared.read.reader.Reader.{Reader}
 use Rattle.mm_lang.specs.Grammar.{command_behind, command_of}
 use Rattle.mm_lang.specs.Phrases.{Phrase, ◌>>=◌, one_word, alone}
-use Rattle.mm_lang.specs.Reading.{Reads, command_takes_memory, first_fault, is_nothing, literal_fault, literals_of, past_limit, read_as, reading}
-use Rattle.mm_lang.specs.Reading.{reading_takes_memory, takes_memory, unless}
+use Rattle.mm_lang.specs.Reading.{Reads, command_takes_memory, first_fault, is_nothing, literal_fault, literals_of, past_limit, plain_command, read_as}
+use Rattle.mm_lang.specs.Reading.{reading, reading_takes_memory, takes_memory, unless}
 use Rattle.mm_lang.specs.Spelling.{word}
-use Rattle.mm_lang.specs.Tokens.{Token, Word, tokens}
+use Rattle.mm_lang.specs.Tokens.{Token, Word, has_hole, tokens}
 use Rattle.mm_lang.specs.Words.{keyword_named}
 use Rattle.mm_lang.specs.steps.Parsing.{AnswersReading, Fails, Finishes, Gives, IsMissing, is_control_keyword, no_literals}
 use Rattle.mm_lang.specs.steps.Parts.{Front, said_same}
@@ -37,9 +37,16 @@ pub reads_nothing : (line : List ℕ) → length line ≤ 4096 → is_nothing li
 unfolding reading
 reads_nothing line short nothing = cond-false (ltb 4096 (length line)) _ _ (le-ltb 4096 (length line) short) ∙ cond-true (is_nothing line) _ _ nothing
 
-reads_command : (line : List ℕ) → length line ≤ 4096 → is_nothing line ≡ false → reading line ≡ read_as (command_of (tokens line))
+reads_tokens : (line : List ℕ) → length line ≤ 4096 → is_nothing line ≡ false → reading line ≡ read_as (plain_command (tokens line))
 unfolding reading
-reads_command line short some = cond-false (ltb 4096 (length line)) _ _ (le-ltb 4096 (length line) short) ∙ cond-false (is_nothing line) _ _ some
+reads_tokens line short some = cond-false (ltb 4096 (length line)) _ _ (le-ltb 4096 (length line) short) ∙ cond-false (is_nothing line) _ _ some
+
+reads_hole : (line : List ℕ) → length line ≤ 4096 → is_nothing line ≡ false → has_hole (tokens line) ≡ true → reading line ≡ Err Syntax
+reads_hole line short some holed = reads_tokens line short some ∙ ap read_as (cond-true (has_hole (tokens line)) _ _ holed)
+
+reads_command : (line : List ℕ) → length line ≤ 4096 → is_nothing line ≡ false → has_hole (tokens line) ≡ false
+    → reading line ≡ read_as (command_of (tokens line))
+reads_command line short some plain = reads_tokens line short some ∙ ap read_as (cond-false (has_hole (tokens line)) _ _ plain)
 
 -- a literal past its limit makes no line too long
 literal_takes : (command : Command) (v : Value) (others : Option Refusal) → reading_takes_memory (unless command others) ≡ true
@@ -82,14 +89,17 @@ tokens_take ts (Some (RollbackTo name)) is free = absurd (false≢true (sym (fre
 pub takes : (line : List ℕ) → length line ≤ 4096 → is_nothing line ≡ false
     → ((c : Command) → reading line ≡ Ok c → is_done_without_memory c ≡ false) → takes_memory line ≡ true
 takes line short some free =
-    ap reading_takes_memory (reads_command line short some) ∙ tokens_take (tokens line) (command_of (tokens line)) refl by
+    ⊎_elim
+    (λ holed. ap reading_takes_memory (reads_hole line short some holed))
+    (λ plain. ap reading_takes_memory (reads_command line short some plain) ∙ tokens_take (tokens line) (command_of (tokens line)) refl (by plain))
+    (cases_Bool (has_hole (tokens line)))
   where
-    by : (c : Command) → command_of (tokens line) ≡ Some c → is_done_without_memory c ≡ false
-    by Begin is = free Begin (reads_command line short some ∙ ap read_as is)
-    by Commit is = free Commit (reads_command line short some ∙ ap read_as is)
-    by Rollback is = free Rollback (reads_command line short some ∙ ap read_as is)
-    by (RollbackTo name) is = free (RollbackTo name) (reads_command line short some ∙ ap read_as is)
-    by _ is = refl
+    by : has_hole (tokens line) ≡ false → (c : Command) → command_of (tokens line) ≡ Some c → is_done_without_memory c ≡ false
+    by plain Begin is = free Begin (reads_command line short some plain ∙ ap read_as is)
+    by plain Commit is = free Commit (reads_command line short some plain ∙ ap read_as is)
+    by plain Rollback is = free Rollback (reads_command line short some plain ∙ ap read_as is)
+    by plain (RollbackTo name) is = free (RollbackTo name) (reads_command line short some plain ∙ ap read_as is)
+    by plain _ is = refl
 
 -- .. and such a line takes none.
 pub control_takes_none : (line : List ℕ) (c : Command) → reading line ≡ Ok c → is_done_without_memory c ≡ true → takes_memory line ≡ false
@@ -166,8 +176,13 @@ module _ (old mid new : Reader) (k : Keyword) (c : Command) (fresh : old.fault �
       let none : first_fault (literals_of h.said) ≡ None = sym fault_is ∙ f.1 in
       ap read_as (whole_is ∙ ap (alone h.said) f.0) ∙ ap (unless h.said) none ∙ ap Ok (sym (h.same none))
 
-pub reads : (line : List ℕ) (r : Result Command Refusal) → length line ≤ 4096 → is_nothing line ≡ false
+-- a line with a hole, ..
+pub reads_no_command : (line : List ℕ) → length line ≤ 4096 → is_nothing line ≡ false → has_hole (tokens line) ≡ true → Reads line (Err Syntax)
+reads_no_command line short some holed = inl (reads_hole line short some holed)
+
+-- .. and one without
+pub reads : (line : List ℕ) (r : Result Command Refusal) → length line ≤ 4096 → is_nothing line ≡ false → has_hole (tokens line) ≡ false
     → AnswersReading (read_as (command_of (tokens line))) r → Reads line r
-reads line (Ok command) short some h = reads_command line short some ∙ h
-reads line (Err e) short some (inl h) = inl (reads_command line short some ∙ h)
-reads line (Err e) short some (inr h) = inr (h.0, ap reading_takes_memory (reads_command line short some) ∙ h.1)
+reads line (Ok command) short some plain h = reads_command line short some plain ∙ h
+reads line (Err e) short some plain (inl h) = inl (reads_command line short some plain ∙ h)
+reads line (Err e) short some plain (inr h) = inr (h.0, ap reading_takes_memory (reads_command line short some plain) ∙ h.1)

@@ -133,19 +133,20 @@ splits_text (b ∷ bs) token rest some quote s = record {
 }
 
 -- a byte that is none of the symbols
-not_symbol : (b : ℕ) (bs : List ℕ) (ts : List Token) → b ≢ 40 → b ≢ 41 → b ≢ 44 → b ≢ 46 → b ≢ 61 → b ≢ 60 → b ≢ 62 → b ≢ 43 → b ≢ 45
+not_symbol : (b : ℕ) (bs : List ℕ) (ts : List Token) → b ≢ 40 → b ≢ 41 → b ≢ 44 → b ≢ 46 → b ≢ 61 → b ≢ 60 → b ≢ 62 → b ≢ 43 → b ≢ 45 → b ≢ 63
     → onto_symbol b bs ts ≡ Unreadable ∷ []
-not_symbol b bs ts opening close comma dot equal less greater plus minus =
+not_symbol b bs ts opening close comma dot equal less greater plus minus hole =
     cond-false (eqb b 40) _ _ (ne_eqb b 40 opening) ∙ cond-false (eqb b 41) _ _ (ne_eqb b 41 close) ∙ cond-false (eqb b 44) _ _ (ne_eqb b 44 comma)
     ∙ cond-false (eqb b 46) _ _ (ne_eqb b 46 dot) ∙ cond-false (eqb b 61) _ _ (ne_eqb b 61 equal) ∙ cond-false (eqb b 60) _ _ (ne_eqb b 60 less)
     ∙ cond-false (eqb b 62) _ _ (ne_eqb b 62 greater) ∙ cond-false (eqb b 43) _ _ (ne_eqb b 43 plus) ∙ cond-false (eqb b 45) _ _ (ne_eqb b 45 minus)
+    ∙ cond-false (eqb b 63) _ _ (ne_eqb b 63 hole)
 
 pub splits_unreadable : (b : ℕ) (bs : List ℕ) (ts : List Token) (limit : ℕ) → b ≢ 40 → b ≢ 41 → b ≢ 44 → b ≢ 46 → b ≢ 61 → b ≢ 60 → b ≢ 62 → b ≢ 43
-    → b ≢ 45 → 0 < limit
+    → b ≢ 45 → b ≢ 63 → 0 < limit
     → Splits (onto_symbol b bs ts) limit shown.Unreadable []
-splits_unreadable b bs ts limit opening close comma dot equal less greater plus minus some = record {
+splits_unreadable b bs ts limit opening close comma dot equal less greater plus minus hole some = record {
   first = Unreadable;
   shows = refl;
-  in_front = not_symbol b bs ts opening close comma dot equal less greater plus minus ∙ ap (λ l. Unreadable ∷ l) (sym tokens_none);
+  in_front = not_symbol b bs ts opening close comma dot equal less greater plus minus hole ∙ ap (λ l. Unreadable ∷ l) (sym tokens_none);
   shorter = some;
 }

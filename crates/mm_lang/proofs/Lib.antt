@@ -2,6 +2,7 @@ mod CommandReadings
 pub mod Commands
 mod Exactness
 mod Fronts
+mod HoleBytes
 mod Keywords
 pub mod BufferedLines
 mod Lexing
@@ -11,6 +12,7 @@ mod LiteralOrder
 mod Literals
 mod Operands
 pub mod Pieces
+mod Preparing
 mod Readings
 pub mod ReplyLemmas
 mod ShortLines

@@ -1,5 +1,6 @@
 -- The literals of a command stand in its tokens, in their order.
-use Rattle.std.proofs.Common.{◌≡◌, ⊎_elim, ℕ, Bool, true, false, cond, List, [], ◌∷◌, ◌++◌, Some, None, pos, refl, sym, ap, ◌∙◌, append_assoc, append-nil}
+use Rattle.std.proofs.Common.{◌≡◌, inl, inr, ⊎_elim, ℕ, Bool, true, false, cond, List, [], ◌∷◌, ◌++◌, Some, None, pos, refl, sym}
+use Rattle.std.proofs.Common.{ap, ◌∙◌, append_assoc, append-nil}
 use Rattle.std.specs.List.{flat_map, list_all, cons_option}
 use Rattle.std.specs.Prelude.{ℤ}
 use Rattle.std.specs.Option.{option_or}
@@ -32,9 +33,10 @@ use Rattle.mm_lang.specs.Grammar.{command_of}
 use Rattle.mm_lang.specs.Reading.{assignment_literals, first_fault, literals_among, literals_of, operand_literals, past_limit, position_literals}
 use Rattle.mm_lang.specs.Reading.{query_literals, test_literals}
 use Rattle.mm_lang.specs.Spelling.{word, type_word, kind_word, comparison_symbol, SpellsLiteral, SpellsOne, SpellsList, SpellsClause, SpellsInParentheses}
-use Rattle.mm_lang.specs.Spelling.{SpellsTuple, SpellsOnDelete, SpellsRole, SpellsColumn, SpellsShift, SpellsName, SpellsField, SpellsOperandOn, SpellsTestOn}
-use Rattle.mm_lang.specs.Spelling.{SpellsAssignment, SpellsTestsOn, SpellsFromItem, SpellsDistinct, SpellsPosition, SpellsOrder, SpellsQuery, SpellsCommand}
-use Rattle.mm_lang.specs.Tokens.{Token, Word, Signed, Quoted, Mark}
+use Rattle.mm_lang.specs.Spelling.{SpellsTuple, SpellsOnDelete, SpellsRole, SpellsColumn, SpellsDigits, SpellsUnit, SpellsShift, SpellsName, SpellsField}
+use Rattle.mm_lang.specs.Spelling.{SpellsOperandOn, SpellsTestOn, SpellsAssignment, SpellsTestsOn, SpellsFromItem, SpellsDistinct, SpellsPosition, SpellsOrder}
+use Rattle.mm_lang.specs.Spelling.{SpellsQuery, SpellsCommand}
+use Rattle.mm_lang.specs.Tokens.{Token, Word, Signed, Quoted, Mark, Hole}
 use Rattle.mm_lang.specs.steps.Parsing.{no_literals, only_literal}
 use Rattle.mm_lang.proofs.SpelledWords.{literal_spelled, name_no_literal}
 use Rattle.mm_lang.proofs.SpelledCommands.{command_read}
@@ -53,6 +55,7 @@ literal_front : (t : Token) (v : Value) (us : List Token) → SpellsLiteral t v 
 literal_front (Word w) (Int z) us h = ap (λ o. cons_option o (among us)) (literal_spelled (Word w) (Int z) h)
 literal_front (Signed w) (Int z) us h = ap (λ o. cons_option o (among us)) (literal_spelled (Signed w) (Int z) h)
 literal_front (Quoted text) (Text said) us h = ap (λ o. cons_option o (among us)) (literal_spelled (Quoted text) (Text said) h)
+literal_front Hole (Int z) us h = ap (λ o. cons_option o (among us)) (literal_spelled Hole (Int z) h)
 literal_front _ _ us h = absurd h
 
 one_literal : HasLiterals (SpellsOne SpellsLiteral) only_literal
@@ -112,8 +115,8 @@ none_at_all (x ∷ xs) = none_at_all xs
 
 -- tests and assignments
 
-shift_literal : (ts : List Token) (z : ℤ) (us : List Token) → SpellsShift ts z → among (ts ++ us) ≡ Int z ∷ among us
-shift_literal ts z us h =
+digits_literal : (ts : List Token) (z : ℤ) (us : List Token) → SpellsDigits ts z → among (ts ++ us) ≡ Int z ∷ among us
+digits_literal ts z us h =
     ⊎_elim
     (λ plus. ap (λ l. among (l ++ us)) plus.0 ∙ ap (λ o. cons_option o (among us)) (literal_spelled (Word h.0) (Int z) (h.1, plus.1)))
     (λ minus.
@@ -122,6 +125,13 @@ shift_literal ts z us h =
     (λ joined. ap (λ l. among (l ++ us)) joined ∙ ap (λ o. cons_option o (among us)) (literal_spelled (Signed h.0) (Int z) (h.1, minus.1)))
     minus.0)
     h.2
+
+unit_literal : (ts : List Token) (z : ℤ) (us : List Token) → SpellsUnit ts z → among (ts ++ us) ≡ Int z ∷ among us
+unit_literal ts z us (inl plus) = ap (λ l. among (l ++ us)) plus.0 ∙ ap (λ n. Int n ∷ among us) (sym plus.1)
+unit_literal ts z us (inr minus) = ap (λ l. among (l ++ us)) minus.0 ∙ ap (λ n. Int n ∷ among us) (sym minus.1)
+
+shift_literal : (ts : List Token) (z : ℤ) (us : List Token) → SpellsShift ts z → among (ts ++ us) ≡ Int z ∷ among us
+shift_literal ts z us h = ⊎_elim (digits_literal ts z us) (unit_literal ts z us) h
 
 comparison_no_literal : (c : Comparison) (us : List Token) → among (Mark (comparison_symbol c) ∷ us) ≡ among us
 comparison_no_literal compared.Equal us = refl

@@ -1,10 +1,11 @@
 -- Numbers, shifts, operands, tests and assignments, read by their parts.
-use Rattle.std.proofs.Common.{◌≡◌, ◌≤◌, inl, inr, ⊎_elim, ℕ, Bool, true, false, cond, List, ◌∷◌, Option, Some, None, Result, Ok, Err, length, refl, subst}
+use Rattle.std.proofs.Common.{◌≡◌, ◌≤◌, inl, inr, ⊎_elim, ℕ, Bool, true, false, cond, List, [], ◌∷◌, Option, Some, None, Result, Ok, Err, length, refl, subst}
 use Rattle.std.proofs.Common.{sym, ap, ◌∙◌, arith}
 use Rattle.std.specs.Prelude.{ℤ, FitsSigned}
 use Rattle.std.specs.Int.{w64}
 use Rattle.std.specs.Option.{option_and_then, option_or}
 use Rattle.std.proofs.lemmas.Bool.{cases_Bool, cond-true}
+use Rattle.std.proofs.lemmas.Option.{none-some}
 use Rattle.mm_value.specs.Literal.{IsNumeral, is_numeral, is_within_limit}
 use Rattle.mm_value.specs.Reading.{signed_value}
 use Rattle.mm_value.specs.declared.refusal.Refusal.{Refusal}
@@ -19,12 +20,13 @@ use Rattle.mm_query.specs.declared.atom.Operand.{Operand}
 use Rattle.mm_query.specs.declared.atom.Operand.TheVariants as kind_of
 use Rattle.mm_lang.specs.declared.read.reader.Reader.{Reader}
 use Rattle.mm_lang.specs.declared.read.token.Symbol.TheVariants as symbol
-use Rattle.mm_lang.specs.Grammar.{literal_of, name, comparison, numbered, digits, shift, with_shift, operand_behind, operand_on, test_on, assignment}
+use Rattle.mm_lang.specs.Grammar.{literal_of, name, comparison, numbered, digits, unit_shift, behind_sign, shift, with_shift, operand_behind}
+use Rattle.mm_lang.specs.Grammar.{operand_on, test_on, assignment}
 use Rattle.mm_lang.specs.Phrases.{Phrase, ◌>>=◌, ◌>>◌, say, one, the_symbol, maybe}
 use Rattle.mm_lang.specs.Reading.{assignment_literals, first_fault, operand_literals, test_literals}
-use Rattle.mm_lang.specs.Tokens.{Token, Signed, Mark, tokens}
-use Rattle.mm_lang.specs.steps.Parsing.{BeginsNotSigned, Fails, Follows, Gives, ReadsPhrase, Skips, no_literals, only_literal, shift_literals}
-use Rattle.mm_lang.specs.steps.Parts.{Front}
+use Rattle.mm_lang.specs.Tokens.{Token, Signed, Mark, Hole, tokens}
+use Rattle.mm_lang.specs.steps.Parsing.{BeginsNotSigned, Fails, Follows, Gives, ReadsPhrase, Skips, no_literals, only_literal, shift_literals, the_hole}
+use Rattle.mm_lang.specs.steps.Parts.{Front, said_same}
 use Rattle.mm_lang.proofs.SpelledWords.{symbol_read}
 use Rattle.mm_lang.proofs.Readings.{Took, took, or_none, fails_first, fails_next, reads_behind, given_made}
 
@@ -69,6 +71,54 @@ module _ (is_negative : Bool) (word : List ℕ) (old : Reader) where
         shorter = omega arith;
       }
 
+some-none : {A : Type 0} {x : A} → Some x ≡ None → ⊥
+some-none e = cc
+
+-- ---- what stands behind a sign
+
+hole_front : (ts us : List Token) → the_hole ts ≡ Some (tt, us) → ts ≡ Hole ∷ us
+hole_front [] us e = let answer : Front (Unit {0}) = (tt, us) in absurd (none-some answer e)
+hole_front (Hole ∷ ts) us e = ap (λ l. Hole ∷ l) (said_same tt tt ts us e).1
+hole_front (t ∷ ts) us e = let answer : Front (Unit {0}) = (tt, us) in absurd (none-some answer e)
+
+unit_within : (is_negative : Bool) → first_fault (shift_literals (Some (unit_shift is_negative))) ≡ None
+unit_within true = refl
+unit_within false = refl
+
+pub unit_fits : (is_negative : Bool) → FitsSigned w64 (unit_shift is_negative)
+unit_fits true = within_int (unit_shift true) refl
+unit_fits false = within_int (unit_shift false) refl
+
+-- A hole is a 1, ..
+pub hole_given : (is_negative : Bool) (old new : Reader) (z : ℤ) → Skips the_hole old new true → z ≡ unit_shift is_negative
+    → Gives (behind_sign is_negative) shift_literals old new (Some z)
+hole_given is_negative old new z h is =
+    let t = took h.0 in
+    record {
+      said = Some (unit_shift is_negative);
+      read = ap (behind_sign is_negative) (hole_front (tokens old.rest) (tokens new.rest) t.is);
+      fault = t.fault ∙ sym (ap (option_or old.fault) (unit_within is_negative) ∙ or_none old.fault);
+      same = λ none. ap (λ (n : ℤ). Some n) is;
+      shorter = t.shorter;
+    }
+
+no_hole : (is_negative : Bool) (ts : List Token) → the_hole ts ≡ None → behind_sign is_negative ts ≡ digits is_negative ts
+no_hole is_negative (Hole ∷ ts) none = absurd (some-none none)
+no_hole is_negative ts none = refl
+
+same_reading : {A : Type 0} (p q : Phrase A) (literals : A → List Value) (old new : Reader) (r : Result A Refusal) → p (tokens old.rest) ≡ q (tokens old.rest)
+    → ReadsPhrase q literals old new r → ReadsPhrase p literals old new r
+same_reading p q literals old new (Ok x) same g = record { said = g.said; read = same ∙ g.read; fault = g.fault; same = g.same; shorter = g.shorter }
+same_reading p q literals old new (Err e) same (inl none) = inl (none.0, same ∙ none.1)
+same_reading p q literals old new (Err e) same (inr memory) = inr memory
+
+-- .. and where none stands digits are read.
+pub digits_read : (is_negative : Bool) (old mid new : Reader) (r : Result (Option ℤ) Refusal) → Skips the_hole old mid false
+    → ReadsPhrase (digits is_negative) shift_literals mid new r → ReadsPhrase (behind_sign is_negative) shift_literals old new r
+digits_read is_negative old mid new r none h =
+    same_reading (behind_sign is_negative) (digits is_negative) shift_literals old new r (no_hole is_negative (tokens old.rest) none.0)
+    (subst (λ (reader : Reader). ReadsPhrase (digits is_negative) shift_literals reader new r) none.1 h)
+
 -- ---- shifts
 
 -- The tokens of a shift go on with this phrase, ..
@@ -78,7 +128,7 @@ pub record GoesOnWith (old mid : Reader) (number : Phrase (Option ℤ)) : Type 0
   pub shorter : length mid.rest ≤ length old.rest
 
 -- .. which it does behind a plus, ..
-pub plus_goes_on : (old mid : Reader) → Skips (the_symbol symbol.Plus) old mid true → GoesOnWith old mid (digits false)
+pub plus_goes_on : (old mid : Reader) → Skips (the_symbol symbol.Plus) old mid true → GoesOnWith old mid (behind_sign false)
 unfolding shift
 plus_goes_on old mid h =
     let t = took h.0 in
@@ -86,7 +136,7 @@ plus_goes_on old mid h =
 
 module _ (old now mid : Reader) (same : ◌≡◌ {A = Reader} now old) where
   -- .. behind a minus ..
-  pub minus_goes_on : Skips (the_symbol symbol.Minus) now mid true → GoesOnWith old mid (digits true)
+  pub minus_goes_on : Skips (the_symbol symbol.Minus) now mid true → GoesOnWith old mid (behind_sign true)
   unfolding shift
   minus_goes_on h =
       let t = took h.0 in
@@ -119,9 +169,6 @@ shift_reads old mid new number (Ok x) on g = record {
 }
 shift_reads old mid new number (Err e) on (inl none) = inl (none.0, on.is ∙ none.1)
 shift_reads old mid new number (Err e) on (inr memory) = inr memory
-
-some-none : {A : Type 0} {x : A} → Some x ≡ None → ⊥
-some-none e = cc
 
 no_sign : (ts : List Token) → the_symbol symbol.Plus ts ≡ None → the_symbol symbol.Minus ts ≡ None → BeginsNotSigned ts → shift ts ≡ Some (None, ts)
 unfolding shift

@@ -23,11 +23,11 @@ use Rattle.mm_lang.specs.declared.read.phrase.Separator.TheVariants.{And}
 use Rattle.mm_lang.specs.declared.read.token.Symbol.{Symbol}
 use Rattle.mm_lang.specs.declared.read.token.Symbol.TheVariants as symbol
 use Rattle.mm_lang.specs.Grammar.{literal_of, name, comparison, comparison_of, comma_list, numbered, digits, shift, with_shift, operand_behind, operand_on}
-use Rattle.mm_lang.specs.Grammar.{test_on, assignment, field, tests_on, update, delete}
+use Rattle.mm_lang.specs.Grammar.{unit_shift, behind_sign, test_on, assignment, field, tests_on, update, delete}
 use Rattle.mm_lang.specs.Phrases.{Phrase, ◌>>=◌, ◌>>◌, say, one, word_of, mark_of, the_symbol, the_keyword, the_separator, maybe, list_of}
 use Rattle.mm_lang.specs.Spelling.{word, comparison_symbol, SpellsAssignment, SpellsCommand, SpellsField, SpellsList, SpellsName, SpellsOperandOn}
-use Rattle.mm_lang.specs.Spelling.{SpellsShift, SpellsTestOn, SpellsTestsOn}
-use Rattle.mm_lang.specs.Tokens.{Token, Word, Signed, Mark}
+use Rattle.mm_lang.specs.Spelling.{SpellsDigits, SpellsUnit, SpellsShift, SpellsTestOn, SpellsTestsOn}
+use Rattle.mm_lang.specs.Tokens.{Token, Word, Signed, Mark, Hole}
 use Rattle.mm_lang.specs.steps.Parts.{Front, said_same, tested, then_parts, one_parts, optional_parts}
 use Rattle.mm_lang.proofs.Exactness.{Always, IsExact, IsToken, list_exact, clause_exact}
 use Rattle.mm_lang.proofs.SpelledWords.{symbol_read, keyword_read, name_read, name_spelled, name_no_literal, literal_read, literal_spelled}
@@ -67,20 +67,39 @@ abbrev SpellsMaybe : List Token → Option ℤ → Type 0
 SpellsMaybe ts None = ts ≡ []
 SpellsMaybe ts (Some z) = SpellsShift ts z
 
+-- a sign
+abbrev sign : Bool → Symbol
+sign true = symbol.Minus
+sign false = symbol.Plus
+
+signed_digits : (is_negative : Bool) (w : List ℕ) → IsNumeral w → SpellsShift (Mark (sign is_negative) ∷ Word w ∷ []) (signed_value is_negative w)
+signed_digits true w numeral = inl (w, numeral, inr (inl refl, refl))
+signed_digits false w numeral = inl (w, numeral, inl (refl, refl))
+
+signed_hole : (is_negative : Bool) → SpellsShift (Mark (sign is_negative) ∷ Hole ∷ []) (unit_shift is_negative)
+signed_hole true = inr (inr (refl, refl))
+signed_hole false = inr (inl (refl, refl))
+
+behind_sign_read : (is_negative : Bool) (ts : List Token) (o : Option ℤ) (us : List Token) → behind_sign is_negative ts ≡ Some (o, us)
+    → (front : List Token) × SpellsMaybe (Mark (sign is_negative) ∷ front) o × (ts ≡ front ++ us)
+behind_sign_read is_negative (Hole ∷ ts) o us e =
+    let r = said_same (Some (unit_shift is_negative)) o ts us e in
+    (Hole ∷ [], subst (SpellsMaybe (Mark (sign is_negative) ∷ Hole ∷ [])) r.0 (signed_hole is_negative), ap (λ l. Hole ∷ l) r.1)
+behind_sign_read is_negative ts o us e =
+    let q = digits_parts is_negative ts o us e in
+    let front = Mark (sign is_negative) ∷ Word q.0 ∷ [] in
+    (Word q.0 ∷ [], subst (SpellsMaybe front) q.2 (signed_digits is_negative q.0 q.1), q.3)
+
 shift_read : (ts : List Token) (o : Option ℤ) (us : List Token) → shift ts ≡ Some (o, us) → (front : List Token) × SpellsMaybe front o × (ts ≡ front ++ us)
 unfolding shift
 shift_read (Mark symbol.Plus ∷ ts) o us e =
-    let q = digits_parts false ts o us e in
-    let front = Mark symbol.Plus ∷ Word q.0 ∷ [] in
-    (front, subst (SpellsMaybe front) q.2 (q.0, q.1, inl (refl, refl)), ap (λ l. Mark symbol.Plus ∷ l) q.3)
+    let q = behind_sign_read false ts o us e in (Mark symbol.Plus ∷ q.0, q.1, ap (λ l. Mark symbol.Plus ∷ l) q.2)
 shift_read (Mark symbol.Minus ∷ ts) o us e =
-    let q = digits_parts true ts o us e in
-    let front = Mark symbol.Minus ∷ Word q.0 ∷ [] in
-    (front, subst (SpellsMaybe front) q.2 (q.0, q.1, inr (inl refl, refl)), ap (λ l. Mark symbol.Minus ∷ l) q.3)
+    let q = behind_sign_read true ts o us e in (Mark symbol.Minus ∷ q.0, q.1, ap (λ l. Mark symbol.Minus ∷ l) q.2)
 shift_read (Signed w ∷ ts) o us e =
     let q = numbered_parts true w ts o us e in
     let front = Signed w ∷ [] in
-    (front, subst (SpellsMaybe front) q.1 (w, q.0, inr (inr refl, refl)), ap (λ l. Signed w ∷ l) q.2)
+    (front, subst (SpellsMaybe front) q.1 (inl (w, q.0, inr (inr refl, refl))), ap (λ l. Signed w ∷ l) q.2)
 shift_read ts o us e = let r = said_same None o ts us e in ([], subst (SpellsMaybe []) r.0 refl, r.1)
 
 number_read : (is_negative : Bool) (w : List ℕ) (z : ℤ) (us : List Token) → IsNumeral w → z ≡ signed_value is_negative w
@@ -90,15 +109,23 @@ number_read is_negative w z us numeral is =
     ap (λ b. cond b (Some read) None) numeral
     ∙ ap (λ n. Some (Some n, us)) (sym is)
 
-shift_spelled : (front : List Token) (z : ℤ) (us : List Token) → SpellsShift front z → shift (front ++ us) ≡ Some (Some z, us)
+digits_spelled : (front : List Token) (z : ℤ) (us : List Token) → SpellsDigits front z → shift (front ++ us) ≡ Some (Some z, us)
 unfolding shift
-shift_spelled front z us h =
+digits_spelled front z us h =
     ⊎_elim
     (λ plus. ap (λ l. shift (l ++ us)) plus.0 ∙ number_read false h.0 z us h.1 plus.1)
     (λ minus.
     ⊎_elim (λ apart. ap (λ l. shift (l ++ us)) apart ∙ number_read true h.0 z us h.1 minus.1)
     (λ joined. ap (λ l. shift (l ++ us)) joined ∙ number_read true h.0 z us h.1 minus.1) minus.0)
     h.2
+
+unit_spelled : (front : List Token) (z : ℤ) (us : List Token) → SpellsUnit front z → shift (front ++ us) ≡ Some (Some z, us)
+unfolding shift
+unit_spelled front z us (inl plus) = ap (λ l. shift (l ++ us)) plus.0 ∙ ap (λ n. Some (Some n, us)) (sym plus.1)
+unit_spelled front z us (inr minus) = ap (λ l. shift (l ++ us)) minus.0 ∙ ap (λ n. Some (Some n, us)) (sym minus.1)
+
+shift_spelled : (front : List Token) (z : ℤ) (us : List Token) → SpellsShift front z → shift (front ++ us) ≡ Some (Some z, us)
+shift_spelled front z us h = ⊎_elim (digits_spelled front z us) (unit_spelled front z us) h
 
 -- no sign stands in front
 abbrev pub NoSign : List Token → Type 0

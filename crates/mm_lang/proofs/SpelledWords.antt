@@ -19,7 +19,7 @@ use Rattle.mm_lang.specs.declared.read.token.Symbol.TheVariants.{Open, Close, Co
 use Rattle.mm_lang.specs.Grammar.{literal_of, name}
 use Rattle.mm_lang.specs.Phrases.{◌>>◌, say, is_mark, the_keyword, the_symbol, has_keyword}
 use Rattle.mm_lang.specs.Spelling.{word, SpellsLiteral}
-use Rattle.mm_lang.specs.Tokens.{Token, Word, Signed, Quoted, Mark, Unreadable}
+use Rattle.mm_lang.specs.Tokens.{Token, Word, Signed, Quoted, Mark, Hole, Unreadable}
 use Rattle.mm_lang.specs.Words.{is_symbol, is_word, keyword_named, keyword_text}
 use Rattle.mm_lang.specs.steps.Parts.{Front, said_same, tested, then_parts, one_parts, word_parts, optional_parts}
 
@@ -103,12 +103,14 @@ literal_read (Signed w) v e =
     subst (SpellsLiteral (Signed w)) (same_Some _ v p.1) (p.0, refl)
 literal_read (Quoted text) v e = subst (SpellsLiteral (Quoted text)) (same_Some _ v e) refl
 literal_read (Mark symbol) v e = absurd (none-some v e)
+literal_read Hole v e = subst (SpellsLiteral Hole) (same_Some _ v e) refl
 literal_read Unreadable v e = absurd (none-some v e)
 
 pub literal_spelled : (t : Token) (v : Value) → SpellsLiteral t v → literal_of t ≡ Some v
 literal_spelled (Word w) (Int z) h = cond-true (is_numeral w) (Some (Int (pos (digits_value 10 w)))) None h.0 ∙ ap (λ n. Some (Int n)) (sym h.1)
 literal_spelled (Signed w) (Int z) h = cond-true (is_numeral w) (Some (Int (neg_ℤ (pos (digits_value 10 w))))) None h.0 ∙ ap (λ n. Some (Int n)) (sym h.1)
 literal_spelled (Quoted text) (Text said) h = ap (λ t. Some (Text t)) (sym h)
+literal_spelled Hole (Int z) h = ap (λ n. Some (Int n)) (sym h)
 literal_spelled _ _ h = absurd h
 
 -- a name is no numeral

@@ -1,5 +1,5 @@
 -- What tokens read as, from left to right.
-use Rattle.std.specs.Prelude.{ℕ, ◌==◌, Bool, true, false, if◌then◌else◌, List, ◌∷◌, Option, Some, None, ℤ, pos}
+use Rattle.std.specs.Prelude.{ℕ, ◌==◌, Bool, true, false, if◌then◌else◌, List, ◌∷◌, Option, Some, None, ℤ, pos, negsuc}
 use Rattle.std.specs.Option.{option_and_then}
 use Rattle.std.specs.Str.Parse.{digits_value}
 use Rattle.std.proofs.Math.IntN.{neg_ℤ}
@@ -38,19 +38,20 @@ use Rattle.mm_lang.specs.declared.read.token.Symbol.{Symbol}
 use Rattle.mm_lang.specs.declared.read.token.Symbol.TheVariants as symbol
 use Rattle.mm_lang.specs.Phrases.{Phrase, ◌>>=◌, ◌>>◌, say, never, one, one_word, word_of, mark_of, the_symbol, the_keyword, the_separator, only_if, maybe}
 use Rattle.mm_lang.specs.Phrases.{has_keyword, list_of, clause, in_parentheses, whole}
-use Rattle.mm_lang.specs.Tokens.{Token, Word, Signed, Quoted, Mark, Unreadable}
+use Rattle.mm_lang.specs.Tokens.{Token, Word, Signed, Quoted, Mark, Hole, Unreadable}
 use Rattle.mm_lang.specs.Words.{keyword_named}
 
 -- A name.
 abbrev pub name : Phrase (List ℕ)
 name = one_word (λ word. if is_name word then Some word else None)
 
--- The literal that a token is, of any size.
+-- The literal that a token is, of any size. A hole is a 0 until a value is given.
 abbrev pub literal_of : Token → Option Value
 literal_of (Word word) = if is_numeral word then Some (value.Int (pos (digits_value 10 word))) else None
 literal_of (Signed word) = if is_numeral word then Some (value.Int (neg_ℤ (pos (digits_value 10 word)))) else None
 literal_of (Quoted text) = Some (value.Text text)
 literal_of (Mark mark) = None
+literal_of Hole = Some (value.Int (pos 0))
 literal_of Unreadable = None
 
 -- The type that a keyword names.
@@ -98,10 +99,20 @@ numbered is_negative word = only_if (is_numeral word) (say (Some (signed_value i
 abbrev pub digits : Bool → Phrase (Option ℤ)
 digits is_negative = one word_of >>= numbered is_negative
 
--- [+ digits | - digits]: the minus may stand directly before its digits or not.
+-- A shift by one, up or down.
+abbrev pub unit_shift : Bool → ℤ
+unit_shift true = negsuc 0
+unit_shift false = pos 1
+
+-- What stands behind a sign: digits, or a hole, which is a 1 until a value is given.
+abbrev pub behind_sign : Bool → Phrase (Option ℤ)
+behind_sign is_negative (Hole ∷ ts) = Some (Some (unit_shift is_negative), ts)
+behind_sign is_negative ts = digits is_negative ts
+
+-- [+ digits | - digits]: the minus may stand directly before its digits or not. A hole may stand in place of digits.
 unfoldable pub shift : Phrase (Option ℤ)
-shift (Mark symbol.Plus ∷ ts) = digits false ts
-shift (Mark symbol.Minus ∷ ts) = digits true ts
+shift (Mark symbol.Plus ∷ ts) = behind_sign false ts
+shift (Mark symbol.Minus ∷ ts) = behind_sign true ts
 shift (Signed word ∷ ts) = numbered true word ts
 shift ts = Some (None, ts)
 
@@ -348,6 +359,6 @@ command_behind keyword.Update = update
 command_behind keyword.Watch = watch
 command_behind _ = never
 
--- The command that tokens read as, its numbers and texts of any size.
+-- The command that tokens read as, its numbers and texts of any size, with a number in place of each hole.
 unfoldable pub command_of : List Token → Option Command
 command_of = whole (one_word keyword_named >>= command_behind)

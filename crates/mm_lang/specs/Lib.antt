@@ -5,6 +5,7 @@ pub mod Phrases
 pub mod Reading
 pub mod ReplyText
 pub mod Spelling
+pub mod Templates
 pub mod Tokens
 pub mod Words
 pub mod steps

@@ -19,9 +19,9 @@ use Rattle.mm_query.specs.declared.command.Definition.{Definition}
 use Rattle.mm_query.specs.declared.command.Definition.TheVariants as define
 use Rattle.mm_query.specs.declared.command.Mutation.TheVariants.{Insert, Update, Delete}
 use Rattle.mm_query.specs.declared.query.Query.{Query}
-use Rattle.mm_lang.specs.Grammar.{command_of, literal_of}
-use Rattle.mm_lang.specs.Tokens.{Token, Word, Signed, Mark, tokens, is_blank}
-use Rattle.mm_lang.specs.declared.read.token.Symbol.TheVariants.{Minus}
+use Rattle.mm_lang.specs.Grammar.{command_of, literal_of, unit_shift}
+use Rattle.mm_lang.specs.Tokens.{Token, Word, Signed, Mark, Hole, has_hole, tokens, is_blank}
+use Rattle.mm_lang.specs.declared.read.token.Symbol.TheVariants.{Plus, Minus}
 
 -- the refusal of a value past its limit
 abbrev pub past_limit : Value → Refusal
@@ -58,10 +58,12 @@ position_literals position = Int (pos position) ∷ []
 abbrev pub query_literals : Query → List Value
 query_literals query = flat_map test_literals query.atoms ++ flat_map position_literals query.order
 
--- The literals among tokens, from left to right: a minus in front of a word belongs to it.
+-- The literals among tokens, from left to right: a minus in front of a word belongs to it, and so does a sign in front of a hole.
 abbrev pub literals_among : List Token → List Value
 literals_among [] = []
 literals_among (Mark Minus ∷ Word word ∷ ts) = cons_option (literal_of (Signed word)) (literals_among ts)
+literals_among (Mark Plus ∷ Hole ∷ ts) = Int (unit_shift false) ∷ literals_among ts
+literals_among (Mark Minus ∷ Hole ∷ ts) = Int (unit_shift true) ∷ literals_among ts
 literals_among (t ∷ ts) = cons_option (literal_of t) (literals_among ts)
 
 -- the literals of a change of the catalog, from left to right
@@ -106,6 +108,10 @@ checked fault (Some x) = unless x (fault x)
 abbrev pub read_as : Option Command → Result Command Refusal
 read_as command = checked (λ c. first_fault (literals_of c)) command
 
+-- The command that tokens read as of which none is a hole.
+abbrev pub plain_command : List Token → Option Command
+plain_command ts = if has_hole ts then None else command_of ts
+
 -- two minus signs
 abbrev pub is_comment : List ℕ → Bool
 is_comment [] = false
@@ -116,11 +122,11 @@ is_comment (a ∷ b ∷ bs) = (a == 45) && (b == 45)
 abbrev pub is_nothing : List ℕ → Bool
 is_nothing line = list_all is_blank line || is_comment line
 
--- What a line reads as, without its line feed and carriage return.
+-- What a line reads as, without its line feed and carriage return. No hole may stand in it.
 unfoldable pub reading : List ℕ → Result Command Refusal
 reading line =
     if nat_lt 4096 (length line) then Err LineTooLong
-    else (if is_nothing line then Ok Nothing else read_as (command_of (tokens line)))
+    else (if is_nothing line then Ok Nothing else read_as (plain_command (tokens line)))
 
 -- A command takes memory unless it is Nothing, begins or ends a transaction, or goes back to a savepoint.
 abbrev pub command_takes_memory : Command → Bool

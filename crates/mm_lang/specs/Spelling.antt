@@ -33,17 +33,18 @@ use Rattle.mm_lang.specs.declared.read.keyword.Keyword.{Keyword}
 use Rattle.mm_lang.specs.declared.read.keyword.Keyword.TheVariants as keyword
 use Rattle.mm_lang.specs.declared.read.token.Symbol.{Symbol}
 use Rattle.mm_lang.specs.declared.read.token.Symbol.TheVariants.{Open, Close, Comma, Dot, Equal, Less, AtMost, Greater, AtLeast, Plus, Minus}
-use Rattle.mm_lang.specs.Tokens.{Token, Word, Signed, Quoted, Mark}
+use Rattle.mm_lang.specs.Tokens.{Token, Word, Signed, Quoted, Mark, Hole}
 use Rattle.mm_lang.specs.Words.{keyword_text}
 
 abbrev pub word : Keyword → Token
 word keyword = Word (keyword_text keyword)
 
--- A literal: digits, digits directly behind a minus, or a text in quotes.
+-- A literal: digits, digits directly behind a minus, or a text in quotes; or a hole, which is a 0.
 abbrev pub SpellsLiteral : Token → Value → Type 0
 SpellsLiteral (Word digits) (value.Int z) = IsNumeral digits × (z ≡ pos (digits_value 10 digits))
 SpellsLiteral (Signed digits) (value.Int z) = IsNumeral digits × (z ≡ neg_ℤ (pos (digits_value 10 digits)))
 SpellsLiteral (Quoted said) (value.Text text) = text ≡ said
+SpellsLiteral Hole (value.Int z) = z ≡ pos 0
 SpellsLiteral token literal = ⊥
 
 -- A single token.
@@ -96,11 +97,19 @@ abbrev pub kind_word : IndexKind → Keyword
 kind_word kind.Tree = keyword.Tree
 kind_word kind.Hash = keyword.Hash
 
--- shift = + digits | - digits, where the minus may stand directly before its digits
-abbrev pub SpellsShift : List Token → ℤ → Type 0
-SpellsShift ts z = (digits : List ℕ) × IsNumeral digits
+-- + digits | - digits, where the minus may stand directly before its digits
+abbrev pub SpellsDigits : List Token → ℤ → Type 0
+SpellsDigits ts z = (digits : List ℕ) × IsNumeral digits
     × (((ts ≡ Mark Plus ∷ Word digits ∷ []) × (z ≡ pos (digits_value 10 digits)))
     ⊎ (((ts ≡ Mark Minus ∷ Word digits ∷ []) ⊎ (ts ≡ Signed digits ∷ [])) × (z ≡ neg_ℤ (pos (digits_value 10 digits)))))
+
+-- + hole | - hole, where the hole is a 1
+abbrev pub SpellsUnit : List Token → ℤ → Type 0
+SpellsUnit ts z = ((ts ≡ Mark Plus ∷ Hole ∷ []) × (z ≡ pos 1)) ⊎ ((ts ≡ Mark Minus ∷ Hole ∷ []) × (z ≡ neg_ℤ (pos 1)))
+
+-- shift = + digits | - digits | + hole | - hole
+abbrev pub SpellsShift : List Token → ℤ → Type 0
+SpellsShift ts z = SpellsDigits ts z ⊎ SpellsUnit ts z
 
 -- A column of the table that the command names: name
 abbrev pub SpellsName : List Token → List ℕ → Type 0

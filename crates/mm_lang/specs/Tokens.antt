@@ -1,5 +1,6 @@
 -- The tokens of a line: longest runs, from left to right.
 use Rattle.std.specs.Prelude.{ℕ, ◌==◌, Bool, true, false, ◌||◌, ◌&&◌, if◌then◌else◌, List, [], ◌∷◌, nat_le}
+use Rattle.std.specs.List.{list_any}
 use Rattle.mm_lang.specs.declared.read.token.Symbol.{Symbol}
 use Rattle.mm_lang.specs.declared.read.token.Symbol.TheVariants.{Open, Close, Comma, Dot, Equal, Less, AtMost, Greater, AtLeast, Plus, Minus}
 
@@ -11,8 +12,19 @@ pub data Token : Type 0 where
   -- what a text between quotes says
   Quoted : (bytes : List ℕ) → Token
   Mark : (symbol : Symbol) → Token
+  -- a ?, in whose place a value is given later
+  Hole : Token
   -- a byte or an unclosed quote that stands in no command
   Unreadable : Token
+
+-- The token is a hole.
+abbrev pub is_hole : Token → Bool
+is_hole Hole = true
+is_hole token = false
+
+-- One of the tokens is a hole.
+abbrev pub has_hole : List Token → Bool
+has_hole ts = list_any is_hole ts
 
 -- a space or a tab
 abbrev pub is_blank : ℕ → Bool
@@ -64,7 +76,8 @@ onto_symbol b bs ts =
     else (if b == 62 then onto_equal Greater AtLeast (begins_equal bs) ts
     else (if b == 43 then Mark Plus ∷ ts
     else (if b == 45 then onto_minus (begins_word bs) ts
-    else Unreadable ∷ []))))))))
+    else (if b == 63 then Hole ∷ ts
+    else Unreadable ∷ [])))))))))
 
 -- Where a byte stands: outside a text, or inside one, behind its opening quote.
 pub data Place : Type 0 where

@@ -9,6 +9,7 @@ pub use grammar::{grammar_is_exact, literals_are_in_written_order};
 pub use mm_query::{Command, Reply};
 pub use read::keyword::Keyword;
 pub use read::reading::{MAX_LINE_BYTES, parse};
+pub use read::template::{Template, prepare, templates_read_as_lines};
 pub use read::token::Symbol;
 pub use write::reply_text::{
     definitions_are_listed_as_written, refusals_are_recognized, write_reply,

@@ -6,9 +6,8 @@ use Rattle.std.proofs.lemmas.List.{drop_all, take_all}
 use Rattle.std.proofs.lemmas.Bool.{false≢true, lt-ltb}
 use Rattle.std.specs.Prelude.{IfOk, is_err}
 use Rattle.std.specs.Io.KnownBytes.{Appends, Keeps}
-use Rattle.mm_lang.specs.Grammar.{command_of}
 use Rattle.mm_lang.specs.Lines.{without_return, HasNoFeed}
-use Rattle.mm_lang.specs.Reading.{Reads, command_takes_memory, is_nothing, read_as, reading, reading_takes_memory, takes_memory}
+use Rattle.mm_lang.specs.Reading.{Reads, command_takes_memory, is_nothing, plain_command, read_as, reading, reading_takes_memory, takes_memory}
 use Rattle.mm_lang.specs.ReplyText.{reply_text, rows_text}
 use Rattle.mm_lang.specs.Tokens.{tokens}
 use Rattle.mm_value.specs.Device.{Writes}
@@ -165,7 +164,7 @@ module _ {W E : Type 0} {contents : W → Option (List ℕ)} {old new : Watched 
 long_reading : (line : List ℕ) (state : State) → 4096 < length line → answer false line state ≡ refused_outcome LineTooLong state
 unfolding reading
 long_reading line state long =
-    ap (λ b. outcome_of (cond b (Err LineTooLong) (cond (is_nothing line) (Ok Nothing) (read_as (command_of (tokens line))))) state)
+    ap (λ b. outcome_of (cond b (Err LineTooLong) (cond (is_nothing line) (Ok Nothing) (read_as (plain_command (tokens line))))) state)
     (lt-ltb 4096 (length line) long)
 
 pub replies_to_long : {W E : Type 0} {contents : W → Option (List ℕ)} {old new : Watched W} (line : List ℕ) (state : State) {result : Result Bool E}

@@ -7,8 +7,7 @@ use Rattle.std.specs.Option.{option_map, option_map_or}
 use Rattle.std.specs.Prelude.{IfSome}
 use Rattle.std.specs.Io.KnownBytes.{Consumes, IsAtEnd}
 use Rattle.mm_lang.proofs.Commands.{control_takes_none, reads_long}
-use Rattle.mm_lang.specs.Grammar.{command_of}
-use Rattle.mm_lang.specs.Reading.{is_nothing, read_as, reading, reading_takes_memory, takes_memory}
+use Rattle.mm_lang.specs.Reading.{is_nothing, plain_command, read_as, reading, reading_takes_memory, takes_memory}
 use Rattle.mm_lang.specs.Tokens.{tokens}
 use Rattle.mm_value.specs.declared.refusal.Refusal.TheVariants.{LineTooLong, Memory, NoSuchSavepoint, NoTransaction}
 use Rattle.mm_schema.specs.Name.{same_name}
@@ -38,7 +37,8 @@ long_takes_none line long = ap reading_takes_memory (reads_long line long)
 pub nothing_takes_none : (line : List ℕ) → is_nothing line ≡ true → takes_memory line ≡ false
 unfolding reading
 nothing_takes_none line nothing =
-    ap (λ b. reading_takes_memory (cond (ltb 4096 (length line)) (Err LineTooLong) (cond b (Ok Nothing) (read_as (command_of (tokens line)))))) nothing ∙ either
+    ap (λ b. reading_takes_memory (cond (ltb 4096 (length line)) (Err LineTooLong) (cond b (Ok Nothing) (read_as (plain_command (tokens line)))))) nothing
+    ∙ either
     (ltb 4096 (length line))
   where
     either : (is_long : Bool) → reading_takes_memory (cond is_long (Err LineTooLong) (Ok Nothing)) ≡ false

@@ -1,7 +1,7 @@
 -- What the steps of reading a command give.
 use Rattle.std.specs.Prelude.{◌≡◌, ◌≢◌, ◌⊎◌, ℕ, ◌<◌, ◌≤◌, Bool, true, false, List, [], ◌∷◌, ◌++◌, length, ℤ, Option, Some, None, Result, Ok, Err, MatchOption}
-use Rattle.std.specs.Prelude.{MatchResult, IsTrue}
-use Rattle.std.specs.Option.{option_or}
+use Rattle.std.specs.Prelude.{MatchResult, IsTrue, if◌then◌else◌}
+use Rattle.std.specs.Option.{option_map_or, option_or}
 use Rattle.mm_value.specs.declared.refusal.Refusal.{Refusal}
 use Rattle.mm_value.specs.declared.refusal.Refusal.TheVariants.{Syntax, NumberOutOfRange, TextTooLong, Memory}
 use Rattle.mm_value.specs.declared.values.Value.{Value}
@@ -11,9 +11,10 @@ use Rattle.mm_lang.specs.declared.read.keyword.Keyword.{Keyword}
 use Rattle.mm_lang.specs.declared.read.keyword.Keyword.TheVariants as keyword
 use Rattle.mm_lang.specs.declared.read.reader.Reader.{Reader}
 use Rattle.mm_lang.specs.declared.read.token.Symbol.{Symbol}
-use Rattle.mm_lang.specs.Phrases.{Phrase}
+use Rattle.mm_lang.specs.Phrases.{Phrase, one}
 use Rattle.mm_lang.specs.Reading.{first_fault, reading_takes_memory}
-use Rattle.mm_lang.specs.Tokens.{Token, Word, Signed, Mark, tokens}
+use Rattle.mm_lang.specs.Tokens.{Token, Word, Signed, Mark, Hole, is_hole, tokens}
+use Rattle.mm_lang.specs.Words.{keyword_named}
 
 -- A call gives this answer, or want of memory in its place.
 abbrev pub AnswersOrMemory : {T : Type 0} → Result T Refusal → Result T Refusal → Type 0
@@ -31,6 +32,29 @@ is_control_keyword keyword.Begin = true
 is_control_keyword keyword.Commit = true
 is_control_keyword keyword.Rollback = true
 is_control_keyword _ = false
+
+-- The keyword begins a change of the catalog.
+abbrev pub is_definition_keyword : Keyword → Bool
+is_definition_keyword keyword.Drop = true
+is_definition_keyword keyword.Index = true
+is_definition_keyword keyword.Table = true
+is_definition_keyword keyword.Unwatch = true
+is_definition_keyword keyword.Watch = true
+is_definition_keyword _ = false
+
+-- The tokens begin with such a keyword.
+abbrev pub begins_definition : List Token → Bool
+begins_definition (Word word ∷ ts) = option_map_or is_definition_keyword (keyword_named word) false
+begins_definition ts = false
+
+-- A hole, of which nothing is kept.
+abbrev pub the_hole : Phrase (Unit {0})
+the_hole = one (λ t. if is_hole t then Some tt else None)
+
+-- The tokens begin with no hole.
+abbrev pub BeginsNoHole : List Token → Type 0
+BeginsNoHole (Hole ∷ ts) = ⊥
+BeginsNoHole ts = Unit {0}
 
 -- The tokens begin with no word.
 abbrev pub BeginsNoWord : List Token → Type 0

@@ -9,10 +9,10 @@ use Rattle.mm_lang.specs.declared.read.token.Symbol.TheVariants as symbol
 use Rattle.mm_value.specs.Literal.{is_numeral}
 use Rattle.mm_value.specs.declared.values.Value.{Value}
 use Rattle.mm_lang.specs.Grammar.{literal_of, name, col_type, on_delete_of, reference_to, reference, role_behind, role, column, comma_list, tuple, comparison}
-use Rattle.mm_lang.specs.Grammar.{numbered, digits, shift, operand_behind, operand_on, test_on, assignment, field, from_item, position}
+use Rattle.mm_lang.specs.Grammar.{numbered, digits, unit_shift, behind_sign, shift, operand_behind, operand_on, test_on, assignment, field, from_item, position}
 use Rattle.mm_lang.specs.Phrases.{Phrase, ◌>>=◌, say, one, word_of, the_symbol, the_keyword, behind_item, at_most, list_of, only_if, optional, maybe}
 use Rattle.mm_lang.specs.Phrases.{has_keyword, in_parentheses}
-use Rattle.mm_lang.specs.Tokens.{Token, Signed, Mark}
+use Rattle.mm_lang.specs.Tokens.{Token, Signed, Mark, Hole}
 use Rattle.mm_lang.specs.steps.Parsing.{NeverLonger}
 use Rattle.mm_lang.specs.steps.Parts.{Front, said_same, tested, then_parts, one_parts, optional_parts}
 
@@ -97,10 +97,14 @@ numbered_never_longer is_negative digits = only_if_never_longer (is_numeral digi
 digits_never_longer : (is_negative : Bool) → NeverLonger (digits is_negative)
 digits_never_longer is_negative = then_never_longer (one word_of) _ (one_never_longer _) (numbered_never_longer is_negative)
 
+behind_sign_never_longer : (is_negative : Bool) → NeverLonger (behind_sign is_negative)
+behind_sign_never_longer is_negative (Hole ∷ ts) x us e = let h = say_never_longer (Some (unit_shift is_negative)) ts x us e in omega (arith, h)
+behind_sign_never_longer is_negative ts x us e = digits_never_longer is_negative ts x us e
+
 shift_never_longer : NeverLonger shift
 unfolding shift
-shift_never_longer (Mark symbol.Plus ∷ ts) x us e = let h = digits_never_longer false ts x us e in omega (arith, h)
-shift_never_longer (Mark symbol.Minus ∷ ts) x us e = let h = digits_never_longer true ts x us e in omega (arith, h)
+shift_never_longer (Mark symbol.Plus ∷ ts) x us e = let h = behind_sign_never_longer false ts x us e in omega (arith, h)
+shift_never_longer (Mark symbol.Minus ∷ ts) x us e = let h = behind_sign_never_longer true ts x us e in omega (arith, h)
 shift_never_longer (Signed word ∷ ts) x us e = let h = numbered_never_longer true word ts x us e in omega (arith, h)
 shift_never_longer ts x us e = say_never_longer None ts x us e
 

@@ -5,7 +5,7 @@ use Rattle.mm_lang.specs.declared.read.token.Token.{Token as Shown}
 use Rattle.mm_lang.specs.declared.read.token.Token.TheVariants as shown
 use Rattle.mm_lang.specs.declared.read.token.Piece.{Piece}
 use Rattle.mm_lang.specs.declared.read.token.Piece.TheVariants.{Bytes, End, Fault}
-use Rattle.mm_lang.specs.Tokens.{Token, Word, Signed, Quoted, Mark, Unreadable, Inside, tokens, lexed, is_blank, begins_word, onto_text}
+use Rattle.mm_lang.specs.Tokens.{Token, Word, Signed, Quoted, Mark, Hole, Unreadable, Inside, tokens, lexed, is_blank, begins_word, onto_text}
 
 -- The bytes of a token as they stand in a line show the token.
 abbrev pub Shows : Shown → Token → Type 0
@@ -13,6 +13,7 @@ Shows (shown.Word raw) t = (t ≡ Word raw.now) × (begins_word raw.now ≡ true
 Shows (shown.Signed raw) t = (word : List ℕ) × (raw.now ≡ 45 ∷ word) × (t ≡ Signed word)
 Shows (shown.Quoted raw) t = (text : List ℕ) × SpellsText raw.now text × (t ≡ Quoted text)
 Shows (shown.Mark symbol) t = t ≡ Mark symbol
+Shows shown.Hole t = t ≡ Hole
 Shows shown.Unreadable t = t ≡ Unreadable
 
 -- The first of some tokens, and bytes with the other tokens, fewer than a limit.

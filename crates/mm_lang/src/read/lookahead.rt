@@ -1,8 +1,8 @@
 //! The bytes that are left of a line, with their first token split off.
 ghost use Rattle.std.specs.Prelude.{◌≡◌, [], length, MatchOption};
-ghost use Rattle.mm_lang.specs.steps.Parsing.{BeginsNoMark, BeginsNoWord, BeginsNot, BeginsNotSigned, Follows};
+ghost use Rattle.mm_lang.specs.steps.Parsing.{BeginsNoHole, BeginsNoMark, BeginsNoWord, BeginsNot, BeginsNotSigned, Follows};
 ghost use Rattle.mm_lang.specs.steps.Splitting.{Splits};
-ghost use Rattle.mm_lang.specs.Tokens.{Word, Signed, Mark as MarkToken, tokens};
+ghost use Rattle.mm_lang.specs.Tokens.{Word, Signed, Mark as MarkToken, Hole as HoleToken, tokens};
 
 use crate::read::token::{Symbol, Token, split_token};
 use std::marker::Model;
@@ -61,6 +61,16 @@ impl<'a> Lookahead<'a> {
     {
         match self.token() {
             Some((Token::Mark(mark), behind)) if mark == symbol => Some(behind),
+            _ => None,
+        }
+    }
+
+    /// The bytes behind a hole, where one stands first.
+    pub(crate) fn behind_hole(&self) -> Option<&'a [u8]>
+        ensures { MatchOption result (BeginsNoHole (tokens self.now)) (λ r. Follows self.now HoleToken r.now) }
+    {
+        match self.token() {
+            Some((Token::Hole, behind)) => Some(behind),
             _ => None,
         }
     }

@@ -1,9 +1,11 @@
 //! Reading of a line from left to right.
 ghost use Rattle.std.specs.Prelude.{◌≡◌, None, MatchResult};
-ghost use Rattle.mm_lang.specs.Grammar.{col_type, comparison, comparison_of, digits, index_kind, literal_of, name, numbered, position, shift};
+ghost use Rattle.mm_lang.specs.Grammar.{col_type, comparison, comparison_of, digits, index_kind, literal_of, name, numbered, position};
+ghost use Rattle.mm_lang.specs.Grammar.{behind_sign, shift, unit_shift};
 ghost use Rattle.mm_lang.specs.Phrases.{in_parentheses, one, one_word, the_keyword, the_separator, the_symbol, word_of};
 ghost use Rattle.mm_lang.specs.Words.{keyword_named};
-ghost use Rattle.mm_lang.specs.steps.Parsing.{AnswersOrMemory, Finds, Finishes, Gives, IsMissing, ReadsPhrase, ReadsWithoutMemory, Skips, is_limit, no_literals, only_literal, shift_literals};
+ghost use Rattle.mm_lang.specs.steps.Parsing.{AnswersOrMemory, Finds, Finishes, Gives, IsMissing, ReadsPhrase, ReadsWithoutMemory, Skips};
+ghost use Rattle.mm_lang.specs.steps.Parsing.{is_limit, no_literals, only_literal, shift_literals, the_hole};
 ghost use Rattle.mm_lang.specs.steps.Splitting.{Shows};
 ghost use Rattle.mm_lang.specs.Reading.{checked, literal_fault, position_literals};
 ghost use Rattle.mm_lang.specs.Tokens.{Token as Tok};
@@ -192,16 +194,16 @@ impl<'a> Reader<'a> {
     }
 
     /// Reads a sign and digits behind it, and gives the number; none where no sign stands there, and then nothing is taken.
-    /// Where the number passes its limit that is noted, and a zero stands in its place. `Syntax` where no digits stand
-    /// behind the sign.
+    /// A hole in place of the digits is a 1. Where the number passes its limit that is noted, and a zero stands in its place.
+    /// `Syntax` where neither stands behind the sign.
     pub(crate) fn shift(&mut self) -> Result<Option<i64>, Refusal>
         ensures { ReadsPhrase shift shift_literals self.old self.new result }
     {
         if self.skip(Symbol::Plus) {
-            return self.digits(false);
+            return self.behind_sign(false);
         }
         if self.skip(Symbol::Minus) {
-            return self.digits(true);
+            return self.behind_sign(true);
         }
         match self.rest.signed() {
             Some((word, rest)) => {
@@ -250,6 +252,29 @@ impl<'a> Reader<'a> {
         }
     }
 
+    // Takes a hole, and tells whether it stood there. Where it did not, nothing is taken.
+    fn skip_hole(&mut self) -> bool
+        ensures { Skips the_hole self.old self.new result }
+    {
+        match self.rest.behind_hole() {
+            Some(rest) => {
+                self.rest = Lookahead::new(rest);
+                true
+            }
+            None => false,
+        }
+    }
+
+    // Reads the number of a shift behind its sign, as `shift` gives it.
+    fn behind_sign(&mut self, is_negative: bool) -> Result<Option<i64>, Refusal>
+        ensures { ReadsPhrase (behind_sign is_negative) shift_literals self.old self.new result }
+    {
+        if self.skip_hole() {
+            return Ok(Some(unit_shift(is_negative)));
+        }
+        self.digits(is_negative)
+    }
+
     // Reads digits, and gives their number. Where that passes its limit it is noted, and a zero stands in its place.
     // `Syntax` where no digits stand there.
     fn digits(&mut self, is_negative: bool) -> Result<Option<i64>, Refusal>
@@ -287,6 +312,13 @@ impl<'a> Reader<'a> {
     }
 }
 
+// A shift by one, up or down.
+fn unit_shift(is_negative: bool) -> i64
+    ensures { result ≡ unit_shift is_negative }
+{
+    if is_negative { -1 } else { 1 }
+}
+
 // The comparison that a symbol writes.
 fn comparison_of(symbol: Symbol) -> Option<Comparison>
     ensures { result ≡ comparison_of symbol }
@@ -301,7 +333,7 @@ fn comparison_of(symbol: Symbol) -> Option<Comparison>
     }
 }
 
-// The value that a token is. `Syntax` where it is none, else `NumberOutOfRange` or `TextTooLong` where it passes its
+// The value that a token is; a hole is a 0. `Syntax` where it is none, else `NumberOutOfRange` or `TextTooLong` where it passes its
 // limit, else `Memory` where that was refused.
 fn literal(alloc: Global, token: Token<'_>) -> Result<Value, Refusal>
     ensures { (t : Tok) → Shows token.entry t → AnswersOrMemory (checked literal_fault (literal_of t)) result }
@@ -310,6 +342,7 @@ fn literal(alloc: Global, token: Token<'_>) -> Result<Value, Refusal>
         Token::Word(bytes) | Token::Signed(bytes) | Token::Quoted(bytes) => {
             read_literal(alloc, bytes)
         }
+        Token::Hole => Ok(Value::Int(0)),
         Token::Mark(_) | Token::Unreadable => Err(Refusal::Syntax),
     }
 }

@@ -9,6 +9,7 @@ ghost use Rattle.mm_value.specs.declared.refusal.Refusal.TheVariants.{Memory};
 
 use crate::read::atoms::{AssignmentPhrase, read_tests};
 use crate::read::columns::ColumnPhrase;
+use crate::read::hole::has_hole;
 use crate::read::keyword::Keyword;
 use crate::read::phrase::{Separator, read_in_parentheses, read_items, read_list};
 use crate::read::reader::Reader;
@@ -33,11 +34,11 @@ pub const MAX_LINE_BYTES: usize = 4096;
 /// `SELECT [DISTINCT] field, .. FROM name name, .. [WHERE test AND ..] [ORDER digits, ..]`, where a field is `name . name`,
 /// and stands for a column in the tests too; `EXPLAIN` and such a `SELECT`; `WATCH name` and such a `SELECT`; `UNWATCH name`;
 /// `SHOW name`; `TABLES`; `BEGIN`, `COMMIT` or `ROLLBACK`; or `SAVEPOINT name` or `ROLLBACK TO name`.
-/// `LineTooLong` where the line has more than 4,096 bytes, `Syntax` where it has no reading, else `NumberOutOfRange` or
-/// `TextTooLong` where its first literal from the left past its limit is a number or a text; digits behind a minus count
-/// as the negative number, and digits of ORDER are numbers too. `Memory` may come in place of any answer but `LineTooLong`,
-/// `Nothing`, `Begin`, `Commit`, `Rollback` and `RollbackTo`. Nothing is taken but what the command keeps: the names of fields and of
-/// columns that are tested or assigned lie in the line.
+/// `LineTooLong` where the line has more than 4,096 bytes, `Syntax` where it has no reading or a `?` outside a text, else
+/// `NumberOutOfRange` or `TextTooLong` where its first literal from the left past its limit is a number or a text; digits
+/// behind a minus count as the negative number, and digits of ORDER are numbers too. `Memory` may come in place of any answer
+/// but `LineTooLong`, `Nothing`, `Begin`, `Commit`, `Rollback` and `RollbackTo`. Nothing is taken but what the command keeps:
+/// the names of fields and of columns that are tested or assigned lie in the line.
 pub fn parse(alloc: Global, line: &[u8]) -> Result<Command<'_>, Refusal>
     ensures { Reads line.now result }
 {
@@ -47,10 +48,14 @@ pub fn parse(alloc: Global, line: &[u8]) -> Result<Command<'_>, Refusal>
     if is_nothing(line) {
         return Ok(Command::Nothing);
     }
+    if has_hole(line) {
+        return Err(Refusal::Syntax);
+    }
     read_command(alloc, line)
 }
 
-fn is_nothing(line: &[u8]) -> bool
+/// Whether a line has no command: it is empty or a comment.
+pub(crate) fn is_nothing(line: &[u8]) -> bool
     ensures { result ≡ is_nothing line.now }
 {
     is_empty_line(line) || is_comment(line)
@@ -68,7 +73,9 @@ fn is_comment(line: &[u8]) -> bool
     matches!(line, [b'-', b'-', ..])
 }
 
-fn read_command(alloc: Global, line: &[u8]) -> Result<Command<'_>, Refusal>
+/// What the tokens of a line read as, with a number in place of each hole. `Syntax` where they have no reading, else
+/// `NumberOutOfRange` or `TextTooLong` for the first literal past its limit. `Memory` may come in place of either, as in `parse`.
+pub(crate) fn read_command(alloc: Global, line: &[u8]) -> Result<Command<'_>, Refusal>
     ensures { AnswersReading (read_as (command_of (tokens line.now))) result }
 {
     let mut reader = Reader::new(alloc, line);

@@ -42,6 +42,8 @@ pub(crate) enum Token<'a> {
     Quoted(&'a [u8]),
     /// A symbol.
     Mark(Symbol),
+    /// `?`, in whose place a value is given later.
+    Hole,
     /// A byte or an unclosed quote that stands in no command.
     Unreadable,
 }
@@ -136,6 +138,7 @@ fn split_symbol(bytes: &[u8]) -> (Token<'_>, &[u8])
         b'>' => return split_comparison(rest, Symbol::Greater, Symbol::AtLeast),
         b'+' => Symbol::Plus,
         b'-' => return split_minus(bytes),
+        b'?' => return (Token::Hole, rest),
         _ => return (Token::Unreadable, &[]),
     };
     (Token::Mark(symbol), rest)

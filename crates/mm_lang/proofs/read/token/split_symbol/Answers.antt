@@ -8,4 +8,4 @@ returns-in_default c =
     let bytes = c.args.bytes.now in
     splits_unreadable (get_or bytes 0 0) (drop 1 bytes) (tokens (drop 1 bytes)) (length bytes) (λ e. absurd (omega arith))
     (λ e. absurd (omega arith)) (λ e. absurd (omega arith)) (λ e. absurd (omega arith)) (λ e. absurd (omega arith)) (λ e. absurd (omega arith))
-    (λ e. absurd (omega arith)) (λ e. absurd (omega arith)) (λ e. absurd (omega arith)) c.requires
+    (λ e. absurd (omega arith)) (λ e. absurd (omega arith)) (λ e. absurd (omega arith)) (λ e. absurd (omega arith)) c.requires

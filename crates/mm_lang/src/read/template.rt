@@ -1,0 +1,81 @@
+//! Lines with holes, in whose place values are given later.
+ghost use Rattle.std.specs.Prelude.{◌≡◌, ◌&&◌, ℕ, List, length, false, Ok};
+ghost use Rattle.mm_query.specs.declared.command.Command.{Command as Com};
+ghost use Rattle.mm_lang.specs.Reading.{literals_of, reading};
+ghost use Rattle.mm_lang.specs.Templates.{Prepares, holes_of, template_of};
+ghost use Rattle.mm_lang.specs.Tokens.{has_hole, tokens};
+ghost use Rattle.mm_lang.specs.steps.Parsing.{begins_definition, is_definition_keyword};
+
+use crate::read::hole::{has_hole, holes_among};
+use crate::read::keyword::Keyword;
+use crate::read::lookahead::Lookahead;
+use crate::read::reading::{MAX_LINE_BYTES, is_nothing, read_command};
+use mm_query::Command;
+use mm_value::Refusal;
+use std::alloc::Global;
+
+/// What a line with holes was read as, which lives for `'l`.
+#[derive(Debug, Drop)]
+pub struct Template<'l> {
+    /// The command. In place of each hole stands a 0; in place of one behind the sign of a shift, a 1 with that sign.
+    pub command: Command<'l>,
+    /// Whether each literal of the command is a hole, in written order.
+    pub holes: Vec<bool>,
+}
+
+/// Reads a line, without its line feed and carriage return, in which a `?` may stand for a literal: in the tuples of an INSERT,
+/// in the values of a SET, in the tests of a WHERE, and for the digits of a shift. Else it is a line as [`crate::parse`] reads it.
+/// `LineTooLong` where the line has more than 4,096 bytes; `Syntax` where it has no reading, or where a `?` stands in a change
+/// of the catalog, as in the query of a WATCH; else `NumberOutOfRange` or `TextTooLong` where its first literal from the left
+/// past its limit is a number or a text. `Memory` may come in place of any answer.
+pub fn prepare(alloc: Global, line: &[u8]) -> Result<Template<'_>, Refusal>
+    ensures { Prepares line.now result }
+{
+    if line.len() > MAX_LINE_BYTES {
+        return Err(Refusal::LineTooLong);
+    }
+    if is_nothing(line) {
+        return Ok(Template {
+            command: Command::Nothing,
+            holes: Vec::new(alloc),
+        });
+    }
+    if defines_with_hole(line) {
+        return Err(Refusal::Syntax);
+    }
+    let command = read_command(alloc, line)?;
+    let holes = holes_among(alloc, line)?;
+    Ok(Template { command, holes })
+}
+
+// Whether a hole stands in a line that begins as a change of the catalog.
+fn defines_with_hole(line: &[u8]) -> bool
+    ensures { result ≡ (has_hole (tokens line.now) && begins_definition (tokens line.now)) }
+{
+    has_hole(line) && begins_definition(line)
+}
+
+// Whether a line begins with the keyword of a change of the catalog.
+fn begins_definition(line: &[u8]) -> bool
+    ensures { result ≡ begins_definition (tokens line.now) }
+{
+    match Lookahead::new(line).word() {
+        Some((word, _)) => Keyword::named(word).is_some_and(is_definition_keyword),
+        None => false,
+    }
+}
+
+fn is_definition_keyword(keyword: Keyword) -> bool
+    ensures { result ≡ is_definition_keyword keyword }
+{
+    matches!(
+        keyword,
+        Keyword::Drop | Keyword::Index | Keyword::Table | Keyword::Unwatch | Keyword::Watch
+    )
+}
+
+/// A line without holes is read as [`crate::parse`] reads it; and a line's holes are told of as many literals as its command has.
+pub fn templates_read_as_lines()
+    ensures plain { (line : List ℕ) → has_hole (tokens line) ≡ false → template_of line ≡ reading line }
+    ensures places { (line : List ℕ) (command : Com) → template_of line ≡ Ok command → length (holes_of line) ≡ length (literals_of command) }
+{}
