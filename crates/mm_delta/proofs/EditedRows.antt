@@ -11,6 +11,8 @@ use Rattle.mm_relation.specs.Kept.{IsKept, StoredRows}
 use Rattle.mm_relation.specs.Refs.{row_at}
 use Rattle.mm_relation.specs.RowLists.{rows_of}
 use Rattle.mm_relation.specs.declared.indexes.names.Side.TheVariants.{Old}
+use Rattle.mm_store.proofs.Shown.{table_seen}
+use Rattle.mm_store.specs.Seen.{Seen}
 use Rattle.mm_store.specs.Tables.{IsAt, Tables, rows_with}
 use Rattle.mm_value.specs.declared.row_ref.RowRef.{RowRef}
 use Rattle.mm_value.specs.Equality.{same_row}
@@ -41,29 +43,35 @@ stands_where_counted rows row counted =
 mapped_there : (f : RowRef → Row) (refs : List RowRef) (at : RowRef) → Contains refs at → Contains (map f refs) (f at)
 mapped_there f refs at (k, within, is) = (k, omega (arith, within, length-map refs f), get_or-map f refs k at (f at) within ∙ ap f is)
 
-module _ (store : Tables) (changes : List TableChange) (table : ℕ) (stored : StoredRows) (at : IsAt store table stored)
-    (was : IsKept stored.width stored.key (slot_at stored.places) stored.refs stored.indexes) (fit : EachFit store changes) where
-  -- A row that goes is one before the change.
-  pub gone_are_rows : All (IsRowOf store changes table) (gone_at store changes table)
-  gone_are_rows =
-      subst (All (IsRowOf store changes table)) (sym (gone_is store changes table stored at))
-      (All-map (IsRowOf store changes table) (row_at (slot_at stored.places)) (named edit_name Old (edits_at changes table))
-      (λ k d within.
-      let gone : RowRef = get_or (named edit_name Old (edits_at changes table)) k d in
-      let before_is : before_at store table ≡ rows_of stored = ap (λ o. option_map_or rows_of o []) at in
-      inl (subst (λ l. Contains l (row_at (slot_at stored.places) gone)) (sym before_is)
-      (mapped_there (row_at (slot_at stored.places)) stored.refs gone ((was.held gone).1 ((fit table stored at).standing.live k d within))))))
+module _ (seen : Seen) (changes : List TableChange) (table : ℕ) (stored : StoredRows) (at : IsAt seen.store table stored) (fit : EachFit seen.store changes)
+  where
+    abbrev store : Tables
+    store = seen.store
 
-  -- A row that comes is one after it.
-  pub come_are_rows : All (IsRowOf store changes table) (come_at changes table)
-  come_are_rows k d within =
-      let row : Row = get_or (come_at changes table) k d in
-      let after_is : after_at store changes table ≡ rows_with stored (edits_at changes table) =
-      ap (λ o. option_map_or (λ (s : StoredRows). rows_with s (edits_at changes table)) o []) at in
-      inr (stands_where_counted (after_at store changes table) row
-      (omega (
-        arith,
-        ap (count_of row) after_is,
-        after_edits stored was (edits_at changes table) (fit table stored at) (λ r. cond (same_row row r) 1 0),
-        counted_there (come_at changes table) k d within,
-      )))
+    was : IsKept stored.width stored.key (slot_at stored.places) stored.refs stored.indexes
+    was = (table_seen seen table stored at).kept
+
+    -- A row that goes is one before the change.
+    pub gone_are_rows : All (IsRowOf store changes table) (gone_at store changes table)
+    gone_are_rows =
+        subst (All (IsRowOf store changes table)) (sym (gone_is store changes table stored at))
+        (All-map (IsRowOf store changes table) (row_at (slot_at stored.places)) (named edit_name Old (edits_at changes table))
+        (λ k d within.
+        let gone : RowRef = get_or (named edit_name Old (edits_at changes table)) k d in
+        let before_is : before_at store table ≡ rows_of stored = ap (λ o. option_map_or rows_of o []) at in
+        inl (subst (λ l. Contains l (row_at (slot_at stored.places) gone)) (sym before_is)
+        (mapped_there (row_at (slot_at stored.places)) stored.refs gone ((was.held gone).1 ((fit table stored at).standing.live k d within))))))
+
+    -- A row that comes is one after it.
+    pub come_are_rows : All (IsRowOf store changes table) (come_at changes table)
+    come_are_rows k d within =
+        let row : Row = get_or (come_at changes table) k d in
+        let after_is : after_at store changes table ≡ rows_with stored (edits_at changes table) =
+        ap (λ o. option_map_or (λ (s : StoredRows). rows_with s (edits_at changes table)) o []) at in
+        inr (stands_where_counted (after_at store changes table) row
+        (omega (
+          arith,
+          ap (count_of row) after_is,
+          after_edits stored was (edits_at changes table) (fit table stored at) (λ r. cond (same_row row r) 1 0),
+          counted_there (come_at changes table) k d within,
+        )))

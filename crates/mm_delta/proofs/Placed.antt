@@ -15,6 +15,8 @@ use Rattle.mm_relation.specs.Refs.{Slots, row_at}
 use Rattle.mm_relation.specs.RowLists.{rows_of}
 use Rattle.mm_relation.specs.declared.edits.Edit.{Edit}
 use Rattle.mm_relation.specs.declared.edits.Edit.TheVariants.{Add, Swap, Gone}
+use Rattle.mm_store.proofs.Shown.{table_seen}
+use Rattle.mm_store.specs.Seen.{Seen}
 use Rattle.mm_store.specs.Tables.{AreFit, IsAt, Tables, rows_with}
 use Rattle.mm_value.specs.declared.row_ref.RowRef.{RowRef}
 use Rattle.mm_value.specs.declared.values.Value.{Value}
@@ -136,17 +138,16 @@ fewer p (x ∷ xs) = by (p x) (fewer p xs)
     by false h = omega (arith, h)
 
 -- No more is read than rows have what is required.
-pub few_read : (store : Tables) (table : ℕ) (stored : StoredRows) → IsAt store table stored
-    → IsKept stored.width stored.key (slot_at stored.places) stored.refs stored.indexes → (r r' : Option Required) (refs : List RowRef)
+pub few_read : (seen : Seen) (table : ℕ) (stored : StoredRows) → IsAt seen.store table stored → (r r' : Option Required) (refs : List RowRef)
     → IsPermutation refs (filter (λ at. passes r (row_at (slot_at stored.places) at)) stored.refs) → r ≡ r' → (edits : List Edit) (left : List RowRef)
-    → left ≡ filter (stays edits) refs → length left ≤ length (having r' (before_at store table))
-few_read store table stored at was r r' refs found same edits left is =
-    let alike : length (having r (rows_of stored)) ≡ length (having r' (before_at store table)) =
-    λ i. length (having (same i) (sym (before_is store table stored at) i)) in
+    → left ≡ filter (stays edits) refs → length left ≤ length (having r' (before_at seen.store table))
+few_read seen table stored at r r' refs found same edits left is =
+    let alike : length (having r (rows_of stored)) ≡ length (having r' (before_at seen.store table)) =
+    λ i. length (having (same i) (sym (before_is seen.store table stored at) i)) in
     omega (
       arith,
       ap length is,
       fewer (stays edits) refs,
-      found_count stored was r refs found,
+      found_count stored (table_seen seen table stored at).kept r refs found,
       alike,
     )

@@ -50,7 +50,6 @@ pub fn delta<'c, 'a: 'c>(
     let mut comes = Tally::new(alloc);
     let mut goes = Tally::new(alloc);
     for place in 0..tables.len() {
-        view.is_kept(tables[place]);
         let walk = Walk {
             query,
             tables,

@@ -1,14 +1,12 @@
 //! The rows that are gone over at a place of FROM.
-ghost use Rattle.std.specs.Prelude.{◌≡◌, ◌+◌, ◌++◌, ◌<◌, ◌≤◌, [], filter, filter_map, length, map, All, FitsSigned, IfErr, IfOk, IfSome, None, OnOk, Some};
+ghost use Rattle.std.specs.Prelude.{◌≡◌, ◌+◌, ◌++◌, ◌<◌, ◌≤◌, [], filter, filter_map, length, map, All, IfErr, IfOk, IfSome, None, OnOk, Some};
 ghost use Rattle.mm_partition.specs.Places.{IsLive, slot_at};
-ghost use Rattle.std.specs.Int.{w64};
 ghost use Rattle.std.specs.List.{cons_option};
 ghost use Rattle.std.specs.Option.{option_copied};
 ghost use Rattle.mm_relation.specs.Kept.{StoredRows};
 ghost use Rattle.mm_relation.specs.Refs.{row_at};
 ghost use Rattle.mm_store.specs.Tables.{IsAt};
 ghost use Rattle.mm_value.specs.declared.refusal.Refusal.TheVariants.{Memory};
-ghost use Rattle.mm_value.specs.declared.values.Value.TheVariants.{Int};
 ghost use Rattle.mm_delta.specs.Candidates.{passes};
 ghost use Rattle.mm_delta.specs.Steps.{IsFoundOf, IsServed, asked, coming, stays};
 ghost use Rattle.mm_delta.specs.Wanted.{value_wanted};
@@ -42,22 +40,6 @@ fn having_value(
     Ok(found)
 }
 
-/// The references of the rows of a table that have a number past 64 bits in a column: there are none.
-fn having_number_past(
-    alloc: Global,
-    view: &View<'_>,
-    table: usize,
-    _column: usize,
-    _number: i128,
-) -> Vec<RowRef>
-    requires there { table < length view.now.store.tables }
-    requires past { ¬ FitsSigned w64 _number }
-    ensures { (stored : StoredRows) → IsAt view.now.store table stored → IsFoundOf (Some (_column, Int _number)) stored result.items }
-{
-    view.is_kept(table);
-    Vec::new(alloc)
-}
-
 /// The references of the rows of a table that have the value of a look-up, each once and in no promised order. No row is read.
 /// `Memory` is the only refusal.
 fn matching(
@@ -76,7 +58,8 @@ fn matching(
         Wanted::Value(value) => having_value(alloc, view, table, look_up, value),
         Wanted::Sum(sum) => match number_value(*sum) {
             Some(value) => having_value(alloc, view, table, look_up, &value),
-            None => Ok(having_number_past(alloc, view, table, look_up.column, *sum)),
+            // No row has a number past 64 bits.
+            None => Ok(Vec::new(alloc)),
         },
     }
 }

@@ -77,7 +77,6 @@ impl<'c> Walk<'_, 'c> {
         ensures memory { IfErr result (λ refusal. refusal ≡ Memory) }
     {
         let table = self.tables[self.place];
-        view.is_kept(table);
         let sight = Sight {
             query: self.query,
             place: self.place,

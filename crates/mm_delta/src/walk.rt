@@ -96,7 +96,6 @@ impl<'w, 'c> Walk<'w, 'c> {
         ensures memory { IfErr result (λ refusal. refusal ≡ Memory) }
     {
         let table = self.tables[place];
-        view.is_kept(table);
         let look_up = self.look_up_at(alloc, view, chosen, place)?;
         let mut refs = references(alloc, view, table, &look_up)?;
         let edits = self.edits_at(place, table);

@@ -20,6 +20,8 @@ use Rattle.mm_select.proofs.Along.{filter_moved}
 use Rattle.mm_select.proofs.Covered.{live_there}
 use Rattle.mm_select.proofs.Fits.{row_here, rows_along}
 use Rattle.mm_select.specs.Matches.{Covers}
+use Rattle.mm_store.proofs.Shown.{table_seen}
+use Rattle.mm_store.specs.Seen.{Seen}
 use Rattle.mm_store.specs.Tables.{IsAt, Tables, rows_at}
 use Rattle.mm_templist.specs.Combos.{AreLive, row_of, rows_of_combo}
 use Rattle.mm_value.specs.declared.row_ref.RowRef.{RowRef}
@@ -55,9 +57,14 @@ length_rows store [] (r ∷ refs) live = absurd live
 length_rows store (t ∷ tables) [] live = absurd live
 length_rows store (t ∷ tables) (r ∷ refs) live = ap suc (length_rows store tables refs live.1)
 
-module _ (store : Tables) (table : ℕ) (stored : StoredRows) (here : IsAt store table stored)
-    (kept : IsKept stored.width stored.key (slot_at stored.places) stored.refs stored.indexes) (atoms : List (Atom FieldPlace)) (outers : List ℕ)
-    (front : List RowRef) (live : AreLive store outers front) where
+module _ (seen : Seen) (table : ℕ) (stored : StoredRows) (here : IsAt seen.store table stored) (atoms : List (Atom FieldPlace)) (outers : List ℕ)
+    (front : List RowRef) (live : AreLive seen.store outers front) where
+  abbrev store : Tables
+  store = seen.store
+
+  kept : IsKept stored.width stored.key (slot_at stored.places) stored.refs stored.indexes
+  kept = (table_seen seen table stored here).kept
+
   abbrev rows : List Row
   rows = rows_of_combo store outers front
 

@@ -37,15 +37,14 @@ impl AccessMethod {
     }
 
     /// Whether it is known with no look at a row that no row fits behind a combination.
-    pub fn has_none(&mut self, view: &View<'_>, inner: &Inner<'_>, outer: Outer<'_>) -> bool
-        requires there { inner.now.table < length view.now.store.tables }
+    pub fn has_none(&mut self, view: &View<'_>, _inner: &Inner<'_>, outer: Outer<'_>) -> bool
+        requires there { _inner.now.table < length view.now.store.tables }
         requires live { AreLive view.now.store outer.tables.now outer.refs.now }
-        requires method { IsAccessMethod view.now.store outer.tables.now inner.now self.old }
-        ensures none { result ≡ true → AreCandidates view.now.store inner.now.table inner.now.atoms.now
+        requires method { IsAccessMethod view.now.store outer.tables.now _inner.now self.old }
+        ensures none { result ≡ true → AreCandidates view.now.store _inner.now.table _inner.now.atoms.now
             (rows_of_combo view.now.store outer.entry.tables.now outer.entry.refs.now) 0 [] }
         ensures same { self.new ≡ self.old }
     {
-        view.is_kept(inner.table);
         match self {
             AccessMethod::Sought(look_up) => look_up.has_none(view, outer),
             _ => false,
@@ -74,7 +73,6 @@ impl AccessMethod {
             (listed self.old found.new.items)) }
         ensures same { self.new ≡ self.old }
     {
-        view.is_kept(inner.table);
         match self {
             AccessMethod::All(_) => Ok(()),
             AccessMethod::Followed(field) => {

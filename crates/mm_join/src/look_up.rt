@@ -123,7 +123,6 @@ impl LookUp {
             Some(sum) => self.find_value(alloc, view, table, &Value::Int(sum), found),
             // No row has a number past 64 bits.
             None => {
-                view.is_kept(table);
                 found.clear();
                 Ok(())
             }

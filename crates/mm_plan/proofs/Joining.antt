@@ -152,7 +152,7 @@ fitting-none store atoms fields = subst (IsPermutation ([] ∷ [])) (sym (ap (λ
 none_is_some : {A : Type 0} (x : A) → None ≡ Some x → ⊥
 none_is_some x same = cc
 
-behind_is : (first : List ℕ) (next : ℕ) (later : List ℕ) → get_or (first ++ next ∷ later) (length first) 0 ≡ next
+pub behind_is : (first : List ℕ) (next : ℕ) (later : List ℕ) → get_or (first ++ next ∷ later) (length first) 0 ≡ next
 behind_is [] next later = refl
 behind_is (t ∷ first) next later = behind_is first next later
 

@@ -40,8 +40,6 @@ pub(crate) fn begin<'a>(
         → view.new.reads ≤ view.old.reads + count_by (may_look query.now.atoms 0 own []) (rows_at view.old.store.tables table) }
     ensures same { view.new.store ≡ view.old.store }
 {
-    // A table has at most 1,048,576 rows.
-    view.is_kept(tables[0]);
     let atoms = query.atoms.as_slice();
     let access = match steps {
         [Step::Scan, Step::TreeMerge { outer, atom, .. }, ..] => Access::Range {

@@ -7,7 +7,6 @@ ghost use Rattle.mm_plan.specs.Choosing.{first_step};
 ghost use Rattle.mm_plan.specs.Finding.{IsKeyed, among, finds_in_key_order, is_again, meeting, meets, once};
 ghost use Rattle.mm_plan.specs.Steps.{may_look};
 ghost use Rattle.mm_relation.specs.Kept.{StoredRows};
-ghost use Rattle.mm_store.specs.HasTable.{HasTable};
 ghost use Rattle.mm_store.specs.Tables.{IsAt, rows_at};
 ghost use Rattle.mm_value.specs.Order.{value_cmp};
 
@@ -66,7 +65,6 @@ pub fn in_key_order(
     requires live { (stored : StoredRows) → IsAt view.old.store table stored → All (IsLive stored.places) refs.items }
     ensures found { IfOk result (λ found. (stored : StoredRows) → IsAt view.old.store table stored → found.items ≡ among refs.items stored) }
     ensures reads { view.new.reads ≤ view.old.reads + length refs.items }
-    ensures kept { HasTable view.old.store table }
     ensures same { view.new.store ≡ view.old.store }
 {
     let key = view.key_of(table);

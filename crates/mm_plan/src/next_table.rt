@@ -46,8 +46,6 @@ pub(crate) fn join_next<'a>(
     ensures same { view.new.store ≡ view.old.store }
 {
     let joined = list.descriptor().tables.len();
-    // A table has at most 1,048,576 rows, so no list that is joined further has 2^64 combinations.
-    view.is_kept(tables[joined]);
     let atoms = query.atoms.as_slice();
     let join = Join {
         outer: list,

@@ -18,6 +18,7 @@ pub mod Retying
 pub mod Reversible
 pub mod Reverting
 pub mod Settling
+pub mod Shown
 pub mod StandingRows
 pub mod Trimming
 pub mod Describing

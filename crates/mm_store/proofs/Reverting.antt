@@ -4,7 +4,7 @@ use Rattle.std.specs.Prelude.{map, slice_get, slice_set}
 use Rattle.std.specs.List.{All, Contains}
 use Rattle.std.proofs.lemmas.List.{get_or-map, length-map}
 use Rattle.mm_foreign_key.specs.Ties.{Ties, target_at}
-use Rattle.mm_partition.specs.Places.{Content, Free, Live, Hidden, extent_of, slot_at}
+use Rattle.mm_partition.specs.Places.{AreRowsStorable, Content, Free, Live, Hidden, extent_of, slot_at}
 use Rattle.mm_relation.specs.Before.{StandsBack, before}
 use Rattle.mm_relation.specs.Differs.{Differs}
 use Rattle.mm_relation.specs.Edits.{named, record_name}
@@ -87,7 +87,7 @@ module _ (tables : List StoredRows) (links : List Link) (sound : IsSound tables 
   module _ (new : StoredRows) (turned : List UndoRecord) (slots : slot_at new.places ≡ before entries (slot_at old.places)) (width : new.width ≡ old.width)
       (key : new.key ≡ old.key) (extent : extent_of new.places ≡ extent_of old.places)
       (turns : EachTurns (Inverted (slot_at old.places)) entries turned)
-      (kept : IsKept new.width new.key (slot_at new.places) new.refs new.indexes) where
+      (kept : IsKept new.width new.key (slot_at new.places) new.refs new.indexes) (storable : AreRowsStorable new.places) where
     stood_new : stood command (snapshot_of store) ≡ slot_at new.places
     stood_new = stood_is ∙ sym slots
 
@@ -97,6 +97,7 @@ module _ (tables : List StoredRows) (links : List Link) (sound : IsSound tables 
           subst (HasAtMost most_rows) stood_new reversible.few new.refs (distinct new.key (slot_at new.places) new.refs kept.by_key)
           (λ k d within. (kept.held (get_or new.refs k d)).0 (k, within, at_own new.refs k d within));
       kept = kept;
+      storable = storable;
     }
       where
         at_own : (refs : List RowRef) (k : ℕ) (d : RowRef) → k < length refs → get_or refs k (get_or refs k d) ≡ get_or refs k d

@@ -1,7 +1,7 @@
 -- Links among relations: each is between two of them, and its ties follow their rows.
 use Rattle.std.specs.Prelude.{◌≡◌, ◌≢◌, ℕ, ◌<◌, ◌≤◌, List, length, All, None, Some, slice_get}
 use Rattle.mm_foreign_key.specs.Ties.{KeepsTargets, Ties, target_at as target_of}
-use Rattle.mm_partition.specs.Places.{extent_of, slot_at}
+use Rattle.mm_partition.specs.Places.{AreRowsStorable, extent_of, slot_at}
 use Rattle.mm_relation.specs.Kept.{IsKept, StoredRows}
 use Rattle.mm_relation.specs.declared.log.UndoRecord.{UndoRecord}
 use Rattle.mm_store.specs.Behind.{IsBehind}
@@ -25,10 +25,11 @@ pub record IsJoined (tables : List StoredRows) (reference : Reference) (ties : T
 abbrev pub AreJoined : List StoredRows → List Link → Type 0
 AreJoined tables links = All (λ link. IsJoined tables link.reference link.ties) links
 
--- A table of a store is not too large, and its indexes are those of its rows.
+-- A table of a store is not too large, its indexes are those of its rows, and its rows have values that a program can have.
 pub record IsTable (stored : StoredRows) : Type 0 where
   pub few : length stored.refs ≤ most_rows
   pub kept : IsKept stored.width stored.key (slot_at stored.places) stored.refs stored.indexes
+  pub storable : AreRowsStorable stored.places
 
 -- What always holds of a store: each of its tables is one, and all links are between them.
 pub record IsSound (tables : List StoredRows) (links : List Link) : Type 0 where

@@ -1,6 +1,5 @@
 pub mod Behind
 pub mod Commands
-pub mod HasTable
 pub mod Joined
 pub mod Links
 pub mod Looked

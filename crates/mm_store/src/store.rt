@@ -2,12 +2,13 @@
 ghost use Rattle.std.specs.Prelude.{◌≡◌, ◌≢◌, List, ℕ, ◌+◌, ◌<◌, ◌≤◌, ◌++◌, [], ◌∷◌, ◌↔◌, length, All, Contains, IfOk, IsTrue, OnOk, OnErr};
 ghost use Rattle.std.specs.List.{remove};
 ghost use Rattle.mm_schema.specs.Refused.{AnswersDue, first_refusal};
-ghost use Rattle.mm_relation.specs.Kept.{StoredRows};
+ghost use Rattle.mm_relation.specs.Kept.{IsKept, StoredRows};
 ghost use Rattle.mm_relation.specs.Reads.{AddsIndex};
 ghost use Rattle.mm_relation.specs.RowLists.{edit_pairs, rows_of};
 ghost use Rattle.mm_relation.specs.Edits.{added_count};
 ghost use Rattle.mm_relation.specs.Refs.{row_at};
-ghost use Rattle.mm_partition.specs.Places.{IsLive, slot_at};
+ghost use Rattle.mm_partition.specs.Places.{AreRowsStorable, IsLive, slot_at};
+ghost use Rattle.mm_store.specs.Joined.{IsTable};
 ghost use Rattle.mm_store.specs.Links.{IsReference, RefersTo};
 ghost use Rattle.mm_store.specs.Marks.{rows_at_mark};
 ghost use Rattle.mm_store.specs.Tables.{IsAt, Turns, AreFit, AreLawful, HasRows, rows_with, IsFrom, links_without, edit_conditions, has_orphans, makes_orphans};
@@ -90,7 +91,7 @@ impl Store {
         self.tables.reserve(1)?;
         self.links.append(&mut links)?;
         let relation = Relation::new(alloc, width, key);
-        relation.is_kept();
+        is_kept(&relation);
         self.tables.push_reserved(relation);
         Ok(())
     }
@@ -104,6 +105,13 @@ impl Store {
     {
         self.tables.remove(table);
         drop_links(&mut self.links, table);
+    }
+
+    /// What always holds of each table. The call does nothing.
+    pub(crate) fn keeps_tables(&self)
+        ensures { All IsTable self.now.tables }
+    {
+        let _tables = &self.tables;
     }
 
     /// The relation of the table at a place, where there are at most 1,048,576 rows.
@@ -213,7 +221,7 @@ impl Store {
     {
         let undo_room = undo.undo_room_of(table);
         self.tables[table].add_index(alloc, column, kind, undo_room)?;
-        self.tables[table].is_kept();
+        is_kept(&self.tables[table]);
         Ok(())
     }
 
@@ -229,6 +237,16 @@ impl Store {
             → rows_at_mark mark undo self.new ≡ rows_at_mark mark undo self.old }
     {
         self.tables[table].drop_index(index);
-        self.tables[table].is_kept();
+        is_kept(&self.tables[table]);
     }
+}
+
+/// What always holds of a relation: its indexes are those of its rows, and its rows have values that a program can have. The call does
+/// nothing.
+fn is_kept(relation: &Relation)
+    ensures kept { IsKept relation.now.width relation.now.key (slot_at relation.now.places) relation.now.refs relation.now.indexes }
+    ensures storable { AreRowsStorable relation.now.places }
+{
+    relation.is_kept();
+    relation.are_storable();
 }

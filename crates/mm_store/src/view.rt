@@ -1,12 +1,12 @@
 //! What a query sees of a store.
 ghost use Rattle.std.specs.Prelude.{◌≡◌, ℕ, ◌+◌, ◌<◌, ◌≤◌, ◌↔◌, length, min, All, IfSome, IsTrue, OnOk, OnErr, Contains, Some, slice_get};
 ghost use Rattle.std.specs.Option.{option_copied, option_map};
-ghost use Rattle.mm_partition.specs.Places.{AreRowsStorable, IsLive, Live, slot_at};
-ghost use Rattle.mm_relation.specs.Kept.{IsKept, StoredRows};
+ghost use Rattle.mm_partition.specs.Places.{IsLive, Live, slot_at};
+ghost use Rattle.mm_relation.specs.Kept.{StoredRows};
 ghost use Rattle.mm_relation.specs.Reads.{Appends, AreMatches, IsRange, IsWalk};
 ghost use Rattle.mm_relation.specs.Refs.{row_at};
 ghost use Rattle.mm_relation.specs.RowLists.{rows_of};
-ghost use Rattle.mm_store.specs.HasTable.{HasTable};
+ghost use Rattle.mm_store.specs.Joined.{IsTable};
 ghost use Rattle.mm_store.specs.Links.{IsReference, RefersTo};
 ghost use Rattle.mm_store.specs.Looked.{IsFirstOn, IsFirstSuch, IsHash, IsIndexOn, IsTree};
 ghost use Rattle.mm_store.specs.Tables.{IsAt};
@@ -29,6 +29,7 @@ pub struct View<'a> {
     store: &'a Store,
     /// How many rows were looked at, at most `u64::MAX`.
     reads: u64,
+    ghost kept: { ∥ All IsTable store.now.tables ∥₁ },
 }
 
 impl<'a> Model for View<'a> {
@@ -36,7 +37,7 @@ impl<'a> Model for View<'a> {
 
     ghost Value = { Seen };
 
-    ghost view = { λ v. record { store = v.store.now; reads = v.reads } };
+    ghost view = { λ v. record { store = v.store.now; reads = v.reads; kept = v.kept } };
 }
 
 impl Store {
@@ -45,6 +46,7 @@ impl Store {
         ensures store { result.store ≡ self.now }
         ensures reads { result.reads ≡ 0 }
     {
+        self.keeps_tables();
         View {
             store: self,
             reads: 0,
@@ -76,13 +78,12 @@ impl<'a> View<'a> {
         requires live { (stored : StoredRows) → IsAt self.old.store table stored → IsLive stored.places at }
         ensures row { (stored : StoredRows) → IsAt self.old.store table stored → slot_at stored.places at ≡ Live result.now }
         ensures wide { (stored : StoredRows) → IsAt self.old.store table stored → length result.now ≡ stored.width }
-        ensures counted { self.new ≡ record self.old { reads = min (self.old.reads + 1) u64.MAX } }
+        ensures counted { self.new.reads ≡ min (self.old.reads + 1) u64.MAX }
+        ensures same { self.new.store ≡ self.old.store }
     {
         let View { store, reads } = self;
         *reads = reads.saturating_add(1);
-        let relation = store.table(table);
-        relation.is_kept();
-        relation.row(at)
+        store.table(table).row(at)
     }
 
     /// The `order_prefix` of what the row of a live reference of a table has in a column, without a look at the row, so that
@@ -110,26 +111,8 @@ impl<'a> View<'a> {
         requires { table < length self.now.store.tables }
         ensures key { (stored : StoredRows) → IsAt self.now.store table stored → result ≡ stored.key }
         ensures within { (stored : StoredRows) → IsAt self.now.store table stored → result < stored.width }
-        ensures kept { HasTable self.now.store table }
     {
-        let relation = self.relation(table);
-        relation.is_kept();
-        relation.key()
-    }
-
-    /// The references of a table's relation are those of its live rows, in key order and no two of one key; there are at most
-    /// 1,048,576, each live row has the relation's width, and each index keeps the references. The whole numbers in its rows have
-    /// 64 bits, and the texts at most 64 bytes without a line feed. The call does nothing.
-    pub fn is_kept(&self, table: usize)
-        requires { table < length self.now.store.tables }
-        ensures kept { (stored : StoredRows) → IsAt self.now.store table stored
-            → IsKept stored.width stored.key (slot_at stored.places) stored.refs stored.indexes }
-        ensures few { (stored : StoredRows) → IsAt self.now.store table stored → length stored.refs ≤ most_rows }
-        ensures storable { (stored : StoredRows) → IsAt self.now.store table stored → AreRowsStorable stored.places }
-    {
-        let relation = self.relation(table);
-        relation.is_kept();
-        relation.are_storable();
+        self.relation(table).key()
     }
 
     /// The index in which values of a column of a table are looked up: of those on the column the one that was created first,
@@ -175,12 +158,9 @@ impl<'a> View<'a> {
             → Appends (AreMatches column (slot_at stored.places) value.now stored.refs) out.old.items out.new.items) }
         ensures live { OnOk result ((stored : StoredRows) → IsAt self.now.store table stored
             → All (IsLive stored.places) out.old.items → All (IsLive stored.places) out.new.items) }
-        ensures kept { HasTable self.now.store table }
         ensures err { OnErr result (out.new.items ≡ out.old.items) }
     {
-        let relation = self.relation(table);
-        relation.is_kept();
-        append_matches(alloc, relation, index, value, out)
+        append_matches(alloc, self.relation(table), index, value, out)
     }
 
     /// Appends the references of the rows of a table whose values in the column of a tree of it are between two ends, these
@@ -202,12 +182,9 @@ impl<'a> View<'a> {
             → Appends (IsRange column stored (option_copied low.entry) (option_copied high.entry)) out.old.items out.new.items) }
         ensures live { OnOk result ((stored : StoredRows) → IsAt self.now.store table stored
             → All (IsLive stored.places) out.old.items → All (IsLive stored.places) out.new.items) }
-        ensures kept { HasTable self.now.store table }
         ensures err { OnErr result (out.new.items ≡ out.old.items) }
     {
-        let relation = self.relation(table);
-        relation.is_kept();
-        append_range(alloc, relation, index, low, high, out)
+        append_range(alloc, self.relation(table), index, low, high, out)
     }
 
     /// The references of all rows of a table along a tree of it, without a copy: in the order of its column, and those of one value

@@ -233,7 +233,6 @@ fn add_by_scan(
     ensures found { OnOk result (AddsCascaded view.now.store table (placed_cascade cascade.now) found.old.items found.new.items) }
     ensures memory { IfErr result (λ refusal. refusal ≡ Memory) }
 {
-    view.is_kept(cascade.to);
     let gone = references_of_gone(alloc, cascade.gone)?;
     for at in view.walk(table, IndexRef::Key) {
         let target = view.follow(table, cascade.column, at);

@@ -51,7 +51,6 @@ pub(crate) fn updates(
         → edit_pairs (slot_at stored.places) edits.items ≡ updates_of assignments.now (filter (meets atoms.now) (rows_of stored))) }
     ensures fit { IfOk result (λ edits. (stored : StoredRows) → IsAt view.old.store table stored → AreFit stored edits.items) }
 {
-    view.is_kept(table);
     let found = find_rows(alloc, view, table, atoms)?;
     swaps(alloc, view, table, found.as_slice(), assignments)
 }
@@ -107,7 +106,6 @@ pub(crate) fn removals(
         → edit_pairs (slot_at stored.places) edits.items ≡ removals_of (filter (meets atoms.now) (rows_of stored))) }
     ensures fit { IfOk result (λ edits. (stored : StoredRows) → IsAt view.old.store table stored → AreFit stored edits.items) }
 {
-    view.is_kept(table);
     let found = find_rows(alloc, view, table, atoms)?;
     found.into_iter().map(Edit::Gone).collect(alloc)
 }

@@ -10,7 +10,7 @@ ghost use Rattle.mm_store.specs.Tables.{IsAt, Turns, AreLawful, HasRows, rows_wi
 ghost use Rattle.mm_store.specs.Undoing.{CanUndo, IsReversible, headings_of};
 ghost use Rattle.mm_store.specs.Snapshots.{back_all, snapshot_of};
 
-use super::Store;
+use super::{Store, is_kept};
 use crate::links::{reserve_all, retie_all};
 use crate::undo::{LoggedCommand, Undo, count_old, reserve};
 use mm_relation::{Edit, Log, count_added};
@@ -89,7 +89,7 @@ impl Store {
         let extent = most_slots(self.tables[table].extent(), edits.as_slice())?;
         reserve_all(alloc, &mut self.links, table, extent)?;
         self.tables[table].apply(alloc, edits, undo_room, log)?;
-        self.tables[table].is_kept();
+        is_kept(&self.tables[table]);
         retie_all(
             &mut self.links,
             self.tables.as_slice(),

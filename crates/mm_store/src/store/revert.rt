@@ -15,7 +15,7 @@ ghost use Rattle.mm_store.specs.Undoing.{CanUndo, HasSpare, IsReversible, headin
 ghost use Rattle.mm_store.specs.Snapshots.{Logged, back, back_all, snapshot_of};
 ghost use Rattle.mm_value.specs.declared.refusal.Refusal.TheVariants.{RowIsReferenced};
 
-use super::Store;
+use super::{Store, is_kept};
 use crate::links::retie_all;
 use crate::undo::Undo;
 use mm_relation::Log;
@@ -67,7 +67,7 @@ impl Store {
         ensures links { self.new.links ≡ self.old.links }
     {
         self.tables[table].revert(log);
-        self.tables[table].is_kept();
+        is_kept(&self.tables[table]);
         retie_all(
             &mut self.links,
             self.tables.as_slice(),

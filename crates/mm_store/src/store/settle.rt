@@ -11,7 +11,7 @@ ghost use Rattle.mm_store.specs.Spares.{HasFewSparesAt};
 ghost use Rattle.mm_store.specs.Tables.{IsAt, SameForm, Turns};
 ghost use Rattle.mm_store.specs.Undoing.{CanUndo};
 
-use super::Store;
+use super::{Store, is_kept};
 use crate::undo::Undo;
 use mm_relation::Log;
 
@@ -51,6 +51,6 @@ impl Store {
     {
         self.tables[table].settle(log);
         self.tables[table].trim_spares(MAX_SPARES);
-        self.tables[table].is_kept();
+        is_kept(&self.tables[table]);
     }
 }

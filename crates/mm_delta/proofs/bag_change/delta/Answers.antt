@@ -3,7 +3,8 @@ use Rattle.std.specs.List.{range_with_len, sum_by}
 use Rattle.std.proofs.lemmas.Result.{IfOk-weaker}
 use Rattle.mm_query.specs.Queries.{bag_of}
 use Rattle.mm_store.proofs.Joining.{some_at}
-use Rattle.mm_store.specs.Tables.{IsAt, Tables}
+use Rattle.mm_store.proofs.Shown.{table_seen}
+use Rattle.mm_store.specs.Tables.{Tables}
 use Rattle.mm_multiset.specs.Counts.{count_in, count_of, signed_count}
 use Rattle.mm_delta.specs.Edited.{after_at, before_at, come_at, gone_at}
 use Rattle.mm_delta.specs.declared.edited.TableChange.{TableChange}
@@ -12,11 +13,6 @@ use Rattle.mm_delta.specs.Steps.{EachFit, term_reads}
 use Rattle.mm_delta.specs.Terms.{lists_around}
 use Rattle.mm_delta.proofs.Terms.{counts_all, counts_more, counts_none, range_le, range_more}
 use Rattle.mm_delta.proofs.bag_change.delta.Goals as goal
-
-pub is_kept-requires : goal.is_kept-requires
-is_kept-requires c =
-    subst (λ (s : Tables). get_or c.args.tables.now c.loop-place.place 0 < length s.tables) (sym c.loop-place.invariant.same)
-    (c.requires.there c.loop-place.place 0 c.loop-place-test.true)
 
 pub add_term-requires-clause-there : goal.add_term-requires-clause-there
 add_term-requires-clause-there c = subst (λ (s : Tables). All (λ table. table < length s.tables) c.args.tables.now) (sym c.loop-place.invariant.same)
@@ -48,7 +44,7 @@ loop-place-preserved c = record {
       let same = c.loop-place.invariant.same in
       let changes = c.in_ok-indexed.ensures.ok in
       let at = some_at c.args.view.now.store.tables (get_or c.args.tables.now k 0) (c.requires.there k 0 c.loop-place-test.true) in
-      let was = c.is_kept.ensures.kept at.0 (subst (λ s. IsAt s (get_or c.args.tables.now k 0) at.0) (sym same) at.1) in
+      let was = (table_seen c.args.view.now (get_or c.args.tables.now k 0) at.0 at.1).kept in
       counts_more c.args.query.now c.args.view.now.store c.args.changes.now c.args.tables.now row k at.0
       (count_of row (bag_of c.args.query.now (map (before_at c.args.view.now.store) c.args.tables.now))) (count_in row c.loop-place.comes.entries)
       (count_in row c.add_term.new.comes.entries)

@@ -7,7 +7,6 @@ use Rattle.mm_query.specs.Atoms.{value_in}
 use Rattle.mm_relation.specs.Refs.{row_at, row_in}
 use Rattle.mm_select.proofs.Walks.{holds_next, split_all, split_next}
 use Rattle.mm_store.proofs.Joining.{some_at}
-use Rattle.mm_store.specs.Seen.{Seen}
 use Rattle.mm_store.specs.Tables.{IsAt, Tables}
 use Rattle.mm_value.specs.Hash.{value_hash}
 use Rattle.mm_join.specs.AccessMethods.{hashed_row}
@@ -28,7 +27,7 @@ pub loop-at-preserved : goal.loop-at-preserved
 loop-at-preserved c = record {
   split = split_next c.into_iter-at-iterator.result c.loop-at.yielded c.loop-at.at-iterator c.next.new.self c.in-Some.at
       c.loop-at.invariant.split c.in-Some.ensures.steps;
-  same = ap (λ (seen : Seen). seen.store) c.row.ensures.counted ∙ c.loop-at.invariant.same;
+  same = c.row.ensures.same ∙ c.loop-at.invariant.same;
   pairs = λ stored here.
       hashed_more c.args.column (slot_at stored.places) c.loop-at.pairs.entries c.insert.new.self.entries c.loop-at.yielded c.in-Some.at c.hash_in-hash.result
       (c.loop-at.invariant.pairs stored here) c.insert.ensures.entries
@@ -38,7 +37,7 @@ loop-at-preserved c = record {
   spare = omega (arith, c.loop-at.invariant.spare, c.insert.ensures.spare, ap length c.in-Some.ensures.steps);
   reads = omega (
     arith,
-    ap (λ (seen : Seen). seen.reads) c.row.ensures.counted,
+    c.row.ensures.counted,
     c.loop-at.invariant.reads,
     length-append c.loop-at.yielded (c.in-Some.at ∷ []),
   );

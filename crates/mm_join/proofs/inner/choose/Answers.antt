@@ -6,7 +6,6 @@ use Rattle.mm_relation.specs.Kept.{StoredRows}
 use Rattle.mm_partition.specs.Places.{IsLive}
 use Rattle.mm_select.proofs.Walks.{row_given}
 use Rattle.mm_store.proofs.Joining.{one_relation}
-use Rattle.mm_store.specs.Seen.{Seen}
 use Rattle.mm_store.specs.Tables.{IsAt, Tables}
 use Rattle.mm_templist.specs.Combos.{row_of, rows_of_combo}
 use Rattle.mm_value.specs.declared.row_ref.RowRef.{RowRef}
@@ -38,7 +37,7 @@ pub returns-in_err-push-clause-reads : goal.returns-in_err-push-clause-reads
 returns-in_err-push-clause-reads c =
     omega (
       arith,
-      ap (λ (seen : Seen). seen.reads) c.row.ensures.counted,
+      c.row.ensures.counted,
       table_within c.args.view.now.store c.args.outer.tables.now c.args.outer.refs.now c.loop-place.place record { part = 0; slot = 0 }
           c.loop-place-test.true c.loop-place.invariant.live,
       c.loop-place.invariant.reads,
@@ -63,13 +62,13 @@ loop-place-preserved c =
     pushed_row c.loop-place.rows.items c.push.new.self.items (Some c.row.result) c.in_ok-push.ensures.items
     ∙ ap (λ (row : List Value). map option_copied c.loop-place.rows.items ++ Some row ∷ []) (sym given) in
     record {
-      same = ap (λ (seen : Seen). seen.store) c.row.ensures.counted ∙ c.loop-place.invariant.same;
+      same = c.row.ensures.same ∙ c.loop-place.invariant.same;
       rows = ap (λ l. l ++ map Some (rows_of_combo store (drop (place + 1) tables) (drop (place + 1) outer))) pushed
           ∙ chosen_next store tables outer place record { part = 0; slot = 0 } c.loop-place-test.true c.loop-place.invariant.live
           (map option_copied c.loop-place.rows.items) (map Some (rows_of_combo store tables outer)) c.loop-place.invariant.rows;
       live = rest_live store tables outer place record { part = 0; slot = 0 } c.loop-place-test.true c.loop-place.invariant.live;
       within = omega (arith, below);
-      reads = omega (arith, ap (λ (seen : Seen). seen.reads) c.row.ensures.counted, c.loop-place.invariant.reads);
+      reads = omega (arith, c.row.ensures.counted, c.loop-place.invariant.reads);
     }
 
 pub returns-clause-rows : goal.returns-clause-rows

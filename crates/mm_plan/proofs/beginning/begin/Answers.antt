@@ -11,6 +11,7 @@ use Rattle.mm_relation.specs.Kept.{StoredRows}
 use Rattle.mm_select.specs.Accesses.{Asks, IsServed, is_along}
 use Rattle.mm_select.specs.Fitting.{AreFitting}
 use Rattle.mm_store.proofs.Joining.{some_at}
+use Rattle.mm_store.proofs.Shown.{table_seen}
 use Rattle.mm_store.specs.Tables.{rows_at}
 use Rattle.mm_value.specs.declared.values.Value.{Value}
 
@@ -94,7 +95,7 @@ returns-clause-begun c =
     let list = c.in_ok-select.field-0 in
     let some = some_at store.tables (get_or tables 0 0) (c.requires.there 0 0 c.requires.some) in
     first_begun store c.args.query.now tables c.requires.there c.requires.few c.requires.some
-    (few_at store (get_or tables 0 0) some.0 some.1 (c.is_kept.ensures.few some.0 some.1)) list
+    (few_at store (get_or tables 0 0) some.0 some.1 (table_seen c.args.view.now (get_or tables 0 0) some.0 some.1).few) list
     (subst (λ atoms. AreFitting store atoms list) c.as_slice-atoms.ensures c.in_ok-select.ensures.fitting) c.in_ok-select.ensures.live
     c.in_ok-select.ensures.tables (c.in_ok-select.ensures.fields ∙ c.as_slice.ensures)
 

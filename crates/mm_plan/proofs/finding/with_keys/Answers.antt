@@ -9,7 +9,6 @@ use Rattle.mm_plan.specs.declared.finding.Keyed.{Keyed}
 use Rattle.mm_relation.specs.Refs.{row_in}
 use Rattle.mm_store.proofs.Joining.{some_at}
 use Rattle.mm_store.proofs.Lists.{take_more}
-use Rattle.mm_store.specs.Seen.{Seen}
 use Rattle.mm_store.specs.Tables.{IsAt, Tables}
 use Rattle.mm_value.specs.declared.row_ref.RowRef.{RowRef}
 use Rattle.mm_plan.proofs.finding.with_keys.Goals as goal
@@ -40,7 +39,7 @@ loop-at-preserved c =
     let more : take i refs ++ at ∷ [] ≡ take (i + 1) refs = sym (take_more refs i none c.loop-at-test.true) in
     let new : Keyed = record { key = c.value.result; at = at } in
     record {
-      same = ap (λ (seen : Seen). seen.store) c.row-row.ensures.counted ∙ c.loop-at.invariant.same;
+      same = c.row-row.ensures.same ∙ c.loop-at.invariant.same;
       refs = ap (map at_of) c.in_ok-push.ensures.items
           ∙ (map-append at_of c.loop-at.rows.items (new ∷ []) ∙ (ap (λ rs. rs ++ at ∷ []) c.loop-at.invariant.refs ∙ more));
       keys = λ stored here.
@@ -50,7 +49,7 @@ loop-at-preserved c =
           ∙ (ap (slice_get c.row-row.result.now) (sym (c.requires.key stored here).0) ∙ c.value.ensures) in
           subst (All (IsKeyed stored)) (sym c.in_ok-push.ensures.items)
           (All-push (IsKeyed stored) c.loop-at.rows.items new (c.loop-at.invariant.keys stored here) keyed);
-      reads = omega (arith, ap (λ (seen : Seen). seen.reads) c.row-row.ensures.counted, c.loop-at.invariant.reads);
+      reads = omega (arith, c.row-row.ensures.counted, c.loop-at.invariant.reads);
     }
 
 pub returns-clause-refs : goal.returns-clause-refs

@@ -1,32 +1,58 @@
-use Rattle.std.proofs.Common.{◌≡◌, ℕ, ◌+◌, ◌<◌, ◌≤◌, ◌++◌, List, [], ◌∷◌, IfOk, IsPermutation, Result, Ok, Err, get_or, length, take, sym, ap, ◌∙◌, subst}
+use Rattle.std.proofs.Common.{◌≡◌, ℕ, ◌+◌, ◌<◌, ◌≤◌, ◌++◌, List, [], ◌∷◌, IfOk, IsPermutation, Result, Ok, Err, Some, get_or, length, take, sym, ap, ◌∙◌, subst}
 use Rattle.std.specs.List.{All}
 use Rattle.std.proofs.lemmas.List.{length-append}
-use Rattle.std.proofs.lemmas.Option.{get_or_from_slice_get}
+use Rattle.std.proofs.lemmas.Option.{get_or_from_slice_get, slice_get-get_or}
 use Rattle.mm_join.specs.Caps.{cap_conditions}
 use Rattle.mm_join.specs.Joined.{IsNext, joined}
-use Rattle.mm_plan.proofs.Joining.{few_at, goes_on, next_is, refused, split, within}
+use Rattle.mm_plan.proofs.Joining.{behind_is, few_at, goes_on, next_is, refused, split, within}
 use Rattle.mm_plan.proofs.next_table.join_next.Goals as goal
 use Rattle.mm_plan.specs.Growing.{IsCap}
-use Rattle.mm_plan.specs.Steps.{step_reads}
-use Rattle.mm_relation.specs.Kept.{StoredRows}
+use Rattle.mm_plan.specs.Steps.{Joins, step_reads}
 use Rattle.mm_schema.specs.Refused.{AnswersDue, first_refusal}
 use Rattle.mm_store.proofs.Joining.{some_at}
-use Rattle.mm_store.specs.Tables.{IsAt, Tables, rows_at}
+use Rattle.mm_store.proofs.Shown.{table_seen}
+use Rattle.mm_store.specs.Seen.{Seen}
+use Rattle.mm_store.specs.Tables.{rows_at}
 use Rattle.mm_templist.specs.Combos.{Combos, combo_rows}
 use Rattle.mm_value.specs.declared.refusal.Refusal.{Refusal}
 use Rattle.mm_schema.specs.Rows.{most_rows}
 
-few_there : (store : Tables) (tables : List ℕ) (place : ℕ) → All (λ t. t < length store.tables) tables → place < length tables
-    → ((stored : StoredRows) → IsAt store (get_or tables place 0) stored → length stored.refs ≤ most_rows)
-    → length (rows_at store.tables (get_or tables place 0)) ≤ most_rows
-few_there store tables place there within few =
-    let some = some_at store.tables (get_or tables place 0) (there place 0 within) in
-    few_at store (get_or tables place 0) some.0 some.1 (few some.0 some.1)
+few_there : (seen : Seen) (tables : List ℕ) (place : ℕ) → All (λ t. t < length seen.store.tables) tables → place < length tables
+    → length (rows_at seen.store.tables (get_or tables place 0)) ≤ most_rows
+few_there seen tables place there within =
+    let (stored, here) = some_at seen.store.tables (get_or tables place 0) (there place 0 within) in
+    few_at seen.store (get_or tables place 0) stored here (table_seen seen (get_or tables place 0) stored here).few
 
 as_long : (result : Result Combos Refusal) (tables : List ℕ) (n : ℕ) → IfOk result (λ l. l.tables ≡ tables) → length tables ≡ n
     → IfOk result (λ l. length l.tables ≡ n)
 as_long (Ok l) tables n is long = ap length is ∙ long
 as_long (Err refusal) tables n is long = tt
+
+pub join_by-requires-clause-next : goal.join_by-requires-clause-next
+join_by-requires-clause-next c =
+    let store = c.args.view.now.store in
+    let tables = c.args.tables.now in
+    let list = c.args.list.now in
+    let few = few_there c.args.view.now tables (length list.tables) c.requires.there c.requires.left in
+    let s = split store c.args.query.now tables list c.requires.begun c.requires.there c.requires.few c.requires.left few in
+    (s.next, ((ap (λ ts. take (length ts + 1) tables) c.descriptor.ensures.tables ∙ s.front, s.there), c.requires.begun.live))
+
+pub join_by-requires-clause-joins : goal.join_by-requires-clause-joins
+join_by-requires-clause-joins c = λ table next.
+    let store = c.args.view.now.store in
+    let query = c.args.query.now in
+    let tables = c.args.tables.now in
+    let list = c.args.list.now in
+    let few = few_there c.args.view.now tables (length list.tables) c.requires.there c.requires.left in
+    let s = split store query tables list c.requires.begun c.requires.there c.requires.few c.requires.left few in
+    let front : take (length c.descriptor.result.tables.now + 1) tables ≡ list.tables ++ s.next ∷ [] =
+    ap (λ ts. take (length ts + 1) tables) c.descriptor.ensures.tables ∙ s.front in
+    let same : s.next ≡ table =
+    sym (behind_is list.tables s.next []) ∙ ap (λ ts. get_or ts (length list.tables) 0) (sym front ∙ next.0) ∙ behind_is list.tables table [] in
+    subst (λ atoms. Joins store atoms list.tables table c.args.step) (sym c.as_slice-atoms.ensures)
+    (c.requires.joins table
+    (slice_get-get_or tables (length list.tables) 0 c.requires.left
+    ∙ ap Some (next_is store query tables list c.requires.begun c.requires.there c.requires.few c.requires.left few ∙ same)))
 
 pub returns-clause-due : goal.returns-clause-due
 returns-clause-due c =
@@ -35,9 +61,7 @@ returns-clause-due c =
     let tables = c.args.tables.now in
     let list = c.args.list.now in
     let joins = c.descriptor.ensures.tables in
-    let few = few_there store tables (length list.tables) c.requires.there c.requires.left
-    (subst (λ (ts : List ℕ). (stored : StoredRows) → IsAt store (get_or tables (length ts) 0) stored → length stored.refs ≤ most_rows) joins
-    c.is_kept.ensures.few) in
+    let few = few_there c.args.view.now tables (length list.tables) c.requires.there c.requires.left in
     let s = split store query tables list c.requires.begun c.requires.there c.requires.few c.requires.left few in
     let front : take (length c.descriptor.result.tables.now + 1) tables ≡ list.tables ++ s.next ∷ [] =
     ap (λ ts. take (length ts + 1) tables) joins ∙ s.front in
@@ -56,9 +80,7 @@ returns-clause-begun c =
     let tables = c.args.tables.now in
     let list = c.args.list.now in
     let joins = c.descriptor.ensures.tables in
-    let few = few_there store tables (length list.tables) c.requires.there c.requires.left
-    (subst (λ (ts : List ℕ). (stored : StoredRows) → IsAt store (get_or tables (length ts) 0) stored → length stored.refs ≤ most_rows) joins
-    c.is_kept.ensures.few) in
+    let few = few_there c.args.view.now tables (length list.tables) c.requires.there c.requires.left in
     let s = split store query tables list c.requires.begun c.requires.there c.requires.few c.requires.left few in
     let front : take (length c.descriptor.result.tables.now + 1) tables ≡ list.tables ++ s.next ∷ [] =
     ap (λ ts. take (length ts + 1) tables) joins ∙ s.front in
@@ -83,9 +105,7 @@ returns-clause-longer c =
     let tables = c.args.tables.now in
     let list = c.args.list.now in
     let joins = c.descriptor.ensures.tables in
-    let few = few_there store tables (length list.tables) c.requires.there c.requires.left
-    (subst (λ (ts : List ℕ). (stored : StoredRows) → IsAt store (get_or tables (length ts) 0) stored → length stored.refs ≤ most_rows) joins
-    c.is_kept.ensures.few) in
+    let few = few_there c.args.view.now tables (length list.tables) c.requires.there c.requires.left in
     let s = split store query tables list c.requires.begun c.requires.there c.requires.few c.requires.left few in
     let front : take (length c.descriptor.result.tables.now + 1) tables ≡ list.tables ++ s.next ∷ [] =
     ap (λ ts. take (length ts + 1) tables) joins ∙ s.front in
@@ -100,9 +120,7 @@ returns-clause-reads c = λ table at.
     let tables = c.args.tables.now in
     let list = c.args.list.now in
     let joins = c.descriptor.ensures.tables in
-    let few = few_there store tables (length list.tables) c.requires.there c.requires.left
-    (subst (λ (ts : List ℕ). (stored : StoredRows) → IsAt store (get_or tables (length ts) 0) stored → length stored.refs ≤ most_rows) joins
-    c.is_kept.ensures.few) in
+    let few = few_there c.args.view.now tables (length list.tables) c.requires.there c.requires.left in
     let s = split store query tables list c.requires.begun c.requires.there c.requires.few c.requires.left few in
     let front : take (length c.descriptor.result.tables.now + 1) tables ≡ list.tables ++ s.next ∷ [] =
     ap (λ ts. take (length ts + 1) tables) joins ∙ s.front in

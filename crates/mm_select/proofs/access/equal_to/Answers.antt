@@ -3,6 +3,7 @@ use Rattle.std.specs.List.{All}
 use Rattle.std.proofs.lemmas.List.Elements.{All-nil}
 use Rattle.mm_partition.specs.Places.{IsLive}
 use Rattle.mm_select.proofs.Found.{equal_along}
+use Rattle.mm_store.proofs.Shown.{table_seen}
 use Rattle.mm_select.proofs.access.equal_to.Goals as goal
 
 pub matches-requires-clause-index : goal.matches-requires-clause-index
@@ -10,8 +11,9 @@ matches-requires-clause-index c = λ stored at. (c.args.column, c.requires.serve
 
 pub returns-clause-along : goal.returns-clause-along
 returns-clause-along c = λ stored at.
-    equal_along stored ((c.in_ok-matches.ensures.kept stored at).kept) c.args.index c.args.column c.args.value c.new-found.result.items c.matches.new.out.items
-    (c.requires.served stored at) c.new-found.ensures.items (c.in_ok-matches.ensures.ok stored c.args.column at (c.requires.served stored at))
+    equal_along stored (table_seen c.args.view.now c.args.table stored at).kept c.args.index c.args.column c.args.value c.new-found.result.items
+    c.matches.new.out.items (c.requires.served stored at) c.new-found.ensures.items
+    (c.in_ok-matches.ensures.ok stored c.args.column at (c.requires.served stored at))
 
 pub returns-clause-live : goal.returns-clause-live
 returns-clause-live c = λ stored at.

@@ -2,7 +2,6 @@ use Rattle.std.proofs.Common.{◌≡◌, ◌+◌, ◌<◌, ◌≤◌, ◌++◌, 
 use Rattle.std.specs.Prelude.{slice_get}
 use Rattle.std.proofs.lemmas.List.{take_all}
 use Rattle.mm_query.proofs.PlainEval.{pushed_front}
-use Rattle.mm_store.specs.Seen.{Seen}
 use Rattle.mm_store.specs.Tables.{IsAt, Tables}
 use Rattle.mm_templist.specs.Combos.{rows_of_combo}
 use Rattle.mm_templist.proofs.Live.{length_live, length_rows, next_row, row_in_place, row_is_found, row_is_live, table_is_there, there_at}
@@ -35,11 +34,11 @@ loop-i-preserved c =
     row_in_place store c.args.tables.now c.args.combo.now c.loop-i.i 0 (record { part = 0; slot = 0 }) c.requires c.loop-i-test.true
     ∙ ap Some (row_is_found store _ _ c.row.result.now there
     (λ stored is. c.row.ensures.row stored (subst (λ (s : Tables). IsAt s table stored) (sym c.loop-i.invariant.same) is))) in
-    let counted = ap (λ (seen : Seen). seen.reads) c.row.ensures.counted in
+    let counted = c.row.ensures.counted in
     let more : c.row.new.self.reads ≤ c.args.view.now.reads + (c.loop-i.i + 1) = omega (arith, counted, c.loop-i.invariant.reads) in
     let pushed = pushed_front c.loop-i.chosen.items c.loop-i.chosen.items c.push.new.self.items (Some c.row.result) c.in_ok-push.ensures.ok refl in
     record {
-      same = ap (λ (seen : Seen). seen.store) c.row.ensures.counted ∙ c.loop-i.invariant.same;
+      same = c.row.ensures.same ∙ c.loop-i.invariant.same;
       rows = pushed ∙ (ap (λ l. l ++ Some c.row.result.now ∷ []) c.loop-i.invariant.rows ∙ sym (next_row rows c.loop-i.i c.row.result.now here));
       reads = more;
     }

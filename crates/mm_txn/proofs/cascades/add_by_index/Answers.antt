@@ -4,7 +4,6 @@ use Rattle.std.proofs.lemmas.List.{take_all, take_more}
 use Rattle.mm_partition.specs.Places.{slot_at}
 use Rattle.mm_relation.specs.Refs.{row_in}
 use Rattle.mm_relation.specs.declared.edits.Edit.{Edit}
-use Rattle.mm_store.specs.Seen.{Seen}
 use Rattle.mm_store.specs.Tables.{IsAt, Tables}
 use Rattle.mm_txn.specs.Cascades.{AddsReferrers}
 use Rattle.mm_txn.proofs.CascadeFinds.{gone_live, is_cascaded_by_at}
@@ -35,20 +34,20 @@ value-key-requires c =
 
 pub matches-requires-clause-there : goal.matches-requires-clause-there
 matches-requires-clause-there c =
-    subst (λ (s : Tables). c.args.table < length s.tables) (sym (ap (λ (seen : Seen). seen.store) c.row.ensures.counted ∙ c.loop-edit.invariant.same))
+    subst (λ (s : Tables). c.args.table < length s.tables) (sym (c.row.ensures.same ∙ c.loop-edit.invariant.same))
     c.requires.there
 
 pub matches-requires-clause-index : goal.matches-requires-clause-index
 matches-requires-clause-index c = λ stored at. (
   c.args.cascade.now.column,
   c.requires.index stored
-      (subst (λ (s : Tables). IsAt s c.args.table stored) (ap (λ (seen : Seen). seen.store) c.row.ensures.counted ∙ c.loop-edit.invariant.same) at),
+      (subst (λ (s : Tables). IsAt s c.args.table stored) (c.row.ensures.same ∙ c.loop-edit.invariant.same) at),
 )
 
 pub loop-edit-preserved : goal.loop-edit-preserved
 loop-edit-preserved c = record {
   same = elim c.match-row_gone.branch [
-    | in-Some+in_ok-matches w ↦ rw w.view-is (ap (λ (seen : Seen). seen.store) w.row.ensures.counted ∙ c.loop-edit.invariant.same)
+    | in-Some+in_ok-matches w ↦ rw w.view-is (w.row.ensures.same ∙ c.loop-edit.invariant.same)
     | in_default w ↦ rw w.view-is c.loop-edit.invariant.same
   ];
   added = λ stored target at there.
@@ -60,7 +59,7 @@ loop-edit-preserved c = record {
       elim c.match-row_gone.branch [
         | in-Some+in_ok-matches w ↦
             let same = c.loop-edit.invariant.same in
-            let now = ap (λ (seen : Seen). seen.store) w.row.ensures.counted ∙ same in
+            let now = w.row.ensures.same ∙ same in
             let seen = subst (λ (s : Tables). IsAt s c.args.table stored) (sym now) at in
             let told = w.in_ok-matches.ensures.ok stored cascade.column seen (c.requires.index stored at) in
             let row = w.row.ensures.row target (subst (λ (s : Tables). IsAt s cascade.to target) (sym same) there) in

@@ -8,6 +8,7 @@ use Rattle.mm_value.specs.declared.row_ref.RowRef.{RowRef}
 use Rattle.mm_txn.specs.Cascades.{is_cascaded_by}
 use Rattle.mm_txn.proofs.CascadeFinds.{filter_push, scan_goes}
 use Rattle.mm_txn.proofs.Referrers.{passing_added}
+use Rattle.mm_store.proofs.Shown.{table_seen}
 use Rattle.mm_txn.proofs.cascades.add_by_scan.Goals as goal
 
 pub walk-at-items-requires-clause-tree : goal.walk-at-items-requires-clause-tree
@@ -28,7 +29,7 @@ loop-at-preserved-in-Continue-branch-2 c = record {
       let row = row_at (slot_at stored.places) c.in-Some.at in
       let goes : is_cascaded_by c.args.view.now.store.tables cascade.column (cascade.to, cascade.gone.now) row ≡ true =
       sym (scan_goes c.args.view.now.store c.args.table cascade.column (cascade.to, cascade.gone.now) c.requires.cascade row c.follow-target.result
-      (c.follow-target.ensures stored at) c.is_kept.ensures.kept)
+      (c.follow-target.ensures stored at) (λ target there. (table_seen c.args.view.now cascade.to target there).kept))
       ∙ sym (c.contains.ensures ∙ c.in_ok-gone.ensures.ok c.follow-target.result) ∙ c.if-contains.true in
       c.in_ok-push.ensures.items ∙ ap (λ (xs : List RowRef). xs ++ c.in-Some.at ∷ []) (c.loop-at.invariant.added stored at)
       ∙ append_assoc c.args.found.now.items _ (c.in-Some.at ∷ [])
@@ -44,7 +45,7 @@ loop-at-preserved c = record {
       let row = row_at (slot_at stored.places) c.in-Some.at in
       let stays : is_cascaded_by c.args.view.now.store.tables cascade.column (cascade.to, cascade.gone.now) row ≡ false =
       sym (scan_goes c.args.view.now.store c.args.table cascade.column (cascade.to, cascade.gone.now) c.requires.cascade row c.follow-target.result
-      (c.follow-target.ensures stored at) c.is_kept.ensures.kept)
+      (c.follow-target.ensures stored at) (λ target there. (table_seen c.args.view.now cascade.to target there).kept))
       ∙ sym (c.contains.ensures ∙ c.in_ok-gone.ensures.ok c.follow-target.result) ∙ c.if-contains.false in
       c.loop-at.invariant.added stored at
       ∙ ap (λ (xs : List RowRef). c.args.found.now.items ++ xs) (sym (filter_push _ c.loop-at.yielded c.in-Some.at false stays ∙ append-nil _));

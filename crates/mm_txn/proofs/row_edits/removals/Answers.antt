@@ -6,6 +6,7 @@ use Rattle.mm_plan.specs.Finding.{meets}
 use Rattle.mm_relation.specs.Refs.{row_at}
 use Rattle.mm_relation.specs.RowLists.{edit_pairs}
 use Rattle.mm_relation.specs.declared.edits.Edit.TheVariants.{Gone}
+use Rattle.mm_store.proofs.Shown.{table_seen}
 use Rattle.mm_store.specs.Tables.{AreFit}
 use Rattle.mm_txn.proofs.EditsMade.{fit-gone, pairs-removed}
 use Rattle.mm_txn.proofs.row_edits.removals.Goals as goal
@@ -22,5 +23,5 @@ returns c =
       fit = IfOk-weaker c.collect.result (λ edits. edits.items ≡ map Gone c.in_ok-found.found.items) _
           (λ edits is stored here.
           subst (AreFit stored) (sym (is ∙ ap (map Gone) (c.in_ok-found.ensures.found stored here)))
-          (fit-gone stored (c.is_kept.ensures.kept stored here) (λ at. meets atoms (row_at (slot_at stored.places) at)))) collected;
+          (fit-gone stored (table_seen c.args.view.now c.args.table stored here).kept (λ at. meets atoms (row_at (slot_at stored.places) at)))) collected;
     }

@@ -5,6 +5,7 @@ use Rattle.std.proofs.lemmas.Result.{IfOk-weaker}
 use Rattle.mm_relation.specs.Before.{same_ref}
 use Rattle.mm_relation.specs.Edits.{new_rows}
 use Rattle.mm_relation.specs.declared.edits.Edit.TheVariants.{Gone}
+use Rattle.mm_store.proofs.Shown.{table_seen}
 use Rattle.mm_store.specs.Tables.{AreFit}
 use Rattle.mm_txn.proofs.EditsMade.{fit-gone, new_rows-gone}
 use Rattle.mm_txn.proofs.row_edits.removals_at.Goals as goal
@@ -19,7 +20,7 @@ returns c =
       fit = IfOk-weaker c.collect.result (λ edits. edits.items ≡ map Gone c.in_ok-gone.gone.items) _
           (λ edits is stored here.
           subst (AreFit stored) (sym (is ∙ ap (map Gone) (c.in_ok-gone.ensures.found stored here)))
-          (fit-gone stored (c.in_ok-gone.ensures.kept stored here).kept (λ at. list_any (same_ref at) refs))) collected;
+          (fit-gone stored (table_seen c.args.view.now c.args.table stored here).kept (λ at. list_any (same_ref at) refs))) collected;
       none_comes = IfOk-weaker c.collect.result (λ edits. edits.items ≡ map Gone c.in_ok-gone.gone.items) _
           (λ edits is. ap new_rows is ∙ new_rows-gone c.in_ok-gone.gone.items) collected;
     }

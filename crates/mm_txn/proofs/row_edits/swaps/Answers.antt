@@ -12,7 +12,6 @@ use Rattle.mm_relation.specs.Refs.{row_in}
 use Rattle.mm_relation.specs.declared.edits.Edit.TheVariants.{Swap}
 use Rattle.mm_store.proofs.Joining.{some_at}
 use Rattle.mm_store.proofs.Lists.{take_more}
-use Rattle.mm_store.specs.Seen.{Seen}
 use Rattle.mm_store.specs.Tables.{IsAt, Tables}
 use Rattle.mm_value.specs.declared.row_ref.RowRef.{RowRef}
 use Rattle.mm_txn.specs.RowEdits.{swap_of}
@@ -46,7 +45,7 @@ loop-at-preserved c =
     let is = λ (stored : StoredRows) (here : IsAt c.args.view.now.store c.args.table stored).
     ap row_in (c.row.ensures.row stored (subst (λ (s : Tables). IsAt s c.args.table stored) (sym c.loop-at.invariant.same) here)) in
     record {
-      same = ap (λ (seen : Seen). seen.store) c.row.ensures.counted ∙ c.loop-at.invariant.same;
+      same = c.row.ensures.same ∙ c.loop-at.invariant.same;
       made = λ stored here.
           let swaps = swap_of (slot_at stored.places) assignments in
           c.in_ok-push.ensures.items

@@ -8,6 +8,7 @@ use Rattle.mm_relation.specs.Kept.{StoredRows}
 use Rattle.mm_relation.specs.Refs.{row_at}
 use Rattle.mm_relation.specs.RowLists.{edit_pairs}
 use Rattle.mm_schema.specs.Refused.{AnswersDue, first_refusal}
+use Rattle.mm_store.proofs.Shown.{table_seen}
 use Rattle.mm_store.specs.Tables.{AreFit, IsAt, Tables}
 use Rattle.mm_txn.specs.RowEdits.{swap_of}
 use Rattle.mm_txn.proofs.EditsMade.{fit-swapped, pairs-updated}
@@ -23,7 +24,8 @@ swaps-requires c =
       there = subst (λ (s : Tables). c.args.table < length s.tables) (sym c.find_rows.ensures.same) c.requires.there;
       live = λ stored at.
           subst (All (IsLive stored.places)) (sym (c.as_slice.ensures.value ∙ c.in_ok-found.ensures.found stored (there stored at)))
-          (passing_live stored (c.is_kept.ensures.kept stored (there stored at)) (λ r. meets c.args.atoms.now (row_at (slot_at stored.places) r)));
+          (passing_live stored (table_seen c.args.view.now c.args.table stored (there stored at)).kept
+          (λ r. meets c.args.atoms.now (row_at (slot_at stored.places) r)));
       assignments = λ stored at. c.requires.assignments stored (there stored at);
     }
 
@@ -49,5 +51,6 @@ returns c =
       fit = IfOk-weaker c.swaps.result _ _
           (λ edits made stored at.
           subst (AreFit stored) (sym (made stored (there stored at) ∙ ap (map (swap_of (slot_at stored.places) assignments)) (refs stored at)))
-          (fit-swapped stored (c.is_kept.ensures.kept stored at) (λ r. meets atoms (row_at (slot_at stored.places) r)) assignments)) c.swaps.ensures.made;
+          (fit-swapped stored (table_seen c.args.view.now c.args.table stored at).kept
+          (λ r. meets atoms (row_at (slot_at stored.places) r)) assignments)) c.swaps.ensures.made;
     }

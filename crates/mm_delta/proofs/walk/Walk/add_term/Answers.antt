@@ -15,9 +15,6 @@ use Rattle.mm_delta.proofs.Terms.{bound_is, gone_is, gone_length, net_count, oth
 use Rattle.mm_delta.proofs.UnseenEdits.{among_come, among_gone, fewer_come, fewer_gone, seen_come, seen_gone}
 use Rattle.mm_delta.proofs.walk.Walk.add_term.Goals as goal
 
-pub is_kept-requires : goal.is_kept-requires
-is_kept-requires c = c.requires.there c.args.self.now.place 0 c.requires.place
-
 pub seen_rows-requires-clause-there : goal.seen_rows-requires-clause-there
 seen_rows-requires-clause-there c = c.requires.there c.args.self.now.place 0 c.requires.place
 
@@ -50,7 +47,7 @@ from_rows-requires-clause-edited c =
     (sym (ap (map (λ row. row.now)) c.deref.ensures.value ∙ c.in_ok-seen.ensures.gone at.0 at.1
     ∙ ap (filter_map (gone_seen q k (slot_at at.0.places))) c.edits_of-edits.ensures))
     (among_gone q k (slot_at at.0.places) Row edits (subst (All Row) (gone_is c.args.view.now.store c.args.self.now.changes.now table at.0 at.1)
-    (gone_are_rows c.args.view.now.store c.args.self.now.changes.now table at.0 at.1 (c.is_kept.ensures.kept at.0 at.1) c.requires.fit))))
+    (gone_are_rows c.args.view.now c.args.self.now.changes.now table at.0 at.1 c.requires.fit))))
 
 pub from_rows-requires-2-clause-there : goal.from_rows-requires-2-clause-there
 from_rows-requires-2-clause-there c =
@@ -81,7 +78,7 @@ from_rows-requires-2-clause-edited c =
     (sym (ap (map (λ row. row.now)) c.deref-2.ensures.value ∙ c.in_ok-seen.ensures.come at.0 at.1
     ∙ ap (filter_map (come_seen q k (slot_at at.0.places))) c.edits_of-edits.ensures))
     (among_come q k (slot_at at.0.places) Row edits
-    (come_are_rows c.args.view.now.store c.args.self.now.changes.now table at.0 at.1 (c.is_kept.ensures.kept at.0 at.1) c.requires.fit)))
+    (come_are_rows c.args.view.now c.args.self.now.changes.now table at.0 at.1 c.requires.fit)))
 
 pub returns-clause-net : goal.returns-clause-net
 returns-clause-net c =

@@ -4,6 +4,7 @@ use Rattle.std.proofs.lemmas.List.Elements.{All-filter}
 use Rattle.mm_partition.specs.Places.{IsLive, slot_at}
 use Rattle.mm_relation.specs.Refs.{row_at}
 use Rattle.mm_store.proofs.Joining.{some_at}
+use Rattle.mm_store.proofs.Shown.{table_seen}
 use Rattle.mm_store.specs.Tables.{AreFit, rows_with}
 use Rattle.mm_delta.specs.Overlay.{overlay_edits}
 use Rattle.mm_delta.specs.Candidates.{having, required}
@@ -17,13 +18,14 @@ pub read_all-requires-clause-live : goal.read_all-requires-clause-live
 read_all-requires-clause-live c = λ stored at.
     subst (All (IsLive stored.places)) (sym (c.deref.ensures.value ∙ c.leave_standing.ensures))
     (All-filter (stays (overlay_edits c.edits_at-edits.result)) (IsLive stored.places) c.in_ok-refs.refs.items
-    (found_live stored (c.is_kept.ensures.kept stored at) (asked c.in_ok-look_up.look_up) c.in_ok-refs.refs.items (c.in_ok-refs.ensures.found stored at)))
+    (found_live stored (table_seen c.args.view.now (get_or c.args.self.now.tables.now c.args.place 0) stored at).kept (asked c.in_ok-look_up.look_up)
+    c.in_ok-refs.refs.items (c.in_ok-refs.ensures.found stored at)))
 
 pub returns-in_err-rows-clause-reads : goal.returns-in_err-rows-clause-reads
 returns-in_err-rows-clause-reads c =
     let at = some_at c.args.view.now.store.tables (get_or c.args.self.now.tables.now c.args.place 0) c.requires.there.1 in
-    let few = few_read c.args.view.now.store (get_or c.args.self.now.tables.now c.args.place 0) at.0 at.1 (c.is_kept.ensures.kept at.0 at.1)
-    (asked c.in_ok-look_up.look_up) (required (has_index c.args.view.now.store (get_or c.args.self.now.tables.now c.args.place 0))
+    let few = few_read c.args.view.now (get_or c.args.self.now.tables.now c.args.place 0) at.0 at.1 (asked c.in_ok-look_up.look_up)
+    (required (has_index c.args.view.now.store (get_or c.args.self.now.tables.now c.args.place 0))
     c.args.self.now.query.now.atoms c.args.chosen.now c.args.place)
     c.in_ok-refs.refs.items (c.in_ok-refs.ensures.found at.0 at.1) c.in_ok-look_up.ensures.ok (overlay_edits c.edits_at-edits.result) c.deref.result.now
     (c.deref.ensures.value ∙ c.leave_standing.ensures) in
@@ -32,8 +34,8 @@ returns-in_err-rows-clause-reads c =
 pub returns-in_err-add_coming-clause-reads : goal.returns-in_err-add_coming-clause-reads
 returns-in_err-add_coming-clause-reads c =
     let at = some_at c.args.view.now.store.tables (get_or c.args.self.now.tables.now c.args.place 0) c.requires.there.1 in
-    let few = few_read c.args.view.now.store (get_or c.args.self.now.tables.now c.args.place 0) at.0 at.1 (c.is_kept.ensures.kept at.0 at.1)
-    (asked c.in_ok-look_up.look_up) (required (has_index c.args.view.now.store (get_or c.args.self.now.tables.now c.args.place 0))
+    let few = few_read c.args.view.now (get_or c.args.self.now.tables.now c.args.place 0) at.0 at.1 (asked c.in_ok-look_up.look_up)
+    (required (has_index c.args.view.now.store (get_or c.args.self.now.tables.now c.args.place 0))
     c.args.self.now.query.now.atoms c.args.chosen.now c.args.place)
     c.in_ok-refs.refs.items (c.in_ok-refs.ensures.found at.0 at.1) c.in_ok-look_up.ensures.ok (overlay_edits c.edits_at-edits.result) c.deref.result.now
     (c.deref.ensures.value ∙ c.leave_standing.ensures) in
@@ -42,8 +44,8 @@ returns-in_err-add_coming-clause-reads c =
 pub returns-clause-reads : goal.returns-clause-reads
 returns-clause-reads c =
     let at = some_at c.args.view.now.store.tables (get_or c.args.self.now.tables.now c.args.place 0) c.requires.there.1 in
-    let few = few_read c.args.view.now.store (get_or c.args.self.now.tables.now c.args.place 0) at.0 at.1 (c.is_kept.ensures.kept at.0 at.1)
-    (asked c.in_ok-look_up.look_up) (required (has_index c.args.view.now.store (get_or c.args.self.now.tables.now c.args.place 0))
+    let few = few_read c.args.view.now (get_or c.args.self.now.tables.now c.args.place 0) at.0 at.1 (asked c.in_ok-look_up.look_up)
+    (required (has_index c.args.view.now.store (get_or c.args.self.now.tables.now c.args.place 0))
     c.args.self.now.query.now.atoms c.args.chosen.now c.args.place)
     c.in_ok-refs.refs.items (c.in_ok-refs.ensures.found at.0 at.1) c.in_ok-look_up.ensures.ok (overlay_edits c.edits_at-edits.result) c.deref.result.now
     (c.deref.ensures.value ∙ c.leave_standing.ensures) in
@@ -58,7 +60,8 @@ returns-clause-rows c =
     (λ i. having (c.in_ok-look_up.ensures.ok i)
     ((ap (rows_with at.0) c.edits_at-edits.ensures ∙ sym (walked_is c.args.view.now.store c.args.self.now.changes.now c.args.self.now.tables.now
     c.args.self.now.place c.args.place at.0 at.1)) i))
-    (found_alike at.0 (c.is_kept.ensures.kept at.0 at.1) r c.in_ok-refs.refs.items (c.in_ok-refs.ensures.found at.0 at.1) edits
+    (found_alike at.0 (table_seen c.args.view.now (get_or c.args.self.now.tables.now c.args.place 0) at.0 at.1).kept r c.in_ok-refs.refs.items
+    (c.in_ok-refs.ensures.found at.0 at.1) edits
     (subst (AreFit at.0) (sym c.edits_at-edits.ensures) (fit_walked c.args.view.now.store c.args.self.now.changes.now c.args.self.now.place c.args.place
     (get_or c.args.self.now.tables.now c.args.place 0) at.0 c.requires.fit at.1))
     (map (λ row. row.now) c.in_ok-rows.rows.items) (map (λ row. row.now) c.add_coming.new.rows.items)

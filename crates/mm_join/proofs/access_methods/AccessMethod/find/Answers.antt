@@ -3,6 +3,7 @@ use Rattle.std.specs.Option.{option_copied}
 use Rattle.mm_partition.specs.Places.{IsLive}
 use Rattle.mm_relation.specs.Kept.{StoredRows}
 use Rattle.mm_store.proofs.Joining.{one_relation, some_at}
+use Rattle.mm_store.proofs.Shown.{table_seen}
 use Rattle.mm_store.specs.Tables.{rows_at}
 use Rattle.mm_templist.specs.Combos.{rows_of_combo}
 use Rattle.mm_value.specs.declared.row_ref.RowRef.{RowRef}
@@ -56,7 +57,7 @@ returns-in-All-clause-found c =
     let method = subst (IsAccessMethod store outer.tables.now inner) c.in-All.is c.requires.method in
     subst (λ (w : AccessMethod). AreCandidates store inner.table inner.atoms.now rows (found_behind w (rows_at store.tables inner.table) rows)
     (listed w c.args.found.now.items)) (sym c.in-All.is)
-    (all_candidates store inner.table stored here (c.is_kept.ensures.kept stored here) inner.atoms.now outer.tables.now outer.refs.now c.requires.live
+    (all_candidates c.args.view.now inner.table stored here inner.atoms.now outer.tables.now outer.refs.now c.requires.live
     _ (method stored here))
 
 pub returns-in_ok-push-in-Followed-clause-found : goal.returns-in_ok-push-in-Followed-clause-found
@@ -67,7 +68,7 @@ returns-in_ok-push-in-Followed-clause-found c =
     let field = c.in-Followed.field in
     let rows = rows_of_combo store outer.tables.now outer.refs.now in
     let (stored, here) = some_at store.tables inner.table c.requires.there in
-    let kept = c.is_kept.ensures.kept stored here in
+    let kept = (table_seen c.args.view.now inner.table stored here).kept in
     let asked = subst (IsAccessMethod store outer.tables.now inner) c.in-Followed.is c.requires.method stored here in
     let d : RowRef = record { part = 0; slot = 0 } in
     let one : c.push.new.self.items ≡ c.partner.result ∷ [] = c.in_ok-push-in-Followed.ensures.items
@@ -77,7 +78,7 @@ returns-in_ok-push-in-Followed-clause-found c =
     subst (λ (w : AccessMethod). AreCandidates store inner.table inner.atoms.now rows (found_behind w (rows_at store.tables inner.table) rows)
     (listed w c.push.new.self.items)) (sym c.in-Followed.is)
     (subst (AreCandidates store inner.table inner.atoms.now rows 1) (sym one)
-    (have_candidates store inner.table stored here kept inner.atoms.now outer.tables.now outer.refs.now c.requires.live (plain_key stored.key field)
+    (have_candidates c.args.view.now inner.table stored here inner.atoms.now outer.tables.now outer.refs.now c.requires.live (plain_key stored.key field)
     asked.2 1 (c.partner.result ∷ []) have (omega arith)))
 
 pub returns-in-Sought-clause-found : goal.returns-in-Sought-clause-found
@@ -92,5 +93,5 @@ returns-in-Sought-clause-found c =
     let method = subst (IsAccessMethod store outer.tables.now inner) c.in-Sought.is c.requires.method in
     subst (λ (w : AccessMethod). AreCandidates store inner.table inner.atoms.now rows (found_behind w (rows_at store.tables inner.table) rows)
     (listed w c.find_partners.new.found.items)) (sym c.in-Sought.is)
-    (found_candidates store inner.table stored here (c.is_kept.ensures.kept stored here) inner.atoms.now outer.tables.now outer.refs.now c.requires.live
+    (found_candidates c.args.view.now inner.table stored here inner.atoms.now outer.tables.now outer.refs.now c.requires.live
     look_up.key method.0 look_up.among (map option_copied c.args.rows.now) c.requires.rows c.find_partners.new.found.items (finds stored here)))

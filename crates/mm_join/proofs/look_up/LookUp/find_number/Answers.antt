@@ -3,6 +3,7 @@ use Rattle.std.proofs.lemmas.Int.{to_z-of_z}
 use Rattle.std.specs.Prelude.{◌+ℤ◌, ℤ, FitsSigned, OnOk}
 use Rattle.std.specs.Int.{w64}
 use Rattle.mm_relation.specs.Kept.{StoredRows}
+use Rattle.mm_store.proofs.Shown.{table_seen}
 use Rattle.mm_store.specs.Tables.{IsAt}
 use Rattle.mm_value.specs.declared.values.Value.TheVariants.{Int}
 use Rattle.mm_join.proofs.Found.{finds_none}
@@ -23,4 +24,4 @@ returns-in-None-clause-found c = λ stored here.
     let past = subst (λ n. ¬ FitsSigned w64 (n +ℤ added c.args.self.now.key.shift)) (to_z-of_z w64 c.args.number c.ranges.number)
     (c.shifted_number.ensures.past c.in-None.is) in
     finds_none stored c.args.self.now.key.column c.args.self.now.among (c.args.number +ℤ added c.args.self.now.key.shift) c.clear.new.self.items
-    (c.is_kept.ensures.storable stored here) past c.clear.ensures.items
+    (table_seen c.args.view.now c.args.table stored here).storable past c.clear.ensures.items

@@ -16,6 +16,7 @@ use Rattle.mm_join.proofs.Found.{column_there, finds_matches, finds_taken, found
 use Rattle.mm_join.proofs.Success.{on_success}
 use Rattle.mm_join.specs.AccessMethods.{Finds, IsAmong}
 use Rattle.mm_join.specs.declared.look_up.Among.TheVariants as among
+use Rattle.mm_store.proofs.Shown.{table_seen}
 use Rattle.mm_join.proofs.look_up.LookUp.find_value.Goals as goal
 
 pub matches-requires-clause-index : goal.matches-requires-clause-index
@@ -29,7 +30,7 @@ returns-in-Index-clause-found c =
     on_success _ _ c.matches.result c.matches.ensures.ok (λ ok. λ stored here.
     let column = c.args.self.now.key.column in
     let value = c.args.value.now in
-    let kept = (c.matches.ensures.kept stored here).kept in
+    let kept = (table_seen c.args.view.now c.args.table stored here).kept in
     let on = subst (IsAmong stored column) c.in-Index.is (c.requires.among stored here) in
     subst (λ a. Finds stored column a value c.matches.new.out.items) (sym c.in-Index.is)
     (finds_matches stored kept c.in-Index.index column (column_there stored kept c.in-Index.index column on) value c.matches.new.out.items

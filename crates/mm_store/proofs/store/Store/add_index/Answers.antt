@@ -2,7 +2,7 @@ use Rattle.std.proofs.Common.{◌≡◌, ◌<◌, ◌≤◌, ℕ, length, Some, 
 use Rattle.std.specs.List.{All}
 use Rattle.std.specs.Prelude.{map, slice_get, slice_set}
 use Rattle.std.proofs.lemmas.List.{length-set}
-use Rattle.mm_partition.specs.Places.{extent_of, slot_at}
+use Rattle.mm_partition.specs.Places.{AreRowsStorable, extent_of, slot_at}
 use Rattle.mm_relation.specs.Index.{spare_of}
 use Rattle.mm_relation.specs.Kept.{IsKept, StoredRows}
 use Rattle.mm_relation.specs.Reads.{AddsIndex}
@@ -40,7 +40,8 @@ invariant_of-self-2 c =
     } in
     let is_table : IsTable new = record {
       few = omega (arith, was.few, ap (λ (s : StoredRows). length s.refs) rest);
-      kept = subst (λ (s : StoredRows). IsKept s.width s.key (slot_at s.places) s.refs s.indexes) last c.is_kept.ensures;
+      kept = subst (λ (s : StoredRows). IsKept s.width s.key (slot_at s.places) s.refs s.indexes) last c.is_kept.ensures.kept;
+      storable = subst (λ (s : StoredRows). AreRowsStorable s.places) last c.is_kept.ensures.storable;
     } in
     IsSound-same items links place relation new there same is_table c.self.invariant
 

@@ -23,7 +23,8 @@ invariant_of-self-2 c =
     let ready : All (IsReady items) more = subst (λ (ts : List StoredRows). All (IsReady ts) more) c.as_slice.ensures.value c.in_ok-links.ensures.ready in
     let is_table : IsTable new = record {
       few = omega (arith, ap (λ (refs : List RowRef). length refs) c.new-relation.ensures.refs);
-      kept = c.is_kept.ensures;
+      kept = c.is_kept.ensures.kept;
+      storable = c.is_kept.ensures.storable;
     } in
     subst (λ (ts : List StoredRows). IsSound ts c.append.new.self.items) (sym tables_are)
     (subst (IsSound (items ++ new ∷ [])) (sym links_are)

@@ -4,7 +4,7 @@ use Rattle.std.specs.List.{All}
 use Rattle.std.proofs.lemmas.List.{length-map, length-set}
 use Rattle.std.proofs.lemmas.List.Elements.{All-contains, All-set}
 use Rattle.std.proofs.lemmas.Result.{err_from_is_err_and}
-use Rattle.mm_partition.specs.Places.{extent_of, slot_at}
+use Rattle.mm_partition.specs.Places.{AreRowsStorable, IsStorableIn, extent_of, slot_at}
 use Rattle.mm_relation.specs.Before.{before}
 use Rattle.mm_relation.specs.Differs.{Differs}
 use Rattle.mm_relation.specs.Edits.{added_count, named, record_name}
@@ -102,6 +102,7 @@ invariant_of-self-in_err-apply c =
       few = omega (arith, was.few, ap (λ (xs : List _). length xs) same.refs);
       kept = subst (λ (w : ℕ). IsKept w mid.key (slot_at mid.places) mid.refs mid.indexes) (sym same.width)
           (subst (λ (k : ℕ). IsKept relation.width k (slot_at mid.places) mid.refs mid.indexes) (sym same.key) grown);
+      storable = λ at. subst IsStorableIn (sym (same.places at)) (was.storable at);
     } in
     record {
       all = All-set IsTable items place mid is_table c.self.invariant.all;
@@ -191,7 +192,8 @@ module _ (c : After-is_kept) where
       (sym (at_index (slice_set items place new) place c.index-2.result.now within_too c.index-2.ensures) ∙ get_set_same items place new within) in
       record {
         few = omega (arith, lawful.few, ap (λ (xs : List _). length xs) rows, length-map new.refs (row_at (slot_at new.places)));
-        kept = subst (λ (s : StoredRows). IsKept s.width s.key (slot_at s.places) s.refs s.indexes) last c.is_kept.ensures;
+        kept = subst (λ (s : StoredRows). IsKept s.width s.key (slot_at s.places) s.refs s.indexes) last c.is_kept.ensures.kept;
+        storable = subst (λ (s : StoredRows). AreRowsStorable s.places) last c.is_kept.ensures.storable;
       }
 
   tell : DescribeAll (slot_at old.places) (slot_at new.places) entries

@@ -1,7 +1,7 @@
 use Rattle.std.proofs.Common.{◌≡◌, ℕ, ◌<◌, List, length, Some, refl, sym, ap, ◌∙◌, subst, arith}
 use Rattle.std.specs.Prelude.{map, slice_get, slice_set}
 use Rattle.std.proofs.lemmas.List.{length-map, length-set}
-use Rattle.mm_partition.specs.Places.{extent_of, slot_at}
+use Rattle.mm_partition.specs.Places.{AreRowsStorable, extent_of, slot_at}
 use Rattle.mm_relation.specs.Changes.{AreHidden}
 use Rattle.mm_relation.specs.Edits.{removed}
 use Rattle.mm_relation.specs.Index.{EachTurns, SameIndex}
@@ -106,7 +106,8 @@ module _ (c : After-is_kept) where
           length-map new.refs (row_at (slot_at new.places)),
           length-map old.refs (row_at (slot_at old.places)),
         );
-        kept = subst (λ (s : StoredRows). IsKept s.width s.key (slot_at s.places) s.refs s.indexes) last c.is_kept.ensures;
+        kept = subst (λ (s : StoredRows). IsKept s.width s.key (slot_at s.places) s.refs s.indexes) last c.is_kept.ensures.kept;
+        storable = subst (λ (s : StoredRows). AreRowsStorable s.places) last c.is_kept.ensures.storable;
       }
 
   settled : IsSettled old gone new

@@ -3,7 +3,7 @@ use Rattle.std.specs.Prelude.{map, slice_get, slice_set}
 use Rattle.std.specs.List.{All}
 use Rattle.std.proofs.lemmas.List.{length-map, length-set}
 use Rattle.std.proofs.lemmas.Option.{slice_get_within}
-use Rattle.mm_partition.specs.Places.{slot_at}
+use Rattle.mm_partition.specs.Places.{AreRowsStorable, slot_at}
 use Rattle.mm_relation.specs.Edits.{named, record_name}
 use Rattle.mm_relation.specs.Index.{EachTurns, spare_of}
 use Rattle.mm_relation.specs.Kept.{IsKept, StoredRows}
@@ -119,13 +119,17 @@ module _ (c : After-is_kept) where
     within : place < length items
     within = slice_get_within items place old there
 
-    kept : IsKept new.width new.key (slot_at new.places) new.refs new.indexes
-    kept =
+    last : c.index.result.now ≡ new
+    last =
         let within_too : place < length (slice_set items place new) = omega (arith, within, length-set items place new) in
-        let last : c.index.result.now ≡ new =
         one_relation c.index.result.now new
-        (sym (at_index (slice_set items place new) place c.index.result.now within_too c.index.ensures) ∙ get_set_same items place new within) in
-        subst (λ (s : StoredRows). IsKept s.width s.key (slot_at s.places) s.refs s.indexes) last c.is_kept.ensures
+        (sym (at_index (slice_set items place new) place c.index.result.now within_too c.index.ensures) ∙ get_set_same items place new within)
+
+    kept : IsKept new.width new.key (slot_at new.places) new.refs new.indexes
+    kept = subst (λ (s : StoredRows). IsKept s.width s.key (slot_at s.places) s.refs s.indexes) last c.is_kept.ensures.kept
+
+    storable : AreRowsStorable new.places
+    storable = subst (λ (s : StoredRows). AreRowsStorable s.places) last c.is_kept.ensures.storable
 
   taken : IsTakenBack old c.args.log.now.entries new
   taken = record {
@@ -161,7 +165,7 @@ retie_all-requires-clause-behind c =
     let behind : All (λ link. link.reference.from ≡ place at → CanRetie tables (new at) c.revert.new.log.entries link) (links at) =
     AreBehind-back (items at) (links at) c.self.invariant (place at) (old at) there c.args.log.now.entries (reversible_inside first) (new at)
     c.revert.new.log.entries c.revert.ensures.slots c.revert.ensures.width c.revert.ensures.key c.revert.ensures.extent c.revert.ensures.inverted
-    (kept at there) in
+    (kept at there) (storable at there) in
     λ stored there_now.
     let same : new at ≡ stored =
     one_relation (new at) stored
@@ -178,7 +182,7 @@ invariant_of-self c =
     let there : slice_get (items at) (place at) ≡ Some (old at) = at_place first in
     IsSound-back (items at) (links at) c.self.invariant (place at) (old at) there c.args.log.now.entries (reversible_inside first) (new at)
     c.revert.new.log.entries c.revert.ensures.slots c.revert.ensures.width c.revert.ensures.key c.revert.ensures.extent c.revert.ensures.inverted
-    (kept at there) c.retie_all.new.links.items (retied (goal.at.invariant_of-self c).After-retie_all there)
+    (kept at there) (storable at there) c.retie_all.new.links.items (retied (goal.at.invariant_of-self c).After-retie_all there)
 
 pub returns-clause-back : goal.returns-clause-back
 returns-clause-back c =

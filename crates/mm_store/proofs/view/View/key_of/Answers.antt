@@ -1,9 +1,10 @@
-use Rattle.std.proofs.Common.{sym, ◌∙◌, subst}
+use Rattle.std.proofs.Common.{◌≡◌, ◌<◌, ap, sym, ◌∙◌, subst}
+use Rattle.mm_relation.specs.Kept.{StoredRows}
 use Rattle.mm_store.proofs.Joining.{one_relation}
-use Rattle.mm_store.specs.Joined.{IsTable}
+use Rattle.mm_store.proofs.Shown.{table_seen}
 use Rattle.mm_store.proofs.view.View.key_of.Goals as goal
 
-pub returns-clause-kept : goal.returns-clause-kept
-returns-clause-kept c = λ stored at.
-    subst IsTable (one_relation c.relation-relation.result.now stored (sym c.relation-relation.ensures.at ∙ at))
-    (record { few = c.relation-relation.ensures.few; kept = c.is_kept.ensures })
+pub returns-clause-within : goal.returns-clause-within
+returns-clause-within c = λ stored at.
+    let same : c.relation.result.now ≡ stored = one_relation c.relation.result.now stored (sym c.relation.ensures.at ∙ at) in
+    subst (λ n. n < stored.width) (sym (c.key.ensures ∙ ap (λ (s : StoredRows). s.key) same)) (table_seen c.args.self.now c.args.table stored at).kept.key_in

@@ -5,8 +5,8 @@ use Rattle.mm_partition.specs.Places.{IsLive, slot_at}
 use Rattle.mm_relation.specs.Kept.{StoredRows}
 use Rattle.mm_relation.specs.Reads.{Appends, AreMatches}
 use Rattle.mm_store.proofs.Joining.{one_relation}
+use Rattle.mm_store.proofs.Shown.{table_seen}
 use Rattle.mm_store.proofs.Looked.{live_matches}
-use Rattle.mm_store.specs.Joined.{IsTable}
 use Rattle.mm_store.specs.Looked.{IsIndexOn}
 use Rattle.mm_store.proofs.view.View.matches.Goals as goal
 
@@ -14,7 +14,7 @@ pub returns-clause-ok : goal.returns-clause-ok
 returns-clause-ok c =
     on_ok_weaker c.append_matches.result
     (λ each stored column at on.
-    let same : c.relation-relation.result.now ≡ stored = one_relation c.relation-relation.result.now stored (sym c.relation-relation.ensures.at ∙ at) in
+    let same : c.relation.result.now ≡ stored = one_relation c.relation.result.now stored (sym c.relation.ensures.at ∙ at) in
     subst (λ (s : StoredRows). Appends (AreMatches column (slot_at s.places) c.args.value.now s.refs) c.args.out.now.items c.append_matches.new.out.items) same
     (each column (subst (λ (s : StoredRows). IsIndexOn s column c.args.index) (sym same) on)))
     c.append_matches.ensures.ok
@@ -23,14 +23,10 @@ pub returns-clause-live : goal.returns-clause-live
 returns-clause-live c =
     on_ok_weaker c.append_matches.result
     (λ each stored at.
-    let same : c.relation-relation.result.now ≡ stored = one_relation c.relation-relation.result.now stored (sym c.relation-relation.ensures.at ∙ at) in
+    let same : c.relation.result.now ≡ stored = one_relation c.relation.result.now stored (sym c.relation.ensures.at ∙ at) in
     let (column, on) = c.requires.index stored at in
     subst (λ (s : StoredRows). All (IsLive s.places) c.args.out.now.items → All (IsLive s.places) c.append_matches.new.out.items) same
-    (live_matches c.relation-relation.result.now c.is_kept.ensures column c.args.value.now c.args.out.now.items c.append_matches.new.out.items
+    (live_matches c.relation.result.now (table_seen c.args.self.now c.args.table c.relation.result.now c.relation.ensures.at).kept column
+    c.args.value.now c.args.out.now.items c.append_matches.new.out.items
     (each column (subst (λ (s : StoredRows). IsIndexOn s column c.args.index) (sym same) on))))
     c.append_matches.ensures.ok
-
-pub returns-clause-kept : goal.returns-clause-kept
-returns-clause-kept c = λ stored at.
-    subst IsTable (one_relation c.relation-relation.result.now stored (sym c.relation-relation.ensures.at ∙ at))
-    (record { few = c.relation-relation.ensures.few; kept = c.is_kept.ensures })

@@ -6,8 +6,8 @@ use Rattle.mm_partition.specs.Places.{IsLive}
 use Rattle.mm_relation.specs.Kept.{StoredRows}
 use Rattle.mm_relation.specs.Reads.{Appends, IsRange}
 use Rattle.mm_store.proofs.Joining.{one_relation}
+use Rattle.mm_store.proofs.Shown.{table_seen}
 use Rattle.mm_store.proofs.Looked.{live_range}
-use Rattle.mm_store.specs.Joined.{IsTable}
 use Rattle.mm_store.specs.Looked.{IsIndexOn}
 use Rattle.mm_store.proofs.view.View.range.Goals as goal
 
@@ -15,7 +15,7 @@ pub returns-clause-ok : goal.returns-clause-ok
 returns-clause-ok c =
     on_ok_weaker c.append_range.result
     (λ each stored column at on.
-    let same : c.relation-relation.result.now ≡ stored = one_relation c.relation-relation.result.now stored (sym c.relation-relation.ensures.at ∙ at) in
+    let same : c.relation.result.now ≡ stored = one_relation c.relation.result.now stored (sym c.relation.ensures.at ∙ at) in
     subst (λ (s : StoredRows). Appends (IsRange column s (option_copied c.args.low) (option_copied c.args.high)) c.args.out.now.items
     c.append_range.new.out.items) same
     (each column (subst (λ (s : StoredRows). IsIndexOn s column c.args.index) (sym same) on)))
@@ -25,15 +25,11 @@ pub returns-clause-live : goal.returns-clause-live
 returns-clause-live c =
     on_ok_weaker c.append_range.result
     (λ each stored at.
-    let same : c.relation-relation.result.now ≡ stored = one_relation c.relation-relation.result.now stored (sym c.relation-relation.ensures.at ∙ at) in
+    let same : c.relation.result.now ≡ stored = one_relation c.relation.result.now stored (sym c.relation.ensures.at ∙ at) in
     let (column, on, tree) = c.requires.tree stored at in
     subst (λ (s : StoredRows). All (IsLive s.places) c.args.out.now.items → All (IsLive s.places) c.append_range.new.out.items) same
-    (live_range c.relation-relation.result.now c.is_kept.ensures column (option_copied c.args.low) (option_copied c.args.high) c.args.out.now.items
+    (live_range c.relation.result.now (table_seen c.args.self.now c.args.table c.relation.result.now c.relation.ensures.at).kept column
+    (option_copied c.args.low) (option_copied c.args.high) c.args.out.now.items
     c.append_range.new.out.items
     (each column (subst (λ (s : StoredRows). IsIndexOn s column c.args.index) (sym same) on))))
     c.append_range.ensures.ok
-
-pub returns-clause-kept : goal.returns-clause-kept
-returns-clause-kept c = λ stored at.
-    subst IsTable (one_relation c.relation-relation.result.now stored (sym c.relation-relation.ensures.at ∙ at))
-    (record { few = c.relation-relation.ensures.few; kept = c.is_kept.ensures })
