@@ -53,10 +53,9 @@ fn time(
 
 /// How many edges the cycle of a row has.
 fn edges_for(alloc: Global, query: &BoundQuery, row: &Row) -> anyhow::Result<usize> {
-    match irrelevant(alloc, query, 0, row) {
-        Ok(Some(cycle)) => Ok(cycle.edges.len()),
-        Ok(None) => Ok(0),
-        Err(refusal) => Err(anyhow::Error::msg(refusal.text())),
+    match irrelevant(alloc, query, 0, row)? {
+        Some(cycle) => Ok(cycle.edges.len()),
+        None => Ok(0),
     }
 }
 

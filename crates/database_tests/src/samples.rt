@@ -12,7 +12,7 @@ use mm_query::{
 use mm_schema::{Catalog, Columns, IndexDef, IndexKind, Name, TableDef, TableNames};
 use mm_txn::{Answer, Change, Db, Question, Request, RowReader, Rows, ShownRows, StoredRows};
 use mm_value::{Refusal, Row, Watched, WriteError};
-use std::alloc::Global;
+use std::alloc::{AllocError, Global};
 
 /// The command of a line.
 pub fn command(alloc: Global, line: &str) -> Result<Command<'_>, Refusal> {
@@ -137,12 +137,12 @@ pub fn sizes_of_bound(bound: &BoundChange) -> [usize; 3] {
     }
 }
 
-/// The lines of rows, and how many they are. `Memory` is the only refusal.
-pub fn text_of_rows(alloc: Global, rows: &[Row]) -> Result<Vec<u8>, Refusal> {
+/// The lines of rows, and how many they are. `AllocError` where memory is refused.
+pub fn text_of_rows(alloc: Global, rows: &[Row]) -> Result<Vec<u8>, AllocError> {
     let mut text = Vec::new(alloc);
     match write_rows(rows, &mut text) {
         Ok(()) => Ok(text),
-        Err(WriteError) => Err(Refusal::Memory),
+        Err(WriteError) => Err(AllocError),
     }
 }
 
@@ -255,18 +255,19 @@ fn tell_each(
 /// The same of the question of a line.
 fn tell_line(alloc: Global, database: &Db, line: &str, told: &mut Vec<u8>) -> Result<(), Refusal> {
     let question = question(alloc, line)?;
-    write(ask(alloc, database, question)?, told)
+    write(ask(alloc, database, question)?, told)?;
+    Ok(())
 }
 
-/// The text of an answer. `Memory` is the only refusal.
-pub fn text_of(alloc: Global, answer: Answer<'_>) -> Result<Vec<u8>, Refusal> {
+/// The text of an answer. `AllocError` where memory is refused.
+pub fn text_of(alloc: Global, answer: Answer<'_>) -> Result<Vec<u8>, AllocError> {
     let mut text = Vec::new(alloc);
     write(answer, &mut text)?;
     Ok(text)
 }
 
-/// Writes an answer behind what was told. `Memory` is the only refusal.
-fn write(answer: Answer<'_>, told: &mut Vec<u8>) -> Result<(), Refusal> {
+/// Writes an answer behind what was told. `AllocError` where memory is refused.
+fn write(answer: Answer<'_>, told: &mut Vec<u8>) -> Result<(), AllocError> {
     let written = match answer {
         Answer::Rows(rows) => write_answered(&rows, told),
         Answer::Steps(lines) => write_reply(&Reply::Steps(lines), &mut Watched::new(told)),
@@ -275,7 +276,7 @@ fn write(answer: Answer<'_>, told: &mut Vec<u8>) -> Result<(), Refusal> {
     };
     match written {
         Ok(()) => Ok(()),
-        Err(WriteError) => Err(Refusal::Memory),
+        Err(WriteError) => Err(AllocError),
     }
 }
 

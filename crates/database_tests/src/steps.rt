@@ -6,6 +6,7 @@ use crate::samples::{
 use mm_query::Command;
 use mm_txn::{Answer, Db};
 use mm_value::Refusal;
+use std::alloc::AllocError;
 use std::io;
 use std::process::Abort;
 use std::test::Fail;
@@ -244,7 +245,7 @@ fn look_at(
             assert_eq!(rt; told.as_slice(), expected.as_bytes(), "at {line}");
             Ok(true)
         }
-        Err(refusal) => not_so_far(rt, refusal),
+        Err(AllocError) => Ok(false),
     }
 }
 

@@ -1,11 +1,9 @@
 //! The columns by which rows of a table may be looked up.
-ghost use Rattle.std.specs.Prelude.{◌≡◌, ◌<◌, length, IfErr, OnErr};
-ghost use Rattle.mm_value.specs.declared.refusal.Refusal.TheVariants.{Memory};
+ghost use Rattle.std.specs.Prelude.{◌≡◌, ◌<◌, length, OnErr};
 
 use mm_query::{Atom, BoundQuery, Comparison, FieldPlace, Operand};
 use mm_store::View;
-use mm_value::Refusal;
-use std::alloc::Global;
+use std::alloc::{AllocError, Global};
 
 /// A table that stands in FROM.
 #[derive(Drop)]
@@ -28,10 +26,9 @@ impl FromTable<'_, '_> {
         }
     }
 
-    /// Adds the column of a field of the table if it has an index and is not among them. `Memory` is the only refusal.
-    fn add_column(&self, columns: &mut Vec<usize>, field: FieldPlace) -> Result<(), Refusal>
+    /// Adds the column of a field of the table if it has an index and is not among them. `AllocError` where memory is refused.
+    fn add_column(&self, columns: &mut Vec<usize>, field: FieldPlace) -> Result<(), AllocError>
         requires { self.now.table < length self.now.view.now.store.tables }
-        ensures { IfErr result (λ refusal. refusal ≡ Memory) }
     {
         if self.is_indexed(field) && !columns.contains(&field.column) {
             columns.push(field.column)?;
@@ -39,10 +36,13 @@ impl FromTable<'_, '_> {
         Ok(())
     }
 
-    /// Adds the columns that an equality names. `Memory` is the only refusal.
-    fn add_columns(&self, columns: &mut Vec<usize>, atom: &Atom<FieldPlace>) -> Result<(), Refusal>
+    /// Adds the columns that an equality names. `AllocError` where memory is refused.
+    fn add_columns(
+        &self,
+        columns: &mut Vec<usize>,
+        atom: &Atom<FieldPlace>,
+    ) -> Result<(), AllocError>
         requires { self.now.table < length self.now.view.now.store.tables }
-        ensures { IfErr result (λ refusal. refusal ≡ Memory) }
     {
         let Comparison::Equal = atom.comparison else {
             return Ok(());
@@ -55,17 +55,16 @@ impl FromTable<'_, '_> {
     }
 }
 
-/// The columns with an index of a table that equalities of a query name, each once. No others are looked up. `Memory` is the
-/// only refusal.
+/// The columns with an index of a table that equalities of a query name, each once. No others are looked up. `AllocError`
+/// where memory is refused.
 pub(crate) fn asked_columns(
     alloc: Global,
     view: &View<'_>,
     query: &BoundQuery,
     tables: &[usize],
     table: usize,
-) -> Result<Vec<usize>, Refusal>
+) -> Result<Vec<usize>, AllocError>
     requires { table < length view.now.store.tables }
-    ensures { IfErr result (λ refusal. refusal ≡ Memory) }
 {
     let from_table = FromTable {
         view,

@@ -1,8 +1,7 @@
 //! By how much a query's bag changes when tables are edited.
-ghost use Rattle.std.specs.Prelude.{◌≡◌, ◌≢◌, ℕ, ◌+◌, ◌<◌, ◌≤◌, ◌^◌, ◌<ℤ◌, neg_ℤ, pos, Bool, List, length, map, All, IfErr, IfOk};
+ghost use Rattle.std.specs.Prelude.{◌≡◌, ◌≢◌, ℕ, ◌+◌, ◌<◌, ◌≤◌, ◌^◌, ◌<ℤ◌, neg_ℤ, pos, Bool, List, length, map, All, IfOk};
 ghost use Rattle.std.specs.List.{IsDistinct, range_with_len, sum_by};
 ghost use Rattle.mm_value.specs.Equality.{same_row};
-ghost use Rattle.mm_value.specs.declared.refusal.Refusal.TheVariants.{Memory};
 ghost use Rattle.mm_value.specs.declared.values.Value.{Value as AnyValue};
 ghost use Rattle.mm_delta.specs.Change.{change_between};
 ghost use Rattle.mm_multiset.specs.Counts.{signed_count};
@@ -17,21 +16,20 @@ use crate::walk::Walk;
 use mm_multiset::{Signed, Tally, net_changes};
 use mm_query::BoundQuery;
 use mm_store::View;
-use mm_value::Refusal;
-use std::alloc::Global;
+use std::alloc::{AllocError, Global};
 
 /// By how much the count of each row in a query's bag changes when tables are edited: one entry for each row whose count
 /// changes, and none for any other. `tables` are the store's places of the tables of FROM, at most 4, in their order; the edits
 /// of each table fit it, and are not made yet; no atom adds a number to a text. From each table only deleted rows are read,
 /// and rows that may combine with an edited row. If a cycle shows that no combination with an edited row fits, none is read for it.
-/// `Memory` is the only refusal; nothing but the count of reads has changed then.
+/// `AllocError` where memory is refused; nothing but the count of reads has changed then.
 pub fn delta<'c, 'a: 'c>(
     alloc: Global,
     view: &mut View<'a>,
     query: &'c BoundQuery,
     tables: &'c [usize],
     changes: &'c [TableChange<'c>],
-) -> Result<Vec<Signed>, Refusal>
+) -> Result<Vec<Signed>, AllocError>
     requires few { length tables.now ≤ 4 }
     requires there { All (λ table. table < length view.old.store.tables) tables.now }
     requires fit { EachFit view.old.store changes.now }
@@ -44,7 +42,6 @@ pub fn delta<'c, 'a: 'c>(
     ensures reads { (skipped : ℕ → List AnyValue → Bool) → IsOfCyclicRows query.now skipped → view.new.reads ≤ view.old.reads
         + sum_by (term_reads query.now view.old.store changes.now tables.now skipped) (range_with_len 0 (length tables.now)) }
     ensures same { view.new.store ≡ view.old.store }
-    ensures memory { IfErr result (λ refusal. refusal ≡ Memory) }
 {
     let indexed = IndexedChanges::new(alloc, view, query, tables, changes)?;
     let mut comes = Tally::new(alloc);

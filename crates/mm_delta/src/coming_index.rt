@@ -1,8 +1,7 @@
 //! The rows that edits bring, by their values in a column.
-ghost use Rattle.std.specs.Prelude.{◌≡◌, ◌++◌, [], ◌∷◌, false, if◌then◌else◌, map, true, List, IfErr, IfOk, OnOk, Some};
+ghost use Rattle.std.specs.Prelude.{◌≡◌, ◌++◌, [], ◌∷◌, false, if◌then◌else◌, map, true, List, IfOk, OnOk, Some};
 ghost use Rattle.std.specs.List.{cons_option};
 ghost use Rattle.mm_value.specs.Equality.{same_value};
-ghost use Rattle.mm_value.specs.declared.refusal.Refusal.TheVariants.{Memory};
 ghost use Rattle.mm_value.specs.declared.values.Value.{Value as AnyValue};
 ghost use Rattle.mm_delta.specs.EditIndex.{AreUnder, HasNonePast, rows_under};
 ghost use Rattle.mm_delta.specs.Steps.{coming};
@@ -13,8 +12,8 @@ use crate::known::value_in;
 use crate::wanted::{Wanted, number_value};
 use indexmap::IndexMap;
 use mm_relation::Edit;
-use mm_value::{Refusal, Row, Value};
-use std::alloc::Global;
+use mm_value::{Row, Value};
+use std::alloc::{AllocError, Global};
 
 /// A hash index over the rows that edits bring.
 #[derive(Drop)]
@@ -26,16 +25,15 @@ pub(crate) struct ComingIndex<'c> {
 }
 
 impl<'c> ComingIndex<'c> {
-    /// An index on a column over the rows that edits bring. `Memory` is the only refusal.
+    /// An index on a column over the rows that edits bring. `AllocError` where memory is refused.
     pub(crate) fn new(
         alloc: Global,
         edits: &'c [Edit],
         column: usize,
-    ) -> Result<ComingIndex<'c>, Refusal>
+    ) -> Result<ComingIndex<'c>, AllocError>
         ensures column { IfOk result (λ index. index.column ≡ column) }
         ensures rows { IfOk result (λ index. AreUnder column edits.now index.rows.entries) }
         ensures past { IfOk result (λ index. HasNonePast index.rows.entries) }
-        ensures memory { IfErr result (λ refusal. refusal ≡ Memory) }
     {
         let mut rows = IndexMap::new(alloc);
         for edit in edits {
@@ -44,10 +42,9 @@ impl<'c> ComingIndex<'c> {
         Ok(ComingIndex { column, rows })
     }
 
-    /// Adds the rows that have a value in the column. `Memory` is the only refusal.
-    pub(crate) fn add_rows(&self, value: &Value, rows: &mut Vec<&'c Row>) -> Result<(), Refusal>
-        ensures added { OnOk result (map (λ row. row.now) rows.new.items ≡ map (λ row. row.now) rows.old.items ++ rows_under value.now self.now.rows.entries) }
-        ensures memory { IfErr result (λ refusal. refusal ≡ Memory) }
+    /// Adds the rows that have a value in the column. `AllocError` where memory is refused.
+    pub(crate) fn add_rows(&self, value: &Value, rows: &mut Vec<&'c Row>) -> Result<(), AllocError>
+        ensures { OnOk result (map (λ row. row.now) rows.new.items ≡ map (λ row. row.now) rows.old.items ++ rows_under value.now self.now.rows.entries) }
     {
         if let Some(found) = self.rows.get(value) {
             rows.extend_from_slice(found)?;
@@ -55,11 +52,14 @@ impl<'c> ComingIndex<'c> {
         Ok(())
     }
 
-    /// Adds the rows that have a wanted value in the column. `Memory` is the only refusal.
-    pub(crate) fn add_wanted(&self, wanted: &Wanted, rows: &mut Vec<&'c Row>) -> Result<(), Refusal>
+    /// Adds the rows that have a wanted value in the column. `AllocError` where memory is refused.
+    pub(crate) fn add_wanted(
+        &self,
+        wanted: &Wanted,
+        rows: &mut Vec<&'c Row>,
+    ) -> Result<(), AllocError>
         requires { HasNonePast self.now.rows.entries }
-        ensures added { OnOk result (map (λ row. row.now) rows.new.items ≡ map (λ row. row.now) rows.old.items ++ rows_under (value_wanted wanted.now) self.now.rows.entries) }
-        ensures memory { IfErr result (λ refusal. refusal ≡ Memory) }
+        ensures { OnOk result (map (λ row. row.now) rows.new.items ≡ map (λ row. row.now) rows.old.items ++ rows_under (value_wanted wanted.now) self.now.rows.entries) }
     {
         match wanted {
             Wanted::Value(value) => self.add_rows(value, rows),
@@ -71,17 +71,16 @@ impl<'c> ComingIndex<'c> {
     }
 }
 
-/// Puts the row that an edit brings, if it does, behind those under its value in a column. `Memory` is the only refusal.
+/// Puts the row that an edit brings, if it does, behind those under its value in a column. `AllocError` where memory is refused.
 fn add_edit<'c>(
     alloc: Global,
     rows: &mut IndexMap<Value, Vec<&'c Row>>,
     column: usize,
     edit: &'c Edit,
-) -> Result<(), Refusal>
+) -> Result<(), AllocError>
     ensures added { OnOk result ((value : AnyValue) → rows_under value rows.new.entries
         ≡ rows_under value rows.old.entries ++ cons_option (coming (Some (column, value)) edit.now) []) }
     ensures past { OnOk result (HasNonePast rows.old.entries → HasNonePast rows.new.entries) }
-    ensures memory { IfErr result (λ refusal. refusal ≡ Memory) }
 {
     let zero = Value::Int(0);
     match row_come(edit) {
@@ -93,16 +92,15 @@ fn add_edit<'c>(
     }
 }
 
-/// Puts a row behind those under a value. `Memory` is the only refusal.
+/// Puts a row behind those under a value. `AllocError` where memory is refused.
 fn add_row<'c>(
     alloc: Global,
     rows: &mut IndexMap<Value, Vec<&'c Row>>,
     value: &Value,
     row: &'c Row,
-) -> Result<(), Refusal>
-    ensures added { OnOk result ((other : AnyValue) → rows_under other rows.new.entries
+) -> Result<(), AllocError>
+    ensures { OnOk result ((other : AnyValue) → rows_under other rows.new.entries
         ≡ rows_under other rows.old.entries ++ (if same_value value.now other then row.now ∷ [] else [])) }
-    ensures memory { IfErr result (λ refusal. refusal ≡ Memory) }
 {
     if add_found(rows, value, row)? {
         return Ok(());
@@ -113,17 +111,16 @@ fn add_row<'c>(
     Ok(())
 }
 
-/// Puts a row behind those under a value where that has an entry, and tells whether it has. `Memory` is the only refusal.
+/// Puts a row behind those under a value where that has an entry, and tells whether it has. `AllocError` where memory is refused.
 fn add_found<'c>(
     rows: &mut IndexMap<Value, Vec<&'c Row>>,
     value: &Value,
     row: &'c Row,
-) -> Result<bool, Refusal>
+) -> Result<bool, AllocError>
     ensures added { IfOk result (λ found. found ≡ true → (other : AnyValue) → rows_under other rows.new.entries
         ≡ rows_under other rows.old.entries ++ (if same_value value.now other then row.now ∷ [] else [])) }
     ensures absent { IfOk result (λ found. found ≡ false → rows_under value.now rows.old.entries ≡ []) }
     ensures kept { IfOk result (λ found. found ≡ false → rows.new ≡ rows.old) }
-    ensures memory { IfErr result (λ refusal. refusal ≡ Memory) }
 {
     match rows.get_mut(value) {
         Some(list) => {

@@ -1,7 +1,6 @@
 //! What is found by hash among the edits of a table.
-ghost use Rattle.std.specs.Prelude.{◌≡◌, ◌++◌, ◌||◌, filter, filter_map, map, All, IfErr, IfOk, IfSome, OnOk};
+ghost use Rattle.std.specs.Prelude.{◌≡◌, ◌++◌, ◌||◌, filter, filter_map, map, All, IfOk, IfSome, OnOk};
 ghost use Rattle.std.specs.List.{list_any};
-ghost use Rattle.mm_value.specs.declared.refusal.Refusal.TheVariants.{Memory};
 ghost use Rattle.mm_value.specs.declared.row_ref.RowRef.{RowRef as Reference};
 ghost use Rattle.mm_delta.specs.EditIndex.{AreGone, AreUnder, HasNonePast, is_key_of};
 ghost use Rattle.mm_delta.specs.Steps.{asked, coming, stays, takes};
@@ -12,8 +11,8 @@ use crate::look_up::LookUp;
 use crate::rows::add_coming;
 use indexmap::IndexSet;
 use mm_relation::Edit;
-use mm_value::{Refusal, Row, RowRef};
-use std::alloc::Global;
+use mm_value::{Row, RowRef};
+use std::alloc::{AllocError, Global};
 use std::marker::Model;
 
 /// The edits of a table with hash indexes: one over the references of the rows that go, and some over the rows that come.
@@ -38,14 +37,13 @@ impl<'c> Model for EditIndex<'c> {
 }
 
 impl<'c> EditIndex<'c> {
-    /// Edits with a hash index on each of these columns over the rows that come. `Memory` is the only refusal.
+    /// Edits with a hash index on each of these columns over the rows that come. `AllocError` where memory is refused.
     pub(crate) fn new(
         alloc: Global,
         edits: &'c [Edit],
         columns: &[usize],
-    ) -> Result<EditIndex<'c>, Refusal>
-        ensures ok { IfOk result (λ index. index ≡ edits.now) }
-        ensures memory { IfErr result (λ refusal. refusal ≡ Memory) }
+    ) -> Result<EditIndex<'c>, AllocError>
+        ensures { IfOk result (λ index. index ≡ edits.now) }
     {
         Ok(EditIndex {
             edits,
@@ -83,14 +81,13 @@ impl<'c> EditIndex<'c> {
     }
 
     /// Adds those of the rows that come that have what a look-up requires, in the order of the edits. No edit is gone over where
-    /// there is an index on the column of the look-up. `Memory` is the only refusal.
+    /// there is an index on the column of the look-up. `AllocError` where memory is refused.
     pub(crate) fn add_coming(
         &self,
         rows: &mut Vec<&'c Row>,
         look_up: &Option<LookUp>,
-    ) -> Result<(), Refusal>
-        ensures added { OnOk result (map (λ row. row.now) rows.new.items ≡ map (λ row. row.now) rows.old.items ++ filter_map (coming (asked look_up.now)) self.now) }
-        ensures memory { IfErr result (λ refusal. refusal ≡ Memory) }
+    ) -> Result<(), AllocError>
+        ensures { OnOk result (map (λ row. row.now) rows.new.items ≡ map (λ row. row.now) rows.old.items ++ filter_map (coming (asked look_up.now)) self.now) }
     {
         if let Some(look_up) = look_up {
             if let Some(index) = self.coming_on(look_up.column) {
@@ -101,10 +98,12 @@ impl<'c> EditIndex<'c> {
     }
 }
 
-/// The references of the rows that edits take away, part and slot of each, in a hash table. `Memory` is the only refusal.
-pub fn references_of_gone(alloc: Global, edits: &[Edit]) -> Result<IndexSet<(usize, u8)>, Refusal>
-    ensures ok { IfOk result (λ gone. AreGone edits.now gone.keys) }
-    ensures memory { IfErr result (λ refusal. refusal ≡ Memory) }
+/// The references of the rows that edits take away, part and slot of each, in a hash table. `AllocError` where memory is refused.
+pub fn references_of_gone(
+    alloc: Global,
+    edits: &[Edit],
+) -> Result<IndexSet<(usize, u8)>, AllocError>
+    ensures { IfOk result (λ gone. AreGone edits.now gone.keys) }
 {
     let mut gone = IndexSet::new(alloc);
     for edit in edits {
@@ -113,10 +112,9 @@ pub fn references_of_gone(alloc: Global, edits: &[Edit]) -> Result<IndexSet<(usi
     Ok(gone)
 }
 
-/// Adds the reference of the row that an edit takes away, if it does. `Memory` is the only refusal.
-fn add_gone(gone: &mut IndexSet<(usize, u8)>, edit: &Edit) -> Result<(), Refusal>
-    ensures added { OnOk result ((at : Reference) → list_any (is_key_of at) gone.new.keys ≡ list_any (is_key_of at) gone.old.keys || takes at edit.now) }
-    ensures memory { IfErr result (λ refusal. refusal ≡ Memory) }
+/// Adds the reference of the row that an edit takes away, if it does. `AllocError` where memory is refused.
+fn add_gone(gone: &mut IndexSet<(usize, u8)>, edit: &Edit) -> Result<(), AllocError>
+    ensures { OnOk result ((at : Reference) → list_any (is_key_of at) gone.new.keys ≡ list_any (is_key_of at) gone.old.keys || takes at edit.now) }
 {
     if let Some(at) = row_gone(edit) {
         gone.insert((at.part, at.slot))?;
@@ -124,15 +122,14 @@ fn add_gone(gone: &mut IndexSet<(usize, u8)>, edit: &Edit) -> Result<(), Refusal
     Ok(())
 }
 
-/// A hash index on each of these columns over the rows that edits bring. `Memory` is the only refusal.
+/// A hash index on each of these columns over the rows that edits bring. `AllocError` where memory is refused.
 fn coming_by<'c>(
     alloc: Global,
     edits: &'c [Edit],
     columns: &[usize],
-) -> Result<Vec<ComingIndex<'c>>, Refusal>
+) -> Result<Vec<ComingIndex<'c>>, AllocError>
     ensures ok { IfOk result (λ indexes. All (λ index. AreUnder index.column edits.now index.rows.entries) indexes.items) }
     ensures past { IfOk result (λ indexes. All (λ index. HasNonePast index.rows.entries) indexes.items) }
-    ensures memory { IfErr result (λ refusal. refusal ≡ Memory) }
 {
     let mut indexes = Vec::new(alloc);
     for column in columns {

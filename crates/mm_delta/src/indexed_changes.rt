@@ -1,6 +1,5 @@
 //! The edits of tables, with what is found among them by hash.
-ghost use Rattle.std.specs.Prelude.{◌≡◌, ◌<◌, length, All, IfErr, IfOk};
-ghost use Rattle.mm_value.specs.declared.refusal.Refusal.TheVariants.{Memory};
+ghost use Rattle.std.specs.Prelude.{◌≡◌, ◌<◌, length, All, IfOk};
 ghost use Rattle.mm_delta.specs.Overlay.{overlay_edits};
 ghost use Rattle.mm_delta.specs.Edited.{edits_at};
 
@@ -11,8 +10,7 @@ use crate::overlay::Overlay;
 use mm_query::BoundQuery;
 use mm_relation::Edit;
 use mm_store::View;
-use mm_value::Refusal;
-use std::alloc::Global;
+use std::alloc::{AllocError, Global};
 use std::marker::Model;
 
 /// So many edits are gone over faster than they are hashed.
@@ -48,17 +46,16 @@ impl<'c> Model for IndexedChanges<'c> {
 
 impl<'c> IndexedChanges<'c> {
     /// The edits of tables. Those of a table have hash indexes where a row that is edited meets them row by row: where the table
-    /// stands in FROM before a place whose table is changed too. A few edits have none. `Memory` is the only refusal.
+    /// stands in FROM before a place whose table is changed too. A few edits have none. `AllocError` where memory is refused.
     pub(crate) fn new(
         alloc: Global,
         view: &View<'_>,
         query: &BoundQuery,
         tables: &[usize],
         changes: &'c [TableChange<'c>],
-    ) -> Result<IndexedChanges<'c>, Refusal>
+    ) -> Result<IndexedChanges<'c>, AllocError>
         requires { All (λ table. table < length view.now.store.tables) tables.now }
-        ensures ok { IfOk result (λ indexed. indexed ≡ changes.now) }
-        ensures memory { IfErr result (λ refusal. refusal ≡ Memory) }
+        ensures { IfOk result (λ indexed. indexed ≡ changes.now) }
     {
         let mut indexes: Vec<TableIndex<'c>> = Vec::new(alloc);
         for place in 0..tables.len() {

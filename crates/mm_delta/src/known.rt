@@ -1,7 +1,6 @@
 //! Values that are known of the rows that are there.
-ghost use Rattle.std.specs.Prelude.{◌≡◌, ◌-ℤ◌, pos, map, IfErr, IfOk};
+ghost use Rattle.std.specs.Prelude.{◌≡◌, ◌-ℤ◌, pos, map, IfOk};
 ghost use Rattle.std.specs.Option.{option_copied, option_map};
-ghost use Rattle.mm_value.specs.declared.refusal.Refusal.TheVariants.{Memory};
 ghost use Rattle.mm_value.specs.declared.values.Value.TheVariants.{Int};
 ghost use Rattle.mm_query.specs.Atoms.{operand_of, shifted, value_in};
 ghost use Rattle.mm_query.specs.Queries.{value_at};
@@ -9,8 +8,8 @@ ghost use Rattle.mm_delta.specs.Wanted.{value_wanted};
 
 use crate::wanted::Wanted;
 use mm_query::{FieldPlace, Operand};
-use mm_value::{Refusal, Row, Value};
-use std::alloc::Global;
+use mm_value::{Row, Value};
+use std::alloc::{AllocError, Global};
 
 /// The value of a row in a column, and this 0 past its end.
 pub(crate) fn value_in<'v>(row: &'v Row, column: usize, zero: &'v Value) -> &'v Value
@@ -38,10 +37,9 @@ pub(crate) fn value_of<'v>(
     }
 }
 
-/// A copy of a value, if there is one. `Memory` is the only refusal.
-pub(crate) fn copied(alloc: Global, value: Option<&Value>) -> Result<Option<Wanted>, Refusal>
-    ensures ok { IfOk result (λ copy. option_map value_wanted copy ≡ option_copied value.entry) }
-    ensures memory { IfErr result (λ refusal. refusal ≡ Memory) }
+/// A copy of a value, if there is one. `AllocError` where memory is refused.
+pub(crate) fn copied(alloc: Global, value: Option<&Value>) -> Result<Option<Wanted>, AllocError>
+    ensures { IfOk result (λ copy. option_map value_wanted copy ≡ option_copied value.entry) }
 {
     match value {
         Some(value) => Ok(Some(Wanted::Value(value.copy(alloc)?))),
@@ -49,14 +47,13 @@ pub(crate) fn copied(alloc: Global, value: Option<&Value>) -> Result<Option<Want
     }
 }
 
-/// A value with a number added, without bound, if there is one. A text stays. `Memory` is the only refusal.
+/// A value with a number added, without bound, if there is one. A text stays. `AllocError` where memory is refused.
 pub(crate) fn raised(
     alloc: Global,
     value: Option<&Value>,
     by: i64,
-) -> Result<Option<Wanted>, Refusal>
-    ensures ok { IfOk result (λ raised. option_map value_wanted raised ≡ option_map (shifted by) (option_copied value.entry)) }
-    ensures memory { IfErr result (λ refusal. refusal ≡ Memory) }
+) -> Result<Option<Wanted>, AllocError>
+    ensures { IfOk result (λ raised. option_map value_wanted raised ≡ option_map (shifted by) (option_copied value.entry)) }
 {
     match value {
         Some(Value::Int(number)) => Ok(Some(Wanted::Sum(i128::from(*number) + i128::from(by)))),
@@ -65,14 +62,13 @@ pub(crate) fn raised(
     }
 }
 
-/// A value with a number taken away, without bound, if there is one. A text stays. `Memory` is the only refusal.
+/// A value with a number taken away, without bound, if there is one. A text stays. `AllocError` where memory is refused.
 pub(crate) fn lowered(
     alloc: Global,
     value: Option<&Value>,
     by: i64,
-) -> Result<Option<Wanted>, Refusal>
-    ensures ok { IfOk result (λ lowered. option_map value_wanted lowered ≡ option_map (shifted (pos 0 -ℤ by)) (option_copied value.entry)) }
-    ensures memory { IfErr result (λ refusal. refusal ≡ Memory) }
+) -> Result<Option<Wanted>, AllocError>
+    ensures { IfOk result (λ lowered. option_map value_wanted lowered ≡ option_map (shifted (pos 0 -ℤ by)) (option_copied value.entry)) }
 {
     match value {
         Some(Value::Int(number)) => Ok(Some(Wanted::Sum(i128::from(*number) - i128::from(by)))),
@@ -81,14 +77,13 @@ pub(crate) fn lowered(
     }
 }
 
-/// The value of an operand, where it is known. `Memory` is the only refusal.
+/// The value of an operand, where it is known. `AllocError` where memory is refused.
 pub(crate) fn known_operand(
     alloc: Global,
     operand: &Operand<FieldPlace>,
     rows: &[Option<&Row>],
-) -> Result<Option<Wanted>, Refusal>
-    ensures ok { IfOk result (λ value. option_map value_wanted value ≡ operand_of (value_at (map option_copied rows.now)) operand.now) }
-    ensures memory { IfErr result (λ refusal. refusal ≡ Memory) }
+) -> Result<Option<Wanted>, AllocError>
+    ensures { IfOk result (λ value. option_map value_wanted value ≡ operand_of (value_at (map option_copied rows.now)) operand.now) }
 {
     let zero = Value::Int(0);
     match operand {

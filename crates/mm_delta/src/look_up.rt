@@ -1,10 +1,9 @@
 //! By which index the rows at a place are found.
-ghost use Rattle.std.specs.Prelude.{◌≡◌, ◌<◌, length, map, is_some, IfErr, IfOk, IfSome};
+ghost use Rattle.std.specs.Prelude.{◌≡◌, ◌<◌, length, map, is_some, IfOk, IfSome};
 ghost use Rattle.std.specs.Option.{option_copied};
 ghost use Rattle.mm_relation.specs.Kept.{StoredRows};
 ghost use Rattle.mm_store.specs.Looked.{IsIndexOn};
 ghost use Rattle.mm_store.specs.Tables.{IsAt};
-ghost use Rattle.mm_value.specs.declared.refusal.Refusal.TheVariants.{Memory};
 ghost use Rattle.mm_query.specs.Queries.{value_at};
 ghost use Rattle.mm_query.specs.Atoms.{operand_of};
 ghost use Rattle.mm_delta.specs.Candidates.{asked_by, asked_of, asked_of_right, required};
@@ -15,8 +14,8 @@ use crate::known::{copied, known_operand, lowered, value_of};
 use crate::wanted::Wanted;
 use mm_query::{Atom, Comparison, FieldPlace, Operand};
 use mm_store::{IndexRef, View};
-use mm_value::{Refusal, Row, Value};
-use std::alloc::Global;
+use mm_value::{Row, Value};
+use std::alloc::{AllocError, Global};
 
 /// A look-up of a value in an index.
 #[derive(Drop)]
@@ -52,13 +51,12 @@ impl Site<'_, '_> {
         self.view.index_on(self.table, column)
     }
 
-    /// The look-up by what an equality asks of its left side. `Memory` is the only refusal.
-    fn by_left(&self, alloc: Global, atom: &Atom<FieldPlace>) -> Result<Option<LookUp>, Refusal>
+    /// The look-up by what an equality asks of its left side. `AllocError` where memory is refused.
+    fn by_left(&self, alloc: Global, atom: &Atom<FieldPlace>) -> Result<Option<LookUp>, AllocError>
         requires { self.now.table < length self.now.view.now.store.tables }
         ensures ok { IfOk result (λ found. asked found ≡ asked_of (has_index self.now.view.now.store self.now.table) self.now.place atom.now.left
             (operand_of (value_at (map option_copied self.now.rows.now)) atom.now.right)) }
         ensures served { IfOk result (λ found. IfSome found (IsServed self.now.view.now.store self.now.table)) }
-        ensures memory { IfErr result (λ refusal. refusal ≡ Memory) }
     {
         if atom.left.place != self.place {
             return Ok(None);
@@ -77,13 +75,12 @@ impl Site<'_, '_> {
         }))
     }
 
-    /// The look-up by what an equality asks of its right side. `Memory` is the only refusal.
-    fn by_right(&self, alloc: Global, atom: &Atom<FieldPlace>) -> Result<Option<LookUp>, Refusal>
+    /// The look-up by what an equality asks of its right side. `AllocError` where memory is refused.
+    fn by_right(&self, alloc: Global, atom: &Atom<FieldPlace>) -> Result<Option<LookUp>, AllocError>
         requires { self.now.table < length self.now.view.now.store.tables }
         ensures ok { IfOk result (λ found. asked found ≡ asked_of_right (has_index self.now.view.now.store self.now.table) self.now.place
             (value_at (map option_copied self.now.rows.now) atom.now.left) atom.now.right) }
         ensures served { IfOk result (λ found. IfSome found (IsServed self.now.view.now.store self.now.table)) }
-        ensures memory { IfErr result (λ refusal. refusal ≡ Memory) }
     {
         let (field, by) = match &atom.right {
             Operand::Literal(_) => return Ok(None),
@@ -110,13 +107,12 @@ impl Site<'_, '_> {
         }))
     }
 
-    /// The look-up by what an atom asks. `Memory` is the only refusal.
-    fn by_atom(&self, alloc: Global, atom: &Atom<FieldPlace>) -> Result<Option<LookUp>, Refusal>
+    /// The look-up by what an atom asks. `AllocError` where memory is refused.
+    fn by_atom(&self, alloc: Global, atom: &Atom<FieldPlace>) -> Result<Option<LookUp>, AllocError>
         requires { self.now.table < length self.now.view.now.store.tables }
         ensures ok { IfOk result (λ found. asked found ≡ asked_by (has_index self.now.view.now.store self.now.table) self.now.place
             (map option_copied self.now.rows.now) atom.now atom.now.comparison) }
         ensures served { IfOk result (λ found. IfSome found (IsServed self.now.view.now.store self.now.table)) }
-        ensures memory { IfErr result (λ refusal. refusal ≡ Memory) }
     {
         let Comparison::Equal = atom.comparison else {
             return Ok(None);
@@ -127,17 +123,16 @@ impl Site<'_, '_> {
         }
     }
 
-    /// The look-up by what the first atom that does requires of a row there, if any does. `Memory` is the only refusal.
+    /// The look-up by what the first atom that does requires of a row there, if any does. `AllocError` where memory is refused.
     pub(crate) fn look_up(
         &self,
         alloc: Global,
         atoms: &[Atom<FieldPlace>],
-    ) -> Result<Option<LookUp>, Refusal>
+    ) -> Result<Option<LookUp>, AllocError>
         requires { self.now.table < length self.now.view.now.store.tables }
         ensures ok { IfOk result (λ found. asked found ≡ required (has_index self.now.view.now.store self.now.table) atoms.now
             (map option_copied self.now.rows.now) self.now.place) }
         ensures served { IfOk result (λ found. IfSome found (IsServed self.now.view.now.store self.now.table)) }
-        ensures memory { IfErr result (λ refusal. refusal ≡ Memory) }
     {
         for atom in atoms {
             if let Some(found) = self.by_atom(alloc, atom)? {

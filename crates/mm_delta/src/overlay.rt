@@ -1,6 +1,5 @@
 //! The edits that count where rows are looked for.
-ghost use Rattle.std.specs.Prelude.{◌≡◌, ◌++◌, filter, filter_map, map, IfErr, OnOk};
-ghost use Rattle.mm_value.specs.declared.refusal.Refusal.TheVariants.{Memory};
+ghost use Rattle.std.specs.Prelude.{◌≡◌, ◌++◌, filter, filter_map, map, OnOk};
 ghost use Rattle.mm_delta.specs.Overlay.{overlay_edits};
 ghost use Rattle.mm_delta.specs.Steps.{asked, coming, stays};
 
@@ -8,7 +7,8 @@ use crate::edit_index::EditIndex;
 use crate::look_up::LookUp;
 use crate::rows::{add_coming, leave_standing};
 use mm_relation::Edit;
-use mm_value::{Refusal, Row, RowRef};
+use mm_value::{Row, RowRef};
+use std::alloc::AllocError;
 
 /// The overlay of a table: its edits, which count beside its rows.
 #[derive(Drop)]
@@ -30,14 +30,13 @@ impl<'c> Overlay<'_, 'c> {
         }
     }
 
-    /// Adds those of the rows that the edits bring that have what a look-up requires. `Memory` is the only refusal.
+    /// Adds those of the rows that the edits bring that have what a look-up requires. `AllocError` where memory is refused.
     pub(crate) fn add_coming(
         &self,
         rows: &mut Vec<&'c Row>,
         look_up: &Option<LookUp>,
-    ) -> Result<(), Refusal>
-        ensures added { OnOk result (map (λ row. row.now) rows.new.items ≡ map (λ row. row.now) rows.old.items ++ filter_map (coming (asked look_up.now)) (overlay_edits self.now)) }
-        ensures memory { IfErr result (λ refusal. refusal ≡ Memory) }
+    ) -> Result<(), AllocError>
+        ensures { OnOk result (map (λ row. row.now) rows.new.items ≡ map (λ row. row.now) rows.old.items ++ filter_map (coming (asked look_up.now)) (overlay_edits self.now)) }
     {
         match self {
             Overlay::Listed(edits) => add_coming(rows, edits, look_up),

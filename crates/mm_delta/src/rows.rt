@@ -1,12 +1,11 @@
 //! The rows that are gone over at a place of FROM.
-ghost use Rattle.std.specs.Prelude.{◌≡◌, ◌+◌, ◌++◌, ◌<◌, ◌≤◌, [], filter, filter_map, length, map, All, IfErr, IfOk, IfSome, None, OnOk, Some};
+ghost use Rattle.std.specs.Prelude.{◌≡◌, ◌+◌, ◌++◌, ◌<◌, ◌≤◌, [], filter, filter_map, length, map, All, IfOk, IfSome, None, OnOk, Some};
 ghost use Rattle.mm_partition.specs.Places.{IsLive, slot_at};
 ghost use Rattle.std.specs.List.{cons_option};
 ghost use Rattle.std.specs.Option.{option_copied};
 ghost use Rattle.mm_relation.specs.Kept.{StoredRows};
 ghost use Rattle.mm_relation.specs.Refs.{row_at};
 ghost use Rattle.mm_store.specs.Tables.{IsAt};
-ghost use Rattle.mm_value.specs.declared.refusal.Refusal.TheVariants.{Memory};
 ghost use Rattle.mm_delta.specs.Candidates.{passes};
 ghost use Rattle.mm_delta.specs.Steps.{IsFoundOf, IsServed, asked, coming, stays};
 ghost use Rattle.mm_delta.specs.Wanted.{value_wanted};
@@ -17,23 +16,22 @@ use crate::look_up::LookUp;
 use crate::wanted::{Wanted, number_value};
 use mm_relation::Edit;
 use mm_store::{IndexRef, View};
-use mm_value::{Refusal, Row, RowRef, Value};
-use std::alloc::Global;
+use mm_value::{Row, RowRef, Value};
+use std::alloc::{AllocError, Global};
 
 /// The references of the rows of a table that have a value in the column of an index, each once and in no promised order. No row
-/// is read. `Memory` is the only refusal.
+/// is read. `AllocError` where memory is refused.
 fn having_value(
     alloc: Global,
     view: &View<'_>,
     table: usize,
     look_up: &LookUp,
     value: &Value,
-) -> Result<Vec<RowRef>, Refusal>
+) -> Result<Vec<RowRef>, AllocError>
     requires there { table < length view.now.store.tables }
     requires served { IsServed view.now.store table look_up.now }
-    ensures found { IfOk result (λ found. (stored : StoredRows) → IsAt view.now.store table stored
+    ensures { IfOk result (λ found. (stored : StoredRows) → IsAt view.now.store table stored
         → IsFoundOf (Some (look_up.now.column, value.now)) stored found.items) }
-    ensures memory { IfErr result (λ refusal. refusal ≡ Memory) }
 {
     let mut found = Vec::new(alloc);
     view.matches(alloc, table, look_up.index, value, &mut found)?;
@@ -41,18 +39,17 @@ fn having_value(
 }
 
 /// The references of the rows of a table that have the value of a look-up, each once and in no promised order. No row is read.
-/// `Memory` is the only refusal.
+/// `AllocError` where memory is refused.
 fn matching(
     alloc: Global,
     view: &View<'_>,
     table: usize,
     look_up: &LookUp,
-) -> Result<Vec<RowRef>, Refusal>
+) -> Result<Vec<RowRef>, AllocError>
     requires there { table < length view.now.store.tables }
     requires served { IsServed view.now.store table look_up.now }
-    ensures found { IfOk result (λ found. (stored : StoredRows) → IsAt view.now.store table stored
+    ensures { IfOk result (λ found. (stored : StoredRows) → IsAt view.now.store table stored
         → IsFoundOf (Some (look_up.now.column, value_wanted look_up.now.wanted)) stored found.items) }
-    ensures memory { IfErr result (λ refusal. refusal ≡ Memory) }
 {
     match &look_up.wanted {
         Wanted::Value(value) => having_value(alloc, view, table, look_up, value),
@@ -64,11 +61,10 @@ fn matching(
     }
 }
 
-/// The references of all rows of a table, each once and in no promised order. No row is read. `Memory` is the only refusal.
-fn all_of(alloc: Global, view: &View<'_>, table: usize) -> Result<Vec<RowRef>, Refusal>
+/// The references of all rows of a table, each once and in no promised order. No row is read. `AllocError` where memory is refused.
+fn all_of(alloc: Global, view: &View<'_>, table: usize) -> Result<Vec<RowRef>, AllocError>
     requires { table < length view.now.store.tables }
-    ensures found { IfOk result (λ found. (stored : StoredRows) → IsAt view.now.store table stored → IsFoundOf None stored found.items) }
-    ensures memory { IfErr result (λ refusal. refusal ≡ Memory) }
+    ensures { IfOk result (λ found. (stored : StoredRows) → IsAt view.now.store table stored → IsFoundOf None stored found.items) }
 {
     let mut found = Vec::new(alloc);
     view.range(alloc, table, IndexRef::Key, None, None, &mut found)?;
@@ -76,17 +72,16 @@ fn all_of(alloc: Global, view: &View<'_>, table: usize) -> Result<Vec<RowRef>, R
 }
 
 /// The references of the rows of a table that have what a look-up requires, or of all rows where there is none, each once and in
-/// no promised order. No row is read. `Memory` is the only refusal.
+/// no promised order. No row is read. `AllocError` where memory is refused.
 pub(crate) fn references(
     alloc: Global,
     view: &View<'_>,
     table: usize,
     look_up: &Option<LookUp>,
-) -> Result<Vec<RowRef>, Refusal>
+) -> Result<Vec<RowRef>, AllocError>
     requires there { table < length view.now.store.tables }
     requires served { IfSome look_up.now (IsServed view.now.store table) }
-    ensures found { IfOk result (λ found. (stored : StoredRows) → IsAt view.now.store table stored → IsFoundOf (asked look_up.now) stored found.items) }
-    ensures memory { IfErr result (λ refusal. refusal ≡ Memory) }
+    ensures { IfOk result (λ found. (stored : StoredRows) → IsAt view.now.store table stored → IsFoundOf (asked look_up.now) stored found.items) }
 {
     match look_up {
         Some(look_up) => matching(alloc, view, table, look_up),
@@ -103,20 +98,19 @@ pub(crate) fn leave_standing(edits: &[Edit], refs: &mut Vec<RowRef>)
     }
 }
 
-/// The rows of references. Each is read once. `Memory` is the only refusal.
+/// The rows of references. Each is read once. `AllocError` where memory is refused.
 pub(crate) fn read_all<'c, 'a: 'c>(
     alloc: Global,
     view: &mut View<'a>,
     table: usize,
     refs: &[RowRef],
-) -> Result<Vec<&'c Row>, Refusal>
+) -> Result<Vec<&'c Row>, AllocError>
     requires there { table < length view.old.store.tables }
     requires live { (stored : StoredRows) → IsAt view.old.store table stored → All (IsLive stored.places) refs.now }
     ensures rows { IfOk result (λ rows. (stored : StoredRows) → IsAt view.old.store table stored
         → map (λ row. row.now) rows.items ≡ map (row_at (slot_at stored.places)) refs.now) }
     ensures reads { view.new.reads ≤ view.old.reads + length refs.now }
     ensures same { view.new.store ≡ view.old.store }
-    ensures memory { IfErr result (λ refusal. refusal ≡ Memory) }
 {
     let mut rows = Vec::new(alloc);
     for at in refs {
@@ -146,10 +140,9 @@ fn coming<'c>(edit: &'c Edit, look_up: &Option<LookUp>) -> Option<&'c Row>
     }
 }
 
-/// Adds a row, if there is one. `Memory` is the only refusal.
-fn push_some<'c>(rows: &mut Vec<&'c Row>, row: Option<&'c Row>) -> Result<(), Refusal>
-    ensures added { OnOk result (map (λ row. row.now) rows.new.items ≡ map (λ row. row.now) rows.old.items ++ cons_option (option_copied row.entry) []) }
-    ensures memory { IfErr result (λ refusal. refusal ≡ Memory) }
+/// Adds a row, if there is one. `AllocError` where memory is refused.
+fn push_some<'c>(rows: &mut Vec<&'c Row>, row: Option<&'c Row>) -> Result<(), AllocError>
+    ensures { OnOk result (map (λ row. row.now) rows.new.items ≡ map (λ row. row.now) rows.old.items ++ cons_option (option_copied row.entry) []) }
 {
     if let Some(row) = row {
         rows.push(row)?;
@@ -157,14 +150,13 @@ fn push_some<'c>(rows: &mut Vec<&'c Row>, row: Option<&'c Row>) -> Result<(), Re
     Ok(())
 }
 
-/// Adds those of the rows that edits bring that have what a look-up requires. `Memory` is the only refusal.
+/// Adds those of the rows that edits bring that have what a look-up requires. `AllocError` where memory is refused.
 pub(crate) fn add_coming<'c>(
     rows: &mut Vec<&'c Row>,
     edits: &'c [Edit],
     look_up: &Option<LookUp>,
-) -> Result<(), Refusal>
-    ensures added { OnOk result (map (λ row. row.now) rows.new.items ≡ map (λ row. row.now) rows.old.items ++ filter_map (coming (asked look_up.now)) edits.now) }
-    ensures memory { IfErr result (λ refusal. refusal ≡ Memory) }
+) -> Result<(), AllocError>
+    ensures { OnOk result (map (λ row. row.now) rows.new.items ≡ map (λ row. row.now) rows.old.items ++ filter_map (coming (asked look_up.now)) edits.now) }
 {
     for edit in edits {
         push_some(rows, coming(edit, look_up))?;

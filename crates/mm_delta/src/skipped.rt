@@ -1,12 +1,11 @@
 //! Edited rows that are left out, each for a cycle that was checked.
-ghost use Rattle.std.specs.Prelude.{◌≡◌, ◌↔◌, true, IfErr, IfOk, IsTrue, MatchOption};
+ghost use Rattle.std.specs.Prelude.{◌≡◌, ◌↔◌, true, IfOk, IsTrue, MatchOption};
 ghost use Rattle.mm_relevance.specs.Relevance.{IsAccepted, IsCyclic};
-ghost use Rattle.mm_value.specs.declared.refusal.Refusal.TheVariants.{Memory};
 
 use mm_query::BoundQuery;
 use mm_relevance::{Cycle, check_cycle, irrelevant};
-use mm_value::{Refusal, Row};
-use std::alloc::Global;
+use mm_value::Row;
+use std::alloc::{AllocError, Global};
 
 /// Whether a certificate shows that no combination with this row at this place of FROM fits the query. It may be any: where it
 /// holds a cycle, this is checked.
@@ -21,15 +20,14 @@ fn is_shown(query: &BoundQuery, place: usize, row: &Row, certificate: &Option<Cy
 }
 
 /// Whether this row is left out at this place of FROM: a cycle of at most 32 edges, which was checked, shows that no combination
-/// with it fits the query. Where there is such a cycle, it is. `Memory` is the only refusal.
+/// with it fits the query. Where there is such a cycle, it is. `AllocError` where memory is refused.
 pub(crate) fn is_skipped(
     alloc: Global,
     query: &BoundQuery,
     place: usize,
     row: &Row,
-) -> Result<bool, Refusal>
-    ensures ok { IfOk result (λ skipped. IsTrue skipped ↔ IsCyclic query.now place row.now) }
-    ensures memory { IfErr result (λ refusal. refusal ≡ Memory) }
+) -> Result<bool, AllocError>
+    ensures { IfOk result (λ skipped. IsTrue skipped ↔ IsCyclic query.now place row.now) }
 {
     let certificate = irrelevant(alloc, query, place, row)?;
     Ok(is_shown(query, place, row, &certificate))

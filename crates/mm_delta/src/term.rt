@@ -1,7 +1,6 @@
 //! What the edited rows at one place of FROM add.
-ghost use Rattle.std.specs.Prelude.{◌≡◌, ℕ, ◌+◌, ◌<◌, ◌≤◌, Bool, [], ◌∷◌, List, get_or, length, map, All, IfErr, OnOk};
+ghost use Rattle.std.specs.Prelude.{◌≡◌, ℕ, ◌+◌, ◌<◌, ◌≤◌, Bool, [], ◌∷◌, List, get_or, length, map, All, OnOk};
 ghost use Rattle.std.specs.List.{sum_by};
-ghost use Rattle.mm_value.specs.declared.refusal.Refusal.TheVariants.{Memory};
 ghost use Rattle.mm_value.specs.declared.values.Value.{Value as AnyValue};
 ghost use Rattle.mm_query.specs.Queries.{bag_of};
 ghost use Rattle.mm_multiset.specs.Counts.{count_in, count_of};
@@ -15,19 +14,19 @@ use crate::unseen::Sight;
 use crate::walk::Walk;
 use mm_multiset::Tally;
 use mm_store::View;
-use mm_value::{Refusal, Row};
-use std::alloc::Global;
+use mm_value::Row;
+use std::alloc::{AllocError, Global};
 
 impl<'c> Walk<'_, 'c> {
     /// Counts the projected row of each fitting combination that has one of these rows at the place of the edited row, for each
-    /// of them. `Memory` is the only refusal.
+    /// of them. `AllocError` where memory is refused.
     pub(crate) fn from_rows<'a: 'c>(
         &self,
         alloc: Global,
         view: &mut View<'a>,
         rows: &[&'c Row],
         out: &mut Tally,
-    ) -> Result<(), Refusal>
+    ) -> Result<(), AllocError>
         requires place { self.now.place < length self.now.tables.now }
         requires few { length self.now.tables.now ≤ 4 }
         requires there { HasTables self.now.tables.now view.old.store (other_places (length self.now.tables.now) self.now.place) }
@@ -42,7 +41,6 @@ impl<'c> Walk<'_, 'c> {
             + sum_by (row_reads self.now.query.now view.old.store self.now.changes.now self.now.tables.now skipped self.now.place)
             (map (λ row. row.now) rows.now) }
         ensures same { view.new.store ≡ view.old.store }
-        ensures memory { IfErr result (λ refusal. refusal ≡ Memory) }
     {
         for row in rows {
             self.from_row(alloc, view, *row, out)?;
@@ -52,14 +50,14 @@ impl<'c> Walk<'_, 'c> {
 
     /// Counts the projected row of each fitting combination that has an edited row at the place of one: those with a row that
     /// comes into the one bag, those with a row that goes into the other. Where a row comes in the place of one of which the query
-    /// makes the same, neither is counted, since they would be counted alike. `Memory` is the only refusal.
+    /// makes the same, neither is counted, since they would be counted alike. `AllocError` where memory is refused.
     pub(crate) fn add_term<'a: 'c>(
         &self,
         alloc: Global,
         view: &mut View<'a>,
         comes: &mut Tally,
         goes: &mut Tally,
-    ) -> Result<(), Refusal>
+    ) -> Result<(), AllocError>
         requires place { self.now.place < length self.now.tables.now }
         requires few { length self.now.tables.now ≤ 4 }
         requires there { All (λ table. table < length view.old.store.tables) self.now.tables.now }
@@ -74,7 +72,6 @@ impl<'c> Walk<'_, 'c> {
         ensures reads { (skipped : ℕ → List AnyValue → Bool) → IsOfCyclicRows self.now.query.now skipped → view.new.reads ≤ view.old.reads
             + term_reads self.now.query.now view.old.store self.now.changes.now self.now.tables.now skipped self.now.place }
         ensures same { view.new.store ≡ view.old.store }
-        ensures memory { IfErr result (λ refusal. refusal ≡ Memory) }
     {
         let table = self.tables[self.place];
         let sight = Sight {

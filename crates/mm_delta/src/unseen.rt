@@ -1,20 +1,19 @@
 //! What a query sees of edits: nothing of a row that changes in other columns than it reads.
-ghost use Rattle.std.specs.Prelude.{◌≡◌, ◌+◌, ◌++◌, ◌∷◌, ◌<◌, ◌≤◌, [], filter_map, length, map, All, IfErr, IfOk, OnOk};
+ghost use Rattle.std.specs.Prelude.{◌≡◌, ◌+◌, ◌++◌, ◌∷◌, ◌<◌, ◌≤◌, [], filter_map, length, map, All, IfOk, OnOk};
 ghost use Rattle.std.specs.List.{cons_option, list_all};
 ghost use Rattle.mm_partition.specs.Places.{IsLive, slot_at};
 ghost use Rattle.mm_relation.specs.Edits.{edit_name, named};
 ghost use Rattle.mm_relation.specs.Kept.{StoredRows};
 ghost use Rattle.mm_relation.specs.declared.indexes.names.Side.TheVariants.{Old};
 ghost use Rattle.mm_store.specs.Tables.{AreFit, IsAt};
-ghost use Rattle.mm_value.specs.declared.refusal.Refusal.TheVariants.{Memory};
 ghost use Rattle.mm_delta.specs.Unseen.{agree_for, agree_in, come_seen, gone_seen, looks_alike};
 
 use crate::known::value_in;
 use mm_query::{Atom, BoundQuery, FieldPlace};
 use mm_relation::Edit;
 use mm_store::View;
-use mm_value::{Refusal, Row, Value};
-use std::alloc::Global;
+use mm_value::{Row, Value};
+use std::alloc::{AllocError, Global};
 
 /// The rows by which edits of a table change what a query makes of it at a place of FROM.
 #[derive(Drop)]
@@ -76,14 +75,14 @@ impl<'c> Sight<'c> {
     }
 
     /// Adds the rows that go and come by an edit of a table, unless the query makes the same of both. A row that goes is read once.
-    /// `Memory` is the only refusal.
+    /// `AllocError` where memory is refused.
     fn add_seen<'a: 'c>(
         &self,
         view: &mut View<'a>,
         table: usize,
         edit: &'c Edit,
         seen: &mut SeenRows<'c>,
-    ) -> Result<(), Refusal>
+    ) -> Result<(), AllocError>
         requires there { table < length view.old.store.tables }
         requires live { (stored : StoredRows) → IsAt view.old.store table stored → All (IsLive stored.places) (named edit_name Old (edit.now ∷ [])) }
         ensures gone { OnOk result ((stored : StoredRows) → IsAt view.old.store table stored → map (λ row. row.now) seen.new.gone.items
@@ -92,7 +91,6 @@ impl<'c> Sight<'c> {
             ≡ map (λ row. row.now) seen.old.come.items ++ cons_option (come_seen self.now.query.now self.now.place (slot_at stored.places) edit.entry.now) []) }
         ensures reads { view.new.reads ≤ view.old.reads + length (named edit_name Old (edit.entry.now ∷ [])) }
         ensures same { view.new.store ≡ view.old.store }
-        ensures memory { IfErr result (λ refusal. refusal ≡ Memory) }
     {
         match edit {
             Edit::Add(row) => seen.come.push(row)?,
@@ -109,14 +107,14 @@ impl<'c> Sight<'c> {
     }
 
     /// The rows that go and come by edits of a table, but for those that change in columns that the query does not read. Each row
-    /// that goes or changes is read once. `Memory` is the only refusal.
+    /// that goes or changes is read once. `AllocError` where memory is refused.
     pub(crate) fn seen_rows<'a: 'c>(
         &self,
         alloc: Global,
         view: &mut View<'a>,
         table: usize,
         edits: &'c [Edit],
-    ) -> Result<SeenRows<'c>, Refusal>
+    ) -> Result<SeenRows<'c>, AllocError>
         requires there { table < length view.old.store.tables }
         requires fit { (stored : StoredRows) → IsAt view.old.store table stored → AreFit stored edits.now }
         ensures gone { IfOk result (λ seen. (stored : StoredRows) → IsAt view.old.store table stored
@@ -125,7 +123,6 @@ impl<'c> Sight<'c> {
             → map (λ row. row.now) seen.come.items ≡ filter_map (come_seen self.now.query.now self.now.place (slot_at stored.places)) edits.now) }
         ensures reads { view.new.reads ≤ view.old.reads + length (named edit_name Old edits.now) }
         ensures same { view.new.store ≡ view.old.store }
-        ensures memory { IfErr result (λ refusal. refusal ≡ Memory) }
     {
         let mut seen = SeenRows {
             gone: Vec::new(alloc),

@@ -1,6 +1,5 @@
 //! The combinations that have an edited row at one place of FROM.
-ghost use Rattle.std.specs.Prelude.{◌≡◌, ◌↔◌, ◌⊎◌, ℕ, ◌+◌, ◌<◌, ◌≤◌, Bool, false, [], ◌∷◌, List, length, map, get_or, IfErr, IfOk, IfSome, IsTrue, OnOk};
-ghost use Rattle.mm_value.specs.declared.refusal.Refusal.TheVariants.{Memory};
+ghost use Rattle.std.specs.Prelude.{◌≡◌, ◌↔◌, ◌⊎◌, ℕ, ◌+◌, ◌<◌, ◌≤◌, Bool, false, [], ◌∷◌, List, length, map, get_or, IfOk, IfSome, IsTrue, OnOk};
 ghost use Rattle.mm_value.specs.declared.values.Value.{Value as AnyValue};
 ghost use Rattle.mm_query.specs.Queries.{bag_of, none_fails as none_fails_lem};
 ghost use Rattle.mm_delta.specs.Overlay.{overlay_edits};
@@ -24,8 +23,8 @@ use arrayvec::ArrayVec;
 use mm_multiset::Tally;
 use mm_query::{BoundQuery, MAX_FROM, none_fails, values_of};
 use mm_store::View;
-use mm_value::{Refusal, Row};
-use std::alloc::Global;
+use mm_value::Row;
+use std::alloc::{AllocError, Global};
 
 /// What is walked: a query, a change, and the place of FROM that has an edited row.
 #[derive(Drop)]
@@ -52,19 +51,18 @@ impl<'w, 'c> Walk<'w, 'c> {
         }
     }
 
-    /// The look-up of the rows at a place, if one serves. `Memory` is the only refusal.
+    /// The look-up of the rows at a place, if one serves. `AllocError` where memory is refused.
     fn look_up_at(
         &self,
         alloc: Global,
         view: &View<'_>,
         chosen: &Chosen<'c>,
         place: usize,
-    ) -> Result<Option<LookUp>, Refusal>
+    ) -> Result<Option<LookUp>, AllocError>
         requires { (place < length self.now.tables.now) × (get_or self.now.tables.now place 0 < length view.now.store.tables) }
         ensures ok { IfOk result (λ found. asked found
             ≡ required (has_index view.now.store (get_or self.now.tables.now place 0)) self.now.query.now.atoms chosen.now place) }
         ensures served { IfOk result (λ found. IfSome found (IsServed view.now.store (get_or self.now.tables.now place 0))) }
-        ensures memory { IfErr result (λ refusal. refusal ≡ Memory) }
     {
         let site = Site {
             view,
@@ -76,14 +74,14 @@ impl<'w, 'c> Walk<'w, 'c> {
     }
 
     /// The rows at a place that have what is required of them: before the place of the edited row those after the change, behind
-    /// it those before the change. Only rows that were there before are read. `Memory` is the only refusal.
+    /// it those before the change. Only rows that were there before are read. `AllocError` where memory is refused.
     fn rows_at<'a: 'c>(
         &self,
         alloc: Global,
         view: &mut View<'a>,
         chosen: &Chosen<'c>,
         place: usize,
-    ) -> Result<Vec<&'c Row>, Refusal>
+    ) -> Result<Vec<&'c Row>, AllocError>
         requires there { (place < length self.now.tables.now) × (get_or self.now.tables.now place 0 < length view.old.store.tables) }
         requires fit { EachFit view.old.store self.now.changes.now }
         ensures rows { IfOk result (λ rows. AreAlike (map (λ row. row.now) rows.items)
@@ -93,7 +91,6 @@ impl<'w, 'c> Walk<'w, 'c> {
             + length (having (required (has_index view.old.store (get_or self.now.tables.now place 0)) self.now.query.now.atoms chosen.now place)
             (before_at view.old.store (get_or self.now.tables.now place 0))) }
         ensures same { view.new.store ≡ view.old.store }
-        ensures memory { IfErr result (λ refusal. refusal ≡ Memory) }
     {
         let table = self.tables[place];
         let look_up = self.look_up_at(alloc, view, chosen, place)?;
@@ -105,8 +102,8 @@ impl<'w, 'c> Walk<'w, 'c> {
         Ok(rows)
     }
 
-    /// Counts the projected row of each fitting combination that completes the chosen rows by rows at the other places. `Memory`
-    /// is the only refusal.
+    /// Counts the projected row of each fitting combination that completes the chosen rows by rows at the other places.
+    /// `AllocError` where memory is refused.
     pub(crate) fn extend<'a: 'c>(
         &self,
         alloc: Global,
@@ -114,7 +111,7 @@ impl<'w, 'c> Walk<'w, 'c> {
         chosen: &Chosen<'c>,
         others: &[usize],
         out: &mut Tally,
-    ) -> Result<(), Refusal>
+    ) -> Result<(), AllocError>
         requires vacant { AreOpen others.now chosen.now }
         requires there { HasTables self.now.tables.now view.old.store others.now }
         requires fit { EachFit view.old.store self.now.changes.now }
@@ -123,7 +120,6 @@ impl<'w, 'c> Walk<'w, 'c> {
         ensures reads { view.new.reads ≤ view.old.reads
             + reads_for self.now.query.now view.old.store self.now.changes.now self.now.tables.now self.now.place others.now chosen.now }
         ensures same { view.new.store ≡ view.old.store }
-        ensures memory { IfErr result (λ refusal. refusal ≡ Memory) }
     {
         if !none_fails(self.query.atoms.as_slice(), chosen.as_slice()) {
             return Ok(());
@@ -145,11 +141,10 @@ impl<'w, 'c> Walk<'w, 'c> {
     }
 
     /// Whether the row at the place of the edited row, of which alone these rows consist, is left out, since no combination with
-    /// it fits: an atom is false of it already, or it has a cycle. No row is read. `Memory` is the only refusal.
-    fn is_left_out(&self, alloc: Global, chosen: &Chosen<'c>, row: &Row) -> Result<bool, Refusal>
-        ensures ok { IfOk result (λ left_out. IsTrue left_out
+    /// it fits: an atom is false of it already, or it has a cycle. No row is read. `AllocError` where memory is refused.
+    fn is_left_out(&self, alloc: Global, chosen: &Chosen<'c>, row: &Row) -> Result<bool, AllocError>
+        ensures { IfOk result (λ left_out. IsTrue left_out
             ↔ ((none_fails_lem self.now.query.now.atoms chosen.now ≡ false) ⊎ IsCyclic self.now.query.now self.now.place row.now)) }
-        ensures memory { IfErr result (λ refusal. refusal ≡ Memory) }
     {
         if !none_fails(self.query.atoms.as_slice(), chosen.as_slice()) {
             return Ok(true);
@@ -158,14 +153,14 @@ impl<'w, 'c> Walk<'w, 'c> {
     }
 
     /// Counts the projected row of each fitting combination that has this row at the place of the edited row. Nothing is read
-    /// where the row has a cycle, or an atom is false of it already. `Memory` is the only refusal.
+    /// where the row has a cycle, or an atom is false of it already. `AllocError` where memory is refused.
     pub(crate) fn from_row<'a: 'c>(
         &self,
         alloc: Global,
         view: &mut View<'a>,
         row: &'c Row,
         out: &mut Tally,
-    ) -> Result<(), Refusal>
+    ) -> Result<(), AllocError>
         requires place { self.now.place < length self.now.tables.now }
         requires few { length self.now.tables.now ≤ 4 }
         requires there { HasTables self.now.tables.now view.old.store (other_places_lem (length self.now.tables.now) self.now.place) }
@@ -178,7 +173,6 @@ impl<'w, 'c> Walk<'w, 'c> {
         ensures reads { (skipped : ℕ → List AnyValue → Bool) → IsOfCyclicRows self.now.query.now skipped → view.new.reads ≤ view.old.reads
             + row_reads self.now.query.now view.old.store self.now.changes.now self.now.tables.now skipped self.now.place row.now }
         ensures same { view.new.store ≡ view.old.store }
-        ensures memory { IfErr result (λ refusal. refusal ≡ Memory) }
     {
         let places = self.tables.len();
         let chosen = Chosen::new(places).with(self.place, row);

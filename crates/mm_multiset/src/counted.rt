@@ -1,6 +1,5 @@
 //! Bags of rows kept as counts.
-ghost use Rattle.std.specs.Prelude.{◌≡◌, ◌+◌, ◌≤◌, ◌<◌, ◌^◌, ◌⊎◌, pos, ◌+ℤ◌, ◌≤ℤ◌, ◌<ℤ◌, true, [], ◌++◌, false, length, List, neg_ℤ, not, replicate, Some, slice_get, IfErr, IfOk, OnOk, OnErr};
-ghost use Rattle.mm_value.specs.declared.refusal.Refusal.TheVariants.{Memory};
+ghost use Rattle.std.specs.Prelude.{◌≡◌, ◌+◌, ◌≤◌, ◌<◌, ◌^◌, ◌⊎◌, pos, ◌+ℤ◌, ◌≤ℤ◌, ◌<ℤ◌, true, [], ◌++◌, false, length, List, neg_ℤ, not, replicate, Some, slice_get, IfOk, OnOk, OnErr};
 ghost use Rattle.indexmap.specs.IndexMap.{spare};
 ghost use Rattle.std.specs.List.{AllByRecursion};
 ghost use Rattle.mm_multiset.specs.Counts.{Adds, AddsAll, Entries, IsOnce, count_in, count_of, has_entry, rows_of, signed_count, total_of};
@@ -11,8 +10,8 @@ ghost use Rattle.mm_value.specs.declared.values.Value.{Value as Val};
 use crate::signed::Signed;
 use indexmap::IndexMap;
 use indexmap::map::{IntoIter, Iter};
-use mm_value::{Refusal, Row};
-use std::alloc::Global;
+use mm_value::Row;
+use std::alloc::{AllocError, Global};
 use std::marker::Model;
 
 /// A bag of rows kept as counts: each row that it has, or had, has one entry with its count.
@@ -45,15 +44,13 @@ impl Counted {
         }
     }
 
-    /// Makes room for `n` new entries. `Memory` is the only refusal.
-    pub fn reserve(&mut self, n: usize) -> Result<(), Refusal>
+    /// Makes room for `n` new entries. `AllocError` where memory is refused.
+    pub fn reserve(&mut self, n: usize) -> Result<(), AllocError>
         ensures room { OnOk result (n ≤ self.new.room) }
         ensures entries { self.new.entries ≡ self.old.entries }
         ensures kept { self.old.room ≤ self.new.room }
-        ensures memory { IfErr result (λ e. e ≡ Memory) }
     {
-        self.counts.reserve(n)?;
-        Ok(())
+        self.counts.reserve(n)
     }
 
     /// The number of entries.
@@ -143,26 +140,24 @@ impl Counted {
         change_found(&mut self.counts, row, *count);
     }
 
-    /// Adds 1 to the count of a row, and makes room for its entry where that is needed. `Memory` is the only refusal; it is
-    /// answered for a total of 2^64 too. The entries are as before then.
-    pub fn count_up(&mut self, row: Row) -> Result<(), Refusal>
+    /// Adds 1 to the count of a row, and makes room for its entry where that is needed. `AllocError` where memory is refused or the
+    /// total would be 2^64. The entries are as before then.
+    pub fn count_up(&mut self, row: Row) -> Result<(), AllocError>
         ensures counted { OnOk result (Adds (record { row = row; count = pos 1 }) self.old.entries self.new.entries) }
         ensures unchanged { OnErr result (self.new.entries ≡ self.old.entries) }
-        ensures memory { IfErr result (λ e. e ≡ Memory) }
     {
         if self.total == usize::MAX {
-            return Err(Refusal::Memory);
+            return Err(AllocError);
         }
         self.reserve(1)?;
         self.add(Signed { row, count: 1 });
         Ok(())
     }
 
-    /// A copy of each row, as often as its count says, in the order of the entries. `Memory` is the only refusal.
-    pub fn list(&self, alloc: Global) -> Result<Vec<Row>, Refusal>
+    /// A copy of each row, as often as its count says, in the order of the entries. `AllocError` where memory is refused.
+    pub fn list(&self, alloc: Global) -> Result<Vec<Row>, AllocError>
         ensures rows { IfOk result (λ rows. rows.items ≡ rows_of self.now.entries) }
         ensures counts { IfOk result (λ rows. (row : List Val) → count_of row rows.items ≡ count_in row self.now.entries) }
-        ensures memory { IfErr result (λ e. e ≡ Memory) }
     {
         let mut rows = Vec::with_capacity(alloc, self.total)?;
         for (row, count) in self.counts.iter() {
@@ -200,9 +195,13 @@ pub fn counts_are_undone()
 {}
 
 // Puts copies of a row at the end of a list.
-fn push_copies(rows: &mut Vec<Row>, alloc: Global, row: &Row, count: usize) -> Result<(), Refusal>
-    ensures ok { OnOk result (rows.new.items ≡ rows.old.items ++ replicate count row.now) }
-    ensures memory { IfErr result (λ e. e ≡ Memory) }
+fn push_copies(
+    rows: &mut Vec<Row>,
+    alloc: Global,
+    row: &Row,
+    count: usize,
+) -> Result<(), AllocError>
+    ensures { OnOk result (rows.new.items ≡ rows.old.items ++ replicate count row.now) }
 {
     for _ in 0..count {
         rows.push(row.copy(alloc)?)?;

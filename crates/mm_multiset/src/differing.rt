@@ -1,28 +1,25 @@
 //! How the counts of two bags differ.
-ghost use Rattle.std.specs.Prelude.{◌≡◌, ◌≢◌, ◌^◌, pos, neg_ℤ, ◌-ℤ◌, ◌<ℤ◌, List, All, map, if◌then◌else◌, IfErr, IfOk, OnOk};
+ghost use Rattle.std.specs.Prelude.{◌≡◌, ◌≢◌, ◌^◌, pos, neg_ℤ, ◌-ℤ◌, ◌<ℤ◌, List, All, map, if◌then◌else◌, IfOk, OnOk};
 ghost use Rattle.std.specs.List.{IsDistinct};
 ghost use Rattle.mm_value.specs.Equality.{same_row};
-ghost use Rattle.mm_value.specs.declared.refusal.Refusal.TheVariants.{Memory};
 ghost use Rattle.mm_value.specs.declared.values.Value.{Value as Val};
 ghost use Rattle.mm_multiset.specs.Counts.{IsNet, count_in, has_entry, signed_count};
 
 use crate::counted::Counted;
 use crate::signed::Signed;
-use mm_value::Refusal;
-use std::alloc::Global;
+use std::alloc::{AllocError, Global};
 
 /// For each row whose counts in the two bags differ, the row once, with its count in `comes` less its count in `goes`, which
-/// lies between -2^64 and 2^64. A row without an entry counts as 0. `Memory` is the only refusal.
+/// lies between -2^64 and 2^64. A row without an entry counts as 0. `AllocError` where memory is refused.
 pub(crate) fn difference(
     alloc: Global,
     comes: &Counted,
     goes: Counted,
-) -> Result<Vec<Signed>, Refusal>
+) -> Result<Vec<Signed>, AllocError>
     ensures change { IfOk result (λ found. (row : List Val) → signed_count row found.items ≡ pos (count_in row comes.now.entries) -ℤ pos (count_in row goes.entries)) }
     ensures once { IfOk result (λ found. IsDistinct same_row (map (λ change. change.row) found.items)) }
     ensures nonzero { IfOk result (λ found. All (λ change. change.count ≢ pos 0) found.items) }
     ensures small { IfOk result (λ found. All (λ change. (neg_ℤ (pos (2 ^ 64)) <ℤ change.count) × (change.count <ℤ pos (2 ^ 64))) found.items) }
-    ensures memory { IfErr result (λ e. e ≡ Memory) }
 {
     let mut found = changes_of_entries(alloc, comes, &goes)?;
     push_gone(&mut found, comes, goes)?;
@@ -34,10 +31,9 @@ fn changes_of_entries(
     alloc: Global,
     comes: &Counted,
     goes: &Counted,
-) -> Result<Vec<Signed>, Refusal>
+) -> Result<Vec<Signed>, AllocError>
     ensures counts { IfOk result (λ found. (row : List Val) → signed_count row found.items ≡ (if has_entry row comes.now.entries then pos (count_in row comes.now.entries) -ℤ pos (count_in row goes.now.entries) else pos 0)) }
     ensures net { IfOk result (λ found. IsNet found.items) }
-    ensures memory { IfErr result (λ e. e ≡ Memory) }
 {
     let mut found = Vec::new(alloc);
     for (row, count) in comes.entries() {
@@ -53,12 +49,11 @@ fn changes_of_entries(
 }
 
 // Puts the changes of the rows that have no entry in `comes` at the end of those of the rows that have one.
-fn push_gone(found: &mut Vec<Signed>, comes: &Counted, goes: Counted) -> Result<(), Refusal>
+fn push_gone(found: &mut Vec<Signed>, comes: &Counted, goes: Counted) -> Result<(), AllocError>
     requires counts { (row : List Val) → signed_count row found.old.items ≡ (if has_entry row comes.now.entries then pos (count_in row comes.now.entries) -ℤ pos (count_in row goes.entries) else pos 0) }
     requires net { IsNet found.old.items }
     ensures counts { OnOk result ((row : List Val) → signed_count row found.new.items ≡ pos (count_in row comes.now.entries) -ℤ pos (count_in row goes.entries)) }
     ensures net { OnOk result (IsNet found.new.items) }
-    ensures memory { IfErr result (λ e. e ≡ Memory) }
 {
     for (row, count) in goes.into_entries() {
         if count != 0 && !comes.has_entry(&row) {

@@ -1,23 +1,25 @@
 //! Changes of a few rows, which are found by comparing one after another.
-ghost use Rattle.std.specs.Prelude.{◌≡◌, ◌≢◌, ◌<◌, ◌-ℤ◌, ◌+ℤ◌, ℕ, false, true, filter, length, map, slice_index_or, slice_set, List, All, IfErr, IfNone, IfOk, IfSome, OnErr, OnOk};
+ghost use Rattle.std.specs.Prelude.{◌≡◌, ◌≢◌, ◌<◌, ◌-ℤ◌, ◌+ℤ◌, ℕ, false, true, filter, length, map, slice_index_or, slice_set, List, All, IfNone, IfOk, IfSome, OnErr, OnOk};
 ghost use Rattle.mm_value.specs.Equality.{same_row};
-ghost use Rattle.mm_value.specs.declared.refusal.Refusal.TheVariants.{Memory};
 ghost use Rattle.mm_value.specs.declared.values.Value.{Value as Val};
 ghost use Rattle.mm_multiset.specs.Counts.{IsNet, signed_count};
 ghost use Rattle.mm_multiset.specs.Tally.{AreOnce, IsSmall, is_some_change, opposite, with_change};
 ghost use Rattle.mm_multiset.specs.declared.signed.Signed.{Signed as Change};
 
 use crate::signed::Signed;
-use mm_value::{Refusal, Row};
+use mm_value::Row;
+use std::alloc::AllocError;
 
 /// For each row whose counts differ, the row once, with its count in `comes` less its count in `goes`. Both lists are given up,
-/// and no row is copied. `Memory` is the only refusal.
-pub(crate) fn few_changes(comes: Vec<Signed>, mut goes: Vec<Signed>) -> Result<Vec<Signed>, Refusal>
+/// and no row is copied. `AllocError` where memory is refused.
+pub(crate) fn few_changes(
+    comes: Vec<Signed>,
+    mut goes: Vec<Signed>,
+) -> Result<Vec<Signed>, AllocError>
     requires comes { AreOnce comes.items }
     requires goes { AreOnce goes.items }
     ensures change { IfOk result (λ found. (row : List Val) → signed_count row found.items ≡ signed_count row comes.items -ℤ signed_count row goes.items) }
     ensures net { IfOk result (λ found. IsNet found.items) }
-    ensures memory { IfErr result (λ e. e ≡ Memory) }
 {
     turn(&mut goes);
     if goes.is_empty() {
@@ -38,12 +40,11 @@ pub(crate) fn turn(changes: &mut Vec<Signed>)
 }
 
 // The changes of two lists in one, without those that cancel out.
-fn merged(first: Vec<Signed>, more: Vec<Signed>) -> Result<Vec<Signed>, Refusal>
+fn merged(first: Vec<Signed>, more: Vec<Signed>) -> Result<Vec<Signed>, AllocError>
     requires first { AreOnce first.items }
     requires more { All (λ change. IsSmall change.count) more.items }
     ensures change { IfOk result (λ found. (row : List Val) → signed_count row found.items ≡ signed_count row first.items +ℤ signed_count row more.items) }
     ensures net { IfOk result (λ found. IsNet found.items) }
-    ensures memory { IfErr result (λ e. e ≡ Memory) }
 {
     let mut found = first;
     for change in more {
@@ -67,15 +68,14 @@ fn is_some_change(count: i128) -> bool
     count != 0
 }
 
-/// Adds a change to that of its row, or puts it behind the others. `Memory` is the only refusal; it is answered for a number past
-/// 64 bits too. The changes are as before then.
-pub(crate) fn add_change(changes: &mut Vec<Signed>, change: Signed) -> Result<(), Refusal>
+/// Adds a change to that of its row, or puts it behind the others. `AllocError` where memory is refused or the number would pass
+/// 64 bits. The changes are as before then.
+pub(crate) fn add_change(changes: &mut Vec<Signed>, change: Signed) -> Result<(), AllocError>
     requires known { All (λ known. IsSmall known.count) changes.old.items }
     requires change { IsSmall change.count }
     ensures added { OnOk result (changes.new.items ≡ with_change change changes.old.items) }
     ensures small { OnOk result (All (λ known. IsSmall known.count) changes.new.items) }
     ensures unchanged { OnErr result (changes.new.items ≡ changes.old.items) }
-    ensures memory { IfErr result (λ e. e ≡ Memory) }
 {
     match place_of(changes, &change.row) {
         Some(i) => add_at(changes, i, change.count),
@@ -84,7 +84,7 @@ pub(crate) fn add_change(changes: &mut Vec<Signed>, change: Signed) -> Result<()
 }
 
 // Adds to the number of a change.
-fn add_at(changes: &mut Vec<Signed>, i: usize, count: i128) -> Result<(), Refusal>
+fn add_at(changes: &mut Vec<Signed>, i: usize, count: i128) -> Result<(), AllocError>
     requires place { i < length changes.old.items }
     requires known { All (λ known. IsSmall known.count) changes.old.items }
     requires small { IsSmall count }
@@ -92,11 +92,10 @@ fn add_at(changes: &mut Vec<Signed>, i: usize, count: i128) -> Result<(), Refusa
         (record { row = (slice_index_or changes.old.items i other).row; count = (slice_index_or changes.old.items i other).count +ℤ count })) }
     ensures small { OnOk result (All (λ known. IsSmall known.count) changes.new.items) }
     ensures unchanged { OnErr result (changes.new.items ≡ changes.old.items) }
-    ensures memory { IfErr result (λ e. e ≡ Memory) }
 {
     let sum = changes[i].count + count;
     if !is_small(sum) {
-        return Err(Refusal::Memory);
+        return Err(AllocError);
     }
     changes[i].count = sum;
     Ok(())

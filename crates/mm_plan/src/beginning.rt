@@ -1,5 +1,5 @@
 //! The first table of a query.
-ghost use Rattle.std.specs.Prelude.{◌≡◌, ℕ, ◌+◌, ◌<◌, ◌≤◌, [], All, IfErr, IfOk, List, Some, length, slice_get};
+ghost use Rattle.std.specs.Prelude.{◌≡◌, ℕ, ◌+◌, ◌<◌, ◌≤◌, [], All, IfOk, List, Some, length, slice_get};
 ghost use Rattle.std.specs.List.{count_by};
 ghost use Rattle.mm_plan.specs.Begun.{IsBegun};
 ghost use Rattle.mm_plan.specs.Finding.{finds_in_key_order};
@@ -7,7 +7,6 @@ ghost use Rattle.mm_plan.specs.Steps.{AreSteps, Reaches, may_look};
 ghost use Rattle.mm_relation.specs.Kept.{StoredRows};
 ghost use Rattle.mm_select.specs.Accesses.{Asks, IsServed, is_along, is_in_key_order};
 ghost use Rattle.mm_store.specs.Tables.{rows_at};
-ghost use Rattle.mm_value.specs.declared.refusal.Refusal.TheVariants.{Memory};
 ghost use Rattle.mm_value.specs.declared.values.Value.{Value as AnyValue};
 
 use crate::ends::{high_end, low_end};
@@ -17,23 +16,21 @@ use mm_query::{Atom, BoundQuery, FieldPlace, Operand};
 use mm_select::{Access, select};
 use mm_store::View;
 use mm_templist::{Descriptor, TempList};
-use mm_value::Refusal;
-use std::alloc::Global;
+use std::alloc::{AllocError, Global};
 
 /// The rows of the first table of a query that fit so far, found by its step. For a tree merge with the second table they are
-/// found along the first table's tree, so in the order of that walk. `Memory` is the only refusal.
+/// found along the first table's tree, so in the order of that walk. `AllocError` where memory is refused.
 pub(crate) fn begin<'a>(
     alloc: Global,
     view: &mut View<'_>,
     query: &'a BoundQuery,
     tables: &'a [usize],
     steps: &[Step],
-) -> Result<TempList<'a>, Refusal>
+) -> Result<TempList<'a>, AllocError>
     requires there { All (λ table. table < length view.old.store.tables) tables.now }
     requires few { length tables.now ≤ 4 }
     requires some { 0 < length tables.now }
     requires steps { AreSteps view.old.store query.now.atoms tables.now steps.now }
-    ensures memory { IfErr result (λ refusal. refusal ≡ Memory) }
     ensures begun { IfOk result (λ list. IsBegun view.old.store query.now tables.entry.now list) }
     ensures alone { IfOk result (λ list. length list.tables ≡ 1) }
     ensures reads { (table : ℕ) (own : Step) → slice_get tables.entry.now 0 ≡ Some table → slice_get steps.now 0 ≡ Some own

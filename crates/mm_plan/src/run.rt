@@ -101,7 +101,7 @@ fn run_step<'a>(
     ensures same { view.new.store ≡ view.old.store }
 {
     if place == 0 {
-        begin(alloc, view, query, tables, steps)
+        Ok(begin(alloc, view, query, tables, steps)?)
     } else {
         join_next(alloc, view, list, query, tables, steps[place])
     }

@@ -1,7 +1,6 @@
 //! Rows that cannot change the answer of a query.
-ghost use Rattle.std.specs.Prelude.{◌≡◌, ◌∷◌, [], ◌≤ℤ◌, pos, false, map, List, IfErr, IfOk, IfSome, MatchOption};
+ghost use Rattle.std.specs.Prelude.{◌≡◌, ◌∷◌, [], ◌≤ℤ◌, pos, false, map, List, IfOk, IfSome, MatchOption};
 ghost use Rattle.std.specs.List.{All};
-ghost use Rattle.mm_value.specs.declared.refusal.Refusal.TheVariants.{Memory};
 ghost use Rattle.mm_relevance.specs.Relevance.{IsAccepted, IsCyclic, IsNegativeCycle};
 ghost use Rattle.mm_relevance.specs.Walks.{name_of};
 ghost use Rattle.mm_relevance.specs.declared.cycle.CycleEdge.{CycleEdge as Named};
@@ -13,27 +12,27 @@ use crate::relaxation::Relaxation;
 use crate::search::negative_walk;
 use crate::texts::false_text;
 use mm_query::BoundQuery;
-use mm_value::{Refusal, Row};
+use mm_value::Row;
 use std::alloc::{AllocError, Global};
 
 /// A cycle that shows that no combination with this row at this place of FROM fits the query, if there is one of at most 32
 /// edges: then the row is irrelevant (Blakeley, Larson and Tompa). The cycle is a negative one of the inequalities that the
 /// atoms say when the row's values are put in (Rosenkrantz and Hunt), or the one edge of an atom that is false of known texts. It
 /// takes memory for the inequalities, unless an atom is false of known texts, and for the cycle that it finds; for more only where
-/// it has to search long, as can be with more than 4 rows of FROM, 16 columns of a row or 16 atoms. `Memory` is the only refusal.
+/// it has to search long, as can be with more than 4 rows of FROM, 16 columns of a row or 16 atoms. `AllocError` where memory
+/// is refused.
 pub fn irrelevant(
     alloc: Global,
     query: &BoundQuery,
     place: usize,
     row: &Row,
-) -> Result<Option<Cycle>, Refusal>
-    ensures cycle { IfOk result (λ found. MatchOption found (IsCyclic query.now place row.now → ⊥) (λ cycle. IsAccepted query.now place row.now cycle.edges.items)) }
-    ensures memory { IfErr result (λ refusal. refusal ≡ Memory) }
+) -> Result<Option<Cycle>, AllocError>
+    ensures { IfOk result (λ found. MatchOption found (IsCyclic query.now place row.now → ⊥) (λ cycle. IsAccepted query.now place row.now cycle.edges.items)) }
 {
     if let Some(conjunct) = false_text(query, place, row) {
         return Ok(Some(lower_alone(alloc, conjunct)?));
     }
-    Ok(negative_cycle(alloc, query, place, row)?)
+    negative_cycle(alloc, query, place, row)
 }
 
 /// The cycle of the one lower edge of an atom.

@@ -1,9 +1,8 @@
 //! What the lists show.
-ghost use Rattle.std.specs.Prelude.{◌≡◌, ◌++◌, List, length, replicate, IfErr, IfOk, OnOk};
+ghost use Rattle.std.specs.Prelude.{◌≡◌, ◌++◌, List, length, replicate, IfOk, OnOk};
 ghost use Rattle.mm_multiset.specs.Counts.{IsOnce};
 ghost use Rattle.mm_query.specs.Queries.{bag_of};
 ghost use Rattle.mm_templist.specs.Runs.{referred};
-ghost use Rattle.mm_value.specs.declared.refusal.Refusal.TheVariants.{Memory};
 ghost use Rattle.mm_value.specs.declared.values.Value.{Value as Val};
 ghost use Rattle.mm_standing.specs.Queries.{IsBagOf, shown_of};
 ghost use Rattle.mm_standing.specs.Showing.{rows_shown, times_shown, values_in_turn};
@@ -11,7 +10,7 @@ ghost use Rattle.mm_standing.specs.Showing.{rows_shown, times_shown, values_in_t
 use mm_delta::Counted;
 use mm_query::BoundQuery;
 use mm_templist::ShownRows;
-use mm_value::{Refusal, Row, Value};
+use mm_value::{Row, Value};
 use std::alloc::{AllocError, Global};
 
 /// How many rows of a bag are shown: with `distinct` one of each.
@@ -30,15 +29,14 @@ pub(crate) fn count_shown(distinct: bool, bag: &Counted) -> usize
     count
 }
 
-/// The rows of a bag as its query shows them. `Memory` is the only refusal.
+/// The rows of a bag as its query shows them. `AllocError` where memory is refused.
 pub(crate) fn list_shown<'s>(
     alloc: Global,
     query: &BoundQuery,
     bag: &'s Counted,
-) -> Result<ShownRows<'s>, Refusal>
+) -> Result<ShownRows<'s>, AllocError>
     requires { (lists : List (List (List Val))) × IsBagOf bag.now.entries (bag_of query.now lists) }
-    ensures shown { IfOk result (λ shown. (rows : List (List Val)) → IsBagOf bag.now.entries rows → shown ≡ shown_of query.now rows) }
-    ensures memory { IfErr result (λ refusal. refusal ≡ Memory) }
+    ensures { IfOk result (λ shown. (rows : List (List Val)) → IsBagOf bag.now.entries rows → shown ≡ shown_of query.now rows) }
 {
     let width = query.fields.as_slice().len();
     let count = count_shown(query.distinct, bag);
@@ -46,7 +44,7 @@ pub(crate) fn list_shown<'s>(
     push_entries(&mut values, query.distinct, bag)?;
     // with DISTINCT no row is there twice, so none is left out here
     let order = query.order.as_slice();
-    Ok(ShownRows::sorted(alloc, values, width, count, false, order)?)
+    ShownRows::sorted(alloc, values, width, count, false, order)
 }
 
 /// Puts references to the values of the rows of a bag at the end, of each row as often as it is shown.

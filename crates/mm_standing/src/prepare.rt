@@ -1,5 +1,5 @@
 //! Changes that are made ready, with all memory that they ask for.
-ghost use Rattle.std.specs.Prelude.{◌≡◌, ◌++◌, ◌+◌, ◌≤◌, ◌<◌, ◌^◌, ℕ, [], All, length, map, neg_ℤ, pos, slice_index, ◌+ℤ◌, ◌≤ℤ◌, ◌<ℤ◌, IfErr, IfOk, IsPermutation, OnOk};
+ghost use Rattle.std.specs.Prelude.{◌≡◌, ◌++◌, ◌+◌, ◌≤◌, ◌<◌, ◌^◌, ℕ, [], All, length, map, neg_ℤ, pos, slice_index, ◌+ℤ◌, ◌≤ℤ◌, ◌<ℤ◌, IfOk, IsPermutation, OnOk};
 ghost use Rattle.std.specs.List.{sum_by};
 ghost use Rattle.mm_multiset.specs.Counts.{Counts as BagCounts, count_in, total_of};
 ghost use Rattle.mm_delta.specs.Edited.{after_at, before_at};
@@ -13,7 +13,6 @@ ghost use Rattle.mm_standing.specs.Reads.{AreOfCyclicRows, AreTypeTested, RowTes
 ghost use Rattle.mm_standing.specs.State.{AreServed};
 ghost use Rattle.mm_standing.specs.declared.change.ListChange.{ListChange as AnyChange};
 ghost use Rattle.mm_standing.specs.declared.change.Prepared.{Prepared as AnyPrepared};
-ghost use Rattle.mm_value.specs.declared.refusal.Refusal.TheVariants.{Memory};
 ghost use Rattle.mm_schema.specs.Rows.{most_rows};
 
 use crate::change::{ListChange, Prepared};
@@ -22,14 +21,13 @@ use mm_delta::{Counted, Signed, TableChange, delta};
 use mm_query::MAX_COMBINATIONS;
 use mm_store::View;
 use mm_value::Refusal;
-use std::alloc::Global;
+use std::alloc::{AllocError, Global};
 
-/// The changes, each with the one that undoes it. `Memory` is the only refusal.
-pub fn with_opposites(alloc: Global, changes: Vec<ListChange>) -> Result<Vec<Prepared>, Refusal>
+/// The changes, each with the one that undoes it. `AllocError` where memory is refused.
+pub fn with_opposites(alloc: Global, changes: Vec<ListChange>) -> Result<Vec<Prepared>, AllocError>
     requires { All IsSmall changes.items }
     ensures done { IfOk result (λ prepared. done_of prepared.items ≡ changes.items) }
     ensures opposites { IfOk result (λ prepared. All (λ (p : AnyPrepared). p.undo ≡ opposite p.done) prepared.items) }
-    ensures memory { IfErr result (λ e. e ≡ Memory) }
 {
     let mut prepared = Vec::with_capacity(alloc, changes.len())?;
     for done in changes {
@@ -39,12 +37,15 @@ pub fn with_opposites(alloc: Global, changes: Vec<ListChange>) -> Result<Vec<Pre
     Ok(prepared)
 }
 
-/// How many of the changes are of each list. `Memory` is the only refusal.
-pub fn numbers(alloc: Global, lists: usize, changes: &[ListChange]) -> Result<Vec<usize>, Refusal>
+/// How many of the changes are of each list. `AllocError` where memory is refused.
+pub fn numbers(
+    alloc: Global,
+    lists: usize,
+    changes: &[ListChange],
+) -> Result<Vec<usize>, AllocError>
     requires { All (λ (c : AnyChange). c.list < lists) changes.now }
     ensures numbers { IfOk result (λ numbers. (list : ℕ) → slice_index numbers.items list ≡ number_for list changes.now) }
     ensures size { IfOk result (λ numbers. length numbers.items ≡ lists) }
-    ensures memory { IfErr result (λ e. e ≡ Memory) }
 {
     let mut numbers = vec![in alloc; 0; lists]?;
     for change in changes {
@@ -53,13 +54,12 @@ pub fn numbers(alloc: Global, lists: usize, changes: &[ListChange]) -> Result<Ve
     Ok(numbers)
 }
 
-/// Makes room for so many new entries in each bag. `Memory` is the only refusal. No bag's entries change.
-pub fn reserve_each(bags: &mut Vec<Counted>, numbers: &[usize]) -> Result<(), Refusal>
+/// Makes room for so many new entries in each bag. `AllocError` where memory is refused. No bag's entries change.
+pub fn reserve_each(bags: &mut Vec<Counted>, numbers: &[usize]) -> Result<(), AllocError>
     requires { length numbers.now ≡ length bags.old.items }
     ensures entries { map (λ (bag : BagCounts). bag.entries) bags.new.items ≡ map (λ (bag : BagCounts). bag.entries) bags.old.items }
     ensures kept { (list : ℕ) → room_at bags.old.items list ≤ room_at bags.new.items list }
     ensures room { OnOk result ((list : ℕ) → slice_index numbers.now list ≤ room_at bags.new.items list) }
-    ensures memory { IfErr result (λ e. e ≡ Memory) }
 {
     for (list, number) in numbers.iter().enumerate() {
         bags[list].reserve(*number)?;
@@ -67,11 +67,10 @@ pub fn reserve_each(bags: &mut Vec<Counted>, numbers: &[usize]) -> Result<(), Re
     Ok(())
 }
 
-/// The change that undoes one. `Memory` is the only refusal.
-fn opposite(alloc: Global, change: &ListChange) -> Result<ListChange, Refusal>
+/// The change that undoes one. `AllocError` where memory is refused.
+fn opposite(alloc: Global, change: &ListChange) -> Result<ListChange, AllocError>
     requires { IsSmall change.now }
-    ensures ok { IfOk result (λ undo. undo ≡ opposite change.now) }
-    ensures memory { IfErr result (λ e. e ≡ Memory) }
+    ensures { IfOk result (λ undo. undo ≡ opposite change.now) }
 {
     let Signed { row, count } = &change.change;
     Ok(ListChange {
@@ -178,14 +177,13 @@ fn new_total(total: usize, changes: &[Signed]) -> i128
     rows
 }
 
-/// Puts the changes of a list at the end of those of the lists before it. `Memory` is the only refusal.
+/// Puts the changes of a list at the end of those of the lists before it. `AllocError` where memory is refused.
 fn push_changes(
     found: &mut Vec<ListChange>,
     list: usize,
     changes: Vec<Signed>,
-) -> Result<(), Refusal>
-    ensures ok { OnOk result (found.new.items ≡ found.old.items ++ map (λ change. record { list = list; change = change }) changes.items) }
-    ensures memory { IfErr result (λ e. e ≡ Memory) }
+) -> Result<(), AllocError>
+    ensures { OnOk result (found.new.items ≡ found.old.items ++ map (λ change. record { list = list; change = change }) changes.items) }
 {
     for change in changes {
         found.push(ListChange { list, change })?;

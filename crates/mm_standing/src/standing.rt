@@ -1,5 +1,5 @@
 //! The standing queries and their lists.
-ghost use Rattle.std.specs.Prelude.{◌≡◌, ℕ, ◌++◌, ◌∷◌, ◌≤◌, ◌<◌, All, List, [], drop, length, map, pos, Some, slice_get, take, IfErr, IfOk, OnErr, OnOk};
+ghost use Rattle.std.specs.Prelude.{◌≡◌, ℕ, ◌++◌, ◌∷◌, ◌≤◌, ◌<◌, All, List, [], drop, length, map, pos, Some, slice_get, take, IfOk, OnErr, OnOk};
 ghost use Rattle.std.specs.List.{remove, sum_by};
 ghost use Rattle.mm_multiset.specs.Counts.{Counts as BagCounts, count_in};
 ghost use Rattle.mm_delta.specs.Edited.{after_at, before_at};
@@ -14,7 +14,6 @@ ghost use Rattle.mm_standing.specs.Reads.{AreOfCyclicRows, AreTypeTested, RowTes
 ghost use Rattle.mm_standing.specs.State.{AreServed, FitNow, FitPrepared, count_at};
 ghost use Rattle.mm_value.specs.declared.values.Value.TheVariants.{Int};
 ghost use Rattle.mm_standing.specs.declared.change.ListChange.{ListChange as AnyChange};
-ghost use Rattle.mm_value.specs.declared.refusal.Refusal.TheVariants.{Memory};
 ghost use Rattle.mm_value.specs.declared.values.Value.{Value as Val};
 
 use crate::bags::{make_all, purge, undo_behind};
@@ -28,7 +27,7 @@ use mm_query::BoundQuery;
 use mm_store::{Store, View};
 use mm_templist::ShownRows;
 use mm_value::Refusal;
-use std::alloc::Global;
+use std::alloc::{AllocError, Global};
 use std::marker::Model;
 
 /// The standing queries in order of creation. Each has a list of its rows, kept as counts; a log of what was changed gives every
@@ -211,14 +210,13 @@ impl Standing {
     }
 
     /// The rows that the standing query at a place shows, in their order; no value is copied, and no store is looked at. Its list
-    /// is to be the bag of its query over some rows. `Memory` is the only refusal.
-    pub fn list(&self, alloc: Global, place: usize) -> Result<ShownRows<'_>, Refusal>
+    /// is to be the bag of its query over some rows. `AllocError` where memory is refused.
+    pub fn list(&self, alloc: Global, place: usize) -> Result<ShownRows<'_>, AllocError>
         requires place { place < length self.now.queries }
         requires fits { (standing : StandingQuery) → slice_get self.now.queries place ≡ Some standing
             → (lists : List (List (List Val))) × IsBagOf (entries_at self.now.bags place) (bag_of standing.query lists) }
-        ensures shown { IfOk result (λ shown. (standing : StandingQuery) → slice_get self.now.queries place ≡ Some standing
+        ensures { IfOk result (λ shown. (standing : StandingQuery) → slice_get self.now.queries place ≡ Some standing
             → (rows : List (List Val)) → IsBagOf (entries_at self.now.bags place) rows → shown ≡ shown_of standing.query rows) }
-        ensures memory { IfErr result (λ refusal. refusal ≡ Memory) }
     {
         list_shown(alloc, &self.queries[place].query, &self.bags[place])
     }
@@ -261,16 +259,17 @@ impl Standing {
             changes,
         );
         self.reads = view.reads();
-        self.put_prepared(alloc, found?)
+        self.put_prepared(alloc, found?)?;
+        Ok(())
     }
 
     /// Makes changes ready, in order from the last to the first, with all memory that they and their undoing need. It requires
-    /// that nothing is prepared. `Memory` is the only refusal, and then nothing is prepared.
+    /// that nothing is prepared. `AllocError` where memory is refused, and then nothing is prepared.
     pub(crate) fn put_prepared(
         &mut self,
         alloc: Global,
         changes: Vec<ListChange>,
-    ) -> Result<(), Refusal>
+    ) -> Result<(), AllocError>
         requires prepared { self.old.prepared ≡ [] }
         requires there { All (λ (c : AnyChange). c.list < length self.old.bags) changes.items }
         requires small { All IsSmall changes.items }
@@ -279,7 +278,6 @@ impl Standing {
         ensures err { OnErr result (self.new.prepared ≡ []) }
         ensures entries { map (λ (bag : BagCounts). bag.entries) self.new.bags ≡ map (λ (bag : BagCounts). bag.entries) self.old.bags }
         ensures rest { self.new ≡ record self.old { bags = self.new.bags; prepared = self.new.prepared } }
-        ensures memory { IfErr result (λ e. e ≡ Memory) }
     {
         if changes.is_empty() {
             return Ok(());

@@ -1,19 +1,19 @@
 //! The bag of a query when it begins to stand.
-ghost use Rattle.std.specs.Prelude.{◌≡◌, ◌≢◌, ◌<◌, ◌≤◌, All, length, map, IfErr, IfOk};
+ghost use Rattle.std.specs.Prelude.{◌≡◌, ◌≢◌, ◌<◌, ◌≤◌, All, length, map, IfOk};
 ghost use Rattle.mm_multiset.specs.Counts.{IsOnce};
 ghost use Rattle.mm_query.specs.Queries.{bag_of};
 ghost use Rattle.mm_schema.specs.Refused.{AnswersDue, first_refusal};
 ghost use Rattle.mm_standing.specs.Bags.{ArePositive};
 ghost use Rattle.mm_standing.specs.Queries.{IsBagOf, list_conditions};
 ghost use Rattle.mm_store.specs.Tables.{rows_at};
-ghost use Rattle.mm_value.specs.declared.refusal.Refusal.TheVariants.{Memory, ResultTooLarge, StandingListTooLarge};
+ghost use Rattle.mm_value.specs.declared.refusal.Refusal.TheVariants.{ResultTooLarge, StandingListTooLarge};
 
 use mm_delta::Counted;
 use mm_plan::run_query;
 use mm_query::BoundQuery;
 use mm_store::Store;
 use mm_value::{Refusal, Row};
-use std::alloc::Global;
+use std::alloc::{AllocError, Global};
 
 /// The bag of a query over the rows of a store, found by its plan. `StandingListTooLarge` where more than 1,048,576
 /// combinations fit; `Memory` may come in its place and in that of success.
@@ -36,7 +36,7 @@ pub(crate) fn bag_now(
         Err(refusal) => return Err(as_list(refusal)),
     };
     let rows = list.project_sorted(alloc, &mut view, false, &[])?;
-    counted(alloc, rows)
+    Ok(counted(alloc, rows)?)
 }
 
 /// The refusal of a standing query in place of that of a result.
@@ -50,12 +50,11 @@ fn as_list(refusal: Refusal) -> Refusal
     }
 }
 
-/// The bag of some rows. `Memory` is the only refusal.
-fn counted(alloc: Global, rows: Vec<Row>) -> Result<Counted, Refusal>
+/// The bag of some rows. `AllocError` where memory is refused.
+fn counted(alloc: Global, rows: Vec<Row>) -> Result<Counted, AllocError>
     ensures ok { IfOk result (λ bag. IsBagOf bag.entries rows.items) }
     ensures once { IfOk result (λ bag. IsOnce bag.entries) }
     ensures positive { IfOk result (λ bag. ArePositive bag.entries) }
-    ensures memory { IfErr result (λ refusal. refusal ≡ Memory) }
 {
     let mut bag = Counted::new(alloc);
     for row in rows {

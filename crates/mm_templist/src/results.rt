@@ -1,7 +1,6 @@
 //! What a temporary list shows.
-ghost use Rattle.std.specs.Prelude.{◌≡◌, ◌+◌, ◌++◌, ◌*◌, ◌≤◌, All, IfErr, IfOk, OnOk, Some, length, map, pos};
+ghost use Rattle.std.specs.Prelude.{◌≡◌, ◌+◌, ◌++◌, ◌*◌, ◌≤◌, All, IfOk, OnOk, Some, length, map, pos};
 ghost use Rattle.std.specs.Option.{option_copied, unwrap_or};
-ghost use Rattle.mm_value.specs.declared.refusal.Refusal.TheVariants.{Memory};
 ghost use Rattle.mm_value.specs.declared.values.Value.TheVariants.{Int};
 ghost use Rattle.mm_query.specs.Queries.{value_at, values_of};
 ghost use Rattle.mm_templist.specs.Combos.{AreLive, rows_of_combo};
@@ -13,7 +12,7 @@ use crate::shown::ShownRows;
 use crate::temp_list::TempList;
 use mm_query::FieldPlace;
 use mm_store::View;
-use mm_value::{Refusal, Row, RowRef, Value};
+use mm_value::{Row, RowRef, Value};
 use smallvec::SmallVec;
 use std::alloc::{AllocError, Global};
 
@@ -44,17 +43,16 @@ impl<'a> TempList<'a> {
         ShownRows::sorted(alloc, values, width, self.len(), distinct, order)
     }
 
-    /// Copies of the rows of the result, as `shown` has them. `Memory` where memory is refused; that is the only refusal.
+    /// Copies of the rows of the result, as `shown` has them. `AllocError` where memory is refused.
     pub fn project_sorted(
         &self,
         alloc: Global,
         view: &mut View<'_>,
         distinct: bool,
         order: &[usize],
-    ) -> Result<Vec<Row>, Refusal>
+    ) -> Result<Vec<Row>, AllocError>
         requires live { All (AreLive view.old.store self.now.tables) self.now.combos }
         ensures ok { IfOk result (λ rows. rows.items ≡ result_rows view.old.store self.now distinct order.now) }
-        ensures memory { IfErr result (λ refusal. refusal ≡ Memory) }
         ensures reads { view.new.reads ≤ view.old.reads + length self.now.combos * length self.now.tables }
         ensures same { view.new.store ≡ view.old.store }
     {
@@ -118,10 +116,9 @@ fn value_at<'s>(rows: &[Option<&'s Row>], field: FieldPlace, zero: &'s Value) ->
     }
 }
 
-/// Copies of all rows. `Memory` is the only refusal.
-fn copy_rows(alloc: Global, shown: &ShownRows) -> Result<Vec<Row>, Refusal>
-    ensures ok { IfOk result (λ rows. rows.items ≡ shown.now) }
-    ensures memory { IfErr result (λ refusal. refusal ≡ Memory) }
+/// Copies of all rows. `AllocError` where memory is refused.
+fn copy_rows(alloc: Global, shown: &ShownRows) -> Result<Vec<Row>, AllocError>
+    ensures { IfOk result (λ rows. rows.items ≡ shown.now) }
 {
     let mut rows = Vec::with_capacity(alloc, shown.len())?;
     for i in 0..shown.len() {
@@ -130,10 +127,9 @@ fn copy_rows(alloc: Global, shown: &ShownRows) -> Result<Vec<Row>, Refusal>
     Ok(rows)
 }
 
-/// A row of copies of values. `Memory` is the only refusal.
-fn copy_row(alloc: Global, values: &[&Value]) -> Result<Row, Refusal>
-    ensures ok { IfOk result (λ row. row ≡ referred values.now) }
-    ensures memory { IfErr result (λ refusal. refusal ≡ Memory) }
+/// A row of copies of values. `AllocError` where memory is refused.
+fn copy_row(alloc: Global, values: &[&Value]) -> Result<Row, AllocError>
+    ensures { IfOk result (λ row. row ≡ referred values.now) }
 {
     let mut row = Vec::with_capacity(alloc, values.len())?;
     for value in values {

@@ -1,6 +1,6 @@
 -- What standing queries show, by their places.
-use Rattle.std.proofs.Common.{◌≡◌, ℕ, zero, suc, ◌+◌, ◌<◌, ◌≤◌, Bool, true, false, cond, not, Result, Ok, Err, IfErr, IfOk, List, [], ◌∷◌, ◌++◌, Option, Some}
-use Rattle.std.proofs.Common.{None, inr, length, map, pos, slice_get, take, refl, sym, ap, subst, ◌∙◌, arith}
+use Rattle.std.proofs.Common.{◌≡◌, ℕ, zero, suc, ◌+◌, ◌<◌, ◌≤◌, Bool, true, false, cond, not, List, [], ◌∷◌, ◌++◌, Option, Some}
+use Rattle.std.proofs.Common.{length, map, pos, slice_get, take, refl, sym, ap, subst, ◌∙◌, arith}
 use Rattle.std.specs.List.{IsDistinct, position_or_len}
 use Rattle.std.specs.Option.{option_map, option_map_or}
 use Rattle.std.proofs.lemmas.List.{length-map}
@@ -9,7 +9,6 @@ use Rattle.std.proofs.lemmas.Map.Keys.{IsDistinct-head, IsDistinct-tail}
 use Rattle.std.proofs.lemmas.Option.{slice_get-map}
 use Rattle.mm_schema.specs.Instance.{Instance}
 use Rattle.mm_schema.specs.Name.{same_name}
-use Rattle.mm_schema.specs.Refused.{AnswersDue}
 use Rattle.mm_schema.specs.Schema.{Schema}
 use Rattle.mm_schema.specs.Standing.{HasDistinctStanding, standing_place}
 use Rattle.mm_schema.specs.declared.standing.StandingDef.{StandingDef}
@@ -17,8 +16,6 @@ use Rattle.mm_schema.proofs.NameLemmas.{differs_back, same_name_refl}
 use Rattle.mm_schema.proofs.Places.{place_from_some, within_from_some}
 use Rattle.mm_schema.proofs.StandingLemmas.{names_of}
 use Rattle.mm_multiset.specs.Counts.{count_in, count_of}
-use Rattle.mm_value.specs.declared.refusal.Refusal.{Refusal}
-use Rattle.mm_value.specs.declared.refusal.Refusal.TheVariants.{Memory}
 use Rattle.mm_value.specs.declared.values.Value.{Value}
 use Rattle.mm_query.specs.Queries.{bag_of}
 use Rattle.mm_query.specs.Resolving.{answer_in}
@@ -166,18 +163,3 @@ module _ (schema : Schema) (lists : Lists) (placed : ArePlaced schema lists.quer
           → count ≡ length (shown_rows d.name told)
       counted_by_place distinct place d at within count is =
           shown_at d.name place (own_first schema.standing place d at distinct) within length count is
-
-module _ (schema : Schema) (lists : Lists) (placed : ArePlaced schema lists.queries) (rows : Instance) (listed : AreListed rows lists) (saved : Option Saved)
-  where
-    pub shown_if_ok : (name : List ℕ) (place : ℕ) → standing_place name schema ≡ Some place → {E : Type 0} (result : Result (List (List Value)) E)
-        → IfOk result (λ shown. (s : StandingQuery) → slice_get lists.queries place ≡ Some s → (bag : List (List Value))
-        → IsBagOf (entries_at lists.bags place) bag → shown ≡ shown_of s.query bag)
-        → IfOk result (λ shown. shown ≡ shown_rows name (record { schema = schema; rows = rows; queries = queries_of lists.queries; saved = saved }))
-    shown_if_ok name place found (Ok shown) is = shown_by_name schema lists placed rows listed saved name place found shown is
-    shown_if_ok name place found (Err refusal) is = tt
-
--- Where nothing is due, want of memory may be answered.
-pub only_memory : {T : Type 0} (due : Option Refusal) (result : Result T Refusal) → due ≡ None → IfErr result (λ refusal. refusal ≡ Memory)
-    → AnswersDue due result
-only_memory due (Ok value) none memory = none
-only_memory due (Err refusal) none memory = inr memory

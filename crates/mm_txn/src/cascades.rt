@@ -1,5 +1,5 @@
 //! The rows that a DELETE cascades to (the CASCADE of SQL's referential actions).
-ghost use Rattle.std.specs.Prelude.{◌≡◌, ◌<◌, ◌∷◌, [], All, filter, length, map, slice_get, IfErr, IfOk, OnOk, None, Some};
+ghost use Rattle.std.specs.Prelude.{◌≡◌, ◌<◌, ◌∷◌, [], All, filter, length, map, slice_get, IfOk, OnOk, None, Some};
 ghost use Rattle.std.specs.Option.{option_copied, option_map};
 ghost use Rattle.mm_relation.specs.Edits.{new_rows};
 ghost use Rattle.mm_relation.specs.Kept.{StoredRows};
@@ -9,7 +9,6 @@ ghost use Rattle.mm_schema.specs.declared.table.Table.{Table};
 ghost use Rattle.mm_store.specs.Looked.{IsFirstOn, IsIndexOn};
 ghost use Rattle.mm_store.specs.Tables.{IsAt, rows_at};
 ghost use Rattle.mm_query.specs.Edits.{is_cascaded, removals_of, with_cascades};
-ghost use Rattle.mm_value.specs.declared.refusal.Refusal.TheVariants.{Memory};
 ghost use Rattle.mm_txn.specs.Cascades.{AddsCascaded, IsCascade, cascade_to, cascades_from, placed_cascade};
 ghost use Rattle.mm_plan.specs.Kept.{AreKept, instance_of};
 ghost use Rattle.mm_txn.specs.PlacedEdits.{AreEdits, FitsAt, edits_at, named, pairs_at, placed};
@@ -20,8 +19,8 @@ use mm_delta::{references_of_gone, row_gone};
 use mm_relation::Edit;
 use mm_schema::{Catalog, Column, Name};
 use mm_store::{IndexRef, Store, View};
-use mm_value::{Refusal, RowRef};
-use std::alloc::Global;
+use mm_value::RowRef;
+use std::alloc::{AllocError, Global};
 
 /// A CASCADE column of a table, and the rows that go of the table that it refers to.
 #[derive(Drop)]
@@ -36,13 +35,13 @@ struct Cascade<'a> {
 
 /// Removals of the rows to which a DELETE in a table cascades: of each row that has in a CASCADE column the key
 /// of one that goes, whichever table it is of. A column refers to an older table, so one pass over the tables in the order of
-/// creation finds all. The removals are in that order, and none are empty. `Memory` is the only refusal.
+/// creation finds all. The removals are in that order, and none are empty. `AllocError` where memory is refused.
 pub(crate) fn cascades(
     alloc: Global,
     catalog: &Catalog,
     store: &Store,
     own: &RelationEdits,
-) -> Result<Vec<RelationEdits>, Refusal>
+) -> Result<Vec<RelationEdits>, AllocError>
     requires kept { AreKept catalog.now store.now }
     requires distinct { HasDistinctNames catalog.now }
     requires fit { FitsAt store.now (placed own.now) }
@@ -50,7 +49,6 @@ pub(crate) fn cascades(
     ensures are { IfOk result (λ cascaded. AreEdits store.now (placed own.now ∷ map placed cascaded.items)) }
     ensures cascades { IfOk result (λ cascaded. map (named catalog.now store.now.tables) (placed own.now ∷ map placed cascaded.items)
         ≡ with_cascades catalog.now catalog.now.tables (instance_of store.now.tables) (named catalog.now store.now.tables (placed own.now) ∷ [])) }
-    ensures memory { IfErr result (λ refusal. refusal ≡ Memory) }
 {
     let mut cascaded = Vec::new(alloc);
     let count = catalog.tables().len();
@@ -63,7 +61,7 @@ pub(crate) fn cascades(
     Ok(cascaded)
 }
 
-/// Removals of the rows of a table that are cascaded by removals in older tables. `Memory` is the only refusal.
+/// Removals of the rows of a table that are cascaded by removals in older tables. `AllocError` where memory is refused.
 fn cascaded_edits(
     alloc: Global,
     catalog: &Catalog,
@@ -71,7 +69,7 @@ fn cascaded_edits(
     table: usize,
     own: &RelationEdits,
     cascaded: &[RelationEdits],
-) -> Result<Vec<Edit>, Refusal>
+) -> Result<Vec<Edit>, AllocError>
     requires kept { AreKept catalog.now store.now }
     requires distinct { HasDistinctNames catalog.now }
     requires there { table < length catalog.now.tables }
@@ -83,7 +81,6 @@ fn cascaded_edits(
         ≡ removals_of (filter (is_cascaded catalog.now (map (named catalog.now store.now.tables) (placed own.now ∷ map placed cascaded.now))
         t.definition.columns)
         (rows_at store.now.tables table))) }
-    ensures memory { IfErr result (λ refusal. refusal ≡ Memory) }
 {
     let columns = cascading_columns(alloc, catalog, table, own, cascaded)?;
     let mut view = store.view();
@@ -91,21 +88,20 @@ fn cascaded_edits(
     for cascade in &columns {
         add_referrers(alloc, &mut view, table, cascade, &mut found)?;
     }
-    Ok(removals_at(alloc, &mut view, table, found)?)
+    removals_at(alloc, &mut view, table, found)
 }
 
-/// The CASCADE columns of a table that refer to tables of which rows go. `Memory` is the only refusal.
+/// The CASCADE columns of a table that refer to tables of which rows go. `AllocError` where memory is refused.
 fn cascading_columns<'a>(
     alloc: Global,
     catalog: &Catalog,
     table: usize,
     own: &'a RelationEdits,
     cascaded: &'a [RelationEdits],
-) -> Result<Vec<Cascade<'a>>, Refusal>
+) -> Result<Vec<Cascade<'a>>, AllocError>
     requires there { table < length catalog.now.tables }
-    ensures found { IfOk result (λ found. (t : Table) → slice_get catalog.now.tables table ≡ Some t
+    ensures { IfOk result (λ found. (t : Table) → slice_get catalog.now.tables table ≡ Some t
         → map placed_cascade found.items ≡ cascades_from catalog.now (placed own.entry.now ∷ map placed cascaded.entry.now) 0 t.definition.columns) }
-    ensures memory { IfErr result (λ refusal. refusal ≡ Memory) }
 {
     let columns = &catalog.table_at(table).definition.columns;
     let mut found = Vec::new(alloc);
@@ -172,19 +168,18 @@ fn removals_of<'a>(
 }
 
 /// Appends the references of the rows of a table that are cascaded by a CASCADE column: found by an index of the column
-/// where it has one, else by one pass over the rows. `Memory` is the only refusal.
+/// where it has one, else by one pass over the rows. `AllocError` where memory is refused.
 fn add_referrers(
     alloc: Global,
     view: &mut View<'_>,
     table: usize,
     cascade: &Cascade,
     found: &mut Vec<RowRef>,
-) -> Result<(), Refusal>
+) -> Result<(), AllocError>
     requires there { table < length view.old.store.tables }
     requires cascade { IsCascade view.old.store table cascade.now.column (cascade.now.to, cascade.now.gone.now) }
     ensures found { OnOk result (AddsCascaded view.old.store table (placed_cascade cascade.now) found.old.items found.new.items) }
     ensures same { view.new.store ≡ view.old.store }
-    ensures memory { IfErr result (λ refusal. refusal ≡ Memory) }
 {
     match view.index_on(table, cascade.column) {
         Some(index) => add_by_index(alloc, view, table, index, cascade, found),
@@ -192,7 +187,7 @@ fn add_referrers(
     }
 }
 
-/// The same by an index of the column: for each row that goes those that have its key there. `Memory` is the only refusal.
+/// The same by an index of the column: for each row that goes those that have its key there. `AllocError` where memory is refused.
 fn add_by_index(
     alloc: Global,
     view: &mut View<'_>,
@@ -200,13 +195,12 @@ fn add_by_index(
     index: IndexRef,
     cascade: &Cascade,
     found: &mut Vec<RowRef>,
-) -> Result<(), Refusal>
+) -> Result<(), AllocError>
     requires there { table < length view.old.store.tables }
     requires cascade { IsCascade view.old.store table cascade.now.column (cascade.now.to, cascade.now.gone.now) }
     requires index { (stored : StoredRows) → IsAt view.old.store table stored → IsIndexOn stored cascade.now.column index }
     ensures found { OnOk result (AddsCascaded view.old.store table (placed_cascade cascade.now) found.old.items found.new.items) }
     ensures same { view.new.store ≡ view.old.store }
-    ensures memory { IfErr result (λ refusal. refusal ≡ Memory) }
 {
     let column = view.key_of(cascade.to);
     for edit in cascade.gone {
@@ -219,19 +213,18 @@ fn add_by_index(
 }
 
 /// The same where the column has none: each row of the table is asked once whether the row that it refers to goes, with no look at
-/// either. `Memory` is the only refusal.
+/// either. `AllocError` where memory is refused.
 fn add_by_scan(
     alloc: Global,
     view: &View<'_>,
     table: usize,
     cascade: &Cascade,
     found: &mut Vec<RowRef>,
-) -> Result<(), Refusal>
+) -> Result<(), AllocError>
     requires there { table < length view.now.store.tables }
     requires cascade { IsCascade view.now.store table cascade.now.column (cascade.now.to, cascade.now.gone.now) }
     requires unindexed { (stored : StoredRows) → IsAt view.now.store table stored → IsFirstOn stored cascade.now.column None }
-    ensures found { OnOk result (AddsCascaded view.now.store table (placed_cascade cascade.now) found.old.items found.new.items) }
-    ensures memory { IfErr result (λ refusal. refusal ≡ Memory) }
+    ensures { OnOk result (AddsCascaded view.now.store table (placed_cascade cascade.now) found.old.items found.new.items) }
 {
     let gone = references_of_gone(alloc, cascade.gone)?;
     for at in view.walk(table, IndexRef::Key) {

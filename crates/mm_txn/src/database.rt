@@ -1,11 +1,10 @@
 //! The database: its calls are steps of the machine of row lists.
-ghost use Rattle.std.specs.Prelude.{◌≡◌, ◌≤◌, Some, None, IfErr, IfOk, OnOk, OnErr, MatchResult, length};
+ghost use Rattle.std.specs.Prelude.{◌≡◌, ◌≤◌, Some, None, IfOk, OnOk, OnErr, MatchResult, length};
 ghost use Rattle.mm_schema.specs.Refused.{AnswersDue, first_refusal};
 ghost use Rattle.mm_query.specs.Edits.{own_pairs};
 ghost use Rattle.mm_query.specs.Machine.{conditions, plan_in, rows_by_index, state_after};
 ghost use Rattle.mm_query.specs.Resolving.{selected};
 ghost use Rattle.mm_query.specs.Standing.{listing as listing_of, shown_rows};
-ghost use Rattle.mm_value.specs.declared.refusal.Refusal.TheVariants.{Memory};
 ghost use Rattle.mm_query.specs.State.{first_state, rows_in};
 ghost use Rattle.mm_query.specs.declared.command.Command.TheVariants.{Define, Change, Scan, ScanIndex, Select, Explain, Show, Begin, Commit, Rollback, Savepoint, RollbackTo};
 
@@ -23,7 +22,7 @@ use mm_schema::Name;
 use mm_store::{TableRows, Undo};
 use mm_templist::ShownRows;
 use mm_value::Refusal;
-use std::alloc::Global;
+use std::alloc::{AllocError, Global};
 use std::marker::Model;
 
 /// A database: the catalog, and beside it the rows of its tables. It makes changes and answers questions, and each is one step of the
@@ -235,14 +234,13 @@ impl Db {
             .catalog
             .standing_place_of(name)
             .ok_or(Refusal::NoSuchStandingQuery)?;
-        contents.standing.list(alloc, place)
+        Ok(contents.standing.list(alloc, place)?)
     }
 
     /// What there is: the tables with their indexes and how many rows each has, and the standing queries and how many rows each
-    /// shows, all in the order of creation. `Memory` is the only refusal.
-    fn tables(&self, alloc: Global) -> Result<Listing, Refusal>
-        ensures listing { IfOk result (λ listing. listing ≡ listing_of self.now) }
-        ensures memory { IfErr result (λ refusal. refusal ≡ Memory) }
+    /// shows, all in the order of creation. `AllocError` where memory is refused.
+    fn tables(&self, alloc: Global) -> Result<Listing, AllocError>
+        ensures { IfOk result (λ listing. listing ≡ listing_of self.now) }
     {
         let contents = &self.contents;
         list_tables(

@@ -1,8 +1,7 @@
 //! The listing of the catalog.
-ghost use Rattle.std.specs.Prelude.{◌≡◌, false, IfErr, IfOk};
+ghost use Rattle.std.specs.Prelude.{◌≡◌, false, IfOk};
 ghost use Rattle.mm_query.specs.Standing.{listing as listing_of};
 ghost use Rattle.mm_schema.specs.Instance.{Instance};
-ghost use Rattle.mm_value.specs.declared.refusal.Refusal.TheVariants.{Memory};
 ghost use Rattle.mm_plan.specs.Kept.{AreKept, AreOf, instance_of};
 ghost use Rattle.mm_txn.specs.Kept.{state_of};
 ghost use Rattle.mm_schema.specs.Schema.{lacks_table};
@@ -13,22 +12,20 @@ use mm_query::{ItemList, ListedQuery, ListedTable, Listing};
 use mm_schema::{Catalog, Table};
 use mm_standing::Standing;
 use mm_store::Store;
-use mm_value::Refusal;
-use std::alloc::Global;
+use std::alloc::{AllocError, Global};
 
 /// What there is: the tables with their indexes and how many rows each has, and the standing queries and how many rows each shows.
-/// `Memory` is the only refusal.
+/// `AllocError` where memory is refused.
 pub(crate) fn list_tables(
     alloc: Global,
     catalog: &Catalog,
     store: &Store,
     standing: &Standing,
-) -> Result<Listing, Refusal>
+) -> Result<Listing, AllocError>
     requires relations { AreOf catalog.now.tables store.now.tables }
     requires placed { ArePlaced catalog.now standing.now.queries }
     requires listed { AreListed (instance_of store.now.tables) standing.now }
-    ensures listing { IfOk result (λ listing. listing ≡ listing_of (state_at_rest catalog.now store.now standing.now)) }
-    ensures memory { IfErr result (λ refusal. refusal ≡ Memory) }
+    ensures { IfOk result (λ listing. listing ≡ listing_of (state_at_rest catalog.now store.now standing.now)) }
 {
     Ok(Listing {
         tables: ItemList::new(listed_tables(alloc, catalog, store)?),
@@ -36,15 +33,14 @@ pub(crate) fn list_tables(
     })
 }
 
-/// The tables, and how many rows each has. `Memory` is the only refusal.
+/// The tables, and how many rows each has. `AllocError` where memory is refused.
 fn listed_tables(
     alloc: Global,
     catalog: &Catalog,
     store: &Store,
-) -> Result<Vec<ListedTable>, Refusal>
+) -> Result<Vec<ListedTable>, AllocError>
     requires { AreOf catalog.now.tables store.now.tables }
-    ensures tables { IfOk result (λ listed. listed.items ≡ (listing_of (state_of catalog.now store.now.tables)).tables) }
-    ensures memory { IfErr result (λ refusal. refusal ≡ Memory) }
+    ensures { IfOk result (λ listed. listed.items ≡ (listing_of (state_of catalog.now store.now.tables)).tables) }
 {
     let mut listed = Vec::with_capacity(alloc, catalog.tables().len())?;
     for table in catalog.tables() {
@@ -53,17 +49,16 @@ fn listed_tables(
     Ok(listed)
 }
 
-/// A table of the catalog, and how many rows it has. `Memory` is the only refusal.
+/// A table of the catalog, and how many rows it has. `AllocError` where memory is refused.
 fn listed_table(
     alloc: Global,
     catalog: &Catalog,
     store: &Store,
     table: &Table,
-) -> Result<ListedTable, Refusal>
+) -> Result<ListedTable, AllocError>
     requires relations { AreOf catalog.now.tables store.now.tables }
     requires there { lacks_table table.now.definition.name catalog.now ≡ false }
-    ensures table { IfOk result (λ listed. listed ≡ table_listed (state_of catalog.now store.now.tables) table.now) }
-    ensures memory { IfErr result (λ refusal. refusal ≡ Memory) }
+    ensures { IfOk result (λ listed. listed ≡ table_listed (state_of catalog.now store.now.tables) table.now) }
 {
     let place = catalog.place_of(&table.definition.name).unwrap_or(0);
     Ok(ListedTable {
@@ -72,16 +67,15 @@ fn listed_table(
     })
 }
 
-/// The standing queries, and how many rows each shows. `Memory` is the only refusal.
+/// The standing queries, and how many rows each shows. `AllocError` where memory is refused.
 fn listed_queries(
     alloc: Global,
     catalog: &Catalog,
     standing: &Standing,
-) -> Result<Vec<ListedQuery>, Refusal>
+) -> Result<Vec<ListedQuery>, AllocError>
     requires { ArePlaced catalog.now standing.now.queries }
-    ensures queries { IfOk result (λ listed. (rows : Instance) → AreListed rows standing.now
+    ensures { IfOk result (λ listed. (rows : Instance) → AreListed rows standing.now
         → listed.items ≡ (listing_of (listed_state catalog.now rows standing.now)).standing) }
-    ensures memory { IfErr result (λ refusal. refusal ≡ Memory) }
 {
     let mut listed = Vec::with_capacity(alloc, catalog.standing().len())?;
     for (place, query) in catalog.standing().iter().enumerate() {

@@ -79,7 +79,7 @@ pub enum Question<'l> {
     /// `NoSuchStandingQuery` where none has the name; `Memory` may come in its place and in that of success.
     Show(Name),
     /// What there is: the tables with their indexes and how many rows each has, and the standing queries and how many rows each
-    /// shows, all in the order of creation. `Memory` is the only refusal.
+    /// shows, all in the order of creation. `Memory` where memory is refused.
     Tables,
 }
 

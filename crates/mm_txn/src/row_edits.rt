@@ -34,8 +34,8 @@ pub(crate) fn additions(alloc: Global, rows: Vec<Row>) -> Result<Vec<Edit>, Allo
 }
 
 /// Edits that put in place of each row that meets all atoms the row that the assignments make of it. The rows are found as for a
-/// query of this table alone. `ArithmeticOutOfRange` where some value is past the range of whole numbers; else `Memory` is the only
-/// refusal.
+/// query of this table alone. `ArithmeticOutOfRange` where some value is past the range of whole numbers; `Memory` where memory is
+/// refused.
 pub(crate) fn updates(
     alloc: Global,
     view: &mut View<'_>,

@@ -1,11 +1,10 @@
 //! Standing queries that are kept and dropped. They are for a database in which no transaction is open.
-ghost use Rattle.std.specs.Prelude.{◌≡◌, [], None, map, IfErr, IfOk, OnErr, OnOk};
+ghost use Rattle.std.specs.Prelude.{◌≡◌, [], None, map, IfOk, OnErr, OnOk};
 ghost use Rattle.mm_query.specs.Resolving.{IsQueryWithin, placed_query, places_in};
 ghost use Rattle.mm_query.specs.Standing.{after_unwatch, after_watch, watch_conditions};
 ghost use Rattle.mm_query.specs.declared.query.FromItem.{FromItem as Item};
 ghost use Rattle.mm_schema.specs.Refused.{AnswersDue, first_refusal};
 ghost use Rattle.mm_schema.specs.Standing.{drop_standing_conditions, standing_conditions};
-ghost use Rattle.mm_value.specs.declared.refusal.Refusal.TheVariants.{Memory};
 ghost use Rattle.mm_txn.specs.Contents.{state_held};
 ghost use Rattle.mm_txn.specs.Rest.{earlier_refusal, naming_conditions};
 
@@ -92,10 +91,9 @@ fn earlier_refusal(of_query: Refusal, of_name: Option<Refusal>) -> Refusal
     }
 }
 
-/// The names of the tables of FROM. `Memory` is the only refusal.
-fn names_of(alloc: Global, from: &[FromItem]) -> Result<TableNames, Refusal>
-    ensures names { IfOk result (λ names. names ≡ map (λ (item : Item). item.table) from.now) }
-    ensures memory { IfErr result (λ refusal. refusal ≡ Memory) }
+/// The names of the tables of FROM. `AllocError` where memory is refused.
+fn names_of(alloc: Global, from: &[FromItem]) -> Result<TableNames, AllocError>
+    ensures { IfOk result (λ names. names ≡ map (λ (item : Item). item.table) from.now) }
 {
     let mut names = Vec::with_capacity(alloc, from.len())?;
     for item in from {

@@ -295,7 +295,8 @@ impl Case {
             return Err(Refusal::NoSuchTable);
         }
         let edits = addition(alloc, key, number)?;
-        changes_of(alloc, &self.store, query, tables, table, edits.as_slice())
+        let changes = changes_of(alloc, &self.store, query, tables, table, edits.as_slice())?;
+        Ok(changes)
     }
 
     /// How many combinations of rows fit a query over tables that stand at these places. The refusals are those of `watch`, but

@@ -10,16 +10,20 @@ use crate::three_lists::{is_as_sampled, sample, watch_joined};
 use mm_delta::{Counted, Signed};
 use mm_query::BoundQuery;
 use mm_value::{Refusal, Row};
-use std::alloc::Global;
+use std::alloc::{AllocError, Global};
 use std::io;
 use std::process::Abort;
 use std::test::Fail;
 
-/// Asserts that it was memory that a call was refused, and tells that the call is given again. A run that refuses growths looks for
-/// the line.
-fn asked_again(rt: &(impl Abort + Print), refusal: Refusal) -> io::Result<()> {
-    assert_same(rt, refusal, Refusal::Memory);
+/// Tells that a call is given again. A run that refuses growths looks for the line.
+fn asked_again(rt: &impl Print) -> io::Result<()> {
     rt.println("refused")
+}
+
+/// Asserts that it was memory that a call was refused, and tells that the call is given again.
+fn memory_was_refused(rt: &(impl Abort + Print), refusal: Refusal) -> io::Result<()> {
+    assert_same(rt, refusal, Refusal::Memory);
+    asked_again(rt)
 }
 
 /// Asserts that a call on the sample was refused memory, and that the lists are as they were.
@@ -28,7 +32,7 @@ fn assert_unchanged(
     case: &Case,
     refusal: Refusal,
 ) -> Result<(), Fail> {
-    asked_again(rt, refusal)?;
+    memory_was_refused(rt, refusal)?;
     assert_that(rt, is_as_sampled(case, rt.alloc())?);
     Ok(())
 }
@@ -103,7 +107,7 @@ fn look_again(rt: &(impl Abort + AllocGlobal + Print), case: &Case) -> Result<()
     match case.shows(rt.alloc(), 0, rows) {
         Ok(is_shown) => assert_that(rt, is_shown),
         Err(refusal) => {
-            asked_again(rt, refusal)?;
+            memory_was_refused(rt, refusal)?;
             assert_that(rt, case.shows(rt.alloc(), 0, rows)?);
         }
     }
@@ -141,7 +145,7 @@ fn changes_again(
     match adds_one_row(case, rt.alloc(), query) {
         Ok(is_one) => assert_that(rt, is_one),
         Err(refusal) => {
-            asked_again(rt, refusal)?;
+            memory_was_refused(rt, refusal)?;
             assert_that(rt, adds_one_row(case, rt.alloc(), query)?);
         }
     }
@@ -165,19 +169,19 @@ fn delta_growths(rt: HostRuntime) -> Result<(), Fail> {
 }
 
 /// Counts the row of a key and a number up.
-fn count_row(bag: &mut Counted, alloc: Global, key: i64, number: i64) -> Result<(), Refusal> {
+fn count_row(bag: &mut Counted, alloc: Global, key: i64, number: i64) -> Result<(), AllocError> {
     bag.count_up(row(alloc, key, number)?)
 }
 
 /// Counts a row of a key up once, and one of another key twice.
-fn count_rows(bag: &mut Counted, alloc: Global) -> Result<(), Refusal> {
+fn count_rows(bag: &mut Counted, alloc: Global) -> Result<(), AllocError> {
     count_row(bag, alloc, 1, 5)?;
     count_row(bag, alloc, 2, 5)?;
     count_row(bag, alloc, 2, 5)
 }
 
 /// A bag with a row of a key once and one of another key twice.
-fn bag(alloc: Global) -> Result<Counted, Refusal> {
+fn bag(alloc: Global) -> Result<Counted, AllocError> {
     let mut bag = Counted::new(alloc);
     count_rows(&mut bag, alloc)?;
     Ok(bag)
@@ -189,8 +193,8 @@ fn count_again(
     bag: &mut Counted,
     new: Row,
 ) -> Result<(), Fail> {
-    if let Err(refusal) = bag.count_up(new) {
-        asked_again(rt, refusal)?;
+    if let Err(AllocError) = bag.count_up(new) {
+        asked_again(rt)?;
         assert_same(rt, (bag.len(), bag.total()), (0, 0));
         assert_that(rt, count_row(bag, rt.alloc(), 3, 7).is_ok());
     }
@@ -209,8 +213,8 @@ fn count_up_growths(rt: HostRuntime) -> Result<(), Fail> {
 
 /// Reserves room in a bag of two rows and three counts, again where memory is refused.
 fn reserve_again(rt: &(impl Abort + Print), bag: &mut Counted) -> Result<(), Fail> {
-    if let Err(refusal) = bag.reserve(100) {
-        asked_again(rt, refusal)?;
+    if let Err(AllocError) = bag.reserve(100) {
+        asked_again(rt)?;
         assert_same(rt, (bag.len(), bag.total()), (2, 3));
         assert_that(rt, bag.reserve(100).is_ok());
     }
@@ -237,7 +241,7 @@ fn are_rows(rows: &[Row], numbers: [[i64; 2]; 3]) -> bool {
 }
 
 /// Whether a bag lists its row of one key once and that of the other key twice.
-fn lists_rows(bag: &Counted, alloc: Global) -> Result<bool, Refusal> {
+fn lists_rows(bag: &Counted, alloc: Global) -> Result<bool, AllocError> {
     let rows = bag.list(alloc)?;
     Ok(are_rows(rows.as_slice(), [[1, 5], [2, 5], [2, 5]]))
 }
@@ -246,8 +250,8 @@ fn lists_rows(bag: &Counted, alloc: Global) -> Result<bool, Refusal> {
 fn list_again(rt: &(impl Abort + AllocGlobal + Print), bag: &Counted) -> Result<(), Fail> {
     match lists_rows(bag, rt.alloc()) {
         Ok(are_listed) => assert_that(rt, are_listed),
-        Err(refusal) => {
-            asked_again(rt, refusal)?;
+        Err(AllocError) => {
+            asked_again(rt)?;
             assert_that(rt, lists_rows(bag, rt.alloc())?);
         }
     }

@@ -199,7 +199,7 @@ pub fn changes_of(
     tables: &[usize],
     table: usize,
     edits: &[Edit],
-) -> Result<Vec<Signed>, Refusal>
+) -> Result<Vec<Signed>, AllocError>
     requires fit { (stored : StoredRows) → IsAt store.now table stored → AreFit stored edits.now }
     requires there { All (λ place. place < length store.now.tables) tables.now }
     requires few { length tables.now ≤ 4 }

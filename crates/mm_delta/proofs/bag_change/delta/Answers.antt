@@ -21,12 +21,12 @@ add_term-requires-clause-there c = subst (λ (s : Tables). All (λ table. table 
 pub add_term-requires-clause-fit : goal.add_term-requires-clause-fit
 add_term-requires-clause-fit c =
     subst (λ s. EachFit s c.in_ok-indexed.indexed) (sym c.loop-place.invariant.same)
-    (subst (EachFit c.args.view.now.store) (sym c.in_ok-indexed.ensures.ok) c.requires.fit)
+    (subst (EachFit c.args.view.now.store) (sym c.in_ok-indexed.ensures) c.requires.fit)
 
 pub add_term-requires-clause-typed : goal.add_term-requires-clause-typed
 add_term-requires-clause-typed c =
     subst (λ s. IsTypeTested c.args.query.now s c.in_ok-indexed.indexed c.args.tables.now) (sym c.loop-place.invariant.same)
-    (subst (λ changes. IsTypeTested c.args.query.now c.args.view.now.store changes c.args.tables.now) (sym c.in_ok-indexed.ensures.ok) c.requires.typed)
+    (subst (λ changes. IsTypeTested c.args.query.now c.args.view.now.store changes c.args.tables.now) (sym c.in_ok-indexed.ensures) c.requires.typed)
 
 pub loop-place-init : goal.loop-place-init
 loop-place-init c = record {
@@ -42,7 +42,7 @@ loop-place-preserved c = record {
   counts = λ row.
       let k = c.loop-place.place in
       let same = c.loop-place.invariant.same in
-      let changes = c.in_ok-indexed.ensures.ok in
+      let changes = c.in_ok-indexed.ensures in
       let at = some_at c.args.view.now.store.tables (get_or c.args.tables.now k 0) (c.requires.there k 0 c.loop-place-test.true) in
       let was = (table_seen c.args.view.now (get_or c.args.tables.now k 0) at.0 at.1).kept in
       counts_more c.args.query.now c.args.view.now.store c.args.changes.now c.args.tables.now row k at.0
@@ -66,7 +66,7 @@ loop-place-preserved c = record {
       let k = c.loop-place.place in
       let moved : term_reads c.args.query.now c.loop-place.view.store c.in_ok-indexed.indexed c.args.tables.now skipped k
       ≡ term_reads c.args.query.now c.args.view.now.store c.args.changes.now c.args.tables.now skipped k =
-      λ i. term_reads c.args.query.now (c.loop-place.invariant.same i) (c.in_ok-indexed.ensures.ok i) c.args.tables.now skipped k in
+      λ i. term_reads c.args.query.now (c.loop-place.invariant.same i) (c.in_ok-indexed.ensures i) c.args.tables.now skipped k in
       omega (
         arith,
         c.loop-place.invariant.reads skipped only,
@@ -82,7 +82,7 @@ returns-in_err-add_term-clause-reads c = λ skipped only.
     let n = length c.args.tables.now in
     let moved : term_reads c.args.query.now c.loop-place.view.store c.in_ok-indexed.indexed c.args.tables.now skipped k
     ≡ term_reads c.args.query.now c.args.view.now.store c.args.changes.now c.args.tables.now skipped k =
-    λ i. term_reads c.args.query.now (c.loop-place.invariant.same i) (c.in_ok-indexed.ensures.ok i) c.args.tables.now skipped k in
+    λ i. term_reads c.args.query.now (c.loop-place.invariant.same i) (c.in_ok-indexed.ensures i) c.args.tables.now skipped k in
     let all : (k + 1) + (n - (k + 1)) ≡ n = omega (arith, c.loop-place-test.true) in
     omega (
       arith,

@@ -4,8 +4,8 @@ use Rattle.mm_value.specs.Equality.{same_value}
 use Rattle.mm_delta.proofs.Under.{put_behind}
 use Rattle.mm_delta.proofs.coming_index.add_row.Goals as goal
 
-pub returns-clause-added : goal.returns-clause-added
-returns-clause-added c =
+pub returns : goal.returns
+returns c =
     let kept = c.in_ok-add_found.ensures.kept c.if-branch.false in
     put_behind c.args.value.now c.args.row c.args.rows.now.entries c.insert.new.self.entries c.push.new.self
     (λ q. c.in_ok-insert.ensures.updates.0 q ∙ (λ i. cond (same_value (c.in_ok-copy.ensures.ok i) q) (Some c.push.new.self)

@@ -9,4 +9,4 @@ loop-edit-preserved c =
     coming_more (coming_lem (asked c.args.look_up.now)) c.args.edits.now c.loop-edit.edit-index c.edit-item.result
     (map (λ row. row.now) c.args.rows.now.items) (map (λ row. row.now) c.loop-edit.rows.items) (map (λ row. row.now) c.push_some.new.rows.items)
     c.loop-edit-test.true c.edit-item.is c.loop-edit.invariant
-    (c.in_ok-push_some.ensures.added ∙ ap (λ o. map (λ row. row.now) c.loop-edit.rows.items ++ cons_option o []) c.coming.ensures)
+    (c.in_ok-push_some.ensures ∙ ap (λ o. map (λ row. row.now) c.loop-edit.rows.items ++ cons_option o []) c.coming.ensures)

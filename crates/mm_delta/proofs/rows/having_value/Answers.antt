@@ -5,8 +5,8 @@ use Rattle.mm_delta.proofs.rows.having_value.Goals as goal
 pub matches-requires-clause-index : goal.matches-requires-clause-index
 matches-requires-clause-index c = λ stored at. (c.args.look_up.now.column, c.requires.served stored at)
 
-pub returns-clause-found : goal.returns-clause-found
-returns-clause-found c = λ stored at.
+pub returns : goal.returns
+returns c = λ stored at.
     found_by_value stored (table_seen c.args.view.now c.args.table stored at).kept c.args.look_up.now.column c.args.look_up.now.index c.args.value.now
     c.new-found.result.items c.matches.new.out.items (c.requires.served stored at) c.new-found.ensures.items
     (c.in_ok-matches.ensures.ok stored c.args.look_up.now.column at (c.requires.served stored at))

@@ -12,8 +12,8 @@ loop-preserved c =
     let copied = c.in_ok-copy.ensures in
     is.items ∙ (λ i. c.loop.invariant i ++ copied.ok i ∷ []) ∙ one_more_copy c.args.rows.now.items c.args.row.now c.loop.counter
 
-pub returns-clause-ok : goal.returns-clause-ok
-returns-clause-ok c =
+pub returns : goal.returns
+returns c =
     let end = c.loop-test.false in
     let most = c.loop.auto.counter-end in
     let all : c.loop.counter ≡ c.args.count = omega (arith, end, most) in

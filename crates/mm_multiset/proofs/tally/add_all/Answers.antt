@@ -51,14 +51,14 @@ loop-change-preserved c =
           moved (pos (count_in row c.loop-change.many.entries)) (signed_count row left) (pos (count_in row c.add_counts.new.many.entries))
           (signed_count row c.loop-change.change-iterator.rest.items) (cond (same_row row change.row) change.count (pos 0))
           (pos (count_in row c.args.many.now.entries) +ℤ signed_count row c.args.few.items) (c.loop-change.invariant.sum row)
-          (ap (λ (xs : List Signed). signed_count row xs) steps.0) (c.in_ok-add_counts.ensures.added.counts row);
+          (ap (λ (xs : List Signed). signed_count row xs) steps.0) (c.in_ok-add_counts.ensures.counts row);
     }
 
 all_added : (f s t : ℤ) → f +ℤ s ≡ t → s ≡ pos 0 → f ≡ t
 all_added f s t e none = omega (arith, ints, e, none)
 
-pub returns-clause-added : goal.returns-clause-added
-returns-clause-added c = λ row.
+pub returns : goal.returns
+returns c = λ row.
     let steps = c.in-None.ensures.steps in
     let none : c.loop-change.change-iterator.rest.items ≡ [] = nothing c.loop-change.change-iterator.rest.items
     (omega (arith, steps.0, c.loop-change.invariant.size)) in

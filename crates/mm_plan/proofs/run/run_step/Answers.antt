@@ -1,10 +1,11 @@
-use Rattle.std.proofs.Common.{◌≡◌, ◌+◌, ◌<◌, ◌≤◌, [], Some, get_or, length, map, take, sym, ap, ◌∙◌, subst, arith}
+use Rattle.std.proofs.Common.{◌≡◌, ℕ, ◌+◌, ◌<◌, ◌≤◌, [], Some, get_or, length, map, take, sym, ap, ◌∙◌, subst, arith}
 use Rattle.std.specs.List.{count_by}
 use Rattle.std.specs.Prelude.{slice_get}
 use Rattle.std.proofs.lemmas.Option.{get_or_from_slice_get, slice_get-get_or}
 use Rattle.mm_plan.proofs.FirstWays.{first_tables, join_allowed}
 use Rattle.mm_plan.proofs.Reading.{alone, as_fitting, first_reads}
 use Rattle.mm_plan.proofs.run.run_step.Goals as goal
+use Rattle.mm_plan.proofs.run.run_step.Goals.{After-begin}
 use Rattle.mm_plan.specs.Steps.{may_look, step_reads}
 use Rattle.mm_plan.specs.declared.step.Step.{Step}
 use Rattle.mm_plan.specs.declared.step.Step.TheVariants as step
@@ -22,8 +23,12 @@ join_next-requires-clause-joins c = λ table at.
     (subst (λ n. slice_get steps n ≡ Some own) (sym c.requires.at)
     (slice_get-get_or steps c.args.place step.Scan (omega (arith, c.requires.left, c.requires.steps.each))))
 
-pub returns-then-place-eq0-clause-reads : goal.returns-then-place-eq0-clause-reads
-returns-then-place-eq0-clause-reads c = λ table own at_table at_step.
+-- The first table reads what its step may look at.
+first_read : (c : After-begin) (table : ℕ) (own : Step) → slice_get c.args.tables.now c.args.place ≡ Some table
+    → slice_get c.args.steps.now c.args.place ≡ Some own
+    → c.begin.new.view.reads ≤ c.args.view.now.reads + step_reads c.args.query.now.atoms c.args.place own (rows_at c.args.view.now.store.tables table)
+    (fitting c.args.query.now.atoms (map (rows_at c.args.view.now.store.tables) (take c.args.place c.args.tables.now)))
+first_read c table own at_table at_step =
     let store = c.args.view.now.store in
     let atoms = c.args.query.now.atoms in
     let tables = c.args.tables.now in
@@ -38,6 +43,12 @@ returns-then-place-eq0-clause-reads c = λ table own at_table at_step.
     let bound = c.begin.ensures.reads table own first_table first_step in
     subst (λ n. c.begin.new.view.reads ≤ c.args.view.now.reads + step_reads atoms n own rows (fitting atoms (map (rows_at store.tables) (take n tables))))
     (sym c.if-place-eq0.true) (omega (arith, few, bound))
+
+pub returns-in_err-begin-clause-reads : goal.returns-in_err-begin-clause-reads
+returns-in_err-begin-clause-reads c = first_read (goal.at.returns-in_err-begin-clause-reads c).After-begin
+
+pub returns-in_ok-begin-clause-reads : goal.returns-in_ok-begin-clause-reads
+returns-in_ok-begin-clause-reads c = first_read (goal.at.returns-in_ok-begin-clause-reads c).After-begin
 
 pub returns-else-place-eq0-clause-reads : goal.returns-else-place-eq0-clause-reads
 returns-else-place-eq0-clause-reads c = λ table own at_table at_step.

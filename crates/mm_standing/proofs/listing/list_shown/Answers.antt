@@ -3,6 +3,7 @@ use Rattle.std.proofs.Common.{◌≡◌, ◌*◌, ◌++◌, List, length, sym, a
 use Rattle.std.specs.Borrow.{Bor}
 use Rattle.std.specs.List.{All}
 use Rattle.std.proofs.lemmas.List.{length-map}
+use Rattle.std.proofs.lemmas.Result.{IfOk-weaker}
 use Rattle.mm_value.specs.declared.values.Value.{Value}
 use Rattle.mm_schema.specs.Sorting.{in_order}
 use Rattle.mm_query.specs.Queries.{rows_by_columns}
@@ -33,12 +34,15 @@ sorted-requires c =
     let turn = length_in_turn (length c.args.query.now.fields) (rows_of w) (wide w) in
     sym long ∙ are ∙ turn ∙ (λ k. sym c.count_shown-count.ensures.count k * length (sym c.as_slice-width.ensures k))
 
-pub returns-clause-shown : goal.returns-clause-shown
-returns-clause-shown c = λ rows bag.
-    let w = (goal.at.returns-clause-shown c).In_ok-push_entries in
+pub returns : goal.returns
+returns c =
+    let w = (goal.at.returns c).In_ok-push_entries in
     let query = c.args.query.now in
-    c.in_ok-sorted.ensures
+    IfOk-weaker c.sorted.result _ _
+    (λ shown sorted rows bag.
+    sorted
     ∙ (λ k. in_order (rows_by_columns (c.as_slice-order.ensures k))
     (pieces (length (c.as_slice-width.ensures k)) (c.count_shown-count.ensures.count k) (values_are w k)))
     ∙ ap (in_order (rows_by_columns query.order)) (pieces_in_turn (length query.fields) (rows_of w) (wide w))
-    ∙ shown_from_entries c.args.bag.now.entries rows c.count_shown-count.ensures.once bag query
+    ∙ shown_from_entries c.args.bag.now.entries rows c.count_shown-count.ensures.once bag query)
+    c.sorted.ensures

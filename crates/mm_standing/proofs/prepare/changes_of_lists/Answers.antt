@@ -144,7 +144,7 @@ loop-list-preserved c =
     (subst (λ (s : Tables). cond (is_too_large (bag_over (after_at s c.args.changes.now) query)) (Some StandingListTooLarge) None ≡ None) so_far.same
     c.in_ok-changed.ensures.due) in
     record {
-      stage = subst (IsStage bags queries over (list + 1)) (sym c.in_ok-push_changes.ensures.ok)
+      stage = subst (IsStage bags queries over (list + 1)) (sym c.in_ok-push_changes.ensures)
           (stage_more bags queries over list c.loop-list.found.items bag query changed so_far.stage there c.index-bags-list.is at brings);
       few = subst (λ n. All (λ (s : StandingQuery). is_too_large (over s) ≡ false) (take n queries)) (sym (add-one list))
           (All_more (λ (s : StandingQuery). is_too_large (over s) ≡ false) queries list query c.index-queries-list.is so_far.few few);

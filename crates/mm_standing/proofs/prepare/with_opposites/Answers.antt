@@ -17,5 +17,5 @@ loop-done-preserved c =
       done = ap done_of is ∙ map-append (λ (p : Prepared). p.done) old (one ∷ [])
           ∙ ap (λ (cs : List ListChange). cs ++ c.in-Some.done ∷ []) c.loop-done.invariant.done;
       opposites = subst (All (λ (p : Prepared). p.undo ≡ opposite p.done)) (sym is)
-          (All-push (λ (p : Prepared). p.undo ≡ opposite p.done) old one c.loop-done.invariant.opposites c.in_ok-undo.ensures.ok);
+          (All-push (λ (p : Prepared). p.undo ≡ opposite p.done) old one c.loop-done.invariant.opposites c.in_ok-undo.ensures);
     }

@@ -1,13 +1,10 @@
 -- The rows that the plan finds are those of the bag.
 use Rattle.std.proofs.Common.{◌≡◌, false, List, [], map, sym, ap, ◌∙◌, subst}
 use Rattle.std.specs.List.Sorted.{IsPermutation}
-use Rattle.std.proofs.lemmas.Result.{IfOk-weaker}
 use Rattle.mm_value.specs.declared.values.Value.{Value}
 use Rattle.mm_query.specs.Queries.{bag_of}
 use Rattle.mm_store.specs.Tables.{Tables, rows_at}
 use Rattle.mm_templist.specs.Results.{result_rows}
-use Rattle.mm_multiset.specs.Counts.{Counts}
-use Rattle.mm_standing.specs.Queries.{IsBagOf}
 use Rattle.mm_standing.proofs.Found.{bag_moved, result_bag}
 use Rattle.mm_standing.proofs.watching.bag_now.Goals as goal
 
@@ -25,5 +22,4 @@ returns-clause-ok c =
     (result_bag seen query tables c.in-Ok.list [] c.in-Ok.ensures.tables c.in-Ok.ensures.fields c.in-Ok.ensures.fitting) in
     let moved : IsPermutation rows due =
     subst (λ (s : Tables). IsPermutation rows (bag_of query (map (rows_at s.tables) tables))) c.view-view.ensures.store found in
-    IfOk-weaker c.counted.result (λ (bag : Counts). IsBagOf bag.entries rows) (λ (bag : Counts). IsBagOf bag.entries due)
-    (λ bag is. bag_moved bag.entries rows due moved is) c.counted.ensures.ok
+    bag_moved c.in_ok-counted.field-0.entries rows due moved c.in_ok-counted.ensures.ok

@@ -30,7 +30,7 @@ loop-at-preserved-in-Continue-branch-2 c = record {
       let goes : is_cascaded_by c.args.view.now.store.tables cascade.column (cascade.to, cascade.gone.now) row ≡ true =
       sym (scan_goes c.args.view.now.store c.args.table cascade.column (cascade.to, cascade.gone.now) c.requires.cascade row c.follow-target.result
       (c.follow-target.ensures stored at) (λ target there. (table_seen c.args.view.now cascade.to target there).kept))
-      ∙ sym (c.contains.ensures ∙ c.in_ok-gone.ensures.ok c.follow-target.result) ∙ c.if-contains.true in
+      ∙ sym (c.contains.ensures ∙ c.in_ok-gone.ensures c.follow-target.result) ∙ c.if-contains.true in
       c.in_ok-push.ensures.items ∙ ap (λ (xs : List RowRef). xs ++ c.in-Some.at ∷ []) (c.loop-at.invariant.added stored at)
       ∙ append_assoc c.args.found.now.items _ (c.in-Some.at ∷ [])
       ∙ ap (λ (xs : List RowRef). c.args.found.now.items ++ xs) (sym (filter_push _ c.loop-at.yielded c.in-Some.at true goes));
@@ -46,13 +46,13 @@ loop-at-preserved c = record {
       let stays : is_cascaded_by c.args.view.now.store.tables cascade.column (cascade.to, cascade.gone.now) row ≡ false =
       sym (scan_goes c.args.view.now.store c.args.table cascade.column (cascade.to, cascade.gone.now) c.requires.cascade row c.follow-target.result
       (c.follow-target.ensures stored at) (λ target there. (table_seen c.args.view.now cascade.to target there).kept))
-      ∙ sym (c.contains.ensures ∙ c.in_ok-gone.ensures.ok c.follow-target.result) ∙ c.if-contains.false in
+      ∙ sym (c.contains.ensures ∙ c.in_ok-gone.ensures c.follow-target.result) ∙ c.if-contains.false in
       c.loop-at.invariant.added stored at
       ∙ ap (λ (xs : List RowRef). c.args.found.now.items ++ xs) (sym (filter_push _ c.loop-at.yielded c.in-Some.at false stays ∙ append-nil _));
 }
 
-pub returns-clause-found : goal.returns-clause-found
-returns-clause-found c = λ stored at.
+pub returns : goal.returns
+returns c = λ stored at.
     let cascade = c.args.cascade.now in
     let all : c.walk-at-items.result ≡ c.loop-at.yielded =
     sym c.into_iter-at-iterator.ensures.into_iter_gives

@@ -4,6 +4,7 @@ use Rattle.std.specs.List.{filter, list_any}
 use Rattle.std.specs.Option.{option_map_or}
 use Rattle.std.proofs.lemmas.List.{take_all}
 use Rattle.std.proofs.lemmas.List.Elements.{All-nil}
+use Rattle.std.proofs.lemmas.Result.{IfOk-weaker}
 use Rattle.mm_partition.specs.Places.{IsLive, slot_at}
 use Rattle.mm_relation.specs.Before.{same_ref}
 use Rattle.mm_relation.specs.Kept.{StoredRows}
@@ -38,7 +39,7 @@ add_referrers-requires-clause-cascade c =
     subst (λ (s : Tables). IsCascade s c.args.table item.column (item.to, item.gone.now)) (sym c.loop-cascade.invariant.same)
     (cascade_so (λ (a : PlacedCascade). IsCascade store c.args.table a.0 a.1) (cascades_from schema cs 0 t.definition.columns)
     (cascades_are schema store c.requires.kept c.requires.distinct cs c.requires.are c.args.table t at) c.deref-cascade-items.result.now
-    (ap (map placed_cascade) c.deref-cascade-items.ensures.value ∙ c.in_ok-columns.ensures.found t at) c.loop-cascade.cascade-index item
+    (ap (map placed_cascade) c.deref-cascade-items.ensures.value ∙ c.in_ok-columns.ensures t at) c.loop-cascade.cascade-index item
     c.loop-cascade-test.true c.cascade-item.is)
 
 pub loop-cascade-preserved : goal.loop-cascade-preserved
@@ -71,10 +72,14 @@ pub returns-clause-fit : goal.returns-clause-fit
 returns-clause-fit c =
     let within = subst (λ n. c.args.table < n) (as_many c.args.catalog.now.tables c.args.store.now.tables c.requires.kept.relations) c.requires.there in
     let (stored, here) = some_at c.args.store.now.tables c.args.table within in
-    (stored, here, c.in_ok-removals_at.ensures.fit stored (subst (λ (s : Tables). IsAt s c.args.table stored) (sym c.loop-cascade.invariant.same) here))
+    IfOk-weaker c.removals_at.result _ _
+    (λ edits fit. (stored, here, fit stored (subst (λ (s : Tables). IsAt s c.args.table stored) (sym c.loop-cascade.invariant.same) here)))
+    c.removals_at.ensures.fit
 
 pub returns-clause-pairs : goal.returns-clause-pairs
-returns-clause-pairs c = λ t at.
+returns-clause-pairs c =
+    IfOk-weaker c.removals_at.result _ _
+    (λ edits edits_are t at.
     let schema = c.args.catalog.now in
     let store = c.args.store.now in
     let within = subst (λ n. c.args.table < n) (as_many schema.tables store.tables c.requires.kept.relations) c.requires.there in
@@ -89,10 +94,11 @@ returns-clause-pairs c = λ t at.
     let goes : (row : Row) → is_cascaded_by_some store.tables (map placed_cascade (take k items)) row ≡ p row =
     λ row. ap (λ xs. is_cascaded_by_some store.tables (map placed_cascade xs) row)
     (take_all k items c.loop-cascade-test.false ∙ c.deref-cascade-items.ensures.value)
-    ∙ ap (λ xs. is_cascaded_by_some store.tables xs row) (c.in_ok-columns.ensures.found t at)
+    ∙ ap (λ xs. is_cascaded_by_some store.tables xs row) (c.in_ok-columns.ensures t at)
     ∙ cascades_go schema store c.requires.kept c.requires.distinct cs c.requires.are c.args.table t at row in
-    ap (λ o. option_map_or (λ (s : StoredRows). edit_pairs (slot_at s.places) c.in_ok-removals_at.field-0.items) o []) here
-    ∙ ap (edit_pairs now) (c.in_ok-removals_at.ensures.items stored seen)
+    ap (λ o. option_map_or (λ (s : StoredRows). edit_pairs (slot_at s.places) edits.items) o []) here
+    ∙ ap (edit_pairs now) (edits_are stored seen)
     ∙ pairs_filtered now q p stored.refs (λ x among.
     (c.loop-cascade.invariant.found stored here).found x (Contains-from_IsIn stored.refs x among) ∙ goes (row_at now x))
-    ∙ ap (λ rows. removals_of (filter p rows)) (sym (ap (λ o. option_map_or rows_of o []) here))
+    ∙ ap (λ rows. removals_of (filter p rows)) (sym (ap (λ o. option_map_or rows_of o []) here)))
+    c.removals_at.ensures.items

@@ -2,9 +2,9 @@ use Rattle.std.proofs.Common.{◌∙◌}
 use Rattle.mm_plan.specs.Kept.{instance_of}
 use Rattle.mm_txn.proofs.listing.list_tables.Goals as goal
 
-pub returns-clause-listing : goal.returns-clause-listing
-returns-clause-listing c =
+pub returns : goal.returns
+returns c =
     λ i. record {
-      tables = (c.new.ensures ∙ c.in_ok-listed_tables.ensures.tables) i;
-      standing = (c.new-2.ensures ∙ c.in_ok-listed_queries.ensures.queries (instance_of c.args.store.now.tables) c.requires.listed) i;
+      tables = (c.new.ensures ∙ c.in_ok-listed_tables.ensures) i;
+      standing = (c.new-2.ensures ∙ c.in_ok-listed_queries.ensures (instance_of c.args.store.now.tables) c.requires.listed) i;
     }

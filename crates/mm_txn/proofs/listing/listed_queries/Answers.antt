@@ -27,8 +27,8 @@ loop-place-preserved c = λ rows are.
     ∙ (λ i. c.loop-place.invariant rows are i ++ record { name = c.copy.ensures i; rows = count i } ∷ [])
     ∙ next_told (query_listed (listed_state schema rows lists)) schema.standing c.loop-place.place d at
 
-pub returns-clause-queries : goal.returns-clause-queries
-returns-clause-queries c = λ rows are.
+pub returns : goal.returns
+returns c = λ rows are.
     let all : length c.args.catalog.now.standing ≤ c.loop-place.place =
     subst (λ ss. length ss ≤ c.loop-place.place) c.standing-query-items.ensures.value c.loop-place-test.false in
     c.loop-place.invariant rows are

@@ -13,8 +13,8 @@ len_of-requires c =
     (subst (λ k. k < length c.args.store.now.tables) (sym (c.unwrap_or-place.ensures ∙ ap (λ p. unwrap_or p 0) (c.place_of.ensures.place ∙ found.1)))
     (rows_there c.args.catalog.now c.args.store.now.tables c.requires.relations c.args.table.now.definition.name found.0 found.1))
 
-pub returns-clause-table : goal.returns-clause-table
-returns-clause-table c =
+pub returns : goal.returns
+returns c =
     let schema = c.args.catalog.now in
     let rs = c.args.store.now.tables in
     let name = c.args.table.now.definition.name in

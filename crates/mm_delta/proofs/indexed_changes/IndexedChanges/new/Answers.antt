@@ -12,6 +12,6 @@ loop-place-preserved c =
       | then-is_met+then-not-any+in_ok-columns+in_ok-index+in_ok-push w ↦
           subst (λ v. All P v.items) (sym w.indexes-is)
           (subst (All P) (sym w.in_ok-push.ensures.items)
-          (All-push P c.loop-place.indexes.items _ c.loop-place.invariant (w.in_ok-index.ensures.ok ∙ w.edits_of.ensures)))
+          (All-push P c.loop-place.indexes.items _ c.loop-place.invariant (w.in_ok-index.ensures ∙ w.edits_of.ensures)))
       | else-is_met w ↦ subst (λ v. All P v.items) (sym w.indexes-is) c.loop-place.invariant
     ]

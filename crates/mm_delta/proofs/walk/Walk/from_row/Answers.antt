@@ -40,7 +40,7 @@ returns-then-left_out-clause-counted c =
     ∙ one_row_is (length c.args.self.now.tables.now) c.args.self.now.place c.args.row.now c.requires.place in
     λ other. left_out_adds c.args.self.now.query.now c.args.view.now.store c.args.self.now.changes.now c.args.self.now.tables.now c.args.self.now.place
     c.args.row.now c.requires.place c.requires.typed c.requires.edited
-    c.with-chosen.result m_is (c.in_ok-left_out.ensures.ok.0 c.if-left_out.true) (count_in other c.args.out.now.entries) other
+    c.with-chosen.result m_is (c.in_ok-left_out.ensures.0 c.if-left_out.true) (count_in other c.args.out.now.entries) other
 
 pub returns-clause-reads : goal.returns-clause-reads
 returns-clause-reads c =
@@ -64,5 +64,5 @@ returns-clause-reads c =
           (reads_for c.args.self.now.query.now c.args.view.now.store c.args.self.now.changes.now c.args.self.now.tables.now c.args.self.now.place
           (other_places (length c.args.self.now.tables.now) c.args.self.now.place)
           (one_row (length c.args.self.now.tables.now) c.args.self.now.place c.args.row.now)) only
-          (λ cyclic. true≢false (sym (c.in_ok-left_out.ensures.ok.1 (inr cyclic)) ∙ c.if-left_out.false)),
+          (λ cyclic. true≢false (sym (c.in_ok-left_out.ensures.1 (inr cyclic)) ∙ c.if-left_out.false)),
     )

@@ -19,7 +19,7 @@ read_all-requires-clause-live c = λ stored at.
     subst (All (IsLive stored.places)) (sym (c.deref.ensures.value ∙ c.leave_standing.ensures))
     (All-filter (stays (overlay_edits c.edits_at-edits.result)) (IsLive stored.places) c.in_ok-refs.refs.items
     (found_live stored (table_seen c.args.view.now (get_or c.args.self.now.tables.now c.args.place 0) stored at).kept (asked c.in_ok-look_up.look_up)
-    c.in_ok-refs.refs.items (c.in_ok-refs.ensures.found stored at)))
+    c.in_ok-refs.refs.items (c.in_ok-refs.ensures stored at)))
 
 pub returns-in_err-rows-clause-reads : goal.returns-in_err-rows-clause-reads
 returns-in_err-rows-clause-reads c =
@@ -27,7 +27,7 @@ returns-in_err-rows-clause-reads c =
     let few = few_read c.args.view.now (get_or c.args.self.now.tables.now c.args.place 0) at.0 at.1 (asked c.in_ok-look_up.look_up)
     (required (has_index c.args.view.now.store (get_or c.args.self.now.tables.now c.args.place 0))
     c.args.self.now.query.now.atoms c.args.chosen.now c.args.place)
-    c.in_ok-refs.refs.items (c.in_ok-refs.ensures.found at.0 at.1) c.in_ok-look_up.ensures.ok (overlay_edits c.edits_at-edits.result) c.deref.result.now
+    c.in_ok-refs.refs.items (c.in_ok-refs.ensures at.0 at.1) c.in_ok-look_up.ensures.ok (overlay_edits c.edits_at-edits.result) c.deref.result.now
     (c.deref.ensures.value ∙ c.leave_standing.ensures) in
     omega (arith, few, c.in_err-rows.ensures.reads)
 
@@ -37,7 +37,7 @@ returns-in_err-add_coming-clause-reads c =
     let few = few_read c.args.view.now (get_or c.args.self.now.tables.now c.args.place 0) at.0 at.1 (asked c.in_ok-look_up.look_up)
     (required (has_index c.args.view.now.store (get_or c.args.self.now.tables.now c.args.place 0))
     c.args.self.now.query.now.atoms c.args.chosen.now c.args.place)
-    c.in_ok-refs.refs.items (c.in_ok-refs.ensures.found at.0 at.1) c.in_ok-look_up.ensures.ok (overlay_edits c.edits_at-edits.result) c.deref.result.now
+    c.in_ok-refs.refs.items (c.in_ok-refs.ensures at.0 at.1) c.in_ok-look_up.ensures.ok (overlay_edits c.edits_at-edits.result) c.deref.result.now
     (c.deref.ensures.value ∙ c.leave_standing.ensures) in
     omega (arith, few, c.in_ok-rows.ensures.reads)
 
@@ -47,7 +47,7 @@ returns-clause-reads c =
     let few = few_read c.args.view.now (get_or c.args.self.now.tables.now c.args.place 0) at.0 at.1 (asked c.in_ok-look_up.look_up)
     (required (has_index c.args.view.now.store (get_or c.args.self.now.tables.now c.args.place 0))
     c.args.self.now.query.now.atoms c.args.chosen.now c.args.place)
-    c.in_ok-refs.refs.items (c.in_ok-refs.ensures.found at.0 at.1) c.in_ok-look_up.ensures.ok (overlay_edits c.edits_at-edits.result) c.deref.result.now
+    c.in_ok-refs.refs.items (c.in_ok-refs.ensures at.0 at.1) c.in_ok-look_up.ensures.ok (overlay_edits c.edits_at-edits.result) c.deref.result.now
     (c.deref.ensures.value ∙ c.leave_standing.ensures) in
     omega (arith, few, c.in_ok-rows.ensures.reads)
 
@@ -61,9 +61,9 @@ returns-clause-rows c =
     ((ap (rows_with at.0) c.edits_at-edits.ensures ∙ sym (walked_is c.args.view.now.store c.args.self.now.changes.now c.args.self.now.tables.now
     c.args.self.now.place c.args.place at.0 at.1)) i))
     (found_alike at.0 (table_seen c.args.view.now (get_or c.args.self.now.tables.now c.args.place 0) at.0 at.1).kept r c.in_ok-refs.refs.items
-    (c.in_ok-refs.ensures.found at.0 at.1) edits
+    (c.in_ok-refs.ensures at.0 at.1) edits
     (subst (AreFit at.0) (sym c.edits_at-edits.ensures) (fit_walked c.args.view.now.store c.args.self.now.changes.now c.args.self.now.place c.args.place
     (get_or c.args.self.now.tables.now c.args.place 0) at.0 c.requires.fit at.1))
     (map (λ row. row.now) c.in_ok-rows.rows.items) (map (λ row. row.now) c.add_coming.new.rows.items)
     (c.in_ok-rows.ensures.rows at.0 at.1 ∙ ap (map (row_at (slot_at at.0.places))) (c.deref.ensures.value ∙ c.leave_standing.ensures))
-    (c.in_ok-add_coming.ensures.added ∙ ap (λ l. map (λ row. row.now) c.in_ok-rows.rows.items ++ l) (coming_all r edits)))
+    (c.in_ok-add_coming.ensures ∙ ap (λ l. map (λ row. row.now) c.in_ok-rows.rows.items ++ l) (coming_all r edits)))

@@ -11,7 +11,7 @@ loop-row-init c =
 
 pub loop-row-preserved : goal.loop-row-preserved
 loop-row-preserved c =
-    ap (λ l. l ++ rows_of c.next.new.self) c.in_ok-push_copies.ensures.ok
+    ap (λ l. l ++ rows_of c.next.new.self) c.in_ok-push_copies.ensures
     ∙ append_apart c.loop-row.rows.items (replicate c.in-Some.count.now c.in-Some.row.now) (rows_of c.next.new.self)
     ∙ ap (λ l. c.loop-row.rows.items ++ rows_of l) (sym c.in-Some.ensures.steps)
     ∙ c.loop-row.invariant

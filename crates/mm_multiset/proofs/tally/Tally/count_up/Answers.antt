@@ -14,14 +14,14 @@ invariant_of-self c = (
   inr (nothing c.self.inside.many.entries (sym c.len.ensures.entries ∙ c.if-len-eq0.true)),
 )
 
-pub returns-then-len-lt-FEW-clause-counted : goal.returns-then-len-lt-FEW-clause-counted
-returns-then-len-lt-FEW-clause-counted c =
+pub returns-then-len-lt-FEW : goal.returns-then-len-lt-FEW
+returns-then-len-lt-FEW c =
     counted_row c.add_change.result c.args.row c.self.inside.few.items c.add_change.new.changes.items c.self.inside.many.entries c.args.self.now.entries
     (nothing c.self.inside.many.entries (sym c.len.ensures.entries ∙ c.if-len-eq0.true)) c.self.invariant.0
     c.add_change.ensures.added c.add_change.ensures.small (ap (λ v. v.entries) c.self.view_is)
 
-pub returns-clause-counted : goal.returns-clause-counted
-returns-clause-counted c =
+pub returns : goal.returns
+returns c =
     let were = ap (λ v. v.items) c.replace-few.ensures.value in
     let none = ap (λ v. v.items) c.replace-few.ensures.after ∙ c.new-nothing.ensures.items in
     on_ok_weaker c.count_up.result
@@ -30,6 +30,6 @@ returns-clause-counted c =
     ∙ counted_many c.args.row other c.self.inside.few.items c.self.inside.many.entries c.add_all.new.many.entries c.count_up.new.self.entries
     c.self.invariant.0 c.self.invariant.1
     (subst (λ (xs : List Signed). pos (count_in other c.add_all.new.many.entries) ≡ pos (count_in other c.self.inside.many.entries) +ℤ signed_count other xs)
-    were (c.in_ok-add_all.ensures.added other)) adds
+    were (c.in_ok-add_all.ensures other)) adds
     ∙ ap (λ (es : Entries). count_in other es + count_of other (c.args.row ∷ [])) (ap (λ v. v.entries) c.self.view_is))
     c.count_up.ensures.counted

@@ -18,4 +18,4 @@ returns-clause-ok c =
     let counts : AreCounts (count_with c.self.inside.bags.items found) after c.put_prepared.new.self.queries =
     subst (λ (qs : List StandingQuery). AreCounts (count_with c.self.inside.bags.items found) after qs) queries
     (subst (λ (bags : List Counts). AreCounts (count_with bags found) after c.as_slice.result.now) c.as_slice-2.ensures.value c.in_ok-found.ensures.counts) in
-    fit_ready c.put_prepared.result _ _ found _ after _ c.put_prepared.ensures.entries counts c.put_prepared.ensures.ok
+    fit_ready _ _ found _ after _ c.put_prepared.ensures.entries counts c.in_ok-put_prepared.ensures.ok

@@ -42,7 +42,7 @@ add_standing-requires c =
     let tables_are : c.in_ok-bound.bound.tables ≡ places_in schema bound.from =
     c.in_ok-bound.ensures.tables ∙ sym (ap (λ (b : BoundQuery). places_in schema b.from) c.in_ok-bound.ensures.ok) in
     let names_are : c.in_ok-names.names ≡ tables_read bound =
-    c.in_ok-names.ensures.names ∙ ap (map (λ (item : FromItem). item.table)) c.as_slice.ensures in
+    c.in_ok-names.ensures ∙ ap (map (λ (item : FromItem). item.table)) c.as_slice.ensures in
     subst (λ ns. lacks_some_table ns schema ≡ false) (sym names_are)
     (watch_tables_there schema store lists c.self.invariant name query c.in_ok-bound.ensures.due bound c.in_ok-bound.ensures.ok c.in_ok-bound.bound.tables
     tables_are)
@@ -142,7 +142,7 @@ returns-clause-ok c =
     c.in_ok-tables.ensures ∙ c.as_slice-2.ensures ∙ c.in_ok-bound.ensures.tables
     ∙ sym (ap (λ (b : BoundQuery). places_in schema b.from) c.in_ok-bound.ensures.ok) in
     let names_are : c.in_ok-names.names ≡ tables_read bound =
-    c.in_ok-names.ensures.names ∙ ap (map (λ (item : FromItem). item.table)) c.as_slice.ensures in
+    c.in_ok-names.ensures ∙ ap (map (λ (item : FromItem). item.table)) c.as_slice.ensures in
     let new = c.in_default.ensures.ok in
     state_by_watch schema store lists c.self.invariant name query c.in_ok-bound.ensures.due bound c.in_ok-bound.ensures.ok c.in_ok-tables.tables.items
     tables_are
@@ -162,7 +162,7 @@ invariant_of-self-in_default c =
     c.in_ok-tables.ensures ∙ c.as_slice-2.ensures ∙ c.in_ok-bound.ensures.tables
     ∙ sym (ap (λ (b : BoundQuery). places_in schema b.from) c.in_ok-bound.ensures.ok) in
     let names_are : c.in_ok-names.names ≡ tables_read bound =
-    c.in_ok-names.ensures.names ∙ ap (map (λ (item : FromItem). item.table)) c.as_slice.ensures in
+    c.in_ok-names.ensures ∙ ap (map (λ (item : FromItem). item.table)) c.as_slice.ensures in
     let new = c.in_default.ensures.ok in
     let due = sym (watch_due schema store lists c.self.invariant name query c.in_ok-bound.ensures.due bound c.in_ok-bound.ensures.ok
     c.in_ok-tables.tables.items tables_are)

@@ -1,5 +1,5 @@
 -- The list at the place of the name is that of its query.
-use Rattle.std.proofs.Common.{◌≡◌, IfOk, Some, inl, sym, ap, subst, ◌∙◌, arith}
+use Rattle.std.proofs.Common.{◌≡◌, Some, inl, sym, ap, subst, ◌∙◌, arith}
 use Rattle.std.proofs.lemmas.Result.{err_from_is_err_and}
 use Rattle.mm_schema.specs.Refused.{first_refusal}
 use Rattle.mm_schema.specs.Standing.{drop_standing_conditions}
@@ -9,7 +9,7 @@ use Rattle.mm_query.specs.Standing.{shown_rows}
 use Rattle.mm_query.specs.State.{State}
 use Rattle.mm_plan.specs.Kept.{instance_of}
 use Rattle.mm_txn.specs.Saved.{saved_rows}
-use Rattle.mm_txn.proofs.Showing.{list_is_some_bag, only_memory, shown_if_ok}
+use Rattle.mm_txn.proofs.Showing.{list_is_some_bag, shown_by_name}
 use Rattle.mm_txn.proofs.WatchSteps.{place_of_list, standing_found, standing_missing}
 use Rattle.mm_txn.specs.Contents.{Holdings}
 use Rattle.mm_txn.specs.Saved.{kept_state}
@@ -38,16 +38,14 @@ list-requires-clause-fits c =
 pub returns-clause-due : goal.returns-clause-due
 returns-clause-due c =
     let seen = ap (λ (h : Holdings). kept_state h c.self.inside.undo c.self.inside.is_open c.self.inside.marks.items) c.contents.view_is ∙ c.self.view_is in
-    only_memory (first_refusal (drop_standing_conditions c.args.name.now c.args.self.now.schema)) c.list.result
-    (sym (ap (λ (s : State). first_refusal (drop_standing_conditions c.args.name.now s.schema)) seen)
-    ∙ standing_found c.args.name.now c.contents.inside.catalog c.in_ok-place.place (sym c.standing_place_of.ensures.place ∙ c.in_ok-place.ensures.ok_part))
-    c.list.ensures.memory
+    sym (ap (λ (s : State). first_refusal (drop_standing_conditions c.args.name.now s.schema)) seen)
+    ∙ standing_found c.args.name.now c.contents.inside.catalog c.in_ok-place.place (sym c.standing_place_of.ensures.place ∙ c.in_ok-place.ensures.ok_part)
 
 pub returns-clause-rows : goal.returns-clause-rows
 returns-clause-rows c =
     let seen = ap (λ (h : Holdings). kept_state h c.self.inside.undo c.self.inside.is_open c.self.inside.marks.items) c.contents.view_is ∙ c.self.view_is in
-    subst (λ (s : State). IfOk c.list.result (λ rows. rows ≡ shown_rows c.args.name.now s)) seen
-    (shown_if_ok c.contents.inside.catalog c.contents.inside.standing c.contents.invariant.placed (instance_of c.contents.inside.store.tables)
+    subst (λ (s : State). c.in_ok-list.field-0 ≡ shown_rows c.args.name.now s) seen
+    (shown_by_name c.contents.inside.catalog c.contents.inside.standing c.contents.invariant.placed (instance_of c.contents.inside.store.tables)
     c.contents.invariant.listed
     (saved_rows c.self.inside.is_open c.self.inside.undo c.contents.inside.store c.self.inside.marks.items) c.args.name.now c.in_ok-place.place
-    (sym c.standing_place_of.ensures.place ∙ c.in_ok-place.ensures.ok_part) c.list.result c.list.ensures.shown)
+    (sym c.standing_place_of.ensures.place ∙ c.in_ok-place.ensures.ok_part) c.in_ok-list.field-0 c.in_ok-list.ensures)

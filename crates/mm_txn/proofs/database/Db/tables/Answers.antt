@@ -5,7 +5,7 @@ use Rattle.mm_txn.specs.Contents.{Holdings}
 use Rattle.mm_txn.specs.Saved.{kept_state}
 use Rattle.mm_txn.proofs.database.Db.tables.Goals as goal
 
-pub returns-clause-listing : goal.returns-clause-listing
-returns-clause-listing c =
+pub returns : goal.returns
+returns c =
     let seen = ap (λ (h : Holdings). kept_state h c.self.inside.undo c.self.inside.is_open c.self.inside.marks.items) c.contents.view_is ∙ c.self.view_is in
-    subst (λ (s : State). IfOk c.list_tables.result (λ told. told ≡ listing s)) seen c.list_tables.ensures.listing
+    subst (λ (s : State). IfOk c.list_tables.result (λ told. told ≡ listing s)) seen c.list_tables.ensures
