@@ -1,5 +1,5 @@
 -- The edits of all tables that a change concerns: those of the table that it names, and the cascaded ones.
-use Rattle.std.proofs.Common.{◌≡◌, ℕ, Bool, true, false, List, [], ◌∷◌, Option, Some, map, slice_get, refl, sym, ap, ◌∙◌, arith}
+use Rattle.std.proofs.Common.{◌≡◌, ℕ, Bool, true, false, List, [], ◌∷◌, Option, Some, Bor, map, slice_get, refl, sym, ap, ◌∙◌, arith}
 use Rattle.std.specs.List.{filter, filter_map}
 use Rattle.std.specs.Option.{option_map_or}
 use Rattle.std.proofs.lemmas.List.Elements.{All-cons, All-nil}
@@ -18,16 +18,21 @@ use Rattle.mm_schema.specs.declared.table.Table.{Table}
 use Rattle.mm_schema.proofs.Instances.{name_of}
 use Rattle.mm_schema.proofs.NameLemmas.{same_bytes}
 use Rattle.mm_schema.proofs.Places.{place_within, table_at_place}
-use Rattle.mm_query.specs.Binding.{tests_for}
+use Rattle.mm_query.specs.Binding.{Binds, tests_for}
 use Rattle.mm_query.specs.Edits.{changed_table, edits as all_edits, meets, own_edits, own_pairs, with_cascades}
 use Rattle.mm_query.specs.State.{State, rows_in}
 use Rattle.mm_query.specs.declared.atom.Atom.{Atom}
+use Rattle.mm_query.specs.declared.bind.BoundChange.TheVariants as bound
+use Rattle.mm_query.specs.declared.bound_query.FieldPlace.{FieldPlace}
 use Rattle.mm_query.specs.declared.command.Mutation.{Mutation}
 use Rattle.mm_query.specs.declared.command.Mutation.TheVariants.{Insert, Update, Delete}
 use Rattle.mm_laws.proofs.Removals.{AreRemovals, none_comes, removals_remove}
 use Rattle.mm_store.specs.Tables.{Tables}
 use Rattle.mm_plan.specs.Kept.{AreOf, instance_of}
+use Rattle.mm_txn.specs.Bound.{bound_of}
 use Rattle.mm_txn.specs.Kept.{state_of}
+use Rattle.mm_txn.specs.declared.bound.ChangeToRun.{ChangeToRun}
+use Rattle.mm_txn.specs.declared.bound.ChangeToRun.TheVariants as run
 use Rattle.mm_txn.specs.PlacedEdits.{AreEdits, AreEditsOf, AreOwnEditsOf, FitsAt, PlacedEdits, named, pairs_at}
 use Rattle.mm_txn.proofs.DatabaseSteps.{rows_there, some_there}
 use Rattle.mm_txn.proofs.ReferenceRows.{found_passes}
@@ -39,10 +44,21 @@ is_delete (Insert table tuples) = false
 is_delete (Update table assignments tests) = false
 is_delete (Delete table tests) = true
 
-pub not_delete : (mutation : Mutation) → ((table : List ℕ) (tests : List (Atom (List ℕ))) → mutation ≡ Delete table tests → ⊥) → is_delete mutation ≡ false
-not_delete (Insert table tuples) other = refl
-not_delete (Update table assignments tests) other = refl
-not_delete (Delete table tests) other = absurd (other table tests refl)
+-- A bound DELETE is of a DELETE, ..
+pub delete_bound : (schema : Schema) (mutation : Mutation) (place : ℕ) (tests : List (Atom FieldPlace)) → Binds schema mutation (bound.Delete place tests)
+    → is_delete mutation ≡ true
+delete_bound schema (Insert table tuples) place tests binds = absurd binds
+delete_bound schema (Update table assignments written) place tests binds = absurd binds
+delete_bound schema (Delete table written) place tests binds = refl
+
+-- .. and of nothing else.
+pub other_bound : (schema : Schema) (mutation : Mutation) (change : ChangeToRun) → Binds schema mutation (bound_of change)
+    → ((place : ℕ) (tests : Bor (List (Atom FieldPlace))) → change ≡ run.Delete place tests → ⊥) → is_delete mutation ≡ false
+other_bound schema (Insert table tuples) change binds other = refl
+other_bound schema (Update table assignments written) change binds other = refl
+other_bound schema (Delete table written) (run.Insert place tuples) binds other = absurd binds
+other_bound schema (Delete table written) (run.Update place assignments tests) binds other = absurd binds
+other_bound schema (Delete table written) (run.Delete place tests) binds other = absurd (other place tests refl)
 
 -- It brings no rows, ..
 delete_removes : (mutation : Mutation) (state : State) → is_delete mutation ≡ true → AreRemovals (own_pairs mutation state)

@@ -204,9 +204,9 @@ own_in_front (written.Delete table tests) state = first_still state.schema (own_
 -- What is due of a change by its names is due of it.
 pub bound_due : (mutation : Mutation) (state : State) (refusal : Refusal)
     → AnswersDue {T = Unit {0}} (first_refusal (binding_conditions mutation state.schema)) (Err refusal)
-    → AnswersDue {T = Unit {0}} (first_refusal (binding_conditions mutation state.schema ++ value_conditions mutation state)) (Err refusal)
+    → AnswersDue {T = Unit {0}} (first_refusal (change_conditions mutation state)) (Err refusal)
 bound_due mutation state refusal due =
-    ⊎_elim (λ h. inl (due_in_front (binding_conditions mutation state.schema) (value_conditions mutation state) refusal h)) (λ m. inr m) due
+    ⊎_elim (λ h. inl (due_in_front (binding_conditions mutation state.schema) _ refusal h)) (λ m. inr m) due
 
 -- What is due of a change before its rows are looked at is due of it, whatever the standing queries.
 pub early_due : (mutation : Mutation) (schema : Schema) (rs : List StoredRows) (queries : List BoundQuery) (refusal : Refusal)

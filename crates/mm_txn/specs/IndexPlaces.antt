@@ -1,5 +1,5 @@
 -- Where an index stands.
-use Rattle.std.specs.Prelude.{ℕ, ◌<◌, length}
+use Rattle.std.specs.Prelude.{◌<◌, length}
 use Rattle.mm_relation.specs.Kept.{StoredRows}
 use Rattle.mm_relation.specs.Reads.{HasIndex}
 use Rattle.mm_store.specs.Tables.{IsAt, Tables}

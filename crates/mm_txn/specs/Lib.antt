@@ -1,4 +1,5 @@
 pub mod Answers
+pub mod Bound
 pub mod Cascades
 pub mod Contents
 pub mod IndexPlaces

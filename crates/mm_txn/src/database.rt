@@ -9,15 +9,16 @@ ghost use Rattle.mm_query.specs.State.{first_state, rows_in};
 ghost use Rattle.mm_query.specs.declared.command.Command.TheVariants.{Define, Change, Scan, ScanIndex, Select, Explain, Show, Begin, Commit, Rollback, Savepoint, RollbackTo};
 
 mod ask;
+mod bound;
 mod execute;
 
+use crate::bound::ChangeToRun;
 use crate::contents::Contents;
 use crate::definitions::is_of_index;
 use crate::listing::list_tables;
 use crate::savepoints::{MAX_SAVEPOINTS, Mark, latest};
-use crate::select::select_rows;
 use crate::zero::Zero;
-use mm_query::{Definition, ItemList, Listing, Mutation, PlanLine, Query};
+use mm_query::{BoundChange, Definition, ItemList, Listing, Mutation, PlanLine, Query};
 use mm_schema::Name;
 use mm_store::{TableRows, Undo};
 use mm_templist::ShownRows;
@@ -181,12 +182,30 @@ impl Db {
         ensures count { IfOk result (λ count. count ≡ length (own_pairs mutation.entry self.old)) }
         ensures err { OnErr result (self.new ≡ self.old) }
     {
-        self.contents.is_at_rest();
-        let edits = self.contents.edits_of(alloc, mutation)?;
-        let count = edits.own.edits.len();
-        self.contents.make_edits(alloc, edits, &mut self.undo)?;
-        self.contents.settle_outside(self.is_open, &mut self.undo);
-        Ok(count)
+        match self.bind_change(alloc, mutation)? {
+            BoundChange::Insert { table, tuples } => {
+                self.run_change(alloc, ChangeToRun::Insert { table, tuples })
+            }
+            BoundChange::Update {
+                table,
+                assignments,
+                tests,
+            } => {
+                let (assignments, tests) = (assignments.as_slice(), tests.as_slice());
+                self.run_change(
+                    alloc,
+                    ChangeToRun::Update {
+                        table,
+                        assignments,
+                        tests,
+                    },
+                )
+            }
+            BoundChange::Delete { table, tests } => {
+                let tests = tests.as_slice();
+                self.run_change(alloc, ChangeToRun::Delete { table, tests })
+            }
+        }
     }
 
     /// The rows of a table, in the order of the index of a name. The refusals are those of
@@ -204,14 +223,8 @@ impl Db {
         ensures due { AnswersDue (first_refusal (conditions (Select query.entry) self.now)) result }
         ensures rows { IfOk result (λ rows. rows ≡ selected query.entry self.now) }
     {
-        let contents = &self.contents;
-        select_rows(
-            alloc,
-            &contents.catalog,
-            &contents.store,
-            query,
-            self.zero.value(),
-        )
+        let bound = self.bind_query(alloc, query)?;
+        self.run_select(alloc, &bound)
     }
 
     /// The plan of a query, by the row counts of the tables as they are: a line for each table of FROM, in their order. The

@@ -1,20 +1,21 @@
 //! What a change of rows asks of its table.
 ghost use Rattle.std.specs.Prelude.{◌≡◌, ◌++◌, ◌∷◌, map, IfOk};
 ghost use Rattle.mm_schema.specs.Refused.{AnswersDue, first_refusal};
-ghost use Rattle.mm_schema.specs.Schema.{HasDistinctNames};
+ghost use Rattle.mm_schema.specs.Schema.{Schema};
 ghost use Rattle.mm_query.specs.Binding.{binding_conditions};
 ghost use Rattle.mm_query.specs.Edits.{value_conditions};
+ghost use Rattle.mm_query.specs.declared.command.Mutation.{Mutation};
 ghost use Rattle.mm_plan.specs.Kept.{AreKept, AreOf};
+ghost use Rattle.mm_txn.specs.Bound.{IsBoundChange, bound_of};
 ghost use Rattle.mm_txn.specs.Kept.{state_of};
 ghost use Rattle.mm_txn.specs.PlacedEdits.{AreEditsOf, AreOwnEditsOf, placed, placed_change};
 
+use crate::bound::ChangeToRun;
 use crate::cascades::cascades;
 use crate::contents::Contents;
 use crate::row_edits::{additions, removals, updates};
 use mm_delta::TableChange;
-use mm_query::{BoundChange, Mutation, bind_change};
 use mm_relation::Edit;
-use mm_schema::Catalog;
 use mm_store::Store;
 use mm_value::Refusal;
 use std::alloc::Global;
@@ -51,20 +52,22 @@ pub(crate) struct ChangeEdits {
 }
 
 impl Contents {
-    /// The edits that a change asks for. Of what the catalog and the new values refuse the first is answered: the refusals are
-    /// those of [`bind_change`] and [`updates`]; or `Memory` in its place or in that of success.
+    /// The edits that a bound change asks for. The refusals are those of [`updates`]; or `Memory` in their place or in that of
+    /// success.
     pub(crate) fn edits_of(
         &self,
         alloc: Global,
-        mutation: Mutation<'_>,
+        change: ChangeToRun<'_>,
     ) -> Result<ChangeEdits, Refusal>
-        ensures due { AnswersDue (first_refusal (binding_conditions mutation.entry self.now.schema
-            ++ value_conditions mutation.entry (state_of self.now.schema self.now.store.tables))) result }
-        ensures ok { IfOk result (λ e. AreEditsOf mutation.entry self.now.schema self.now.store (placed e.own) (map placed e.cascaded.items)) }
-        ensures distinct { HasDistinctNames self.now.schema }
+        requires { (mutation : Mutation) × IsBoundChange self.now.schema mutation (bound_of change) }
+        ensures due { (mutation : Mutation) → IsBoundChange self.now.schema mutation (bound_of change.entry)
+            → AnswersDue (first_refusal (binding_conditions mutation self.now.schema
+            ++ value_conditions mutation (state_of self.now.schema self.now.store.tables))) result }
+        ensures ok { IfOk result (λ e. (mutation : Mutation) → IsBoundChange self.now.schema mutation (bound_of change.entry)
+            → AreEditsOf mutation self.now.schema self.now.store (placed e.own) (map placed e.cascaded.items)) }
     {
-        let cascades_rows = matches!(mutation, Mutation::Delete { .. });
-        let own = own_edits(alloc, &self.catalog, &self.store, mutation)?;
+        let cascades_rows = matches!(change, ChangeToRun::Delete { .. });
+        let own = own_edits(alloc, &self.store, change)?;
         let cascaded = if cascades_rows {
             cascades(alloc, &self.catalog, &self.store, &own)?
         } else {
@@ -74,42 +77,35 @@ impl Contents {
     }
 }
 
-/// The edits of the table that a change names. It refuses what [`Contents::edits_of`] does.
+/// The edits of the table that a bound change is for. It refuses what [`Contents::edits_of`] does.
 fn own_edits(
     alloc: Global,
-    catalog: &Catalog,
     store: &Store,
-    mutation: Mutation<'_>,
+    change: ChangeToRun<'_>,
 ) -> Result<RelationEdits, Refusal>
-    requires { AreOf catalog.now.tables store.now.tables }
-    ensures due { AnswersDue (first_refusal (binding_conditions mutation.entry catalog.now
-        ++ value_conditions mutation.entry (state_of catalog.now store.now.tables))) result }
-    ensures ok { IfOk result (λ e. AreOwnEditsOf mutation.entry catalog.now store.now.tables e.table e.edits.items) }
-    ensures distinct { HasDistinctNames catalog.now }
+    requires { (schema : Schema) × (mutation : Mutation) × AreOf schema.tables store.now.tables × IsBoundChange schema mutation (bound_of change) }
+    ensures due { (schema : Schema) (mutation : Mutation) → AreOf schema.tables store.now.tables → IsBoundChange schema mutation (bound_of change.entry)
+        → AnswersDue (first_refusal (binding_conditions mutation schema ++ value_conditions mutation (state_of schema store.now.tables))) result }
+    ensures ok { IfOk result (λ e. (schema : Schema) (mutation : Mutation) → AreOf schema.tables store.now.tables
+        → IsBoundChange schema mutation (bound_of change.entry) → AreOwnEditsOf mutation schema store.now.tables e.table e.edits.items) }
 {
-    match bind_change(alloc, catalog, mutation)? {
-        BoundChange::Insert { table, tuples } => {
+    match change {
+        ChangeToRun::Insert { table, tuples } => {
             let edits = additions(alloc, tuples.into_vec())?;
             Ok(RelationEdits { table, edits })
         }
-        BoundChange::Update {
+        ChangeToRun::Update {
             table,
             assignments,
             tests,
         } => {
             let mut view = store.view();
-            let edits = updates(
-                alloc,
-                &mut view,
-                table,
-                assignments.as_slice(),
-                tests.as_slice(),
-            )?;
+            let edits = updates(alloc, &mut view, table, assignments, tests)?;
             Ok(RelationEdits { table, edits })
         }
-        BoundChange::Delete { table, tests } => {
+        ChangeToRun::Delete { table, tests } => {
             let mut view = store.view();
-            let edits = removals(alloc, &mut view, table, tests.as_slice())?;
+            let edits = removals(alloc, &mut view, table, tests)?;
             Ok(RelationEdits { table, edits })
         }
     }

@@ -1,10 +1,11 @@
-//! The database behind the command language: the catalog, and beside it the rows of its tables. Each call is one step of the
-//! machine of row lists.
+//! The database behind the command language: the catalog, and beside it the rows of its tables. Each change and each question is
+//! one step of the machine of row lists, by its names or by its bound form.
 //!
 //! A call that may take memory is handed the allocator; no other call takes any.
 #![tactic(auto)]
 
 mod answer;
+mod bound;
 mod cascades;
 mod changes;
 mod contents;
@@ -24,6 +25,7 @@ mod watching;
 mod zero;
 
 pub use answer::Answer;
+pub use bound::ChangeToRun;
 pub use database::Db;
 pub use mm_store::StoredRows;
 pub use mm_templist::ShownRows;

@@ -40,7 +40,7 @@ fn done(outcome: Result<(), Refusal>) -> Reply
 }
 
 /// The reply to what tells how many rows it concerned.
-fn counted(outcome: Result<usize, Refusal>) -> Reply
+pub(super) fn counted(outcome: Result<usize, Refusal>) -> Reply
     ensures { MatchResult outcome (λ count. result ≡ Count count) (λ refusal. result ≡ Refused refusal) }
 {
     match outcome {

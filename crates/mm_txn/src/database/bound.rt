@@ -1,0 +1,122 @@
+//! Queries and changes of rows that are bound once, and run as often as need be while the catalog stays.
+ghost use Rattle.std.specs.Prelude.{◌≡◌, IfOk, OnErr, OnOk, Some, is_some, length};
+ghost use Rattle.mm_query.specs.Binding.{binding_conditions};
+ghost use Rattle.mm_query.specs.Edits.{own_pairs};
+ghost use Rattle.mm_query.specs.Machine.{conditions, state_after};
+ghost use Rattle.mm_query.specs.Resolving.{query_conditions, selected};
+ghost use Rattle.mm_query.specs.declared.command.Command.TheVariants.{Change, Select};
+ghost use Rattle.mm_query.specs.declared.command.Mutation.{Mutation as AnyMutation};
+ghost use Rattle.mm_query.specs.declared.query.Query.{Query as AnyQuery};
+ghost use Rattle.mm_schema.specs.Refused.{AnswersDue, first_refusal};
+ghost use Rattle.mm_txn.specs.Answers.{reply_of};
+ghost use Rattle.mm_txn.specs.Bound.{IsBoundChange, IsBoundQuery, bound_of};
+ghost use Rattle.mm_txn.specs.Steps.{IsStep};
+
+use super::Db;
+use super::execute::counted;
+use crate::answer::Answer;
+use crate::bound::ChangeToRun;
+use crate::rows::Rows;
+use crate::select::select_rows;
+use mm_query::{Bound, BoundChange, Mutation, Query, Reply};
+use mm_schema::Catalog;
+use mm_templist::ShownRows;
+use mm_value::Refusal;
+use std::alloc::Global;
+
+impl Db {
+    /// The catalog. A bound form is good as long as it stays the same.
+    pub fn catalog(&self) -> &Catalog
+        ensures { result.now ≡ self.now.schema }
+    {
+        &self.contents.catalog
+    }
+
+    /// Whether a transaction is open.
+    pub fn is_in_transaction(&self) -> bool
+        ensures { result ≡ is_some self.now.saved }
+    {
+        self.is_open
+    }
+
+    /// The bound form of a query, which has places in place of names, for [`Db::select_bound`]. The refusals are those of
+    /// [`Question::Select`](crate::Question::Select) but for `ResultTooLarge`.
+    pub fn bind_query(&self, alloc: Global, query: Query<'_>) -> Result<Bound, Refusal>
+        ensures due { AnswersDue (first_refusal (query_conditions query.entry self.now.schema)) result }
+        ensures ok { IfOk result (IsBoundQuery self.now.schema query.entry) }
+    {
+        mm_query::bind_query(alloc, &self.contents.catalog, query)
+    }
+
+    /// The bound form of a change of rows, which has places in place of names, for [`Db::change_bound`]. The refusals are those of
+    /// [`Change::Edit`](crate::Change::Edit) by the catalog; `Memory` may come in their place and in that of success, except for
+    /// an INSERT, which takes none here.
+    pub fn bind_change(&self, alloc: Global, mutation: Mutation<'_>) -> Result<BoundChange, Refusal>
+        ensures due { AnswersDue (first_refusal (binding_conditions mutation.entry self.now.schema)) result }
+        ensures ok { IfOk result (IsBoundChange self.now.schema mutation.entry) }
+    {
+        mm_query::bind_change(alloc, &self.contents.catalog, mutation)
+    }
+
+    /// Answers a SELECT by the bound form of its query, which has to be bound by the catalog as it is: the rows that it gives, in
+    /// their order. `ResultTooLarge` where more than 1,048,576 combinations of rows fit; `Memory` may come in its place and in that
+    /// of success. No row is copied. It is one step of the machine of row lists, which changes nothing; only `Memory` may come in
+    /// place of that step.
+    pub fn select_bound(&self, alloc: Global, bound: &Bound) -> Answer<'_>
+        requires { (query : AnyQuery) × IsBoundQuery self.now.schema query bound.now }
+        ensures { (query : AnyQuery) → IsBoundQuery self.now.schema query bound.now
+            → IsStep (Select query) self.now (record { reply = Some (reply_of result); state = self.now }) }
+    {
+        match self.run_select(alloc, bound) {
+            Ok(rows) => Answer::Rows(Rows::shown(rows)),
+            Err(refusal) => Answer::Refused(refusal),
+        }
+    }
+
+    /// The rows that a bound query gives, in their order. The refusals are those of [`Db::select_bound`].
+    pub(super) fn run_select(&self, alloc: Global, bound: &Bound) -> Result<ShownRows<'_>, Refusal>
+        requires { (query : AnyQuery) × IsBoundQuery self.now.schema query bound.now }
+        ensures due { (query : AnyQuery) → IsBoundQuery self.now.schema query bound.now
+            → AnswersDue (first_refusal (conditions (Select query) self.now)) result }
+        ensures rows { IfOk result (λ rows. (query : AnyQuery) → IsBoundQuery self.now.schema query bound.now → rows ≡ selected query self.now) }
+    {
+        let contents = &self.contents;
+        select_rows(alloc, &contents.store, bound, self.zero.value())
+    }
+
+    /// Makes a change of rows by its bound form, which has to be bound by the catalog as it is, and replies `Count` or `Refused`.
+    /// The refusals are those of [`Change::Edit`](crate::Change::Edit) by the rows and by the standing queries; `Memory` may come
+    /// in their place and in that of success. A refused change changes nothing. It is one step of the machine of row lists; only
+    /// `Memory` may come in place of that step.
+    pub fn change_bound(&mut self, alloc: Global, change: ChangeToRun<'_>) -> Reply
+        requires { (mutation : AnyMutation) × IsBoundChange self.old.schema mutation (bound_of change) }
+        ensures { (mutation : AnyMutation) → IsBoundChange self.old.schema mutation (bound_of change.entry)
+            → IsStep (Change mutation) self.old (record { reply = Some result; state = self.new }) }
+    {
+        counted(self.run_change(alloc, change))
+    }
+
+    /// Makes a change of rows by its bound form, and tells how many rows of its table that concerned. The refusals are those of
+    /// [`Db::change_bound`].
+    pub(super) fn run_change(
+        &mut self,
+        alloc: Global,
+        change: ChangeToRun<'_>,
+    ) -> Result<usize, Refusal>
+        requires { (mutation : AnyMutation) × IsBoundChange self.old.schema mutation (bound_of change) }
+        ensures due { (mutation : AnyMutation) → IsBoundChange self.old.schema mutation (bound_of change.entry)
+            → AnswersDue (first_refusal (conditions (Change mutation) self.old)) result }
+        ensures ok { OnOk result ((mutation : AnyMutation) → IsBoundChange self.old.schema mutation (bound_of change.entry)
+            → self.new ≡ state_after (Change mutation) self.old) }
+        ensures count { IfOk result (λ count. (mutation : AnyMutation) → IsBoundChange self.old.schema mutation (bound_of change.entry)
+            → count ≡ length (own_pairs mutation self.old)) }
+        ensures err { OnErr result (self.new ≡ self.old) }
+    {
+        self.contents.is_at_rest();
+        let edits = self.contents.edits_of(alloc, change)?;
+        let count = edits.own.edits.len();
+        self.contents.make_edits(alloc, edits, &mut self.undo)?;
+        self.contents.settle_outside(self.is_open, &mut self.undo);
+        Ok(count)
+    }
+}
