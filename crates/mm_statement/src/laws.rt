@@ -1,0 +1,54 @@
+//! Laws of commands that differ in their literals alone.
+ghost use Rattle.std.specs.Prelude.{◌≡◌, ◌++◌};
+ghost use Rattle.std.specs.List.{flat_map};
+ghost use Rattle.mm_schema.specs.Refused.{first_refusal};
+ghost use Rattle.mm_schema.specs.Schema.{Schema};
+ghost use Rattle.mm_query.specs.Binding.{Binds, binding_conditions};
+ghost use Rattle.mm_query.specs.Resolving.{IsQueryWithin, placed_query, query_conditions};
+ghost use Rattle.mm_query.specs.declared.bind.BoundChange.{BoundChange};
+ghost use Rattle.mm_query.specs.declared.bound_query.BoundQuery.{BoundQuery};
+ghost use Rattle.mm_query.specs.declared.command.Mutation.{Mutation};
+ghost use Rattle.mm_query.specs.declared.query.Query.{Query};
+ghost use Rattle.mm_lang.specs.Reading.{position_literals, query_literals};
+ghost use Rattle.mm_statement.specs.Alike.{AreAlike, AreAlikeChanges, blank_bound_change, blank_bound_query};
+ghost use Rattle.mm_statement.specs.Alike.{bound_change_literals, bound_query_literals, change_literals};
+ghost use Rattle.mm_statement.specs.Filling.{blank_query};
+
+/// The catalog refuses queries alike that differ in their literals alone, where these have the same types.
+pub fn alike_queries_have_the_same_refusals()
+    ensures { (schema : Schema) (query other : Query) → AreAlike query other
+        → first_refusal (query_conditions query schema) ≡ first_refusal (query_conditions other schema) }
+{}
+
+/// Places in place of names leave the literals of a query as they are, in their order, and a query without its literals stands for
+/// what the query stands for, without its literals.
+pub fn placing_keeps_literals()
+    ensures literals { (schema : Schema) (query : Query)
+        → query_literals query ≡ bound_query_literals (placed_query schema query) ++ flat_map position_literals query.order }
+    ensures shape { (schema : Schema) (query : Query)
+        → placed_query schema (blank_query query) ≡ blank_bound_query (placed_query schema query) }
+{}
+
+/// What a query stands for, with the literals of another one that differs from it in its literals alone, is what the other one stands
+/// for; and what a query reads lies within its tables, whatever its literals.
+pub fn alike_queries_are_placed_alike()
+    ensures placed { (schema : Schema) (query other : Query) (changed : BoundQuery) → AreAlike query other
+        → blank_bound_query changed ≡ blank_bound_query (placed_query schema query)
+        → query_literals other ≡ bound_query_literals changed ++ flat_map position_literals other.order
+        → changed ≡ placed_query schema other }
+    ensures within { (schema : Schema) (query changed : BoundQuery) → blank_bound_query changed ≡ blank_bound_query query
+        → IsQueryWithin schema query → IsQueryWithin schema changed }
+{}
+
+/// The catalog refuses changes of rows alike that differ in their literals alone, where these have the same types.
+pub fn alike_changes_have_the_same_refusals()
+    ensures { (schema : Schema) (mutation other : Mutation) → AreAlikeChanges mutation other
+        → first_refusal (binding_conditions mutation schema) ≡ first_refusal (binding_conditions other schema) }
+{}
+
+/// A change that is bound, with the literals of another one that differs from it in its literals alone, is the other one bound.
+pub fn alike_changes_bind_alike()
+    ensures { (schema : Schema) (mutation other : Mutation) (bound changed : BoundChange) → AreAlikeChanges mutation other
+        → Binds schema mutation bound → blank_bound_change changed ≡ blank_bound_change bound
+        → bound_change_literals changed ≡ change_literals other → Binds schema other changed }
+{}
