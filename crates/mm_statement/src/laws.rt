@@ -1,5 +1,5 @@
 //! Laws of commands that differ in their literals alone.
-ghost use Rattle.std.specs.Prelude.{◌≡◌, ◌++◌};
+ghost use Rattle.std.specs.Prelude.{◌≡◌, ◌++◌, ◌∷◌, [], ℤ, false, neg_ℤ, negsuc, pos, true};
 ghost use Rattle.std.specs.List.{flat_map};
 ghost use Rattle.mm_schema.specs.Refused.{first_refusal};
 ghost use Rattle.mm_schema.specs.Schema.{Schema};
@@ -12,7 +12,18 @@ ghost use Rattle.mm_query.specs.declared.query.Query.{Query};
 ghost use Rattle.mm_lang.specs.Reading.{position_literals, query_literals};
 ghost use Rattle.mm_statement.specs.Alike.{AreAlike, AreAlikeChanges, blank_bound_change, blank_bound_query};
 ghost use Rattle.mm_statement.specs.Alike.{bound_change_literals, bound_query_literals, change_literals};
-ghost use Rattle.mm_statement.specs.Filling.{blank_query};
+ghost use Rattle.mm_statement.specs.Filling.{blank_query, merged};
+ghost use Rattle.mm_value.specs.declared.values.Value.{Value as Val};
+ghost use Rattle.mm_value.specs.declared.values.Value.TheVariants.{Int};
+
+/// Worked examples: values stand in holes in written order, and other literals stay. A hole behind the plus of a shift gets the
+/// number that is given, and one behind its minus gets that number negated.
+pub fn values_come_in_written_order()
+    ensures order { (first second literal : Val) → merged (true ∷ false ∷ true ∷ []) (first ∷ second ∷ []) (Int (pos 0) ∷ literal ∷ Int (pos 0) ∷ [])
+        ≡ first ∷ literal ∷ second ∷ [] }
+    ensures plus { (number : ℤ) → merged (true ∷ []) (Int number ∷ []) (Int (pos 1) ∷ []) ≡ Int number ∷ [] }
+    ensures minus { (number : ℤ) → merged (true ∷ []) (Int number ∷ []) (Int (negsuc 0) ∷ []) ≡ Int (neg_ℤ number) ∷ [] }
+{}
 
 /// The catalog refuses queries alike that differ in their literals alone, where these have the same types.
 pub fn alike_queries_have_the_same_refusals()
