@@ -109,8 +109,8 @@ impl HashRefs {
     /// the room may split into, and for as many places of the directory as pairs fit into the room.
     ///
     /// It is refused where there is no memory for that many nodes, or where there would be more than
-    /// 2^32 - 1 of them. Bucket heads that it can't get are no refusal: inserts then skip splits. Nor
-    /// are places of the directory: removes then walk chains.
+    /// 2^32 - 1 of them. It still succeeds if it cannot get bucket heads (inserts then skip splits)
+    /// or places of the directory (removals then walk chains).
     pub fn reserve(&mut self, _alloc: Global, n: usize) -> Result<(), AllocError>
         ensures ok { OnOk result (n ≤ self.new.spare) }
         ensures met { n ≤ self.old.spare → IsOk result }
@@ -144,10 +144,9 @@ impl HashRefs {
 
     /// Takes one such pair out. False where it holds none, and then all is as before.
     ///
-    /// It takes the same time however many pairs have this hash, where the reference's slot was among as
-    /// many first ones as there was room for pairs when the pair was put in, is so still at the last
-    /// `reserve`, and where of the pairs of this reference this one was put in last. Else it walks the chain
-    /// of the hash.
+    /// The time does not depend on how many pairs share the hash if the pair is the last one inserted for its reference, and the
+    /// number of the reference's slot was below the room for pairs both at that insert and at the last `reserve`. Otherwise it
+    /// walks the chain of the hash.
     pub fn remove(&mut self, hash: u64, reference: RowRef) -> bool
         ensures found { IsTrue result ↔ Contains self.old.entries (hash, reference) }
         ensures entries { OnTrue result (IsPermutation self.old.entries ((hash, reference) ∷ self.new.entries)) }

@@ -20,8 +20,8 @@ pub trait Probe {
         ensures { result ≡ place_of self.now at };
 }
 
-/// The place of one reference along an order: `Equal` at an entry that compares equal to it, as
-/// it does itself. The order has to cover it.
+/// The place of one reference along an order. It answers `Equal` for the reference itself and for any entry that
+/// compares equal to it. The order has to cover it.
 #[derive(Drop)]
 pub struct AtReference<'a, O> {
     /// The order along which the place is sought.

@@ -63,8 +63,8 @@ pub fn count_removals(edits: &[Edit]) -> usize
 }
 
 /// How many spare places an index needs: `undo_room` of them for the commands before, one for each reference that comes
-/// in with a new row, and one for each that comes in again with an old row when the edits are taken back. None where
-/// that is no `usize`.
+/// in with a new row, and one for each that comes in again with an old row when the edits are taken back. `None`
+/// if the sum overflows `usize`.
 pub fn count_places(edits: &[Edit], undo_room: usize) -> Option<usize>
     ensures some { IfSome result (λ n. n ≡ undo_room + (length (named edit_name side.Old edits.now) + length (new_rows edits.now))) }
     ensures none { IsNone result → 2 ^ 64 ≤ undo_room + (length (named edit_name side.Old edits.now) + length (new_rows edits.now)) }

@@ -62,7 +62,7 @@ fn retie(link: &mut Link, tables: &[Relation], table: usize, entries: &[UndoReco
     }
 }
 
-/// Whether a new row of a table refers to no row.
+/// Whether some new row of the table has a foreign key without a target row.
 pub fn new_orphans(links: &[Link], tables: &[Relation], table: usize, edits: &[Edit]) -> bool
     requires joined { AreJoined tables.now links.now }
     requires fit { (stored : StoredRows) → slice_get tables.now table ≡ Some stored → AreFit stored edits.now }
@@ -86,7 +86,7 @@ fn brings_orphan(link: &Link, tables: &[Relation], table: usize, edits: &[Edit])
     from == table && link.has_orphans(&tables[from], &tables[to], edits)
 }
 
-/// Whether the edits of a table take a row, or its key, to which a row refers.
+/// Whether the edits of the table delete a referenced row or change its key.
 pub fn left_orphans(links: &[Link], tables: &[Relation], table: usize, edits: &[Edit]) -> bool
     requires joined { AreJoined tables.now links.now }
     requires fit { (stored : StoredRows) → slice_get tables.now table ≡ Some stored → AreFit stored edits.now }

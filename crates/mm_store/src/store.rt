@@ -154,8 +154,8 @@ impl Store {
     }
 
     /// Whether the edits of a table may be made. The first refusal that is due is answered: `DuplicateKey` where two rows
-    /// would have one key, `NoTargetRow` where a row would refer to none, `RowIsReferenced` where a row goes, or its key, to
-    /// which a row of another table refers, `TableFull` where there would be more than 1,048,576 rows; or `Memory` in its
+    /// would have one key, `NoTargetRow` where a row would refer to none, `RowIsReferenced` if a row that another
+    /// table refers to would be deleted or get another key, `TableFull` where there would be more than 1,048,576 rows; or `Memory` in its
     /// place or in that of success.
     pub fn check(&self, alloc: Global, table: usize, edits: &[Edit]) -> Result<(), Refusal>
         requires there { table < length self.now.tables }

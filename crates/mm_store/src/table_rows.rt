@@ -132,7 +132,7 @@ impl<'a> TableRows<'a> {
 }
 
 impl<'a> StoredRows<'a> {
-    /// The next row, which is left no more. None where no row is left.
+    /// Removes and returns the next row, or `None` at the end.
     pub fn next(&mut self) -> Option<&'a Row>
         ensures { MatchOption result (self.old ≡ []) (λ row. self.old ≡ row.now ∷ self.new) }
     {

@@ -71,8 +71,8 @@ impl<'a> View<'a> {
         self.store.table(table)
     }
 
-    /// The row of a live reference of a table, which has a value for each column. It is counted; the count stays where no greater
-    /// one fits.
+    /// The row of a live reference of a table, which has a value for each column. It adds 1 to the count of reads,
+    /// up to `u64::MAX`.
     pub fn row(&mut self, table: usize, at: RowRef) -> &'a Row
         requires there { table < length self.old.store.tables }
         requires live { (stored : StoredRows) → IsAt self.old.store table stored → IsLive stored.places at }

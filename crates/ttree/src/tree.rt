@@ -57,7 +57,7 @@ impl TTree {
         }
     }
 
-    /// The references of a list that is in order, which it keeps to. It asks for no comparison, and its nodes are full but
+    /// A tree of the references of a list that is already in order. It makes no comparison, and its nodes are full but
     /// for the last. `AllocError` where memory is refused.
     #[tactic(auto, using(crate::proofs::Sizes::height_at_most_nodes))]
     pub fn from_sorted(alloc: Global, refs: &[RowRef]) -> Result<TTree, AllocError>
@@ -116,9 +116,9 @@ impl TTree {
         Iter::new(self.root.as_ref())
     }
 
-    /// Takes a reference out, and with it the first of some others, as many as stand behind it in its node in their order, with others
-    /// between them or not. Says how many of these went along; none where the reference was not there. So references that are handed
-    /// in the order of the tree go with a search for each node that they stand in, not for each of them.
+    /// Removes a reference, and with it as many of the first references in `behind` as follow it in the same node in that order; other
+    /// entries may lie in between. Returns how many of `behind` were removed, or `None` if the reference was absent. So references
+    /// that are given in the order of the tree take a search for each node that they are in, not for each of them.
     #[tactic(auto, using(crate::proofs::Sizes::height_at_most_nodes))]
     pub fn remove_along<O: RefOrder>(
         &mut self,
