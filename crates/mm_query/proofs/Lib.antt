@@ -1,5 +1,6 @@
 pub mod Binds
 mod Bounds
+mod Buffers
 pub mod Due
 mod Fews
 pub mod FoundTables

@@ -1,5 +1,6 @@
 pub mod Atoms
 pub mod Binding
+pub mod Buffers
 pub mod Choosing
 pub mod Counting
 pub mod Edits

@@ -232,6 +232,10 @@ pub record Outcome : Type 0 where
   pub reply : Option Reply
   pub state : State
 
+-- A refusal is the reply, and the state stays.
+abbrev pub refused_outcome : Refusal → State → Outcome
+refused_outcome refusal state = record { reply = Some (Refused refusal); state = state }
+
 -- A refusal that is due is the reply, and the state stays. Otherwise the command is done.
 abbrev pub unless_refused : Option Refusal → State → Outcome → Outcome
 unless_refused (Some refusal) state outcome = record { reply = Some (Refused refusal); state = state }

@@ -1,4 +1,4 @@
-//! What is amiss with a command, gathered while its names are resolved.
+//! What is wrong with a command, gathered while its names are resolved.
 ghost use Rattle.std.specs.Prelude.{◌≡◌, ◌||◌, false};
 ghost use Rattle.std.specs.Option.{option_map_or};
 ghost use Rattle.mm_schema.specs.Columns.{same_type};
@@ -18,7 +18,7 @@ pub(crate) struct Resolved<P> {
     pub col_type: Option<ColType>,
 }
 
-/// What is amiss with a command whose tables are there.
+/// What is wrong with a command whose tables are there.
 #[derive(Clone, Copy)]
 pub(crate) struct Faults {
     /// Some column or position of ORDER isn't there.

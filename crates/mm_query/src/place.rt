@@ -20,7 +20,7 @@ use std::alloc::{AllocError, Global};
 /// The most tests of a change.
 pub const MAX_TESTS: usize = 16;
 
-/// What is amiss with a change apart from its columns: duplicates in SET and the count of its tests. A DELETE has no
+/// What is wrong with a change apart from its columns: duplicates in SET and the count of its tests. A DELETE has no
 /// assignments.
 pub(crate) fn form_faults(
     assignments: &[Assignment<NameRef<'_>>],
@@ -87,7 +87,7 @@ pub(crate) fn resolve_column(
     }
 }
 
-/// An operand with a place for its column, beside a side of this type, and what is amiss with it.
+/// An operand with a place for its column, beside a side of this type, and what is wrong with it.
 fn place_operand(
     columns: &Columns,
     operand: Operand<NameRef<'_>>,
@@ -116,7 +116,7 @@ fn place_operand(
     }
 }
 
-/// An assignment with places for its columns, and what is amiss with it.
+/// An assignment with places for its columns, and what is wrong with it.
 fn place_assignment(
     columns: &Columns,
     assignment: Assignment<NameRef<'_>>,
@@ -151,7 +151,7 @@ fn operand_at_first(operand: Operand<usize>) -> Operand<FieldPlace>
     }
 }
 
-/// A test as an atom of a query of the table alone, and what is amiss with it.
+/// A test as an atom of a query of the table alone, and what is wrong with it.
 fn place_test(columns: &Columns, test: Atom<NameRef<'_>>, faults: &mut Faults) -> Atom<FieldPlace>
     ensures place { result ≡ mapped_atom at_first (placed_atom columns.now test.entry) }
     ensures faults { faults.new ≡ noted (atom_lacks_column columns.now test.entry) false
@@ -166,7 +166,7 @@ fn place_test(columns: &Columns, test: Atom<NameRef<'_>>, faults: &mut Faults) -
     }
 }
 
-/// Tests as atoms of a query of the table alone, and what is amiss with them. `AllocError` where memory is refused.
+/// Tests as atoms of a query of the table alone, and what is wrong with them. `AllocError` where memory is refused.
 pub(crate) fn place_tests(
     alloc: Global,
     columns: &Columns,
@@ -184,7 +184,7 @@ pub(crate) fn place_tests(
     Ok(atoms)
 }
 
-/// Assignments with places for their columns, and what is amiss with them. `AllocError` where memory is refused.
+/// Assignments with places for their columns, and what is wrong with them. `AllocError` where memory is refused.
 pub(crate) fn place_assignments(
     alloc: Global,
     columns: &Columns,

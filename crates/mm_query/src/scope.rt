@@ -121,7 +121,7 @@ impl<'a> Scope<'a> {
         }
     }
 
-    /// The places of fields, and what is amiss with them. `AllocError` where memory is refused.
+    /// The places of fields, and what is wrong with them. `AllocError` where memory is refused.
     pub(crate) fn place_fields(
         &self,
         alloc: Global,
@@ -139,7 +139,7 @@ impl<'a> Scope<'a> {
         Ok(placed)
     }
 
-    /// An operand with a place for its field, beside a side of this type, and what is amiss with it.
+    /// An operand with a place for its field, beside a side of this type, and what is wrong with it.
     fn place_operand(
         &self,
         operand: Operand<FieldName<NameRef<'_>>>,
@@ -172,7 +172,7 @@ impl<'a> Scope<'a> {
         }
     }
 
-    /// An atom with places for its fields, and what is amiss with it.
+    /// An atom with places for its fields, and what is wrong with it.
     fn place_atom(
         &self,
         atom: Atom<FieldName<NameRef<'_>>>,
@@ -191,7 +191,7 @@ impl<'a> Scope<'a> {
         }
     }
 
-    /// Atoms with places for their fields, and what is amiss with them. `AllocError` where memory is refused.
+    /// Atoms with places for their fields, and what is wrong with them. `AllocError` where memory is refused.
     pub(crate) fn place_atoms(
         &self,
         alloc: Global,
@@ -213,7 +213,7 @@ impl<'a> Scope<'a> {
     }
 }
 
-/// What is amiss with a query apart from its tables and fields: positions of ORDER, duplicate aliases and counts.
+/// What is wrong with a query apart from its tables and fields: positions of ORDER, duplicate aliases and counts.
 pub(crate) fn form_faults(query: &Query<'_>) -> Faults
     ensures { result ≡ record {
       column = list_any (lacks_position query.now.fields) query.now.order;

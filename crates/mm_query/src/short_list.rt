@@ -1,5 +1,5 @@
 //! Short lists, which take no block.
-ghost use Rattle.std.specs.Prelude.{◌≡◌, ◌++◌, ◌∷◌, [], IfOk, OnErr, OnOk};
+ghost use Rattle.std.specs.Prelude.{◌≡◌, ◌++◌, ◌∷◌, ◌<◌, [], IfOk, OnErr, OnOk, length, slice_set};
 
 use smallvec::SmallVec;
 use std::alloc::{AllocError, Global};
@@ -53,5 +53,13 @@ impl<T: Default + Drop, const N: usize> ShortList<T, N> {
         ensures { result.now ≡ self.now }
     {
         self.items.as_slice()
+    }
+
+    /// Puts an item in place of the one at a place, counted from 0.
+    pub fn set(&mut self, i: usize, item: T)
+        requires { i < length self.old }
+        ensures { self.new ≡ slice_set self.old i item }
+    {
+        self.items.as_mut_slice()[i] = item;
     }
 }

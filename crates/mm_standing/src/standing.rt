@@ -85,6 +85,14 @@ impl Standing {
         self.queries.len()
     }
 
+    /// The standing query at a place, with places in place of the names of its fields.
+    pub fn query(&self, place: usize) -> &BoundQuery
+        requires { place < length self.now.queries }
+        ensures { slice_get (map (λ (s : StandingQuery). s.query) self.now.queries) place ≡ Some result.now }
+    {
+        &self.queries[place].query
+    }
+
     /// How many rows were read when the last change was prepared.
     pub fn reads(&self) -> u64
         ensures { result ≡ self.now.reads }

@@ -1,4 +1,5 @@
 mod Live
+mod Only
 mod Pieces
 mod Placed
 mod RowOrder

@@ -1,7 +1,7 @@
 -- Pieces of one width: how many there are, which one stands where, and one more behind them.
 use Rattle.std.proofs.Common.{◌≡◌, ℕ, zero, suc, ◌+◌, ◌*◌, ◌<◌, ◌≤◌, List, [], ◌∷◌, ◌++◌, Some, length, map, take, drop, refl, ap, ◌∙◌, arith, length-drop}
 use Rattle.std.specs.Prelude.{slice_get}
-use Rattle.std.proofs.Math.Nat.{mul-le-mul_right}
+use Rattle.std.proofs.Math.Nat.{mul-le-mul_left, mul-le-mul_right}
 use Rattle.std.proofs.lemmas.List.{drop-drop, drop-append-le, take-append-le, take_all}
 use Rattle.mm_templist.specs.Pieces.{pieces}
 
@@ -32,6 +32,13 @@ module _ {X : Type 0} (width : ℕ) where
       ap (λ n. pieces width n (xs ++ piece)) more
       ∙ (λ i. take-append-le width xs piece within i ∷ pieces width (count + 1) (drop-append-le width xs piece within i))
       ∙ ap (λ l. take width xs ∷ l) (pieces-push count (drop width xs) piece rest wide)
+
+  -- There are no more pieces than elements, where each piece has some.
+  pub few_pieces : (count : ℕ) (xs : List X) → length xs ≡ count * width → 0 < width → count ≤ length xs
+  few_pieces count xs whole some =
+      let one : 1 ≤ width = omega (arith, some) in
+      let each : count * 1 ≤ count * width = mul-le-mul_left count one in
+      omega (arith, whole, each)
 
   -- A piece ends where the pieces end, or before.
   pub piece_within : (count i : ℕ) (xs : List X) (all : List (List X)) → pieces width count xs ≡ all → length xs ≡ count * width

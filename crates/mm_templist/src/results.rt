@@ -1,5 +1,5 @@
 //! What a temporary list shows.
-ghost use Rattle.std.specs.Prelude.{◌≡◌, ◌+◌, ◌++◌, ◌*◌, ◌≤◌, All, IfOk, OnOk, Some, length, map, pos};
+ghost use Rattle.std.specs.Prelude.{◌≡◌, ◌+◌, ◌++◌, ◌*◌, ◌∷◌, ◌≤◌, [], All, IfOk, OnErr, OnOk, Some, length, map, pos, take};
 ghost use Rattle.std.specs.Option.{option_copied, unwrap_or};
 ghost use Rattle.mm_value.specs.declared.values.Value.TheVariants.{Int};
 ghost use Rattle.mm_query.specs.Queries.{value_at, values_of};
@@ -10,11 +10,14 @@ ghost use Rattle.mm_templist.specs.Runs.{referred};
 
 use crate::shown::ShownRows;
 use crate::temp_list::TempList;
-use mm_query::FieldPlace;
+use mm_query::{FieldPlace, RowBuffer};
 use mm_store::View;
 use mm_value::{Row, RowRef, Value};
 use smallvec::SmallVec;
 use std::alloc::{AllocError, Global};
+
+/// How many values an only row may have that is copied without a block: as many as a query has fields.
+const FEW_VALUES: usize = 16;
 
 /// The rows of a combination. A query has at most four tables.
 type Chosen<'s> = SmallVec<Option<&'s Row>, 4>;
@@ -61,6 +64,54 @@ impl<'a> TempList<'a> {
         copy_rows(alloc, &shown)
     }
 
+    /// Copies the rows of the result, as `shown` has them, behind those of a buffer. An only row goes from where it lies to the
+    /// buffer, and no memory is taken but for the buffer, where it has at most 16 values. `AllocError` where memory is refused;
+    /// then some of the rows may have been added, and those that were there stand as they did.
+    pub fn copy_into(
+        &self,
+        alloc: Global,
+        view: &mut View<'_>,
+        distinct: bool,
+        order: &[usize],
+        buffer: &mut RowBuffer,
+    ) -> Result<(), AllocError>
+        requires live { All (AreLive view.old.store self.now.tables) self.now.combos }
+        ensures ok { OnOk result (buffer.new ≡ buffer.old ++ result_rows view.old.store self.now distinct order.now) }
+        ensures err { OnErr result (take (length buffer.old) buffer.new ≡ buffer.old) }
+        ensures reads { view.new.reads ≤ view.old.reads + length self.now.combos * length self.now.tables }
+        ensures same { view.new.store ≡ view.old.store }
+    {
+        if self.len() == 1 && self.descriptor().fields.len() <= FEW_VALUES {
+            return self.copy_only(alloc, view, buffer);
+        }
+        let zero = Value::Int(0);
+        let shown = self.shown(alloc, view, distinct, order, &zero)?;
+        shown.copy_into(alloc, buffer)
+    }
+
+    /// Copies the row of the only combination behind those of a buffer. `AllocError` where memory is refused, and then the rows
+    /// are as before.
+    fn copy_only(
+        &self,
+        alloc: Global,
+        view: &mut View<'_>,
+        buffer: &mut RowBuffer,
+    ) -> Result<(), AllocError>
+        requires live { All (AreLive view.old.store self.now.tables) self.now.combos }
+        requires only { length self.now.combos ≡ 1 }
+        requires few { length self.now.fields ≤ 16 }
+        ensures ok { OnOk result (buffer.new ≡ buffer.old ++ projected_rows view.old.store self.now) }
+        ensures err { OnErr result (buffer.new ≡ buffer.old) }
+        ensures reads { view.new.reads ≤ view.old.reads + length self.now.tables }
+        ensures same { view.new.store ≡ view.old.store }
+    {
+        let descriptor = self.descriptor();
+        let zero = Value::Int(0);
+        let mut chosen = SmallVec::with_capacity(alloc, descriptor.tables.len())?;
+        choose_rows(view, descriptor.tables, self.combo(0), &mut chosen)?;
+        copy_values(alloc, descriptor.fields, chosen.as_slice(), &zero, buffer)
+    }
+
     /// References to the values of the fields of each combination in turn, one behind the other. `AllocError` where memory is
     /// refused.
     fn projected<'s, 'v: 's>(
@@ -103,6 +154,27 @@ fn push_values<'s>(
         values.push(value_at(rows, *field, zero))?;
     }
     Ok(())
+}
+
+/// Copies the row of the values of fields of some rows behind those of a buffer. `AllocError` where memory is refused, and then the
+/// rows are as before.
+fn copy_values<'s>(
+    alloc: Global,
+    fields: &[FieldPlace],
+    rows: &[Option<&'s Row>],
+    zero: &'s Value,
+    buffer: &mut RowBuffer,
+) -> Result<(), AllocError>
+    requires few { length fields.now ≤ 16 }
+    requires zero { zero.now ≡ Int (pos 0) }
+    ensures ok { OnOk result (buffer.new ≡ buffer.old ++ values_of fields.now (map option_copied rows.now) ∷ []) }
+    ensures err { OnErr result (buffer.new ≡ buffer.old) }
+{
+    let mut values = [zero; FEW_VALUES];
+    for (i, field) in fields.iter().enumerate() {
+        values[i] = value_at(rows, *field, zero);
+    }
+    buffer.push(alloc, &values[..fields.len()])
 }
 
 /// The value of a field, and this 0 where its place has no row or the row ends before it.

@@ -1,5 +1,5 @@
 //! Rows as they are shown.
-ghost use Rattle.std.specs.Prelude.{◌≡◌, ◌*◌, ◌<◌, All, IfOk, IsPermutation, Some, length, map, slice_get};
+ghost use Rattle.std.specs.Prelude.{◌≡◌, ◌++◌, ◌*◌, ◌<◌, All, IfOk, IsPermutation, OnErr, OnOk, Some, length, map, slice_get, take};
 ghost use Rattle.std.specs.List.{dedup};
 ghost use Rattle.std.specs.List.Sorted.{IsSorted};
 ghost use Rattle.mm_query.specs.Queries.{same_row};
@@ -8,6 +8,7 @@ ghost use Rattle.mm_templist.specs.Runs.{referred, run_from};
 ghost use Rattle.mm_templist.specs.Shown.{HasPrefix, in_shown_order, placed_cmp, placed_row};
 
 use crate::row_order::{compare_by_columns, compare_values, leading_prefix};
+use mm_query::RowBuffer;
 use mm_value::Value;
 use smallvec::SmallVec;
 use std::alloc::{AllocError, Global};
@@ -88,6 +89,18 @@ impl<'s> ShownRows<'s> {
         ensures { slice_get self.now i ≡ Some (map (λ value. value.now) result.now) }
     {
         run_from(self.values.as_slice(), self.places[i].start, self.width)
+    }
+
+    /// Copies the rows, in their order, behind those of a buffer. `AllocError` where memory is refused; then some of them may have
+    /// been added, and those that were there stand as they did.
+    pub fn copy_into(&self, alloc: Global, buffer: &mut RowBuffer) -> Result<(), AllocError>
+        ensures ok { OnOk result (buffer.new ≡ buffer.old ++ self.now) }
+        ensures err { OnErr result (take (length buffer.old) buffer.new ≡ buffer.old) }
+    {
+        for i in 0..self.len() {
+            buffer.push(alloc, self.row(i))?;
+        }
+        Ok(())
     }
 }
 

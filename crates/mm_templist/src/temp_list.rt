@@ -3,6 +3,7 @@ ghost use Rattle.std.specs.Prelude.{◌≡◌, ◌+◌, ◌++◌, ◌∷◌, ◌
 
 use mm_query::FieldPlace;
 use mm_value::RowRef;
+use smallvec::SmallVec;
 use std::alloc::{AllocError, Global};
 use std::marker::Model;
 
@@ -19,11 +20,12 @@ pub struct Descriptor<'a> {
 /// copied: the result descriptor tells which fields of the rows a result has.
 ///
 /// The references stand in one vector, those of a combination one behind the other, so a combination takes no block of its own.
+/// Up to four references lie in the list itself: one combination takes no block at all.
 #[derive(Drop)]
 pub struct TempList<'a> {
     descriptor: Descriptor<'a>,
     /// As many references for each combination as there are tables.
-    refs: Vec<RowRef>,
+    refs: SmallVec<RowRef, 4>,
     /// How many combinations there are.
     len: usize,
 }
@@ -51,7 +53,7 @@ impl<'a> TempList<'a> {
     {
         TempList {
             descriptor,
-            refs: Vec::new(alloc),
+            refs: SmallVec::new(alloc),
             len: 0,
         }
     }
@@ -65,7 +67,7 @@ impl<'a> TempList<'a> {
                 tables: &[],
                 fields,
             },
-            refs: Vec::new(alloc),
+            refs: SmallVec::new(alloc),
             len: 1,
         }
     }
@@ -78,7 +80,7 @@ impl<'a> TempList<'a> {
         let len = refs.len();
         TempList {
             descriptor,
-            refs,
+            refs: SmallVec::from_vec(refs),
             len,
         }
     }
@@ -115,6 +117,8 @@ impl<'a> TempList<'a> {
         ensures ok { OnOk result (self.new ≡ record self.old { combos = self.old.combos ++ (front.now ++ at ∷ []) ∷ [] }) }
         ensures err { OnErr result (self.new ≡ self.old) }
     {
+        // A slice of all references shows that their number can be counted.
+        let _counted = self.refs.as_slice();
         self.refs.reserve(front.len() + 1)?;
         self.refs.extend_from_slice(front)?;
         self.refs.push_reserved(at);

@@ -1,7 +1,8 @@
 -- What standing queries show, by their places.
-use Rattle.std.proofs.Common.{◌≡◌, ℕ, zero, suc, ◌+◌, ◌<◌, ◌≤◌, Bool, true, false, cond, not, List, [], ◌∷◌, ◌++◌, Option, Some}
+use Rattle.std.proofs.Common.{◌≡◌, ℕ, zero, suc, ◌+◌, ◌<◌, ◌≤◌, Bool, true, false, cond, not, List, [], ◌∷◌, ◌++◌, Option, None, Some}
 use Rattle.std.proofs.Common.{length, map, pos, slice_get, take, refl, sym, ap, subst, ◌∙◌, arith}
 use Rattle.std.specs.List.{IsDistinct, position_or_len}
+use Rattle.std.specs.Prelude.{find}
 use Rattle.std.specs.Option.{option_map, option_map_or}
 use Rattle.std.proofs.lemmas.List.{length-map}
 use Rattle.std.proofs.lemmas.List.Elements.{recursion_from_All}
@@ -36,7 +37,7 @@ module _ (name : List ℕ) where
   named query = same_name name query.name
 
   -- The query of a name is the one at its place.
-  query_at : (ss : List StandingDef) (qs : List BoundQuery) → AreBeside ss qs → position_or_len named ss < length ss → (q : BoundQuery)
+  pub query_at : (ss : List StandingDef) (qs : List BoundQuery) → AreBeside ss qs → position_or_len named ss < length ss → (q : BoundQuery)
       → slice_get qs (position_or_len named ss) ≡ Some q → query_named name ss qs ≡ Some q
   query_at (s ∷ ss) (x ∷ qs) beside within q at = by (named s) within at (query_at ss qs beside.1)
     where
@@ -50,6 +51,17 @@ module _ (name : List ℕ) where
           later (omega arith) q (subst (λ k. slice_get (x ∷ qs) k ≡ Some q) next here)
   query_at [] qs beside within q at = absurd (omega arith)
   query_at (s ∷ ss) [] beside within q at = absurd beside
+
+  -- Where no standing query has a name, no query goes by it.
+  pub query_nowhere : (ss : List StandingDef) (qs : List BoundQuery) → find named ss ≡ None → query_named name ss qs ≡ None
+  query_nowhere [] qs nowhere = refl
+  query_nowhere (s ∷ ss) [] nowhere = refl
+  query_nowhere (s ∷ ss) (x ∷ qs) nowhere = by (named s) nowhere (query_nowhere ss qs)
+    where
+      by : (b : Bool) → cond b (Some s) (find named ss) ≡ None → (find named ss ≡ None → query_named name ss qs ≡ None)
+          → cond b (Some x) (query_named name ss qs) ≡ None
+      by true found others = cc
+      by false nowhere others = others nowhere
 
 -- ---- by the place
 

@@ -1,9 +1,11 @@
 //! Rows that lie in a database.
-ghost use Rattle.std.specs.Prelude.{◌≡◌, length};
+ghost use Rattle.std.specs.Prelude.{◌≡◌, ◌++◌, OnErr, OnOk, length, take};
 ghost use Rattle.mm_txn.specs.Sources.{rows_to_read};
 
+use mm_query::RowBuffer;
 use mm_store::{StoredRows, TableRows};
 use mm_templist::ShownRows;
+use std::alloc::{AllocError, Global};
 use std::marker::Model;
 
 /// Where rows lie.
@@ -60,6 +62,18 @@ impl<'a> Rows<'a> {
         }
     }
 
+    /// Copies the rows, in their order, behind those of a buffer. `AllocError` where memory is refused; then some of them may have
+    /// been added, and those that were there stand as they did.
+    pub fn copy_into(&self, alloc: Global, buffer: &mut RowBuffer) -> Result<(), AllocError>
+        ensures ok { OnOk result (buffer.new ≡ buffer.old ++ self.now) }
+        ensures err { OnErr result (take (length buffer.old) buffer.new ≡ buffer.old) }
+    {
+        match &self.source {
+            Source::Stored(rows) => copy_stored(alloc, rows.reader(), buffer),
+            Source::Shown(rows) => rows.copy_into(alloc, buffer),
+        }
+    }
+
     /// What reads them where they lie, from the first one on.
     pub fn reader(&self) -> RowReader<'_>
         ensures { rows_to_read result ≡ self.now }
@@ -78,4 +92,20 @@ pub enum RowReader<'a> {
     Stored(StoredRows<'a>),
     /// Rows that a query or a standing query shows, as references to their values.
     Shown(&'a ShownRows<'a>),
+}
+
+/// Copies the rows of a table that are left to be read behind those of a buffer. `AllocError` where memory is refused; then some of
+/// them may have been added.
+fn copy_stored(
+    alloc: Global,
+    mut rows: StoredRows<'_>,
+    buffer: &mut RowBuffer,
+) -> Result<(), AllocError>
+    ensures ok { OnOk result (buffer.new ≡ buffer.old ++ rows.entry) }
+    ensures err { OnErr result (take (length buffer.old) buffer.new ≡ buffer.old) }
+{
+    while let Some(row) = rows.next() {
+        buffer.push(alloc, row.values())?;
+    }
+    Ok(())
 }

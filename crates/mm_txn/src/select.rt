@@ -1,20 +1,40 @@
 //! The rows that a query gives.
-ghost use Rattle.std.specs.Prelude.{◌≡◌, IfOk, pos};
+ghost use Rattle.std.specs.Prelude.{◌≡◌, ◌++◌, All, IfOk, OnErr, OnOk, length, pos, take};
 ghost use Rattle.mm_query.specs.Resolving.{select_conditions, selected};
 ghost use Rattle.mm_query.specs.declared.query.Query.{Query};
 ghost use Rattle.mm_schema.specs.Refused.{AnswersDue, first_refusal};
 ghost use Rattle.mm_schema.specs.Schema.{Schema};
 ghost use Rattle.mm_value.specs.declared.values.Value.TheVariants.{Int};
 ghost use Rattle.mm_plan.specs.Kept.{AreOf};
+ghost use Rattle.mm_templist.specs.Combos.{AreLive};
+ghost use Rattle.mm_templist.specs.Results.{result_rows};
 ghost use Rattle.mm_txn.specs.Bound.{IsBoundQuery};
 ghost use Rattle.mm_txn.specs.Kept.{state_of};
 
 use mm_plan::run_query;
-use mm_query::Bound;
-use mm_store::Store;
-use mm_templist::ShownRows;
+use mm_query::{Bound, RowBuffer};
+use mm_store::{Store, View};
+use mm_templist::{ShownRows, TempList};
 use mm_value::{Refusal, Value};
 use std::alloc::Global;
+
+/// The combinations of rows that fit a bound query, each once and in no promised order, found by its plan. The refusals are those of
+/// [`run_query`].
+fn fitting_combinations<'b>(
+    alloc: Global,
+    view: &mut View<'_>,
+    bound: &'b Bound,
+) -> Result<TempList<'b>, Refusal>
+    requires bound { (schema : Schema) × (query : Query) × AreOf schema.tables view.old.store.tables × IsBoundQuery schema query bound.now }
+    ensures due { (schema : Schema) (query : Query) → AreOf schema.tables view.old.store.tables → IsBoundQuery schema query bound.now
+        → AnswersDue (first_refusal (select_conditions query (state_of schema view.old.store.tables))) result }
+    ensures rows { IfOk result (λ list. (schema : Schema) (query : Query) → AreOf schema.tables view.old.store.tables → IsBoundQuery schema query bound.now
+        → result_rows view.old.store list bound.now.query.distinct bound.now.query.order ≡ selected query (state_of schema view.old.store.tables)) }
+    ensures live { IfOk result (λ list. All (AreLive view.old.store list.tables) list.combos) }
+    ensures same { view.new.store ≡ view.old.store }
+{
+    run_query(alloc, view, &bound.query, bound.tables.as_slice())
+}
 
 /// The rows that a bound query gives, in their order, found by its plan; no value is copied. A field that isn't there reads as
 /// `zero`, which is to be 0. The refusals are those of [`run_query`].
@@ -32,7 +52,7 @@ pub(crate) fn select_rows<'s>(
         → rows ≡ selected query (state_of schema store.now.tables)) }
 {
     let mut view = store.view();
-    let list = run_query(alloc, &mut view, &bound.query, bound.tables.as_slice())?;
+    let list = fitting_combinations(alloc, &mut view, bound)?;
     let rows = list.shown(
         alloc,
         &mut view,
@@ -41,4 +61,27 @@ pub(crate) fn select_rows<'s>(
         zero,
     )?;
     Ok(rows)
+}
+
+/// Copies the rows that a bound query gives, in their order, behind those of a buffer; they are found by its plan. The refusals are
+/// those of [`run_query`]; then some of the rows may have been added, and those that were there stand as they did.
+pub(crate) fn copy_rows(
+    alloc: Global,
+    store: &Store,
+    bound: &Bound,
+    buffer: &mut RowBuffer,
+) -> Result<(), Refusal>
+    requires bound { (schema : Schema) × (query : Query) × AreOf schema.tables store.now.tables × IsBoundQuery schema query bound.now }
+    ensures due { (schema : Schema) (query : Query) → AreOf schema.tables store.now.tables → IsBoundQuery schema query bound.now
+        → AnswersDue (first_refusal (select_conditions query (state_of schema store.now.tables))) result }
+    ensures rows { OnOk result ((schema : Schema) (query : Query) → AreOf schema.tables store.now.tables → IsBoundQuery schema query bound.now
+        → buffer.new ≡ buffer.old ++ selected query (state_of schema store.now.tables)) }
+    ensures err { OnErr result (take (length buffer.old) buffer.new ≡ buffer.old) }
+{
+    let mut view = store.view();
+    let list = fitting_combinations(alloc, &mut view, bound)?;
+    let query = &bound.query;
+    let order = query.order.as_slice();
+    list.copy_into(alloc, &mut view, query.distinct, order, buffer)?;
+    Ok(())
 }

@@ -1,9 +1,11 @@
 //! Queries and changes of rows that are bound once, and run as often as need be while the catalog stays.
-ghost use Rattle.std.specs.Prelude.{◌≡◌, IfOk, OnErr, OnOk, Some, is_some, length};
+ghost use Rattle.std.specs.Prelude.{◌≡◌, ◌++◌, IfOk, OnErr, OnOk, Some, is_some, length, take};
+ghost use Rattle.std.specs.Option.{option_copied};
 ghost use Rattle.mm_query.specs.Binding.{binding_conditions};
 ghost use Rattle.mm_query.specs.Edits.{own_pairs};
 ghost use Rattle.mm_query.specs.Machine.{conditions, state_after};
 ghost use Rattle.mm_query.specs.Resolving.{query_conditions, selected};
+ghost use Rattle.mm_query.specs.Standing.{query_named};
 ghost use Rattle.mm_query.specs.declared.command.Command.TheVariants.{Change, Select};
 ghost use Rattle.mm_query.specs.declared.command.Mutation.{Mutation as AnyMutation};
 ghost use Rattle.mm_query.specs.declared.query.Query.{Query as AnyQuery};
@@ -17,9 +19,9 @@ use super::execute::counted;
 use crate::answer::Answer;
 use crate::bound::ChangeToRun;
 use crate::rows::Rows;
-use crate::select::select_rows;
-use mm_query::{Bound, BoundChange, Mutation, Query, Reply};
-use mm_schema::Catalog;
+use crate::select::{copy_rows, select_rows};
+use mm_query::{Bound, BoundChange, BoundQuery, Mutation, Query, Reply, RowBuffer};
+use mm_schema::{Catalog, Name};
 use mm_templist::ShownRows;
 use mm_value::Refusal;
 use std::alloc::Global;
@@ -30,6 +32,15 @@ impl Db {
         ensures { result.now ≡ self.now.schema }
     {
         &self.contents.catalog
+    }
+
+    /// The query of a standing query, with places in place of the names of its fields. None where none has the name.
+    pub fn standing_query(&self, name: &Name) -> Option<&BoundQuery>
+        ensures { option_copied result ≡ query_named name.now self.now.schema.standing self.now.queries }
+    {
+        let contents = &self.contents;
+        let place = contents.catalog.standing_place_of(name)?;
+        Some(contents.standing.query(place))
     }
 
     /// Whether a transaction is open.
@@ -71,6 +82,25 @@ impl Db {
             Ok(rows) => Answer::Rows(Rows::shown(rows)),
             Err(refusal) => Answer::Refused(refusal),
         }
+    }
+
+    /// Copies the rows that a bound query gives, in their order, behind those of a buffer; the query has to be bound by the catalog
+    /// as it is. `ResultTooLarge` where more than 1,048,576 combinations of rows fit; `Memory` may come in its place and in that of
+    /// success. Where it is refused, some of the rows may have been added, and those that were there stand as they did.
+    pub fn select_into(
+        &self,
+        alloc: Global,
+        bound: &Bound,
+        rows: &mut RowBuffer,
+    ) -> Result<(), Refusal>
+        requires { (query : AnyQuery) × IsBoundQuery self.now.schema query bound.now }
+        ensures due { (query : AnyQuery) → IsBoundQuery self.now.schema query bound.now
+            → AnswersDue (first_refusal (conditions (Select query) self.now)) result }
+        ensures rows { OnOk result ((query : AnyQuery) → IsBoundQuery self.now.schema query bound.now → rows.new ≡ rows.old ++ selected query self.now) }
+        ensures err { OnErr result (take (length rows.old) rows.new ≡ rows.old) }
+    {
+        let contents = &self.contents;
+        copy_rows(alloc, &contents.store, bound, rows)
     }
 
     /// The rows that a bound query gives, in their order. The refusals are those of [`Db::select_bound`].

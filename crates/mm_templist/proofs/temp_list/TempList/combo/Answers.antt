@@ -9,7 +9,7 @@ overflow_mul-start c =
     let width = length c.self.inside.descriptor.tables.now in
     let combos = ap (λ (list : Combos). list.combos) c.self.view_is in
     let within = piece_within width c.self.inside.len c.args.i c.self.inside.refs.items c.args.self.now.combos combos c.self.invariant c.requires in
-    let here = ap length c.as_slice-refs.ensures.value in
+    let here = ap length c.as_slice-refs.ensures in
     omega (arith, within, here, c.as_slice-refs.type_inv)
 
 pub overflow_add-result : goal.overflow_add-result
@@ -17,7 +17,7 @@ overflow_add-result c =
     let width = length c.self.inside.descriptor.tables.now in
     let combos = ap (λ (list : Combos). list.combos) c.self.view_is in
     let within = piece_within width c.self.inside.len c.args.i c.self.inside.refs.items c.args.self.now.combos combos c.self.invariant c.requires in
-    let here = ap length c.as_slice-refs.ensures.value in
+    let here = ap length c.as_slice-refs.ensures in
     omega (arith, within, here, c.as_slice-refs.type_inv)
 
 pub offset_bounds-refs-start : goal.offset_bounds-refs-start
@@ -25,7 +25,7 @@ offset_bounds-refs-start c =
     let width = length c.self.inside.descriptor.tables.now in
     let combos = ap (λ (list : Combos). list.combos) c.self.view_is in
     let within = piece_within width c.self.inside.len c.args.i c.self.inside.refs.items c.args.self.now.combos combos c.self.invariant c.requires in
-    let here = ap length c.as_slice-refs.ensures.value in
+    let here = ap length c.as_slice-refs.ensures in
     omega (arith, within, here, c.as_slice-refs.type_inv)
 
 pub slice_bounds-result-end : goal.slice_bounds-result-end
@@ -33,7 +33,7 @@ slice_bounds-result-end c =
     let width = length c.self.inside.descriptor.tables.now in
     let combos = ap (λ (list : Combos). list.combos) c.self.view_is in
     let within = piece_within width c.self.inside.len c.args.i c.self.inside.refs.items c.args.self.now.combos combos c.self.invariant c.requires in
-    let here = ap length c.as_slice-refs.ensures.value in
+    let here = ap length c.as_slice-refs.ensures in
     omega (arith, within, here, c.as_slice-refs.type_inv)
 
 pub returns : goal.returns
@@ -46,4 +46,4 @@ returns c =
     let one : width ≡ c.args.i * width + width - c.args.i * width = omega arith in
     ap (λ (list : Combos). slice_get list.combos c.args.i) (sym c.self.view_is)
     ∙ (piece_at width c.self.inside.len refs c.args.i below
-    ∙ (λ k. Some (take (one k) (drop (c.args.i * width) (sym c.as_slice-refs.ensures.value k)))))
+    ∙ (λ k. Some (take (one k) (drop (c.args.i * width) (sym c.as_slice-refs.ensures k)))))
