@@ -6,6 +6,8 @@
 #[cfg(test)]
 mod assertions;
 #[cfg(test)]
+mod places;
+#[cfg(test)]
 mod plain_results;
 #[cfg(test)]
 mod put_again;

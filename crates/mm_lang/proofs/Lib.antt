@@ -8,7 +8,7 @@ pub mod BufferedLines
 mod Lexing
 mod ListingTexts
 mod Lists
-mod LiteralOrder
+pub mod LiteralOrder
 mod Literals
 mod Operands
 pub mod Pieces
@@ -18,9 +18,9 @@ pub mod ReplyLemmas
 mod ShortLines
 mod SelectReadings
 mod SpelledAtoms
-mod SpelledCommands
+pub mod SpelledCommands
 mod SpelledSelect
-mod SpelledWords
+pub mod SpelledWords
 mod StepTexts
 mod Texts
 mod ReadAgain

@@ -1,3 +1,4 @@
+pub mod Answering
 pub mod Buffered
 pub mod Grammar
 pub mod Lines

@@ -6,6 +6,7 @@ pub(crate) mod hole;
 pub(crate) mod keyword;
 pub(crate) mod lookahead;
 pub(crate) mod phrase;
+pub(crate) mod places;
 pub(crate) mod reader;
 pub(crate) mod reading;
 pub(crate) mod select;

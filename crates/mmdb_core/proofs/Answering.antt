@@ -16,7 +16,7 @@ use Rattle.mm_value.specs.declared.device.Watched.{Watched}
 use Rattle.mm_value.specs.declared.refusal.Refusal.{Refusal}
 use Rattle.mm_value.specs.declared.refusal.Refusal.TheVariants.{LineTooLong, Memory}
 use Rattle.mm_value.specs.declared.values.Value.{Value}
-use Rattle.mm_query.specs.Machine.{Outcome, step}
+use Rattle.mm_query.specs.Machine.{Outcome, refused_outcome, step}
 use Rattle.mm_query.specs.State.{State}
 use Rattle.mm_query.specs.Transactions.{is_done_without_memory}
 use Rattle.mm_query.specs.declared.command.Command.{Command}
@@ -24,15 +24,16 @@ use Rattle.mm_query.specs.declared.command.Command.TheVariants.{Nothing}
 use Rattle.mm_query.specs.declared.reply.Reply.{Reply}
 use Rattle.mm_query.specs.declared.reply.Reply.TheVariants.{Refused}
 use Rattle.mm_txn.specs.Requests.{command_of_change, command_of_question}
-use Rattle.mm_txn.specs.Steps.{IsStep, refused_outcome}
+use Rattle.mm_txn.specs.Steps.{IsStep}
 use Rattle.mm_txn.specs.declared.request.Change.{Change}
 use Rattle.mm_txn.specs.declared.request.Change.TheVariants as change
 use Rattle.mm_txn.specs.declared.request.Question.{Question}
 use Rattle.mm_txn.specs.declared.request.Question.TheVariants as question
 use Rattle.mmdb_core.specs.steps.Feeds.{EndsLine}
 use Rattle.mmdb_core.specs.steps.Input.{Comes, Finds, IsLastLine, IsLine, PassesLine}
-use Rattle.mmdb_core.specs.steps.Respond.{RepliesToLine, GoesOn, MayLeadTo, PassesReplied, Replies, RepliesToReading}
-use Rattle.mmdb_core.specs.Run.{answer, is_error, outcome_of}
+use Rattle.mmdb_core.specs.steps.Respond.{RepliesToLine, GoesOn, PassesReplied, Replies, RepliesToReading}
+use Rattle.mmdb_core.specs.Run.{is_error}
+use Rattle.mm_lang.specs.Answering.{MayLeadTo, answer, outcome_of}
 use Rattle.mmdb_core.specs.declared.run_error.RunError.{RunError}
 use Rattle.mmdb_core.specs.declared.run_error.RunError.TheVariants.{Write}
 use Rattle.mmdb_core.specs.declared.input.Input.{Input}

@@ -11,13 +11,12 @@ use Rattle.mm_lang.specs.Reading.{is_nothing, plain_command, read_as, reading, r
 use Rattle.mm_lang.specs.Tokens.{tokens}
 use Rattle.mm_value.specs.declared.refusal.Refusal.TheVariants.{LineTooLong, Memory, NoSuchSavepoint, NoTransaction}
 use Rattle.mm_schema.specs.Name.{same_name}
-use Rattle.mm_query.specs.Machine.{back_to, rows_at_latest, step}
+use Rattle.mm_query.specs.Machine.{back_to, refused_outcome, rows_at_latest, step}
 use Rattle.mm_query.specs.State.{Saved, Savepoint, State}
 use Rattle.mm_query.specs.declared.command.Command.TheVariants.{Nothing, Rollback, RollbackTo}
 use Rattle.mm_query.specs.declared.reply.Reply.TheVariants.{Done, Refused}
 use Rattle.mm_query.proofs.Due.{step-done, step-refused}
-use Rattle.mm_txn.specs.Steps.{refused_outcome}
-use Rattle.mmdb_core.specs.Run.{answer, outcome_of}
+use Rattle.mm_lang.specs.Answering.{answer, outcome_of}
 
 -- memory refused to a line that takes it
 pub refused_memory : (line : List ℕ) (state : State) → takes_memory line ≡ true → answer true line state ≡ refused_outcome Memory state

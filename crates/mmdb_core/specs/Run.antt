@@ -2,33 +2,18 @@
 use Rattle.std.specs.Prelude.{◌≡◌, ◌↔◌, ℕ, ◌+◌, ◌<◌, ◌≤◌, Bool, true, false, ◌&&◌, if◌then◌else◌, List, [], ◌∷◌, ◌++◌, length, take, Option, Some, None}
 use Rattle.std.specs.Prelude.{Result, Ok, Err}
 use Rattle.std.specs.Io.KnownBytes.{Appends, Consumes, IsAtEnd}
+use Rattle.mm_lang.specs.Answering.{answer}
 use Rattle.mm_lang.specs.Lines.{lines_of, whole_lines_of}
-use Rattle.mm_lang.specs.Reading.{reading, takes_memory}
 use Rattle.mm_lang.specs.ReplyText.{reply_text}
 use Rattle.mm_value.specs.Device.{AppendsPrefix}
 use Rattle.mm_value.specs.Watched.{inner_of}
 use Rattle.mm_value.specs.declared.device.Watched.{Watched}
-use Rattle.mm_value.specs.declared.refusal.Refusal.{Refusal}
-use Rattle.mm_value.specs.declared.refusal.Refusal.TheVariants.{Memory}
-use Rattle.mm_query.specs.Machine.{Outcome, step}
 use Rattle.mm_query.specs.State.{State, first_state}
-use Rattle.mm_query.specs.declared.command.Command.{Command}
 use Rattle.mm_query.specs.declared.reply.Reply.{Reply}
 use Rattle.mm_query.specs.declared.reply.Reply.TheVariants.{Done, Count, Rows, Steps, Listing, Refused}
-use Rattle.mm_txn.specs.Steps.{refused_outcome}
 use Rattle.mmdb_core.specs.declared.run_error.RunError.{RunError}
 use Rattle.mmdb_core.specs.declared.run_error.RunError.TheVariants.{Read, Write, TooLong}
 use Rattle.mmdb_core.specs.declared.limits.Totals.{Totals}
-
--- What a reading leads to: a step, or its refusal.
-abbrev pub outcome_of : Result Command Refusal → State → Outcome
-outcome_of (Ok command) state = step command state
-outcome_of (Err refusal) state = refused_outcome refusal state
-
--- What a line leads to. Where memory is refused to it and it takes memory, that is the reply, and the state stays.
-abbrev pub answer : Bool → List ℕ → State → Outcome
-answer is_refused line state =
-    if is_refused && takes_memory line then refused_outcome Memory state else outcome_of (reading line) state
 
 -- The text of a reply, if there is one.
 abbrev pub text_of : Option Reply → List ℕ

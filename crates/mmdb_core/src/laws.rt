@@ -1,5 +1,6 @@
 //! Laws of the definitions that the contract of a run speaks of.
 ghost use Rattle.std.specs.Prelude.{◌≡◌, ◌+◌, ◌<◌, ◌≤◌, ℕ, Bool, true, false, List, [], length, Option, Some, None, Ok, Result, IfSome, IsErrOf};
+ghost use Rattle.mm_lang.specs.Answering.{answer, outcome_of};
 ghost use Rattle.mm_lang.specs.Reading.{is_nothing, reading, takes_memory};
 ghost use Rattle.mm_query.specs.Machine.{back_to, rows_at_latest};
 ghost use Rattle.mm_query.specs.State.{Saved, Savepoint, State};
@@ -12,7 +13,7 @@ ghost use Rattle.mm_schema.specs.Name.{same_name};
 ghost use Rattle.mm_value.specs.Watched.{inner_of, has_failed};
 ghost use Rattle.mm_value.specs.declared.device.Watched.{Watched};
 ghost use Rattle.mm_value.specs.declared.refusal.Refusal.TheVariants.{Memory, NoTransaction};
-ghost use Rattle.mmdb_core.specs.Run.{answer, outcome_of, Answers, ReachedEnd, TakesWithin};
+ghost use Rattle.mmdb_core.specs.Run.{Answers, ReachedEnd, TakesWithin};
 ghost use Rattle.mmdb_core.specs.declared.limits.Totals.{Totals};
 
 use crate::limits::{Limits, Totals};

@@ -38,6 +38,13 @@ impl<'a> Lookahead<'a> {
         }
     }
 
+    /// The bytes.
+    pub(crate) fn bytes(&self) -> &'a [u8]
+        ensures { result.now ≡ self.now }
+    {
+        self.bytes
+    }
+
     /// The first token, and the bytes behind it; none where there are only blanks.
     pub(crate) fn token(&self) -> Option<(Token<'a>, &'a [u8])>
         ensures { MatchOption result (tokens self.now ≡ []) (λ r. Splits (tokens self.now) (length self.now) r.0 r.1.now) }

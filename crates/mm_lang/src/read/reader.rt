@@ -41,6 +41,13 @@ impl<'a> Reader<'a> {
         }
     }
 
+    /// What is left to be read.
+    pub(crate) fn rest(&self) -> &'a [u8]
+        ensures { result.now ≡ self.now.rest }
+    {
+        self.rest.bytes()
+    }
+
     /// The allocator of what is read.
     pub(crate) fn alloc(&self) -> Global {
         self.alloc
@@ -335,7 +342,7 @@ fn comparison_of(symbol: Symbol) -> Option<Comparison>
 
 // The value that a token is; a hole is a 0. `Syntax` where it is none, else `NumberOutOfRange` or `TextTooLong` where it passes its
 // limit, else `Memory` where that was refused.
-fn literal(alloc: Global, token: Token<'_>) -> Result<Value, Refusal>
+pub(crate) fn literal(alloc: Global, token: Token<'_>) -> Result<Value, Refusal>
     ensures { (t : Tok) → Shows token.entry t → AnswersOrMemory (checked literal_fault (literal_of t)) result }
 {
     match token {
@@ -348,7 +355,7 @@ fn literal(alloc: Global, token: Token<'_>) -> Result<Value, Refusal>
 }
 
 // Whether a literal past its limit is refused so.
-fn is_limit(refusal: Refusal) -> bool
+pub(crate) fn is_limit(refusal: Refusal) -> bool
     ensures { result ≡ is_limit refusal }
 {
     matches!(refusal, Refusal::NumberOutOfRange | Refusal::TextTooLong)

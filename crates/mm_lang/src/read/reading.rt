@@ -87,7 +87,10 @@ pub(crate) fn read_command(alloc: Global, line: &[u8]) -> Result<Command<'_>, Re
 
 // What stands behind the keyword that a command begins with. One that begins or ends a transaction, or goes back in it, takes no memory.
 #[tactic(auto, using(crate::proofs::CommandReadings::whole_given))]
-fn read_behind<'l>(keyword: Keyword, reader: &mut Reader<'l>) -> Result<Command<'l>, Refusal>
+pub(crate) fn read_behind<'l>(
+    keyword: Keyword,
+    reader: &mut Reader<'l>,
+) -> Result<Command<'l>, Refusal>
     ensures reads { ReadsPhrase (command_behind keyword) literals_of reader.old reader.new result }
     ensures memory { result ≡ Err Memory → is_control_keyword keyword ≡ false }
 {

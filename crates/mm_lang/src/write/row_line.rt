@@ -68,6 +68,18 @@ impl RowLines {
         self.add(values, writer)
     }
 
+    /// Adds the line of a row as [`RowLines::add_row`] does, from its values.
+    pub(crate) fn add_values<W: Write>(
+        &mut self,
+        values: &[Value],
+        writer: &mut Watched<W>,
+    ) -> Result<(), WriteError>
+        requires { has_failed writer.old ≡ false }
+        ensures { WritesBuffered W.contents writer.old self.old writer.new self.new result (row_text values.now ++ 10 ∷ []) }
+    {
+        self.add(values, writer)
+    }
+
     /// Writes the buffered lines, and behind them the line that says how many rows there are. Takes no memory. After
     /// `WriteError` the writer has failed, and a front of these lines was written.
     pub fn finish<W: Write>(

@@ -1,29 +1,21 @@
 -- What one line does: the reply is written, and the state is the one after it.
 use Rattle.std.specs.Prelude.{◌≡◌, ◌⊎◌, Bool, false, List, [], ℕ, Option, Some, None, Result, Ok, Err, IfOk, IsTrue}
 use Rattle.std.specs.Io.KnownBytes.{Keeps}
+use Rattle.mm_lang.specs.Answering.{MayLeadTo, answer}
 use Rattle.mm_lang.specs.Lines.{without_return}
-use Rattle.mm_lang.specs.Reading.{command_takes_memory}
 use Rattle.mm_value.specs.Device.{Writes}
 use Rattle.mm_value.specs.Watched.{inner_of, has_failed}
 use Rattle.mm_value.specs.declared.device.Watched.{Watched}
 use Rattle.mm_value.specs.declared.refusal.Refusal.{Refusal}
-use Rattle.mm_value.specs.declared.refusal.Refusal.TheVariants.{Memory}
-use Rattle.mm_query.specs.Machine.{Outcome, step}
+use Rattle.mm_query.specs.Machine.{Outcome}
 use Rattle.mm_query.specs.State.{State}
 use Rattle.mm_query.specs.declared.command.Command.{Command}
 use Rattle.mmdb_core.specs.steps.Input.{Advances, Finds, PassesLine, StopsInLine}
-use Rattle.mm_txn.specs.Steps.{refused_outcome}
-use Rattle.mmdb_core.specs.Run.{answer, is_error, text_of}
+use Rattle.mmdb_core.specs.Run.{is_error, text_of}
 use Rattle.mmdb_core.specs.declared.run_error.RunError.{RunError}
 use Rattle.mmdb_core.specs.declared.run_error.RunError.TheVariants.{Read, Write, TooLong}
 use Rattle.mmdb_core.specs.declared.input.Input.{Input}
 use Rattle.mmdb_core.specs.declared.input.Next.TheVariants.{End}
-
--- What a reading leads to: a command's step, or want of memory where it takes memory; or the reading's refusal.
-abbrev pub MayLeadTo : Result Command Refusal → State → Outcome → Type 0
-MayLeadTo (Ok command) state outcome =
-    (outcome ≡ step command state) ⊎ ((outcome ≡ refused_outcome Memory state) × IsTrue (command_takes_memory command))
-MayLeadTo (Err refusal) state outcome = outcome ≡ refused_outcome refusal state
 
 -- The outcome's state is there, and its reply was written, or a front of it where the writer failed.
 pub record Replies {W E : Type 0} (contents : W → Option (List ℕ)) (old new : Watched W) (after : State) (outcome : Outcome)

@@ -4,7 +4,7 @@ use Rattle.mm_query.specs.Machine.{Outcome}
 use Rattle.mm_txn.specs.Answers.{reply_of}
 use Rattle.mm_txn.specs.Requests.{command_of}
 use Rattle.mm_txn.specs.declared.request.Request.{Request}
-use Rattle.mmdb_core.specs.steps.Respond.{MayLeadTo}
+use Rattle.mm_lang.specs.Answering.{MayLeadTo}
 use Rattle.mmdb_core.proofs.Answering.{change_leads, question_leads, sent}
 use Rattle.mmdb_core.proofs.answer.answer_request.Goals as goal
 

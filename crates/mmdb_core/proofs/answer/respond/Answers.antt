@@ -1,7 +1,8 @@
 use Rattle.std.proofs.Common.{Ok, Some, refl, sym, ap, subst, ◌∙◌}
 use Rattle.mm_query.specs.declared.command.Command.{Command}
 use Rattle.mm_query.specs.declared.reply.Reply.TheVariants.{Refused}
-use Rattle.mmdb_core.specs.steps.Respond.{MayLeadTo, RepliesToReading}
+use Rattle.mm_lang.specs.Answering.{MayLeadTo}
+use Rattle.mmdb_core.specs.steps.Respond.{RepliesToReading}
 use Rattle.mmdb_core.proofs.Answering.{sent}
 use Rattle.mmdb_core.proofs.answer.respond.Goals as goal
 
