@@ -75,7 +75,7 @@ assignments_shape schema table name assignments sets tables shape =
     ∙ (λ i. map (placed_assignment (columns_named (tables i) schema)) (shape i))
     ∙ assignment_shape_placed (columns_named name schema) sets
 
-atoms_literals : (schema : Schema) (name : List ℕ) (tests : List (Atom (List ℕ)))
+pub atoms_literals : (schema : Schema) (name : List ℕ) (tests : List (Atom (List ℕ)))
     → flat_map test_literals (atoms_for name schema tests) ≡ flat_map test_literals tests
 atoms_literals schema name tests =
     mapped_literals at_first (tests_for name schema tests) ∙ mapped_literals (placed (columns_named name schema)) tests

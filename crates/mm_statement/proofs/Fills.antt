@@ -161,10 +161,10 @@ free_before mid new v fault free = (or_none_parts (fault_of mid) (first_fault v)
 -- ---- lists
 
 module _ {A : Type 0} (blank : A → A) (literals : A → List Value) where
-  one_behind : (xs : List A) (x : A) → flat_map literals (xs ++ x ∷ []) ≡ flat_map literals xs ++ literals x
+  pub one_behind : (xs : List A) (x : A) → flat_map literals (xs ++ x ∷ []) ≡ flat_map literals xs ++ literals x
   one_behind xs x = flat_map-append literals xs (x ∷ []) ∙ ap (λ l. flat_map literals xs ++ l) (append-nil (literals x))
 
-  blank_behind : (xs ys : List A) (x y : A) → map blank xs ≡ map blank ys → blank x ≡ blank y → map blank (xs ++ x ∷ []) ≡ map blank (ys ++ y ∷ [])
+  pub blank_behind : (xs ys : List A) (x y : A) → map blank xs ≡ map blank ys → blank x ≡ blank y → map blank (xs ++ x ∷ []) ≡ map blank (ys ++ y ∷ [])
   blank_behind [] [] x y h here = λ i. here i ∷ []
   blank_behind [] (b ∷ ys) x y h here = absurd (cc)
   blank_behind (a ∷ xs) [] x y h here = absurd (cc)
@@ -283,7 +283,7 @@ one_read xs i x here is = take_more xs i x here ∙ ap (λ y. take i xs ++ y ∷
 -- ---- rows that are filled where they lie
 
 -- Where two lists are the same from a place on, so are their elements there, and what is behind it.
-from_here : {X : Type 0} (xs ys : List X) (i : ℕ) (d : X) → i < length xs → i < length ys → drop i ys ≡ drop i xs
+pub from_here : {X : Type 0} (xs ys : List X) (i : ℕ) (d : X) → i < length xs → i < length ys → drop i ys ≡ drop i xs
     → (get_or ys i d ≡ get_or xs i d) × (drop (i + 1) ys ≡ drop (i + 1) xs)
 from_here xs ys i d here there same =
     let both : get_or ys i d ∷ drop (i + 1) ys ≡ get_or xs i d ∷ drop (i + 1) xs =

@@ -3,6 +3,7 @@ ghost use Rattle.std.specs.Prelude.{◌≡◌, ◌↔◌, ◌∷◌, [], IsTrue,
 ghost use Rattle.std.specs.Vec.Iter.{into_iter_items, into_iter_len};
 ghost use Rattle.mm_value.specs.declared.values.Value.TheVariants.{Int};
 
+use crate::holes::is_minus_one;
 use mm_value::Value;
 use std::vec;
 
@@ -40,7 +41,7 @@ impl Filler<'_> {
             return None;
         };
         value.is_storable();
-        if stands_behind_minus(literal) {
+        if is_minus_one(literal) {
             Some(self.negated(value))
         } else {
             Some(value)
@@ -85,13 +86,6 @@ impl Filler<'_> {
         }
         true
     }
-}
-
-/// Whether a literal is what a hole behind a minus reads as.
-fn stands_behind_minus(literal: &Value) -> bool
-    ensures { IsTrue result ↔ (literal.now ≡ Int (negsuc 0)) }
-{
-    matches!(literal, Value::Int(-1))
 }
 
 /// Whether a value is the number of a position.

@@ -1,5 +1,5 @@
 //! Laws of commands that differ in their literals alone.
-ghost use Rattle.std.specs.Prelude.{◌≡◌, ◌++◌, ◌∷◌, [], ℤ, false, neg_ℤ, negsuc, pos, true};
+ghost use Rattle.std.specs.Prelude.{◌≡◌, ◌++◌, ◌∷◌, [], Bool, List, ℤ, false, length, neg_ℤ, negsuc, pos, true};
 ghost use Rattle.std.specs.List.{flat_map};
 ghost use Rattle.mm_schema.specs.Refused.{first_refusal};
 ghost use Rattle.mm_schema.specs.Schema.{Schema};
@@ -7,12 +7,15 @@ ghost use Rattle.mm_query.specs.Binding.{Binds, binding_conditions};
 ghost use Rattle.mm_query.specs.Resolving.{IsQueryWithin, placed_query, query_conditions};
 ghost use Rattle.mm_query.specs.declared.bind.BoundChange.{BoundChange};
 ghost use Rattle.mm_query.specs.declared.bound_query.BoundQuery.{BoundQuery};
+ghost use Rattle.mm_query.specs.declared.command.Command.TheVariants.{Change, Select};
 ghost use Rattle.mm_query.specs.declared.command.Mutation.{Mutation};
 ghost use Rattle.mm_query.specs.declared.query.Query.{Query};
 ghost use Rattle.mm_lang.specs.Reading.{position_literals, query_literals};
 ghost use Rattle.mm_statement.specs.Alike.{AreAlike, AreAlikeChanges, blank_bound_change, blank_bound_query};
 ghost use Rattle.mm_statement.specs.Alike.{bound_change_literals, bound_query_literals, change_literals};
 ghost use Rattle.mm_statement.specs.Filling.{blank_query, merged};
+ghost use Rattle.mm_statement.specs.Holes.{hole_count, hole_places};
+ghost use Rattle.mm_statement.specs.Refilling.{BindsFilledChange, BindsFilledQuery, RefillsChange, RefillsQuery};
 ghost use Rattle.mm_value.specs.declared.values.Value.{Value as Val};
 ghost use Rattle.mm_value.specs.declared.values.Value.TheVariants.{Int};
 
@@ -62,4 +65,22 @@ pub fn alike_changes_bind_alike()
     ensures { (schema : Schema) (mutation other : Mutation) (bound changed : BoundChange) → AreAlikeChanges mutation other
         → Binds schema mutation bound → blank_bound_change changed ≡ blank_bound_change bound
         → bound_change_literals changed ≡ change_literals other → Binds schema other changed }
+{}
+
+/// A bound query with new values in its holes is the bound form of a query: of the one that its template is with these values. The
+/// catalog does not refuse that one either, and it has the same tables.
+pub fn refilled_queries_are_bound()
+    ensures { (schema : Schema) (template query : Query) (old new : BoundQuery) (holes : List Bool) (earlier values : List Val)
+        → BindsFilledQuery schema holes earlier template query old → length values ≡ hole_count holes
+        → RefillsQuery (hole_places holes (Select template)) values old new
+        → (other : Query) × BindsFilledQuery schema holes values template other new × (other.from ≡ query.from) }
+{}
+
+/// A bound change of rows with new values in its holes is the bound form of a change: of the one that its template is with these
+/// values. The catalog does not refuse that one either.
+pub fn refilled_changes_are_bound()
+    ensures { (schema : Schema) (template mutation : Mutation) (old new : BoundChange) (holes : List Bool) (earlier values : List Val)
+        → BindsFilledChange schema holes earlier template mutation old → length values ≡ hole_count holes
+        → RefillsChange (hole_places holes (Change template)) values old new
+        → (other : Mutation) × BindsFilledChange schema holes values template other new }
 {}

@@ -1,0 +1,20 @@
+use Rattle.std.proofs.Common.{◌++◌, ◌∷◌, [], List, map, subst, sym, take}
+use Rattle.mm_value.specs.declared.values.Value.{Value}
+use Rattle.mm_statement.specs.Filling.{blank_value}
+use Rattle.mm_statement.specs.steps.Refills.{RefillsPart}
+use Rattle.mm_statement.proofs.Fills.{one_read}
+use Rattle.mm_statement.proofs.Refillers.{row_next}
+use Rattle.mm_statement.proofs.refilling.filled_row.Goals as goal
+
+pub loop-literal-preserved : goal.loop-literal-preserved
+loop-literal-preserved c =
+    let literals = c.values-literal-items.result.now in
+    let i = c.loop-literal.literal-index in
+    let old = c.args.refiller.now in
+    let new = c.filled_value.new.refiller in
+    subst (λ (l : List Value). RefillsPart (map blank_value) (λ (t : List Value). t) old new l c.push.new.self.items)
+    (sym (one_read literals i c.literal-item.result c.loop-literal-test.true c.literal-item.is))
+    (subst (λ (l : List Value). RefillsPart (map blank_value) (λ (t : List Value). t) old new (take i literals ++ c.literal-item.result ∷ []) l)
+    (sym c.in_ok-push.ensures.items)
+    (row_next old c.loop-literal.refiller new (take i literals) c.loop-literal.values.items c.literal-item.result c.in_ok-value.value
+    c.loop-literal.invariant c.in_ok-value.ensures))
