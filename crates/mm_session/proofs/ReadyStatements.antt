@@ -1,0 +1,229 @@
+-- Statements that are ready, and what sessions come to.
+use Rattle.std.proofs.Common.{◌≡◌, ◌++◌, ◌∷◌, ℕ, Bool, true, false, List, [], Option, Some, None, Result, Ok, Err, IsTrue, length, map, get_or, set}
+use Rattle.std.proofs.Common.{inl, inr, ⊎_elim, cond, refl, sym, ap, subst, ◌∙◌}
+use Rattle.std.specs.List.{All}
+use Rattle.std.specs.Option.{option_map}
+use Rattle.std.specs.Prelude.{IfErr, IfSome, OnErr, OnOk, slice_get}
+use Rattle.std.proofs.lemmas.List.{length-map, map-append, map-set}
+use Rattle.std.proofs.Math.Seq.{map-set_same}
+use Rattle.std.proofs.lemmas.List.Elements.{All-map, All-push, All-set}
+use Rattle.std.proofs.lemmas.Option.{slice_get-map}
+use Rattle.mm_value.specs.declared.refusal.Refusal.{Refusal}
+use Rattle.mm_value.specs.declared.refusal.Refusal.TheVariants.{Memory}
+use Rattle.mm_value.specs.declared.values.Value.{Value}
+use Rattle.mm_schema.specs.Schema.{Schema}
+use Rattle.mm_query.specs.Machine.{Outcome, refused_outcome, step}
+use Rattle.mm_query.specs.State.{State}
+use Rattle.mm_query.specs.declared.command.Command.{Command}
+use Rattle.mm_query.specs.declared.reply.Reply.{Reply}
+use Rattle.mm_lang.specs.Answering.{MayLeadTo, answer, outcome_of}
+use Rattle.mm_lang.specs.Reading.{Reads, command_takes_memory, reading, reading_takes_memory, takes_memory}
+use Rattle.mm_lang.specs.Templates.{holes_of, template_of}
+use Rattle.mm_statement.specs.Filling.{IsFilling}
+use Rattle.mm_statement.specs.Holes.{HolePlaces, hole_count, hole_places}
+use Rattle.mm_session.proofs.Catalogs.{leads_keep}
+use Rattle.mm_session.proofs.FormLemmas.{again_keeps, forms_with, runs_again}
+use Rattle.mm_session.proofs.LineReadings.{defines_alike}
+use Rattle.mm_session.specs.Session.{AnswersLine, Finalizes, SessionState, TakesNumber, outcome_in}
+use Rattle.mm_session.specs.Statements.{Runs, line_at}
+use Rattle.mm_session.specs.declared.bound_form.BoundForm.{BoundForm}
+use Rattle.mm_session.specs.declared.misuse.Misuse.{Misuse}
+use Rattle.mm_session.specs.declared.misuse.Misuse.TheVariants.{NoSuchStatement}
+use Rattle.mm_session.specs.declared.statement.Statement.{Statement}
+use Rattle.mm_session.specs.steps.Forms.{HasForm, IsBoundForm, IsFormOf, IsReady, IsReadyStatement, Reruns}
+use Rattle.mm_session.specs.steps.Places.{PutsStatement, forgotten, line_in}
+use Rattle.mm_session.specs.steps.Readings.{FillsLine, is_definition}
+
+-- ---- one statement
+
+same_command : (line : List ℕ) (c d : Command) → template_of line ≡ Ok c → template_of line ≡ Ok d → c ≡ d
+same_command line c d p q = cc
+
+module _ (schema : Schema) (statement : Statement) (values : List Value) (filled : Command) (ready : IsReadyStatement schema statement)
+    (count : length values ≡ hole_count (holes_of statement.line.items)) (fills : FillsLine statement.line.items values (Ok filled)) where
+  same : fills.command ≡ ready.command
+  same = same_command statement.line.items fills.command ready.command fills.read ready.read
+
+  is_filled : IsFilling (holes_of statement.line.items) values fills.command (Ok filled)
+  is_filled =
+      ⊎_elim
+      (λ (f : IsFilling (holes_of statement.line.items) values fills.command (Ok filled)). f)
+      (λ (h : (Ok filled ≡ Err Memory) × IsTrue (command_takes_memory fills.command)). absurd (let clash = h.0 in cc))
+      fills.fills
+
+  -- After a run the bound form that it left is good.
+  pub ready_after : (after : Schema) (kept : Option BoundForm) → IfSome kept (IsBoundForm after filled)
+      → IsReadyStatement after (record statement { bound = kept })
+  ready_after after kept bound = record {
+    command = ready.command;
+    read = ready.read;
+    holes = ready.holes;
+    definition = ready.definition;
+    bound = subst (λ (c : Command). IfSome kept (IsFormOf after (holes_of statement.line.items) c)) same
+        (forms_with after (holes_of statement.line.items) values fills.command filled kept count is_filled.0 is_filled.1 bound);
+  }
+
+  -- A run of what is no change of the catalog leaves it as it is.
+  pub run_keeps : (before : State) (outcome : Outcome) → statement.is_definition ≡ false → MayLeadTo (Ok filled) before outcome
+      → outcome.state.schema ≡ before.schema
+  run_keeps before outcome other leads =
+      leads_keep filled before outcome
+      (defines_alike fills.command filled is_filled.0.same ∙ (ap is_definition same ∙ (sym ready.definition ∙ other))) leads
+
+-- A bound form that a ready statement keeps can be run again, ..
+module _ (before : State) (statement : Statement) (ready : IsReadyStatement before.schema statement) where
+  flags : statement.holes.are_holes ≡ holes_of statement.line.items
+  flags = ap (λ (h : HolePlaces). h.are_holes) ready.holes
+
+  pub has_form : (bound : BoundForm) → statement.bound ≡ Some bound → HasForm before.schema statement.holes ready.command bound
+  has_form bound is = record {
+    places = ready.holes ∙ ap (λ (h : List Bool). hole_places h ready.command) (sym flags);
+    form = subst (λ (h : List Bool). IsFormOf before.schema h ready.command bound) (sym flags)
+        (subst (λ (o : Option BoundForm). IfSome o (IsFormOf before.schema (holes_of statement.line.items) ready.command)) is ready.bound);
+  }
+
+  module _ (values : List Value) (bound : BoundForm) (outcome : Outcome) (again : Reruns statement.holes values ready.command before bound outcome) where
+    -- .. that is what the statement may lead to, ..
+    pub rerun_runs : Runs statement.line.items values before outcome
+    rerun_runs = runs_again statement.holes values ready.command before outcome statement.line.items bound ready.read flags again
+
+    pub rerun_keeps : outcome.state.schema ≡ before.schema
+    rerun_keeps = again_keeps statement.holes values ready.command before outcome bound again
+
+    -- .. and the statement stays ready.
+    pub rerun_ready : IsReadyStatement outcome.state.schema (record statement { bound = Some bound })
+    rerun_ready = record {
+      command = ready.command;
+      read = ready.read;
+      holes = ready.holes;
+      definition = ready.definition;
+      bound = subst (λ (schema : Schema). IsFormOf schema (holes_of statement.line.items) ready.command bound) (sym rerun_keeps)
+          (subst (λ (h : List Bool). IsFormOf before.schema h ready.command bound) flags again.form);
+    }
+
+-- A statement is ready whatever the catalog once its bound form is forgotten.
+unbound_ready : (schema after : Schema) (slot : Option Statement) → IsReady schema slot → IsReady after (forgotten slot)
+unbound_ready schema after None ready = tt
+unbound_ready schema after (Some statement) ready =
+    record { command = ready.command; read = ready.read; holes = ready.holes; definition = ready.definition; bound = tt }
+
+-- ---- all statements
+
+pub forgotten_ready : (after : Schema) (slots : List (Option Statement)) → All (λ slot. (schema : Schema) × IsReady schema slot) slots
+    → All (IsReady after) (map forgotten slots)
+forgotten_ready after slots all =
+    All-map (IsReady after) forgotten slots (λ k d within. let ready = all k d within in unbound_ready ready.0 after (get_or slots k d) ready.1)
+
+pub some_ready : (schema : Schema) (slots : List (Option Statement)) → All (IsReady schema) slots → All (λ slot. (s : Schema) × IsReady s slot) slots
+some_ready schema slots all = λ k d within. (schema, all k d within)
+
+line_kept : (slot : Option Statement) → line_in (forgotten slot) ≡ line_in slot
+line_kept None = refl
+line_kept (Some statement) = refl
+
+-- Lines stay when bound forms are forgotten.
+pub lines_kept : (slots : List (Option Statement)) → map line_in (map forgotten slots) ≡ map line_in slots
+lines_kept [] = refl
+lines_kept (slot ∷ slots) = ap (λ l. l ∷ map line_in (map forgotten slots)) (line_kept slot) ∙ ap (λ ls. line_in slot ∷ ls) (lines_kept slots)
+
+-- A statement that is put among others is ready as they are, ..
+pub put_ready : (schema : Schema) (statement : Statement) (number : ℕ) (old new : List (Option Statement)) → PutsStatement statement number old new
+    → IsReadyStatement schema statement → All (IsReady schema) old → All (IsReady schema) new
+put_ready schema statement number old new puts ready all =
+    ⊎_elim
+    (λ (h : (number ≡ length old) × (new ≡ old ++ Some statement ∷ [])).
+    subst (All (IsReady schema)) (sym h.1) (All-push (IsReady schema) old (Some statement) all ready))
+    (λ (h : (slice_get old number ≡ Some None) × (new ≡ set old number (Some statement))).
+    subst (All (IsReady schema)) (sym h.1) (All-set (IsReady schema) old number (Some statement) ready all))
+    puts
+
+-- .. and its line among theirs.
+pub put_line : (line : List ℕ) (statement : Statement) (number : ℕ) (old new : List (Option Statement)) → PutsStatement statement number old new
+    → statement.line.items ≡ line → TakesNumber line number (map line_in old) (map line_in new)
+put_line line statement number old new puts is =
+    ⊎_elim
+    (λ (h : (number ≡ length old) × (new ≡ old ++ Some statement ∷ [])).
+    inl (
+      h.0 ∙ sym (length-map old line_in),
+      ap (map line_in) h.1 ∙ (map-append line_in old (Some statement ∷ []) ∙ ap (λ (l : List ℕ). map line_in old ++ Some l ∷ []) is),
+    ))
+    (λ (h : (slice_get old number ≡ Some None) × (new ≡ set old number (Some statement))).
+    inr (
+      slice_get-map line_in old number ∙ ap (option_map line_in) h.0,
+      ap (map line_in) h.1 ∙ (map-set line_in old number (Some statement) ∙ ap (λ (l : List ℕ). set (map line_in old) number (Some l)) is),
+    ))
+    puts
+
+-- A place without a statement is ready.
+pub removed_ready : (schema : Schema) (number : ℕ) (old new : List (Option Statement)) (result : Result (Unit {0}) Misuse)
+    → OnOk result (new ≡ set old number None) → OnErr result (new ≡ old) → All (IsReady schema) old → All (IsReady schema) new
+removed_ready schema number old new (Ok done) gone kept all = subst (All (IsReady schema)) (sym gone) (All-set (IsReady schema) old number None tt all)
+removed_ready schema number old new (Err misuse) gone kept all = subst (All (IsReady schema)) (sym kept) all
+
+-- A statement tells as many holes as its line has.
+pub counted : (schema : Schema) (statement : Statement) → IsReadyStatement schema statement
+    → hole_count statement.holes.are_holes ≡ hole_count (holes_of statement.line.items)
+counted schema statement ready = ap (λ (h : HolePlaces). hole_count h.are_holes) ready.holes
+
+module _ (before after : Schema) (slots : List (Option Statement)) (number : ℕ) (slot : Option Statement) (all : All (IsReady before) slots)
+    (ready : IsReady after slot) where
+  -- All statements are ready after one of them was run, where the catalog stays, ..
+  pub ready_beside : after ≡ before → All (IsReady after) (set slots number slot)
+  ready_beside same =
+      All-set (IsReady after) slots number slot ready (subst (λ (schema : Schema). All (IsReady schema) slots) (sym same) all)
+
+  -- .. and where they forget their bound forms.
+  pub ready_forgotten : All (IsReady after) (map forgotten (set slots number slot))
+  ready_forgotten =
+      forgotten_ready after (set slots number slot)
+      (All-set (λ s. (schema : Schema) × IsReady schema s) slots number slot (after, ready) (some_ready before slots all))
+
+-- Lines stay where one stays in its place.
+pub lines_beside : (slots : List (Option Statement)) (number : ℕ) (slot d : Option Statement) → line_in slot ≡ line_in (get_or slots number d)
+    → map line_in (set slots number slot) ≡ map line_in slots
+lines_beside slots number slot d same = map-set_same line_in slots number slot d same
+
+-- ---- sessions
+
+-- What took a statement away, or found none.
+pub finalized : (number : ℕ) (state : State) (reply : Option Reply) (old new : List (Option Statement)) (result : Result (Unit {0}) Misuse)
+    → OnOk result (new ≡ set old number None) → OnOk result ((line : List ℕ) × (line_at number (map line_in old) ≡ Some line))
+    → IfErr result (λ misuse. (misuse ≡ NoSuchStatement) × (line_at number (map line_in old) ≡ None)) → OnErr result (new ≡ old)
+    → Finalizes number (record { state = state; lines = map line_in old; reply = reply })
+    (record { state = state; lines = map line_in new; reply = reply }) result
+finalized number state reply old new (Ok done) gone stands misused kept =
+    record { line = stands.0; stands = stands.1; lines = ap (map line_in) gone ∙ map-set line_in old number None; state = refl; reply = refl }
+finalized number state reply old new (Err misuse) gone stands misused kept =
+    (ap (λ (slots : List (Option Statement)). record { state = state; lines = map line_in slots; reply = reply }) kept, misused.0, misused.1)
+
+refused_memory : (line : List ℕ) (state : State) → IsTrue (takes_memory line) → answer true line state ≡ refused_outcome Memory state
+refused_memory line state takes = ap (λ b. cond b (refused_outcome Memory state) (outcome_of (reading line) state)) takes
+
+-- A line is answered by what its command leads to, ..
+pub answers_command : (line : List ℕ) (command : Command) (old new : SessionState) → reading line ≡ Ok command
+    → MayLeadTo (Ok command) old.state (outcome_in new) → new.lines ≡ old.lines → AnswersLine line old new
+answers_command line command old new read leads lines =
+    ⊎_elim
+    (λ (is : outcome_in new ≡ step command old.state).
+    record { choice = false; outcome = is ∙ ap (λ r. outcome_of r old.state) (sym read); lines = lines })
+    (λ (h : (outcome_in new ≡ refused_outcome Memory old.state) × IsTrue (command_takes_memory command)).
+    record {
+      choice = true;
+      outcome = h.0 ∙ sym (refused_memory line old.state (ap reading_takes_memory read ∙ h.1));
+      lines = lines;
+    })
+    leads
+
+-- .. or by its refusal.
+pub answers_refused : (line : List ℕ) (refusal : Refusal) (old new : SessionState) → Reads line (Err refusal)
+    → outcome_in new ≡ refused_outcome refusal old.state → new.lines ≡ old.lines → AnswersLine line old new
+answers_refused line refusal old new reads is lines =
+    ⊎_elim
+    (λ (h : reading line ≡ Err refusal). record { choice = false; outcome = is ∙ ap (λ r. outcome_of r old.state) (sym h); lines = lines })
+    (λ (h : (refusal ≡ Memory) × IsTrue (takes_memory line)).
+    record {
+      choice = true;
+      outcome = is ∙ (ap (λ (r : Refusal). refused_outcome r old.state) h.0 ∙ sym (refused_memory line old.state h.1));
+      lines = lines;
+    })
+    reads

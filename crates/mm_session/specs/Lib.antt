@@ -1,0 +1,5 @@
+pub mod Columns
+pub mod Replies
+pub mod Session
+pub mod Statements
+pub mod steps

@@ -1,0 +1,93 @@
+-- Statements, and the bound forms that they keep.
+use Rattle.std.specs.Prelude.{◌≡◌, ◌⊎◌, ℕ, Bool, false, List, Option, None, Result, Ok, Err, IfSome}
+use Rattle.mm_value.specs.declared.refusal.Refusal.{Refusal}
+use Rattle.mm_value.specs.declared.refusal.Refusal.TheVariants.{Memory}
+use Rattle.mm_value.specs.declared.values.Value.{Value}
+use Rattle.mm_schema.specs.Schema.{HasDistinctNames, Schema}
+use Rattle.mm_query.specs.Machine.{Outcome}
+use Rattle.mm_query.specs.Resolving.{places_in}
+use Rattle.mm_query.specs.State.{State}
+use Rattle.mm_query.specs.declared.bind.BoundChange.{BoundChange}
+use Rattle.mm_query.specs.declared.bound_query.Bound.{Bound}
+use Rattle.mm_query.specs.declared.command.Command.{Command}
+use Rattle.mm_query.specs.declared.command.Command.TheVariants.{Change, Select}
+use Rattle.mm_query.specs.declared.command.Mutation.{Mutation}
+use Rattle.mm_query.specs.declared.query.Query.{Query}
+use Rattle.mm_lang.specs.Answering.{MayLeadTo}
+use Rattle.mm_lang.specs.Reading.{first_fault, literals_of}
+use Rattle.mm_lang.specs.Templates.{holes_of, template_of}
+use Rattle.mm_statement.specs.Filling.{Filled}
+use Rattle.mm_statement.specs.Holes.{HolePlaces, hole_places}
+use Rattle.mm_statement.specs.Refilling.{BindsFilledChange, BindsFilledQuery}
+use Rattle.mm_txn.specs.Bound.{IsBoundChange, IsBoundQuery}
+use Rattle.mm_session.specs.declared.bound_form.BoundForm.{BoundForm}
+use Rattle.mm_session.specs.declared.bound_form.BoundForm.TheVariants as form
+use Rattle.mm_session.specs.declared.statement.Statement.{Statement}
+use Rattle.mm_session.specs.steps.Readings.{is_definition}
+
+-- By a catalog, this is the bound form of a command.
+abbrev pub IsBoundForm : Schema → Command → BoundForm → Type 0
+IsBoundForm schema (Select query) (form.Query bound) = IsBoundQuery schema query bound
+IsBoundForm schema (Change mutation) (form.Change bound) = IsBoundChange schema mutation bound
+IsBoundForm schema command bound = ⊥
+
+-- By a catalog, this is the bound form of a query that is a command with values in its holes.
+pub record IsQueryForm (schema : Schema) (holes : List Bool) (values : List Value) (command : Command) (bound : Bound) : Type 0 where
+  pub template : Query
+  pub is : command ≡ Select template
+  pub query : Query
+  pub binds : BindsFilledQuery schema holes values template query bound.query
+  pub tables : bound.tables ≡ places_in schema query.from
+
+-- By a catalog, this is the bound form of a change of rows that is a command with values in its holes.
+pub record IsChangeForm (schema : Schema) (holes : List Bool) (values : List Value) (command : Command) (bound : BoundChange) : Type 0 where
+  pub template : Mutation
+  pub is : command ≡ Change template
+  pub mutation : Mutation
+  pub binds : BindsFilledChange schema holes values template mutation bound
+  pub distinct : HasDistinctNames schema
+
+-- By a catalog, this is the bound form of a command with values in its holes.
+abbrev pub IsFormWith : Schema → List Bool → List Value → Command → BoundForm → Type 0
+IsFormWith schema holes values command (form.Query bound) = IsQueryForm schema holes values command bound
+IsFormWith schema holes values command (form.Change bound) = IsChangeForm schema holes values command bound
+
+-- The same of some values.
+abbrev pub IsFormOf : Schema → List Bool → Command → BoundForm → Type 0
+IsFormOf schema holes command bound = (values : List Value) × IsFormWith schema holes values command bound
+
+-- The bound form of a command whose holes are told.
+pub record HasForm (schema : Schema) (holes : HolePlaces) (command : Command) (bound : BoundForm) : Type 0 where
+  pub places : holes ≡ hole_places holes.are_holes command
+  pub form : IsFormOf schema holes.are_holes command bound
+
+-- A bound form was run with values in the holes of its command, and it is good as it is left.
+pub record Reruns (holes : HolePlaces) (values : List Value) (command : Command) (before : State) (bound : BoundForm) (outcome : Outcome) : Type 0 where
+  pub filled : Command
+  pub fills : Filled holes.are_holes values command filled
+  pub within : first_fault (literals_of filled) ≡ None
+  pub other : is_definition filled ≡ false
+  pub leads : MayLeadTo (Ok filled) before outcome
+  pub form : IsFormOf before.schema holes.are_holes command bound
+
+-- A bound form is this change.
+abbrev pub KeepsChange : BoundChange → BoundForm → Type 0
+KeepsChange change bound = bound ≡ form.Change change
+
+-- A statement tells where the holes of its line are and whether it changes the catalog, and a bound form that it keeps is good by a
+-- catalog.
+pub record IsReadyStatement (schema : Schema) (statement : Statement) : Type 0 where
+  pub command : Command
+  pub read : template_of statement.line.items ≡ Ok command
+  pub holes : statement.holes ≡ hole_places (holes_of statement.line.items) command
+  pub definition : statement.is_definition ≡ is_definition command
+  pub bound : IfSome statement.bound (IsFormOf schema (holes_of statement.line.items) command)
+
+-- The same, where there is a statement.
+abbrev pub IsReady : Schema → Option Statement → Type 0
+IsReady schema slot = IfSome slot (IsReadyStatement schema)
+
+-- A call makes a line a statement, which keeps no bound form, or refuses it as its reading is or by want of memory.
+abbrev pub ReadsStatement : List ℕ → Result Statement Refusal → Type 0
+ReadsStatement line (Ok statement) = (statement.line.items ≡ line) × ((schema : Schema) → IsReadyStatement schema statement)
+ReadsStatement line (Err refusal) = (template_of line ≡ Err refusal) ⊎ (refusal ≡ Memory)

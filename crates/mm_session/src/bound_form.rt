@@ -1,0 +1,172 @@
+//! Bound forms: commands that are run with no name looked up.
+ghost use Rattle.std.specs.Prelude.{◌≡◌, Ok, Some, None, IfOk, IfSome};
+ghost use Rattle.mm_lang.specs.Answering.{MayLeadTo};
+ghost use Rattle.mm_query.specs.declared.command.Command.TheVariants.{Change as ChangeCommand, Select as SelectCommand};
+ghost use Rattle.mm_query.specs.declared.command.Mutation.{Mutation as AnyMutation};
+ghost use Rattle.mm_query.specs.declared.query.Query.{Query as AnyQuery};
+ghost use Rattle.mm_query.specs.declared.bind.BoundChange.TheVariants.{Insert as BoundInsert};
+ghost use Rattle.mm_txn.specs.Bound.{IsBoundChange, IsBoundQuery};
+ghost use Rattle.mm_txn.specs.Steps.{IsStep};
+ghost use Rattle.mm_session.specs.steps.Forms.{IsBoundForm, KeepsChange};
+ghost use Rattle.mm_session.specs.steps.Kept.{outcome_kept};
+
+use crate::replies::Kept;
+use crate::responding::respond;
+use mm_query::{Bound, BoundChange, Command, Mutation, Query, Reply, RowBuffer, RowList};
+use mm_txn::{ChangeToRun, Db};
+use mm_value::Refusal;
+use std::alloc::{AllocError, Global};
+
+/// The bound form of a command, which has places in place of names.
+#[derive(Drop)]
+pub(crate) enum BoundForm {
+    /// Of a SELECT.
+    Query(Bound),
+    /// Of a change of rows.
+    Change(BoundChange),
+}
+
+/// Does what a command asks, and tells the reply. A SELECT and a change of rows are bound first, and their bound form is kept.
+pub(crate) fn bind_and_run(
+    alloc: Global,
+    database: &mut Db,
+    rows: &mut RowBuffer,
+    command: Command<'_>,
+    form: &mut Option<BoundForm>,
+) -> Kept
+    ensures leads { MayLeadTo (Ok command.entry) database.old (outcome_kept rows.new result database.new) }
+    ensures form { IfSome form.new (IsBoundForm database.new.schema command.entry) }
+{
+    *form = None;
+    match command {
+        Command::Select(query) => bind_and_select(alloc, database, rows, query, form),
+        Command::Change(mutation) => {
+            Kept::Other(bind_and_change(alloc, database, mutation, form))
+        }
+        other => respond(alloc, database, rows, other),
+    }
+}
+
+/// The rows that a query gives, found by its bound form, which is kept.
+fn bind_and_select(
+    alloc: Global,
+    database: &Db,
+    rows: &mut RowBuffer,
+    query: Query<'_>,
+    form: &mut Option<BoundForm>,
+) -> Kept
+    requires { form.old ≡ None }
+    ensures leads { MayLeadTo (Ok (SelectCommand query.entry)) database.now (outcome_kept rows.new result database.now) }
+    ensures form { IfSome form.new (IsBoundForm database.now.schema (SelectCommand query.entry)) }
+{
+    match database.bind_query(alloc, query) {
+        Ok(bound) => {
+            let reply = select(alloc, database, rows, &bound);
+            *form = Some(BoundForm::Query(bound));
+            reply
+        }
+        Err(refusal) => Kept::Other(Reply::Refused(refusal)),
+    }
+}
+
+/// The rows that a bound query gives.
+pub(crate) fn select(alloc: Global, database: &Db, rows: &mut RowBuffer, bound: &Bound) -> Kept
+    requires { (query : AnyQuery) × IsBoundQuery database.now.schema query bound.now }
+    ensures { (query : AnyQuery) → IsBoundQuery database.now.schema query bound.now
+        → MayLeadTo (Ok (SelectCommand query)) database.now (outcome_kept rows.new result database.now) }
+{
+    rows.clear();
+    match database.select_into(alloc, bound, rows) {
+        Ok(()) => Kept::InBuffer,
+        Err(refusal) => Kept::Other(Reply::Refused(refusal)),
+    }
+}
+
+/// Makes a change of rows by its bound form, which is kept.
+fn bind_and_change(
+    alloc: Global,
+    database: &mut Db,
+    mutation: Mutation<'_>,
+    form: &mut Option<BoundForm>,
+) -> Reply
+    requires { form.old ≡ None }
+    ensures leads { MayLeadTo (Ok (ChangeCommand mutation.entry)) database.old (record { reply = Some result; state = database.new }) }
+    ensures form { IfSome form.new (IsBoundForm database.new.schema (ChangeCommand mutation.entry)) }
+{
+    match database.bind_change(alloc, mutation) {
+        Ok(bound) => change_and_keep(alloc, database, bound, form),
+        Err(refusal) => Reply::Refused(refusal),
+    }
+}
+
+/// Makes a bound change, and keeps it. Where memory is refused for copies of the rows of an INSERT, which are given away, none is kept.
+fn change_and_keep(
+    alloc: Global,
+    database: &mut Db,
+    bound: BoundChange,
+    form: &mut Option<BoundForm>,
+) -> Reply
+    requires none { form.old ≡ None }
+    requires bound { (mutation : AnyMutation) × IsBoundChange database.old.schema mutation bound }
+    ensures leads { (mutation : AnyMutation) → IsBoundChange database.old.schema mutation bound
+        → IsStep (ChangeCommand mutation) database.old (record { reply = Some result; state = database.new }) }
+    ensures form { IfSome form.new (KeepsChange bound) }
+{
+    match bound {
+        BoundChange::Insert { table, tuples } => {
+            *form = insert_form(alloc, table, &tuples);
+            database.change_bound(alloc, ChangeToRun::Insert { table, tuples })
+        }
+        BoundChange::Update {
+            table,
+            assignments,
+            tests,
+        } => {
+            let reply = database.change_bound(
+                alloc,
+                ChangeToRun::Update {
+                    table,
+                    assignments: assignments.as_slice(),
+                    tests: tests.as_slice(),
+                },
+            );
+            *form = Some(BoundForm::Change(BoundChange::Update {
+                table,
+                assignments,
+                tests,
+            }));
+            reply
+        }
+        BoundChange::Delete { table, tests } => {
+            let reply = database.change_bound(
+                alloc,
+                ChangeToRun::Delete {
+                    table,
+                    tests: tests.as_slice(),
+                },
+            );
+            *form = Some(BoundForm::Change(BoundChange::Delete { table, tests }));
+            reply
+        }
+    }
+}
+
+/// The bound form of an INSERT with copies of its rows, or none where memory is refused for them.
+fn insert_form(alloc: Global, table: usize, tuples: &RowList) -> Option<BoundForm>
+    ensures { IfSome result (KeepsChange (BoundInsert table tuples.now)) }
+{
+    let tuples = copy_rows(alloc, tuples).ok()?;
+    Some(BoundForm::Change(BoundChange::Insert { table, tuples }))
+}
+
+/// Copies of the rows of an INSERT.
+fn copy_rows(alloc: Global, rows: &RowList) -> Result<RowList, AllocError>
+    ensures { IfOk result (λ copies. copies ≡ rows.now) }
+{
+    let rows = rows.as_slice();
+    let mut copies = Vec::with_capacity(alloc, rows.len())?;
+    for row in rows {
+        copies.push(row.copy(alloc)?)?;
+    }
+    Ok(RowList::new(copies))
+}

@@ -1,0 +1,21 @@
+//! Sessions: a program that keeps its tables in its own process drives them by lines and by prepared statements. Each call is a step of
+//! the machine of row lists.
+//!
+//! A call that may take memory is handed the allocator; no other call takes any.
+#![tactic(auto)]
+
+mod bound_form;
+mod columns;
+mod misuse;
+mod reading;
+mod refused_place;
+mod replies;
+mod rerun;
+mod responding;
+mod session;
+mod slots;
+mod statement;
+
+pub use misuse::Misuse;
+pub use replies::LastReply;
+pub use session::Session;
