@@ -1,5 +1,5 @@
 -- The text of a reply.
-use Rattle.std.specs.Prelude.{ℕ, List, [], ◌∷◌, ◌++◌, All, IfSome, codes, length}
+use Rattle.std.specs.Prelude.{ℕ, List, [], ◌∷◌, ◌++◌, All, IfSome, None, Option, Some, codes, length}
 use Rattle.std.specs.Fmt.{decimal}
 use Rattle.std.specs.List.{flat_map}
 use Rattle.mm_value.specs.Refusals.{refusal_number, refusal_text}
@@ -125,6 +125,11 @@ reply_text (Rows rows) = rows_text rows
 reply_text (Steps steps) = steps_text steps
 reply_text (Listing listing) = listing_text listing
 reply_text (Refused refusal) = codes "error " ++ decimal (refusal_number refusal) ++ 32 ∷ refusal_text refusal ++ 10 ∷ []
+
+-- the text of a reply, if there is one
+abbrev pub text_of : Option Reply → List ℕ
+text_of None = []
+text_of (Some reply) = reply_text reply
 
 -- The lines of a plan are of tables whose aliases are names; a reply without a plan has none.
 abbrev pub HasNames : Reply → Type 0

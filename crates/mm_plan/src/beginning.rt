@@ -4,9 +4,11 @@ ghost use Rattle.std.specs.List.{count_by};
 ghost use Rattle.mm_plan.specs.Begun.{IsBegun};
 ghost use Rattle.mm_plan.specs.Finding.{finds_in_key_order};
 ghost use Rattle.mm_plan.specs.Steps.{AreSteps, Reaches, may_look};
+ghost use Rattle.mm_plan.specs.declared.step.Step.TheVariants.{LookUp};
 ghost use Rattle.mm_relation.specs.Kept.{StoredRows};
-ghost use Rattle.mm_select.specs.Accesses.{Asks, IsServed, is_along, is_in_key_order};
+ghost use Rattle.mm_select.specs.Accesses.{Asks, IsOfKey, IsServed, is_along, is_in_key_order};
 ghost use Rattle.mm_store.specs.Tables.{rows_at};
+ghost use Rattle.mm_store.specs.declared.index_ref.IndexRef.TheVariants.{Key};
 ghost use Rattle.mm_value.specs.declared.values.Value.{Value as AnyValue};
 
 use crate::ends::{high_end, low_end};
@@ -61,6 +63,7 @@ pub(crate) fn access_by(atoms: &[Atom<FieldPlace>], step: Step) -> Access<'_>
     ensures asked { Asks atoms.now result }
     ensures along { (row : List AnyValue) → is_along result row ≡ may_look atoms.now 0 step [] row }
     ensures ordered { is_in_key_order result ≡ finds_in_key_order step }
+    ensures by_key { (atom : ℕ) → step ≡ LookUp Key atom → IsOfKey result }
 {
     match step {
         Step::Scan => Access::Scan,

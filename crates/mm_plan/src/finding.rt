@@ -1,13 +1,15 @@
 //! The rows of one table that meet atoms.
-ghost use Rattle.std.specs.Prelude.{◌≡◌, ◌+◌, ◌++◌, ◌<◌, ◌≤◌, [], true, All, IfOk, IsPermutation, None, OnOk, length, map};
+ghost use Rattle.std.specs.Prelude.{◌≡◌, ◌+◌, ◌++◌, ◌<◌, ◌≤◌, [], ℕ, true, All, IfOk, IsOk, IsPermutation, None, OnOk, length, map};
 ghost use Rattle.std.specs.List.{count_by};
 ghost use Rattle.std.specs.List.Sorted.{IsSortedByKey};
 ghost use Rattle.mm_partition.specs.Places.{IsLive};
 ghost use Rattle.mm_plan.specs.Choosing.{first_step};
 ghost use Rattle.mm_plan.specs.Finding.{IsKeyed, among, finds_in_key_order, is_again, meeting, meets, once};
 ghost use Rattle.mm_plan.specs.Steps.{may_look};
+ghost use Rattle.mm_plan.specs.declared.step.Step.TheVariants.{LookUp};
 ghost use Rattle.mm_relation.specs.Kept.{StoredRows};
 ghost use Rattle.mm_store.specs.Tables.{IsAt, rows_at};
+ghost use Rattle.mm_store.specs.declared.index_ref.IndexRef.TheVariants.{Key};
 ghost use Rattle.mm_value.specs.Order.{value_cmp};
 
 use crate::beginning::access_by;
@@ -15,6 +17,7 @@ use crate::choosing::Chooser;
 use mm_query::{Atom, FieldPlace};
 use mm_select::select_refs;
 use mm_store::View;
+use mm_templist::FoundRefs;
 use mm_value::{RowRef, Value, compare};
 use std::alloc::{AllocError, Global};
 
@@ -27,13 +30,13 @@ struct Keyed<'v> {
 
 /// The references of the rows of a table of which no atom is false, in key order. They are found by the step that a query of this
 /// table alone would take; where that goes by an index on another column than the key and finds several, each is looked at once more
-/// for its key. `AllocError` where memory is refused.
+/// for its key. `AllocError` where memory is refused; a look-up by key asks for none.
 pub fn find_rows(
     alloc: Global,
     view: &mut View<'_>,
     table: usize,
     atoms: &[Atom<FieldPlace>],
-) -> Result<Vec<RowRef>, AllocError>
+) -> Result<FoundRefs, AllocError>
     requires { table < length view.old.store.tables }
     ensures found { IfOk result (λ found. (stored : StoredRows) → IsAt view.old.store table stored → found.items ≡ meeting atoms.now stored) }
     ensures reads { view.new.reads ≤ view.old.reads
@@ -42,6 +45,7 @@ pub fn find_rows(
     ensures one_look { finds_in_key_order (first_step view.old.store atoms.now table) ≡ true → view.new.reads ≤ view.old.reads
         + count_by (may_look atoms.now 0 (first_step view.old.store atoms.now table) []) (rows_at view.old.store.tables table) }
     ensures same { view.new.store ≡ view.old.store }
+    ensures met { (atom : ℕ) → first_step view.old.store atoms.now table ≡ LookUp Key atom → IsOk result }
 {
     let step = Chooser { view, atoms }.first_step(table);
     let access = access_by(atoms, step);
@@ -53,19 +57,20 @@ pub fn find_rows(
 }
 
 /// Those of the given references that belong to the table, each once and in key order, whatever order they were given in. If
-/// there are several, each row is looked at once. `AllocError` where memory is refused. It takes O(m log m) comparisons for m references, and m where
-/// they are in key order.
+/// there are several, each row is looked at once. `AllocError` where memory is refused; one reference asks for none. It takes
+/// O(m log m) comparisons for m references, and m where they are in key order.
 pub fn in_key_order(
     alloc: Global,
     view: &mut View<'_>,
     table: usize,
-    mut refs: Vec<RowRef>,
-) -> Result<Vec<RowRef>, AllocError>
+    mut refs: FoundRefs,
+) -> Result<FoundRefs, AllocError>
     requires there { table < length view.old.store.tables }
     requires live { (stored : StoredRows) → IsAt view.old.store table stored → All (IsLive stored.places) refs.items }
     ensures found { IfOk result (λ found. (stored : StoredRows) → IsAt view.old.store table stored → found.items ≡ among refs.items stored) }
     ensures reads { view.new.reads ≤ view.old.reads + length refs.items }
     ensures same { view.new.store ≡ view.old.store }
+    ensures met { length refs.items ≤ 1 → IsOk result }
 {
     let key = view.key_of(table);
     if refs.len() < 2 {
@@ -127,7 +132,7 @@ fn is_again(before: Option<RowRef>, at: RowRef) -> bool
 
 /// Appends the references of rows, in their order, and one of several that follow each other and are one. `AllocError` where memory
 /// is refused; then some may have been appended.
-fn append_once(rows: &[Keyed], refs: &mut Vec<RowRef>) -> Result<(), AllocError>
+fn append_once(rows: &[Keyed], refs: &mut FoundRefs) -> Result<(), AllocError>
     ensures { OnOk result (refs.new.items ≡ refs.old.items ++ once None (map (λ row. row.at) rows.now)) }
 {
     let mut before = None;

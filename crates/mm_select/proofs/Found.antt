@@ -16,10 +16,12 @@ use Rattle.mm_relation.specs.Kept.{IsKept, StoredRows}
 use Rattle.mm_relation.specs.Reads.{Appends, AreMatches, IsRange, end_place, has_value}
 use Rattle.mm_relation.specs.Refs.{Slots, place_by, row_at, row_in}
 use Rattle.mm_select.proofs.Along.{all_live, appended, filter_moved, filter_same, on_column}
-use Rattle.mm_select.specs.Accesses.{AreAlong, IsServed, has, is_along, is_from, is_up_to, lies_between, refs_along}
+use Rattle.mm_select.specs.Accesses.{AreAlong, IsOfKey, IsServed, has, is_along, is_from, is_up_to, lies_between, refs_along}
 use Rattle.mm_select.specs.declared.access.Access.{Access}
 use Rattle.mm_select.specs.declared.access.Access.TheVariants as access
+use Rattle.mm_store.specs.Looked.{IsIndexOn}
 use Rattle.mm_store.specs.declared.index_ref.IndexRef.{IndexRef}
+use Rattle.mm_store.specs.declared.index_ref.IndexRef.TheVariants.{Key, Tree, Hash}
 use Rattle.mm_value.specs.Order.{value_cmp}
 use Rattle.mm_value.specs.declared.row_ref.RowRef.{RowRef}
 use Rattle.mm_value.specs.declared.values.Value.{Value}
@@ -72,6 +74,15 @@ module _ (stored : StoredRows) (kept : IsKept stored.width stored.key (slot_at s
   equal_along index column value old new on none appends =
       found_equal column (on_column stored kept column index on) value.now new (appended (AreMatches column now value.now stored.refs) old new none appends)
 
+  -- Along the key there is what a search by it finds.
+  pub key_along : (index : IndexRef) (column : ℕ) (value : Bor Value) (found : List RowRef) → index ≡ Key
+      → IsServed stored (access.Equal index column value) → AreMatches stored.key now value.now stored.refs found
+      → AreAlong stored (access.Equal index column value) found
+  key_along index column value found is on are =
+      let own : column ≡ stored.key = subst (IsIndexOn stored column) is on in
+      found_equal column (on_column stored kept column index on) value.now found
+      (subst (λ n. AreMatches n now value.now stored.refs found) (sym own) are)
+
   pub range_along : (index : IndexRef) (column : ℕ) (low high : Option (Bor Value)) (old new : List RowRef)
       → IsServed stored (access.Range index column low high) → old ≡ []
       → Appends (IsRange column stored (option_copied low) (option_copied high)) old new → AreAlong stored (access.Range index column low high) new
@@ -87,6 +98,12 @@ module _ (stored : StoredRows) (kept : IsKept stored.width stored.key (slot_at s
   between_filtered index column low high on walk found all is =
       is ∙ (ap (entries_between (end_place column now (option_copied low)) (end_place column now (option_copied high))) all
       ∙ between_same column (on_column stored kept column index on.0) (option_copied low) (option_copied high))
+
+-- A key is looked up in the key's own index.
+pub key_looked_up : (index : IndexRef) (column : ℕ) (value : Bor Value) → IsOfKey (access.Equal index column value) → index ≡ Key
+key_looked_up Key column value of_key = refl
+key_looked_up (Tree place) column value of_key = absurd of_key
+key_looked_up (Hash place) column value of_key = absurd of_key
 
 -- Their rows lie along the access.
 pub lie_along : (stored : StoredRows) (a : Access) (found : List RowRef) → AreAlong stored a found

@@ -75,6 +75,14 @@ is_in_key_order (access.Range Key column low high) = true
 is_in_key_order (access.Range (Tree place) column low high) = false
 is_in_key_order (access.Range (Hash place) column low high) = false
 
+-- It looks up a key.
+abbrev pub IsOfKey : Access → Type 0
+IsOfKey access.Scan = ⊥
+IsOfKey (access.Equal Key column value) = Unit {0}
+IsOfKey (access.Equal (Tree place) column value) = ⊥
+IsOfKey (access.Equal (Hash place) column value) = ⊥
+IsOfKey (access.Range index column low high) = ⊥
+
 -- Every value from this lower end on stands so to a value: the end does, and so does whatever is greater.
 abbrev pub stand_from : Option Value → Comparison → Value → Bool
 stand_from None comparison value = false

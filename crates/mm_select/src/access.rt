@@ -1,15 +1,18 @@
 //! Ways to the rows of a table.
-ghost use Rattle.std.specs.Prelude.{◌≡◌, ◌<◌, true, All, IfOk, filter, length};
+ghost use Rattle.std.specs.Prelude.{◌≡◌, ◌<◌, ◌≤◌, true, All, IfOk, IsOkAnd, filter, length};
 ghost use Rattle.std.specs.Option.{option_copied};
-ghost use Rattle.mm_partition.specs.Places.{IsLive};
+ghost use Rattle.mm_partition.specs.Places.{IsLive, slot_at};
 ghost use Rattle.mm_relation.specs.Kept.{StoredRows};
+ghost use Rattle.mm_relation.specs.Reads.{AreMatches};
 ghost use Rattle.mm_select.specs.Accesses.{AreAlong, IsServed, all_stand, all_stand_to, is_in_key_order, is_met_along, refs_along, stand_from, stand_up_to};
 ghost use Rattle.mm_select.specs.declared.access.Access.TheVariants as access;
 ghost use Rattle.mm_store.specs.Tables.{IsAt};
 
 use mm_query::{Atom, Comparison, FieldPlace, Operand};
 use mm_store::{IndexRef, View};
-use mm_value::{RowRef, Value, compare};
+use mm_templist::FoundRefs;
+use mm_value::{Value, compare};
+use smallvec::SmallVec;
 use std::alloc::{AllocError, Global};
 use std::cmp::Ordering;
 
@@ -105,15 +108,30 @@ fn stand_up_to(high: Option<&Value>, comparison: Comparison, value: &Value) -> b
     }
 }
 
-/// The references of the rows that have a value in the column of an index. `AllocError` where memory is refused.
-pub(crate) fn equal_to(
+/// The reference of the row that has a key, where a row has it. It takes no memory.
+fn row_of_key(alloc: Global, view: &View<'_>, table: usize, key: &Value) -> FoundRefs
+    requires { table < length view.now.store.tables }
+    ensures found { (stored : StoredRows) → IsAt view.now.store table stored
+        → AreMatches stored.key (slot_at stored.places) key.now stored.refs result.items }
+    ensures live { (stored : StoredRows) → IsAt view.now.store table stored → All (IsLive stored.places) result.items }
+    ensures one { length result.items ≤ 1 }
+{
+    let mut found = SmallVec::new(alloc);
+    if let Some(at) = view.find(table, key) {
+        found.push_reserved(at);
+    }
+    found
+}
+
+/// The references of the rows that have a value in the column of an index, whichever it is. `AllocError` where memory is refused.
+fn matches_along(
     alloc: Global,
     view: &View<'_>,
     table: usize,
     index: IndexRef,
     column: usize,
     value: &Value,
-) -> Result<Vec<RowRef>, AllocError>
+) -> Result<FoundRefs, AllocError>
     requires there { table < length view.now.store.tables }
     requires served { (stored : StoredRows) → IsAt view.now.store table stored → IsServed stored (access.Equal index column value) }
     ensures along { (stored : StoredRows) → IsAt view.now.store table stored
@@ -122,7 +140,32 @@ pub(crate) fn equal_to(
 {
     let mut found = Vec::new(alloc);
     view.matches(alloc, table, index, value, &mut found)?;
-    Ok(found)
+    Ok(SmallVec::from_vec(found))
+}
+
+/// The references of the rows that have a value in the column of an index. Along the key it takes no memory, and finds one at most.
+/// `AllocError` where memory is refused.
+pub(crate) fn equal_to(
+    alloc: Global,
+    view: &View<'_>,
+    table: usize,
+    index: IndexRef,
+    column: usize,
+    value: &Value,
+) -> Result<FoundRefs, AllocError>
+    requires there { table < length view.now.store.tables }
+    requires served { (stored : StoredRows) → IsAt view.now.store table stored → IsServed stored (access.Equal index column value) }
+    ensures along { (stored : StoredRows) → IsAt view.now.store table stored
+        → IfOk result (λ found. AreAlong stored (access.Equal index column value.entry) found.items) }
+    ensures live { (stored : StoredRows) → IsAt view.now.store table stored → IfOk result (λ found. All (IsLive stored.places) found.items) }
+    ensures by_key { index ≡ IndexRef.Key → IsOkAnd result (λ found. length found.items ≤ 1) }
+{
+    match index {
+        IndexRef::Key => Ok(row_of_key(alloc, view, table, value)),
+        IndexRef::Tree(_) | IndexRef::Hash(_) => {
+            matches_along(alloc, view, table, index, column, value)
+        }
+    }
 }
 
 /// The references of the rows between two ends along a tree, these included; along the tree on the key in key order. `AllocError` where
@@ -135,7 +178,7 @@ pub(crate) fn between(
     column: usize,
     low: Option<&Value>,
     high: Option<&Value>,
-) -> Result<Vec<RowRef>, AllocError>
+) -> Result<FoundRefs, AllocError>
     requires there { table < length view.now.store.tables }
     requires served { (stored : StoredRows) → IsAt view.now.store table stored → IsServed stored (access.Range index column low high) }
     ensures along { (stored : StoredRows) → IsAt view.now.store table stored
@@ -146,5 +189,5 @@ pub(crate) fn between(
 {
     let mut found = Vec::new(alloc);
     view.range(alloc, table, index, low, high, &mut found)?;
-    Ok(found)
+    Ok(SmallVec::from_vec(found))
 }

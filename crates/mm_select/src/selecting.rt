@@ -1,9 +1,9 @@
 //! Selections.
-ghost use Rattle.std.specs.Prelude.{◌≡◌, ℕ, ◌+◌, ◌∷◌, ◌<◌, ◌≤◌, [], false, true, All, IfOk, IsPermutation, length};
+ghost use Rattle.std.specs.Prelude.{◌≡◌, ℕ, ◌+◌, ◌∷◌, ◌<◌, ◌≤◌, [], false, true, All, IfOk, IsOk, IsOkAnd, IsPermutation, length};
 ghost use Rattle.std.specs.List.{count_by, list_any};
 ghost use Rattle.mm_partition.specs.Places.{IsLive};
 ghost use Rattle.mm_relation.specs.Kept.{StoredRows};
-ghost use Rattle.mm_select.specs.Accesses.{AreAlong, Asks, IsServed, asks_along, is_along, is_in_key_order};
+ghost use Rattle.mm_select.specs.Accesses.{AreAlong, Asks, IsOfKey, IsServed, asks_along, is_along, is_in_key_order};
 ghost use Rattle.mm_select.specs.Fitting.{AreFitting};
 ghost use Rattle.mm_select.specs.Matches.{matching};
 ghost use Rattle.mm_select.specs.declared.access.Access.TheVariants as access;
@@ -14,8 +14,8 @@ use crate::access::{Access, between, equal_to};
 use crate::row_test::{RowTest, some_asks_along};
 use mm_query::{Atom, FieldPlace};
 use mm_store::{IndexRef, View};
-use mm_templist::{Descriptor, TempList};
-use mm_value::RowRef;
+use mm_templist::{Descriptor, FoundRefs, TempList};
+use smallvec::SmallVec;
 use std::alloc::{AllocError, Global};
 
 /// The rows of a table of which no atom is false, as a temporary list. They are found as `select_refs` finds them, whose references
@@ -39,6 +39,7 @@ pub fn select<'a>(
         → view.new.reads ≤ view.old.reads + count_by (is_along access.entry) (rows_at view.old.store.tables table) }
     ensures unread { list_any (asks_along access.entry) atoms.now ≡ false → view.new.reads ≡ view.old.reads }
     ensures same { view.new.store ≡ view.old.store }
+    ensures met { IsOfKey access.entry → IsOk result }
 {
     let refs = select_refs(alloc, view, descriptor.tables[0], atoms, access)?;
     Ok(TempList::of_refs(descriptor, refs))
@@ -47,15 +48,15 @@ pub fn select<'a>(
 /// The references of the rows of a table of which no atom is false, each once, found along an access: by a look at each row, or by a
 /// look-up or a range in an index (the access paths of Lehman and Carey, SIGMOD 1986). They are in key order where the rows along
 /// the access are, and else in no promised order. It looks at no row that does not lie along the access, and at none at all where
-/// every row along it meets all that the atoms ask of the table alone. It takes memory for what lies along the access, and no more.
-/// `AllocError` where that is refused.
+/// every row along it meets all that the atoms ask of the table alone. It takes memory for what lies along the access, and no more;
+/// a look-up by key takes none. `AllocError` where memory is refused.
 pub fn select_refs(
     alloc: Global,
     view: &mut View<'_>,
     table: usize,
     atoms: &[Atom<FieldPlace>],
     access: Access<'_>,
-) -> Result<Vec<RowRef>, AllocError>
+) -> Result<FoundRefs, AllocError>
     requires there { table < length view.old.store.tables }
     requires served { (stored : StoredRows) → IsAt view.old.store table stored → IsServed stored access }
     requires asked { Asks atoms.now access }
@@ -67,6 +68,7 @@ pub fn select_refs(
     ensures reads { view.new.reads ≤ view.old.reads + count_by (is_along access.entry) (rows_at view.old.store.tables table) }
     ensures unread { list_any (asks_along access.entry) atoms.now ≡ false → view.new.reads ≡ view.old.reads }
     ensures same { view.new.store ≡ view.old.store }
+    ensures by_key { IsOfKey access.entry → IsOkAnd result (λ found. length found.items ≤ 1) }
 {
     match access {
         Access::Scan => scan(alloc, view, table, atoms),
@@ -98,7 +100,7 @@ fn scan(
     view: &mut View<'_>,
     table: usize,
     atoms: &[Atom<FieldPlace>],
-) -> Result<Vec<RowRef>, AllocError>
+) -> Result<FoundRefs, AllocError>
     requires { table < length view.old.store.tables }
     ensures found { IfOk result (λ found. (stored : StoredRows) → IsAt view.old.store table stored
         → found.items ≡ matching view.old.store table atoms.now [] stored.refs) }
@@ -107,7 +109,7 @@ fn scan(
     ensures unread { list_any (asks_along access.Scan) atoms.now ≡ false → view.new.reads ≡ view.old.reads }
     ensures same { view.new.store ≡ view.old.store }
 {
-    let mut found = Vec::new(alloc);
+    let mut found = SmallVec::new(alloc);
     let test = RowTest {
         table,
         atoms,
@@ -128,7 +130,7 @@ fn keep_fitting(
     table: usize,
     atoms: &[Atom<FieldPlace>],
     access: Access<'_>,
-    found: &mut Vec<RowRef>,
+    found: &mut FoundRefs,
 )
     requires there { table < length view.old.store.tables }
     requires along { (stored : StoredRows) → IsAt view.old.store table stored → AreAlong stored access found.old.items }

@@ -1,8 +1,8 @@
 -- Which index is the first on a column, and what is found along it.
 use Rattle.std.proofs.Common.{◌≡◌, ◌≢◌, ℕ, ◌+◌, ◌<◌, ◌≤◌, Bool, true, false, cond, ◌&&◌, List, [], ◌∷◌, ◌++◌, length, get_or, Option, Some, None, ⊎_elim}
 use Rattle.std.proofs.Common.{refl, sym, ap, ◌∙◌, subst, arith}
-use Rattle.std.specs.Prelude.{IfNone, IfSome, position}
-use Rattle.std.specs.List.{All, filter, position_or_len}
+use Rattle.std.specs.Prelude.{IfNone, IfSome, position, slice_get}
+use Rattle.std.specs.List.{All, Contains, cons_option, filter, position_or_len}
 use Rattle.std.specs.List.Sorted.{IsPermutation}
 use Rattle.std.specs.Ordering.{is_eq, is_ge, is_le}
 use Rattle.std.specs.declared.cmp.Ordering.{Ordering}
@@ -14,12 +14,13 @@ use Rattle.std.proofs.lemmas.List.Sums.{fails_before_first}
 use Rattle.mm_order.specs.Probe.{entries_between, is_between}
 use Rattle.mm_partition.specs.Places.{IsLive, slot_at}
 use Rattle.mm_relation.proofs.Bags.{IsPermutation-filter}
+use Rattle.mm_relation.proofs.OneKey.{none_of_key, one_of_key}
 use Rattle.mm_relation.proofs.RefTests.{same_from_test, test_from_same}
 use Rattle.mm_relation.specs.Before.{same_ref}
 use Rattle.mm_relation.specs.Index.{column_of, kind_of}
 use Rattle.mm_relation.specs.Kept.{IsKept, StoredRows}
 use Rattle.mm_relation.specs.Reads.{Appends, AreMatches, HasIndex, IsOn, IsRange, IsWalk, end_place, has_value}
-use Rattle.mm_relation.specs.Refs.{Slots, place_by}
+use Rattle.mm_relation.specs.Refs.{Slots, place_by, row_at}
 use Rattle.mm_relation.specs.Served.{is_on, same_kind}
 use Rattle.mm_relation.specs.declared.indexes.index.Index.{Index}
 use Rattle.mm_schema.specs.declared.index.IndexKind.{IndexKind}
@@ -175,6 +176,29 @@ matches_in_range column stored value found (walk, is_walk, is) =
     subst (λ (xs : List RowRef). IsPermutation xs (filter met stored.refs))
     (sym (is ∙ filter_agree (is_between place place) met (λ at. not_apart (place at)) walk))
     (IsPermutation-filter same_ref same_from_test (λ a. test_from_same a a refl) met walk stored.refs is_walk.same)
+
+-- ---- the row of a key
+
+module _ (stored : StoredRows) (kept : IsKept stored.width stored.key (slot_at stored.places) stored.refs stored.indexes) where
+  -- What is sought by the key is all that has the value.
+  pub found_of_key : (value : Value) (found : Option RowRef) → IfSome found (Contains stored.refs)
+      → IfSome found (λ at. slice_get (row_at (slot_at stored.places) at) stored.key ≡ Some value)
+      → IfNone found (All (λ at. slice_get (row_at (slot_at stored.places) at) stored.key ≢ Some value) stored.refs)
+      → AreMatches stored.key (slot_at stored.places) value stored.refs (cons_option found [])
+  found_of_key value found held fits none =
+      matches_in_range stored.key stored value (cons_option found []) (stored.refs, walk_of_keys stored kept, range_of_found found held fits none)
+    where
+      range_of_found : (found : Option RowRef) → IfSome found (Contains stored.refs)
+          → IfSome found (λ at. slice_get (row_at (slot_at stored.places) at) stored.key ≡ Some value)
+          → IfNone found (All (λ at. slice_get (row_at (slot_at stored.places) at) stored.key ≢ Some value) stored.refs)
+          → cons_option found []
+          ≡ entries_between (end_place stored.key (slot_at stored.places) (Some value)) (end_place stored.key (slot_at stored.places) (Some value)) stored.refs
+      range_of_found (Some at) held fits none = sym (one_of_key stored.key (slot_at stored.places) stored.refs kept.by_key value at held fits)
+      range_of_found None held fits none = sym (none_of_key stored.key (slot_at stored.places) stored.refs kept.by_key value none)
+
+  pub found_live : (found : Option RowRef) → IfSome found (Contains stored.refs) → IfSome found (IsLive stored.places)
+  found_live (Some at) held = (kept.held at).0 held
+  found_live None held = tt
 
 -- What is found along an index is live, ..
 all_live : (stored : StoredRows) → IsKept stored.width stored.key (slot_at stored.places) stored.refs stored.indexes

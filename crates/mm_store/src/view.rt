@@ -1,5 +1,6 @@
 //! What a query sees of a store.
-ghost use Rattle.std.specs.Prelude.{◌≡◌, ℕ, ◌+◌, ◌<◌, ◌≤◌, ◌↔◌, length, min, All, IfSome, IsTrue, OnOk, OnErr, Contains, Some, slice_get};
+ghost use Rattle.std.specs.Prelude.{◌≡◌, ℕ, ◌+◌, ◌<◌, ◌≤◌, ◌↔◌, [], length, min, All, IfSome, IsTrue, OnOk, OnErr, Contains, Some, slice_get};
+ghost use Rattle.std.specs.List.{cons_option};
 ghost use Rattle.std.specs.Option.{option_copied, option_map};
 ghost use Rattle.mm_partition.specs.Places.{IsLive, Live, slot_at};
 ghost use Rattle.mm_relation.specs.Kept.{StoredRows};
@@ -140,6 +141,16 @@ impl<'a> View<'a> {
         ensures { (stored : StoredRows) → IsAt self.now.store table stored → IsFirstSuch IsHash stored column result }
     {
         first_hash(self.relation(table), column)
+    }
+
+    /// The reference of the row of a table that has this key, none where no row has it. No row is counted, and it takes no memory.
+    pub fn find(&self, table: usize, key: &Value) -> Option<RowRef>
+        requires { table < length self.now.store.tables }
+        ensures found { (stored : StoredRows) → IsAt self.now.store table stored
+            → AreMatches stored.key (slot_at stored.places) key.now stored.refs (cons_option result []) }
+        ensures live { (stored : StoredRows) → IsAt self.now.store table stored → IfSome result (IsLive stored.places) }
+    {
+        self.relation(table).find(key)
     }
 
     /// Appends the references of the rows of a table that have this value in the column of an index of it, each once and in no

@@ -10,4 +10,4 @@ mod shown;
 mod temp_list;
 
 pub use shown::ShownRows;
-pub use temp_list::{Descriptor, TempList};
+pub use temp_list::{Descriptor, FoundRefs, TempList};

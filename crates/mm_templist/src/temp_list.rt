@@ -7,6 +7,9 @@ use smallvec::SmallVec;
 use std::alloc::{AllocError, Global};
 use std::marker::Model;
 
+/// References to rows that were found. Up to four lie in the value itself and take no block of memory.
+pub type FoundRefs = SmallVec<RowRef, 4>;
+
 /// What a temporary list refers to, and which fields its result has.
 #[derive(Clone, Copy)]
 pub struct Descriptor<'a> {
@@ -25,7 +28,7 @@ pub struct Descriptor<'a> {
 pub struct TempList<'a> {
     descriptor: Descriptor<'a>,
     /// As many references for each combination as there are tables.
-    refs: SmallVec<RowRef, 4>,
+    refs: FoundRefs,
     /// How many combinations there are.
     len: usize,
 }
@@ -73,14 +76,14 @@ impl<'a> TempList<'a> {
     }
 
     /// A combination of one row for each of these references to rows of one table, in their order. It takes no memory.
-    pub fn of_refs(descriptor: Descriptor<'a>, refs: Vec<RowRef>) -> TempList<'a>
+    pub fn of_refs(descriptor: Descriptor<'a>, refs: FoundRefs) -> TempList<'a>
         requires { length descriptor.tables.now ≡ 1 }
         ensures { result ≡ record { tables = descriptor.entry.tables.now; fields = descriptor.entry.fields.now; combos = map (λ at. at ∷ []) refs.items } }
     {
         let len = refs.len();
         TempList {
             descriptor,
-            refs: SmallVec::from_vec(refs),
+            refs,
             len,
         }
     }

@@ -22,6 +22,7 @@ use mm_query::{Assignment, Atom, FieldPlace, updated_row};
 use mm_relation::Edit;
 use mm_store::View;
 use mm_value::{Refusal, Row, RowRef};
+use smallvec::SmallVec;
 use std::alloc::{AllocError, Global};
 
 /// Edits that add these rows, in their order. They name no row that is there. `AllocError` where memory is refused.
@@ -124,6 +125,6 @@ pub(crate) fn removals_at(
     ensures fit { IfOk result (λ edits. (stored : StoredRows) → IsAt view.old.store table stored → AreFit stored edits.items) }
     ensures none_comes { IfOk result (λ edits. new_rows edits.items ≡ []) }
 {
-    let gone = in_key_order(alloc, view, table, refs)?;
+    let gone = in_key_order(alloc, view, table, SmallVec::from_vec(refs))?;
     gone.into_iter().map(Edit::Gone).collect(alloc)
 }

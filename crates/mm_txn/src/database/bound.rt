@@ -10,15 +10,12 @@ ghost use Rattle.mm_query.specs.declared.command.Command.TheVariants.{Change, Se
 ghost use Rattle.mm_query.specs.declared.command.Mutation.{Mutation as AnyMutation};
 ghost use Rattle.mm_query.specs.declared.query.Query.{Query as AnyQuery};
 ghost use Rattle.mm_schema.specs.Refused.{AnswersDue, first_refusal};
-ghost use Rattle.mm_txn.specs.Answers.{reply_of};
 ghost use Rattle.mm_txn.specs.Bound.{IsBoundChange, IsBoundQuery, bound_of};
 ghost use Rattle.mm_txn.specs.Steps.{IsStep};
 
 use super::Db;
 use super::execute::counted;
-use crate::answer::Answer;
 use crate::bound::ChangeToRun;
-use crate::rows::Rows;
 use crate::select::{copy_rows, select_rows};
 use mm_query::{Bound, BoundChange, BoundQuery, Mutation, Query, Reply, RowBuffer};
 use mm_schema::{Catalog, Name};
@@ -50,7 +47,7 @@ impl Db {
         self.is_open
     }
 
-    /// The bound form of a query, which has places in place of names, for [`Db::select_bound`]. The refusals are those of
+    /// The bound form of a query, which has places in place of names, for [`Db::select_into`]. The refusals are those of
     /// [`Question::Select`](crate::Question::Select) but for `ResultTooLarge`.
     pub fn bind_query(&self, alloc: Global, query: Query<'_>) -> Result<Bound, Refusal>
         ensures due { AnswersDue (first_refusal (query_conditions query.entry self.now.schema)) result }
@@ -67,21 +64,6 @@ impl Db {
         ensures ok { IfOk result (IsBoundChange self.now.schema mutation.entry) }
     {
         mm_query::bind_change(alloc, &self.contents.catalog, mutation)
-    }
-
-    /// Answers a SELECT by the bound form of its query, which has to be bound by the catalog as it is: the rows that it gives, in
-    /// their order. `ResultTooLarge` where more than 1,048,576 combinations of rows fit; `Memory` may come in its place and in that
-    /// of success. No row is copied. It is one step of the machine of row lists, which changes nothing; only `Memory` may come in
-    /// place of that step.
-    pub fn select_bound(&self, alloc: Global, bound: &Bound) -> Answer<'_>
-        requires { (query : AnyQuery) × IsBoundQuery self.now.schema query bound.now }
-        ensures { (query : AnyQuery) → IsBoundQuery self.now.schema query bound.now
-            → IsStep (Select query) self.now (record { reply = Some (reply_of result); state = self.now }) }
-    {
-        match self.run_select(alloc, bound) {
-            Ok(rows) => Answer::Rows(Rows::shown(rows)),
-            Err(refusal) => Answer::Refused(refusal),
-        }
     }
 
     /// Copies the rows that a bound query gives, in their order, behind those of a buffer; the query has to be bound by the catalog
@@ -103,7 +85,8 @@ impl Db {
         copy_rows(alloc, &contents.store, bound, rows)
     }
 
-    /// The rows that a bound query gives, in their order. The refusals are those of [`Db::select_bound`].
+    /// The rows that a bound query gives, in their order. The refusals are those of
+    /// [`Db::select_into`].
     pub(super) fn run_select(&self, alloc: Global, bound: &Bound) -> Result<ShownRows<'_>, Refusal>
         requires { (query : AnyQuery) × IsBoundQuery self.now.schema query bound.now }
         ensures due { (query : AnyQuery) → IsBoundQuery self.now.schema query bound.now

@@ -2,7 +2,7 @@ use Rattle.std.proofs.Common.{◌≡◌, ℕ, Option, refl, sym, ap, ◌∙◌, 
 use Rattle.std.specs.Borrow.{Bor}
 use Rattle.mm_plan.specs.Finding.{finds_in_key_order}
 use Rattle.mm_plan.specs.declared.step.Step.TheVariants as step
-use Rattle.mm_select.specs.Accesses.{is_in_key_order}
+use Rattle.mm_select.specs.Accesses.{IsOfKey, is_in_key_order}
 use Rattle.mm_select.specs.declared.access.Access.TheVariants as access
 use Rattle.mm_store.specs.declared.index_ref.IndexRef.{IndexRef}
 use Rattle.mm_store.specs.declared.index_ref.IndexRef.TheVariants.{Key, Tree, Hash}
@@ -31,3 +31,12 @@ same_order (Hash place) atom column low high = refl
 
 pub returns-in-Range-clause-ordered : goal.returns-in-Range-clause-ordered
 returns-in-Range-clause-ordered c = same_order c.in-Range.index c.in-Range.atom _ _ _ ∙ ap finds_in_key_order (sym c.in-Range.is)
+
+of_key : (index : IndexRef) (own atom column : ℕ) (value : Bor Value) → step.LookUp index own ≡ step.LookUp Key atom
+    → IsOfKey (access.Equal index column value)
+of_key Key own atom column value is = tt
+of_key (Tree place) own atom column value is = cc
+of_key (Hash place) own atom column value is = cc
+
+pub returns-in-Literal-clause-by_key : goal.returns-in-Literal-clause-by_key
+returns-in-Literal-clause-by_key c = λ atom is. of_key c.in-LookUp.index c.in-LookUp.atom atom _ _ (sym c.in-LookUp.is ∙ is)

@@ -94,3 +94,11 @@ returns-clause-reads c =
 
 pub returns-clause-same : goal.returns-clause-same
 returns-clause-same c = c.in_key_order.ensures.same ∙ c.select_refs.ensures.same
+
+pub returns-in_err-found-clause-met : goal.returns-in_err-found-clause-met
+returns-in_err-found-clause-met c = λ atom is.
+    absurd (c.in_err-found.ensures.by_key (c.access_by-access.ensures.by_key atom (c.first_step-step.ensures ∙ is)))
+
+pub returns-clause-met : goal.returns-clause-met
+returns-clause-met c = λ atom is.
+    c.in_key_order.ensures.met (c.in_ok-found.ensures.by_key (c.access_by-access.ensures.by_key atom (c.first_step-step.ensures ∙ is)))

@@ -1,8 +1,10 @@
-use Rattle.std.proofs.Common.{rules, ◌≡◌, ℕ, ◌<◌, List, [], ◌∷◌, Bool, true, Some, length, refl, sym, ap, ◌∙◌, subst, arith}
-use Rattle.std.specs.List.{All}
+use Rattle.std.proofs.Common.{rules, ◌≡◌, ℕ, ◌+◌, ◌<◌, List, [], ◌∷◌, Bool, true, Some, drop, get_or, length, refl, sym, ap, ◌∙◌, subst, arith}
+use Rattle.std.specs.List.{All, refill}
+use Rattle.std.specs.Prelude.{slice_set}
+use Rattle.std.proofs.lemmas.List.{get_or_default, length-set, take_at}
 use Rattle.mm_partition.specs.Places.{IsLive}
 use Rattle.mm_query.specs.Queries.{none_fails}
-use Rattle.mm_relation.proofs.Matches.{Keeping-kept, Keeping-skipped, first_held}
+use Rattle.mm_relation.proofs.Matches.{Keeping, Keeping-kept, Keeping-skipped, first_held}
 use Rattle.mm_relation.specs.Kept.{StoredRows}
 use Rattle.mm_store.proofs.Joining.{some_at}
 use Rattle.mm_store.specs.Tables.{IsAt, Tables}
@@ -11,7 +13,7 @@ use Rattle.mm_value.specs.declared.row_ref.RowRef.{RowRef}
 use Rattle.mm_select.specs.Accesses.{AreAlong, is_along}
 use Rattle.mm_select.specs.declared.access.Access.{Access}
 use Rattle.mm_select.proofs.Covered.{IsCandidate, all_match, candidates, kept_match}
-use Rattle.mm_select.proofs.selecting.keep_fitting.Goals.{After-index-at, then-admits, else-admits}
+use Rattle.mm_select.proofs.selecting.keep_fitting.Goals.{After-deref, then-admits, else-admits}
 use Rattle.mm_select.proofs.selecting.keep_fitting.Goals as goal
 
 -- What is found along an access, all of it live, are candidates.
@@ -22,12 +24,28 @@ all_candidates store table access found there along live =
     let (stored, here) = some_at store.tables table there in
     candidates store table stored here access found (along stored here) (live stored here)
 
-next_candidate : (c : After-index-at) → IsCandidate c.args.view.now.store c.args.table c.args.access c.index-at.result.now
+-- A list whose elements are written over by those of the list with one set is that list.
+refill_set : (refs : List RowRef) (i : ℕ) (at : RowRef) → refill (length refs) refs (slice_set refs i at) ≡ slice_set refs i at
+refill_set refs i at = take_at (slice_set refs i at) (drop (length (slice_set refs i at)) refs) (length refs) (length-set refs i at)
+
+abbrev none : RowRef
+none = record { part = 0; slot = 0 }
+
+-- the next reference
+abbrev next : After-deref → RowRef
+next c = get_or c.deref.result.now c.loop-i.i none
+
+next_is : (c : After-deref) → next c ≡ get_or c.loop-i.found.items c.loop-i.i (next c)
+next_is c =
+    let size = c.loop-i.invariant.keeping.size in
+    ap (λ xs. get_or xs c.loop-i.i none) c.deref.ensures ∙ get_or_default c.loop-i.found.items c.loop-i.i none (next c) (omega arith)
+
+next_candidate : (c : After-deref) → IsCandidate c.args.view.now.store c.args.table c.args.access (next c)
 next_candidate c =
     let store = c.args.view.now.store in
     let size = c.loop-i.invariant.keeping.size in
     first_held (λ at. none_fails c.args.atoms.now (Some (row_of store c.args.table at) ∷ [])) (IsCandidate store c.args.table c.args.access) 0
-    c.args.found.now.items c.loop-i.found.items c.loop-i.kept c.loop-i.i c.loop-i.invariant.keeping c.index-at.result.now (omega arith) c.index-at.ensures
+    c.args.found.now.items c.loop-i.found.items c.loop-i.kept c.loop-i.i c.loop-i.invariant.keeping (next c) (omega arith) (next_is c)
 
 pub loop-i-init : goal.loop-i-init
 loop-i-init c = record {
@@ -43,13 +61,13 @@ loop-i-init c = record {
 
 pub admits-requires-clause-live : goal.admits-requires-clause-live
 admits-requires-clause-live c = λ stored there.
-    (next_candidate (goal.at.admits-requires-clause-live c).After-index-at).0 stored
+    (next_candidate (goal.at.admits-requires-clause-live c).After-deref).0 stored
     (subst (λ (s : Tables). IsAt s c.args.table stored) c.loop-i.invariant.same there)
 
 pub admits-requires-clause-along : goal.admits-requires-clause-along
 admits-requires-clause-along c =
-    subst (λ (s : Tables). is_along c.args.access (row_of s c.args.table c.index-at.result.now) ≡ true) (sym c.loop-i.invariant.same)
-    (next_candidate (goal.at.admits-requires-clause-along c).After-index-at).1
+    let deref = (goal.at.admits-requires-clause-along c).After-deref in
+    subst (λ (s : Tables). is_along c.args.access (row_of s c.args.table (next deref)) ≡ true) (sym c.loop-i.invariant.same) (next_candidate deref).1
 
 pub loop-i-preserved : goal.loop-i-preserved
 loop-i-preserved c =
@@ -57,7 +75,8 @@ loop-i-preserved c =
     let table = c.args.table in
     let old = c.args.found.now.items in
     let out = c.loop-i.found.items in
-    let at = c.index-at.result.now in
+    let reached = (goal.at.loop-i-preserved c).After-deref in
+    let at = next reached in
     let p : RowRef → Bool = λ x. none_fails c.args.atoms.now (Some (row_of store table x) ∷ []) in
     let P : RowRef → Type 0 = IsCandidate store table c.args.access in
     let size = c.loop-i.invariant.keeping.size in
@@ -70,10 +89,12 @@ loop-i-preserved c =
       keeping = elim c.if-admits.branch [
         | then-admits w ↦
             rw (w.found-is, w.kept-is)
-            (Keeping-kept p P 0 old out c.loop-i.kept c.loop-i.i c.loop-i.invariant.keeping at within c.index-at.ensures (told ∙ w.if-admits.true))
+            (subst (λ l. Keeping p P 0 old l (c.loop-i.kept + 1) (c.loop-i.i + 1))
+            (sym (ap (λ l. refill (length out) out (slice_set l c.loop-i.kept at)) w.deref_mut.ensures.value ∙ refill_set out c.loop-i.kept at))
+            (Keeping-kept p P 0 old out c.loop-i.kept c.loop-i.i c.loop-i.invariant.keeping at within (next_is reached) (told ∙ w.if-admits.true)))
         | else-admits w ↦
             rw (w.found-is, w.kept-is)
-            (Keeping-skipped p P 0 old out c.loop-i.kept c.loop-i.i c.loop-i.invariant.keeping at within c.index-at.ensures (told ∙ w.if-admits.false))
+            (Keeping-skipped p P 0 old out c.loop-i.kept c.loop-i.i c.loop-i.invariant.keeping at within (next_is reached) (told ∙ w.if-admits.false))
       ];
     }
 
@@ -89,4 +110,4 @@ returns-clause-found c =
     c.truncate.ensures.items
     ∙ kept_match (λ x. none_fails c.args.atoms.now (Some (row_of store c.args.table x) ∷ [])) (IsCandidate store c.args.table c.args.access)
     c.args.found.now.items c.loop-i.found.items c.loop-i.kept c.loop-i.i c.loop-i.invariant.keeping
-    (omega (arith, size, c.len-i-end.ensures, c.loop-i-test.false))
+    (omega (arith, size, c.len-i-end.ensures.value, c.loop-i-test.false))

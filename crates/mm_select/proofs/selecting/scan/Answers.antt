@@ -29,7 +29,7 @@ loop-at-preserved-in-Continue-1 c = record {
   reads = omega (arith, c.admits.ensures.reads, c.loop-at.invariant.reads, length_push c.loop-at.yielded c.in-Some.at);
   split = split_next c.into_iter-at-iterator.result c.loop-at.yielded c.loop-at.at-iterator c.next.new.self c.in-Some.at
       c.loop-at.invariant.split c.in-Some.ensures.steps;
-  found = c.in_ok-push.ensures.items
+  found = c.in_ok-push.ensures.ok
       ∙ (ap (λ l. l ++ c.in-Some.at ∷ []) c.loop-at.invariant.found
       ∙ sym (matching_more c.args.view.now.store c.loop-at.view.store c.loop-at.invariant.same c.args.table c.args.atoms.now c.loop-at.yielded
       c.in-Some.at c.if-admits.ensures.told));

@@ -1,14 +1,19 @@
-use Rattle.std.proofs.Common.{◌≡◌, ◌+◌, ◌≤◌, [], true, sym, subst, arith}
+use Rattle.std.proofs.Common.{◌≡◌, ◌+◌, ◌≤◌, Bool, [], ◌∷◌, Some, true, ap, length, sym, subst, arith}
 use Rattle.std.specs.List.{count_by}
 use Rattle.std.specs.List.Sorted.{IsPermutation}
 use Rattle.std.proofs.lemmas.Bool.{false≢true}
 use Rattle.std.proofs.lemmas.List.Sorted.{IsPermutation-refl}
+use Rattle.std.proofs.lemmas.List.Sums.{count_by-le-length, length-filter}
 use Rattle.std.proofs.lemmas.Result.{IfOk-weaker}
+use Rattle.mm_query.specs.Queries.{none_fails}
 use Rattle.mm_store.proofs.Joining.{some_at}
 use Rattle.mm_store.specs.Tables.{rows_at}
-use Rattle.mm_select.specs.Accesses.{AreAlong, is_along, is_in_key_order, refs_along}
+use Rattle.mm_select.specs.Accesses.{AreAlong, IsOfKey, is_along, is_in_key_order, refs_along}
 use Rattle.mm_select.specs.Matches.{matching}
 use Rattle.mm_select.specs.declared.access.Access.{Access}
+use Rattle.mm_templist.specs.Combos.{row_of}
+use Rattle.mm_value.specs.declared.row_ref.RowRef.{RowRef}
+use Rattle.mm_select.proofs.Found.{key_looked_up}
 use Rattle.mm_select.proofs.Covered.{counted, scan_counted, selected, selected_in_order, selected_live}
 use Rattle.mm_select.proofs.selecting.select_refs.Goals as goal
 
@@ -80,3 +85,20 @@ returns-in_ok-found-in-Range-clause-reads c =
     let found = c.in_ok-found-in-Range.found.items in
     let along = subst (λ (a : Access). AreAlong stored a found) (sym c.in-Range.is) (c.in_ok-found-in-Range.ensures.along stored here) in
     omega (arith, c.keep_fitting-in-Range.ensures.reads, counted store c.args.table stored here c.args.access found along)
+
+pub returns-in_err-found-in-Equal-clause-by_key : goal.returns-in_err-found-in-Equal-clause-by_key
+returns-in_err-found-in-Equal-clause-by_key c = λ of_key.
+    absurd (c.in_err-found-in-Equal.ensures.by_key
+    (key_looked_up c.in-Equal.index c.in-Equal.column c.in-Equal.value (subst IsOfKey c.in-Equal.is of_key)))
+
+pub returns-in_ok-found-in-Equal-clause-by_key : goal.returns-in_ok-found-in-Equal-clause-by_key
+returns-in_ok-found-in-Equal-clause-by_key c = λ of_key.
+    let found = c.in_ok-found-in-Equal.found.items in
+    let p : RowRef → Bool = λ at. none_fails c.args.atoms.now (Some (row_of c.args.view.now.store c.args.table at) ∷ []) in
+    omega (
+      arith,
+      c.in_ok-found-in-Equal.ensures.by_key (key_looked_up c.in-Equal.index c.in-Equal.column c.in-Equal.value (subst IsOfKey c.in-Equal.is of_key)),
+      ap length c.keep_fitting.ensures.found,
+      length-filter p found,
+      count_by-le-length p found,
+    )

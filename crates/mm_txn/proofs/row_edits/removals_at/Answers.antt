@@ -1,7 +1,9 @@
 use Rattle.std.proofs.Common.{◌≡◌, map, rules, ap, ◌∙◌, subst, sym}
-use Rattle.std.specs.List.{list_any}
+use Rattle.std.specs.List.{All, list_any}
 use Rattle.std.specs.Prelude.{IfOk}
 use Rattle.std.proofs.lemmas.Result.{IfOk-weaker}
+use Rattle.mm_partition.specs.Places.{IsLive}
+use Rattle.mm_plan.specs.Finding.{among}
 use Rattle.mm_relation.specs.Before.{same_ref}
 use Rattle.mm_relation.specs.Edits.{new_rows}
 use Rattle.mm_relation.specs.declared.edits.Edit.TheVariants.{Gone}
@@ -10,13 +12,18 @@ use Rattle.mm_store.specs.Tables.{AreFit}
 use Rattle.mm_txn.proofs.EditsMade.{fit-gone, new_rows-gone}
 use Rattle.mm_txn.proofs.row_edits.removals_at.Goals as goal
 
+pub in_key_order-requires-clause-live : goal.in_key_order-requires-clause-live
+in_key_order-requires-clause-live c = λ stored here. subst (All (IsLive stored.places)) (sym c.from_vec.ensures.items) (c.requires.live stored here)
+
 pub returns : goal.returns
 returns c =
-    let refs = c.args.refs.items in
+    let refs = c.from_vec.result.items in
+    let given : refs ≡ c.args.refs.items = c.from_vec.ensures.items in
     let collected : IfOk c.collect.result (λ edits. edits.items ≡ map Gone c.in_ok-gone.gone.items) = search rules in
     record {
       items = IfOk-weaker c.collect.result (λ edits. edits.items ≡ map Gone c.in_ok-gone.gone.items) _
-          (λ edits is stored here. is ∙ ap (map Gone) (c.in_ok-gone.ensures.found stored here)) collected;
+          (λ edits is stored here.
+          is ∙ ap (map Gone) (c.in_ok-gone.ensures.found stored here ∙ ap (λ rs. among rs stored) given)) collected;
       fit = IfOk-weaker c.collect.result (λ edits. edits.items ≡ map Gone c.in_ok-gone.gone.items) _
           (λ edits is stored here.
           subst (AreFit stored) (sym (is ∙ ap (map Gone) (c.in_ok-gone.ensures.found stored here)))

@@ -23,7 +23,7 @@ swaps-requires c =
     record {
       there = subst (λ (s : Tables). c.args.table < length s.tables) (sym c.find_rows.ensures.same) c.requires.there;
       live = λ stored at.
-          subst (All (IsLive stored.places)) (sym (c.as_slice.ensures.value ∙ c.in_ok-found.ensures.found stored (there stored at)))
+          subst (All (IsLive stored.places)) (sym (c.as_slice.ensures ∙ c.in_ok-found.ensures.found stored (there stored at)))
           (passing_live stored (table_seen c.args.view.now c.args.table stored (there stored at)).kept
           (λ r. meets c.args.atoms.now (row_at (slot_at stored.places) r)));
       assignments = λ stored at. c.requires.assignments stored (there stored at);
@@ -36,7 +36,7 @@ returns c =
     let assignments = c.args.assignments.now in
     let there = λ (stored : StoredRows) (at : IsAt store c.args.table stored).
     subst (λ (s : Tables). IsAt s c.args.table stored) (sym c.find_rows.ensures.same) at in
-    let refs = λ (stored : StoredRows) (at : IsAt store c.args.table stored). c.as_slice.ensures.value ∙ c.in_ok-found.ensures.found stored at in
+    let refs = λ (stored : StoredRows) (at : IsAt store c.args.table stored). c.as_slice.ensures ∙ c.in_ok-found.ensures.found stored at in
     record {
       due = λ stored at.
           subst (λ values. AnswersDue (first_refusal (range_conditions values)) c.swaps.result)

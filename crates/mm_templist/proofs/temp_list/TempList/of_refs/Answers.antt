@@ -6,6 +6,6 @@ use Rattle.mm_templist.proofs.temp_list.TempList.of_refs.Goals as goal
 pub returns : goal.returns
 returns c =
     let refs = c.args.refs.items in
-    let combos : pieces (length c.args.descriptor.tables.now) c.len-len.result c.from_vec.result.items ≡ map (λ at. at ∷ []) refs =
-    (λ i. pieces (c.requires i) ((c.len-len.ensures ∙ c.args.refs.ok.0) i) (c.from_vec.ensures.items i)) ∙ single_pieces refs in
+    let combos : pieces (length c.args.descriptor.tables.now) c.len-len.result refs ≡ map (λ at. at ∷ []) refs =
+    (λ i. pieces (c.requires i) (c.len-len.ensures.value i) refs) ∙ single_pieces refs in
     λ i. record { tables = c.args.descriptor.tables.now; fields = c.args.descriptor.fields.now; combos = combos i }
