@@ -1,7 +1,10 @@
 pub mod Catalogs
+mod ColumnTypes
 pub mod DueSteps
 pub mod FormLemmas
 mod FoundColumns
 pub mod LineReadings
+mod ReachedStates
 pub mod ReadyStatements
+mod ShownColumns
 pub mod SlotLemmas

@@ -6,6 +6,7 @@
 
 mod bound_form;
 mod columns;
+mod columns_law;
 mod misuse;
 mod reading;
 mod refused_place;
@@ -16,6 +17,10 @@ mod session;
 mod slots;
 mod statement;
 
+pub use columns_law::{
+    columns_have_the_names_of_fields, rows_have_the_types_of_columns,
+    standing_queries_keep_their_columns,
+};
 pub use misuse::Misuse;
 pub use replies::LastReply;
 pub use session::Session;

@@ -29,7 +29,8 @@ pub(crate) fn place_of_refusal(
     }
 }
 
-/// The place of the first name of a line that is an alias in it no more than a name in the catalog, or 0.
+/// The place of the first name of a line that is an alias in it no more than a name in the catalog, or 0. The name that INDEX or WATCH
+/// makes is passed over, and so are those of TABLE that stand behind no REF.
 fn place_of_unknown_name(alloc: Global, catalog: &Catalog, line: &[u8]) -> usize
     ensures { result ≤ length line.now }
 {
@@ -37,11 +38,21 @@ fn place_of_unknown_name(alloc: Global, catalog: &Catalog, line: &[u8]) -> usize
         return 0;
     };
     for found in names.as_slice() {
-        if !is_in_catalog(catalog, &found.name) && !is_alias(line, names.as_slice(), &found.name) {
+        let is_known = is_made(line, found.place)
+            || is_in_catalog(catalog, &found.name)
+            || is_alias(line, names.as_slice(), &found.name);
+        if !is_known {
             return found.place.min(line.len());
         }
     }
     0
+}
+
+/// Whether the name at a place is one that the line makes: it stands directly behind INDEX or WATCH, or in a TABLE but behind no REF.
+fn is_made(line: &[u8], place: usize) -> bool {
+    let front = line[..place.min(line.len())].trim_ascii();
+    let is_of_table = line.trim_ascii_start().starts_with(b"TABLE") && !front.ends_with(b"REF");
+    is_of_table || front == b"INDEX".as_slice() || front == b"WATCH".as_slice()
 }
 
 /// Whether a table, a column, an index or a standing query has the name.

@@ -1,0 +1,45 @@
+//! Laws of the columns of the rows of a reply.
+ghost use Rattle.std.specs.Prelude.{◌≡◌, ℕ, false, All, List, None, Some, map};
+ghost use Rattle.mm_value.specs.Types.{type_of};
+ghost use Rattle.mm_value.specs.declared.values.Value.{Value};
+ghost use Rattle.mm_schema.specs.Refused.{first_refusal};
+ghost use Rattle.mm_schema.specs.Standing.{lacks_standing};
+ghost use Rattle.mm_schema.specs.declared.column.Column.{Column};
+ghost use Rattle.mm_query.specs.Fields.{FieldName};
+ghost use Rattle.mm_query.specs.Machine.{after_all, step};
+ghost use Rattle.mm_query.specs.Resolving.{query_conditions};
+ghost use Rattle.mm_query.specs.Standing.{AreBound, HasQueries, after_watch, watch_conditions};
+ghost use Rattle.mm_query.specs.State.{State, first_state};
+ghost use Rattle.mm_query.specs.declared.command.Command.{Command};
+ghost use Rattle.mm_query.specs.declared.command.Command.TheVariants.{Select, Show};
+ghost use Rattle.mm_query.specs.declared.query.Query.{Query};
+ghost use Rattle.mm_query.specs.declared.reply.Reply.TheVariants.{Rows};
+ghost use Rattle.mm_session.specs.Columns.{columns_of};
+
+use mm_laws::types_are_kept;
+
+/// In every state that commands can lead to from the first, whatever they are, each row that a command replies has a value of the
+/// type of each of the command's columns, in order, and no more values.
+pub fn rows_have_the_types_of_columns()
+    ensures { (commands : List Command) (command : Command) (rows : List (List Value)) → let reached = after_all commands first_state in
+        (step command reached).reply ≡ Some (Rows rows)
+        → All (λ (row : List Value). map type_of row ≡ map (λ (column : Column). column.col_type) (columns_of command reached)) rows }
+{
+    types_are_kept();
+}
+
+/// The columns of a SELECT that the catalog does not refuse have the names that its fields give, in order.
+pub fn columns_have_the_names_of_fields()
+    ensures { (query : Query) (state : State) → first_refusal (query_conditions query state.schema) ≡ None
+        → map (λ (column : Column). column.name) (columns_of (Select query) state) ≡ map (λ (field : FieldName). field.column) query.fields }
+{}
+
+/// Right after WATCH, where nothing refuses it, SHOW has the columns of the SELECT of the same query. Each command leaves SHOW its
+/// columns, as long as the standing query is there.
+pub fn standing_queries_keep_their_columns()
+    ensures watch { (name : List ℕ) (query : Query) (state : State) → HasQueries state → first_refusal (watch_conditions name query state) ≡ None
+        → columns_of (Show name) (after_watch name query state) ≡ columns_of (Select query) state }
+    ensures step { (name : List ℕ) (command : Command) (state : State) → HasQueries state → AreBound state
+        → lacks_standing name state.schema ≡ false → lacks_standing name (step command state).state.schema ≡ false
+        → columns_of (Show name) (step command state).state ≡ columns_of (Show name) state }
+{}
