@@ -60,7 +60,7 @@ def is_file(path):
 def crates():
     """The crates from the bottom up, each with those that it stands on."""
     lines = [line.partition(":") for line in read("crates.txt").splitlines() if not line.startswith("#")]
-    left = {name: line.split() for name, _, line in lines}
+    left = {head.split()[0]: line.split() for head, _, line in lines if head}
     placed = {}
     while left:
         name = next(name for name, below in left.items() if not any(other in left for other in below))

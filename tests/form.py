@@ -74,15 +74,15 @@ def floors():
         if floor and not following:
             crates = found[floor[1]] = []
         elif line and not line.startswith("#"):
-            crates.append(line.partition(":")[0])
+            crates.append(line.partition(":")[0].split()[0])
     return found
 
 
 def named():
     """The crates of the repository that each crate names."""
     lines = [line.partition(":") for line in read("crates.txt").splitlines() if line and not line.startswith("#")]
-    crates = {name for name, _, _ in lines}
-    return {name: [other for other in others.split() if other in crates] for name, _, others in lines}
+    below = {head.split()[0]: others.split() for head, _, others in lines}
+    return {name: [other for other in others if other in below] for name, others in below.items()}
 
 
 def reached(crate, below):

@@ -2,9 +2,10 @@
 """Runs scripts through the program, and typed tests, where in each run one growth of memory is refused.
 
     tests/refused_growths.py [PROGRAM]
+    tests/refused_growths.py --scripts PROGRAM
     tests/refused_growths.py --tests CRATE..
 
-The second form runs the typed tests of some crates alone.
+The second form runs the scripts alone, and the third one the typed tests of some crates.
 
 The scripts are those of tests/rows, in all its folders, and of examples, and for transactions and standing queries some that are
 made here. Each is run as many times as its run has growths of memory, and in the nth run the nth of them is refused. The replies
@@ -33,7 +34,7 @@ again or the call can do without, all growths from the nth up to that line are r
 run shows nothing, and fails, and so does one that its crate's program doesn't have.
 
 The C compiler, cc, makes the library that refuses, in a temporary folder: refuse_growth.c, which says what a growth is. The status
-is 0 only if there were scripts and typed tests, or with --tests typed tests, and all passed.
+is 0 only if there was some of all that is to be run, and all passed.
 """
 
 import glob
@@ -626,6 +627,8 @@ def main():
         library = library_in(folder)
         if arguments[:1] == ["--tests"]:
             results = [run_tests(arguments[1:], library)]
+        elif arguments[:1] == ["--scripts"]:
+            results = [run_scripts(os.path.abspath(arguments[1]), library)]
         else:
             path = os.path.abspath(arguments[0]) if arguments else f"{TOP}/crates/mmdb/out/mmdb"
             results = [run_scripts(path, library), run_tests(sorted(os.listdir(f"{TOP}/crates")), library)]

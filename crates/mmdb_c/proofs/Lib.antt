@@ -1,0 +1,7 @@
+mod BlockSteps
+mod CellLemmas
+mod ColumnLemmas
+mod GlobalSteps
+mod HandleSteps
+mod RowsRead
+mod Running

@@ -1,0 +1,18 @@
+-- What the cells of C stand for.
+use Rattle.std.specs.Prelude.{◌≡◌, List, [], ◌∷◌, length, take}
+use Rattle.mm_value.specs.Text.{IsText}
+use Rattle.mm_value.specs.declared.values.Value.{Value}
+use Rattle.mm_value.specs.declared.values.Value.TheVariants.{Int, Text}
+use Rattle.mmdb_c.specs.declared.cell.Cell.{Cell}
+
+-- A cell stands for a value: of kind 0 for its number, and of kind 1 for the text of its first bytes.
+abbrev pub StandsFor : Cell → Value → Type 0
+StandsFor cell (Int number) = (cell.kind ≡ 0) × (cell.number ≡ number)
+StandsFor cell (Text text) = (cell.kind ≡ 1) × (cell.len ≡ length text) × (take (length text) cell.text ≡ text) × IsText text
+
+-- So does each of the cells for the value at its place, and there are as many values.
+abbrev pub StandFor : List Cell → List Value → Type 0
+StandFor [] [] = Unit {0}
+StandFor [] (value ∷ values) = ⊥
+StandFor (cell ∷ cells) [] = ⊥
+StandFor (cell ∷ cells) (value ∷ values) = StandsFor cell value × StandFor cells values

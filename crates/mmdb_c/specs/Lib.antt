@@ -1,0 +1,9 @@
+pub mod Calls
+pub mod Cells
+pub mod Columns
+pub mod Lent
+pub mod Owning
+pub mod Replies
+pub mod Sessions
+pub mod Statuses
+pub mod steps

@@ -1,0 +1,37 @@
+-- The byte that a call answers.
+use Rattle.std.specs.Prelude.{ℕ, Option, Some, None, Result, Ok, Err}
+use Rattle.mm_value.specs.Refusals.{refusal_number}
+use Rattle.mm_value.specs.declared.refusal.Refusal.{Refusal}
+use Rattle.mm_query.specs.declared.reply.Reply.{Reply}
+use Rattle.mm_query.specs.declared.reply.Reply.TheVariants.{Done, Count, Rows, Steps, Listing, Refused}
+
+-- Something was done that has no reply.
+abbrev pub done : ℕ
+done = 1
+
+-- The reply has rows.
+abbrev pub has_rows : ℕ
+has_rows = 3
+
+-- The least number of a refusal; below are the replies of what was done.
+abbrev pub first_refusal_number : ℕ
+first_refusal_number = 10
+
+-- The call was not made, and changed nothing.
+abbrev pub misuse : ℕ
+misuse = 100
+
+-- The status that tells what a reply is.
+abbrev pub status_of : Option Reply → ℕ
+status_of None = 0
+status_of (Some Done) = done
+status_of (Some (Count n)) = 2
+status_of (Some (Rows rows)) = has_rows
+status_of (Some (Steps steps)) = 4
+status_of (Some (Listing listing)) = 4
+status_of (Some (Refused refusal)) = refusal_number refusal
+
+-- The status that tells whether a line was made a statement.
+abbrev pub status_prepared : Result ℕ Refusal → ℕ
+status_prepared (Ok number) = done
+status_prepared (Err refusal) = refusal_number refusal

@@ -1,0 +1,51 @@
+//! Columns as C has them.
+ghost use Rattle.std.specs.Prelude.{◌≡◌, ◌++◌, drop, length, map, take};
+ghost use Rattle.mmdb_c.specs.Columns.{column_cell, kind_of};
+
+use crate::cell::{NUMBER_KIND, TEXT_KIND};
+use mm_schema::Column;
+use mm_value::ColType;
+
+/// A column as C has it: the kind of the cells of its values, and its name with bytes 0 behind it.
+#[repr(C)]
+#[derive(Clone, Copy)]
+pub struct ColumnCell {
+    kind: u8,
+    len: u8,
+    name: [u8; 32],
+}
+
+impl ColumnCell {
+    /// What stands for a column.
+    fn of(column: &Column) -> ColumnCell
+        ensures { result ≡ column_cell column.now }
+    {
+        let bytes = column.name.bytes();
+        let mut name = [0; 32];
+        name[..bytes.len()].copy_from_slice(bytes);
+        ColumnCell {
+            kind: kind_of(column.col_type),
+            len: bytes.len() as u8,
+            name,
+        }
+    }
+}
+
+/// The kind of the cells of a column's values.
+fn kind_of(col_type: ColType) -> u8
+    ensures { result ≡ kind_of col_type }
+{
+    match col_type {
+        ColType::Int => NUMBER_KIND,
+        ColType::Text => TEXT_KIND,
+    }
+}
+
+/// Writes columns, as many as there is room for.
+pub(crate) fn set_columns(cells: &mut [ColumnCell], columns: &[&Column])
+    ensures { cells.new ≡ map (λ column. column_cell column.now) (take (length cells.old) columns.now) ++ drop (length columns.now) cells.old }
+{
+    for i in 0..columns.len().min(cells.len()) {
+        cells[i] = ColumnCell::of(columns[i]);
+    }
+}

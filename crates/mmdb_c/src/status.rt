@@ -1,0 +1,78 @@
+//! The byte that a call answers.
+ghost use Rattle.std.specs.Prelude.{◌≡◌, IfSome};
+ghost use Rattle.mm_session.specs.Replies.{reply_lent};
+ghost use Rattle.mm_value.specs.Refusals.{refusal_number};
+ghost use Rattle.mmdb_c.specs.Statuses.{status_of};
+
+use mm_query::Reply;
+use mm_session::LastReply;
+use mm_value::Refusal;
+
+/// There was no command.
+pub(crate) const NOTHING: u8 = 0;
+/// It is done.
+pub(crate) const DONE: u8 = 1;
+/// It is done, and concerned a number of rows.
+pub(crate) const COUNT: u8 = 2;
+/// The reply has rows.
+pub(crate) const ROWS: u8 = 3;
+/// The reply is a text.
+pub(crate) const TEXT: u8 = 4;
+/// The least number of a refusal.
+pub(crate) const FIRST_REFUSAL: u8 = 10;
+/// The call was not made, and changed nothing.
+pub(crate) const MISUSE: u8 = 100;
+
+/// The status that tells what a reply is: the number of a refusal, or one of those above.
+pub(crate) fn status_of(reply: &LastReply<'_>) -> u8
+    ensures { result ≡ status_of (reply_lent reply.now) }
+{
+    match reply {
+        LastReply::Nothing => NOTHING,
+        LastReply::Rows(_) => ROWS,
+        LastReply::Other(reply) => match reply {
+            Reply::Done => DONE,
+            Reply::Count(_) => COUNT,
+            Reply::Rows(_) => ROWS,
+            Reply::Steps(_) | Reply::Listing(_) => TEXT,
+            Reply::Refused(refusal) => refusal.number(),
+        },
+    }
+}
+
+/// The refusal that has a number, or none.
+pub(crate) fn refusal_of(number: u8) -> Option<Refusal>
+    ensures { IfSome result (λ refusal. refusal_number refusal ≡ number) }
+{
+    let refusal = match number {
+        10 => Refusal::LineTooLong,
+        11 => Refusal::Syntax,
+        12 => Refusal::NumberOutOfRange,
+        13 => Refusal::TextTooLong,
+        20 => Refusal::NoSuchTable,
+        21 => Refusal::NoSuchColumn,
+        22 => Refusal::NoSuchIndex,
+        23 => Refusal::NoSuchStandingQuery,
+        24 => Refusal::NameTaken,
+        25 => Refusal::AliasTaken,
+        26 => Refusal::NoSuchAlias,
+        30 => Refusal::TypeMismatch,
+        31 => Refusal::WrongNumberOfValues,
+        32 => Refusal::ArithmeticOutOfRange,
+        40 => Refusal::DuplicateKey,
+        41 => Refusal::NoTargetRow,
+        42 => Refusal::RowIsReferenced,
+        43 => Refusal::InUse,
+        45 => Refusal::TableFull,
+        46 => Refusal::ResultTooLarge,
+        47 => Refusal::StandingListTooLarge,
+        48 => Refusal::TooMany,
+        50 => Refusal::TransactionOpen,
+        51 => Refusal::NoTransaction,
+        52 => Refusal::NotInTransaction,
+        53 => Refusal::NoSuchSavepoint,
+        90 => Refusal::Memory,
+        _ => return None,
+    };
+    Some(refusal)
+}

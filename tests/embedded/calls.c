@@ -1,0 +1,934 @@
+/* Calls of the library, each in its place and out of it, with what they must leave as it was.
+
+     calls [CALLS]
+
+   Each test is a function that writes one line. A check that fails writes its own line before that. With CALLS the test of many calls makes so many; else a
+   million. The status is 0 only if all passed. Want of memory is tested elsewhere: tests/refused_growths.py refuses each growth to the driver script.c. */
+#include <mmdb.h>
+#include <pthread.h>
+#include <stdio.h>
+#include <stdlib.h>
+#include <string.h>
+
+enum { LONGEST_LINE = 4096, MOST_ROWS = 1 << 20, ROOM = 8192 };
+
+static bool has_failed;
+static long calls = 1000000;
+
+static void check(bool holds, const char *what, int number) {
+  if (holds) return;
+  has_failed = true;
+  printf("line %d: %s\n", number, what);
+}
+
+#define MUST(holds) check(holds, #holds, __LINE__)
+
+/* Values. */
+
+static mmdb_cell number(int64_t number) { return (mmdb_cell){.kind = MMDB_NUMBER, .number = number}; }
+
+static mmdb_cell bytes(const void *from, size_t length) {
+  mmdb_cell value = {.kind = MMDB_STRING, .len = (uint8_t)length};
+  memcpy(value.text, from, length);
+  return value;
+}
+
+static mmdb_cell words(const char *text) { return bytes(text, strlen(text)); }
+
+static bool is_number(const mmdb_cell *value, int64_t number) { return value->kind == MMDB_NUMBER && value->number == number; }
+
+static bool is_words(const mmdb_cell *value, const void *text, size_t length) {
+  return value->kind == MMDB_STRING && value->len == length && !memcmp(value->text, text, length);
+}
+
+/* Calls with C's strings. */
+
+static uint8_t execute(mmdb *db, const char *line) { return mmdb_execute(db, (const uint8_t *)line, strlen(line)); }
+
+static uint8_t prepare(mmdb *db, const char *line, size_t *statement) { return mmdb_prepare(db, (const uint8_t *)line, strlen(line), statement); }
+
+static uint8_t columns_of(mmdb *db, const char *line, mmdb_column *columns, size_t room, size_t *count) {
+  return mmdb_columns(db, (const uint8_t *)line, strlen(line), columns, room, count);
+}
+
+static size_t place_in(mmdb *db, const char *line, uint8_t status) { return mmdb_place(db, (const uint8_t *)line, strlen(line), status); }
+
+/* The number of a statement that must not be refused. */
+static size_t prepared(mmdb *db, const char *line) {
+  size_t statement = SIZE_MAX;
+  check(prepare(db, line, &statement) == MMDB_DONE, line, __LINE__);
+  return statement;
+}
+
+/* Writes the last reply as far as it has room, and gives its length. */
+static size_t text_of_reply(mmdb *db, uint8_t *text, size_t room) {
+  size_t length = SIZE_MAX;
+  MUST(mmdb_text(db, text, room, &length) == MMDB_DONE);
+  return length;
+}
+
+static bool last_reply_is(mmdb *db, const char *text) {
+  static uint8_t got[ROOM];
+  size_t length = text_of_reply(db, got, sizeof got);
+  bool holds = length == strlen(text) && !memcmp(got, text, length);
+  if (!holds) printf("wanted %s", text), printf("got %.*s", (int)(length < ROOM ? length : ROOM), (const char *)got);
+  return holds;
+}
+
+/* Whether a line has a status and a reply. */
+static bool answers(mmdb *db, const char *line, uint8_t status, const char *text) { return execute(db, line) == status && last_reply_is(db, text); }
+
+static bool is_done(mmdb *db, const char *line) { return answers(db, line, MMDB_DONE, "ok\n"); }
+
+/* Whether a statement has a status and a reply. */
+static bool runs(mmdb *db, size_t statement, const mmdb_cell *values, size_t count, uint8_t status, const char *text) {
+  return mmdb_run(db, statement, values, count) == status && last_reply_is(db, text);
+}
+
+static const mmdb_cell no_values[1];
+
+static mmdb opened(void) {
+  mmdb db = MMDB_CLOSED;
+  MUST(mmdb_open(&db) == MMDB_DONE && db.is_open);
+  return db;
+}
+
+/* A database with a table t of two rows, of which one has a text with a quote. */
+static mmdb opened_with_rows(void) {
+  mmdb db = opened();
+  MUST(is_done(&db, "TABLE t (id INT KEY, k INT, s TEXT)"));
+  MUST(answers(&db, "INSERT t (1, 5, 'a'), (2, -7, 'it''s')", MMDB_COUNT, "ok 2\n"));
+  return db;
+}
+
+/* What can be seen of a database with a table t. The last reply is that to SCAN t. */
+struct picture {
+  uint8_t catalog[ROOM], rows[ROOM];
+  size_t catalog_length, rows_length, count;
+  bool in_transaction;
+};
+
+static struct picture picture_of(mmdb *db) {
+  struct picture seen;
+  memset(&seen, 0, sizeof seen);
+  seen.in_transaction = mmdb_in_transaction(db);
+  execute(db, "TABLES");
+  seen.catalog_length = text_of_reply(db, seen.catalog, ROOM);
+  execute(db, "SCAN t");
+  seen.rows_length = text_of_reply(db, seen.rows, ROOM);
+  seen.count = mmdb_count(db);
+  return seen;
+}
+
+static bool last_reply_is_scan(mmdb *db, const struct picture *before) {
+  static uint8_t text[ROOM];
+  memset(text, 0, ROOM);
+  return text_of_reply(db, text, ROOM) == before->rows_length && !memcmp(text, before->rows, ROOM) && mmdb_count(db) == before->count;
+}
+
+static bool is_as_before(mmdb *db, const struct picture *before) {
+  struct picture after = picture_of(db);
+  return !memcmp(after.catalog, before->catalog, ROOM) && !memcmp(after.rows, before->rows, ROOM) && after.in_transaction == before->in_transaction;
+}
+
+/* Whether the last reply and all that can be seen is as it was. */
+static bool stays(mmdb *db, const struct picture *before) { return last_reply_is_scan(db, before) && is_as_before(db, before); }
+
+/* The handle. */
+
+static void a_closed_handle(void) {
+  mmdb db = MMDB_CLOSED;
+  mmdb_cell cell = number(77);
+  size_t written = 77;
+  uint8_t text[4] = "abc";
+  MUST(execute(&db, "SCAN t") == MMDB_MISUSE);
+  MUST(prepare(&db, "SCAN t", &written) == MMDB_MISUSE && written == 77);
+  MUST(mmdb_parameters(&db, 0, &written) == MMDB_MISUSE && written == 77);
+  MUST(mmdb_run(&db, 0, no_values, 0) == MMDB_MISUSE);
+  MUST(mmdb_query(&db, 0, no_values, 0, &cell, 1, &written) == MMDB_MISUSE && written == 0 && is_number(&cell, 77));
+  MUST(mmdb_finalize(&db, 0) == MMDB_MISUSE);
+  written = 77;
+  MUST(mmdb_run_many(&db, 0, &cell, 1, 1, &written) == MMDB_MISUSE && written == 0);
+  MUST(mmdb_count(&db) == 0);
+  MUST(mmdb_read(&db, 0, &cell, 1) == 0 && is_number(&cell, 77));
+  written = 77;
+  MUST(mmdb_text(&db, text, 3, &written) == MMDB_MISUSE && written == 77 && !memcmp(text, "abc", 4));
+  mmdb_column column = {.type = 77};
+  MUST(columns_of(&db, "SCAN t", &column, 1, &written) == MMDB_MISUSE && written == 77 && column.type == 77);
+  MUST(place_in(&db, "SCAN", MMDB_SYNTAX) == 0);
+  MUST(!mmdb_in_transaction(&db));
+  mmdb_close(&db);
+  MUST(!db.is_open);
+}
+
+static void opened_twice_and_closed_twice(void) {
+  mmdb db;
+  memset(&db, 0, sizeof db);
+  MUST(mmdb_open(&db) == MMDB_DONE);
+  MUST(is_done(&db, "TABLE t (id INT KEY)"));
+  struct picture before = picture_of(&db);
+  mmdb copy = db;
+  MUST(mmdb_open(&db) == MMDB_MISUSE && db.block == copy.block && db.is_open);
+  MUST(stays(&db, &before));
+  mmdb_close(&db);
+  MUST(!db.is_open && execute(&db, "TABLES") == MMDB_MISUSE);
+  mmdb_close(&db);
+  MUST(!db.is_open && mmdb_open(&db) == MMDB_DONE);
+  MUST(answers(&db, "TABLES", MMDB_TEXT, "tables 0\n"));
+  MUST(mmdb_run(&db, 0, no_values, 0) == MMDB_MISUSE);
+  mmdb_close(&db);
+}
+
+/* What is open is freed with the database: a transaction, savepoints, statements, rows of a reply. */
+static void closed_in_the_middle(void) {
+  mmdb db = opened_with_rows();
+  MUST(is_done(&db, "WATCH w SELECT a.s FROM t a WHERE a.k > 0"));
+  MUST(is_done(&db, "BEGIN") && is_done(&db, "SAVEPOINT s"));
+  MUST(answers(&db, "UPDATE t SET k = 9", MMDB_COUNT, "ok 2\n"));
+  size_t statement = prepared(&db, "SELECT a.s FROM t a WHERE a.k = ?");
+  mmdb_cell value = number(9);
+  MUST(runs(&db, statement, &value, 1, MMDB_ROWS, "('a')\n('it''s')\nrows 2\n"));
+  mmdb_close(&db);
+  MUST(!db.is_open);
+}
+
+static void two_databases(void) {
+  mmdb one = opened_with_rows(), other = opened();
+  MUST(is_done(&other, "TABLE t (x TEXT KEY)"));
+  size_t of_one = prepared(&one, "INSERT t (?, 0, '')"), of_other = prepared(&other, "INSERT t (?)");
+  MUST(is_done(&one, "BEGIN") && mmdb_in_transaction(&one) && !mmdb_in_transaction(&other));
+  for (int64_t i = 0; i < 50; i++) {
+    mmdb_cell id = number(100 + i), x = words(i % 2 ? "odd" : "even");
+    x.text[x.len++] = (uint8_t)('0' + i);
+    MUST(runs(&one, of_one, &id, 1, MMDB_COUNT, "ok 1\n") && runs(&other, of_other, &x, 1, MMDB_COUNT, "ok 1\n"));
+    MUST(runs(&one, of_one, &x, 1, MMDB_TYPE_MISMATCH, "error 30 type mismatch\n") && last_reply_is(&other, "ok 1\n"));
+  }
+  MUST(execute(&one, "SCAN t") == MMDB_ROWS && mmdb_count(&one) == 52);
+  MUST(execute(&other, "SCAN t") == MMDB_ROWS && mmdb_count(&other) == 50);
+  mmdb_close(&one);
+  MUST(execute(&other, "SCAN t") == MMDB_ROWS && mmdb_count(&other) == 50);
+  mmdb_close(&other);
+}
+
+/* Makes a database and fills it with numbers, and says by its argument whether all of them came out again. */
+static void *one_thread(void *argument) {
+  bool *is_right = argument;
+  mmdb db = MMDB_CLOSED;
+  size_t insert, find, rows;
+  *is_right = mmdb_open(&db) == MMDB_DONE && execute(&db, "TABLE t (id INT KEY, k INT)") == MMDB_DONE;
+  *is_right &= prepare(&db, "INSERT t (?, ?)", &insert) == MMDB_DONE && prepare(&db, "SELECT a.k FROM t a WHERE a.id = ?", &find) == MMDB_DONE;
+  for (int64_t i = 0; *is_right && i < calls / 100; i++) {
+    mmdb_cell values[] = {number(i), number((int64_t)(uintptr_t)argument + i)}, cell;
+    *is_right = mmdb_run(&db, insert, values, 2) == MMDB_COUNT && mmdb_query(&db, find, values, 1, &cell, 1, &rows) == MMDB_ROWS;
+    *is_right &= rows == 1 && is_number(&cell, values[1].number);
+  }
+  mmdb_close(&db);
+  return NULL;
+}
+
+/* Each thread has a database of its own. */
+static void two_threads(void) {
+  pthread_t threads[2];
+  bool are_right[2] = {false, false};
+  for (int i = 0; i < 2; i++) MUST(pthread_create(&threads[i], NULL, one_thread, &are_right[i]) == 0);
+  for (int i = 0; i < 2; i++) MUST(pthread_join(threads[i], NULL) == 0);
+  MUST(are_right[0] && are_right[1]);
+}
+
+/* Replies. */
+
+static void each_kind_of_reply(void) {
+  mmdb db = opened();
+  mmdb_cell cells[6];
+  MUST(mmdb_count(&db) == 0 && mmdb_read(&db, 0, cells, 6) == 0 && last_reply_is(&db, ""));
+  MUST(is_done(&db, "TABLE t (id INT KEY, k INT, s TEXT)") && mmdb_count(&db) == 0);
+  MUST(answers(&db, "INSERT t (1, 5, 'a'), (2, -7, 'it''s')", MMDB_COUNT, "ok 2\n") && mmdb_count(&db) == 2 && mmdb_read(&db, 0, cells, 6) == 0);
+  MUST(answers(&db, "SCAN t", MMDB_ROWS, "(1, 5, 'a')\n(2, -7, 'it''s')\nrows 2\n") && mmdb_count(&db) == 2);
+  MUST(mmdb_read(&db, 0, cells, 6) == 2 && is_number(&cells[0], 1) && is_number(&cells[4], -7) && is_words(&cells[5], "it's", 4));
+  MUST(answers(&db, "EXPLAIN SELECT a.k FROM t a", MMDB_TEXT, "a scan\nsteps 1\n") && mmdb_count(&db) == 0 && mmdb_read(&db, 0, cells, 6) == 0);
+  MUST(answers(&db, "TABLES", MMDB_TEXT, "TABLE t (id INT KEY, k INT, s TEXT) rows 2\ntables 1\n") && mmdb_count(&db) == 0);
+  MUST(answers(&db, "SCAN u", MMDB_NO_SUCH_TABLE, "error 20 no such table\n") && mmdb_count(&db) == 0 && mmdb_read(&db, 0, cells, 6) == 0);
+  MUST(answers(&db, "", MMDB_NOTHING, "") && mmdb_count(&db) == 0);
+  MUST(answers(&db, " \t", MMDB_NOTHING, "") && answers(&db, "-- a comment, with ? and '", MMDB_NOTHING, ""));
+  MUST(answers(&db, "SELECT a.k FROM t a WHERE a.k > 5", MMDB_ROWS, "rows 0\n") && mmdb_count(&db) == 0 && mmdb_read(&db, 0, cells, 6) == 0);
+  MUST(answers(&db, "DELETE t WHERE k > 5", MMDB_COUNT, "ok 0\n") && mmdb_count(&db) == 0);
+  mmdb_close(&db);
+}
+
+/* A line for each refusal that has one over the rows of each_refusal. They stand in the order in which they are given. */
+static const struct { uint8_t number; const char *line, *text; } refusals[] = {
+  {MMDB_SYNTAX, "SCAN t;", "error 11 syntax\n"},
+  {MMDB_SYNTAX, "SCAN t\r", "error 11 syntax\n"},
+  {MMDB_SYNTAX, "SCAN t\n", "error 11 syntax\n"},
+  {MMDB_SYNTAX, "DELETE t WHERE s = 'a\nb'", "error 11 syntax\n"},
+  {MMDB_SYNTAX, "DELETE t WHERE id = ?", "error 11 syntax\n"},
+  {MMDB_NUMBER_OUT_OF_RANGE, "INSERT t (9223372036854775808, 5, 'b')", "error 12 number out of range\n"},
+  {MMDB_TEXT_TOO_LONG, "DELETE t WHERE s = '12345678901234567890123456789012345678901234567890123456789012345'", "error 13 text too long\n"},
+  {MMDB_NO_SUCH_TABLE, "SCAN nope", "error 20 no such table\n"},
+  {MMDB_NO_SUCH_COLUMN, "INDEX j ON t (j) TREE", "error 21 no such column\n"},
+  {MMDB_NO_SUCH_INDEX, "SCAN INDEX j", "error 22 no such index\n"},
+  {MMDB_NO_SUCH_STANDING_QUERY, "SHOW v", "error 23 no such standing query\n"},
+  {MMDB_NAME_TAKEN, "TABLE t (id INT KEY)", "error 24 name taken\n"},
+  {MMDB_ALIAS_TAKEN, "SELECT a.k FROM t a, t a", "error 25 alias taken\n"},
+  {MMDB_NO_SUCH_ALIAS, "SELECT b.k FROM t a", "error 26 no such alias\n"},
+  {MMDB_TYPE_MISMATCH, "INSERT t (3, 'x', 'b')", "error 30 type mismatch\n"},
+  {MMDB_WRONG_NUMBER_OF_VALUES, "INSERT t (3, 5)", "error 31 wrong number of values\n"},
+  {MMDB_ARITHMETIC_OUT_OF_RANGE, "UPDATE t SET k = k + 9223372036854775807", "error 32 arithmetic out of range\n"},
+  {MMDB_DUPLICATE_KEY, "INSERT t (1, 7, 'b')", "error 40 duplicate key\n"},
+  {MMDB_NO_TARGET_ROW, "INSERT u (2, 7)", "error 41 no target row\n"},
+  {MMDB_ROW_IS_REFERENCED, "DELETE t", "error 42 row is referenced\n"},
+  {MMDB_IN_USE, "DROP TABLE t", "error 43 in use\n"},
+  {MMDB_RESULT_TOO_LARGE, "SELECT a.id FROM many a, many b", "error 46 result too large\n"},
+  {MMDB_STANDING_LIST_TOO_LARGE, "WATCH v SELECT a.id FROM many a, many b", "error 47 standing list too large\n"},
+  {MMDB_TOO_MANY, "SELECT a.k FROM t a, t b, t c, t d, t e", "error 48 too many\n"},
+  {MMDB_NO_TRANSACTION, "COMMIT", "error 51 no transaction\n"},
+  {MMDB_TRANSACTION_OPEN, "BEGIN", "error 50 transaction open\n"},
+  {MMDB_NOT_IN_TRANSACTION, "DROP TABLE u", "error 52 not in a transaction\n"},
+  {MMDB_NO_SUCH_SAVEPOINT, "ROLLBACK TO s", "error 53 no such savepoint\n"},
+};
+
+static void each_refusal(void) {
+  mmdb db = opened_with_rows();
+  MUST(is_done(&db, "TABLE u (id INT KEY, r INT REF t)") && is_done(&db, "TABLE many (id INT KEY)"));
+  MUST(answers(&db, "INSERT u (1, 1)", MMDB_COUNT, "ok 1\n"));
+  size_t fill = prepared(&db, "INSERT many (?)");
+  for (int64_t i = 0; i < 1025; i++) {
+    mmdb_cell value = number(i);
+    MUST(mmdb_run(&db, fill, &value, 1) == MMDB_COUNT);
+  }
+  for (size_t i = 0; i < sizeof refusals / sizeof *refusals; i++) {
+    if (refusals[i].number == MMDB_TRANSACTION_OPEN) MUST(is_done(&db, "BEGIN"));
+    struct picture before = picture_of(&db);
+    check(answers(&db, refusals[i].line, refusals[i].number, refusals[i].text), refusals[i].line, __LINE__);
+    check(is_as_before(&db, &before), refusals[i].line, __LINE__);
+    size_t statement;
+    if (refusals[i].number >= MMDB_NO_SUCH_TABLE) {
+      check(runs(&db, prepared(&db, refusals[i].line), no_values, 0, refusals[i].number, refusals[i].text), refusals[i].line, __LINE__);
+      check(is_as_before(&db, &before), refusals[i].line, __LINE__);
+    } else if (!strchr(refusals[i].line, '?')) {
+      check(prepare(&db, refusals[i].line, &statement) == refusals[i].number, refusals[i].line, __LINE__);
+      check(stays(&db, &before), refusals[i].line, __LINE__);
+    }
+  }
+  mmdb_close(&db);
+}
+
+static void lines_of_the_greatest_length(void) {
+  static uint8_t line[LONGEST_LINE + 1];
+  mmdb db = opened_with_rows();
+  size_t statement = SIZE_MAX;
+  memset(line, ' ', sizeof line);
+  memcpy(line, "SCAN t", 6);
+  MUST(mmdb_execute(&db, line, LONGEST_LINE) == MMDB_ROWS && mmdb_count(&db) == 2);
+  MUST(mmdb_execute(&db, line, LONGEST_LINE + 1) == MMDB_LINE_TOO_LONG && last_reply_is(&db, "error 10 line too long\n"));
+  MUST(mmdb_prepare(&db, line, LONGEST_LINE + 1, &statement) == MMDB_LINE_TOO_LONG && statement == SIZE_MAX);
+  MUST(mmdb_prepare(&db, line, LONGEST_LINE, &statement) == MMDB_DONE && statement == 0);
+  MUST(mmdb_run(&db, statement, no_values, 0) == MMDB_ROWS && mmdb_count(&db) == 2);
+  mmdb_close(&db);
+}
+
+/* A text in pieces: no more is written than has room, and the whole length is told. */
+static void a_reply_as_text(void) {
+  mmdb db = opened_with_rows();
+  const char *wanted = "(1, 5, 'a')\n(2, -7, 'it''s')\nrows 2\n";
+  size_t length = strlen(wanted);
+  execute(&db, "SCAN t");
+  for (size_t room = 0; room <= length + 2; room++) {
+    uint8_t text[64];
+    memset(text, '#', sizeof text);
+    size_t written = room < length ? room : length;
+    MUST(text_of_reply(&db, text, room) == length && !memcmp(text, wanted, written) && text[written] == '#');
+  }
+  mmdb_close(&db);
+}
+
+/* Rows in pieces: as many whole rows as have room, from any row on. */
+static void rows_in_pieces(void) {
+  mmdb db = opened();
+  enum { ROWS = 10, COLUMNS = 3, CELLS = ROWS * COLUMNS };
+  MUST(is_done(&db, "TABLE t (id INT KEY, k INT, s TEXT)"));
+  size_t insert = prepared(&db, "INSERT t (?, ?, 'x')");
+  for (int64_t i = 0; i < ROWS; i++) {
+    mmdb_cell values[] = {number(i), number(i * i)};
+    MUST(runs(&db, insert, values, 2, MMDB_COUNT, "ok 1\n"));
+  }
+  MUST(execute(&db, "SCAN t") == MMDB_ROWS);
+  for (size_t first = 0; first <= ROWS + 1; first++)
+    for (size_t room = 0; room <= CELLS + COLUMNS; room++) {
+      mmdb_cell cells[CELLS + COLUMNS + 1];
+      for (size_t i = 0; i < CELLS + COLUMNS + 1; i++) cells[i] = number(-1);
+      size_t left = first < ROWS ? ROWS - first : 0, wanted = room / COLUMNS < left ? room / COLUMNS : left;
+      MUST(mmdb_read(&db, first, cells, room) == wanted);
+      for (size_t row = 0; row < wanted; row++) {
+        int64_t id = (int64_t)(first + row);
+        const mmdb_cell *cell = &cells[row * COLUMNS];
+        MUST(is_number(&cell[0], id) && is_number(&cell[1], id * id) && is_words(&cell[2], "x", 1));
+      }
+      MUST(is_number(&cells[wanted * COLUMNS], -1));
+    }
+  mmdb_cell cell;
+  MUST(mmdb_read(&db, SIZE_MAX, &cell, 1) == 0 && mmdb_read(&db, ROWS, &cell, 1) == 0 && mmdb_count(&db) == ROWS);
+  mmdb_close(&db);
+}
+
+/* Lines beside their replies: the columns of these, and where a refused line stopped. */
+
+static bool is_column(const mmdb_column *column, uint8_t type, const char *name) {
+  static const uint8_t none[MMDB_NAME_BYTES];
+  size_t length = strlen(name);
+  bool is_named = column->len == length && !memcmp(column->name, name, length);
+  return is_named && column->type == type && !memcmp(column->name + length, none, MMDB_NAME_BYTES - length);
+}
+
+/* Lines that have a reading, and the columns of their replies, each with its type. */
+static const struct { const char *line, *columns; } lines_with_columns[] = {
+  {"SCAN t", "0 id 0 k 1 s "},
+  {"SCAN INDEX i", "0 id 0 k 1 s "},
+  {"SELECT b.s, a.k, b.s FROM t a, t b WHERE a.id = b.k ORDER 2", "1 s 0 k 1 s "},
+  {"SELECT DISTINCT a.k FROM t a WHERE a.s = ? AND a.id < a.k + ?", "0 k "},
+  {"SHOW w", "1 s 0 id "},
+  {"SCAN nope", ""},
+  {"SCAN INDEX nope", ""},
+  {"SHOW nope", ""},
+  {"SELECT a.nope, b.k, a.k FROM t a", "0 k "},
+  {"EXPLAIN SELECT a.k FROM t a", ""},
+  {"WATCH v SELECT a.k FROM t a", ""},
+  {"INSERT t (?, ?, ?)", ""},
+  {"TABLES", ""},
+  {"", ""},
+  {"-- SCAN t", ""},
+};
+
+static void columns_of_lines(void) {
+  enum { ROOM_FOR_COLUMNS = 8 };
+  mmdb db = opened_with_rows();
+  MUST(is_done(&db, "INDEX i ON t (k) TREE") && is_done(&db, "WATCH w SELECT a.s, a.id FROM t a"));
+  struct picture before = picture_of(&db);
+  for (size_t i = 0; i < sizeof lines_with_columns / sizeof *lines_with_columns; i++) {
+    mmdb_column columns[ROOM_FOR_COLUMNS];
+    char told[200] = "";
+    size_t count = SIZE_MAX, length = 0;
+    check(columns_of(&db, lines_with_columns[i].line, columns, ROOM_FOR_COLUMNS, &count) == MMDB_DONE, lines_with_columns[i].line, __LINE__);
+    for (size_t j = 0; j < count && j < ROOM_FOR_COLUMNS; j++)
+      length += (size_t)sprintf(told + length, "%u %.*s ", columns[j].type, columns[j].len, (const char *)columns[j].name);
+    check(!strcmp(told, lines_with_columns[i].columns) && stays(&db, &before), lines_with_columns[i].line, __LINE__);
+  }
+  mmdb_close(&db);
+}
+
+/* No more columns are written than have room, and none for a line that is refused. */
+static void columns_in_their_room(void) {
+  static uint8_t line[LONGEST_LINE + 1];
+  mmdb db = opened_with_rows();
+  struct picture before = picture_of(&db);
+  size_t count;
+  for (size_t room = 0; room <= 4; room++) {
+    mmdb_column columns[5];
+    memset(columns, '#', sizeof columns);
+    size_t written = room < 3 ? room : 3;
+    MUST(columns_of(&db, "SCAN t", columns, room, &count) == MMDB_DONE && count == 3 && columns[written].type == '#' && columns[written].name[0] == '#');
+    MUST((written < 1 || is_column(&columns[0], MMDB_NUMBER, "id")) && (written < 3 || is_column(&columns[2], MMDB_STRING, "s")));
+  }
+  mmdb_column column = {.type = 77};
+  count = 77;
+  MUST(columns_of(&db, "SCAN", &column, 1, &count) == MMDB_SYNTAX && columns_of(&db, "TABLE v (? INT KEY)", &column, 1, &count) == MMDB_SYNTAX);
+  MUST(columns_of(&db, "INSERT t (?, 9223372036854775808, 'a')", &column, 1, &count) == MMDB_NUMBER_OUT_OF_RANGE);
+  MUST(mmdb_columns(&db, line, LONGEST_LINE + 1, &column, 1, &count) == MMDB_LINE_TOO_LONG && count == 77 && column.type == 77 && stays(&db, &before));
+  mmdb_close(&db);
+}
+
+/* The columns are those of the tables as they are now. */
+static void columns_of_the_catalog(void) {
+  mmdb db = opened();
+  mmdb_column columns[2];
+  size_t count = 77;
+  for (int i = 0; i < 2; i++) {
+    MUST(columns_of(&db, "SCAN t", columns, 2, &count) == MMDB_DONE && count == 0);
+    MUST(is_done(&db, "TABLE t (a234567890123456789012345678_012 TEXT KEY, k INT)"));
+    MUST(columns_of(&db, "SCAN t", columns, 2, &count) == MMDB_DONE && count == 2);
+    MUST(is_column(&columns[0], MMDB_STRING, "a234567890123456789012345678_012") && is_column(&columns[1], MMDB_NUMBER, "k"));
+    MUST(is_done(&db, "DROP TABLE t") && is_done(&db, "TABLE t (s INT KEY)"));
+    MUST(columns_of(&db, "SCAN t", columns, 2, &count) == MMDB_DONE && count == 1 && is_column(&columns[0], MMDB_NUMBER, "s"));
+    MUST(is_done(&db, "DROP TABLE t"));
+  }
+  mmdb_close(&db);
+}
+
+/* Lines that are refused, and where in them the reason stands. */
+static const struct { uint8_t status; const char *line; size_t place; } lines_with_places[] = {
+  {MMDB_SYNTAX, "SCAN", 4},
+  {MMDB_SYNTAX, "SCAN t u", 7},
+  {MMDB_SYNTAX, "  insert t (1)", 2},
+  {MMDB_SYNTAX, "INSERT t (1, )", 13},
+  {MMDB_SYNTAX, "DELETE t WHERE id = ? AND", 25},
+  {MMDB_NUMBER_OUT_OF_RANGE, "INSERT t (3, 9223372036854775808, 'b')", 13},
+  {MMDB_TEXT_TOO_LONG, "DELETE t WHERE s = '12345678901234567890123456789012345678901234567890123456789012345'", 19},
+  {MMDB_NO_SUCH_TABLE, "SCAN nope", 5},
+  {MMDB_NO_SUCH_COLUMN, "SELECT a.nope FROM t a", 9},
+  {MMDB_NO_SUCH_SAVEPOINT, "ROLLBACK TO s_1", 12},
+  {MMDB_DUPLICATE_KEY, "INSERT t (1, 7, 'b')", 0},
+};
+
+static void places_in_lines(void) {
+  mmdb db = opened_with_rows();
+  MUST(is_done(&db, "BEGIN"));
+  for (size_t i = 0; i < sizeof lines_with_places / sizeof *lines_with_places; i++) {
+    const char *line = lines_with_places[i].line;
+    uint8_t status = lines_with_places[i].status;
+    check(execute(&db, line) == status && place_in(&db, line, status) == lines_with_places[i].place, line, __LINE__);
+    for (unsigned other = 0; other < 256; other++) {
+      bool is_refusal = other >= MMDB_LINE_TOO_LONG && other <= MMDB_MEMORY;
+      check(place_in(&db, line, (uint8_t)other) <= (is_refusal ? strlen(line) : 0), line, __LINE__);
+    }
+    char told[80];
+    snprintf(told, sizeof told, "error %u ", status);
+    uint8_t text[80];
+    check(text_of_reply(&db, text, sizeof text) < sizeof text && !memcmp(text, told, strlen(told)), line, __LINE__);
+  }
+  mmdb_close(&db);
+}
+
+/* Statements. */
+
+static void numbers_of_statements(void) {
+  enum { COUNT = 1000 };
+  mmdb db = opened_with_rows();
+  size_t statement, count;
+  for (size_t i = 0; i < COUNT; i++) MUST(prepared(&db, i % 2 ? "SELECT a.s FROM t a WHERE a.id = ?" : "SCAN t") == i);
+  for (size_t i = 0; i < COUNT; i += 3) MUST(mmdb_finalize(&db, i) == MMDB_DONE);
+  for (size_t i = 0; i < COUNT; i++) {
+    bool is_there = i % 3 != 0;
+    count = SIZE_MAX;
+    MUST(mmdb_parameters(&db, i, &count) == (is_there ? MMDB_DONE : MMDB_MISUSE) && count == (is_there ? i % 2 : SIZE_MAX));
+    if (!is_there) MUST(mmdb_finalize(&db, i) == MMDB_MISUSE && mmdb_run(&db, i, no_values, 0) == MMDB_MISUSE);
+  }
+  for (size_t i = 0; i < COUNT; i += 3) MUST(prepared(&db, "INSERT t (?, ?, ?)") == i);
+  MUST(prepared(&db, "SCAN t") == COUNT);
+  MUST(mmdb_parameters(&db, 999, &count) == MMDB_DONE && count == 3);
+  MUST(mmdb_parameters(&db, COUNT + 1, &count) == MMDB_MISUSE && mmdb_parameters(&db, SIZE_MAX, &count) == MMDB_MISUSE);
+  MUST(prepare(&db, "SCAN", &statement) == MMDB_SYNTAX && prepared(&db, "SCAN t") == COUNT + 1);
+  mmdb_close(&db);
+}
+
+/* A number that is free again is that of another statement then. */
+static void a_number_used_again(void) {
+  mmdb db = opened_with_rows();
+  mmdb_cell one = number(1);
+  size_t statement = prepared(&db, "DELETE t WHERE id = ?"), other = prepared(&db, "SCAN t");
+  MUST(mmdb_finalize(&db, statement) == MMDB_DONE);
+  struct picture before = picture_of(&db);
+  MUST(mmdb_run(&db, statement, &one, 1) == MMDB_MISUSE && stays(&db, &before));
+  MUST(mmdb_finalize(&db, statement) == MMDB_MISUSE && stays(&db, &before));
+  MUST(prepared(&db, "SELECT a.s FROM t a WHERE a.id = ?") == statement && stays(&db, &before));
+  MUST(runs(&db, statement, &one, 1, MMDB_ROWS, "('a')\nrows 1\n"));
+  MUST(runs(&db, other, no_values, 0, MMDB_ROWS, "(1, 5, 'a')\n(2, -7, 'it''s')\nrows 2\n"));
+  mmdb_close(&db);
+}
+
+/* Lines, what it comes to to prepare them, and how many values they take. */
+static const struct { const char *line; uint8_t status; size_t count; } lines_to_prepare[] = {
+  {"INSERT t (?, 1, ?), (?, ?, 'x?')", MMDB_DONE, 4},
+  {"UPDATE t SET k = ?, s = ? WHERE id >= ? AND k < id + ?", MMDB_DONE, 4},
+  {"DELETE t WHERE k > id-? AND s = '?'", MMDB_DONE, 1},
+  {"SELECT a.k FROM t a, t b WHERE a.k = ? AND a.id < b.id - ? ORDER 1", MMDB_DONE, 2},
+  {"EXPLAIN SELECT a.k FROM t a WHERE a.k = ?", MMDB_DONE, 1},
+  {"SELECT a.k FROM nope a WHERE a.k = ?", MMDB_DONE, 1},
+  {"", MMDB_DONE, 0},
+  {"-- is this a hole?", MMDB_DONE, 0},
+  {"BEGIN", MMDB_DONE, 0},
+  {"TABLE v (id INT KEY)", MMDB_DONE, 0},
+  {"WATCH v SELECT a.k FROM t a WHERE a.k = ?", MMDB_SYNTAX, 0},
+  {"TABLE v (? INT KEY)", MMDB_SYNTAX, 0},
+  {"INDEX ? ON t (k) TREE", MMDB_SYNTAX, 0},
+  {"DROP TABLE ?", MMDB_SYNTAX, 0},
+  {"UNWATCH ?", MMDB_SYNTAX, 0},
+  {"SCAN ?", MMDB_SYNTAX, 0},
+  {"SHOW ?", MMDB_SYNTAX, 0},
+  {"SAVEPOINT ?", MMDB_SYNTAX, 0},
+  {"SELECT a.k FROM t a ORDER ?", MMDB_SYNTAX, 0},
+  {"SELECT a.k FROM t a WHERE ? = a.k", MMDB_SYNTAX, 0},
+  {"INSERT t (-?, 1, 'a')", MMDB_SYNTAX, 0},
+  {"INSERT ? (1, 1, 'a')", MMDB_SYNTAX, 0},
+  {"?", MMDB_SYNTAX, 0},
+  {"INSERT t (?, 9223372036854775808, 'a')", MMDB_NUMBER_OUT_OF_RANGE, 0},
+  {"INSERT t (?, 1, '12345678901234567890123456789012345678901234567890123456789012345')", MMDB_TEXT_TOO_LONG, 0},
+};
+
+static void lines_that_can_be_prepared(void) {
+  mmdb db = opened_with_rows();
+  struct picture before = picture_of(&db);
+  for (size_t i = 0; i < sizeof lines_to_prepare / sizeof *lines_to_prepare; i++) {
+    size_t statement = 77, count = 77;
+    uint8_t status = prepare(&db, lines_to_prepare[i].line, &statement);
+    check(status == lines_to_prepare[i].status && (status == MMDB_DONE) == (statement == 0), lines_to_prepare[i].line, __LINE__);
+    check(stays(&db, &before), lines_to_prepare[i].line, __LINE__);
+    if (status != MMDB_DONE) continue;
+    check(mmdb_parameters(&db, statement, &count) == MMDB_DONE && count == lines_to_prepare[i].count, lines_to_prepare[i].line, __LINE__);
+    check(mmdb_finalize(&db, statement) == MMDB_DONE && stays(&db, &before), lines_to_prepare[i].line, __LINE__);
+  }
+  size_t nothing = prepared(&db, "-- a comment");
+  MUST(runs(&db, nothing, no_values, 0, MMDB_NOTHING, ""));
+  mmdb_close(&db);
+}
+
+/* Whether a call by run, query and run_many with these values is a misuse, and all stays as it was. */
+static bool are_misused(mmdb *db, size_t statement, const mmdb_cell *values, size_t count, const struct picture *before) {
+  mmdb_cell cell = number(-1);
+  size_t rows = 77, done = 77;
+  bool holds = mmdb_run(db, statement, values, count) == MMDB_MISUSE && stays(db, before);
+  holds &= mmdb_query(db, statement, values, count, &cell, 1, &rows) == MMDB_MISUSE && rows == 0 && is_number(&cell, -1) && stays(db, before);
+  return holds && mmdb_run_many(db, statement, values, count, count, &done) == MMDB_MISUSE && done == 0 && stays(db, before);
+}
+
+static void misused_values(void) {
+  mmdb db = opened_with_rows();
+  size_t insert = prepared(&db, "INSERT t (?, ?, ?)"), scan = prepared(&db, "SCAN t");
+  mmdb_cell values[4] = {number(3), number(4), words("b"), number(5)}, good = values[2];
+  struct picture before = picture_of(&db);
+  MUST(mmdb_run(&db, insert, values, 0) == MMDB_MISUSE && stays(&db, &before));
+  MUST(are_misused(&db, insert, values, 1, &before) && are_misused(&db, insert, values, 2, &before) && are_misused(&db, insert, values, 4, &before));
+  MUST(are_misused(&db, scan, values, 1, &before));
+  MUST(are_misused(&db, scan + 1, values, 3, &before) && are_misused(&db, SIZE_MAX, values, 3, &before));
+  values[2].kind = 2;
+  MUST(are_misused(&db, insert, values, 3, &before));
+  values[2].kind = 255;
+  MUST(are_misused(&db, insert, values, 3, &before));
+  values[2] = good;
+  values[2].len = MMDB_TEXT_BYTES + 1;
+  MUST(are_misused(&db, insert, values, 3, &before));
+  values[2].len = 255;
+  MUST(are_misused(&db, insert, values, 3, &before));
+  values[2] = words("b\n");
+  MUST(are_misused(&db, insert, values, 3, &before));
+  values[2] = words("\nb");
+  MUST(are_misused(&db, insert, values, 3, &before));
+  values[2] = good;
+  MUST(runs(&db, insert, values, 3, MMDB_COUNT, "ok 1\n"));
+  mmdb_close(&db);
+}
+
+/* Only len bytes of a text are part of a value, and nothing of the text of a number. */
+static void bytes_behind_a_value(void) {
+  mmdb db = opened_with_rows();
+  size_t insert = prepared(&db, "INSERT t (?, ?, ?)");
+  mmdb_cell values[3] = {number(3), number(4), words("b\n\n")};
+  memset(values[0].text, '\n', MMDB_TEXT_BYTES);
+  values[2].len = 1;
+  values[2].number = -1;
+  MUST(runs(&db, insert, values, 3, MMDB_COUNT, "ok 1\n"));
+  MUST(answers(&db, "SELECT a.id, a.k, a.s FROM t a WHERE a.id = 3", MMDB_ROWS, "(3, 4, 'b')\nrows 1\n"));
+  mmdb_close(&db);
+}
+
+/* Texts of all lengths at which they may be kept in other ways, with all bytes, go in and come out the same. */
+static void texts(void) {
+  static const size_t lengths[] = {0, 1, 15, 16, 17, 22, 23, 24, 25, 63, 64};
+  mmdb db = opened();
+  MUST(is_done(&db, "TABLE t (x TEXT KEY, n INT)"));
+  size_t insert = prepared(&db, "INSERT t (?, ?)"), find = prepared(&db, "SELECT a.x, a.n FROM t a WHERE a.x = ?");
+  for (size_t i = 0; i < sizeof lengths / sizeof *lengths; i++) {
+    uint8_t text[MMDB_TEXT_BYTES];
+    for (size_t start = 0; start < 256; start += MMDB_TEXT_BYTES) {
+      if (!lengths[i] && start) break;
+      for (size_t j = 0; j < lengths[i]; j++) text[j] = start + j == '\n' ? 'n' : (uint8_t)(start + j);
+      mmdb_cell values[] = {bytes(text, lengths[i]), number((int64_t)start)}, cells[2];
+      size_t rows;
+      MUST(runs(&db, insert, values, 2, MMDB_COUNT, "ok 1\n"));
+      MUST(mmdb_query(&db, find, values, 1, cells, 2, &rows) == MMDB_ROWS && rows == 1);
+      MUST(is_words(&cells[0], text, lengths[i]) && is_number(&cells[1], (int64_t)start));
+    }
+  }
+  mmdb_cell quotes = words("''");
+  MUST(runs(&db, prepared(&db, "UPDATE t SET x = ? WHERE x = ''"), &quotes, 1, MMDB_COUNT, "ok 1\n"));
+  MUST(runs(&db, prepared(&db, "SELECT a.x FROM t a WHERE a.x = ?"), &quotes, 1, MMDB_ROWS, "('''''')\nrows 1\n"));
+  mmdb_close(&db);
+}
+
+static void numbers(void) {
+  static const int64_t samples[] = {0, 1, -1, INT64_MAX, INT64_MIN, INT64_MIN + 1, 1000000007, -42};
+  mmdb db = opened();
+  MUST(is_done(&db, "TABLE t (n INT KEY)"));
+  size_t insert = prepared(&db, "INSERT t (?)"), find = prepared(&db, "SELECT a.n FROM t a WHERE a.n = ?");
+  for (size_t i = 0; i < sizeof samples / sizeof *samples; i++) {
+    mmdb_cell value = number(samples[i]), cell;
+    size_t rows;
+    MUST(runs(&db, insert, &value, 1, MMDB_COUNT, "ok 1\n"));
+    MUST(mmdb_query(&db, find, &value, 1, &cell, 1, &rows) == MMDB_ROWS && rows == 1 && is_number(&cell, samples[i]));
+  }
+  mmdb_close(&db);
+}
+
+static void values_of_the_wrong_type(void) {
+  mmdb db = opened_with_rows();
+  static const char *const lines[] = {
+    "UPDATE t SET k = ?",
+    "UPDATE t SET k = 1 WHERE id = ?",
+    "DELETE t WHERE k < ?",
+    "SELECT a.s FROM t a WHERE a.k = ?",
+    "EXPLAIN SELECT a.s FROM t a WHERE a.k = ?",
+  };
+  mmdb_cell text = words("x"), one = number(1);
+  struct picture before = picture_of(&db);
+  for (size_t i = 0; i < sizeof lines / sizeof *lines; i++) {
+    size_t statement = prepared(&db, lines[i]);
+    check(runs(&db, statement, &text, 1, MMDB_TYPE_MISMATCH, "error 30 type mismatch\n") && is_as_before(&db, &before), lines[i], __LINE__);
+    check(i < 3 || mmdb_run(&db, statement, &one, 1) < MMDB_LINE_TOO_LONG, lines[i], __LINE__);
+    check(runs(&db, statement, &text, 1, MMDB_TYPE_MISMATCH, "error 30 type mismatch\n") && is_as_before(&db, &before), lines[i], __LINE__);
+  }
+  size_t insert = prepared(&db, "INSERT t (?, ?, ?)");
+  mmdb_cell row[] = {text, one, text}, other[] = {number(3), one, one}, good[] = {number(3), one, text};
+  MUST(runs(&db, insert, row, 3, MMDB_TYPE_MISMATCH, "error 30 type mismatch\n") && is_as_before(&db, &before));
+  MUST(runs(&db, insert, other, 3, MMDB_TYPE_MISMATCH, "error 30 type mismatch\n") && is_as_before(&db, &before));
+  MUST(runs(&db, insert, good, 3, MMDB_COUNT, "ok 1\n"));
+  MUST(runs(&db, insert, good, 3, MMDB_DUPLICATE_KEY, "error 40 duplicate key\n"));
+  MUST(runs(&db, insert, other, 3, MMDB_TYPE_MISMATCH, "error 30 type mismatch\n"));
+  mmdb_close(&db);
+}
+
+/* Digits of a shift: a sign of the value counts, a text is no number, and the least number has no opposite. */
+static void shifts(void) {
+  mmdb db = opened_with_rows();
+  size_t minus = prepared(&db, "UPDATE t SET k = k - ? WHERE id = 1"), plus = prepared(&db, "UPDATE t SET k = k + ? WHERE id = 1");
+  size_t find = prepared(&db, "SELECT a.id, b.id FROM t a, t b WHERE a.k = b.k - ?");
+  mmdb_cell text = words("1"), least = number(INT64_MIN), five = number(5), minus_five = number(-5), twelve = number(12), minus_twelve = number(-12);
+  struct picture before = picture_of(&db);
+  for (int i = 0; i < 2; i++) {
+    MUST(runs(&db, minus, &text, 1, MMDB_SYNTAX, "error 11 syntax\n") && runs(&db, plus, &text, 1, MMDB_SYNTAX, "error 11 syntax\n"));
+    MUST(runs(&db, find, &text, 1, MMDB_SYNTAX, "error 11 syntax\n") && is_as_before(&db, &before));
+    MUST(runs(&db, minus, &least, 1, MMDB_NUMBER_OUT_OF_RANGE, "error 12 number out of range\n"));
+    MUST(runs(&db, find, &least, 1, MMDB_NUMBER_OUT_OF_RANGE, "error 12 number out of range\n"));
+    MUST(is_as_before(&db, &before));
+    MUST(runs(&db, minus, &five, 1, MMDB_COUNT, "ok 1\n") && answers(&db, "SELECT a.k FROM t a WHERE a.id = 1", MMDB_ROWS, "(0)\nrows 1\n"));
+    MUST(runs(&db, minus, &minus_five, 1, MMDB_COUNT, "ok 1\n") && is_as_before(&db, &before));
+    MUST(runs(&db, plus, &minus_five, 1, MMDB_COUNT, "ok 1\n") && answers(&db, "SELECT a.k FROM t a WHERE a.id = 1", MMDB_ROWS, "(0)\nrows 1\n"));
+    MUST(runs(&db, plus, &five, 1, MMDB_COUNT, "ok 1\n") && is_as_before(&db, &before));
+    MUST(runs(&db, find, &twelve, 1, MMDB_ROWS, "(2, 1)\nrows 1\n") && runs(&db, find, &minus_twelve, 1, MMDB_ROWS, "(1, 2)\nrows 1\n"));
+    MUST(runs(&db, plus, &least, 1, MMDB_COUNT, "ok 1\n"));
+    MUST(answers(&db, "UPDATE t SET k = 5 WHERE id = 1", MMDB_COUNT, "ok 1\n") && is_as_before(&db, &before));
+  }
+  mmdb_close(&db);
+}
+
+/* A statement does what its line would do now, whatever became of its table and its indexes. */
+static void changes_of_the_catalog(void) {
+  mmdb db = opened();
+  size_t insert = prepared(&db, "INSERT t (?, ?)"), find = prepared(&db, "SELECT a.k FROM t a WHERE a.id = ?");
+  size_t change = prepared(&db, "UPDATE t SET k = ? WHERE id = ?"), explain = prepared(&db, "EXPLAIN SELECT a.k FROM t a WHERE a.k = ?");
+  size_t make = prepared(&db, "TABLE t (id INT KEY, k INT)"), drop = prepared(&db, "DROP TABLE t");
+  mmdb_cell one[] = {number(1), number(5)}, text[] = {words("1"), words("five")};
+  for (int i = 0; i < 3; i++) {
+    MUST(runs(&db, insert, one, 2, MMDB_NO_SUCH_TABLE, "error 20 no such table\n") && runs(&db, find, one, 1, MMDB_NO_SUCH_TABLE, "error 20 no such table\n"));
+    MUST(runs(&db, change, one, 2, MMDB_NO_SUCH_TABLE, "error 20 no such table\n"));
+    MUST(runs(&db, explain, one, 1, MMDB_NO_SUCH_TABLE, "error 20 no such table\n"));
+    MUST(runs(&db, make, no_values, 0, MMDB_DONE, "ok\n") && runs(&db, make, no_values, 0, MMDB_NAME_TAKEN, "error 24 name taken\n"));
+    MUST(runs(&db, insert, one, 2, MMDB_COUNT, "ok 1\n") && runs(&db, find, one, 1, MMDB_ROWS, "(5)\nrows 1\n"));
+    MUST(runs(&db, insert, text, 2, MMDB_TYPE_MISMATCH, "error 30 type mismatch\n"));
+    MUST(runs(&db, find, text, 1, MMDB_TYPE_MISMATCH, "error 30 type mismatch\n"));
+    MUST(runs(&db, explain, one, 1, MMDB_TEXT, "a scan\nsteps 1\n"));
+    MUST(is_done(&db, "INDEX i ON t (k) TREE") && runs(&db, explain, one, 1, MMDB_TEXT, "a tree i =\nsteps 1\n"));
+    MUST(runs(&db, find, one, 1, MMDB_ROWS, "(5)\nrows 1\n") && is_done(&db, "DROP INDEX i") && runs(&db, explain, one, 1, MMDB_TEXT, "a scan\nsteps 1\n"));
+    MUST(runs(&db, drop, no_values, 0, MMDB_DONE, "ok\n"));
+    MUST(is_done(&db, "TABLE t (k TEXT, id TEXT KEY)"));
+    MUST(runs(&db, insert, one, 2, MMDB_TYPE_MISMATCH, "error 30 type mismatch\n") && runs(&db, find, one, 1, MMDB_TYPE_MISMATCH, "error 30 type mismatch\n"));
+    MUST(runs(&db, insert, text, 2, MMDB_COUNT, "ok 1\n") && runs(&db, find, &text[1], 1, MMDB_ROWS, "('1')\nrows 1\n"));
+    MUST(runs(&db, change, text, 2, MMDB_COUNT, "ok 1\n"));
+    MUST(runs(&db, drop, no_values, 0, MMDB_DONE, "ok\n") && is_done(&db, "TABLE t (id INT KEY)"));
+    MUST(runs(&db, insert, one, 2, MMDB_WRONG_NUMBER_OF_VALUES, "error 31 wrong number of values\n"));
+    MUST(runs(&db, find, one, 1, MMDB_NO_SUCH_COLUMN, "error 21 no such column\n"));
+    MUST(runs(&db, change, one, 2, MMDB_NO_SUCH_COLUMN, "error 21 no such column\n") && runs(&db, drop, no_values, 0, MMDB_DONE, "ok\n"));
+  }
+  mmdb_close(&db);
+}
+
+/* A statement after another table has come or gone, so that its own table stands at another place of the catalog. */
+static void other_tables(void) {
+  mmdb db = opened();
+  MUST(is_done(&db, "TABLE u (x TEXT KEY)") && is_done(&db, "TABLE t (id INT KEY, k INT)"));
+  size_t insert = prepared(&db, "INSERT t (?, ?)"), find = prepared(&db, "SELECT a.k FROM t a WHERE a.k = ?");
+  mmdb_cell first[] = {number(1), number(5)}, second[] = {number(2), number(5)};
+  MUST(runs(&db, insert, first, 2, MMDB_COUNT, "ok 1\n") && runs(&db, find, &first[1], 1, MMDB_ROWS, "(5)\nrows 1\n"));
+  MUST(is_done(&db, "INDEX i ON t (k) HASH") && runs(&db, find, &first[1], 1, MMDB_ROWS, "(5)\nrows 1\n"));
+  MUST(is_done(&db, "DROP TABLE u") && runs(&db, find, &first[1], 1, MMDB_ROWS, "(5)\nrows 1\n"));
+  MUST(runs(&db, insert, second, 2, MMDB_COUNT, "ok 1\n") && runs(&db, find, &first[1], 1, MMDB_ROWS, "(5)\n(5)\nrows 2\n"));
+  MUST(is_done(&db, "TABLE v (id INT KEY, r INT REF t)") && runs(&db, find, &first[1], 1, MMDB_ROWS, "(5)\n(5)\nrows 2\n"));
+  MUST(is_done(&db, "DROP INDEX i") && runs(&db, find, &first[1], 1, MMDB_ROWS, "(5)\n(5)\nrows 2\n"));
+  mmdb_close(&db);
+}
+
+static void standing_queries(void) {
+  mmdb db = opened_with_rows();
+  size_t watch = prepared(&db, "WATCH w SELECT a.s FROM t a WHERE a.k > 0"), show = prepared(&db, "SHOW w"), unwatch = prepared(&db, "UNWATCH w");
+  size_t change = prepared(&db, "UPDATE t SET k = ? WHERE id = ?"), drop = prepared(&db, "DROP TABLE t");
+  mmdb_cell up[] = {number(7), number(2)}, down[] = {number(-7), number(2)};
+  for (int i = 0; i < 3; i++) {
+    MUST(runs(&db, change, down, 2, MMDB_COUNT, "ok 1\n") && runs(&db, show, no_values, 0, MMDB_NO_SUCH_STANDING_QUERY, "error 23 no such standing query\n"));
+    MUST(runs(&db, watch, no_values, 0, MMDB_DONE, "ok\n") && runs(&db, show, no_values, 0, MMDB_ROWS, "('a')\nrows 1\n"));
+    MUST(runs(&db, change, up, 2, MMDB_COUNT, "ok 1\n") && runs(&db, show, no_values, 0, MMDB_ROWS, "('a')\n('it''s')\nrows 2\n"));
+    MUST(runs(&db, drop, no_values, 0, MMDB_IN_USE, "error 43 in use\n") && runs(&db, watch, no_values, 0, MMDB_NAME_TAKEN, "error 24 name taken\n"));
+    mmdb_cell cells[2];
+    size_t rows;
+    MUST(mmdb_query(&db, show, no_values, 0, cells, 1, &rows) == MMDB_ROWS && rows == 1 && is_words(&cells[0], "a", 1) && mmdb_count(&db) == 2);
+    MUST(mmdb_read(&db, 1, cells, 2) == 1 && is_words(&cells[0], "it's", 4));
+    MUST(runs(&db, unwatch, no_values, 0, MMDB_DONE, "ok\n"));
+  }
+  mmdb_close(&db);
+}
+
+static void transactions(void) {
+  mmdb db = opened_with_rows();
+  size_t begin = prepared(&db, "BEGIN"), commit = prepared(&db, "COMMIT"), roll_back = prepared(&db, "ROLLBACK");
+  size_t save = prepared(&db, "SAVEPOINT s"), go_back = prepared(&db, "ROLLBACK TO s"), insert = prepared(&db, "INSERT t (?, 0, '')");
+  mmdb_cell three = number(3), four = number(4);
+  struct picture before = picture_of(&db);
+  MUST(runs(&db, roll_back, no_values, 0, MMDB_NO_TRANSACTION, "error 51 no transaction\n"));
+  MUST(runs(&db, save, no_values, 0, MMDB_NO_TRANSACTION, "error 51 no transaction\n"));
+  MUST(runs(&db, begin, no_values, 0, MMDB_DONE, "ok\n"));
+  MUST(mmdb_in_transaction(&db));
+  MUST(runs(&db, begin, no_values, 0, MMDB_TRANSACTION_OPEN, "error 50 transaction open\n"));
+  MUST(runs(&db, go_back, no_values, 0, MMDB_NO_SUCH_SAVEPOINT, "error 53 no such savepoint\n") && runs(&db, insert, &three, 1, MMDB_COUNT, "ok 1\n"));
+  MUST(runs(&db, insert, &three, 1, MMDB_DUPLICATE_KEY, "error 40 duplicate key\n") && mmdb_in_transaction(&db));
+  struct picture with_three = picture_of(&db);
+  MUST(runs(&db, save, no_values, 0, MMDB_DONE, "ok\n") && runs(&db, insert, &four, 1, MMDB_COUNT, "ok 1\n") && !is_as_before(&db, &with_three));
+  MUST(runs(&db, go_back, no_values, 0, MMDB_DONE, "ok\n") && is_as_before(&db, &with_three));
+  MUST(answers(&db, "DROP TABLE t", MMDB_NOT_IN_TRANSACTION, "error 52 not in a transaction\n"));
+  MUST(mmdb_run(&db, insert, no_values, 0) == MMDB_MISUSE);
+  MUST(mmdb_in_transaction(&db));
+  MUST(runs(&db, roll_back, no_values, 0, MMDB_DONE, "ok\n") && !mmdb_in_transaction(&db) && is_as_before(&db, &before));
+  MUST(runs(&db, begin, no_values, 0, MMDB_DONE, "ok\n") && runs(&db, insert, &three, 1, MMDB_COUNT, "ok 1\n"));
+  MUST(runs(&db, commit, no_values, 0, MMDB_DONE, "ok\n"));
+  MUST(!mmdb_in_transaction(&db));
+  MUST(runs(&db, commit, no_values, 0, MMDB_NO_TRANSACTION, "error 51 no transaction\n"));
+  with_three.in_transaction = false;
+  MUST(is_as_before(&db, &with_three));
+  mmdb_close(&db);
+}
+
+/* Runs and reads in one call. */
+static void queries(void) {
+  mmdb db = opened_with_rows();
+  size_t find = prepared(&db, "SELECT a.id, a.s FROM t a WHERE a.id >= ?"), change = prepared(&db, "UPDATE t SET k = ?"), rows;
+  mmdb_cell values[] = {number(1)}, cells[5];
+  for (size_t room = 0; room <= 5; room++) {
+    for (size_t i = 0; i < 5; i++) cells[i] = number(-1);
+    size_t wanted = room / 2 < 2 ? room / 2 : 2;
+    MUST(mmdb_query(&db, find, values, 1, cells, room, &rows) == MMDB_ROWS && rows == wanted && mmdb_count(&db) == 2);
+    MUST(last_reply_is(&db, "(1, 'a')\n(2, 'it''s')\nrows 2\n"));
+    MUST(is_number(&cells[2 * wanted], -1) && (wanted < 1 || is_words(&cells[1], "a", 1)) && (wanted < 2 || is_words(&cells[3], "it's", 4)));
+  }
+  rows = 77;
+  MUST(mmdb_query(&db, change, values, 1, cells, 5, &rows) == MMDB_COUNT && rows == 0 && mmdb_count(&db) == 2 && last_reply_is(&db, "ok 2\n"));
+  values[0] = words("x");
+  rows = 77;
+  MUST(mmdb_query(&db, find, values, 1, cells, 5, &rows) == MMDB_TYPE_MISMATCH && rows == 0 && last_reply_is(&db, "error 30 type mismatch\n"));
+  mmdb_close(&db);
+}
+
+static void runs_of_many(void) {
+  mmdb db = opened_with_rows();
+  size_t insert = prepared(&db, "INSERT t (?, ?, 'x')"), scan = prepared(&db, "SCAN t"), find = prepared(&db, "SELECT a.k FROM t a WHERE a.id = ?"), done = 77;
+  mmdb_cell rows[] = {number(3), number(30), number(4), number(40), number(1), number(10), number(5), number(50)};
+  struct picture before = picture_of(&db);
+  MUST(mmdb_run_many(&db, insert, rows, 2, 0, &done) == MMDB_MISUSE && done == 0 && stays(&db, &before));
+  done = 77;
+  MUST(mmdb_run_many(&db, scan, rows, 1, 1, &done) == MMDB_MISUSE && done == 0 && stays(&db, &before));
+  done = 77;
+  MUST(mmdb_run_many(&db, insert, rows, 3, 3, &done) == MMDB_MISUSE && done == 0 && stays(&db, &before));
+  done = 77;
+  MUST(mmdb_run_many(&db, insert, rows, 0, 2, &done) == MMDB_DONE && done == 0 && stays(&db, &before));
+  MUST(mmdb_run_many(&db, insert, rows, 8, 2, &done) == MMDB_DUPLICATE_KEY && done == 2 && last_reply_is(&db, "error 40 duplicate key\n"));
+  MUST(answers(&db, "SELECT a.id FROM t a WHERE a.s = 'x'", MMDB_ROWS, "(3)\n(4)\nrows 2\n"));
+  MUST(mmdb_run_many(&db, insert, rows + 6, 2, SIZE_MAX, &done) == MMDB_DONE && done == 1 && last_reply_is(&db, "ok 1\n"));
+  mmdb_cell keys[] = {number(3), number(4), number(5)};
+  MUST(mmdb_run_many(&db, find, keys, 3, 1, &done) == MMDB_DONE && done == 3 && last_reply_is(&db, "(50)\nrows 1\n"));
+  mmdb_close(&db);
+}
+
+/* A misuse in the second of two rows, by a value that is none or by a row that is short: the first is run, and its reply is the last one. */
+static void runs_of_many_with_a_misuse(void) {
+  mmdb db = opened_with_rows();
+  size_t insert = prepared(&db, "INSERT t (?, ?, 'x')"), done = 77;
+  mmdb_cell rows[] = {number(3), number(30), number(4), number(40)};
+  rows[3].kind = 7;
+  MUST(mmdb_run_many(&db, insert, rows, 4, 2, &done) == MMDB_MISUSE && done == 1 && last_reply_is(&db, "ok 1\n"));
+  MUST(answers(&db, "SELECT a.id FROM t a WHERE a.s = 'x'", MMDB_ROWS, "(3)\nrows 1\n"));
+  rows[0] = number(5);
+  MUST(mmdb_run_many(&db, insert, rows, 3, 2, &done) == MMDB_MISUSE && done == 1 && last_reply_is(&db, "ok 1\n"));
+  MUST(answers(&db, "SELECT a.id FROM t a WHERE a.s = 'x'", MMDB_ROWS, "(3)\n(5)\nrows 2\n"));
+  mmdb_close(&db);
+}
+
+/* A table with as many rows as may be, made by few calls. */
+static void a_full_table(void) {
+  enum { AT_ONCE = 1 << 12 };
+  static mmdb_cell values[AT_ONCE], cells[AT_ONCE];
+  mmdb db = opened();
+  int64_t most = calls < MOST_ROWS ? AT_ONCE : MOST_ROWS;
+  size_t done;
+  MUST(is_done(&db, "TABLE t (id INT KEY)"));
+  size_t insert = prepared(&db, "INSERT t (?)");
+  for (int64_t first = 0; first < most; first += AT_ONCE) {
+    for (int64_t i = 0; i < AT_ONCE; i++) values[i] = number(first + i);
+    MUST(mmdb_run_many(&db, insert, values, AT_ONCE, 1, &done) == MMDB_DONE && done == AT_ONCE);
+  }
+  values[0] = number(-1);
+  if (most == MOST_ROWS) MUST(runs(&db, insert, values, 1, MMDB_TABLE_FULL, "error 45 table full\n"));
+  MUST(execute(&db, "SCAN t") == MMDB_ROWS && mmdb_count(&db) == (size_t)most);
+  int64_t next = 0;
+  for (size_t count; (count = mmdb_read(&db, (size_t)next, cells, AT_ONCE)) > 0; next += (int64_t)count)
+    for (size_t i = 0; i < count; i++)
+      if (!is_number(&cells[i], next + (int64_t)i)) MUST(!"a row is another one");
+  MUST(next == most);
+  mmdb_close(&db);
+}
+
+/* Rows are found, changed, put in and deleted, again and again, beside an array that does the same. */
+static void many_calls(void) {
+  enum { KEYS = 1000 };
+  static int64_t kept[KEYS];
+  mmdb db = opened();
+  MUST(is_done(&db, "TABLE t (id INT KEY, k INT)") && is_done(&db, "INDEX i ON t (k) HASH"));
+  size_t insert = prepared(&db, "INSERT t (?, ?)"), find = prepared(&db, "SELECT a.k FROM t a WHERE a.id = ?"), rows;
+  size_t change = prepared(&db, "UPDATE t SET k = ? WHERE id = ?"), remove = prepared(&db, "DELETE t WHERE id = ?");
+  uint64_t random = 88172645463325252u;
+  memset(kept, -1, sizeof kept);
+  for (long i = 0; i < calls && !has_failed; i++) {
+    random ^= random << 13, random ^= random >> 7, random ^= random << 17;
+    int64_t key = (int64_t)(random % KEYS);
+    bool is_there = kept[key] >= 0;
+    mmdb_cell both[] = {number(key), number(i)}, swapped[] = {number(i), number(key)}, cell;
+    switch (random >> 32 & 7) {
+    case 0: MUST(mmdb_run(&db, insert, both, 2) == (is_there ? MMDB_DUPLICATE_KEY : MMDB_COUNT)), kept[key] = is_there ? kept[key] : i; break;
+    case 1: MUST(mmdb_run(&db, remove, both, 1) == MMDB_COUNT && mmdb_count(&db) == is_there), kept[key] = -1; break;
+    case 2: MUST(mmdb_run(&db, change, swapped, 2) == MMDB_COUNT && mmdb_count(&db) == is_there), kept[key] = is_there ? i : -1; break;
+    default: MUST(mmdb_query(&db, find, both, 1, &cell, 1, &rows) == MMDB_ROWS && rows == is_there && (!is_there || is_number(&cell, kept[key])));
+    }
+  }
+  mmdb_close(&db);
+}
+
+#define TEST(name) {#name, name}
+
+static const struct { const char *name; void (*run)(void); } tests[] = {
+  TEST(a_closed_handle), TEST(opened_twice_and_closed_twice), TEST(closed_in_the_middle), TEST(two_databases), TEST(two_threads),
+  TEST(each_kind_of_reply), TEST(each_refusal), TEST(lines_of_the_greatest_length), TEST(a_reply_as_text), TEST(rows_in_pieces),
+  TEST(columns_of_lines), TEST(columns_in_their_room), TEST(columns_of_the_catalog), TEST(places_in_lines),
+  TEST(numbers_of_statements), TEST(a_number_used_again), TEST(lines_that_can_be_prepared), TEST(misused_values), TEST(bytes_behind_a_value),
+  TEST(texts), TEST(numbers), TEST(values_of_the_wrong_type), TEST(shifts),
+  TEST(changes_of_the_catalog), TEST(other_tables), TEST(standing_queries), TEST(transactions),
+  TEST(queries), TEST(runs_of_many), TEST(runs_of_many_with_a_misuse),
+  TEST(a_full_table), TEST(many_calls),
+};
+
+int main(int count, char **words) {
+  enum { COUNT = sizeof tests / sizeof *tests };
+  int failed = 0;
+  if (count > 1) calls = atol(words[1]);
+  for (size_t i = 0; i < COUNT; i++) {
+    has_failed = false;
+    tests[i].run();
+    printf("%s: %s\n", has_failed ? "failed" : "passed", tests[i].name);
+    failed += has_failed;
+  }
+  printf("%d passed, %d failed\n", COUNT - failed, failed);
+  return failed ? 1 : 0;
+}
