@@ -17,7 +17,8 @@ use Rattle.mm_query.specs.State.{State, first_state}
 use Rattle.mmdb_core.specs.steps.Input.{Advances, IsLine, KnowsEnd, StopsInLine, bytes_to_come}
 use Rattle.mmdb_core.specs.steps.Respond.{GoesOn, PassesReplied, WritesNothing}
 use Rattle.mm_lang.specs.Answering.{answer}
-use Rattle.mmdb_core.specs.Run.{Answers, AnswersFront, AnswersLines, BrokeOff, ReachedEnd, TakesWithin, Transcript, is_error, text_of, transcript}
+use Rattle.mmdb_core.specs.Run.{Answers, AnswersFront, AnswersLines, BrokeOff, ReachedEnd, TakesWithin, Transcript, is_error, transcript}
+use Rattle.mm_lang.specs.ReplyText.{text_of}
 use Rattle.mmdb_core.specs.declared.run_error.RunError.{RunError}
 use Rattle.mmdb_core.specs.declared.run_error.RunError.TheVariants.{Read, Write, TooLong}
 use Rattle.mmdb_core.specs.declared.input.Input.{Input}

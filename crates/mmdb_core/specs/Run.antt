@@ -4,7 +4,7 @@ use Rattle.std.specs.Prelude.{Result, Ok, Err}
 use Rattle.std.specs.Io.KnownBytes.{Appends, Consumes, IsAtEnd}
 use Rattle.mm_lang.specs.Answering.{answer}
 use Rattle.mm_lang.specs.Lines.{lines_of, whole_lines_of}
-use Rattle.mm_lang.specs.ReplyText.{reply_text}
+use Rattle.mm_lang.specs.ReplyText.{text_of}
 use Rattle.mm_value.specs.Device.{AppendsPrefix}
 use Rattle.mm_value.specs.Watched.{inner_of}
 use Rattle.mm_value.specs.declared.device.Watched.{Watched}
@@ -14,11 +14,6 @@ use Rattle.mm_query.specs.declared.reply.Reply.TheVariants.{Done, Count, Rows, S
 use Rattle.mmdb_core.specs.declared.run_error.RunError.{RunError}
 use Rattle.mmdb_core.specs.declared.run_error.RunError.TheVariants.{Read, Write, TooLong}
 use Rattle.mmdb_core.specs.declared.limits.Totals.{Totals}
-
--- The text of a reply, if there is one.
-abbrev pub text_of : Option Reply → List ℕ
-text_of None = []
-text_of (Some reply) = reply_text reply
 
 -- The reply is an `error`.
 abbrev pub is_error : Option Reply → Bool

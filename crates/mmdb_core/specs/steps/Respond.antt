@@ -11,7 +11,8 @@ use Rattle.mm_query.specs.Machine.{Outcome}
 use Rattle.mm_query.specs.State.{State}
 use Rattle.mm_query.specs.declared.command.Command.{Command}
 use Rattle.mmdb_core.specs.steps.Input.{Advances, Finds, PassesLine, StopsInLine}
-use Rattle.mmdb_core.specs.Run.{is_error, text_of}
+use Rattle.mm_lang.specs.ReplyText.{text_of}
+use Rattle.mmdb_core.specs.Run.{is_error}
 use Rattle.mmdb_core.specs.declared.run_error.RunError.{RunError}
 use Rattle.mmdb_core.specs.declared.run_error.RunError.TheVariants.{Read, Write, TooLong}
 use Rattle.mmdb_core.specs.declared.input.Input.{Input}
