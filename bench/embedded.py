@@ -1,12 +1,12 @@
 #!/usr/bin/env python3
 """Compares calls of mmdb and of SQLite in a program's own process: instructions, blocks of memory and processor time.
 
-    bench/embedded.py [--rows N ..] [--calls N] [--times] [--json FILE]
+    bench/embedded.py [--rows N ..] [--calls N] [--times] [--runs N] [--json FILE] [--plot FILE]
 
 For each kind of call a program does it so many times, each statement prepared once: bench/embedded/mmdb.c over libmmdb.a, bench/embedded/sqlite.c over
 the system's SQLite with its tables in memory, outside a transaction and in one. Instructions are those of valgrind's callgrind, of a run with
-the calls less one without, and so are blocks (bench/count.c). Time is the processor's, the least of three runs. With --times only that is measured, as
-instructions take long with many rows.
+the calls less one without, and so are blocks (bench/count.c). Time is the processor's, the least of some runs. With --times only that is measured, as
+instructions take long with many rows. --plot draws the instructions of calls outside a transaction, and needs matplotlib.
 
 tools/install makes the library. On Debian: apt-get install python3 gcc libsqlite3-dev valgrind
 """
@@ -44,21 +44,32 @@ def blocks(folder, command):
     return int(re.search(r"asked (\d+)", told)[1])
 
 
-def nanoseconds(command):
-    return min(float(subprocess.run(command, capture_output=True, text=True, check=True).stdout.split()[0]) for _ in range(3))
+def nanoseconds(command, runs):
+    return min(float(subprocess.run(command, capture_output=True, text=True, check=True).stdout.split()[0]) for _ in range(runs))
 
 
-def measured(folder, name, work, rows, calls, transaction, only_times):
+def measured(folder, name, work, rows, transaction, options):
     command = [f"{folder}/{name}", str(work), str(rows)]
     behind = ["transaction"] if transaction else []
+    calls = options.calls
     some, none = [*command, str(calls), *behind], [*command, "0", *behind]
-    if only_times:
-        return {"nanoseconds": nanoseconds(some)}
+    if options.times:
+        return {"nanoseconds": nanoseconds(some, options.runs)}
     return {
         "instructions": (instructions(some) - instructions(none)) / calls,
         "blocks": (blocks(folder, some) - blocks(folder, none)) / calls,
-        "nanoseconds": nanoseconds(some),
+        "nanoseconds": nanoseconds(some, options.runs),
     }
+
+
+def draw(found, path):
+    """Bars of the instructions of calls outside a transaction, with the fewest rows."""
+    import plots
+
+    systems = {"mmdb": "mmdb", "sqlite": "prepared"}
+    chosen = [each for each in found if not each["transaction"] and each["rows"] == found[0]["rows"]]
+    values = [{systems[each["name"]]: each["instructions"] for each in chosen if each["work"] == work} for work in WORKS]
+    plots.bars(path, WORKS, values, f"instructions of a call in the program's own process, {found[0]['rows']:,} rows")
 
 
 def main():
@@ -66,7 +77,9 @@ def main():
     options.add_argument("--rows", type=int, nargs="+", default=[10_000])
     options.add_argument("--calls", type=int, default=4_000)
     options.add_argument("--times", action="store_true")
+    options.add_argument("--runs", type=int, default=3)
     options.add_argument("--json")
+    options.add_argument("--plot")
     options = options.parse_args()
     found = []
     with tempfile.TemporaryDirectory() as folder:
@@ -78,10 +91,12 @@ def main():
                 line = f"{words:25}"
                 for transaction in [False, True]:
                     for name in ["mmdb", "sqlite"]:
-                        got = measured(folder, name, work, rows, options.calls, transaction, options.times)
+                        got = measured(folder, name, work, rows, transaction, options)
                         found.append({"rows": rows, "work": words, "name": name, "transaction": transaction, **got})
                         line += " ".join(f" {value:9.0f}" if key != "blocks" else f" {value:5.1f}" for key, value in got.items()) + " |"
                 print(line, flush=True)
+    if options.plot:
+        draw(found, options.plot)
     if options.json:
         pathlib.Path(options.json).write_text(json.dumps(found, indent=1))
     return 0
