@@ -1,0 +1,60 @@
+/* Preloaded, it refuses libmmdb all growths of memory for a while, each time that the process gets SIGUSR1, as a system that has no more would:
+
+     cc -shared -fPIC -o refuse.so refuse.c
+     LD_PRELOAD=./refuse.so mmdb-replica ..
+
+   A growth is a call of malloc, calloc or realloc out of libmmdb.so. All others go to the C library. */
+#include <errno.h>
+#include <link.h>
+#include <signal.h>
+#include <stdint.h>
+#include <string.h>
+#include <time.h>
+
+void *__libc_malloc(size_t size);
+void *__libc_calloc(size_t count, size_t size);
+void *__libc_realloc(void *block, size_t size);
+
+enum { MILLISECONDS = 300 };
+
+static uintptr_t first, end; /* where libmmdb.so is */
+static volatile int64_t until;
+
+static int64_t now(void) {
+  struct timespec time;
+  clock_gettime(CLOCK_MONOTONIC, &time);
+  return (int64_t)time.tv_sec * 1000 + time.tv_nsec / 1000000;
+}
+
+static int is_refused(void *caller) {
+  if (!until || (uintptr_t)caller < first || (uintptr_t)caller >= end || now() > until) return 0;
+  errno = ENOMEM;
+  return 1;
+}
+
+void *malloc(size_t size) { return is_refused(__builtin_return_address(0)) ? NULL : __libc_malloc(size); }
+
+void *calloc(size_t count, size_t size) { return is_refused(__builtin_return_address(0)) ? NULL : __libc_calloc(count, size); }
+
+void *realloc(void *block, size_t size) { return is_refused(__builtin_return_address(0)) ? NULL : __libc_realloc(block, size); }
+
+static void on_signal(int number) {
+  (void)number;
+  until = now() + MILLISECONDS;
+}
+
+static int look(struct dl_phdr_info *object, size_t size, void *closure) {
+  (void)size, (void)closure;
+  if (!strstr(object->dlpi_name, "libmmdb")) return 0;
+  first = end = object->dlpi_addr;
+  for (int i = 0; i < object->dlpi_phnum; i++) {
+    uintptr_t behind = object->dlpi_addr + object->dlpi_phdr[i].p_vaddr + object->dlpi_phdr[i].p_memsz;
+    if (object->dlpi_phdr[i].p_type == PT_LOAD && behind > end) end = behind;
+  }
+  return 1;
+}
+
+__attribute__((constructor)) static void begin(void) {
+  dl_iterate_phdr(look, NULL);
+  signal(SIGUSR1, on_signal);
+}

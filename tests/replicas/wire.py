@@ -1,0 +1,161 @@
+"""A client of NATS that is just enough for tests: it requests, publishes and subscribes, with headers, over one socket.
+
+It shares nothing with libnats, so it sees what a client in any language would see. A connection is used by one thread.
+"""
+
+import json
+import secrets
+import socket
+import time
+from base64 import b64decode
+from typing import NamedTuple, Optional
+
+
+class Message(NamedTuple):
+    """A message, with the status of its header: "503" says that nobody listens to the subject of a request."""
+
+    subject: str
+    status: str
+    headers: dict[str, str]
+    body: bytes
+
+
+def headers_in(block: bytes) -> tuple[str, dict[str, str]]:
+    """The status and the headers of a block of headers."""
+    first, *lines = block.decode().strip().split("\r\n")
+    pairs = (line.split(":", 1) for line in lines if ":" in line)
+    return first.partition(" ")[2][:3], {name.strip(): value.strip() for name, value in pairs}
+
+
+class Connection:
+    """A connection to one of several servers, each a host and a port.
+
+    Where it breaks, it goes to the next one; what was under way is lost.
+    """
+
+    def __init__(self, servers: list[tuple[str, int]]):
+        self.servers = list(servers)
+        self.subscribed: list[str] = []
+        self.socket: Optional[socket.socket] = None
+        self.bytes = b""
+
+    def connect(self, until: float) -> None:
+        while True:
+            self.servers.append(self.servers.pop(0))
+            try:
+                self.socket = socket.create_connection(self.servers[0], timeout=1)
+                self.socket.setsockopt(socket.IPPROTO_TCP, socket.TCP_NODELAY, 1)
+                self.bytes, self.inbox, self.requests = b"", "_INBOX." + secrets.token_hex(8), 0
+                self.line(time.monotonic() + 1)
+                said = {"verbose": False, "headers": True, "no_responders": True, "lang": "python", "version": "1"}
+                self.send(f"CONNECT {json.dumps(said)}\r\nSUB {self.inbox}.* 0\r\n".encode())
+                for number, subject in enumerate(self.subscribed, 1):
+                    self.send(f"SUB {subject} {number}\r\n".encode())
+                return
+            except OSError:
+                self.close()
+                if time.monotonic() > until:
+                    raise
+                time.sleep(0.05)
+
+    def close(self) -> None:
+        if self.socket:
+            self.socket.close()
+        self.socket = None
+
+    def send(self, data: bytes) -> None:
+        assert self.socket
+        self.socket.sendall(data)
+
+    def receive(self, until: float) -> None:
+        assert self.socket
+        self.socket.settimeout(max(0.001, until - time.monotonic()))
+        got = self.socket.recv(65536)
+        if not got:
+            raise ConnectionError("the server closed the connection")
+        self.bytes += got
+
+    def line(self, until: float) -> bytes:
+        while b"\r\n" not in self.bytes:
+            self.receive(until)
+        line, self.bytes = self.bytes.split(b"\r\n", 1)
+        return line
+
+    def block(self, length: int, until: float) -> bytes:
+        while len(self.bytes) < length + 2:
+            self.receive(until)
+        block, self.bytes = self.bytes[:length], self.bytes[length + 2 :]
+        return block
+
+    def message(self, until: float) -> Message:
+        """The next message. TimeoutError where none comes in time."""
+        while True:
+            kind, *words = self.line(until).decode().split(" ")
+            if kind == "PING":
+                self.send(b"PONG\r\n")
+            elif kind == "MSG":
+                return Message(words[0], "", {}, self.block(int(words[-1]), until))
+            elif kind == "HMSG":
+                head, whole = int(words[-2]), int(words[-1])
+                block = self.block(whole, until)
+                return Message(words[0], *headers_in(block[:head]), block[head:])
+            elif kind == "-ERR":
+                raise ConnectionError(" ".join(words))
+
+    def publish(self, subject: str, body: bytes, headers: Optional[dict[str, str]] = None, answer: str = "") -> None:
+        block = "".join(f"{name}: {value}\r\n" for name, value in (headers or {}).items()).encode()
+        block = b"NATS/1.0\r\n" + block + b"\r\n"
+        line = f"HPUB {subject} {answer} {len(block)} {len(block) + len(body)}\r\n"
+        self.send(line.encode() + block + body + b"\r\n")
+
+    def subscribe(self, subject: str) -> None:
+        self.subscribed.append(subject)
+        if self.socket:
+            self.send(f"SUB {subject} {len(self.subscribed)}\r\n".encode())
+
+    def request(
+        self, subject: str, body: bytes = b"", headers: Optional[dict[str, str]] = None, wait: float = 2.5
+    ) -> Message:
+        """The answer. TimeoutError or ConnectionError where none comes. What else comes meanwhile is dropped."""
+        until = time.monotonic() + wait
+        try:
+            if not self.socket:
+                self.connect(until)
+            self.requests += 1
+            inbox = f"{self.inbox}.{self.requests}"
+            self.publish(subject, body, headers, inbox)
+            while True:
+                message = self.message(until)
+                if message.subject == inbox:
+                    return message
+        except TimeoutError:
+            raise
+        except OSError as wrong:
+            self.close()
+            raise ConnectionError(str(wrong)) from wrong
+
+    def api(self, call: str, said: object = None, wait: float = 2.5) -> dict:
+        """The answer of a call of JetStream. ConnectionError where it is refused, or nobody is there to answer."""
+        answer = self.request("$JS.API." + call, json.dumps(said).encode() if said is not None else b"", wait=wait)
+        told = json.loads(answer.body) if answer.body else {"error": {"description": "nobody answers"}}
+        if "error" in told:
+            raise ConnectionError(f"{call}: {told['error']['description']}")
+        return told
+
+
+def patient(connection: Connection, call: str, said: object, until: float) -> dict:
+    """The answer of a call of JetStream that is made again until it is answered: not while servers choose a leader."""
+    while True:
+        try:
+            return connection.api(call, said)
+        except OSError:
+            if time.monotonic() > until:
+                raise
+            time.sleep(0.1)
+
+
+def logged(connection: Connection, log: str, number: int, until: float) -> Message:
+    """A message of the log."""
+    told = patient(connection, "STREAM.MSG.GET." + log, {"seq": number}, until)["message"]
+    headers = headers_in(b64decode(told["hdrs"]))[1] if told.get("hdrs") else {}
+    return Message(told["subject"], "", headers, b64decode(told.get("data", "")))
