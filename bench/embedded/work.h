@@ -12,9 +12,6 @@
 
 enum work { BY_KEY, BY_HASH, RANGE_OF_TEN, BY_FOREIGN_KEY, INSERT, UPDATE, UPDATE_INDEXED, DELETE, CHANGE_AND_LIST, WORKS };
 
-static const char *const work_names[WORKS] = {"by key",        "by hash", "range of ten",           "by foreign key", "insert",
-                                              "update a column", "update an indexed column", "delete", "change and its list"};
-
 /* How many parameters a call of each work has. */
 static const size_t work_parameters[WORKS] = {1, 1, 2, 1, 4, 2, 2, 1, 2};
 

@@ -1,11 +1,28 @@
 """What PEP 249 asks of a module, point by point in its order."""
 
 import time
+from collections.abc import Callable
 
 import mmdb
 import pytest
 
 ROW = "INSERT author (?, ?)"
+
+
+def calls_of(cursor: mmdb.Cursor) -> list[Callable[[], object]]:
+    """Each call of a cursor that wants it to be open."""
+    return [
+        lambda: cursor.execute("SCAN author"),
+        lambda: cursor.executemany(ROW, []),
+        lambda: cursor.executescript("SCAN author"),
+        cursor.fetchone,
+        cursor.fetchmany,
+        cursor.fetchall,
+        lambda: next(cursor),
+        lambda: cursor.setinputsizes([]),
+        lambda: cursor.setoutputsize(1),
+        cursor.__enter__,
+    ]
 
 
 # The module.
@@ -85,16 +102,7 @@ def test_a_closed_connection_is_unusable(papers: mmdb.Connection) -> None:
         lambda: papers.show("w"),
         lambda: papers.unwatch("w"),
         lambda: papers.savepoint("s").__enter__(),
-        lambda: cursor.execute("SCAN author"),
-        lambda: cursor.executemany(ROW, []),
-        lambda: cursor.executescript("SCAN author"),
-        cursor.fetchone,
-        cursor.fetchmany,
-        cursor.fetchall,
-        lambda: next(cursor),
-        lambda: cursor.setinputsizes([]),
-        lambda: cursor.setoutputsize(1),
-        cursor.__enter__,
+        *calls_of(cursor),
     ]
     for call in calls:
         with pytest.raises(mmdb.ProgrammingError, match="the connection is closed"):
@@ -175,18 +183,7 @@ def test_a_closed_cursor_is_unusable(papers: mmdb.Connection) -> None:
     cursor = papers.execute("SCAN author")
     cursor.close()
     cursor.close()
-    for call in (
-        lambda: cursor.execute("SCAN author"),
-        lambda: cursor.executemany(ROW, []),
-        lambda: cursor.executescript("SCAN author"),
-        cursor.fetchone,
-        cursor.fetchmany,
-        cursor.fetchall,
-        lambda: next(cursor),
-        lambda: cursor.setinputsizes([]),
-        lambda: cursor.setoutputsize(1),
-        cursor.__enter__,
-    ):
+    for call in calls_of(cursor):
         with pytest.raises(mmdb.ProgrammingError, match="the cursor is closed"):
             call()
     assert papers.execute("SCAN author").rowcount == 2
