@@ -2,7 +2,7 @@ mod Cascaded
 mod ClosedCascades
 mod Commands
 mod KeptTargets
-mod KeyOrder
+pub mod KeyOrder
 pub mod NamedRows
 pub mod OlderTables
 mod PlanLines
@@ -19,8 +19,8 @@ mod TypedAssignments
 pub mod TypedChanges
 pub mod TypedDefinitions
 pub mod TypedNumbers
-mod TypedPlaces
-mod TypedQueries
-mod TypedRows
-mod TypedSteps
-mod TypedTables
+pub mod TypedPlaces
+pub mod TypedQueries
+pub mod TypedRows
+pub mod TypedSteps
+pub mod TypedTables

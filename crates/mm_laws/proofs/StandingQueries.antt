@@ -55,28 +55,30 @@ Stays old new out =
     (name : List ℕ) → lacks_table name old ≡ false → out name ≡ false
     → (lacks_table name new ≡ false) × (columns_named name new ≡ columns_named name old)
 
-module _ (old new : Schema) (out : List ℕ → Bool) (stays : Stays old new out) where
-  abbrev IsThere : FromItem → Type 0
-  IsThere item = (lacks_table item.table new ≡ false) × (columns_named item.table new ≡ columns_named item.table old)
+-- the table of an item is there, with the columns that it has in the other catalog
+abbrev pub IsThere : Schema → Schema → FromItem → Type 0
+IsThere old new item = (lacks_table item.table new ≡ false) × (columns_named item.table new ≡ columns_named item.table old)
 
-  items_stay : (from : List FromItem) → list_any (λ (item : FromItem). lacks_table item.table old) from ≡ false
-      → list_any out (map (λ (item : FromItem). item.table) from) ≡ false → AllByRecursion IsThere from
+module _ (old new : Schema) (out : List ℕ → Bool) (stays : Stays old new out) where
+  -- Where a query reads only tables that stay, all of its tables are there.
+  pub items_stay : (from : List FromItem) → list_any (λ (item : FromItem). lacks_table item.table old) from ≡ false
+      → list_any out (map (λ (item : FromItem). item.table) from) ≡ false → AllByRecursion (IsThere old new) from
   items_stay [] there unread = tt
   items_stay (item ∷ items) there unread =
       let p = or_parts (lacks_table item.table old) (list_any (λ (x : FromItem). lacks_table x.table old) items) there in
       let q = or_parts (out item.table) (list_any out (map (λ (x : FromItem). x.table) items)) unread in
       (stays item.table p.0 q.0, items_stay items p.1 q.1)
 
-  tables_there : (from : List FromItem) → AllByRecursion IsThere from → list_any (λ (item : FromItem). lacks_table item.table new) from ≡ false
+  tables_there : (from : List FromItem) → AllByRecursion (IsThere old new) from → list_any (λ (item : FromItem). lacks_table item.table new) from ≡ false
   tables_there [] there = refl
   tables_there (item ∷ items) there = or_from _ _ there.0.0 (tables_there items there.1)
 
-  same_width : (from : List FromItem) → AllByRecursion IsThere from → (place : ℕ) → width_at new from place ≡ width_at old from place
+  same_width : (from : List FromItem) → AllByRecursion (IsThere old new) from → (place : ℕ) → width_at new from place ≡ width_at old from place
   same_width [] there place = refl
   same_width (item ∷ items) there zero = ap length there.0.1
   same_width (item ∷ items) there (suc place) = same_width items there.1 place
 
-  module _ (from : List FromItem) (there : AllByRecursion IsThere from) where
+  module _ (from : List FromItem) (there : AllByRecursion (IsThere old new) from) where
     field_still : (field : FieldPlace) → IsFieldWithin old from field → IsFieldWithin new from field
     field_still field within = subst (λ width. field.column < width) (sym (same_width from there field.place)) within
 
@@ -106,19 +108,21 @@ module _ (old new : Schema) (out : List ℕ → Bool) (stays : Stays old new out
       All-from_recursion (IsQueryWithin new) queries (queries_still queries unread (recursion_from_All (IsQueryWithin old) queries within))
 
 -- no name is out
-abbrev none_out : List ℕ → Bool
+abbrev pub none_out : List ℕ → Bool
 none_out name = false
 
-none_of_tables : (tables : List (List ℕ)) → list_any none_out tables ≡ false
+-- So none of some tables is, ..
+pub none_of_tables : (tables : List (List ℕ)) → list_any none_out tables ≡ false
 none_of_tables [] = refl
 none_of_tables (t ∷ ts) = none_of_tables ts
 
-all_read_on : (queries : List BoundQuery) → AllByRecursion (λ query. list_any none_out (tables_read query) ≡ false) queries
+-- .. and none that queries read.
+pub all_read_on : (queries : List BoundQuery) → AllByRecursion (λ query. list_any none_out (tables_read query) ≡ false) queries
 all_read_on [] = tt
 all_read_on (q ∷ qs) = (none_of_tables (tables_read q), all_read_on qs)
 
 -- None of the queries beside standing queries that don't read a table reads it.
-unread_beside : (gone : List ℕ) (standing : List StandingDef) (queries : List BoundQuery) → AreBeside standing queries
+pub unread_beside : (gone : List ℕ) (standing : List StandingDef) (queries : List BoundQuery) → AreBeside standing queries
     → list_any (reads_table gone) standing ≡ false → AllByRecursion (λ query. list_any (same_name gone) (tables_read query) ≡ false) queries
 unread_beside gone [] [] beside unread = tt
 unread_beside gone (s ∷ ss) (q ∷ qs) beside unread =
@@ -132,16 +136,19 @@ unread_beside gone (s ∷ ss) [] beside unread = absurd beside
 abbrev columns_in : Option Table → List Column
 columns_in table = option_map_or (λ (t : Table). t.definition.columns) table []
 
-stays_behind : (definition : TableDef) (schema : Schema) → Stays schema (with_table definition schema) none_out
+-- Tables stay where another one comes, ..
+pub stays_behind : (definition : TableDef) (schema : Schema) → Stays schema (with_table definition schema) none_out
 stays_behind definition schema name there kept =
     let table : Table = record { definition = definition; indexes = [] } in
     (there_behind name schema.tables table there, ap columns_in (table_behind name table schema.tables there))
 
-stays_left : (gone : List ℕ) (schema : Schema) → Stays schema (without_table gone schema) (same_name gone)
+-- .. where another one goes, ..
+pub stays_left : (gone : List ℕ) (schema : Schema) → Stays schema (without_table gone schema) (same_name gone)
 stays_left gone schema name there other =
     (there_still gone name schema.tables other there, ap columns_in (table_left gone name other schema.tables))
 
-stays_kept : (change : Table → Table) → ((t : Table) → (change t).definition ≡ t.definition) → (schema : Schema)
+-- .. and where each keeps its definition.
+pub stays_kept : (change : Table → Table) → ((t : Table) → (change t).definition ≡ t.definition) → (schema : Schema)
     → Stays schema (record schema { tables = map change schema.tables }) none_out
 stays_kept change same schema name there kept =
     (as_there change same name schema.tables ∙ there, told_kept change same name (λ d. d.columns) [] schema.tables)
@@ -175,7 +182,7 @@ module _ (name : List ℕ) (query : Query) (state : State) where
     hold = none_hold (watch_conditions name query state) due
 
     -- Where nothing refuses it, nothing refuses its query.
-    none_of_query : first_refusal (query_conditions query state.schema) ≡ None
+    pub none_of_query : first_refusal (query_conditions query state.schema) ≡ None
     none_of_query =
         let limits = or_parts (exceeds_query_limits query) (nat_le 32 (length state.schema.standing)) hold.1.1.1.1.1.1.0 in
         λ i. cond (hold.0 i) (Some NoSuchTable)
@@ -216,7 +223,8 @@ module _ (gone : List ℕ) where
   beside_left (s ∷ ss) [] beside = absurd beside
 
   module _ (P : BoundQuery → Type 0) where
-    each_left : (ss : List StandingDef) (qs : List BoundQuery) → AllByRecursion P qs → AllByRecursion P (without_query gone ss qs)
+    -- What holds of all queries holds of those that are left.
+    pub each_left : (ss : List StandingDef) (qs : List BoundQuery) → AllByRecursion P qs → AllByRecursion P (without_query gone ss qs)
     each_left [] qs each = tt
     each_left (s ∷ ss) [] each = tt
     each_left (s ∷ ss) (q ∷ qs) each = by (same_name gone s.name) (each_left ss qs each.1)
@@ -307,7 +315,7 @@ module _ (name : List ℕ) (query : BoundQuery) (state : State) (is : query_name
 
 module _ (name : List ℕ) (s : StandingDef) (q : BoundQuery) where
   -- A name that is new is that of the last, ..
-  last_named : (ss : List StandingDef) (qs : List BoundQuery) → AreBeside ss qs → is_some (find (λ (x : StandingDef). same_name name x.name) ss) ≡ false
+  pub last_named : (ss : List StandingDef) (qs : List BoundQuery) → AreBeside ss qs → is_some (find (λ (x : StandingDef). same_name name x.name) ss) ≡ false
       → same_name name s.name ≡ true → query_named name (ss ++ s ∷ []) (qs ++ q ∷ []) ≡ Some q
   last_named [] [] beside free own = ap (λ b. cond b (Some q) None) own
   last_named (t ∷ ts) (r ∷ rs) beside free own = by (same_name name t.name) free (λ none. last_named ts rs beside.1 none own)
@@ -321,7 +329,7 @@ module _ (name : List ℕ) (s : StandingDef) (q : BoundQuery) where
   last_named (t ∷ ts) [] beside free own = absurd beside
 
   -- .. and any other is that of the one that it was.
-  others_named : (ss : List StandingDef) (qs : List BoundQuery) → AreBeside ss qs → same_name name s.name ≡ false
+  pub others_named : (ss : List StandingDef) (qs : List BoundQuery) → AreBeside ss qs → same_name name s.name ≡ false
       → query_named name (ss ++ s ∷ []) (qs ++ q ∷ []) ≡ query_named name ss qs
   others_named [] [] beside other = ap (λ b. cond b (Some q) None) other
   others_named (t ∷ ts) (r ∷ rs) beside other = ap (cond (same_name name t.name) (Some r)) (others_named ts rs beside.1 other)
@@ -350,7 +358,8 @@ no_query name [] = refl
 no_query name (s ∷ ss) = refl
 
 module _ (gone : List ℕ) where
-  left_named : (name : List ℕ) → same_name gone name ≡ false → (ss : List StandingDef) (qs : List BoundQuery)
+  -- A name that stays is that of the query that it was, ..
+  pub left_named : (name : List ℕ) → same_name gone name ≡ false → (ss : List StandingDef) (qs : List BoundQuery)
       → query_named name (filter (is_other gone) ss) (without_query gone ss qs) ≡ query_named name ss qs
   left_named name other [] qs = refl
   left_named name other (s ∷ ss) [] = no_query name (filter (is_other gone) (s ∷ ss))
@@ -368,6 +377,7 @@ module _ (gone : List ℕ) where
       by false differs false here later =
           ap (λ b. cond b (Some q) (query_named name (filter (is_other gone) ss) (without_query gone ss qs))) differs ∙ later
 
+  -- .. and the one that goes is that of none.
   gone_named : (ss : List StandingDef) (qs : List BoundQuery) → query_named gone (filter (is_other gone) ss) (without_query gone ss qs) ≡ None
   gone_named [] qs = refl
   gone_named (s ∷ ss) [] = no_query gone (filter (is_other gone) (s ∷ ss))

@@ -17,9 +17,10 @@ use Rattle.mm_query.specs.Placing.{placed_operand, shifts_text, type_named}
 use Rattle.mm_query.specs.declared.atom.Assignment.{Assignment}
 use Rattle.mm_query.specs.declared.atom.Operand.{Operand}
 use Rattle.mm_query.specs.declared.atom.Operand.TheVariants as operand
+use Rattle.mm_query.proofs.FoundTargets.{found_among}
 use Rattle.mm_query.proofs.Updates.{found_holds}
 use Rattle.mm_laws.specs.Typing.{HasTypes}
-use Rattle.mm_laws.proofs.TypedPlaces.{IsPlaced, column_placed, found_passes, one_type}
+use Rattle.mm_laws.proofs.TypedPlaces.{IsPlaced, column_placed, one_type}
 use Rattle.mm_laws.proofs.TypedRows.{value_typed}
 
 -- A value plus a number has the type that it had.
@@ -90,7 +91,7 @@ module _ (columns : List Column) (row : Row) (typed : HasTypes columns row) wher
             → type_of (option_map_or (λ (a : Assignment ℕ). value_for row a.source) found old) ≡ c.col_type
         by None e = is
         by (Some a) e =
-            let own = equal_places a.column place (found_passes (λ (a : Assignment ℕ). a.column == place) assignments a e) in
+            let own = equal_places a.column place (found_among (λ (a : Assignment ℕ). a.column == place) assignments a e).1 in
             found_holds Fits (λ (a : Assignment ℕ). a.column == place) assignments a each e c (ap (slice_get columns) own ∙ there)
 
     -- .. and so does each of the columns from a place on.

@@ -23,7 +23,8 @@ use Rattle.mm_query.proofs.PlacedQueries.{none_hold}
 use Rattle.mm_laws.proofs.Removals.{EachRemoves, cascades_remove, none_comes, removals_remove}
 use Rattle.mm_laws.specs.Typing.{AreTyped, HasTypes}
 use Rattle.mm_laws.proofs.TypedAssignments.{all_fit, updated_typed}
-use Rattle.mm_laws.proofs.TypedPlaces.{columns_in, has}
+use Rattle.mm_laws.proofs.NamedRows.{has}
+use Rattle.mm_laws.proofs.TypedPlaces.{columns_in}
 use Rattle.mm_laws.proofs.TypedRows.{coming, coming_added, coming_changed, tuples_typed}
 use Rattle.mm_laws.proofs.TypedTables.{named_typed, typed_changed}
 

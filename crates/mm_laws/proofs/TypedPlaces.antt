@@ -1,37 +1,41 @@
--- What stands at the place of a name, and the tables of a name.
-use Rattle.std.proofs.Common.{◌≡◌, ℕ, zero, suc, ◌<◌, Bool, true, false, cond, List, [], ◌∷◌, ◌++◌, Option, Some, None, find, filter, is_none, not, length}
-use Rattle.std.proofs.Common.{map, slice_get, refl, sym, ap, ◌∙◌, arith}
+-- What stands at the place of a name, and types that are not told apart.
+use Rattle.std.proofs.Common.{◌≡◌, ℕ, zero, suc, ◌<◌, Bool, false, List, [], ◌∷◌, Option, Some, None, find, is_none, not, length, position, slice_get}
+use Rattle.std.proofs.Common.{refl, ap, ◌∙◌, arith}
 use Rattle.std.specs.Option.{option_map_or, unwrap_or}
-use Rattle.std.proofs.lemmas.Bool.{false≢true}
-use Rattle.mm_schema.specs.Columns.{column_named, column_place, same_type}
+use Rattle.mm_schema.specs.Columns.{column_named, same_type}
 use Rattle.mm_schema.specs.Name.{same_name}
 use Rattle.mm_schema.specs.declared.column.Column.{Column}
 use Rattle.mm_schema.specs.declared.table.Table.{Table}
-use Rattle.mm_schema.proofs.Instances.{name_of}
-use Rattle.mm_schema.proofs.NameLemmas.{same_bytes}
 use Rattle.mm_schema.proofs.Places.{find_at_place, within_from_some}
-use Rattle.mm_schema.proofs.References.{lacks}
 use Rattle.mm_value.specs.declared.col_type.ColType.{ColType}
 use Rattle.mm_value.specs.declared.col_type.ColType.TheVariants as type
 use Rattle.mm_query.specs.Placing.{lacks_column, placed}
 
 -- ---- lists
 
-module _ {X : Type 0} where
-  -- Each place within a list has an element.
-  pub at_place : (xs : List X) (i : ℕ) → i < length xs → (x : X) × (slice_get xs i ≡ Some x)
-  at_place [] i inside = absurd (omega (arith, inside))
-  at_place (x ∷ xs) zero inside = (x, refl)
-  at_place (x ∷ xs) (suc i) inside = at_place xs i (omega (arith, inside))
+-- what is found: the first element that passes, and its place
+pub record IsFound (X : Type 0) (p : X → Bool) (xs : List X) : Type 0 where
+  pub element : X
+  pub place : ℕ
+  pub at : position p xs ≡ Some place
+  pub there : slice_get xs place ≡ Some element
+  pub found : find p xs ≡ Some element
 
-  -- What is found passes.
-  pub found_passes : (p : X → Bool) (xs : List X) (x : X) → find p xs ≡ Some x → p x ≡ true
-  found_passes p [] x found = cc
-  found_passes p (y ∷ ys) x found = by (p y) refl found (found_passes p ys x)
-    where
-      by : (b : Bool) → p y ≡ b → cond b (Some y) (find p ys) ≡ Some x → (find p ys ≡ Some x → p x ≡ true) → p x ≡ true
-      by true passes found later = let same : y ≡ x = cc in ap p (sym same) ∙ passes
-      by false fails found later = later found
+-- Each place within a list has an element.
+pub at_place : {X : Type 0} (xs : List X) (i : ℕ) → i < length xs → (x : X) × (slice_get xs i ≡ Some x)
+at_place [] i inside = absurd (omega (arith, inside))
+at_place (x ∷ xs) zero inside = (x, refl)
+at_place (x ∷ xs) (suc i) inside = at_place xs i (omega (arith, inside))
+
+-- Where there is a place, an element is found.
+pub found_placed : {X : Type 0} (p : X → Bool) (xs : List X) → is_none (position p xs) ≡ false → IsFound X p xs
+found_placed {X = X} p xs there = by (position p xs) refl there
+  where
+    by : (place : Option ℕ) → position p xs ≡ place → is_none place ≡ false → IsFound X p xs
+    by None at is = cc
+    by (Some i) at is =
+        let here = at_place xs i (within_from_some p xs i at) in
+        record { element = here.0; place = i; at = at; there = here.1; found = find_at_place p xs i at ∙ here.1 }
 
 -- ---- types
 
@@ -58,70 +62,15 @@ pub record IsPlaced (columns : List Column) (name : List ℕ) : Type 0 where
 -- A name that is there has such a column.
 pub column_placed : (columns : List Column) (name : List ℕ) → lacks_column columns name ≡ false → IsPlaced columns name
 column_placed columns name there =
-    elim (column_place name columns) as (λ (found : Option ℕ). (column_place name columns ≡ found) → is_none found ≡ false → IsPlaced columns name) [
-      | None ↦ λ e h. cc
-      | Some i ↦ λ e h. (
-          let has = λ (column : Column). same_name name column.name in
-          let here = at_place columns i (within_from_some has columns i e) in
-          record {
-            column = here.0;
-            named = find_at_place has columns i e ∙ here.1;
-            there = ap (λ (o : Option ℕ). slice_get columns (unwrap_or o 0)) e ∙ here.1;
-          })
-    ] refl there
+    let is = found_placed (λ (column : Column). same_name name column.name) columns there in
+    record {
+      column = is.element;
+      named = is.found;
+      there = ap (λ (o : Option ℕ). slice_get columns (unwrap_or o 0)) is.at ∙ is.there;
+    }
 
 -- ---- tables
-
--- the table has the name
-abbrev pub has : List ℕ → Table → Bool
-has name table = same_name name (name_of table)
 
 -- the columns of a table, if it is there
 abbrev pub columns_in : Option Table → List Column
 columns_in table = option_map_or (λ (t : Table). t.definition.columns) table []
-
--- A new table behind others takes none of their columns, ..
-pub columns_behind : (name : List ℕ) (new : Table) (ts : List Table) → lacks name ts ≡ false
-    → columns_in (find (has name) (ts ++ new ∷ [])) ≡ columns_in (find (has name) ts)
-columns_behind name new [] there = cc
-columns_behind name new (t ∷ ts) there = by (has name t) there (columns_behind name new ts)
-  where
-    by : (b : Bool) → is_none (cond b (Some t) (find (has name) ts)) ≡ false
-        → (lacks name ts ≡ false → columns_in (find (has name) (ts ++ new ∷ [])) ≡ columns_in (find (has name) ts))
-        → columns_in (cond b (Some t) (find (has name) (ts ++ new ∷ []))) ≡ columns_in (cond b (Some t) (find (has name) ts))
-    by true there later = refl
-    by false there later = later there
-
-module _ (gone : List ℕ) where
-  abbrev stays : Table → Bool
-  stays t = not (same_name gone (name_of t))
-
-  -- .. a table that goes takes only its own, ..
-  pub columns_left : (name : List ℕ) → same_name gone name ≡ false → (ts : List Table)
-      → columns_in (find (has name) (filter stays ts)) ≡ columns_in (find (has name) ts)
-  columns_left name other [] = refl
-  columns_left name other (t ∷ ts) = by (has name t) refl (same_name gone (name_of t)) refl (columns_left name other ts)
-    where
-      own_stays : has name t ≡ true → same_name gone (name_of t) ≡ false
-      own_stays own = ap (same_name gone) (sym (same_bytes name (name_of t) own)) ∙ other
-
-      by : (b : Bool) → has name t ≡ b → (g : Bool) → same_name gone (name_of t) ≡ g
-          → columns_in (find (has name) (filter stays ts)) ≡ columns_in (find (has name) ts)
-          → columns_in (find (has name) (cond (not g) (t ∷ filter stays ts) (filter stays ts))) ≡ columns_in (cond b (Some t) (find (has name) ts))
-      by true own true went later = absurd (false≢true (sym (own_stays own) ∙ went))
-      by true own false here later = ap (λ b. columns_in (cond b (Some t) (find (has name) (filter stays ts)))) own
-      by false differs true went later = later
-      by false differs false here later = ap (λ b. columns_in (cond b (Some t) (find (has name) (filter stays ts)))) differs ∙ later
-
--- .. and a change of other things than the definitions takes none.
-pub columns_kept : (change : Table → Table) → ((t : Table) → (change t).definition ≡ t.definition) → (name : List ℕ) (ts : List Table)
-    → columns_in (find (has name) (map change ts)) ≡ columns_in (find (has name) ts)
-columns_kept change same name [] = refl
-columns_kept change same name (t ∷ ts) =
-    ap (λ d. columns_in (cond (same_name name d.name) (Some (change t)) (find (has name) (map change ts)))) (same t)
-    ∙ by (has name t) (columns_kept change same name ts)
-  where
-    by : (b : Bool) → columns_in (find (has name) (map change ts)) ≡ columns_in (find (has name) ts)
-        → columns_in (cond b (Some (change t)) (find (has name) (map change ts))) ≡ columns_in (cond b (Some t) (find (has name) ts))
-    by true later = ap (λ d. d.columns) (same t)
-    by false later = later

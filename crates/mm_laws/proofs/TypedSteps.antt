@@ -8,11 +8,10 @@ use Rattle.mm_value.specs.declared.refusal.Refusal.{Refusal}
 use Rattle.mm_value.specs.declared.refusal.Refusal.TheVariants.{NotInTransaction}
 use Rattle.mm_query.specs.Binding.{binding_conditions}
 use Rattle.mm_query.specs.Edits.{changed_table, edits, value_conditions}
-use Rattle.mm_query.specs.Machine.{Outcome, after_change, conditions, definition_conditions, is_of_index, reply_to, row_conditions, state_after, step}
-use Rattle.mm_query.specs.Machine.{unless_refused}
+use Rattle.mm_query.specs.Machine.{after_change, conditions, definition_conditions, is_of_index, row_conditions, state_after, step}
 use Rattle.mm_query.specs.Standing.{AreBound, HasQueries, growth_conditions}
 use Rattle.mm_query.specs.State.{Savepoint, State, first_state, has_transaction}
-use Rattle.mm_laws.proofs.Throughout.{closed_or_of_index, gone_back, held_before, held_further, restored}
+use Rattle.mm_laws.proofs.Throughout.{closed_or_of_index, gone_back, held_before, held_further, kept_by_step, restored}
 use Rattle.mm_query.specs.declared.command.Command.{Command}
 use Rattle.mm_query.specs.declared.command.Command.TheVariants.{Nothing, Define, Change, Scan, ScanIndex, Select, Explain, Show, Tables, Begin, Commit}
 use Rattle.mm_query.specs.declared.command.Command.TheVariants.{Rollback, Savepoint as SetSavepoint, RollbackTo}
@@ -21,7 +20,7 @@ use Rattle.mm_laws.proofs.TypedChanges.{typed_by_change}
 use Rattle.mm_laws.proofs.TypedDefinitions.{typed_by_definition}
 
 -- Where none of some conditions holds, none of the first ones does.
-none_in_front : (cs ds : List Condition) → first_refusal (cs ++ ds) ≡ None → first_refusal cs ≡ None
+pub none_in_front : (cs ds : List Condition) → first_refusal (cs ++ ds) ≡ None → first_refusal cs ≡ None
 none_in_front cs ds none = by (first_refusal cs) refl
   where
     by : (due : Option Refusal) → first_refusal cs ≡ due → due ≡ None
@@ -74,15 +73,8 @@ typed_by_command (RollbackTo name) state due distinct beside bound typed = recor
 pub typed_at_first : IsTyped first_state
 typed_at_first = record { rows = tt; saved = tt; queries = All-nil _ }
 
-kept_or_done : (P : State → Type 0) (due : Option Refusal) (old : State) (done : Outcome) → (due ≡ None → P done.state) → P old
-    → P (unless_refused due old done).state
-kept_or_done P (Some refusal) old done new kept = kept
-kept_or_done P None old done new kept = new refl
-
 -- A command that is refused leaves the state, and one that is done keeps it typed.
 pub typed_by_step : (command : Command) (state : State) → HasDistinctNames state.schema → HasQueries state → AreBound state → IsTyped state
     → IsTyped (step command state).state
 typed_by_step command state distinct beside bound typed =
-    kept_or_done IsTyped (first_refusal (conditions command state)) state
-    (record { reply = reply_to command state; state = state_after command state })
-    (λ due. typed_by_command command state due distinct beside bound typed) typed
+    kept_by_step IsTyped command state (λ due. typed_by_command command state due distinct beside bound typed) typed

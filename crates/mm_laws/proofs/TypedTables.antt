@@ -11,7 +11,8 @@ use Rattle.mm_schema.specs.declared.table.Table.{Table}
 use Rattle.mm_schema.proofs.Instances.{AreBeside, changed_instance-others, edits_of_one, name_of, others_lack, pairs_of-other, pairs_of-own}
 use Rattle.mm_schema.proofs.Duplicates.{Row}
 use Rattle.mm_laws.specs.Typing.{AreTyped, HasTypes}
-use Rattle.mm_laws.proofs.TypedPlaces.{columns_in, has}
+use Rattle.mm_laws.proofs.NamedRows.{has}
+use Rattle.mm_laws.proofs.TypedPlaces.{columns_in}
 use Rattle.mm_laws.proofs.TypedRows.{coming, held_by_changed}
 
 beside_from_types : (tables : List Table) (rows : Instance) → AreTyped tables rows → AreBeside tables rows

@@ -1,10 +1,10 @@
 -- The rows that a command replies have the types of the columns that they are said to have.
-use Rattle.std.proofs.Common.{◌≡◌, ℕ, zero, suc, ◌<◌, pos, Bool, true, false, cond, not, List, [], ◌∷◌, ◌++◌, Option, Some, None, filter, filter_map}
-use Rattle.std.proofs.Common.{find, is_none, length, map, position, slice_get, refl, sym, ap, subst, ◌∙◌, arith}
+use Rattle.std.proofs.Common.{◌≡◌, ℕ, zero, suc, ◌<◌, pos, Bool, true, false, cond, not, List, [], ◌∷◌, Option, Some, None, filter, filter_map}
+use Rattle.std.proofs.Common.{length, map, slice_get, refl, sym, ap, subst, ◌∙◌, arith}
 use Rattle.std.specs.Prelude.{IfSome}
 use Rattle.std.specs.List.{All, AllByRecursion, cons_option, flat_map, list_any}
 use Rattle.std.specs.Option.{option_and_then, option_map_or, unwrap_or}
-use Rattle.std.proofs.lemmas.Bool.{false≢true, or_parts}
+use Rattle.std.proofs.lemmas.Bool.{or_parts}
 use Rattle.std.proofs.lemmas.List.Elements.{All-append, All-cons, All-filter, All-head, All-map, All-nil, All-tail, All-weaker}
 use Rattle.std.proofs.lemmas.List.Sorted.{All-permutation}
 use Rattle.mm_value.specs.Types.{type_of}
@@ -12,28 +12,23 @@ use Rattle.mm_value.specs.declared.refusal.Refusal.{Refusal}
 use Rattle.mm_value.specs.declared.values.Value.TheVariants.{Int}
 use Rattle.mm_schema.specs.Columns.{column_named}
 use Rattle.mm_schema.specs.Indexes.{index_named}
-use Rattle.mm_schema.specs.Instance.{Instance, rows_named}
 use Rattle.mm_schema.specs.Name.{same_name}
-use Rattle.mm_schema.specs.Refused.{Condition, first_refusal}
-use Rattle.mm_schema.specs.Schema.{Schema, columns_named, lacks_table, table_named}
+use Rattle.mm_schema.specs.Refused.{first_refusal}
+use Rattle.mm_schema.specs.Schema.{Schema, columns_named, lacks_table}
 use Rattle.mm_schema.specs.declared.column.Column.{Column}
 use Rattle.mm_schema.specs.declared.index.IndexDef.{IndexDef}
 use Rattle.mm_schema.specs.declared.standing.StandingDef.{StandingDef}
 use Rattle.mm_schema.specs.declared.table.Table.{Table}
-use Rattle.mm_schema.proofs.Dues.{due_in_front}
 use Rattle.mm_schema.proofs.Duplicates.{Row}
 use Rattle.mm_schema.proofs.InOrder.{IsPermutation-in_order}
-use Rattle.mm_schema.proofs.Instances.{name_of}
 use Rattle.mm_schema.proofs.NameLemmas.{same_bytes}
-use Rattle.mm_schema.proofs.Places.{find_at_place, within_from_some}
 use Rattle.mm_query.specs.Atoms.{value_in}
 use Rattle.mm_query.specs.Machine.{conditions, index_rows, reply_to, rows_by_index, state_after, step, unless_refused}
-use Rattle.mm_query.specs.Placing.{lacks_column, placed}
 use Rattle.mm_query.specs.Queries.{bag, combinations, eval, fits, one_of_each, projected, rows_by_columns, same_row, size_conditions, value_at}
 use Rattle.mm_query.specs.Queries.{values_of}
 use Rattle.mm_query.specs.Fields.{FieldName}
 use Rattle.mm_query.specs.Resolving.{IsFieldWithin, IsQueryWithin, answer_in, bag_in, field_lacks_column, lacks_alias, lacks_position, placed_field}
-use Rattle.mm_query.specs.Resolving.{placed_query, query_conditions, select_conditions, selected, some_field, some_side, table_of, width_at}
+use Rattle.mm_query.specs.Resolving.{placed_query, query_conditions, select_conditions, selected, some_field, some_side, width_at}
 use Rattle.mm_query.specs.Standing.{AreBound, query_named, shown_rows}
 use Rattle.mm_query.specs.State.{State, rows_in}
 use Rattle.mm_query.specs.declared.bound_query.BoundQuery.{BoundQuery}
@@ -44,9 +39,14 @@ use Rattle.mm_query.specs.declared.command.Command.TheVariants.{Rollback, Savepo
 use Rattle.mm_query.specs.declared.query.FromItem.{FromItem}
 use Rattle.mm_query.specs.declared.query.Query.{Query}
 use Rattle.mm_query.specs.declared.reply.Reply.TheVariants.{Rows}
-use Rattle.mm_query.proofs.FoundTargets.{found_among, none_among}
+use Rattle.mm_query.proofs.FoundTargets.{found_among}
 use Rattle.mm_query.proofs.PlacedQueries.{none_hold, query_within}
 use Rattle.mm_laws.specs.Typing.{AreTyped, HasTypes}
+use Rattle.mm_laws.proofs.TypedPlaces.{at_place}
+use Rattle.mm_laws.proofs.TypedQueries.{IsResolved, field_resolved}
+use Rattle.mm_laws.proofs.TypedRows.{value_typed}
+use Rattle.mm_laws.proofs.TypedSteps.{none_in_front}
+use Rattle.mm_laws.proofs.TypedTables.{named_typed}
 use Rattle.mm_session.specs.Columns.{bound_columns, column_at_place, column_of_field, columns_of, query_columns}
 
 -- ---- one row
@@ -62,34 +62,11 @@ types_of_row [] (v ∷ vs) has = absurd has
 types_of_row (c ∷ cs) [] has = absurd has
 
 -- A row that has its types has a value of the type of the column at each place.
-value_typed : (columns : List Column) (row : Row) (place : ℕ) → HasTypes columns row → place < length columns
+typed_at : (columns : List Column) (row : Row) (place : ℕ) → HasTypes columns row → place < length columns
     → (column : Column) × (slice_get columns place ≡ Some column) × (type_of (value_in place row) ≡ column.col_type)
-value_typed [] row place has inside = absurd (omega (arith, inside))
-value_typed (c ∷ cs) [] place has inside = absurd has
-value_typed (c ∷ cs) (v ∷ vs) zero has inside = (c, refl, has.0)
-value_typed (c ∷ cs) (v ∷ vs) (suc place) has inside = value_typed cs vs place has.1 (omega (arith, inside))
-
--- ---- the rows of a table
-
--- the columns of a table, if it is there
-abbrev columns_in : Option Table → List Column
-columns_in table = option_map_or (λ (t : Table). t.definition.columns) table []
-
--- The rows of the table of a name have the types of its columns.
-named_typed : (name : List ℕ) (tables : List Table) (rows : Instance) → AreTyped tables rows
-    → All (HasTypes (columns_in (find (λ (t : Table). same_name name (name_of t)) tables))) (rows_named name tables rows)
-named_typed name [] [] typed = All-nil _
-named_typed name (t ∷ ts) (r ∷ rs) typed = by (same_name name (name_of t)) (named_typed name ts rs typed.1)
-  where
-    others : Option Table
-    others = find (λ (t : Table). same_name name (name_of t)) ts
-
-    by : (b : Bool) → All (HasTypes (columns_in others)) (rows_named name ts rs)
-        → All (HasTypes (columns_in (cond b (Some t) others))) (cond b r (rows_named name ts rs))
-    by true later = typed.0
-    by false later = later
-named_typed name [] (r ∷ rs) typed = absurd typed
-named_typed name (t ∷ ts) [] typed = absurd typed
+typed_at columns row place has inside =
+    let here = at_place columns place inside in
+    (here.0, here.1, value_typed columns row place here.0 has here.1)
 
 -- ---- the rows of a table of a state, and of a query
 
@@ -131,7 +108,7 @@ module _ (state : State) (typed : AreTyped state.schema.tables state.rows) where
       × (type_of (unwrap_or (value_at (map Some combination) (record { place = place; column = column })) (Int (pos 0))) ≡ found.col_type)
   field_typed [] combination place column are within = absurd (omega (arith, within))
   field_typed (item ∷ items) [] place column are within = absurd are
-  field_typed (item ∷ items) (row ∷ others) zero column are within = value_typed (columns_named item.table state.schema) row column are.0 within
+  field_typed (item ∷ items) (row ∷ others) zero column are within = typed_at (columns_named item.table state.schema) row column are.0 within
   field_typed (item ∷ items) (row ∷ others) (suc place) column are within = field_typed items others place column are.1 within
 
   module _ (query : BoundQuery) (within : IsQueryWithin state.schema query) where
@@ -173,99 +150,36 @@ module _ (state : State) (typed : AreTyped state.schema.tables state.rows) where
 
 -- ---- the columns of fields
 
--- what a name stands for: the first that has it, and its place
-record IsFound (X : Type 0) (p : X → Bool) (xs : List X) : Type 0 where
-  element : X
-  place : ℕ
-  at : position p xs ≡ Some place
-  there : slice_get xs place ≡ Some element
-  found : find p xs ≡ Some element
-
-module _ {X : Type 0} (p : X → Bool) (xs : List X) where
-  at_place : (xs : List X) (i : ℕ) → i < length xs → (x : X) × (slice_get xs i ≡ Some x)
-  at_place [] i inside = absurd (omega (arith, inside))
-  at_place (x ∷ xs) zero inside = (x, refl)
-  at_place (x ∷ xs) (suc i) inside = at_place xs i (omega (arith, inside))
-
-  found_placed : is_none (position p xs) ≡ false → IsFound X p xs
-  found_placed there = by (position p xs) refl there
-    where
-      by : (place : Option ℕ) → position p xs ≡ place → is_none place ≡ false → IsFound X p xs
-      by None at is = cc
-      by (Some i) at is =
-          let here = at_place xs i (within_from_some p xs i at) in
-          record { element = here.0; place = i; at = at; there = here.1; found = find_at_place p xs i at ∙ here.1 }
-
--- a column has a field's name, and stands where the field's places say
-record IsColumnOf (schema : Schema) (from : List FromItem) (field : FieldName) : Type 0 where
-  column : Column
-  by_name : column_of_field schema from field ≡ Some column
-  by_place : column_at_place schema from (placed_field schema from field) ≡ Some column
-  named : column.name ≡ field.column
-
 module _ (schema : Schema) (from : List FromItem) (tables : list_any (λ (item : FromItem). lacks_table item.table schema) from ≡ false) where
-  module _ (field : FieldName) (has : field_lacks_column schema from field ≡ false) where
-    abbrev is_item : FromItem → Bool
-    is_item item = same_name field.alias item.alias
-
-    in_table : (item : IsFound FromItem is_item from) (table : Table) → table_named item.element.table schema ≡ Some table
-        → IsColumnOf schema from field
-    in_table item table named =
-        let of : table_of schema from field.alias ≡ Some table = ap (option_and_then (λ (x : FromItem). table_named x.table schema)) item.found ∙ named in
-        let columns = table.definition.columns in
-        let here : lacks_column columns field.column ≡ false =
-        sym (ap (λ (t : Option Table). option_map_or (λ (u : Table). lacks_column u.definition.columns field.column) t false) of) ∙ has in
-        let is = found_placed (λ (column : Column). same_name field.column column.name) columns here in
-        let place_is : (placed_field schema from field).place ≡ item.place = ap (λ (o : Option ℕ). unwrap_or o 0) item.at in
-        let column_is : (placed_field schema from field).column ≡ is.place =
-        ap (λ (t : Option Table). option_map_or (λ (u : Table). placed u.definition.columns field.column) t 0) of
-        ∙ ap (λ (o : Option ℕ). unwrap_or o 0) is.at in
-        record {
-          column = is.element;
-          by_name = ap (option_and_then (λ (t : Table). column_named field.column t.definition.columns)) of ∙ is.found;
-          by_place = (λ i. option_and_then (λ (x : FromItem). slice_get (columns_named x.table schema) (column_is i)) (slice_get from (place_is i)))
-              ∙ (ap (option_and_then (λ (x : FromItem). slice_get (columns_named x.table schema) is.place)) item.there
-              ∙ (ap (λ (t : Option Table). slice_get (columns_in t) is.place) named ∙ is.there));
-          named = sym (same_bytes field.column is.element.name
-              (found_among (λ (column : Column). same_name field.column column.name) columns is.element is.found).1);
-        }
-
-    column_found : lacks_alias from field ≡ false → IsColumnOf schema from field
-    column_found alias = by (table_named item.element.table schema) refl
-      where
-        item : IsFound FromItem is_item from
-        item = found_placed is_item from alias
-
-        by : (table : Option Table) → table_named item.element.table schema ≡ table → IsColumnOf schema from field
-        by None missing =
-            absurd (false≢true (sym (none_among (λ (x : FromItem). lacks_table x.table schema) from item.element
-            (found_among is_item from item.element item.found).0 tables) ∙ ap is_none missing))
-        by (Some table) named = in_table item table named
-
   fields_found : (fields : List FieldName) → list_any (field_lacks_column schema from) fields ≡ false → list_any (lacks_alias from) fields ≡ false
-      → AllByRecursion (IsColumnOf schema from) fields
+      → AllByRecursion (IsResolved schema from) fields
   fields_found [] has alias = tt
   fields_found (field ∷ fields) has alias =
       let h = or_parts (field_lacks_column schema from field) (list_any (field_lacks_column schema from) fields) has in
       let a = or_parts (lacks_alias from field) (list_any (lacks_alias from) fields) alias in
-      (column_found field h.0 a.0, fields_found fields h.1 a.1)
+      (field_resolved schema from tables field h.0 a.0, fields_found fields h.1 a.1)
 
 module _ (schema : Schema) (from : List FromItem) where
-  same_columns : (fields : List FieldName) → AllByRecursion (IsColumnOf schema from) fields
+  by_name : (field : FieldName) (is : IsResolved schema from field) → column_of_field schema from field ≡ Some is.column
+  by_name field is = ap (option_and_then (λ (t : Table). column_named field.column t.definition.columns)) is.of ∙ is.named
+
+  same_columns : (fields : List FieldName) → AllByRecursion (IsResolved schema from) fields
       → filter_map (column_at_place schema from) (map (placed_field schema from) fields) ≡ filter_map (column_of_field schema from) fields
   same_columns [] all = refl
-  same_columns (field ∷ fields) all = λ i. cons_option ((all.0.by_place ∙ sym all.0.by_name) i) (same_columns fields all.1 i)
+  same_columns (field ∷ fields) all = λ i. cons_option ((all.0.by_place ∙ sym (by_name field all.0)) i) (same_columns fields all.1 i)
 
-  same_names : (fields : List FieldName) → AllByRecursion (IsColumnOf schema from) fields
+  same_names : (fields : List FieldName) → AllByRecursion (IsResolved schema from) fields
       → map (λ (column : Column). column.name) (filter_map (column_of_field schema from) fields) ≡ map (λ (field : FieldName). field.column) fields
   same_names [] all = refl
   same_names (field ∷ fields) all =
+      let columns = all.0.table.definition.columns in
+      let own = (found_among (λ (column : Column). same_name field.column column.name) columns all.0.column all.0.named).1 in
       ap (λ (found : Option Column). map (λ (column : Column). column.name) (cons_option found (filter_map (column_of_field schema from) fields)))
-      all.0.by_name
-      ∙ (λ i. all.0.named i ∷ same_names fields all.1 i)
+      (by_name field all.0)
+      ∙ (λ i. sym (same_bytes field.column all.0.column.name own) i ∷ same_names fields all.1 i)
 
 module _ (schema : Schema) (query : Query) (due : first_refusal (query_conditions query schema) ≡ None) where
-  each_found : AllByRecursion (IsColumnOf schema query.from) query.fields
+  each_found : AllByRecursion (IsResolved schema query.from) query.fields
   each_found =
       let hold = none_hold (query_conditions query schema) due in
       let has = or_parts (some_field (field_lacks_column schema query.from) query) (list_any (lacks_position query.fields) query.order) hold.1.0 in
@@ -294,14 +208,6 @@ named_holds P name (s ∷ ss) (q ∷ qs) all = by (same_name name s.name) (named
     by : (b : Bool) → IfSome (query_named name ss qs) P → IfSome (cond b (Some q) (query_named name ss qs)) P
     by true later = All-head P q qs all
     by false later = later
-
--- Where none of some conditions holds, none of the first ones does.
-none_in_front : (cs ds : List Condition) → first_refusal (cs ++ ds) ≡ None → first_refusal cs ≡ None
-none_in_front cs ds none = by (first_refusal cs) refl
-  where
-    by : (due : Option Refusal) → first_refusal cs ≡ due → due ≡ None
-    by None is = refl
-    by (Some refusal) is = let both : None ≡ Some refusal = sym none ∙ due_in_front cs ds refusal is in cc
 
 module _ (state : State) (typed : AreTyped state.schema.tables state.rows) (bound : AreBound state) where
   by_index : (index : Option IndexDef)

@@ -16,17 +16,13 @@ ghost use Rattle.mm_query.specs.declared.query.Query.{Query};
 ghost use Rattle.mm_query.specs.declared.reply.Reply.TheVariants.{Rows};
 ghost use Rattle.mm_session.specs.Columns.{columns_of};
 
-use mm_laws::types_are_kept;
-
 /// In every state that commands can lead to from the first, whatever they are, each row that a command replies has a value of the
 /// type of each of the command's columns, in order, and no more values.
 pub fn rows_have_the_types_of_columns()
     ensures { (commands : List Command) (command : Command) (rows : List (List Value)) → let reached = after_all commands first_state in
         (step command reached).reply ≡ Some (Rows rows)
         → All (λ (row : List Value). map type_of row ≡ map (λ (column : Column). column.col_type) (columns_of command reached)) rows }
-{
-    types_are_kept();
-}
+{}
 
 /// The columns of a SELECT that the catalog does not refuse have the names that its fields give, in order.
 pub fn columns_have_the_names_of_fields()

@@ -6,5 +6,5 @@ use Rattle.mm_session.proofs.columns_law.rows_have_the_types_of_columns.Goals as
 
 pub returns : goal.returns
 returns c commands command rows is =
-    let sound = reached_sound c.types_are_kept.ensures.first c.types_are_kept.ensures.step commands in
+    let sound = reached_sound commands in
     reply_typed (after_all commands first_state) sound.typed.rows sound.bound command rows is
