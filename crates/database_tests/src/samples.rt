@@ -299,7 +299,7 @@ fn write_stored(
         let Some(row) = rows.next() else {
             break;
         };
-        lines.add_row(row, &mut Watched::new(&mut *told))?;
+        lines.add_row(&row, &mut Watched::new(&mut *told))?;
     }
     lines.finish(count, &mut Watched::new(told))
 }

@@ -1,26 +1,27 @@
 //! Rows chosen at places of FROM.
 ghost use Rattle.std.specs.Prelude.{◌≡◌, ◌<◌, ◌≤◌, length, map, replicate, set, None, Some};
-ghost use Rattle.std.specs.Option.{option_copied};
+ghost use Rattle.mm_partition.specs.Reads.{row_read};
+ghost use Rattle.mm_query.specs.Queries.{rows_read};
 
+use mm_partition::RowRead;
 use mm_query::MAX_FROM;
-use mm_value::Row;
 use std::marker::Model;
 
 /// For each place of FROM a row, or none yet.
 #[derive(Drop)]
 pub(crate) struct Chosen<'c> {
-    rows: [Option<&'c Row>; MAX_FROM],
+    rows: [Option<RowRead<'c>>; MAX_FROM],
     places: usize,
 }
 
 impl<'c> Model for Chosen<'c> {
     ghost use Rattle.std.specs.Prelude.{◌≡◌, ◌≤◌, length, map, take};
-    ghost use Rattle.std.specs.Option.{option_copied};
-    ghost use Rattle.mm_query.specs.Queries.{Partial};
+    ghost use Rattle.mm_partition.specs.Reads.{row_read};
+    ghost use Rattle.mm_query.specs.Queries.{Partial, rows_read};
 
     ghost Value = { Partial };
 
-    ghost view = { λ c. take c.places (map option_copied c.rows) };
+    ghost view = { λ c. take c.places (rows_read row_read c.rows) };
 
     ghost invariant = { λ c. (c.places ≤ 4) × (length c.rows ≡ 4) };
 }
@@ -38,16 +39,16 @@ impl<'c> Chosen<'c> {
     }
 
     /// For each place the row there, if there is one.
-    pub(crate) fn as_slice(&self) -> &[Option<&'c Row>]
-        ensures { map option_copied result.now ≡ self.now }
+    pub(crate) fn as_slice(&self) -> &[Option<RowRead<'c>>]
+        ensures { rows_read row_read result.now ≡ self.now }
     {
         &self.rows[..self.places]
     }
 
     /// The same with a row at a place.
-    pub(crate) fn with(&self, place: usize, row: &'c Row) -> Chosen<'c>
+    pub(crate) fn with(&self, place: usize, row: RowRead<'c>) -> Chosen<'c>
         requires { place < length self.now }
-        ensures { result ≡ set self.now place (Some row.now) }
+        ensures { result ≡ set self.now place (Some (row_read row.entry)) }
     {
         let mut rows = self.rows;
         rows[place] = Some(row);

@@ -1,6 +1,7 @@
 //! The rows that edits bring, by their values in a column.
 ghost use Rattle.std.specs.Prelude.{◌≡◌, ◌++◌, [], ◌∷◌, false, if◌then◌else◌, map, true, List, IfOk, OnOk, Some};
 ghost use Rattle.std.specs.List.{cons_option};
+ghost use Rattle.mm_partition.specs.Reads.{row_read};
 ghost use Rattle.mm_value.specs.Equality.{same_value};
 ghost use Rattle.mm_value.specs.declared.values.Value.{Value as AnyValue};
 ghost use Rattle.mm_delta.specs.EditIndex.{AreUnder, HasNonePast, rows_under};
@@ -8,11 +9,11 @@ ghost use Rattle.mm_delta.specs.Steps.{coming};
 ghost use Rattle.mm_delta.specs.Wanted.{value_wanted};
 
 use crate::edited::row_come;
-use crate::known::value_in;
 use crate::wanted::{Wanted, number_value};
 use indexmap::IndexMap;
+use mm_partition::RowRead;
 use mm_relation::Edit;
-use mm_value::{Row, Value};
+use mm_value::Value;
 use std::alloc::{AllocError, Global};
 
 /// A hash index over the rows that edits bring.
@@ -21,7 +22,7 @@ pub(crate) struct ComingIndex<'c> {
     /// The column by whose values the rows are found, counted from 0.
     pub(crate) column: usize,
     /// The rows under each value, in the order of the edits.
-    pub(crate) rows: IndexMap<Value, Vec<&'c Row>>,
+    pub(crate) rows: IndexMap<Value, Vec<RowRead<'c>>>,
 }
 
 impl<'c> ComingIndex<'c> {
@@ -43,8 +44,12 @@ impl<'c> ComingIndex<'c> {
     }
 
     /// Adds the rows that have a value in the column. `AllocError` where memory is refused.
-    pub(crate) fn add_rows(&self, value: &Value, rows: &mut Vec<&'c Row>) -> Result<(), AllocError>
-        ensures { OnOk result (map (λ row. row.now) rows.new.items ≡ map (λ row. row.now) rows.old.items ++ rows_under value.now self.now.rows.entries) }
+    pub(crate) fn add_rows(
+        &self,
+        value: &Value,
+        rows: &mut Vec<RowRead<'c>>,
+    ) -> Result<(), AllocError>
+        ensures { OnOk result (map row_read rows.new.items ≡ map row_read rows.old.items ++ rows_under value.now self.now.rows.entries) }
     {
         if let Some(found) = self.rows.get(value) {
             rows.extend_from_slice(found)?;
@@ -56,10 +61,10 @@ impl<'c> ComingIndex<'c> {
     pub(crate) fn add_wanted(
         &self,
         wanted: &Wanted,
-        rows: &mut Vec<&'c Row>,
+        rows: &mut Vec<RowRead<'c>>,
     ) -> Result<(), AllocError>
         requires { HasNonePast self.now.rows.entries }
-        ensures { OnOk result (map (λ row. row.now) rows.new.items ≡ map (λ row. row.now) rows.old.items ++ rows_under (value_wanted wanted.now) self.now.rows.entries) }
+        ensures { OnOk result (map row_read rows.new.items ≡ map row_read rows.old.items ++ rows_under (value_wanted wanted.now) self.now.rows.entries) }
     {
         match wanted {
             Wanted::Value(value) => self.add_rows(value, rows),
@@ -74,7 +79,7 @@ impl<'c> ComingIndex<'c> {
 /// Puts the row that an edit brings, if it does, behind those under its value in a column. `AllocError` where memory is refused.
 fn add_edit<'c>(
     alloc: Global,
-    rows: &mut IndexMap<Value, Vec<&'c Row>>,
+    rows: &mut IndexMap<Value, Vec<RowRead<'c>>>,
     column: usize,
     edit: &'c Edit,
 ) -> Result<(), AllocError>
@@ -86,7 +91,8 @@ fn add_edit<'c>(
     match row_come(edit) {
         Some(row) => {
             row.is_storable();
-            add_row(alloc, rows, value_in(row, column, &zero), row)
+            let value = row.values().get(column).unwrap_or(&zero);
+            add_row(alloc, rows, value, RowRead::Owned(row))
         }
         None => Ok(()),
     }
@@ -95,12 +101,12 @@ fn add_edit<'c>(
 /// Puts a row behind those under a value. `AllocError` where memory is refused.
 fn add_row<'c>(
     alloc: Global,
-    rows: &mut IndexMap<Value, Vec<&'c Row>>,
+    rows: &mut IndexMap<Value, Vec<RowRead<'c>>>,
     value: &Value,
-    row: &'c Row,
+    row: RowRead<'c>,
 ) -> Result<(), AllocError>
     ensures { OnOk result ((other : AnyValue) → rows_under other rows.new.entries
-        ≡ rows_under other rows.old.entries ++ (if same_value value.now other then row.now ∷ [] else [])) }
+        ≡ rows_under other rows.old.entries ++ (if same_value value.now other then row_read row.entry ∷ [] else [])) }
 {
     if add_found(rows, value, row)? {
         return Ok(());
@@ -113,12 +119,12 @@ fn add_row<'c>(
 
 /// Puts a row behind those under a value where that has an entry, and tells whether it has. `AllocError` where memory is refused.
 fn add_found<'c>(
-    rows: &mut IndexMap<Value, Vec<&'c Row>>,
+    rows: &mut IndexMap<Value, Vec<RowRead<'c>>>,
     value: &Value,
-    row: &'c Row,
+    row: RowRead<'c>,
 ) -> Result<bool, AllocError>
     ensures added { IfOk result (λ found. found ≡ true → (other : AnyValue) → rows_under other rows.new.entries
-        ≡ rows_under other rows.old.entries ++ (if same_value value.now other then row.now ∷ [] else [])) }
+        ≡ rows_under other rows.old.entries ++ (if same_value value.now other then row_read row.entry ∷ [] else [])) }
     ensures absent { IfOk result (λ found. found ≡ false → rows_under value.now rows.old.entries ≡ []) }
     ensures kept { IfOk result (λ found. found ≡ false → rows.new ≡ rows.old) }
 {

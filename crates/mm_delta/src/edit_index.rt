@@ -1,6 +1,7 @@
 //! What is found by hash among the edits of a table.
 ghost use Rattle.std.specs.Prelude.{◌≡◌, ◌++◌, ◌||◌, filter, filter_map, map, All, IfOk, IfSome, OnOk};
 ghost use Rattle.std.specs.List.{list_any};
+ghost use Rattle.mm_partition.specs.Reads.{row_read};
 ghost use Rattle.mm_value.specs.declared.row_ref.RowRef.{RowRef as Reference};
 ghost use Rattle.mm_delta.specs.EditIndex.{AreGone, AreUnder, HasNonePast, is_key_of};
 ghost use Rattle.mm_delta.specs.Steps.{asked, coming, stays, takes};
@@ -10,8 +11,9 @@ use crate::edited::row_gone;
 use crate::look_up::LookUp;
 use crate::rows::add_coming;
 use indexmap::IndexSet;
+use mm_partition::RowRead;
 use mm_relation::Edit;
-use mm_value::{Row, RowRef};
+use mm_value::RowRef;
 use std::alloc::{AllocError, Global};
 use std::marker::Model;
 
@@ -84,10 +86,10 @@ impl<'c> EditIndex<'c> {
     /// there is an index on the column of the look-up. `AllocError` where memory is refused.
     pub(crate) fn add_coming(
         &self,
-        rows: &mut Vec<&'c Row>,
+        rows: &mut Vec<RowRead<'c>>,
         look_up: &Option<LookUp>,
     ) -> Result<(), AllocError>
-        ensures { OnOk result (map (λ row. row.now) rows.new.items ≡ map (λ row. row.now) rows.old.items ++ filter_map (coming (asked look_up.now)) self.now) }
+        ensures { OnOk result (map row_read rows.new.items ≡ map row_read rows.old.items ++ filter_map (coming (asked look_up.now)) self.now) }
     {
         if let Some(look_up) = look_up {
             if let Some(index) = self.coming_on(look_up.column) {

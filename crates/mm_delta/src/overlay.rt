@@ -1,13 +1,15 @@
 //! The edits that count where rows are looked for.
 ghost use Rattle.std.specs.Prelude.{◌≡◌, ◌++◌, filter, filter_map, map, OnOk};
+ghost use Rattle.mm_partition.specs.Reads.{row_read};
 ghost use Rattle.mm_delta.specs.Overlay.{overlay_edits};
 ghost use Rattle.mm_delta.specs.Steps.{asked, coming, stays};
 
 use crate::edit_index::EditIndex;
 use crate::look_up::LookUp;
 use crate::rows::{add_coming, leave_standing};
+use mm_partition::RowRead;
 use mm_relation::Edit;
-use mm_value::{Row, RowRef};
+use mm_value::RowRef;
 use std::alloc::AllocError;
 
 /// The overlay of a table: its edits, which count beside its rows.
@@ -33,10 +35,10 @@ impl<'c> Overlay<'_, 'c> {
     /// Adds those of the rows that the edits bring that have what a look-up requires. `AllocError` where memory is refused.
     pub(crate) fn add_coming(
         &self,
-        rows: &mut Vec<&'c Row>,
+        rows: &mut Vec<RowRead<'c>>,
         look_up: &Option<LookUp>,
     ) -> Result<(), AllocError>
-        ensures { OnOk result (map (λ row. row.now) rows.new.items ≡ map (λ row. row.now) rows.old.items ++ filter_map (coming (asked look_up.now)) (overlay_edits self.now)) }
+        ensures { OnOk result (map row_read rows.new.items ≡ map row_read rows.old.items ++ filter_map (coming (asked look_up.now)) (overlay_edits self.now)) }
     {
         match self {
             Overlay::Listed(edits) => add_coming(rows, edits, look_up),

@@ -1,8 +1,10 @@
 //! The rows that are gone over at a place of FROM.
 ghost use Rattle.std.specs.Prelude.{◌≡◌, ◌+◌, ◌++◌, ◌<◌, ◌≤◌, [], filter, filter_map, length, map, All, IfOk, IfSome, None, OnOk, Some};
+ghost use Rattle.mm_value.specs.Views.{value_of};
+ghost use Rattle.mm_partition.specs.Reads.{row_read};
 ghost use Rattle.mm_partition.specs.Places.{IsLive, slot_at};
 ghost use Rattle.std.specs.List.{cons_option};
-ghost use Rattle.std.specs.Option.{option_copied};
+ghost use Rattle.std.specs.Option.{option_map};
 ghost use Rattle.mm_relation.specs.Kept.{StoredRows};
 ghost use Rattle.mm_relation.specs.Refs.{row_at};
 ghost use Rattle.mm_store.specs.Tables.{IsAt};
@@ -14,9 +16,10 @@ use crate::edited::{row_come, stays};
 use crate::known::value_in;
 use crate::look_up::LookUp;
 use crate::wanted::{Wanted, number_value};
+use mm_partition::RowRead;
 use mm_relation::Edit;
 use mm_store::{IndexRef, View};
-use mm_value::{Row, RowRef, Value};
+use mm_value::{RowRef, ValueRef};
 use std::alloc::{AllocError, Global};
 
 /// The references of the rows of a table that have a value in the column of an index, each once and in no promised order. No row
@@ -26,12 +29,12 @@ fn having_value(
     view: &View<'_>,
     table: usize,
     look_up: &LookUp,
-    value: &Value,
+    value: ValueRef<'_>,
 ) -> Result<Vec<RowRef>, AllocError>
     requires there { table < length view.now.store.tables }
     requires served { IsServed view.now.store table look_up.now }
     ensures { IfOk result (λ found. (stored : StoredRows) → IsAt view.now.store table stored
-        → IsFoundOf (Some (look_up.now.column, value.now)) stored found.items) }
+        → IsFoundOf (Some (look_up.now.column, value_of value.entry)) stored found.items) }
 {
     let mut found = Vec::new(alloc);
     view.matches(alloc, table, look_up.index, value, &mut found)?;
@@ -52,9 +55,9 @@ fn matching(
         → IsFoundOf (Some (look_up.now.column, value_wanted look_up.now.wanted)) stored found.items) }
 {
     match &look_up.wanted {
-        Wanted::Value(value) => having_value(alloc, view, table, look_up, value),
+        Wanted::Value(value) => having_value(alloc, view, table, look_up, value.as_ref()),
         Wanted::Sum(sum) => match number_value(*sum) {
-            Some(value) => having_value(alloc, view, table, look_up, &value),
+            Some(value) => having_value(alloc, view, table, look_up, value.as_ref()),
             // No row has a number past 64 bits.
             None => Ok(Vec::new(alloc)),
         },
@@ -104,45 +107,44 @@ pub(crate) fn read_all<'c, 'a: 'c>(
     view: &mut View<'a>,
     table: usize,
     refs: &[RowRef],
-) -> Result<Vec<&'c Row>, AllocError>
+) -> Result<Vec<RowRead<'c>>, AllocError>
     requires there { table < length view.old.store.tables }
     requires live { (stored : StoredRows) → IsAt view.old.store table stored → All (IsLive stored.places) refs.now }
     ensures rows { IfOk result (λ rows. (stored : StoredRows) → IsAt view.old.store table stored
-        → map (λ row. row.now) rows.items ≡ map (row_at (slot_at stored.places)) refs.now) }
+        → map row_read rows.items ≡ map (row_at (slot_at stored.places)) refs.now) }
     ensures reads { view.new.reads ≤ view.old.reads + length refs.now }
     ensures same { view.new.store ≡ view.old.store }
 {
     let mut rows = Vec::new(alloc);
     for at in refs {
-        rows.push(view.row(table, *at))?;
+        rows.push(RowRead::Stored(view.row(table, *at)))?;
     }
     Ok(rows)
 }
 
 /// Whether a row has what a look-up requires, if there is one.
-fn fits(look_up: &Option<LookUp>, row: &Row) -> bool
-    ensures { result ≡ passes (asked look_up.now) row.now }
+fn fits(look_up: &Option<LookUp>, row: RowRead<'_>) -> bool
+    ensures { result ≡ passes (asked look_up.now) (row_read row.entry) }
 {
-    let zero = Value::Int(0);
     match look_up {
-        Some(look_up) => look_up.wanted.is(value_in(row, look_up.column, &zero)),
+        Some(look_up) => look_up.wanted.is(value_in(row, look_up.column)),
         None => true,
     }
 }
 
 /// The row that an edit brings, if it has what a look-up requires.
-fn coming<'c>(edit: &'c Edit, look_up: &Option<LookUp>) -> Option<&'c Row>
-    ensures { option_copied result ≡ coming (asked look_up.now) edit.now }
+fn coming<'c>(edit: &'c Edit, look_up: &Option<LookUp>) -> Option<RowRead<'c>>
+    ensures { option_map row_read result ≡ coming (asked look_up.now) edit.now }
 {
     match row_come(edit) {
-        Some(row) if fits(look_up, row) => Some(row),
+        Some(row) if fits(look_up, RowRead::Owned(row)) => Some(RowRead::Owned(row)),
         _ => None,
     }
 }
 
 /// Adds a row, if there is one. `AllocError` where memory is refused.
-fn push_some<'c>(rows: &mut Vec<&'c Row>, row: Option<&'c Row>) -> Result<(), AllocError>
-    ensures { OnOk result (map (λ row. row.now) rows.new.items ≡ map (λ row. row.now) rows.old.items ++ cons_option (option_copied row.entry) []) }
+fn push_some<'c>(rows: &mut Vec<RowRead<'c>>, row: Option<RowRead<'c>>) -> Result<(), AllocError>
+    ensures { OnOk result (map row_read rows.new.items ≡ map row_read rows.old.items ++ cons_option (option_map row_read row.entry) []) }
 {
     if let Some(row) = row {
         rows.push(row)?;
@@ -152,11 +154,11 @@ fn push_some<'c>(rows: &mut Vec<&'c Row>, row: Option<&'c Row>) -> Result<(), Al
 
 /// Adds those of the rows that edits bring that have what a look-up requires. `AllocError` where memory is refused.
 pub(crate) fn add_coming<'c>(
-    rows: &mut Vec<&'c Row>,
+    rows: &mut Vec<RowRead<'c>>,
     edits: &'c [Edit],
     look_up: &Option<LookUp>,
 ) -> Result<(), AllocError>
-    ensures { OnOk result (map (λ row. row.now) rows.new.items ≡ map (λ row. row.now) rows.old.items ++ filter_map (coming (asked look_up.now)) edits.now) }
+    ensures { OnOk result (map row_read rows.new.items ≡ map row_read rows.old.items ++ filter_map (coming (asked look_up.now)) edits.now) }
 {
     for edit in edits {
         push_some(rows, coming(edit, look_up))?;

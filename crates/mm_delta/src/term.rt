@@ -1,6 +1,7 @@
 //! What the edited rows at one place of FROM add.
 ghost use Rattle.std.specs.Prelude.{◌≡◌, ℕ, ◌+◌, ◌<◌, ◌≤◌, Bool, [], ◌∷◌, List, get_or, length, map, All, OnOk};
 ghost use Rattle.std.specs.List.{sum_by};
+ghost use Rattle.mm_partition.specs.Reads.{row_read};
 ghost use Rattle.mm_value.specs.declared.values.Value.{Value as AnyValue};
 ghost use Rattle.mm_query.specs.Queries.{bag_of};
 ghost use Rattle.mm_multiset.specs.Counts.{count_in, count_of};
@@ -13,8 +14,8 @@ ghost use Rattle.mm_delta.specs.Walk.{other_places};
 use crate::unseen::Sight;
 use crate::walk::Walk;
 use mm_multiset::Tally;
+use mm_partition::RowRead;
 use mm_store::View;
-use mm_value::Row;
 use std::alloc::{AllocError, Global};
 
 impl<'c> Walk<'_, 'c> {
@@ -24,7 +25,7 @@ impl<'c> Walk<'_, 'c> {
         &self,
         alloc: Global,
         view: &mut View<'a>,
-        rows: &[&'c Row],
+        rows: &[RowRead<'c>],
         out: &mut Tally,
     ) -> Result<(), AllocError>
         requires place { self.now.place < length self.now.tables.now }
@@ -32,14 +33,14 @@ impl<'c> Walk<'_, 'c> {
         requires there { HasTables self.now.tables.now view.old.store (other_places (length self.now.tables.now) self.now.place) }
         requires fit { EachFit view.old.store self.now.changes.now }
         requires typed { IsTypeTested self.now.query.now view.old.store self.now.changes.now self.now.tables.now }
-        requires edited { All (IsRowOf view.old.store self.now.changes.now (get_or self.now.tables.now self.now.place 0)) (map (λ row. row.now) rows.now) }
+        requires edited { All (IsRowOf view.old.store self.now.changes.now (get_or self.now.tables.now self.now.place 0)) (map row_read rows.now) }
         ensures counted { OnOk result ((other : List AnyValue) → count_in other out.new.entries ≡ count_in other out.old.entries
             + sum_by (λ x. count_of other (bag_of self.now.query.now
             (lists_around 0 (after_at view.old.store self.now.changes.now) (λ _. x ∷ []) (before_at view.old.store) self.now.tables.now self.now.place)))
-            (map (λ row. row.now) rows.now)) }
+            (map row_read rows.now)) }
         ensures reads { (skipped : ℕ → List AnyValue → Bool) → IsOfCyclicRows self.now.query.now skipped → view.new.reads ≤ view.old.reads
             + sum_by (row_reads self.now.query.now view.old.store self.now.changes.now self.now.tables.now skipped self.now.place)
-            (map (λ row. row.now) rows.now) }
+            (map row_read rows.now) }
         ensures same { view.new.store ≡ view.old.store }
     {
         for row in rows {

@@ -1,6 +1,7 @@
 //! What a query sees of edits: nothing of a row that changes in other columns than it reads.
 ghost use Rattle.std.specs.Prelude.{◌≡◌, ◌+◌, ◌++◌, ◌∷◌, ◌<◌, ◌≤◌, [], filter_map, length, map, All, IfOk, OnOk};
 ghost use Rattle.std.specs.List.{cons_option, list_all};
+ghost use Rattle.mm_partition.specs.Reads.{row_read};
 ghost use Rattle.mm_partition.specs.Places.{IsLive, slot_at};
 ghost use Rattle.mm_relation.specs.Edits.{edit_name, named};
 ghost use Rattle.mm_relation.specs.Kept.{StoredRows};
@@ -9,19 +10,20 @@ ghost use Rattle.mm_store.specs.Tables.{AreFit, IsAt};
 ghost use Rattle.mm_delta.specs.Unseen.{agree_for, agree_in, come_seen, gone_seen, looks_alike};
 
 use crate::known::value_in;
+use mm_partition::RowRead;
 use mm_query::{Atom, BoundQuery, FieldPlace};
 use mm_relation::Edit;
 use mm_store::View;
-use mm_value::{Row, Value};
+use mm_value::compare;
 use std::alloc::{AllocError, Global};
 
 /// The rows by which edits of a table change what a query makes of it at a place of FROM.
 #[derive(Drop)]
 pub(crate) struct SeenRows<'c> {
     /// Those that go.
-    pub(crate) gone: Vec<&'c Row>,
+    pub(crate) gone: Vec<RowRead<'c>>,
     /// Those that come.
-    pub(crate) come: Vec<&'c Row>,
+    pub(crate) come: Vec<RowRead<'c>>,
 }
 
 /// A query, and one of its places of FROM.
@@ -33,17 +35,16 @@ pub(crate) struct Sight<'c> {
 
 impl<'c> Sight<'c> {
     /// Whether two rows have the same value in the column of a field, if it is a field of the place.
-    fn agree_in(&self, a: &Row, b: &Row, field: FieldPlace) -> bool
-        ensures { result ≡ agree_in self.now.place a.now b.now field }
+    fn agree_in(&self, a: RowRead<'_>, b: RowRead<'_>, field: FieldPlace) -> bool
+        ensures { result ≡ agree_in self.now.place (row_read a.entry) (row_read b.entry) field }
     {
-        let zero = Value::Int(0);
         field.place != self.place
-            || value_in(a, field.column, &zero) == value_in(b, field.column, &zero)
+            || compare(&value_in(a, field.column), &value_in(b, field.column)).is_eq()
     }
 
     /// Whether two rows have the same values in the columns of the place that an atom compares.
-    fn agree_for(&self, a: &Row, b: &Row, atom: &Atom<FieldPlace>) -> bool
-        ensures { result ≡ agree_for self.now.place a.now b.now atom.now }
+    fn agree_for(&self, a: RowRead<'_>, b: RowRead<'_>, atom: &Atom<FieldPlace>) -> bool
+        ensures { result ≡ agree_for self.now.place (row_read a.entry) (row_read b.entry) atom.now }
     {
         let agree_right = match atom.right.column() {
             Some(field) => self.agree_in(a, b, *field),
@@ -53,22 +54,22 @@ impl<'c> Sight<'c> {
     }
 
     /// Whether two rows have the same values in the columns of the place that atoms compare.
-    fn agree_for_all(&self, a: &Row, b: &Row, atoms: &[Atom<FieldPlace>]) -> bool
-        ensures { result ≡ list_all (agree_for self.now.place a.now b.now) atoms.now }
+    fn agree_for_all(&self, a: RowRead<'_>, b: RowRead<'_>, atoms: &[Atom<FieldPlace>]) -> bool
+        ensures { result ≡ list_all (agree_for self.now.place (row_read a.entry) (row_read b.entry)) atoms.now }
     {
         atoms.iter().all(|atom| self.agree_for(a, b, atom))
     }
 
     /// Whether two rows have the same values in the columns of fields, if these are fields of the place.
-    fn agree_in_all(&self, a: &Row, b: &Row, fields: &[FieldPlace]) -> bool
-        ensures { result ≡ list_all (agree_in self.now.place a.now b.now) fields.now }
+    fn agree_in_all(&self, a: RowRead<'_>, b: RowRead<'_>, fields: &[FieldPlace]) -> bool
+        ensures { result ≡ list_all (agree_in self.now.place (row_read a.entry) (row_read b.entry)) fields.now }
     {
         fields.iter().all(|field| self.agree_in(a, b, *field))
     }
 
     /// Whether the query makes the same of two rows at the place: they have the same values in all columns that it reads there.
-    fn looks_alike(&self, a: &Row, b: &Row) -> bool
-        ensures { result ≡ looks_alike self.now.query.now self.now.place a.now b.now }
+    fn looks_alike(&self, a: RowRead<'_>, b: RowRead<'_>) -> bool
+        ensures { result ≡ looks_alike self.now.query.now self.now.place (row_read a.entry) (row_read b.entry) }
     {
         self.agree_for_all(a, b, self.query.atoms.as_slice())
             && self.agree_in_all(a, b, self.query.fields.as_slice())
@@ -85,21 +86,22 @@ impl<'c> Sight<'c> {
     ) -> Result<(), AllocError>
         requires there { table < length view.old.store.tables }
         requires live { (stored : StoredRows) → IsAt view.old.store table stored → All (IsLive stored.places) (named edit_name Old (edit.now ∷ [])) }
-        ensures gone { OnOk result ((stored : StoredRows) → IsAt view.old.store table stored → map (λ row. row.now) seen.new.gone.items
-            ≡ map (λ row. row.now) seen.old.gone.items ++ cons_option (gone_seen self.now.query.now self.now.place (slot_at stored.places) edit.entry.now) []) }
-        ensures come { OnOk result ((stored : StoredRows) → IsAt view.old.store table stored → map (λ row. row.now) seen.new.come.items
-            ≡ map (λ row. row.now) seen.old.come.items ++ cons_option (come_seen self.now.query.now self.now.place (slot_at stored.places) edit.entry.now) []) }
+        ensures gone { OnOk result ((stored : StoredRows) → IsAt view.old.store table stored → map row_read seen.new.gone.items
+            ≡ map row_read seen.old.gone.items ++ cons_option (gone_seen self.now.query.now self.now.place (slot_at stored.places) edit.entry.now) []) }
+        ensures come { OnOk result ((stored : StoredRows) → IsAt view.old.store table stored → map row_read seen.new.come.items
+            ≡ map row_read seen.old.come.items ++ cons_option (come_seen self.now.query.now self.now.place (slot_at stored.places) edit.entry.now) []) }
         ensures reads { view.new.reads ≤ view.old.reads + length (named edit_name Old (edit.entry.now ∷ [])) }
         ensures same { view.new.store ≡ view.old.store }
     {
         match edit {
-            Edit::Add(row) => seen.come.push(row)?,
-            Edit::Gone(at) => seen.gone.push(view.row(table, *at))?,
+            Edit::Add(row) => seen.come.push(RowRead::Owned(row))?,
+            Edit::Gone(at) => seen.gone.push(RowRead::Stored(view.row(table, *at)))?,
             Edit::Swap(at, row) => {
-                let old = view.row(table, *at);
-                if !self.looks_alike(old, row) {
+                let old = RowRead::Stored(view.row(table, *at));
+                let new = RowRead::Owned(row);
+                if !self.looks_alike(old, new) {
                     seen.gone.push(old)?;
-                    seen.come.push(row)?;
+                    seen.come.push(new)?;
                 }
             }
         }
@@ -118,9 +120,9 @@ impl<'c> Sight<'c> {
         requires there { table < length view.old.store.tables }
         requires fit { (stored : StoredRows) → IsAt view.old.store table stored → AreFit stored edits.now }
         ensures gone { IfOk result (λ seen. (stored : StoredRows) → IsAt view.old.store table stored
-            → map (λ row. row.now) seen.gone.items ≡ filter_map (gone_seen self.now.query.now self.now.place (slot_at stored.places)) edits.now) }
+            → map row_read seen.gone.items ≡ filter_map (gone_seen self.now.query.now self.now.place (slot_at stored.places)) edits.now) }
         ensures come { IfOk result (λ seen. (stored : StoredRows) → IsAt view.old.store table stored
-            → map (λ row. row.now) seen.come.items ≡ filter_map (come_seen self.now.query.now self.now.place (slot_at stored.places)) edits.now) }
+            → map row_read seen.come.items ≡ filter_map (come_seen self.now.query.now self.now.place (slot_at stored.places)) edits.now) }
         ensures reads { view.new.reads ≤ view.old.reads + length (named edit_name Old edits.now) }
         ensures same { view.new.store ≡ view.old.store }
     {

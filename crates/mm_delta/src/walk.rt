@@ -1,5 +1,6 @@
 //! The combinations that have an edited row at one place of FROM.
 ghost use Rattle.std.specs.Prelude.{◌≡◌, ◌↔◌, ◌⊎◌, ℕ, ◌+◌, ◌<◌, ◌≤◌, Bool, false, [], ◌∷◌, List, length, map, get_or, IfOk, IfSome, IsTrue, OnOk};
+ghost use Rattle.mm_partition.specs.Reads.{row_read};
 ghost use Rattle.mm_value.specs.declared.values.Value.{Value as AnyValue};
 ghost use Rattle.mm_query.specs.Queries.{bag_of, none_fails as none_fails_lem};
 ghost use Rattle.mm_delta.specs.Overlay.{overlay_edits};
@@ -21,9 +22,9 @@ use crate::rows::{read_all, references};
 use crate::skipped::is_skipped;
 use arrayvec::ArrayVec;
 use mm_multiset::Tally;
+use mm_partition::RowRead;
 use mm_query::{BoundQuery, MAX_FROM, none_fails, values_of};
 use mm_store::View;
-use mm_value::Row;
 use std::alloc::{AllocError, Global};
 
 /// What is walked: a query, a change, and the place of FROM that has an edited row.
@@ -81,10 +82,10 @@ impl<'w, 'c> Walk<'w, 'c> {
         view: &mut View<'a>,
         chosen: &Chosen<'c>,
         place: usize,
-    ) -> Result<Vec<&'c Row>, AllocError>
+    ) -> Result<Vec<RowRead<'c>>, AllocError>
         requires there { (place < length self.now.tables.now) × (get_or self.now.tables.now place 0 < length view.old.store.tables) }
         requires fit { EachFit view.old.store self.now.changes.now }
-        ensures rows { IfOk result (λ rows. AreAlike (map (λ row. row.now) rows.items)
+        ensures rows { IfOk result (λ rows. AreAlike (map row_read rows.items)
             (having (required (has_index view.old.store (get_or self.now.tables.now place 0)) self.now.query.now.atoms chosen.now place)
             (walked view.old.store self.now.changes.now self.now.tables.now self.now.place place))) }
         ensures reads { view.new.reads ≤ view.old.reads
@@ -142,9 +143,14 @@ impl<'w, 'c> Walk<'w, 'c> {
 
     /// Whether the row at the place of the edited row, of which alone these rows consist, is left out, since no combination with
     /// it fits: an atom is false of it already, or it has a cycle. No row is read. `AllocError` where memory is refused.
-    fn is_left_out(&self, alloc: Global, chosen: &Chosen<'c>, row: &Row) -> Result<bool, AllocError>
+    fn is_left_out(
+        &self,
+        alloc: Global,
+        chosen: &Chosen<'c>,
+        row: RowRead<'_>,
+    ) -> Result<bool, AllocError>
         ensures { IfOk result (λ left_out. IsTrue left_out
-            ↔ ((none_fails_lem self.now.query.now.atoms chosen.now ≡ false) ⊎ IsCyclic self.now.query.now self.now.place row.now)) }
+            ↔ ((none_fails_lem self.now.query.now.atoms chosen.now ≡ false) ⊎ IsCyclic self.now.query.now self.now.place (row_read row.entry))) }
     {
         if !none_fails(self.query.atoms.as_slice(), chosen.as_slice()) {
             return Ok(true);
@@ -158,7 +164,7 @@ impl<'w, 'c> Walk<'w, 'c> {
         &self,
         alloc: Global,
         view: &mut View<'a>,
-        row: &'c Row,
+        row: RowRead<'c>,
         out: &mut Tally,
     ) -> Result<(), AllocError>
         requires place { self.now.place < length self.now.tables.now }
@@ -166,12 +172,12 @@ impl<'w, 'c> Walk<'w, 'c> {
         requires there { HasTables self.now.tables.now view.old.store (other_places_lem (length self.now.tables.now) self.now.place) }
         requires fit { EachFit view.old.store self.now.changes.now }
         requires typed { IsTypeTested self.now.query.now view.old.store self.now.changes.now self.now.tables.now }
-        requires edited { IsRowOf view.old.store self.now.changes.now (get_or self.now.tables.now self.now.place 0) row.now }
+        requires edited { IsRowOf view.old.store self.now.changes.now (get_or self.now.tables.now self.now.place 0) (row_read row) }
         ensures counted { OnOk result ((other : List AnyValue) → count_in other out.new.entries ≡ count_in other out.old.entries
             + count_of other (bag_of self.now.query.now
-            (lists_around 0 (after_at view.old.store self.now.changes.now) (λ _. row.now ∷ []) (before_at view.old.store) self.now.tables.now self.now.place))) }
+            (lists_around 0 (after_at view.old.store self.now.changes.now) (λ _. row_read row.entry ∷ []) (before_at view.old.store) self.now.tables.now self.now.place))) }
         ensures reads { (skipped : ℕ → List AnyValue → Bool) → IsOfCyclicRows self.now.query.now skipped → view.new.reads ≤ view.old.reads
-            + row_reads self.now.query.now view.old.store self.now.changes.now self.now.tables.now skipped self.now.place row.now }
+            + row_reads self.now.query.now view.old.store self.now.changes.now self.now.tables.now skipped self.now.place (row_read row.entry) }
         ensures same { view.new.store ≡ view.old.store }
     {
         let places = self.tables.len();

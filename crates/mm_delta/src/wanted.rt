@@ -2,11 +2,12 @@
 ghost use Rattle.std.specs.Prelude.{◌≡◌, MatchOption, FitsSigned};
 ghost use Rattle.std.specs.Int.{w64};
 ghost use Rattle.std.specs.Ordering.{is_eq};
+ghost use Rattle.mm_value.specs.Views.{value_of};
 ghost use Rattle.mm_value.specs.Order.{value_cmp};
 ghost use Rattle.mm_value.specs.declared.values.Value.TheVariants.{Int};
 ghost use Rattle.mm_delta.specs.Wanted.{value_wanted};
 
-use mm_value::{Value, compare};
+use mm_value::{Value, ValueRef, compare};
 
 /// The value that a row must have in a column.
 #[derive(Drop)]
@@ -19,14 +20,14 @@ pub(crate) enum Wanted {
 
 impl Wanted {
     /// Whether a value is the wanted one.
-    pub(crate) fn is(&self, value: &Value) -> bool
-        ensures { result ≡ is_eq (value_cmp value.now (value_wanted self.now)) }
+    pub(crate) fn is(&self, value: ValueRef<'_>) -> bool
+        ensures { result ≡ is_eq (value_cmp (value_of value.entry) (value_wanted self.now)) }
     {
         match self {
-            Wanted::Value(wanted) => compare(value, wanted).is_eq(),
+            Wanted::Value(wanted) => compare(&value, wanted).is_eq(),
             Wanted::Sum(sum) => match value {
-                Value::Int(number) => i128::from(*number).cmp(sum).is_eq(),
-                Value::Text(_) => false,
+                ValueRef::Int(number) => i128::from(number).cmp(sum).is_eq(),
+                ValueRef::Text(_) => false,
             },
         }
     }

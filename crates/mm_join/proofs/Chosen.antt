@@ -1,12 +1,14 @@
 -- The rows of a combination, one after another.
-use Rattle.std.proofs.Common.{◌≡◌, ℕ, zero, suc, Bool, cond, ◌+◌, ◌<◌, ◌≤◌, List, [], ◌∷◌, ◌++◌, Option, Some, Bor, get_or, drop, take, length, map, refl}
+use Rattle.std.proofs.Common.{◌≡◌, ℕ, zero, suc, Bool, cond, ◌+◌, ◌<◌, ◌≤◌, List, [], ◌∷◌, ◌++◌, Option, Some, get_or, drop, take, length, map, refl}
 use Rattle.std.proofs.Common.{sym, ap, ◌∙◌, subst, append_assoc, arith, length-append, length-drop}
-use Rattle.std.specs.Option.{option_copied}
 use Rattle.std.proofs.lemmas.List.{map-append, take-append-drop}
+use Rattle.std.specs.Option.{option_map}
+use Rattle.mm_partition.specs.Views.{viewed}
+use Rattle.mm_partition.specs.declared.view.RowView.{RowView}
 use Rattle.mm_store.proofs.Lists.{take_more}
 use Rattle.mm_partition.specs.Places.{IsLive}
 use Rattle.mm_query.proofs.PlainEval.{empty_by_length}
-use Rattle.mm_query.specs.Queries.{none_fails}
+use Rattle.mm_query.specs.Queries.{none_fails, rows_read}
 use Rattle.mm_query.specs.declared.atom.Atom.{Atom}
 use Rattle.mm_query.specs.declared.bound_query.FieldPlace.{FieldPlace}
 use Rattle.mm_relation.specs.Kept.{StoredRows}
@@ -74,19 +76,19 @@ module _ (store : Tables) where
       let none : length (drop i refs) ≡ 0 = omega (arith, past, length-drop i refs) in
       ap (rows_of_combo store (drop i tables)) (empty_by_length (drop i refs) none) ∙ no_rows (drop i tables)
 
--- A row that is put behind some others stands for itself.
-pub pushed_row : {X : Type 0} (old new : List (Option (Bor X))) (last : Option (Bor X)) → new ≡ old ++ last ∷ []
-    → map option_copied new ≡ map option_copied old ++ option_copied last ∷ []
-pushed_row old new last pushed = ap (map option_copied) pushed ∙ map-append option_copied old (last ∷ [])
+-- A row that is put behind some others is read behind them.
+pub pushed_row : (old new : List (Option RowView)) (last : Option RowView) → new ≡ old ++ last ∷ []
+    → rows_read viewed new ≡ rows_read viewed old ++ option_map viewed last ∷ []
+pushed_row old new last pushed = ap (rows_read viewed) pushed ∙ map-append (option_map viewed) old (last ∷ [])
 
 -- What the test of the rows with another row behind them tells of its reference.
 pub told_match : (store : Tables) (table : ℕ) (atoms : List (Atom FieldPlace)) (front : List RowRef) (at : RowRef) (b : Bool)
-    (old new read : List (Option (Bor (List Value)))) (last : Bor (List Value)) → row_of store table at ≡ last.now → new ≡ old ++ Some last ∷ []
-    → read ≡ new → b ≡ none_fails atoms (map option_copied read)
-    → matches store table atoms (map option_copied old) front (at ∷ []) ≡ cond b ((front ++ at ∷ []) ∷ []) []
+    (old new read : List (Option RowView)) (last : RowView) → row_of store table at ≡ viewed last → new ≡ old ++ Some last ∷ []
+    → read ≡ new → b ≡ none_fails atoms (rows_read viewed read)
+    → matches store table atoms (rows_read viewed old) front (at ∷ []) ≡ cond b ((front ++ at ∷ []) ∷ []) []
 told_match store table atoms front at b old new read last is pushed same told =
-    matches_one store table atoms (map option_copied old) front at last.now b is
-    (told ∙ ap (none_fails atoms) (ap (map option_copied) same ∙ pushed_row old new (Some last) pushed))
+    matches_one store table atoms (rows_read viewed old) front at (viewed last) b is
+    (told ∙ ap (none_fails atoms) (ap (rows_read viewed) same ∙ pushed_row old new (Some last) pushed))
 
 module _ (store : Tables) (table : ℕ) (atoms : List (Atom FieldPlace)) (rows : List (Option (List Value))) (front : List RowRef) where
   abbrev found : List RowRef → List (List RowRef)

@@ -1,6 +1,7 @@
 //! Access methods for the rows of the inner table that may stand behind a combination.
 ghost use Rattle.std.specs.Prelude.{◌≡◌, ℕ, ◌<◌, true, [], Contains, OnOk, Some, length, map, slice_index, slice_index_or};
-ghost use Rattle.std.specs.Option.{option_copied};
+ghost use Rattle.mm_partition.specs.Views.{viewed};
+ghost use Rattle.mm_query.specs.Queries.{rows_read};
 ghost use Rattle.mm_join.specs.Equated.{IsPartner};
 ghost use Rattle.mm_join.specs.AccessMethods.{AreCandidates, IsAccessMethod, found_behind, listed};
 ghost use Rattle.mm_join.specs.declared.access_methods.AccessMethod.TheVariants.{Sought};
@@ -12,9 +13,10 @@ ghost use Rattle.mm_templist.specs.Combos.{AreLive, rows_of_combo};
 use crate::inner::{Inner, Outer};
 use crate::key::JoinKey;
 use crate::look_up::{Among, LookUp};
+use mm_partition::RowView;
 use mm_query::FieldPlace;
 use mm_store::View;
-use mm_value::{Row, RowRef};
+use mm_value::RowRef;
 use std::alloc::{AllocError, Global};
 
 /// How the rows of the inner table are found that may stand behind a combination.
@@ -59,12 +61,12 @@ impl AccessMethod {
         view: &View<'_>,
         inner: &Inner<'_>,
         outer: Outer<'_>,
-        rows: &[Option<&Row>],
+        rows: &[Option<RowView<'_>>],
         found: &mut Vec<RowRef>,
     ) -> Result<(), AllocError>
         requires there { inner.now.table < length view.now.store.tables }
         requires live { AreLive view.now.store outer.tables.now outer.refs.now }
-        requires rows { map option_copied rows.now ≡ map Some (rows_of_combo view.now.store outer.tables.now outer.refs.now) }
+        requires rows { rows_read viewed rows.now ≡ map Some (rows_of_combo view.now.store outer.tables.now outer.refs.now) }
         requires method { IsAccessMethod view.now.store outer.tables.now inner.now self.old }
         ensures found { OnOk result (AreCandidates view.now.store inner.now.table inner.now.atoms.now
             (rows_of_combo view.now.store outer.entry.tables.now outer.entry.refs.now)

@@ -1,5 +1,6 @@
 //! What a row of a table has in a column.
 ghost use Rattle.std.specs.Prelude.{◌≡◌, ◌+◌, ◌<◌, ◌≤◌, length};
+ghost use Rattle.mm_partition.specs.Views.{viewed};
 ghost use Rattle.mm_partition.specs.Places.{IsLive, slot_at};
 ghost use Rattle.mm_query.specs.Atoms.{value_in};
 ghost use Rattle.mm_relation.specs.Kept.{StoredRows};
@@ -7,28 +8,31 @@ ghost use Rattle.mm_relation.specs.Refs.{row_at};
 ghost use Rattle.mm_store.specs.Tables.{IsAt};
 ghost use Rattle.mm_value.specs.Hash.{value_hash};
 ghost use Rattle.mm_value.specs.Prefix.{order_prefix};
+ghost use Rattle.mm_value.specs.Views.{value_of};
 
+use mm_partition::RowView;
 use mm_store::View;
-use mm_value::{Row, RowRef, Value, hash64, order_prefix};
+use mm_value::{RowRef, ValueRef, hash64, order_prefix};
+
+/// The value of a row in a column, and 0 past its end.
+pub(crate) fn value_in<'v>(row: RowView<'v>, column: usize) -> ValueRef<'v>
+    ensures { value_of result ≡ value_in column (viewed row.entry) }
+{
+    row.get(column).unwrap_or(ValueRef::Int(0))
+}
 
 /// The prefix of a row's value in a column; a row without that column counts as one that has 0 there.
-fn prefix_in(row: &Row, column: usize) -> u64
-    ensures { result ≡ order_prefix (value_in column row.now) }
+fn prefix_in(row: RowView<'_>, column: usize) -> u64
+    ensures { result ≡ order_prefix (value_in column (viewed row.entry)) }
 {
-    match row.values().get(column) {
-        Some(value) => order_prefix(value),
-        None => order_prefix(&Value::Int(0)),
-    }
+    order_prefix(&value_in(row, column))
 }
 
 /// The hash of a row's value in a column; a row without that column counts as one that has 0 there.
-pub(crate) fn hash_in(row: &Row, column: usize) -> u64
-    ensures { result ≡ value_hash (value_in column row.now) }
+pub(crate) fn hash_in(row: RowView<'_>, column: usize) -> u64
+    ensures { result ≡ value_hash (value_in column (viewed row.entry)) }
 {
-    match row.values().get(column) {
-        Some(value) => hash64(value),
-        None => hash64(&Value::Int(0)),
-    }
+    hash64(&value_in(row, column))
 }
 
 /// The prefix of what the row of a reference of a table has in a column. The row is read only where its prefix is not kept.

@@ -1,6 +1,7 @@
 //! What all joins do with a combination of the outer list.
 ghost use Rattle.std.specs.Prelude.{◌≡◌, ◌+◌, ◌++◌, ◌∷◌, ◌<◌, ◌≤◌, [], Some, All, length, map, OnOk};
-ghost use Rattle.std.specs.Option.{option_copied};
+ghost use Rattle.mm_partition.specs.Views.{viewed};
+ghost use Rattle.mm_query.specs.Queries.{rows_read};
 ghost use Rattle.mm_join.specs.Caps.{cap_conditions};
 ghost use Rattle.mm_partition.specs.Places.{IsLive};
 ghost use Rattle.mm_relation.specs.Kept.{StoredRows};
@@ -9,10 +10,11 @@ ghost use Rattle.mm_select.specs.Matches.{matches};
 ghost use Rattle.mm_store.specs.Tables.{IsAt};
 ghost use Rattle.mm_templist.specs.Combos.{AreLive, rows_of_combo};
 
+use mm_partition::RowView;
 use mm_query::{Atom, FieldPlace, none_fails};
 use mm_store::View;
 use mm_templist::TempList;
-use mm_value::{Refusal, Row, RowRef};
+use mm_value::{Refusal, RowRef};
 use std::alloc::AllocError;
 
 /// A combination of the outer list.
@@ -40,7 +42,7 @@ impl Inner<'_> {
     fn add_fitting<'s>(
         &self,
         view: &mut View<'s>,
-        rows: &mut Vec<Option<&'s Row>>,
+        rows: &mut Vec<Option<RowView<'s>>>,
         outer: &[RowRef],
         at: RowRef,
         list: &mut TempList<'_>,
@@ -50,10 +52,10 @@ impl Inner<'_> {
         requires wide { length outer.now + 1 ≡ length list.old.tables }
         requires few { length list.old.combos ≤ self.now.cap }
         ensures due { AnswersDue (first_refusal (cap_conditions self.now.cap (list.old.combos
-            ++ matches view.old.store self.now.table self.now.atoms.now (map option_copied rows.old.items) outer.now (at ∷ [])))) result }
+            ++ matches view.old.store self.now.table self.now.atoms.now (rows_read viewed rows.old.items) outer.now (at ∷ [])))) result }
         ensures list { OnOk result (list.new ≡ record list.old {
           combos = list.old.combos
-              ++ matches view.old.store self.now.table self.now.atoms.now (map option_copied rows.old.items) outer.now (at ∷ []);
+              ++ matches view.old.store self.now.table self.now.atoms.now (rows_read viewed rows.old.items) outer.now (at ∷ []);
         }) }
         ensures rows { OnOk result (rows.new.items ≡ rows.old.items) }
         ensures reads { view.new.reads ≤ view.old.reads + 1 }
@@ -78,7 +80,7 @@ impl Inner<'_> {
     pub fn add_all<'s>(
         &self,
         view: &mut View<'s>,
-        rows: &mut Vec<Option<&'s Row>>,
+        rows: &mut Vec<Option<RowView<'s>>>,
         outer: &[RowRef],
         candidates: &[RowRef],
         list: &mut TempList<'_>,
@@ -88,10 +90,10 @@ impl Inner<'_> {
         requires wide { length outer.now + 1 ≡ length list.old.tables }
         requires few { length list.old.combos ≤ self.now.cap }
         ensures due { AnswersDue (first_refusal (cap_conditions self.now.cap (list.old.combos
-            ++ matches view.old.store self.now.table self.now.atoms.now (map option_copied rows.old.items) outer.now candidates.now))) result }
+            ++ matches view.old.store self.now.table self.now.atoms.now (rows_read viewed rows.old.items) outer.now candidates.now))) result }
         ensures list { OnOk result (list.new ≡ record list.old {
           combos = list.old.combos
-              ++ matches view.old.store self.now.table self.now.atoms.now (map option_copied rows.old.items) outer.now candidates.now;
+              ++ matches view.old.store self.now.table self.now.atoms.now (rows_read viewed rows.old.items) outer.now candidates.now;
         }) }
         ensures rows { OnOk result (rows.new.items ≡ rows.old.items) }
         ensures reads { view.new.reads ≤ view.old.reads + length candidates.now }
@@ -108,10 +110,10 @@ impl Inner<'_> {
 pub(crate) fn choose<'s>(
     view: &mut View<'s>,
     outer: Outer<'_>,
-    rows: &mut Vec<Option<&'s Row>>,
+    rows: &mut Vec<Option<RowView<'s>>>,
 ) -> Result<(), AllocError>
     requires { AreLive view.old.store outer.tables.now outer.refs.now }
-    ensures rows { OnOk result (map option_copied rows.new.items
+    ensures rows { OnOk result (rows_read viewed rows.new.items
         ≡ map Some (rows_of_combo view.old.store outer.entry.tables.now outer.entry.refs.now)) }
     ensures reads { view.new.reads ≤ view.old.reads + length outer.entry.tables.now }
     ensures same { view.new.store ≡ view.old.store }

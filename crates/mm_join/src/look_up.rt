@@ -1,24 +1,28 @@
 //! Look-ups of the value that a key asks for.
 ghost use Rattle.std.specs.Prelude.{◌≡◌, ℕ, ◌+ℤ◌, ◌<◌, true, [], FitsSigned, IfSome, None, OnOk, Some, length, map, pos};
 ghost use Rattle.std.specs.Int.{w64};
-ghost use Rattle.std.specs.Option.{option_copied, option_map, unwrap_or};
+ghost use Rattle.std.specs.Option.{option_map, unwrap_or};
+ghost use Rattle.mm_value.specs.Views.{value_of};
+ghost use Rattle.mm_partition.specs.Views.{viewed};
 ghost use Rattle.mm_join.specs.Equated.{HaveMatches, added, sought};
 ghost use Rattle.mm_join.specs.AccessMethods.{Finds, IsAmong};
 ghost use Rattle.mm_partition.specs.Places.{slot_at};
-ghost use Rattle.mm_query.specs.Queries.{value_at};
+ghost use Rattle.mm_query.specs.Queries.{rows_read, value_at};
 ghost use Rattle.mm_relation.specs.Kept.{StoredRows};
 ghost use Rattle.mm_store.specs.Tables.{IsAt};
 ghost use Rattle.mm_templist.specs.Combos.{AreLive, rows_of_combo};
 ghost use Rattle.mm_value.specs.Prefix.{order_prefix};
 ghost use Rattle.mm_value.specs.declared.values.Value.TheVariants.{Int};
 
+use crate::column::value_in;
 use crate::cursor::Cursor;
 use crate::inner::Outer;
 use crate::key::{JoinKey, Shift};
 use mlhash::HashRefs;
+use mm_partition::RowView;
 use mm_query::FieldPlace;
 use mm_store::{IndexRef, View};
-use mm_value::{Row, RowRef, Value, hash64, order_prefix};
+use mm_value::{RowRef, ValueRef, hash64, order_prefix};
 use std::alloc::{AllocError, Global};
 
 /// What the rows of a table are found in by the value that they have in a column.
@@ -39,14 +43,14 @@ pub(crate) struct LookUp {
     pub key: JoinKey,
 }
 
-/// The value of a field in the rows of a combination; none reads as 0.
-fn value_of<'v>(rows: &[Option<&'v Row>], field: FieldPlace) -> Option<&'v Value>
-    ensures { unwrap_or (option_copied result) (Int (pos 0)) ≡ unwrap_or (value_at (map option_copied rows.now) field) (Int (pos 0)) }
+/// The value of a field in the rows of a combination, and 0 where its place has no row or the row ends before it.
+fn field_value<'v>(rows: &[Option<RowView<'v>>], field: FieldPlace) -> ValueRef<'v>
+    ensures { value_of result ≡ unwrap_or (value_at (rows_read viewed rows.now) field) (Int (pos 0)) }
 {
-    let Some(Some(row)) = rows.get(field.place) else {
-        return None;
-    };
-    row.values().get(field.column)
+    match rows.get(field.place) {
+        Some(Some(row)) => value_in(*row, field.column),
+        _ => ValueRef::Int(0),
+    }
 }
 
 /// A number with a shift added, if that is a number of 64 bits.
@@ -86,20 +90,20 @@ impl LookUp {
         alloc: Global,
         view: &View<'_>,
         table: usize,
-        value: &Value,
+        value: ValueRef<'_>,
         found: &mut Vec<RowRef>,
     ) -> Result<(), AllocError>
         requires there { table < length view.now.store.tables }
         requires among { (stored : StoredRows) → IsAt view.now.store table stored → IsAmong stored self.old.key.column self.old.among }
         ensures found { OnOk result ((stored : StoredRows) → IsAt view.now.store table stored
-            → Finds stored self.old.key.column self.old.among value.now found.new.items) }
+            → Finds stored self.old.key.column self.old.among (value_of value.entry) found.new.items) }
         ensures same { self.new ≡ self.old }
     {
         found.clear();
         match &mut self.among {
             Among::Index(index) => view.matches(alloc, table, *index, value, found),
-            Among::Built(pairs) => pairs.matches(alloc, hash64(value), found),
-            Among::Walk(cursor) => cursor.find(order_prefix(value), found),
+            Among::Built(pairs) => pairs.matches(alloc, hash64(&value), found),
+            Among::Walk(cursor) => cursor.find(order_prefix(&value), found),
         }
     }
 
@@ -120,7 +124,7 @@ impl LookUp {
         ensures same { self.new ≡ self.old }
     {
         match shifted_number(number, self.key.shift) {
-            Some(sum) => self.find_value(alloc, view, table, &Value::Int(sum), found),
+            Some(sum) => self.find_value(alloc, view, table, ValueRef::Int(sum), found),
             // No row has a number past 64 bits.
             None => {
                 found.clear();
@@ -136,21 +140,19 @@ impl LookUp {
         alloc: Global,
         view: &View<'_>,
         table: usize,
-        rows: &[Option<&Row>],
+        rows: &[Option<RowView<'_>>],
         found: &mut Vec<RowRef>,
     ) -> Result<(), AllocError>
         requires there { table < length view.now.store.tables }
         requires among { (stored : StoredRows) → IsAt view.now.store table stored → IsAmong stored self.old.key.column self.old.among }
         ensures found { OnOk result ((stored : StoredRows) → IsAt view.now.store table stored
-            → Finds stored self.old.key.column self.old.among (sought self.old.key (map option_copied rows.now)) found.new.items) }
+            → Finds stored self.old.key.column self.old.among (sought self.old.key (rows_read viewed rows.now)) found.new.items) }
         ensures same { self.new ≡ self.old }
     {
-        match value_of(rows, self.key.field) {
-            Some(value) => match value {
-                Value::Int(number) => self.find_number(alloc, view, table, *number, found),
-                Value::Text(_) => self.find_value(alloc, view, table, value, found),
-            },
-            None => self.find_number(alloc, view, table, 0, found),
+        let value = field_value(rows, self.key.field);
+        match value {
+            ValueRef::Int(number) => self.find_number(alloc, view, table, number, found),
+            ValueRef::Text(_) => self.find_value(alloc, view, table, value, found),
         }
     }
 

@@ -5,6 +5,7 @@ mod Fronts
 mod HoleBytes
 mod Keywords
 pub mod BufferedLines
+mod BufferedPieces
 mod Lexing
 mod ListingTexts
 mod Lists
@@ -15,7 +16,6 @@ pub mod Pieces
 mod Preparing
 mod Readings
 pub mod ReplyLemmas
-mod ShortLines
 mod SelectReadings
 mod SpelledAtoms
 pub mod SpelledCommands

@@ -3,9 +3,13 @@
 //! A call that may take memory is handed the allocator; no other call takes any.
 #![tactic(auto)]
 
+mod row_read;
 mod rows;
 mod slots;
 mod tracked;
+mod view;
 
+pub use row_read::RowRead;
 pub use rows::Partitions;
 pub use slots::index_of;
+pub use view::RowView;

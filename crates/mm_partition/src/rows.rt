@@ -4,11 +4,13 @@ ghost use Rattle.std.specs.Option.{ForSome};
 ghost use Rattle.mm_value.specs.declared.values.Value.{Value};
 ghost use Rattle.mm_partition.specs.Prefixes.{ArePrefixes};
 ghost use Rattle.mm_partition.specs.Places.{Free, Live, Hidden, slot_index_of, extent_of, slot_at, AreRowsStorable, AreReferencesSmall, IsLive, IsHidden, IsUnchanged, ChangesOnly};
+ghost use Rattle.mm_partition.specs.Views.{viewed};
 
 use crate::slots::{SLOTS, Slot, index_of, reference_to};
 use crate::tracked::{
     Tracked, find_column, push_each, reserve_each, set_each, track_column, untrack_column,
 };
+use crate::view::RowView;
 use mm_value::{Row, RowRef};
 use std::alloc::{AllocError, Global};
 use std::marker::Model;
@@ -102,13 +104,13 @@ impl Partitions {
         let _slots = &self.slots;
     }
 
-    /// The row of a reference.
-    pub fn get(&self, at: RowRef) -> &Row
+    /// The row of a reference, where it stands.
+    pub fn get(&self, at: RowRef) -> RowView<'_>
         requires { IsLive self.now at }
-        ensures { slot_at self.now at ≡ Live result.now }
+        ensures { slot_at self.now at ≡ Live (viewed result) }
     {
         match &self.slots[index_of(at)] {
-            Slot::Live(row) => row,
+            Slot::Live(row) => RowView { row },
             _ => unreachable!(),
         }
     }

@@ -14,6 +14,7 @@ use Rattle.std.proofs.lemmas.List.{length-map}
 use Rattle.std.proofs.lemmas.List.Elements.{All-contains}
 use Rattle.std.proofs.lemmas.List.Sorted.{All-permutation, Contains-permutation, IsPermutation-refl, IsPermutation-sym}
 use Rattle.std.proofs.lemmas.List.Kept.{AllPairs-filter}
+use Rattle.mm_value.specs.Views.{value_of}
 use Rattle.mm_partition.specs.Places.{slot_at}
 use Rattle.mm_relation.proofs.RefTests.{same_from_test, test_from_same}
 use Rattle.mm_relation.specs.Before.{same_ref}
@@ -148,14 +149,14 @@ module _ (stored : StoredRows) (kept : IsKept stored.width stored.key (slot_at s
   Follows a b = (a.at ≡ b.at) ⊎ (by_key a.at b.at ≡ Less)
 
   follows : (a b : Keyed) → IsKeyed stored a → IsKeyed stored b → HasRow now a.at → HasRow now b.at
-      → is_lt (value_cmp b.key.now a.key.now) ≡ false → Follows a b
+      → is_lt (value_cmp (value_of b.key) (value_of a.key)) ≡ false → Follows a b
   follows a b key_a key_b live_a live_b behind =
-      let keyed : column_cmp stored.key (row_at now a.at) (row_at now b.at) ≡ value_cmp a.key.now b.key.now =
+      let keyed : column_cmp stored.key (row_at now a.at) (row_at now b.at) ≡ value_cmp (value_of a.key) (value_of b.key) =
       ap (λ (o : Option Value). option_cmp value_cmp o (slice_get (row_at now b.at) stored.key)) key_a
-      ∙ ap (λ (o : Option Value). option_cmp value_cmp (Some a.key.now) o) key_b in
-      let turned : is_lt (ordering_reverse (value_cmp a.key.now b.key.now)) ≡ false =
-      sym (ap is_lt (value_cmp_total.antisymm b.key.now a.key.now)) ∙ behind in
-      elim (less_from_rest (value_cmp a.key.now b.key.now) turned) [
+      ∙ ap (λ (o : Option Value). option_cmp value_cmp (Some (value_of a.key)) o) key_b in
+      let turned : is_lt (ordering_reverse (value_cmp (value_of a.key) (value_of b.key))) ≡ false =
+      sym (ap is_lt (value_cmp_total.antisymm (value_of b.key) (value_of a.key))) ∙ behind in
+      elim (less_from_rest (value_cmp (value_of a.key) (value_of b.key)) turned) [
         | inl tie ↦ inl (same_from_keys stored kept a.at b.at live_a live_b (keyed ∙ tie))
         | inr less ↦ let first : column_cmp stored.key (row_at now a.at) (row_at now b.at) ≡ Less = keyed ∙ less in
             inr (ap (λ o. ordering_then o o) first)
@@ -166,16 +167,16 @@ module _ (stored : StoredRows) (kept : IsKept stored.width stored.key (slot_at s
   climbs_from r [] each = tt
   climbs_from r (s ∷ rs) each = (each 0 r (omega arith), climbs_from s rs (λ k d within. each (suc k) d (omega (arith, within))))
 
-  module _ (sorted : List Keyed) (keys : All (IsKeyed stored) sorted) (order : IsSortedByKey (λ (row : Keyed). row.key.now) value_cmp sorted)
+  module _ (sorted : List Keyed) (keys : All (IsKeyed stored) sorted) (order : IsSortedByKey (λ (row : Keyed). value_of row.key) value_cmp sorted)
       (live : All (λ (row : Keyed). HasRow now row.at) sorted) where
     each_follows : (k : ℕ) (d : Keyed) → k + 1 < length sorted → Follows (get_or sorted k d) (get_or sorted (suc k) d)
     each_follows k d within =
         follows (get_or sorted k d) (get_or sorted (suc k) d) (keys k d (omega (arith, within))) (keys (suc k) d (omega (arith, within)))
         (live k d (omega (arith, within))) (live (suc k) d (omega (arith, within)))
-        (subst (λ n. is_lt (value_cmp (get_or sorted n d).key.now (get_or sorted k d).key.now) ≡ false) (add-one k)
+        (subst (λ n. is_lt (value_cmp (value_of (get_or sorted n d).key) (value_of (get_or sorted k d).key)) ≡ false) (add-one k)
         (order k d (omega arith) (omega (arith, within))))
 
-  sorted_once : (sorted : List Keyed) → All (IsKeyed stored) sorted → IsSortedByKey (λ (row : Keyed). row.key.now) value_cmp sorted
+  sorted_once : (sorted : List Keyed) → All (IsKeyed stored) sorted → IsSortedByKey (λ (row : Keyed). value_of row.key) value_cmp sorted
       → All (λ (row : Keyed). HasRow now row.at) sorted → IsStrictlySortedBy by_key (once None (map (λ (row : Keyed). row.at) sorted))
   sorted_once [] keys order live = IsStrictlySortedBy-nil (refs_by_total stored.key stored.key now)
   sorted_once (r ∷ rs) keys order live =
@@ -207,7 +208,7 @@ module _ (stored : StoredRows) (kept : IsKept stored.width stored.key (slot_at s
 
   -- So are sorted references, each once, ..
   pub once_in_order : (refs : List RowRef) → All (HasRow now) refs → (sorted : List Keyed) → All (IsKeyed stored) sorted
-      → IsSortedByKey (λ (row : Keyed). row.key.now) value_cmp sorted → IsPermutation (map (λ (row : Keyed). row.at) sorted) refs
+      → IsSortedByKey (λ (row : Keyed). value_of row.key) value_cmp sorted → IsPermutation (map (λ (row : Keyed). row.at) sorted) refs
       → once None (map (λ (row : Keyed). row.at) sorted) ≡ among refs stored
   once_in_order refs live sorted keys order same =
       let ats : List RowRef = map (λ (row : Keyed). row.at) sorted in

@@ -1,6 +1,7 @@
 -- Rows that meet atoms, and references in the order of their keys.
 use Rattle.std.specs.Prelude.{◌≡◌, Bool, true, false, List, [], ◌∷◌, Option, Some, None, cond, filter, slice_get}
 use Rattle.std.specs.List.{list_any}
+use Rattle.mm_value.specs.Views.{value_of}
 use Rattle.mm_partition.specs.Places.{slot_at}
 use Rattle.mm_plan.specs.declared.finding.Keyed.{Keyed}
 use Rattle.mm_plan.specs.declared.step.Step.{Step}
@@ -35,7 +36,7 @@ finds_in_key_order _ = false
 
 -- The key is that of the row where it stands.
 abbrev pub IsKeyed : StoredRows → Keyed → Type 0
-IsKeyed stored row = slice_get (row_at (slot_at stored.places) row.at) stored.key ≡ Some row.key.now
+IsKeyed stored row = slice_get (row_at (slot_at stored.places) row.at) stored.key ≡ Some (value_of row.key)
 
 -- The reference is the one before it.
 abbrev pub is_again : Option RowRef → RowRef → Bool

@@ -11,6 +11,7 @@ ghost use Rattle.mm_relation.specs.Kept.{StoredRows};
 ghost use Rattle.mm_store.specs.Tables.{IsAt, rows_at};
 ghost use Rattle.mm_store.specs.declared.index_ref.IndexRef.TheVariants.{Key};
 ghost use Rattle.mm_value.specs.Order.{value_cmp};
+ghost use Rattle.mm_value.specs.Views.{value_of};
 
 use crate::beginning::access_by;
 use crate::choosing::Chooser;
@@ -18,13 +19,13 @@ use mm_query::{Atom, FieldPlace};
 use mm_select::select_refs;
 use mm_store::View;
 use mm_templist::FoundRefs;
-use mm_value::{RowRef, Value, compare};
+use mm_value::{RowRef, ValueRef, compare};
 use std::alloc::{AllocError, Global};
 
 /// The key of a row, and the reference where the row stands.
 #[derive(Clone, Copy)]
 struct Keyed<'v> {
-    key: &'v Value,
+    key: ValueRef<'v>,
     at: RowRef,
 }
 
@@ -115,9 +116,9 @@ fn with_keys<'v>(
 /// that order.
 fn sort_by_key(rows: &mut Vec<Keyed>)
     ensures permutation { IsPermutation rows.old.items rows.new.items }
-    ensures sorted { IsSortedByKey (λ row. row.key.now) value_cmp rows.new.items }
+    ensures sorted { IsSortedByKey (λ row. value_of row.key) value_cmp rows.new.items }
 {
-    rows.sort_unstable_by(|a, b| compare(a.key, b.key));
+    rows.sort_unstable_by(|a, b| compare(&a.key, &b.key));
 }
 
 /// Whether the reference is the one before it.

@@ -2,7 +2,7 @@
 use Rattle.std.proofs.Common.{◌≡◌, ℕ, ◌+◌, ◌≤◌, ◌<◌, Bool, true, false, cond, List, [], ◌∷◌, ◌++◌, Option, Some, None, get_or, length, map, nat_lt, take, Bor}
 use Rattle.std.proofs.Common.{refl, sym, ap, ◌∙◌, arith, append_assoc}
 use Rattle.std.specs.List.{filter, flat_map}
-use Rattle.std.specs.Option.{option_copied}
+use Rattle.std.specs.Option.{option_map}
 use Rattle.std.proofs.lemmas.Bool.{le-ltb, lt-ltb, ltb-false, ltb-true}
 use Rattle.std.proofs.lemmas.List.{append-nil, flat_map_more, length-append, map-append, take_more}
 use Rattle.std.proofs.lemmas.List.Elements.{filter-append}
@@ -13,7 +13,7 @@ use Rattle.mm_schema.specs.Rows.{most_rows}
 use Rattle.mm_value.specs.declared.refusal.Refusal.{Refusal}
 use Rattle.mm_value.specs.declared.refusal.Refusal.TheVariants.{ResultTooLarge}
 use Rattle.mm_value.specs.declared.values.Value.{Value}
-use Rattle.mm_query.specs.Queries.{Partial, bag_of, combinations, fits, none_fails, size_conditions, values_of}
+use Rattle.mm_query.specs.Queries.{Partial, bag_of, combinations, fits, none_fails, rows_read, size_conditions, values_of}
 use Rattle.mm_query.specs.Walk.{found_behind}
 use Rattle.mm_query.specs.declared.bound_query.BoundQuery.{BoundQuery}
 
@@ -107,11 +107,11 @@ pub empty_by_length : {X : Type 0} (xs : List X) → length xs ≡ 0 → xs ≡ 
 empty_by_length [] none = refl
 empty_by_length (x ∷ xs) none = absurd (omega (arith, none))
 
--- A reference that is put behind some others stands for its row.
-pub pushed_front : {X : Type 0} (old before after : List (Option (Bor X))) (last : Option (Bor X)) → after ≡ before ++ last ∷ [] → before ≡ old
-    → map option_copied after ≡ map option_copied old ++ option_copied last ∷ []
-pushed_front old before after last pushed same =
-    ap (map option_copied) (pushed ∙ ap (λ l. l ++ last ∷ []) same) ∙ map-append option_copied old (last ∷ [])
+-- A row that is put behind some others is read behind them.
+pub pushed_front : {R : Type 0} (row : R → Row) (old before after : List (Option R)) (last : Option R) → after ≡ before ++ last ∷ [] → before ≡ old
+    → rows_read row after ≡ rows_read row old ++ option_map row last ∷ []
+pushed_front row old before after last pushed same =
+    ap (rows_read row) (pushed ∙ ap (λ l. l ++ last ∷ []) same) ∙ map-append (option_map row) old (last ∷ [])
 
 module _ (f : Row → List Row) (old : List Row) (rows : List Row) (i : ℕ) (row : Row) (inside : i < length rows) (is : row ≡ get_or rows i row)
     (found : List Row) (so_far : found ≡ old ++ flat_map f (take i rows)) where

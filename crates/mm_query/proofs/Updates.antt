@@ -1,8 +1,9 @@
 -- What an UPDATE computes, and what refuses it.
 use Rattle.std.proofs.Common.{◌≡◌, ℕ, ◌<◌, suc, length, drop, get_or, add-one, Bool, true, false, cond, ◌||◌, List, [], ◌∷◌, ◌++◌, Some, None, refl, sym, ap}
 use Rattle.std.proofs.Common.{subst, ◌∙◌}
-use Rattle.std.specs.List.{All, find, list_any}
+use Rattle.std.specs.List.{All, find, list_any, slice_get}
 use Rattle.std.proofs.Math.Seq.{drop-cons}
+use Rattle.std.proofs.lemmas.Option.{slice_get_within, slice_get-get_or}
 use Rattle.std.proofs.lemmas.List.Elements.{All-head, All-tail}
 use Rattle.std.proofs.lemmas.List.Folds.{list_any-append}
 use Rattle.mm_schema.specs.Refused.{first_refusal}
@@ -55,14 +56,16 @@ refused_among front value rest all refusal is due =
     ap (λ b. cond b (Some ArithmeticOutOfRange) None) any ∙ (sym (ap (λ b. cond b (Some ArithmeticOutOfRange) None) some) ∙ due)
 
 -- The next value of the new row is that of the next column.
-pub next_value : (assignments : List (Assignment ℕ)) (row items : List Value) (column : ℕ) (old : Value) (front all : List Value)
-    → items ≡ row → old ≡ get_or items column old → column < length items
+pub next_value : (assignments : List (Assignment ℕ)) (row : List Value) (column : ℕ) (old : Value) (front all : List Value)
+    → slice_get row column ≡ Some old
     → front ++ updated_from assignments row column (drop column row) ≡ all
     → front ++ updated_value assignments row column old ∷ updated_from assignments row (suc column) (drop (suc column) row) ≡ all
-next_value assignments row items column old front all same is inside e =
+next_value assignments row column old front all is e =
+    let inside : column < length row = slice_get_within row column old is in
+    let there : slice_get row column ≡ Some (get_or row column old) = slice_get-get_or row column old inside in
+    let same : get_or row column old ≡ old = cc in
     let split : drop column row ≡ old ∷ drop (suc column) row =
-    ap (drop column) (sym same) ∙ (drop-cons items column old inside
-    ∙ (ap (λ v. v ∷ drop (suc column) items) (sym is) ∙ ap (λ r. old ∷ drop (suc column) r) same)) in
+    drop-cons row column old inside ∙ ap (λ v. v ∷ drop (suc column) row) same in
     let here : updated_from assignments row column (old ∷ drop (suc column) row)
     ≡ updated_value assignments row column old ∷ updated_from assignments row (suc column) (drop (suc column) row) = rw add-one refl in
     ap (λ t. front ++ t) (sym here) ∙ (ap (λ t. front ++ updated_from assignments row column t) (sym split) ∙ e)

@@ -22,6 +22,10 @@ use Rattle.mm_query.specs.declared.query.FromItem.{FromItem}
 abbrev pub Partial : Type 0
 Partial = List (Option (List Value))
 
+-- The rows that are there, as they are read.
+abbrev pub rows_read : {R : Type 0} → (R → List Value) → List (Option R) → Partial
+rows_read row rows = map (option_map row) rows
+
 -- The value of a field, where its place has a row.
 abbrev pub value_at : Partial → FieldPlace → Option Value
 value_at rows field = option_map (value_in field.column) (get_or rows field.place None)

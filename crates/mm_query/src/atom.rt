@@ -3,10 +3,11 @@ ghost use Rattle.std.specs.Prelude.{◌≡◌, ◌<◌, ◌+ℤ◌, ℕ, Some, l
 ghost use Rattle.std.specs.Option.{option_copied};
 ghost use Rattle.std.specs.Ordering.{int_cmp};
 ghost use Rattle.mm_value.specs.Order.{value_cmp};
+ghost use Rattle.mm_value.specs.Views.{value_of};
 ghost use Rattle.mm_query.specs.Atoms.{ReadsWithin, holds, operand_of, shifted, stands, value_in};
 ghost use Rattle.mm_query.specs.Resolving.{column_of};
 
-use mm_value::{Row, Value, compare};
+use mm_value::{AsRow, Value, ValueRef, compare};
 use std::cmp::Ordering;
 
 /// How the two sides of an atom are compared.
@@ -114,25 +115,25 @@ fn compare_with_sum(a: i64, sum: i128) -> Ordering
 }
 
 /// How a value stands to another one with a number added to it. Numbers are added without bound.
-pub(crate) fn compare_shifted(a: &Value, b: &Value, shift: i64) -> Ordering
-    ensures { result ≡ value_cmp a.now (shifted shift b.now) }
+pub(crate) fn compare_shifted(a: ValueRef<'_>, b: ValueRef<'_>, shift: i64) -> Ordering
+    ensures { result ≡ value_cmp (value_of a.entry) (shifted shift (value_of b.entry)) }
 {
     match (a, b) {
-        (Value::Int(a), Value::Int(b)) => compare_with_sum(*a, sum(*b, shift)),
-        _ => compare(a, b),
+        (ValueRef::Int(a), ValueRef::Int(b)) => compare_with_sum(a, sum(b, shift)),
+        _ => compare(&a, &b),
     }
 }
 
 impl Atom<usize> {
     /// Whether the atom is true of a row. Numbers are added without bound, so `k < k + 1` is true of every row.
-    pub fn holds(&self, row: &Row) -> bool
-        requires { ReadsWithin (length row.now) self.now.left self.now.right }
-        ensures { result ≡ holds (λ (column : ℕ). Some (value_in column row.now)) self.now }
+    pub fn holds<R: AsRow>(&self, row: &R) -> bool
+        requires { ReadsWithin (length (R.AsRow.row row.now)) self.now.left self.now.right }
+        ensures { result ≡ holds (λ (column : ℕ). Some (value_in column (R.AsRow.row row.now))) self.now }
     {
         let left = row.value(self.left);
         let ordering = match &self.right {
-            Operand::Literal(value) => compare(left, value),
-            Operand::Column(column) => compare(left, row.value(*column)),
+            Operand::Literal(value) => compare(&left, value),
+            Operand::Column(column) => compare(&left, &row.value(*column)),
             Operand::Shifted(column, shift) => compare_shifted(left, row.value(*column), *shift),
         };
         self.comparison.accepts(ordering)

@@ -1,71 +1,69 @@
 //! Combinations of rows, as far as their rows are there.
-ghost use Rattle.std.specs.Prelude.{◌≡◌, None, get_or, map, pos, IfOk};
+ghost use Rattle.std.specs.Prelude.{◌≡◌, None, get_or, pos, IfOk};
 ghost use Rattle.std.specs.Option.{option_copied, option_map, unwrap_or};
 ghost use Rattle.mm_value.specs.Order.{value_cmp};
+ghost use Rattle.mm_value.specs.Views.{value_of};
 ghost use Rattle.mm_value.specs.declared.values.Value.TheVariants.{Int};
 ghost use Rattle.mm_query.specs.Atoms.{holds, operand_of, value_in};
-ghost use Rattle.mm_query.specs.Queries.{none_fails, value_at, values_of};
+ghost use Rattle.mm_query.specs.Queries.{none_fails, rows_read, value_at, values_of};
 
 use crate::atom::{Atom, Operand, compare_shifted};
 use crate::bound_query::FieldPlace;
-use mm_value::{Row, Value, compare};
+use mm_value::{AsRow, Row, Value, ValueRef, compare};
 use std::alloc::{AllocError, Global};
 use std::cmp::Ordering;
 
-/// The value of a row in a column, and this 0 past its end.
-pub(crate) fn value_in<'a>(row: &'a Row, column: usize, zero: &'a Value) -> &'a Value
-    requires { zero.now ≡ Int (pos 0) }
-    ensures { result.now ≡ value_in column row.now }
+/// The value of a row in a column, and 0 past its end.
+fn value_in<R: AsRow>(row: &R, column: usize) -> ValueRef<'_>
+    ensures { value_of result ≡ value_in column (R.AsRow.row row.now) }
 {
-    match row.values().get(column) {
+    match row.get(column) {
         Some(value) => value,
-        None => zero,
+        None => ValueRef::Int(0),
     }
 }
 
 /// The row at a place of FROM, if it is there.
-fn row_at<'a>(rows: &[Option<&'a Row>], place: usize) -> Option<&'a Row>
-    ensures { option_copied result ≡ get_or (map option_copied rows.now) place None }
+fn row_at<R: AsRow>(rows: &[Option<R>], place: usize) -> Option<&R>
+    ensures { option_map R.AsRow.row (option_copied result) ≡ get_or (rows_read R.AsRow.row rows.now) place None }
 {
     match rows.get(place) {
-        Some(row) => *row,
-        None => None,
+        Some(Some(row)) => Some(row),
+        _ => None,
     }
 }
 
 /// How a value stands to an operand, if that one's place has a row.
-fn compare_with(
-    left: &Value,
+fn compare_with<R: AsRow>(
+    left: ValueRef<'_>,
     right: &Operand<FieldPlace>,
-    rows: &[Option<&Row>],
+    rows: &[Option<R>],
 ) -> Option<Ordering>
-    ensures { result ≡ option_map (value_cmp left.now) (operand_of (value_at (map option_copied rows.now)) right.now) }
+    ensures { result ≡ option_map (value_cmp (value_of left.entry)) (operand_of (value_at (rows_read R.AsRow.row rows.now)) right.now) }
 {
-    let zero = Value::Int(0);
     match right {
-        Operand::Literal(value) => Some(compare(left, value)),
+        Operand::Literal(value) => Some(compare(&left, value)),
         Operand::Column(field) => {
             let row = row_at(rows, field.place)?;
-            Some(compare(left, value_in(row, field.column, &zero)))
+            Some(compare(&left, &value_in(row, field.column)))
         }
         Operand::Shifted(field, shift) => {
             let row = row_at(rows, field.place)?;
-            let value = value_in(row, field.column, &zero);
-            Some(compare_shifted(left, value, *shift))
+            let right = value_in(row, field.column);
+            Some(compare_shifted(left, right, *shift))
         }
     }
 }
 
 impl Atom<FieldPlace> {
     /// Whether the atom is not false of the rows that are there, one for each place of FROM or none yet.
-    pub fn admits(&self, rows: &[Option<&Row>]) -> bool
-        ensures { result ≡ holds (value_at (map option_copied rows.now)) self.now }
+    pub fn admits<R: AsRow>(&self, rows: &[Option<R>]) -> bool
+        ensures { result ≡ holds (value_at (rows_read R.AsRow.row rows.now)) self.now }
     {
-        let zero = Value::Int(0);
         let Some(row) = row_at(rows, self.left.place) else {
             return true;
         };
-        let left = value_in(row, self.left.column, &zero);
+        let left = value_in(row, self.left.column);
         match compare_with(left, &self.right, rows) {
             Some(ordering) => self.comparison.accepts(ordering),
             None => true,
@@ -74,30 +72,33 @@ impl Atom<FieldPlace> {
 }
 
 /// Whether none of the atoms is false of the rows that are there.
-pub fn none_fails(atoms: &[Atom<FieldPlace>], rows: &[Option<&Row>]) -> bool
-    ensures { result ≡ none_fails atoms.now (map option_copied rows.now) }
+pub fn none_fails<R: AsRow>(atoms: &[Atom<FieldPlace>], rows: &[Option<R>]) -> bool
+    ensures { result ≡ none_fails atoms.now (rows_read R.AsRow.row rows.now) }
 {
     atoms.iter().all(|atom| atom.admits(rows))
 }
 
 /// A copy of the value of a field; one whose place has no row reads as 0. `AllocError` where memory is refused.
-fn copy_value(alloc: Global, field: FieldPlace, rows: &[Option<&Row>]) -> Result<Value, AllocError>
-    ensures ok { IfOk result (λ value. value ≡ unwrap_or (value_at (map option_copied rows.now) field) (Int (pos 0))) }
+fn copy_value<R: AsRow>(
+    alloc: Global,
+    field: FieldPlace,
+    rows: &[Option<R>],
+) -> Result<Value, AllocError>
+    ensures ok { IfOk result (λ value. value ≡ unwrap_or (value_at (rows_read R.AsRow.row rows.now) field) (Int (pos 0))) }
 {
-    let zero = Value::Int(0);
     match row_at(rows, field.place) {
-        Some(row) => value_in(row, field.column, &zero).copy(alloc),
-        None => Ok(zero),
+        Some(row) => value_in(row, field.column).copy(alloc),
+        None => Ok(Value::Int(0)),
     }
 }
 
 /// The row of the values of fields; one whose place has no row reads as 0. `AllocError` where memory is refused.
-pub fn values_of(
+pub fn values_of<R: AsRow>(
     alloc: Global,
     fields: &[FieldPlace],
-    rows: &[Option<&Row>],
+    rows: &[Option<R>],
 ) -> Result<Row, AllocError>
-    ensures ok { IfOk result (λ row. row ≡ values_of fields.now (map option_copied rows.now)) }
+    ensures ok { IfOk result (λ row. row ≡ values_of fields.now (rows_read R.AsRow.row rows.now)) }
 {
     let mut values = Vec::with_capacity(alloc, fields.len())?;
     for field in fields {

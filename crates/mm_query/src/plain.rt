@@ -1,9 +1,8 @@
 //! The plain evaluation of a query, row by row.
 ghost use Rattle.std.specs.Prelude.{◌≡◌, ◌≤◌, ◌++◌, ◌∷◌, [], length, map, IfOk, OnErr, OnOk};
-ghost use Rattle.std.specs.Option.{option_copied};
 ghost use Rattle.mm_schema.specs.Refused.{AnswersDue, first_refusal};
 ghost use Rattle.mm_schema.specs.Rows.{most_rows};
-ghost use Rattle.mm_query.specs.Queries.{bag_of, size_conditions};
+ghost use Rattle.mm_query.specs.Queries.{bag_of, rows_read, size_conditions};
 ghost use Rattle.mm_query.specs.Walk.{found_behind};
 
 use crate::bound_query::BoundQuery;
@@ -76,8 +75,8 @@ fn walk<'a>(
 ) -> Result<(), Refusal>
     requires { length found.old.items ≤ most_rows }
     ensures due { AnswersDue (first_refusal (size_conditions
-        (found.old.items ++ found_behind query.now (map option_copied chosen.old.items) (map (λ rows. rows.now) lists.now)))) result }
-    ensures ok { OnOk result (found.new.items ≡ found.old.items ++ found_behind query.now (map option_copied chosen.old.items) (map (λ rows. rows.now) lists.now)) }
+        (found.old.items ++ found_behind query.now (rows_read (λ row. row.now) chosen.old.items) (map (λ rows. rows.now) lists.now)))) result }
+    ensures ok { OnOk result (found.new.items ≡ found.old.items ++ found_behind query.now (rows_read (λ row. row.now) chosen.old.items) (map (λ rows. rows.now) lists.now)) }
     ensures same { OnOk result (chosen.new.items ≡ chosen.old.items) }
 {
     let Some((rows, rest)) = lists.split_first() else {
@@ -100,8 +99,8 @@ fn add_fitting(
     found: &mut Vec<Row>,
 ) -> Result<(), Refusal>
     requires { length found.old.items ≤ most_rows }
-    ensures due { AnswersDue (first_refusal (size_conditions (found.old.items ++ found_behind query.now (map option_copied chosen.now) []))) result }
-    ensures ok { OnOk result (found.new.items ≡ found.old.items ++ found_behind query.now (map option_copied chosen.now) []) }
+    ensures due { AnswersDue (first_refusal (size_conditions (found.old.items ++ found_behind query.now (rows_read (λ row. row.now) chosen.now) []))) result }
+    ensures ok { OnOk result (found.new.items ≡ found.old.items ++ found_behind query.now (rows_read (λ row. row.now) chosen.now) []) }
 {
     if !none_fails(query.atoms.as_slice(), chosen) {
         return Ok(());

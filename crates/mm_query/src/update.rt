@@ -2,12 +2,13 @@
 ghost use Rattle.std.specs.Prelude.{◌≡◌, ◌==◌, ◌+ℤ◌, ◌∷◌, ℕ, [], find, length, map, All, IfOk};
 ghost use Rattle.std.specs.Option.{option_copied};
 ghost use Rattle.mm_schema.specs.Refused.{AnswersDue, first_refusal};
+ghost use Rattle.mm_value.specs.Views.{value_of};
 ghost use Rattle.mm_value.specs.declared.values.Value.TheVariants.{Int};
 ghost use Rattle.mm_query.specs.Atoms.{IsWithin, range_conditions, updated_row, updated_value, value_for};
 ghost use Rattle.mm_query.specs.declared.atom.Assignment.{Assignment as Assigned};
 
 use crate::atom::{Assignment, Operand};
-use mm_value::{Refusal, Row, Value};
+use mm_value::{AsRow, Refusal, Row, Value, ValueRef};
 use std::alloc::Global;
 
 /// The sum of two numbers. `ArithmeticOutOfRange` where it is past the range of whole numbers.
@@ -23,16 +24,16 @@ fn sum_in_range(number: i64, shift: i64) -> Result<i64, Refusal>
 impl Operand<usize> {
     /// Its value for a row, in memory of its own. `ArithmeticOutOfRange` where it is past the range of whole numbers; else
     /// `Memory` where memory is refused.
-    fn value_for(&self, alloc: Global, row: &Row) -> Result<Value, Refusal>
-        requires { IsWithin (length row.now) self.now }
-        ensures due { AnswersDue (first_refusal (range_conditions (value_for row.now self.now ∷ []))) result }
-        ensures ok { IfOk result (λ value. value ≡ value_for row.now self.now) }
+    fn value_for<R: AsRow>(&self, alloc: Global, row: &R) -> Result<Value, Refusal>
+        requires { IsWithin (length (R.AsRow.row row.now)) self.now }
+        ensures due { AnswersDue (first_refusal (range_conditions (value_for (R.AsRow.row row.now) self.now ∷ []))) result }
+        ensures ok { IfOk result (λ value. value ≡ value_for (R.AsRow.row row.now) self.now) }
     {
         match self {
             Operand::Literal(value) => Ok(value.copy(alloc)?),
             Operand::Column(column) => Ok(row.value(*column).copy(alloc)?),
             Operand::Shifted(column, shift) => match row.value(*column) {
-                Value::Int(number) => Ok(Value::Int(sum_in_range(*number, *shift)?)),
+                ValueRef::Int(number) => Ok(Value::Int(sum_in_range(number, *shift)?)),
                 text => Ok(text.copy(alloc)?),
             },
         }
@@ -49,16 +50,16 @@ fn assignment_to(assignments: &[Assignment<usize>], column: usize) -> Option<&As
 }
 
 /// The new value of a column, which had this one.
-fn updated_value(
+fn updated_value<R: AsRow>(
     alloc: Global,
-    row: &Row,
+    row: &R,
     assignments: &[Assignment<usize>],
     column: usize,
-    old: &Value,
+    old: ValueRef<'_>,
 ) -> Result<Value, Refusal>
-    requires { All (λ (a : Assigned ℕ). IsWithin (length row.now) a.source) assignments.now }
-    ensures due { AnswersDue (first_refusal (range_conditions (updated_value assignments.now row.now column old.now ∷ []))) result }
-    ensures ok { IfOk result (λ value. value ≡ updated_value assignments.now row.now column old.now) }
+    requires { All (λ (a : Assigned ℕ). IsWithin (length (R.AsRow.row row.now)) a.source) assignments.now }
+    ensures due { AnswersDue (first_refusal (range_conditions (updated_value assignments.now (R.AsRow.row row.now) column (value_of old.entry) ∷ []))) result }
+    ensures ok { IfOk result (λ value. value ≡ updated_value assignments.now (R.AsRow.row row.now) column (value_of old.entry)) }
 {
     match assignment_to(assignments, column) {
         Some(assignment) => assignment.source.value_for(alloc, row),
@@ -68,17 +69,18 @@ fn updated_value(
 
 /// The row that assignments make of a row; each value is computed from the old row alone. `ArithmeticOutOfRange` where some
 /// value is past the range of whole numbers; `Memory` where memory is refused.
-pub fn updated_row(
+pub fn updated_row<R: AsRow>(
     alloc: Global,
-    row: &Row,
+    row: &R,
     assignments: &[Assignment<usize>],
 ) -> Result<Row, Refusal>
-    requires { All (λ (a : Assigned ℕ). IsWithin (length row.now) a.source) assignments.now }
-    ensures due { AnswersDue (first_refusal (range_conditions (updated_row assignments.now row.now))) result }
-    ensures ok { IfOk result (λ new. new ≡ updated_row assignments.now row.now) }
+    requires { All (λ (a : Assigned ℕ). IsWithin (length (R.AsRow.row row.now)) a.source) assignments.now }
+    ensures due { AnswersDue (first_refusal (range_conditions (updated_row assignments.now (R.AsRow.row row.now)))) result }
+    ensures ok { IfOk result (λ new. new ≡ updated_row assignments.now (R.AsRow.row row.now)) }
 {
     let mut values = Vec::with_capacity(alloc, row.len())?;
-    for (column, old) in row.values().iter().enumerate() {
+    for column in 0..row.len() {
+        let old = row.value(column);
         values.push(updated_value(alloc, row, assignments, column, old)?)?;
     }
     Ok(Row::new(values))

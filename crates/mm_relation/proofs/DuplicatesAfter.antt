@@ -24,7 +24,7 @@ use Rattle.mm_relation.specs.Index.{InOrder}
 use Rattle.mm_relation.specs.Changes.{Standing}
 use Rattle.mm_relation.specs.declared.indexes.index.Index.{Index}
 use Rattle.mm_relation.specs.Kept.{IsKept, Stay, StoredRows, KeysStayApart, rows_after}
-use Rattle.mm_relation.specs.KeyRows.{rows_of, rows_with_new_keys, is_removal, removal_count}
+use Rattle.mm_relation.specs.KeyRows.{rows_with_new_keys, is_removal, removal_count}
 use Rattle.mm_relation.specs.declared.edits.Edit.{Edit}
 use Rattle.mm_relation.specs.declared.edits.Edit.TheVariants.{Add, Swap, Gone}
 use Rattle.mm_relation.specs.declared.indexes.names.Side.TheVariants.{Old}
@@ -150,38 +150,39 @@ module _ (key : ℕ) (now : Slots) (refs : List RowRef) (edits : List Edit) (kep
       (IsPermutation-append_left left (new_rows edits) (bring ++ keep) (new_rows_part key now edits)))))
 
   -- without new keys there are no duplicates
-  pub no_duplicates_without_new : (fresh : List (Bor Row)) → length fresh ≡ 0 → rows_of fresh ≡ rows_with_new_keys key now edits
+  pub no_duplicates_without_new : (fresh : List (Bor Row)) → length fresh ≡ 0 → map (λ r. r.now) fresh ≡ rows_with_new_keys key now edits
       → false ≡ has_duplicate_keys key (rows_after now edits kept)
   no_duplicates_without_new [] empty are =
       sym (none_kept key outs rest none) ∙ (ap (λ rows. has_duplicate_keys key (rows ++ rest)) are ∙ same_duplicates)
   no_duplicates_without_new (r ∷ rs) empty are = absurd (omega arith)
 
-  module _ (fresh sorted : List (Bor Row)) (new_are : rows_of fresh ≡ rows_with_new_keys key now edits) (new_moved : IsPermutation fresh sorted) where
-    new_sorted : IsPermutation (rows_with_new_keys key now edits) (rows_of sorted)
-    new_sorted = subst (λ (xs : List Row). IsPermutation xs (rows_of sorted)) new_are (IsPermutation-map (λ r. r.now) fresh sorted new_moved)
+  module _ (fresh sorted : List (Bor Row)) (new_are : map (λ r. r.now) fresh ≡ rows_with_new_keys key now edits) (new_moved : IsPermutation fresh sorted) where
+    new_sorted : IsPermutation (rows_with_new_keys key now edits) (map (λ r. r.now) sorted)
+    new_sorted = subst (λ (xs : List Row). IsPermutation xs (map (λ r. r.now) sorted)) new_are (IsPermutation-map (λ r. r.now) fresh sorted new_moved)
 
     -- two new rows of one key are duplicates
-    pub duplicates_by_new : true ≡ has_duplicate_keys key (rows_of sorted) → true ≡ has_duplicate_keys key (rows_after now edits kept)
+    pub duplicates_by_new : true ≡ has_duplicate_keys key (map (λ r. r.now) sorted) → true ≡ has_duplicate_keys key (rows_after now edits kept)
     duplicates_by_new duplicates =
-        duplicates_among_new key outs rest none (rows_with_new_keys key now edits) (rows_of sorted) new_sorted duplicates ∙ same_duplicates
+        duplicates_among_new key outs rest none (rows_with_new_keys key now edits) (map (λ r. r.now) sorted) new_sorted duplicates ∙ same_duplicates
 
-    module _ (gathered gone : List (Bor Row))
-        (old_are : rows_of gathered ≡ map (row_at now) (moving edit_name edit_other key key now Old edits))
+    module _ {V : Type 0} (seen : V → Row) (gathered gone : List V)
+        (old_are : map seen gathered ≡ map (row_at now) (moving edit_name edit_other key key now Old edits))
         (old_moved : IsPermutation gathered gone) where
-      old_sorted : IsPermutation outs (rows_of gone)
+      old_sorted : IsPermutation outs (map seen gone)
       unfolding outs
-      old_sorted = subst (λ (xs : List Row). IsPermutation xs (rows_of gone)) old_are (IsPermutation-map (λ r. r.now) gathered gone old_moved)
+      old_sorted = subst (λ (xs : List Row). IsPermutation xs (map seen gone)) old_are (IsPermutation-map seen gathered gone old_moved)
 
       -- .. and else a new row and one that stays
-      pub duplicates_by_kept : false ≡ has_duplicate_keys key (rows_of sorted) → (duplicates : Bool)
+      pub duplicates_by_kept : false ≡ has_duplicate_keys key (map (λ r. r.now) sorted) → (duplicates : Bool)
           → duplicates ≡ list_any
-          (λ r. not (list_any (same_in_column key r.now) (rows_of gone)) && list_any (same_in_column key r.now) (map (row_at now) refs)) sorted
+          (λ r. not (list_any (same_in_column key r.now) (map seen gone)) && list_any (same_in_column key r.now) (map (row_at now) refs)) sorted
           → duplicates ≡ has_duplicate_keys key (rows_after now edits kept)
       duplicates_by_kept apart duplicates is =
-          duplicates_with_kept key outs rest none (rows_with_new_keys key now edits) (rows_of sorted) new_sorted (map (row_at now) refs) (rows_of gone)
+          duplicates_with_kept key outs rest none (rows_with_new_keys key now edits) (map (λ r. r.now) sorted) new_sorted (map (row_at now) refs)
+          (map seen gone)
           all_rows old_sorted apart duplicates
           (is ∙ sym (list_any-map (λ r. r.now)
-          (λ row. not (list_any (same_in_column key row) (rows_of gone)) && list_any (same_in_column key row) (map (row_at now) refs)) sorted))
+          (λ row. not (list_any (same_in_column key row) (map seen gone)) && list_any (same_in_column key row) (map (row_at now) refs)) sorted))
           ∙ same_duplicates
 
 -- without duplicates the keys stay apart, as `apply` asks

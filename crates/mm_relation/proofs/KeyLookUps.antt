@@ -7,7 +7,7 @@ use Rattle.std.specs.Ordering.{is_eq}
 use Rattle.std.specs.declared.cmp.Ordering.TheVariants.{Equal}
 use Rattle.std.proofs.lemmas.Bool.{cases_Bool}
 use Rattle.std.proofs.lemmas.List.Folds.{list_any_none, list_any_at}
-use Rattle.std.proofs.lemmas.Option.{slice_get_past, slice_get-get_or}
+use Rattle.std.proofs.lemmas.Option.{slice_get-get_or}
 use Rattle.mm_value.specs.Order.{value_cmp}
 use Rattle.mm_value.specs.declared.row_ref.RowRef.{RowRef}
 use Rattle.mm_value.specs.declared.values.Value.{Value}
@@ -52,12 +52,12 @@ module _ (key : ℕ) (row : Row) where
         sym (list_any-map (row_at now) (same_in_column key row) refs ∙ list_any_at (λ at. same_in_column key row (row_at now at)) refs held.0 at held.1
         (ap (λ x. same_in_column key row (row_at now x)) held.2 ∙ same_value (row_at now at) value has fits))
 
-    pub no_key : length row ≤ key → All (IsWide key key now) refs → false ≡ list_any (same_in_column key row) (map (row_at now) refs)
-    no_key past wide =
+    pub no_key : slice_get row key ≡ None → All (IsWide key key now) refs → false ≡ list_any (same_in_column key row) (map (row_at now) refs)
+    no_key none wide =
         sym (list_any-map (row_at now) (same_in_column key row) refs ∙ list_any_none (λ at. same_in_column key row (row_at now at)) refs
         (λ k d within. let w : IsWide key key now (get_or refs k d) = wide k d within in
         let first : Value = value_of w.row w.key_in in
-        no_value (row_at now (get_or refs k d)) (get_or w.row key first) (slice_get_past row key past)
+        no_value (row_at now (get_or refs k d)) (get_or w.row key first) none
         (ap (λ c. slice_get (row_in c) key) w.live ∙ slice_get-get_or w.row key first w.key_in)))
       where
         value_of : (xs : List Value) → key < length xs → Value

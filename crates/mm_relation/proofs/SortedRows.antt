@@ -9,6 +9,7 @@ use Rattle.std.specs.declared.cmp.Ordering.TheVariants.{Less, Equal}
 use Rattle.std.proofs.lemmas.List.{get_or-map, length-map}
 use Rattle.std.proofs.lemmas.List.Elements.{All-map}
 use Rattle.mm_value.specs.Order.{value_cmp}
+use Rattle.mm_value.specs.Views.{value_of}
 use Rattle.mm_value.proofs.Orders.{value_cmp_total}
 use Rattle.mm_schema.specs.Rows.{column_cmp}
 use Rattle.mm_schema.proofs.Orderings.{less_from_no_tie}
@@ -21,7 +22,7 @@ use Rattle.mm_relation.proofs.RowLists.{not_tied}
 use Rattle.mm_relation.proofs.Steps.{then_second}
 
 pub sortable_total : IsTotalOrder sortable_cmp
-sortable_total = then_total (on_total (λ (x : Sortable). x.value.now) value_cmp_total) (on_total (λ (x : Sortable). x.key.now) value_cmp_total)
+sortable_total = then_total (on_total (λ (x : Sortable). value_of x.value) value_cmp_total) (on_total (λ (x : Sortable). value_of x.key) value_cmp_total)
 
 module _ (column key : ℕ) (now : Slots) where
   -- they compare as their references do ..
@@ -30,7 +31,7 @@ module _ (column key : ℕ) (now : Slots) where
 
   -- .. and so do their keys
   keys_agree : (a b : Sortable) → IsOf column key now a → IsOf column key now b
-      → column_cmp key (row_at now a.at) (row_at now b.at) ≡ value_cmp a.key.now b.key.now
+      → column_cmp key (row_at now a.at) (row_at now b.at) ≡ value_cmp (value_of a.key) (value_of b.key)
   keys_agree a b one other = rw (one.key_is, other.key_is) refl
 
   module _ (xs : List Sortable) (all : All (IsOf column key now) xs) (sorted : AreSorted xs) (apart : KeysApart key now (map ref_of xs)) where
@@ -43,7 +44,7 @@ module _ (column key : ℕ) (now : Slots) where
         (apart k (suc k) d.at (omega arith) (omega (arith, length-map xs ref_of))) in
         let differ : sortable_cmp one next ≢ Equal = λ tie. keys_differ
         (keys_agree one next (all k d (omega arith)) (all (suc k) d (omega arith))
-        ∙ then_second (value_cmp one.value.now next.value.now) (value_cmp one.key.now next.key.now) tie) in
+        ∙ then_second (value_cmp (value_of one.value) (value_of next.value)) (value_cmp (value_of one.key) (value_of next.key)) tie) in
         let not_back : is_lt (sortable_cmp next one) ≡ false = rw (← add-one k) (sorted k d (omega arith) within) in
         less_from_no_tie (sortable_cmp one next) (not_tied (sortable_cmp one next) differ) (ap is_lt (sym (sortable_total.antisymm next one)) ∙ not_back)
 

@@ -1,5 +1,4 @@
 -- Rows that lie elsewhere, and their order by the key.
-use denote.Ref.{Bor}
 use Rattle.std.specs.Prelude.{ℕ, Bool, true, false, cond, List, Option, Some, None, filter_map, map, count_by}
 use Rattle.std.specs.List.Sorted.{IsSortedByKey}
 use Rattle.mm_value.specs.declared.values.Value.{Value}
@@ -12,13 +11,9 @@ use Rattle.mm_relation.specs.Edits.{edit_name, edit_other, named}
 use Rattle.mm_relation.specs.Moves.{moved}
 use Rattle.mm_relation.specs.Refs.{Slots, row_at}
 
--- The rows that are referred to.
-abbrev pub rows_of : List (Bor (List Value)) → List (List Value)
-rows_of rows = map (λ r. r.now) rows
-
 -- No row has a smaller key than the one before it.
-abbrev pub AreByKey : ℕ → List (Bor (List Value)) → Type 0
-AreByKey key rows = IsSortedByKey (λ r. r.now) (column_cmp key) rows
+abbrev pub AreByKey : {R : Type 0} → (R → List Value) → ℕ → List R → Type 0
+AreByKey row key rows = IsSortedByKey row (column_cmp key) rows
 
 -- The new row of an edit, unless it has the key of the row that it replaces.
 abbrev pub row_with_new_key : ℕ → Slots → Edit → Option (List Value)

@@ -1,20 +1,21 @@
 //! The rows of edits, and rows by their keys. The rows stay where they lie.
-ghost use Rattle.std.specs.Prelude.{◌≡◌, [], ◌∷◌, All, IfOk};
+ghost use Rattle.std.specs.Prelude.{◌≡◌, [], ◌∷◌, map, All, IfOk};
 ghost use Rattle.std.specs.List.{list_any};
 ghost use Rattle.std.specs.List.Sorted.{IsPermutation};
 ghost use Rattle.std.specs.Option.{option_copied};
 ghost use Rattle.mm_schema.specs.Rows.{same_in_column, has_duplicate_keys};
 ghost use Rattle.mm_partition.specs.Places.{slot_at};
+ghost use Rattle.mm_partition.specs.Views.{viewed};
 ghost use Rattle.mm_relation.specs.declared.indexes.names.Side.TheVariants as side;
 ghost use Rattle.mm_relation.specs.Edits.{edit_name, named};
-ghost use Rattle.mm_relation.specs.KeyRows.{rows_of, AreByKey, row_with_new_key as row_with_new_key_of, rows_with_new_keys as rows_with_new_keys_of, rows_that_free_keys as rows_that_free_keys_of};
+ghost use Rattle.mm_relation.specs.KeyRows.{AreByKey, row_with_new_key as row_with_new_key_of, rows_with_new_keys as rows_with_new_keys_of, rows_that_free_keys as rows_that_free_keys_of};
 ghost use Rattle.mm_relation.specs.Refs.{HasRow};
 
 use crate::edits::Edit;
 use crate::indexes::names::Side;
 use crate::moves::{compare_in, moved_name};
-use mm_partition::Partitions;
-use mm_value::Row;
+use mm_partition::{Partitions, RowView};
+use mm_value::{AsRow, Row};
 use std::alloc::{AllocError, Global};
 
 /// The new row of an edit, unless it has the key of the row that it replaces.
@@ -25,7 +26,7 @@ fn row_with_new_key<'a>(places: &Partitions, key: usize, edit: &'a Edit) -> Opti
     match edit {
         Edit::Add(row) => Some(row),
         Edit::Swap(at, row) => {
-            let keeps_key = compare_in(row, places.get(*at), key).is_eq();
+            let keeps_key = compare_in(row, &places.get(*at), key).is_eq();
             if keeps_key { None } else { Some(row) }
         }
         Edit::Gone(_) => None,
@@ -40,7 +41,7 @@ pub fn rows_with_new_keys<'a>(
     edits: &'a [Edit],
 ) -> Result<Vec<&'a Row>, AllocError>
     requires { All (HasRow (slot_at places.now)) (named edit_name side.Old edits.now) }
-    ensures { IfOk result (λ rows. rows_of rows.items ≡ rows_with_new_keys_of key (slot_at places.now) edits.entry.now) }
+    ensures { IfOk result (λ rows. map (λ row. row.now) rows.items ≡ rows_with_new_keys_of key (slot_at places.now) edits.entry.now) }
 {
     let mut rows = Vec::new(alloc);
     for edit in edits {
@@ -57,9 +58,9 @@ pub fn rows_that_free_keys<'a>(
     places: &'a Partitions,
     key: usize,
     edits: &[Edit],
-) -> Result<Vec<&'a Row>, AllocError>
+) -> Result<Vec<RowView<'a>>, AllocError>
     requires { All (HasRow (slot_at places.now)) (named edit_name side.Old edits.now) }
-    ensures { IfOk result (λ rows. rows_of rows.items ≡ rows_that_free_keys_of key places.entry.now edits.now) }
+    ensures { IfOk result (λ rows. map viewed rows.items ≡ rows_that_free_keys_of key places.entry.now edits.now) }
 {
     let mut rows = Vec::new(alloc);
     for edit in edits {
@@ -71,25 +72,25 @@ pub fn rows_that_free_keys<'a>(
 }
 
 /// Sorts rows by their keys. It takes no memory and O(m log m) comparisons for m rows.
-pub fn sort_by_key(rows: &mut Vec<&Row>, key: usize)
+pub fn sort_by_key<R: AsRow>(rows: &mut Vec<R>, key: usize)
     ensures permutation { IsPermutation rows.old.items rows.new.items }
-    ensures sorted { AreByKey key rows.new.items }
+    ensures sorted { AreByKey R.AsRow.row key rows.new.items }
 {
     rows.sort_unstable_by(|a, b| compare_in(a, b, key));
 }
 
 /// Whether two of the sorted rows have one key, which then are neighbours.
-pub fn has_equal_neighbours(rows: &[&Row], key: usize) -> bool
-    requires { AreByKey key rows.now }
-    ensures { result ≡ has_duplicate_keys key (rows_of rows.now) }
+pub fn has_equal_neighbours<R: AsRow>(rows: &[R], key: usize) -> bool
+    requires { AreByKey R.AsRow.row key rows.now }
+    ensures { result ≡ has_duplicate_keys key (map R.AsRow.row rows.now) }
 {
     !rows.is_sorted_by(|a, b| compare_in(a, b, key).is_lt())
 }
 
 /// Whether one of the sorted rows has the key of `row`: a binary search.
-pub fn contains_key(rows: &[&Row], row: &Row, key: usize) -> bool
-    requires { AreByKey key rows.now }
-    ensures { result ≡ list_any (same_in_column key row.now) (rows_of rows.now) }
+pub fn contains_key<R: AsRow>(rows: &[R], row: &Row, key: usize) -> bool
+    requires { AreByKey R.AsRow.row key rows.now }
+    ensures { result ≡ list_any (same_in_column key row.now) (map R.AsRow.row rows.now) }
 {
     rows.binary_search_by(|other| compare_in(other, row, key))
         .is_ok()

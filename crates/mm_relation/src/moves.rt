@@ -3,29 +3,30 @@ ghost use Rattle.std.specs.Prelude.{◌≡◌, ◌&&◌, Some};
 ghost use Rattle.mm_value.specs.declared.row_ref.RowRef.{RowRef};
 ghost use Rattle.mm_schema.specs.Rows.{column_cmp};
 ghost use Rattle.mm_partition.specs.Places.{slot_at};
+ghost use Rattle.mm_partition.specs.Views.{viewed};
 ghost use Rattle.mm_relation.specs.Refs.{HasRow};
 ghost use Rattle.mm_relation.specs.Moves.{agree as agree_in, moved};
 
 use crate::indexes::names::{Names, Side};
-use mm_partition::Partitions;
-use mm_value::{Row, RowRef, compare};
+use mm_partition::{Partitions, RowView};
+use mm_value::{AsRow, Row, RowRef, compare};
 use std::cmp::Ordering;
 
 /// How two rows stand by their values in a column. A row without that column comes first.
-pub fn compare_in(a: &Row, b: &Row, column: usize) -> Ordering
-    ensures { result ≡ column_cmp column a.now b.now }
+pub fn compare_in<A: AsRow, B: AsRow>(a: &A, b: &B, column: usize) -> Ordering
+    ensures { result ≡ column_cmp column (A.AsRow.row a.now) (B.AsRow.row b.now) }
 {
-    match (a.values().get(column), b.values().get(column)) {
+    match (a.get(column), b.get(column)) {
         (None, None) => Ordering::Equal,
         (None, Some(_)) => Ordering::Less,
         (Some(_), None) => Ordering::Greater,
-        (Some(a), Some(b)) => compare(a, b),
+        (Some(a), Some(b)) => compare(&a, &b),
     }
 }
 
 /// Whether two rows have the same value in each of two columns.
-fn agree(a: &Row, b: &Row, column: usize, key: usize) -> bool
-    ensures { result ≡ agree_in column key a.now b.now }
+fn agree(a: &Row, b: &RowView<'_>, column: usize, key: usize) -> bool
+    ensures { result ≡ agree_in column key a.now (viewed b.now) }
 {
     compare_in(a, b, column).is_eq() && (key == column || compare_in(a, b, key).is_eq())
 }
@@ -44,7 +45,7 @@ pub fn moved_name<T: Names>(
 {
     let at = item.name(side)?;
     match item.other_side() {
-        Some(other) if agree(other, rows.get(at), column, key) => None,
+        Some(other) if agree(other, &rows.get(at), column, key) => None,
         _ => Some(at),
     }
 }

@@ -2,6 +2,7 @@
 ghost use Rattle.std.specs.Prelude.{◌≡◌, ◌<◌, ◌≤◌, [], length, All};
 ghost use Rattle.mm_value.specs.declared.row_ref.RowRef.{RowRef};
 ghost use Rattle.mm_partition.specs.Places.{Free, Live, IsLive, slot_at, extent_of};
+ghost use Rattle.mm_partition.specs.Views.{viewed};
 ghost use Rattle.mm_schema.specs.Rows.{most_rows};
 
 mod apply;
@@ -19,8 +20,8 @@ mod spares;
 
 use crate::indexes::index::Index;
 use mm_order::OrderedRefs;
-use mm_partition::Partitions;
-use mm_value::{Row, RowRef};
+use mm_partition::{Partitions, RowView};
+use mm_value::RowRef;
 use std::alloc::Global;
 use std::marker::Model;
 use ttree::{Iter, TTree};
@@ -98,10 +99,10 @@ impl Relation {
         self.rows.extent()
     }
 
-    /// The row of a live reference.
-    pub fn row(&self, at: RowRef) -> &Row
+    /// The row of a live reference, where it stands.
+    pub fn row(&self, at: RowRef) -> RowView<'_>
         requires { IsLive self.now.places at }
-        ensures { slot_at self.now.places at ≡ Live result.now }
+        ensures { slot_at self.now.places at ≡ Live (viewed result) }
     {
         self.rows.get(at)
     }

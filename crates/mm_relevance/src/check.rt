@@ -8,7 +8,7 @@ use crate::edge::edge_at;
 use crate::term::{Point, same_point};
 use crate::texts::fails_on_texts;
 use mm_query::BoundQuery;
-use mm_value::Row;
+use mm_value::AsRow;
 
 /// The most edges of a cycle.
 pub(crate) const MAX_EDGES: usize = 32;
@@ -21,15 +21,15 @@ struct Reached {
 }
 
 /// Where one more edge leads, if it is there and begins where the walk has come.
-fn advance(
+fn advance<R: AsRow>(
     query: &BoundQuery,
     place: usize,
-    row: &Row,
+    row: &R,
     name: CycleEdge,
     from: Reached,
 ) -> Option<Reached>
     requires { IsSmall from.sum }
-    ensures value { result ≡ follow_edge from (edge_at query.now place row.now name) }
+    ensures value { result ≡ follow_edge from (edge_at query.now place (R.AsRow.row row.now) name) }
     ensures near { IfSome result (λ r. IsWithin (2 ^ 66) (r.sum -ℤ from.sum)) }
 {
     match edge_at(query, place, row, name) {
@@ -55,13 +55,13 @@ fn closes(start: Point, end: Reached) -> bool
 }
 
 /// Whether the edges are there, lead on from one another and back, and have a negative sum.
-pub(crate) fn is_negative_cycle(
+pub(crate) fn is_negative_cycle<R: AsRow>(
     query: &BoundQuery,
     place: usize,
-    row: &Row,
+    row: &R,
     cycle: &[CycleEdge],
 ) -> bool
-    ensures { IsTrue result ↔ IsNegativeCycle query.now place row.now cycle.now }
+    ensures { IsTrue result ↔ IsNegativeCycle query.now place (R.AsRow.row row.now) cycle.now }
 {
     let count = cycle.len();
     if count == 0 || count > MAX_EDGES {
@@ -84,8 +84,13 @@ pub(crate) fn is_negative_cycle(
 }
 
 /// Whether it is the lower edge of an atom that is false of known texts.
-fn is_false_on_texts(query: &BoundQuery, place: usize, row: &Row, cycle: &[CycleEdge]) -> bool
-    ensures { IsTrue result ↔ IsFalseOnTexts query.now place row.now cycle.now }
+fn is_false_on_texts<R: AsRow>(
+    query: &BoundQuery,
+    place: usize,
+    row: &R,
+    cycle: &[CycleEdge],
+) -> bool
+    ensures { IsTrue result ↔ IsFalseOnTexts query.now place (R.AsRow.row row.now) cycle.now }
 {
     if cycle.len() != 1 || cycle[0].upper {
         return false;
@@ -99,8 +104,8 @@ fn is_false_on_texts(query: &BoundQuery, place: usize, row: &Row, cycle: &[Cycle
 /// Whether a cycle shows that no combination with this row at this place of FROM fits the query: its inequalities are there,
 /// each leads on from the one before it and the last one back to the first, they are at most 32, and the sum of what they add is
 /// negative; or it is the one lower edge of an atom that is false of known texts. It takes no memory.
-pub fn check_cycle(query: &BoundQuery, place: usize, row: &Row, cycle: &Cycle) -> bool
-    ensures { IsTrue result ↔ IsAccepted query.now place row.now cycle.now.edges.items }
+pub fn check_cycle<R: AsRow>(query: &BoundQuery, place: usize, row: &R, cycle: &Cycle) -> bool
+    ensures { IsTrue result ↔ IsAccepted query.now place (R.AsRow.row row.now) cycle.now.edges.items }
 {
     let edges = cycle.edges.as_slice();
     is_negative_cycle(query, place, row, edges) || is_false_on_texts(query, place, row, edges)

@@ -7,7 +7,7 @@ ghost use Rattle.mm_relevance.specs.Walks.{IsNear, IsNearTerm, IsWithin, edges, 
 use crate::cycle::CycleEdge;
 use crate::term::{Point, Term, field_term, operand_term};
 use mm_query::{Atom, BoundQuery, Comparison, FieldPlace};
-use mm_value::Row;
+use mm_value::AsRow;
 use std::alloc::{AllocError, Global};
 
 /// The inequality `left <= right + cost`.
@@ -123,15 +123,15 @@ fn bounds_between(comparison: Comparison, conjunct: usize, a: Term, b: Term) -> 
 }
 
 /// The edges that an atom gives.
-fn bounds_of(
+fn bounds_of<R: AsRow>(
     query: &BoundQuery,
     place: usize,
-    row: &Row,
+    row: &R,
     conjunct: usize,
     atom: &Atom<FieldPlace>,
 ) -> Bounds
-    ensures lower { result.lower ≡ edge_of query.now place row.now (name_of conjunct false) atom.now }
-    ensures upper { result.upper ≡ edge_of query.now place row.now (name_of conjunct true) atom.now }
+    ensures lower { result.lower ≡ edge_of query.now place (R.AsRow.row row.now) (name_of conjunct false) atom.now }
+    ensures upper { result.upper ≡ edge_of query.now place (R.AsRow.row row.now) (name_of conjunct true) atom.now }
     ensures lower_near { IfSome result.lower IsNear }
     ensures upper_near { IfSome result.upper IsNear }
 {
@@ -147,14 +147,14 @@ fn bounds_of(
 }
 
 /// The edge of an atom that has this name, if it gives one.
-fn edge_of(
+fn edge_of<R: AsRow>(
     query: &BoundQuery,
     place: usize,
-    row: &Row,
+    row: &R,
     name: CycleEdge,
     atom: &Atom<FieldPlace>,
 ) -> Option<Edge>
-    ensures value { result ≡ edge_of query.now place row.now name atom.now }
+    ensures value { result ≡ edge_of query.now place (R.AsRow.row row.now) name atom.now }
     ensures near { IfSome result IsNear }
 {
     let bounds = bounds_of(query, place, row, name.conjunct, atom);
@@ -166,8 +166,13 @@ fn edge_of(
 }
 
 /// The edge of a query that has this name, if there is one.
-pub(crate) fn edge_at(query: &BoundQuery, place: usize, row: &Row, name: CycleEdge) -> Option<Edge>
-    ensures value { result ≡ edge_at query.now place row.now name }
+pub(crate) fn edge_at<R: AsRow>(
+    query: &BoundQuery,
+    place: usize,
+    row: &R,
+    name: CycleEdge,
+) -> Option<Edge>
+    ensures value { result ≡ edge_at query.now place (R.AsRow.row row.now) name }
     ensures near { IfSome result IsNear }
 {
     match query.atoms.as_slice().get(name.conjunct) {
@@ -187,13 +192,13 @@ fn add(edges: &mut Vec<Edge>, edge: Option<Edge>) -> Result<(), AllocError>
 }
 
 /// The edges of all atoms.
-pub(crate) fn edges(
+pub(crate) fn edges<R: AsRow>(
     alloc: Global,
     query: &BoundQuery,
     place: usize,
-    row: &Row,
+    row: &R,
 ) -> Result<Vec<Edge>, AllocError>
-    ensures value { IfOk result (λ found. found.items ≡ edges query.now place row.now) }
+    ensures value { IfOk result (λ found. found.items ≡ edges query.now place (R.AsRow.row row.now)) }
     ensures near { IfOk result (λ found. All IsNear found.items) }
 {
     let atoms = query.atoms.as_slice();

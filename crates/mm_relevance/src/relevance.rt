@@ -12,7 +12,7 @@ use crate::relaxation::Relaxation;
 use crate::search::negative_walk;
 use crate::texts::false_text;
 use mm_query::BoundQuery;
-use mm_value::Row;
+use mm_value::AsRow;
 use std::alloc::{AllocError, Global};
 
 /// A cycle that shows that no combination with this row at this place of FROM fits the query, if there is one of at most 32
@@ -21,13 +21,13 @@ use std::alloc::{AllocError, Global};
 /// takes memory for the inequalities, unless an atom is false of known texts, and for the cycle that it finds; for more only where
 /// it has to search long, as can be with more than 4 rows of FROM, 16 columns of a row or 16 atoms. `AllocError` where memory
 /// is refused.
-pub fn irrelevant(
+pub fn irrelevant<R: AsRow>(
     alloc: Global,
     query: &BoundQuery,
     place: usize,
-    row: &Row,
+    row: &R,
 ) -> Result<Option<Cycle>, AllocError>
-    ensures { IfOk result (λ found. MatchOption found (IsCyclic query.now place row.now → ⊥) (λ cycle. IsAccepted query.now place row.now cycle.edges.items)) }
+    ensures { IfOk result (λ found. MatchOption found (IsCyclic query.now place (R.AsRow.row row.now) → ⊥) (λ cycle. IsAccepted query.now place (R.AsRow.row row.now) cycle.edges.items)) }
 {
     if let Some(conjunct) = false_text(query, place, row) {
         return Ok(Some(lower_alone(alloc, conjunct)?));
@@ -55,13 +55,13 @@ fn has_negative_edge(edges: &[Edge]) -> bool
 }
 
 /// A negative cycle, if there is one.
-fn negative_cycle(
+fn negative_cycle<R: AsRow>(
     alloc: Global,
     query: &BoundQuery,
     place: usize,
-    row: &Row,
+    row: &R,
 ) -> Result<Option<Cycle>, AllocError>
-    ensures { IfOk result (λ found. MatchOption found ((cycle : List Named) → IsNegativeCycle query.now place row.now cycle → ⊥) (λ cycle. IsNegativeCycle query.now place row.now cycle.edges.items)) }
+    ensures { IfOk result (λ found. MatchOption found ((cycle : List Named) → IsNegativeCycle query.now place (R.AsRow.row row.now) cycle → ⊥) (λ cycle. IsNegativeCycle query.now place (R.AsRow.row row.now) cycle.edges.items)) }
 {
     let found = edges(alloc, query, place, row)?;
     let edges = found.as_slice();
@@ -84,15 +84,15 @@ fn negative_cycle(
 }
 
 /// The circle of edges that lowered numbers, where it is a negative cycle.
-fn proposed(
+fn proposed<R: AsRow>(
     alloc: Global,
     query: &BoundQuery,
     place: usize,
-    row: &Row,
+    row: &R,
     relaxation: &Relaxation,
     edges: &[Edge],
 ) -> Result<Option<Cycle>, AllocError>
-    ensures { IfOk result (λ found. IfSome found (λ cycle. IsNegativeCycle query.now place row.now cycle.edges.items)) }
+    ensures { IfOk result (λ found. IfSome found (λ cycle. IsNegativeCycle query.now place (R.AsRow.row row.now) cycle.edges.items)) }
 {
     match relaxation.cycle(alloc, edges)? {
         Some(names) if is_negative_cycle(query, place, row, &names) => {

@@ -2,11 +2,12 @@
 ghost use Rattle.std.specs.Prelude.{◌≡◌, ◌^◌};
 ghost use Rattle.std.specs.Option.{option_map};
 ghost use Rattle.mm_query.specs.Atoms.{value_in};
+ghost use Rattle.mm_value.specs.Views.{value_of};
 ghost use Rattle.mm_relevance.specs.Relevance.{field_term, moved, number_term, operand_term};
 ghost use Rattle.mm_relevance.specs.Walks.{IsNearTerm, point_eq};
 
 use mm_query::{BoundQuery, FieldPlace, Operand};
-use mm_value::{Row, Value};
+use mm_value::{AsRow, ValueRef};
 
 /// What an inequality speaks of.
 #[derive(Clone, Copy)]
@@ -38,25 +39,25 @@ pub(crate) fn same_point(a: Point, b: Point) -> bool
 }
 
 /// The term of a number. A text has none.
-fn number_term(value: &Value) -> Option<Term>
-    ensures value { result ≡ number_term value.now }
+fn number_term(value: ValueRef<'_>) -> Option<Term>
+    ensures value { result ≡ number_term (value_of value.entry) }
     ensures near { IsNearTerm (2 ^ 63) result }
 {
     match value {
-        Value::Int(number) => Some(Term {
+        ValueRef::Int(number) => Some(Term {
             point: Point::Zero,
-            offset: i128::from(*number),
+            offset: i128::from(number),
         }),
-        Value::Text(_) => None,
+        ValueRef::Text(_) => None,
     }
 }
 
 /// The term of a column of this row, which is 0 past its end.
-fn column_term(row: &Row, column: usize) -> Option<Term>
-    ensures value { result ≡ number_term (value_in column row.now) }
+fn column_term<R: AsRow>(row: &R, column: usize) -> Option<Term>
+    ensures value { result ≡ number_term (value_in column (R.AsRow.row row.now)) }
     ensures near { IsNearTerm (2 ^ 63) result }
 {
-    match row.values().get(column) {
+    match row.get(column) {
         Some(value) => number_term(value),
         None => Some(Term {
             point: Point::Zero,
@@ -66,13 +67,13 @@ fn column_term(row: &Row, column: usize) -> Option<Term>
 }
 
 /// The term of a field: a number of the row at the place, or a column of another row of FROM.
-pub(crate) fn field_term(
+pub(crate) fn field_term<R: AsRow>(
     query: &BoundQuery,
     place: usize,
-    row: &Row,
+    row: &R,
     field: FieldPlace,
 ) -> Option<Term>
-    ensures value { result ≡ field_term query.now place row.now field }
+    ensures value { result ≡ field_term query.now place (R.AsRow.row row.now) field }
     ensures near { IsNearTerm (2 ^ 63) result }
 {
     if field.place == place {
@@ -103,17 +104,17 @@ fn moved(term: Option<Term>, by: i64) -> Option<Term>
 }
 
 /// The term of the right side of an atom.
-pub(crate) fn operand_term(
+pub(crate) fn operand_term<R: AsRow>(
     query: &BoundQuery,
     place: usize,
-    row: &Row,
+    row: &R,
     operand: &Operand<FieldPlace>,
 ) -> Option<Term>
-    ensures value { result ≡ operand_term query.now place row.now operand.now }
+    ensures value { result ≡ operand_term query.now place (R.AsRow.row row.now) operand.now }
     ensures near { IsNearTerm (2 ^ 64) result }
 {
     match operand {
-        Operand::Literal(value) => number_term(value),
+        Operand::Literal(value) => number_term(value.as_ref()),
         Operand::Column(field) => field_term(query, place, row, *field),
         Operand::Shifted(field, by) => moved(field_term(query, place, row, *field), *by),
     }

@@ -6,28 +6,29 @@ ghost use Rattle.mm_relevance.specs.Relevance.{fails_on_texts, known};
 ghost use Rattle.mm_relevance.specs.Walks.{text_of};
 
 use mm_query::{Atom, BoundQuery, FieldPlace, Operand};
-use mm_value::{Row, Text, Value};
+use mm_value::{AsRow, Text, Value, ValueRef};
 
 /// The text of a field, if it is one of the row at the place.
-fn known_text<'v>(place: usize, row: &'v Row, field: FieldPlace) -> Option<&'v Text>
-    ensures { option_copied result ≡ text_of (known place row.now field) }
+fn known_text<'v, R: AsRow>(place: usize, row: &'v R, field: FieldPlace) -> Option<&'v Text>
+    ensures { option_copied result ≡ text_of (known place (R.AsRow.row row.now) field) }
 {
     if field.place != place {
         return None;
     }
-    match row.values().get(field.column) {
-        Some(Value::Text(text)) => Some(text),
-        _ => None,
+    match row.get(field.column) {
+        Some(ValueRef::Text(text)) => Some(text),
+        Some(ValueRef::Int(_)) => None,
+        None => None,
     }
 }
 
 /// The text of an operand, if it is known. A text with a number added stays.
-fn operand_text<'v>(
+fn operand_text<'v, R: AsRow>(
     place: usize,
-    row: &'v Row,
+    row: &'v R,
     operand: &'v Operand<FieldPlace>,
 ) -> Option<&'v Text>
-    ensures { option_copied result ≡ text_of (operand_of (known place row.now) operand.now) }
+    ensures { option_copied result ≡ text_of (operand_of (known place (R.AsRow.row row.now)) operand.now) }
 {
     match operand {
         Operand::Literal(Value::Text(text)) => Some(text),
@@ -38,8 +39,8 @@ fn operand_text<'v>(
 }
 
 /// Whether both sides of an atom are known texts, and it is false of them.
-pub(crate) fn fails_on_texts(place: usize, row: &Row, atom: &Atom<FieldPlace>) -> bool
-    ensures { result ≡ fails_on_texts place row.now atom.now }
+pub(crate) fn fails_on_texts<R: AsRow>(place: usize, row: &R, atom: &Atom<FieldPlace>) -> bool
+    ensures { result ≡ fails_on_texts place (R.AsRow.row row.now) atom.now }
 {
     match (
         known_text(place, row, atom.left),
@@ -51,8 +52,8 @@ pub(crate) fn fails_on_texts(place: usize, row: &Row, atom: &Atom<FieldPlace>) -
 }
 
 /// The first atom that is false of known texts.
-pub(crate) fn false_text(query: &BoundQuery, place: usize, row: &Row) -> Option<usize>
-    ensures { result ≡ position (fails_on_texts place row.now) query.now.atoms }
+pub(crate) fn false_text<R: AsRow>(query: &BoundQuery, place: usize, row: &R) -> Option<usize>
+    ensures { result ≡ position (fails_on_texts place (R.AsRow.row row.now)) query.now.atoms }
 {
     query
         .atoms

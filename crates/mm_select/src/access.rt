@@ -1,17 +1,18 @@
 //! Ways to the rows of a table.
 ghost use Rattle.std.specs.Prelude.{◌≡◌, ◌<◌, ◌≤◌, true, All, IfOk, IsOkAnd, filter, length};
-ghost use Rattle.std.specs.Option.{option_copied};
+ghost use Rattle.std.specs.Option.{option_copied, option_map};
 ghost use Rattle.mm_partition.specs.Places.{IsLive, slot_at};
 ghost use Rattle.mm_relation.specs.Kept.{StoredRows};
 ghost use Rattle.mm_relation.specs.Reads.{AreMatches};
 ghost use Rattle.mm_select.specs.Accesses.{AreAlong, IsServed, all_stand, all_stand_to, is_in_key_order, is_met_along, refs_along, stand_from, stand_up_to};
 ghost use Rattle.mm_select.specs.declared.access.Access.TheVariants as access;
 ghost use Rattle.mm_store.specs.Tables.{IsAt};
+ghost use Rattle.mm_value.specs.Views.{value_of};
 
 use mm_query::{Atom, Comparison, FieldPlace, Operand};
 use mm_store::{IndexRef, View};
 use mm_templist::FoundRefs;
-use mm_value::{Value, compare};
+use mm_value::{Value, ValueRef, compare};
 use smallvec::SmallVec;
 use std::alloc::{AllocError, Global};
 use std::cmp::Ordering;
@@ -117,7 +118,7 @@ fn row_of_key(alloc: Global, view: &View<'_>, table: usize, key: &Value) -> Foun
     ensures one { length result.items ≤ 1 }
 {
     let mut found = SmallVec::new(alloc);
-    if let Some(at) = view.find(table, key) {
+    if let Some(at) = view.find(table, key.as_ref()) {
         found.push_reserved(at);
     }
     found
@@ -139,7 +140,7 @@ fn matches_along(
     ensures live { (stored : StoredRows) → IsAt view.now.store table stored → IfOk result (λ found. All (IsLive stored.places) found.items) }
 {
     let mut found = Vec::new(alloc);
-    view.matches(alloc, table, index, value, &mut found)?;
+    view.matches(alloc, table, index, value.as_ref(), &mut found)?;
     Ok(SmallVec::from_vec(found))
 }
 
@@ -168,6 +169,16 @@ pub(crate) fn equal_to(
     }
 }
 
+/// An end of a range to read, if it is given.
+fn end_ref(end: Option<&Value>) -> Option<ValueRef<'_>>
+    ensures { option_map value_of result ≡ option_copied end.entry }
+{
+    match end {
+        Some(value) => Some(value.as_ref()),
+        None => None,
+    }
+}
+
 /// The references of the rows between two ends along a tree, these included; along the tree on the key in key order. `AllocError` where
 /// memory is refused.
 pub(crate) fn between(
@@ -188,6 +199,6 @@ pub(crate) fn between(
         → IfOk result (λ found. found.items ≡ refs_along stored (access.Range index column low.entry high.entry)) }
 {
     let mut found = Vec::new(alloc);
-    view.range(alloc, table, index, low, high, &mut found)?;
+    view.range(alloc, table, index, end_ref(low), end_ref(high), &mut found)?;
     Ok(SmallVec::from_vec(found))
 }

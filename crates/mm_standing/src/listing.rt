@@ -10,7 +10,7 @@ ghost use Rattle.mm_standing.specs.Showing.{rows_shown, times_shown, values_in_t
 use mm_delta::Counted;
 use mm_query::BoundQuery;
 use mm_templist::ShownRows;
-use mm_value::{Row, Value};
+use mm_value::{Row, ValueRef};
 use std::alloc::{AllocError, Global};
 
 /// How many rows of a bag are shown: with `distinct` one of each.
@@ -47,9 +47,9 @@ pub(crate) fn list_shown<'s>(
     ShownRows::sorted(alloc, values, width, count, false, order)
 }
 
-/// Puts references to the values of the rows of a bag at the end, of each row as often as it is shown.
+/// Puts the values of the rows of a bag at the end, where they stand, of each row as often as it is shown.
 fn push_entries<'s>(
-    values: &mut Vec<&'s Value>,
+    values: &mut Vec<ValueRef<'s>>,
     distinct: bool,
     bag: &'s Counted,
 ) -> Result<(), AllocError>
@@ -63,9 +63,9 @@ fn push_entries<'s>(
     Ok(())
 }
 
-/// Puts references to the values of a row at the end, so many times.
+/// Puts the values of a row at the end, where they stand, so many times.
 fn push_copies<'s>(
-    values: &mut Vec<&'s Value>,
+    values: &mut Vec<ValueRef<'s>>,
     row: &'s Row,
     copies: usize,
 ) -> Result<(), AllocError>
@@ -77,12 +77,12 @@ fn push_copies<'s>(
     Ok(())
 }
 
-/// Puts references to the values of a row at the end.
-fn push_row<'s>(values: &mut Vec<&'s Value>, row: &'s Row) -> Result<(), AllocError>
+/// Puts the values of a row at the end, where they stand.
+fn push_row<'s>(values: &mut Vec<ValueRef<'s>>, row: &'s Row) -> Result<(), AllocError>
     ensures { OnOk result (referred values.new.items ≡ referred values.old.items ++ row.now) }
 {
     for value in row.values() {
-        values.push(value)?;
+        values.push(value.as_ref())?;
     }
     Ok(())
 }

@@ -78,15 +78,15 @@ module _ (column key : ℕ) (row : List Value) where
         (ap (λ x. refers column key row (row_at now x)) held.2 ∙ refers_same (row_at now at) (has ∙ sym fits)))
 
     -- a row without the column refers to none
-    pub no_row : length row ≤ column → All (IsWide key key now) refs → list_any (refers column key row) (map (row_at now) refs) ≡ false
-    no_row past wide =
+    pub no_row : slice_get row column ≡ None → All (IsWide key key now) refs → list_any (refers column key row) (map (row_at now) refs) ≡ false
+    no_row none wide =
         list_any-map (row_at now) (refers column key row) refs ∙ list_any_none (λ at. refers column key row (row_at now at)) refs
         (λ k d within. let w : IsWide key key now (get_or refs k d) = wide k d within in
         let first : Value = value_of w.row w.key_in in
         let is : slice_get (row_at now (get_or refs k d)) key ≡ Some (get_or w.row key first) =
         ap (λ c. slice_get (row_in c) key) w.live ∙ slice_get-get_or w.row key first w.key_in in
         refers_other (row_at now (get_or refs k d)) (λ same.
-        let both : None ≡ Some (get_or w.row key first) = sym (slice_get_past row column past) ∙ (same ∙ is) in cc))
+        let both : None ≡ Some (get_or w.row key first) = sym none ∙ (same ∙ is) in cc))
       where
         value_of : (xs : List Value) → key < length xs → Value
         value_of [] within = absurd (omega arith)

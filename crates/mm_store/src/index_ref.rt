@@ -1,14 +1,15 @@
 //! The index in which values of a column are looked up.
 ghost use Rattle.std.specs.Prelude.{◌≡◌, ℕ, ◌≤◌, length, All, OnOk, OnErr};
-ghost use Rattle.std.specs.Option.{option_copied};
+ghost use Rattle.std.specs.Option.{option_map};
 ghost use Rattle.mm_partition.specs.Places.{IsLive, slot_at};
+ghost use Rattle.mm_value.specs.Views.{value_of};
 ghost use Rattle.mm_relation.specs.Reads.{Appends, AreMatches, IsRange, IsWalk};
 ghost use Rattle.mm_store.specs.Looked.{IsFirstOn, IsFirstSuch, IsHash, IsIndexOn, IsTree};
 ghost use Rattle.mm_schema.specs.Rows.{most_rows};
 
 use mm_relation::Relation;
 use mm_schema::IndexKind;
-use mm_value::{RowRef, Value};
+use mm_value::{RowRef, ValueRef};
 use std::alloc::{AllocError, Global};
 use ttree::Iter;
 
@@ -66,12 +67,12 @@ pub(crate) fn append_matches(
     alloc: Global,
     relation: &Relation,
     index: IndexRef,
-    value: &Value,
+    value: ValueRef<'_>,
     out: &mut Vec<RowRef>,
 ) -> Result<(), AllocError>
     requires { (column : ℕ) × IsIndexOn relation.now column index }
     ensures ok { OnOk result ((column : ℕ) → IsIndexOn relation.now column index
-        → Appends (AreMatches column (slot_at relation.now.places) value.now relation.now.refs) out.old.items out.new.items) }
+        → Appends (AreMatches column (slot_at relation.now.places) (value_of value.entry) relation.now.refs) out.old.items out.new.items) }
     ensures err { OnErr result (out.new.items ≡ out.old.items) }
 {
     relation.is_kept();
@@ -107,13 +108,13 @@ pub(crate) fn append_range(
     alloc: Global,
     relation: &Relation,
     index: IndexRef,
-    low: Option<&Value>,
-    high: Option<&Value>,
+    low: Option<ValueRef<'_>>,
+    high: Option<ValueRef<'_>>,
     out: &mut Vec<RowRef>,
 ) -> Result<(), AllocError>
     requires { (column : ℕ) × IsIndexOn relation.now column index × IsTree index }
     ensures ok { OnOk result ((column : ℕ) → IsIndexOn relation.now column index
-        → Appends (IsRange column relation.now (option_copied low.entry) (option_copied high.entry)) out.old.items out.new.items) }
+        → Appends (IsRange column relation.now (option_map value_of low.entry) (option_map value_of high.entry)) out.old.items out.new.items) }
     ensures err { OnErr result (out.new.items ≡ out.old.items) }
 {
     relation.is_kept();

@@ -16,7 +16,7 @@ mod checks;
 use mm_foreign_key::ForeignKey;
 use mm_relation::{Relation, UndoRecord};
 use mm_schema::Reference;
-use mm_value::{Row, RowRef, compare};
+use mm_value::{AsRow, Row, RowRef, compare};
 use std::alloc::{AllocError, Global};
 
 /// A foreign key with the rows that its rows refer to. Its calls are handed the relations of both tables.
@@ -143,7 +143,7 @@ impl Link {
             self.old.ties self.new.ties }
         ensures size { SameSize self.old.ties self.new.ties }
     {
-        if has_same_value(other, from.row(at), self.reference.column) {
+        if has_same_value(other, &from.row(at), self.reference.column) {
             return;
         }
         self.ties.untie(at);
@@ -173,12 +173,12 @@ impl Link {
 }
 
 /// Whether two rows have the same value in a column.
-fn has_same_value(a: &Row, b: &Row, column: usize) -> bool
-    ensures { result ≡ same_in_column column a.now b.now }
+fn has_same_value<A: AsRow, B: AsRow>(a: &A, b: &B, column: usize) -> bool
+    ensures { result ≡ same_in_column column (A.AsRow.row a.now) (B.AsRow.row b.now) }
 {
-    match (a.values().get(column), b.values().get(column)) {
+    match (a.get(column), b.get(column)) {
         (None, None) => true,
-        (Some(a), Some(b)) => compare(a, b).is_eq(),
+        (Some(a), Some(b)) => compare(&a, &b).is_eq(),
         (None, Some(_)) | (Some(_), None) => false,
     }
 }

@@ -1,6 +1,7 @@
 //! The rows of a table in an order, read where they lie.
 ghost use Rattle.std.specs.Prelude.{◌≡◌, ℕ, ◌∷◌, ◌<◌, ◌≤◌, [], All, IfOk, MatchOption, length, map};
 ghost use Rattle.mm_partition.specs.Places.{IsLive, slot_at};
+ghost use Rattle.mm_partition.specs.Views.{viewed};
 ghost use Rattle.mm_relation.specs.Kept.{StoredRows as Stored};
 ghost use Rattle.mm_relation.specs.Reads.{HasIndex};
 ghost use Rattle.mm_relation.specs.RowLists.{rows_of};
@@ -12,9 +13,9 @@ ghost use Rattle.mm_schema.specs.Rows.{most_rows};
 
 use crate::view::View;
 use mm_order::OrderedRefs;
+use mm_partition::RowView;
 use mm_relation::Relation;
 use mm_schema::IndexKind;
-use mm_value::Row;
 use std::alloc::{AllocError, Global};
 use std::marker::Model;
 use ttree::{Iter, TTree};
@@ -133,8 +134,8 @@ impl<'a> TableRows<'a> {
 
 impl<'a> StoredRows<'a> {
     /// Removes and returns the next row, or `None` at the end.
-    pub fn next(&mut self) -> Option<&'a Row>
-        ensures { MatchOption result (self.old ≡ []) (λ row. self.old ≡ row.now ∷ self.new) }
+    pub fn next(&mut self) -> Option<RowView<'a>>
+        ensures { MatchOption result (self.old ≡ []) (λ row. self.old ≡ viewed row ∷ self.new) }
     {
         let at = self.walk.next()?;
         Some(self.relation.row(at))

@@ -1,8 +1,9 @@
 //! What a query sees of a store.
 ghost use Rattle.std.specs.Prelude.{◌≡◌, ℕ, ◌+◌, ◌<◌, ◌≤◌, ◌↔◌, [], length, min, All, IfSome, IsTrue, OnOk, OnErr, Contains, Some, slice_get};
 ghost use Rattle.std.specs.List.{cons_option};
-ghost use Rattle.std.specs.Option.{option_copied, option_map};
+ghost use Rattle.std.specs.Option.{option_map};
 ghost use Rattle.mm_partition.specs.Places.{IsLive, Live, slot_at};
+ghost use Rattle.mm_partition.specs.Views.{viewed};
 ghost use Rattle.mm_relation.specs.Kept.{StoredRows};
 ghost use Rattle.mm_relation.specs.Reads.{Appends, AreMatches, IsRange, IsWalk};
 ghost use Rattle.mm_relation.specs.Refs.{row_at};
@@ -12,14 +13,16 @@ ghost use Rattle.mm_store.specs.Links.{IsReference, RefersTo};
 ghost use Rattle.mm_store.specs.Looked.{IsFirstOn, IsFirstSuch, IsHash, IsIndexOn, IsTree};
 ghost use Rattle.mm_store.specs.Tables.{IsAt};
 ghost use Rattle.mm_value.specs.Prefix.{order_prefix};
+ghost use Rattle.mm_value.specs.Views.{value_of};
 ghost use Rattle.mm_schema.specs.Rows.{most_rows};
 
 use crate::index_ref::{
     IndexRef, append_matches, append_range, first_hash, first_index, first_tree, tree_walk,
 };
 use crate::store::Store;
+use mm_partition::RowView;
 use mm_relation::Relation;
-use mm_value::{Row, RowRef, Value};
+use mm_value::{RowRef, ValueRef};
 use std::alloc::{AllocError, Global};
 use std::marker::Model;
 use ttree::Iter;
@@ -72,13 +75,13 @@ impl<'a> View<'a> {
         self.store.table(table)
     }
 
-    /// The row of a live reference of a table, which has a value for each column. It adds 1 to the count of reads,
+    /// The row of a live reference of a table, where it stands. It has a value for each column. This adds 1 to the count of reads,
     /// up to `u64::MAX`.
-    pub fn row(&mut self, table: usize, at: RowRef) -> &'a Row
+    pub fn row(&mut self, table: usize, at: RowRef) -> RowView<'a>
         requires there { table < length self.old.store.tables }
         requires live { (stored : StoredRows) → IsAt self.old.store table stored → IsLive stored.places at }
-        ensures row { (stored : StoredRows) → IsAt self.old.store table stored → slot_at stored.places at ≡ Live result.now }
-        ensures wide { (stored : StoredRows) → IsAt self.old.store table stored → length result.now ≡ stored.width }
+        ensures row { (stored : StoredRows) → IsAt self.old.store table stored → slot_at stored.places at ≡ Live (viewed result) }
+        ensures wide { (stored : StoredRows) → IsAt self.old.store table stored → length (viewed result) ≡ stored.width }
         ensures counted { self.new.reads ≡ min (self.old.reads + 1) u64.MAX }
         ensures same { self.new.store ≡ self.old.store }
     {
@@ -144,10 +147,10 @@ impl<'a> View<'a> {
     }
 
     /// The reference of the row of a table that has this key, none where no row has it. No row is counted, and it takes no memory.
-    pub fn find(&self, table: usize, key: &Value) -> Option<RowRef>
+    pub fn find(&self, table: usize, key: ValueRef<'_>) -> Option<RowRef>
         requires { table < length self.now.store.tables }
         ensures found { (stored : StoredRows) → IsAt self.now.store table stored
-            → AreMatches stored.key (slot_at stored.places) key.now stored.refs (cons_option result []) }
+            → AreMatches stored.key (slot_at stored.places) (value_of key.entry) stored.refs (cons_option result []) }
         ensures live { (stored : StoredRows) → IsAt self.now.store table stored → IfSome result (IsLive stored.places) }
     {
         self.relation(table).find(key)
@@ -160,13 +163,13 @@ impl<'a> View<'a> {
         alloc: Global,
         table: usize,
         index: IndexRef,
-        value: &Value,
+        value: ValueRef<'_>,
         out: &mut Vec<RowRef>,
     ) -> Result<(), AllocError>
         requires there { table < length self.now.store.tables }
         requires index { (stored : StoredRows) → IsAt self.now.store table stored → (column : ℕ) × IsIndexOn stored column index }
         ensures ok { OnOk result ((stored : StoredRows) (column : ℕ) → IsAt self.now.store table stored → IsIndexOn stored column index
-            → Appends (AreMatches column (slot_at stored.places) value.now stored.refs) out.old.items out.new.items) }
+            → Appends (AreMatches column (slot_at stored.places) (value_of value.entry) stored.refs) out.old.items out.new.items) }
         ensures live { OnOk result ((stored : StoredRows) → IsAt self.now.store table stored
             → All (IsLive stored.places) out.old.items → All (IsLive stored.places) out.new.items) }
         ensures err { OnErr result (out.new.items ≡ out.old.items) }
@@ -182,15 +185,15 @@ impl<'a> View<'a> {
         alloc: Global,
         table: usize,
         index: IndexRef,
-        low: Option<&Value>,
-        high: Option<&Value>,
+        low: Option<ValueRef<'_>>,
+        high: Option<ValueRef<'_>>,
         out: &mut Vec<RowRef>,
     ) -> Result<(), AllocError>
         requires there { table < length self.now.store.tables }
         requires tree { (stored : StoredRows) → IsAt self.now.store table stored
             → (column : ℕ) × IsIndexOn stored column index × IsTree index }
         ensures ok { OnOk result ((stored : StoredRows) (column : ℕ) → IsAt self.now.store table stored → IsIndexOn stored column index
-            → Appends (IsRange column stored (option_copied low.entry) (option_copied high.entry)) out.old.items out.new.items) }
+            → Appends (IsRange column stored (option_map value_of low.entry) (option_map value_of high.entry)) out.old.items out.new.items) }
         ensures live { OnOk result ((stored : StoredRows) → IsAt self.now.store table stored
             → All (IsLive stored.places) out.old.items → All (IsLive stored.places) out.new.items) }
         ensures err { OnErr result (out.new.items ≡ out.old.items) }

@@ -1,3 +1,4 @@
+pub mod Fields
 mod Live
 mod Only
 mod Pieces

@@ -1,7 +1,6 @@
 -- Places that are sorted have sorted rows.
 use Rattle.std.proofs.Common.{◌≡◌, ℕ, ◌+◌, ◌<◌, ◌≤◌, Bool, true, false, All, cond, List, [], ◌∷◌, drop, get_or, length, map, take}
 use Rattle.std.proofs.Common.{refl, sym, ap, ◌∙◌, subst, arith}
-use Rattle.std.specs.Borrow.{Bor}
 use Rattle.std.specs.Cmp.{IsTotalOrder, nat_cmp_total, on_total, then_total}
 use Rattle.std.specs.List.{dedup, dedup_from}
 use Rattle.std.specs.List.Sorted.{IsPermutation, IsSorted}
@@ -13,6 +12,8 @@ use Rattle.std.proofs.lemmas.Bool.Decides.{nat_tests}
 use Rattle.std.proofs.lemmas.Cmp.{tied_itself}
 use Rattle.std.proofs.lemmas.List.{drop-map, get_or-map, length-map, take-map}
 use Rattle.std.proofs.lemmas.List.Sorted.{All-permutation, IsPermutation-map}
+use Rattle.mm_value.specs.Views.{value_of}
+use Rattle.mm_value.specs.declared.value_ref.ValueRef.{ValueRef}
 use Rattle.mm_value.specs.Order.{row_cmp, value_cmp}
 use Rattle.mm_value.specs.declared.values.Value.{Value}
 use Rattle.mm_value.proofs.Orders.{value_cmp_exact}
@@ -27,9 +28,9 @@ use Rattle.mm_templist.specs.Shown.{HasPrefix, placed_cmp, placed_row}
 use Rattle.mm_templist.specs.declared.shown.Placed.{Placed}
 
 -- The row from a place on is that much of all values.
-pub run_is_piece : (width : ℕ) (refs : List (Bor Value)) (start : ℕ) → run_from width refs start ≡ take width (drop start (referred refs))
+pub run_is_piece : (width : ℕ) (refs : List ValueRef) (start : ℕ) → run_from width refs start ≡ take width (drop start (referred refs))
 run_is_piece width refs start =
-    sym (take-map (λ value. value.now) width (drop start refs)) ∙ ap (take width) (sym (drop-map (λ value. value.now) start refs))
+    sym (take-map value_of width (drop start refs)) ∙ ap (take width) (sym (drop-map value_of start refs))
 
 -- ---- numbers
 
@@ -77,7 +78,7 @@ module _ {X Y : Type 0} (f : X → Y) (same : Y → Y → Bool) where
 
 -- ---- rows
 
-module _ (order : List ℕ) (width : ℕ) (refs : List (Bor Value)) where
+module _ (order : List ℕ) (width : ℕ) (refs : List ValueRef) where
   abbrev row : Placed → List Value
   row = placed_row width refs
 

@@ -1,6 +1,5 @@
 -- Rows of values that are referred to, compared value by value: what is left to compare decides.
 use Rattle.std.proofs.Common.{◌≡◌, ◌≢◌, ℕ, ◌+◌, ◌<◌, ◌≤◌, cond, List, [], ◌∷◌, drop, get_or, length, refl, sym, ap, ◌∙◌, arith, length-drop}
-use Rattle.std.specs.Borrow.{Bor}
 use Rattle.std.specs.Cmp.{nat_cmp_total}
 use Rattle.std.specs.Ordering.{nat_cmp, ordering_then}
 use Rattle.std.specs.declared.cmp.Ordering.{Ordering}
@@ -9,6 +8,8 @@ use Rattle.std.specs.Prelude.{◌==◌}
 use Rattle.std.proofs.lemmas.Bool.{lt-ltb}
 use Rattle.std.proofs.lemmas.Cmp.{tied_itself}
 use Rattle.std.proofs.lemmas.List.{drop_all, drop-map, drop_more, length-map}
+use Rattle.mm_value.specs.Views.{value_of}
+use Rattle.mm_value.specs.declared.value_ref.ValueRef.{ValueRef}
 use Rattle.mm_value.specs.Order.{row_cmp, value_cmp}
 use Rattle.mm_value.specs.declared.values.Value.{Value}
 use Rattle.mm_templist.specs.Runs.{referred}
@@ -36,32 +37,33 @@ first_decides Equal rest other = absurd (other refl)
 first_decides Greater rest other = refl
 
 -- The value of a reference stands in front of those behind it.
-in_front : (refs : List (Bor Value)) (i : ℕ) (x : Bor Value) → i < length refs → x ≡ get_or refs i x
-    → drop i (referred refs) ≡ x.now ∷ drop (i + 1) (referred refs)
+in_front : (refs : List ValueRef) (i : ℕ) (x : ValueRef) → i < length refs → x ≡ get_or refs i x
+    → drop i (referred refs) ≡ value_of x ∷ drop (i + 1) (referred refs)
 in_front refs i x within is =
-    drop-map (λ value. value.now) i refs
+    drop-map value_of i refs
     ∙ (ap referred (drop_more refs i x within)
-    ∙ (λ k. (sym is k).now ∷ sym (drop-map (λ value. value.now) (i + 1) refs) k))
+    ∙ (λ k. value_of (sym is k) ∷ sym (drop-map value_of (i + 1) refs) k))
 
-module _ (a b : List (Bor Value)) (i : ℕ) (x : Bor Value) (equal : AreEqualTo i (referred a) (referred b)) (within : i < length a) (is : x ≡ get_or a i x) where
+module _ (a b : List ValueRef) (i : ℕ) (x : ValueRef) (equal : AreEqualTo i (referred a) (referred b)) (within : i < length a) (is : x ≡ get_or a i x) where
   -- A row that has more values than those equal to another's is greater.
   pub longer_is_greater : length b ≤ i → Greater ≡ row_cmp (referred a) (referred b)
   longer_is_greater ends =
-      let none : drop i (referred b) ≡ [] = drop_all i (referred b) (omega (arith, ends, length-map b (λ value. value.now))) in
+      let none : drop i (referred b) ≡ [] = drop_all i (referred b) (omega (arith, ends, length-map b value_of)) in
       sym (λ k. row_cmp (in_front a i x within is k) (none k)) ∙ equal.0
 
-  module _ (y : Bor Value) (there : i < length b) (same : y ≡ get_or b i y) where
-    behind : ordering_then (value_cmp x.now y.now) (row_cmp (drop (i + 1) (referred a)) (drop (i + 1) (referred b))) ≡ row_cmp (referred a) (referred b)
+  module _ (y : ValueRef) (there : i < length b) (same : y ≡ get_or b i y) where
+    behind : ordering_then (value_cmp (value_of x) (value_of y)) (row_cmp (drop (i + 1) (referred a)) (drop (i + 1) (referred b)))
+        ≡ row_cmp (referred a) (referred b)
     behind = sym (λ k. row_cmp (in_front a i x within is k) (in_front b i y there same k)) ∙ equal.0
 
     -- The first values that differ decide, ..
-    pub differing_decide : value_cmp x.now y.now ≢ Equal → value_cmp x.now y.now ≡ row_cmp (referred a) (referred b)
+    pub differing_decide : value_cmp (value_of x) (value_of y) ≢ Equal → value_cmp (value_of x) (value_of y) ≡ row_cmp (referred a) (referred b)
     differing_decide other =
-        first_decides (value_cmp x.now y.now) (row_cmp (drop (i + 1) (referred a)) (drop (i + 1) (referred b))) other ∙ behind
+        first_decides (value_cmp (value_of x) (value_of y)) (row_cmp (drop (i + 1) (referred a)) (drop (i + 1) (referred b))) other ∙ behind
 
     -- .. and behind equal ones the rows still compare as what is left.
-    pub AreEqualTo-more : value_cmp x.now y.now ≡ Equal → AreEqualTo (i + 1) (referred a) (referred b)
+    pub AreEqualTo-more : value_cmp (value_of x) (value_of y) ≡ Equal → AreEqualTo (i + 1) (referred a) (referred b)
     AreEqualTo-more tie = (
       sym (ap (λ o. ordering_then o (row_cmp (drop (i + 1) (referred a)) (drop (i + 1) (referred b)))) tie) ∙ behind,
-      omega (arith, there, length-map b (λ value. value.now)),
+      omega (arith, there, length-map b value_of),
     )

@@ -1,8 +1,8 @@
--- Rows by their places among references to values.
+-- Rows by their places among values where they stand.
 use Rattle.std.specs.Prelude.{◌≡◌, ℕ, Bool, if◌then◌else◌, List}
-use Rattle.std.specs.Borrow.{Bor}
 use Rattle.std.specs.Ordering.{nat_cmp, ordering_then}
 use Rattle.std.specs.declared.cmp.Ordering.{Ordering}
+use Rattle.mm_value.specs.declared.value_ref.ValueRef.{ValueRef}
 use Rattle.mm_value.specs.declared.values.Value.{Value}
 use Rattle.mm_schema.specs.Sorting.{in_order}
 use Rattle.mm_query.specs.Queries.{one_of_each, rows_by_columns, sort_key}
@@ -14,14 +14,14 @@ abbrev pub in_shown_order : Bool → List ℕ → List (List Value) → List (Li
 in_shown_order distinct order rows = in_order (rows_by_columns order) (if distinct then one_of_each rows else rows)
 
 -- The row at a place.
-abbrev pub placed_row : ℕ → List (Bor Value) → Placed → List Value
+abbrev pub placed_row : ℕ → List ValueRef → Placed → List Value
 placed_row width refs placed = run_from width refs placed.start
 
 -- A place has the number of the value by which its row is sorted first.
-abbrev pub HasPrefix : List ℕ → ℕ → List (Bor Value) → Placed → Type 0
+abbrev pub HasPrefix : List ℕ → ℕ → List ValueRef → Placed → Type 0
 HasPrefix order width refs placed = placed.prefix ≡ leading_prefix (sort_key order (placed_row width refs placed))
 
 -- Places by their numbers, and where these are equal by their rows.
-abbrev pub placed_cmp : List ℕ → ℕ → List (Bor Value) → Placed → Placed → Ordering
+abbrev pub placed_cmp : List ℕ → ℕ → List ValueRef → Placed → Placed → Ordering
 placed_cmp order width refs a b =
     ordering_then (nat_cmp a.prefix b.prefix) (rows_by_columns order (placed_row width refs a) (placed_row width refs b))

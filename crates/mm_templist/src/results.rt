@@ -1,8 +1,10 @@
 //! What a temporary list shows.
 ghost use Rattle.std.specs.Prelude.{◌≡◌, ◌+◌, ◌++◌, ◌*◌, ◌∷◌, ◌≤◌, [], All, IfOk, OnErr, OnOk, Some, length, map, pos, take};
-ghost use Rattle.std.specs.Option.{option_copied, unwrap_or};
+ghost use Rattle.std.specs.Option.{unwrap_or};
+ghost use Rattle.mm_value.specs.Views.{value_of};
 ghost use Rattle.mm_value.specs.declared.values.Value.TheVariants.{Int};
-ghost use Rattle.mm_query.specs.Queries.{value_at, values_of};
+ghost use Rattle.mm_partition.specs.Views.{viewed};
+ghost use Rattle.mm_query.specs.Queries.{rows_read, value_at, values_of};
 ghost use Rattle.mm_templist.specs.Combos.{AreLive, rows_of_combo};
 ghost use Rattle.mm_templist.specs.Pieces.{pieces};
 ghost use Rattle.mm_templist.specs.Results.{projected_rows, result_rows};
@@ -10,9 +12,10 @@ ghost use Rattle.mm_templist.specs.Runs.{referred};
 
 use crate::shown::ShownRows;
 use crate::temp_list::TempList;
+use mm_partition::RowView;
 use mm_query::{FieldPlace, RowBuffer};
 use mm_store::View;
-use mm_value::{Row, RowRef, Value};
+use mm_value::{Row, RowRef, ValueRef};
 use smallvec::SmallVec;
 use std::alloc::{AllocError, Global};
 
@@ -20,29 +23,27 @@ use std::alloc::{AllocError, Global};
 const FEW_VALUES: usize = 16;
 
 /// The rows of a combination. A query has at most four tables.
-type Chosen<'s> = SmallVec<Option<&'s Row>, 4>;
+type Chosen<'s> = SmallVec<Option<RowView<'s>>, 4>;
 
 impl<'a> TempList<'a> {
     /// The rows of the result, a row of the values of the fields for each combination, sorted by their values in the columns of
     /// `order`, counted from 0, and as whole rows where these are equal; with `distinct` one of each row. No value is copied. A
-    /// field whose place has no row, or one that ends before its column, reads as `zero`, which is to be 0. The view counts the
+    /// field whose place has no row, or one that ends before its column, reads as 0. The view counts the
     /// rows that are read, of which each reference asks for one. `AllocError` where memory is refused.
-    pub fn shown<'s, 'v: 's>(
+    pub fn shown<'s>(
         &self,
         alloc: Global,
-        view: &mut View<'v>,
+        view: &mut View<'s>,
         distinct: bool,
         order: &[usize],
-        zero: &'s Value,
     ) -> Result<ShownRows<'s>, AllocError>
         requires live { All (AreLive view.old.store self.now.tables) self.now.combos }
-        requires zero { zero.now ≡ Int (pos 0) }
         ensures ok { IfOk result (λ rows. rows ≡ result_rows view.old.store self.now distinct order.now) }
         ensures reads { view.new.reads ≤ view.old.reads + length self.now.combos * length self.now.tables }
         ensures same { view.new.store ≡ view.old.store }
     {
         let width = self.descriptor().fields.len();
-        let values = self.projected(alloc, view, zero)?;
+        let values = self.projected(alloc, view)?;
         ShownRows::sorted(alloc, values, width, self.len(), distinct, order)
     }
 
@@ -59,8 +60,7 @@ impl<'a> TempList<'a> {
         ensures reads { view.new.reads ≤ view.old.reads + length self.now.combos * length self.now.tables }
         ensures same { view.new.store ≡ view.old.store }
     {
-        let zero = Value::Int(0);
-        let shown = self.shown(alloc, view, distinct, order, &zero)?;
+        let shown = self.shown(alloc, view, distinct, order)?;
         copy_rows(alloc, &shown)
     }
 
@@ -84,8 +84,7 @@ impl<'a> TempList<'a> {
         if self.len() == 1 && self.descriptor().fields.len() <= FEW_VALUES {
             return self.copy_only(alloc, view, buffer);
         }
-        let zero = Value::Int(0);
-        let shown = self.shown(alloc, view, distinct, order, &zero)?;
+        let shown = self.shown(alloc, view, distinct, order)?;
         shown.copy_into(alloc, buffer)
     }
 
@@ -106,22 +105,19 @@ impl<'a> TempList<'a> {
         ensures same { view.new.store ≡ view.old.store }
     {
         let descriptor = self.descriptor();
-        let zero = Value::Int(0);
         let mut chosen = SmallVec::with_capacity(alloc, descriptor.tables.len())?;
         choose_rows(view, descriptor.tables, self.combo(0), &mut chosen)?;
-        copy_values(alloc, descriptor.fields, chosen.as_slice(), &zero, buffer)
+        copy_values(alloc, descriptor.fields, chosen.as_slice(), buffer)
     }
 
-    /// References to the values of the fields of each combination in turn, one behind the other. `AllocError` where memory is
-    /// refused.
-    fn projected<'s, 'v: 's>(
+    /// The values of the fields of each combination in turn, one behind the other, where they stand. `AllocError` where memory
+    /// is refused.
+    fn projected<'s>(
         &self,
         alloc: Global,
-        view: &mut View<'v>,
-        zero: &'s Value,
-    ) -> Result<Vec<&'s Value>, AllocError>
+        view: &mut View<'s>,
+    ) -> Result<Vec<ValueRef<'s>>, AllocError>
         requires live { All (AreLive view.old.store self.now.tables) self.now.combos }
-        requires zero { zero.now ≡ Int (pos 0) }
         ensures rows { IfOk result (λ values. pieces (length self.now.fields) (length self.now.combos) (referred values.items)
             ≡ projected_rows view.old.store self.now) }
         ensures whole { IfOk result (λ values. length values.items ≡ length self.now.combos * length self.now.fields) }
@@ -134,57 +130,52 @@ impl<'a> TempList<'a> {
         let mut values = Vec::with_capacity(alloc, room)?;
         for i in 0..self.len() {
             choose_rows(view, descriptor.tables, self.combo(i), &mut chosen)?;
-            push_values(&mut values, descriptor.fields, chosen.as_slice(), zero)?;
+            push_values(&mut values, descriptor.fields, chosen.as_slice())?;
         }
         Ok(values)
     }
 }
 
-/// Adds references to the values of fields of some rows. `AllocError` where memory is refused.
+/// Adds the values of fields of some rows. `AllocError` where memory is refused.
 fn push_values<'s>(
-    values: &mut Vec<&'s Value>,
+    values: &mut Vec<ValueRef<'s>>,
     fields: &[FieldPlace],
-    rows: &[Option<&'s Row>],
-    zero: &'s Value,
+    rows: &[Option<RowView<'s>>],
 ) -> Result<(), AllocError>
-    requires { zero.now ≡ Int (pos 0) }
-    ensures { OnOk result (referred values.new.items ≡ referred values.old.items ++ values_of fields.now (map option_copied rows.now)) }
+    ensures { OnOk result (referred values.new.items ≡ referred values.old.items ++ values_of fields.now (rows_read viewed rows.now)) }
 {
     for field in fields {
-        values.push(value_at(rows, *field, zero))?;
+        values.push(value_at(rows, *field))?;
     }
     Ok(())
 }
 
 /// Copies the row of the values of fields of some rows behind those of a buffer. `AllocError` where memory is refused, and then the
 /// rows are as before.
-fn copy_values<'s>(
+fn copy_values(
     alloc: Global,
     fields: &[FieldPlace],
-    rows: &[Option<&'s Row>],
-    zero: &'s Value,
+    rows: &[Option<RowView<'_>>],
     buffer: &mut RowBuffer,
 ) -> Result<(), AllocError>
     requires few { length fields.now ≤ 16 }
-    requires zero { zero.now ≡ Int (pos 0) }
-    ensures ok { OnOk result (buffer.new ≡ buffer.old ++ values_of fields.now (map option_copied rows.now) ∷ []) }
+    ensures ok { OnOk result (buffer.new ≡ buffer.old ++ values_of fields.now (rows_read viewed rows.now) ∷ []) }
     ensures err { OnErr result (buffer.new ≡ buffer.old) }
 {
-    let mut values = [zero; FEW_VALUES];
+    let mut values = [ValueRef::Int(0); FEW_VALUES];
     for (i, field) in fields.iter().enumerate() {
-        values[i] = value_at(rows, *field, zero);
+        values[i] = value_at(rows, *field);
     }
     buffer.push(alloc, &values[..fields.len()])
 }
 
-/// The value of a field, and this 0 where its place has no row or the row ends before it.
-fn value_at<'s>(rows: &[Option<&'s Row>], field: FieldPlace, zero: &'s Value) -> &'s Value
-    requires { zero.now ≡ Int (pos 0) }
-    ensures { result.now ≡ unwrap_or (value_at (map option_copied rows.now) field) (Int (pos 0)) }
+/// The value of a field, and 0 where its place has no row or the row ends before it.
+fn value_at<'s>(rows: &[Option<RowView<'s>>], field: FieldPlace) -> ValueRef<'s>
+    ensures { value_of result ≡ unwrap_or (value_at (rows_read viewed rows.now) field) (Int (pos 0)) }
 {
     match rows.get(field.place) {
-        Some(Some(row)) => row.values().get(field.column).unwrap_or(zero),
-        _ => zero,
+        Some(Some(row)) => row.get(field.column).unwrap_or(ValueRef::Int(0)),
+        _ => ValueRef::Int(0),
     }
 }
 
@@ -200,7 +191,7 @@ fn copy_rows(alloc: Global, shown: &ShownRows) -> Result<Vec<Row>, AllocError>
 }
 
 /// A row of copies of values. `AllocError` where memory is refused.
-fn copy_row(alloc: Global, values: &[&Value]) -> Result<Row, AllocError>
+fn copy_row(alloc: Global, values: &[ValueRef<'_>]) -> Result<Row, AllocError>
     ensures { IfOk result (λ row. row ≡ referred values.now) }
 {
     let mut row = Vec::with_capacity(alloc, values.len())?;
@@ -218,7 +209,7 @@ fn choose_rows<'s>(
     chosen: &mut Chosen<'s>,
 ) -> Result<(), AllocError>
     requires { AreLive view.old.store tables.now combo.now }
-    ensures rows { OnOk result (map option_copied chosen.new.items ≡ map Some (rows_of_combo view.old.store tables.now combo.now)) }
+    ensures rows { OnOk result (rows_read viewed chosen.new.items ≡ map Some (rows_of_combo view.old.store tables.now combo.now)) }
     ensures reads { view.new.reads ≤ view.old.reads + length tables.now }
     ensures same { view.new.store ≡ view.old.store }
 {

@@ -3,28 +3,29 @@ ghost use Rattle.std.specs.Prelude.{◌≡◌, ◌++◌, ◌*◌, ◌<◌, All, 
 ghost use Rattle.std.specs.List.{dedup};
 ghost use Rattle.std.specs.List.Sorted.{IsSorted};
 ghost use Rattle.mm_query.specs.Queries.{same_row};
+ghost use Rattle.mm_value.specs.Views.{value_of};
 ghost use Rattle.mm_templist.specs.Pieces.{pieces};
 ghost use Rattle.mm_templist.specs.Runs.{referred, run_from};
 ghost use Rattle.mm_templist.specs.Shown.{HasPrefix, in_shown_order, placed_cmp, placed_row};
 
 use crate::row_order::{compare_by_columns, compare_values, leading_prefix};
 use mm_query::RowBuffer;
-use mm_value::Value;
+use mm_value::ValueRef;
 use smallvec::SmallVec;
 use std::alloc::{AllocError, Global};
 use std::cmp::Ordering;
 use std::marker::Model;
 
-/// The rows of a result, each a run of references to values where they lie, in the order in which they are shown.
+/// The rows of a result, each a run of values where they stand, in the order in which they are shown.
 ///
-/// No row takes a block of its own: the references of all rows stand in one vector, and what is sorted are the rows' places in it.
+/// No row takes a block of its own: the values of all rows stand in one vector as they are read, and what is sorted are the rows' places in it.
 /// The places of up to four rows take no block.
 #[derive(Drop)]
 pub struct ShownRows<'s> {
     /// How many values a row has.
     width: usize,
     /// The values of all rows, one behind the other, in the order in which the rows were made.
-    values: Vec<&'s Value>,
+    values: Vec<ValueRef<'s>>,
     /// A place for each row, in the order in which the rows are shown.
     places: Places,
 }
@@ -54,7 +55,7 @@ impl<'s> ShownRows<'s> {
     /// `order`, and as whole rows where these are equal; with `distinct` one of each. `AllocError` where memory is refused.
     pub fn sorted(
         alloc: Global,
-        values: Vec<&'s Value>,
+        values: Vec<ValueRef<'s>>,
         width: usize,
         count: usize,
         distinct: bool,
@@ -84,9 +85,9 @@ impl<'s> ShownRows<'s> {
     }
 
     /// The values of the row at a place, counted from 0.
-    pub fn row(&self, i: usize) -> &[&'s Value]
+    pub fn row(&self, i: usize) -> &[ValueRef<'s>]
         requires { i < length self.now }
-        ensures { slice_get self.now i ≡ Some (map (λ value. value.now) result.now) }
+        ensures { slice_get self.now i ≡ Some (map value_of result.now) }
     {
         run_from(self.values.as_slice(), self.places[i].start, self.width)
     }
@@ -104,8 +105,8 @@ impl<'s> ShownRows<'s> {
     }
 }
 
-/// So many references from a place on, or as many as there are. It takes any place, since a sort asks for a comparison of any two.
-fn run_from<'v, 's>(values: &'v [&'s Value], start: usize, width: usize) -> &'v [&'s Value]
+/// So many values from a place on, or as many as there are. It takes any place, since a sort asks for a comparison of any two.
+fn run_from<'v, 's>(values: &'v [ValueRef<'s>], start: usize, width: usize) -> &'v [ValueRef<'s>]
     ensures { referred result.now ≡ run_from width values.now start }
 {
     let rest = &values[start.min(values.len())..];
@@ -115,7 +116,7 @@ fn run_from<'v, 's>(values: &'v [&'s Value], start: usize, width: usize) -> &'v 
 /// The places of the rows of which the values stand one behind the other. `AllocError` where memory is refused.
 fn placed_rows(
     alloc: Global,
-    values: &[&Value],
+    values: &[ValueRef<'_>],
     width: usize,
     count: usize,
     order: &[usize],
@@ -135,7 +136,7 @@ fn placed_rows(
 
 /// How the rows at two places stand. Most are told apart by their numbers, with no look at their values.
 fn compare_placed(
-    values: &[&Value],
+    values: &[ValueRef<'_>],
     width: usize,
     order: &[usize],
     a: &Placed,
@@ -153,7 +154,7 @@ fn compare_placed(
 }
 
 /// Sorts places by their rows. It takes no memory and O(n log n) comparisons for n places.
-fn sort_places(places: &mut Places, values: &[&Value], width: usize, order: &[usize])
+fn sort_places(places: &mut Places, values: &[ValueRef<'_>], width: usize, order: &[usize])
     ensures permutation { IsPermutation places.old.items places.new.items }
     ensures sorted { IsSorted (placed_cmp order.now width values.now) places.new.items }
 {
@@ -161,7 +162,7 @@ fn sort_places(places: &mut Places, values: &[&Value], width: usize, order: &[us
 }
 
 /// Whether the rows at two places are equal.
-fn are_equal(values: &[&Value], width: usize, a: &Placed, b: &Placed) -> bool
+fn are_equal(values: &[ValueRef<'_>], width: usize, a: &Placed, b: &Placed) -> bool
     ensures { result ≡ same_row (placed_row width values.now a.now) (placed_row width values.now b.now) }
 {
     let left = run_from(values, a.start, width);
@@ -169,7 +170,7 @@ fn are_equal(values: &[&Value], width: usize, a: &Placed, b: &Placed) -> bool
 }
 
 /// Drops each place whose row is equal to that of the one before it.
-fn drop_equal_neighbours(places: &mut Places, values: &[&Value], width: usize)
+fn drop_equal_neighbours(places: &mut Places, values: &[ValueRef<'_>], width: usize)
     ensures { places.new.items ≡ dedup (λ a b. same_row (placed_row width values.now a) (placed_row width values.now b)) places.old.items }
 {
     places.dedup_by(|later, kept| are_equal(values, width, later, kept));

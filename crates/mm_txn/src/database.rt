@@ -17,7 +17,6 @@ use crate::contents::Contents;
 use crate::definitions::is_of_index;
 use crate::listing::list_tables;
 use crate::savepoints::{MAX_SAVEPOINTS, Mark, latest};
-use crate::zero::Zero;
 use mm_query::{BoundChange, Definition, ItemList, Listing, Mutation, PlanLine, Query};
 use mm_schema::Name;
 use mm_store::{TableRows, Undo};
@@ -38,8 +37,6 @@ pub struct Db {
     is_open: bool,
     /// The savepoints of the open transaction, the oldest first.
     marks: Vec<Mark>,
-    /// What a field reads as that isn't there.
-    zero: Zero,
 }
 
 impl Model for Db {
@@ -63,7 +60,6 @@ impl Db {
             undo: Undo::new(alloc),
             is_open: false,
             marks: Vec::new(alloc),
-            zero: Zero::new(),
         }
     }
 

@@ -22,7 +22,6 @@ mod savepoints;
 mod scanning;
 mod select;
 mod watching;
-mod zero;
 
 pub use answer::Answer;
 pub use bound::ChangeToRun;

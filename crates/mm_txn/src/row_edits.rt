@@ -2,6 +2,7 @@
 ghost use Rattle.std.specs.Prelude.{◌≡◌, ◌<◌, [], All, IfOk, filter, length, map};
 ghost use Rattle.std.specs.List.{flat_map};
 ghost use Rattle.mm_partition.specs.Places.{IsLive, slot_at};
+ghost use Rattle.mm_partition.specs.Views.{viewed};
 ghost use Rattle.mm_plan.specs.Finding.{among, meets};
 ghost use Rattle.mm_query.specs.Atoms.{range_conditions, updated_row};
 ghost use Rattle.mm_query.specs.Binding.{AssignmentsWithin};
@@ -17,6 +18,7 @@ ghost use Rattle.mm_schema.specs.Rows.{additions};
 ghost use Rattle.mm_store.specs.Tables.{AreFit, IsAt};
 ghost use Rattle.mm_txn.specs.RowEdits.{swap_of, updates_of};
 
+use mm_partition::RowView;
 use mm_plan::{find_rows, in_key_order};
 use mm_query::{Assignment, Atom, FieldPlace, updated_row};
 use mm_relation::Edit;
@@ -83,14 +85,14 @@ fn swaps(
 fn swap(
     alloc: Global,
     at: RowRef,
-    row: &Row,
+    row: RowView<'_>,
     assignments: &[Assignment<usize>],
 ) -> Result<Edit, Refusal>
-    requires { AssignmentsWithin (length row.now) assignments.now }
-    ensures due { AnswersDue (first_refusal (range_conditions (updated_row assignments.now row.now))) result }
-    ensures ok { IfOk result (λ edit. edit ≡ Swap at (updated_row assignments.now row.now)) }
+    requires { AssignmentsWithin (length (viewed row)) assignments.now }
+    ensures due { AnswersDue (first_refusal (range_conditions (updated_row assignments.now (viewed row.entry)))) result }
+    ensures ok { IfOk result (λ edit. edit ≡ Swap at (updated_row assignments.now (viewed row.entry))) }
 {
-    let new = updated_row(alloc, row, assignments)?;
+    let new = updated_row(alloc, &row, assignments)?;
     Ok(Edit::Swap(at, new))
 }
 

@@ -1,10 +1,14 @@
 //! Rows that lie in a database.
-ghost use Rattle.std.specs.Prelude.{◌≡◌, ◌++◌, OnErr, OnOk, length, take};
+ghost use Rattle.std.specs.Prelude.{◌≡◌, ◌++◌, OnErr, OnOk, length, map, take};
+ghost use Rattle.mm_partition.specs.Views.{viewed};
 ghost use Rattle.mm_txn.specs.Sources.{rows_to_read};
+ghost use Rattle.mm_value.specs.Views.{value_of};
 
+use mm_partition::RowView;
 use mm_query::RowBuffer;
 use mm_store::{StoredRows, TableRows};
 use mm_templist::ShownRows;
+use mm_value::ValueRef;
 use std::alloc::{AllocError, Global};
 use std::marker::Model;
 
@@ -104,8 +108,21 @@ fn copy_stored(
     ensures ok { OnOk result (buffer.new ≡ buffer.old ++ rows.entry) }
     ensures err { OnErr result (take (length buffer.old) buffer.new ≡ buffer.old) }
 {
+    let mut values = Vec::new(alloc);
     while let Some(row) = rows.next() {
-        buffer.push(alloc, row.values())?;
+        read_values(row, &mut values)?;
+        buffer.push(alloc, values.as_slice())?;
+    }
+    Ok(())
+}
+
+/// Makes `values` those of a row, where they stand. `AllocError` where memory is refused.
+fn read_values<'s>(row: RowView<'s>, values: &mut Vec<ValueRef<'s>>) -> Result<(), AllocError>
+    ensures { OnOk result (map value_of values.new.items ≡ viewed row.entry) }
+{
+    values.clear();
+    for i in 0..row.len() {
+        values.push(row.value(i))?;
     }
     Ok(())
 }

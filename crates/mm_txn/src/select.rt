@@ -1,10 +1,9 @@
 //! The rows that a query gives.
-ghost use Rattle.std.specs.Prelude.{◌≡◌, ◌++◌, All, IfOk, OnErr, OnOk, length, pos, take};
+ghost use Rattle.std.specs.Prelude.{◌≡◌, ◌++◌, All, IfOk, OnErr, OnOk, length, take};
 ghost use Rattle.mm_query.specs.Resolving.{select_conditions, selected};
 ghost use Rattle.mm_query.specs.declared.query.Query.{Query};
 ghost use Rattle.mm_schema.specs.Refused.{AnswersDue, first_refusal};
 ghost use Rattle.mm_schema.specs.Schema.{Schema};
-ghost use Rattle.mm_value.specs.declared.values.Value.TheVariants.{Int};
 ghost use Rattle.mm_plan.specs.Kept.{AreOf};
 ghost use Rattle.mm_templist.specs.Combos.{AreLive};
 ghost use Rattle.mm_templist.specs.Results.{result_rows};
@@ -15,7 +14,7 @@ use mm_plan::run_query;
 use mm_query::{Bound, RowBuffer};
 use mm_store::{Store, View};
 use mm_templist::{ShownRows, TempList};
-use mm_value::{Refusal, Value};
+use mm_value::Refusal;
 use std::alloc::Global;
 
 /// The combinations of rows that fit a bound query, each once and in no promised order, found by its plan. The refusals are those of
@@ -36,15 +35,13 @@ fn fitting_combinations<'b>(
     run_query(alloc, view, &bound.query, bound.tables.as_slice())
 }
 
-/// The rows that a bound query gives, in their order, found by its plan; no value is copied. A field that isn't there reads as
-/// `zero`, which is to be 0. The refusals are those of [`run_query`].
+/// The rows that a bound query gives, in their order, found by its plan; no value is copied. The refusals are those of
+/// [`run_query`].
 pub(crate) fn select_rows<'s>(
     alloc: Global,
     store: &'s Store,
     bound: &Bound,
-    zero: &'s Value,
 ) -> Result<ShownRows<'s>, Refusal>
-    requires zero { zero.now ≡ Int (pos 0) }
     requires bound { (schema : Schema) × (query : Query) × AreOf schema.tables store.now.tables × IsBoundQuery schema query bound.now }
     ensures due { (schema : Schema) (query : Query) → AreOf schema.tables store.now.tables → IsBoundQuery schema query bound.now
         → AnswersDue (first_refusal (select_conditions query (state_of schema store.now.tables))) result }
@@ -58,7 +55,6 @@ pub(crate) fn select_rows<'s>(
         &mut view,
         bound.query.distinct,
         bound.query.order.as_slice(),
-        zero,
     )?;
     Ok(rows)
 }

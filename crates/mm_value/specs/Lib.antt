@@ -10,5 +10,6 @@ pub mod Refusals
 pub mod Storable
 pub mod Text
 pub mod Types
+pub mod Views
 pub mod Watched
 pub mod Written

@@ -1,6 +1,7 @@
 //! Values and rows: their order, their text both ways, and the refusals of a command.
 #![tactic(auto)]
 
+mod as_row;
 mod as_value;
 mod col_type;
 mod device;
@@ -12,8 +13,10 @@ mod refusal;
 mod row_ref;
 mod short_text;
 mod tuple;
+mod value_ref;
 mod values;
 
+pub use as_row::AsRow;
 pub use as_value::AsValue;
 pub use col_type::ColType;
 pub use device::{MAX_RETRIES, Watched, WriteError, put_all};
@@ -25,4 +28,5 @@ pub use refusal::Refusal;
 pub use row_ref::RowRef;
 pub use short_text::{MAX_TEXT_BYTES, Text};
 pub use tuple::Row;
+pub use value_ref::ValueRef;
 pub use values::{Value, compare, hash64, orders_are_total};

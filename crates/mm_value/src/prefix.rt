@@ -5,18 +5,19 @@ ghost use Rattle.mm_value.specs.declared.values.Value.{Value as Val};
 ghost use Rattle.mm_value.specs.Order.{value_cmp};
 ghost use Rattle.mm_value.specs.Prefix.{big_endian, order_prefix};
 
-use crate::values::Value;
+use crate::as_value::AsValue;
+use crate::value_ref::ValueRef;
 
 /// A number of 64 bits by which most values can be put in order without a look at them: a value with a smaller
 /// number comes first in the value order, and values with equal numbers are still to be compared. Whole numbers from
 /// -2^62 to 2^62 - 1 have different numbers, and those beyond share that of the nearer end. A text has 2^63 and
 /// half of its first 8 bytes in big-endian (the normalized keys of Graefe, Modern B-Tree Techniques, 2011).
-pub fn order_prefix(value: &Value) -> u64
-    ensures { result ≡ order_prefix value.now }
+pub fn order_prefix<V: AsValue>(value: &V) -> u64
+    ensures { result ≡ order_prefix (V.value value.now) }
 {
-    match value {
-        Value::Int(number) => ((*number).clamp(-HALF, HALF - 1) + HALF) as u64,
-        Value::Text(text) => TEXTS + first_bytes(text.bytes()) / 2,
+    match value.as_value() {
+        ValueRef::Int(number) => (number.clamp(-HALF, HALF - 1) + HALF) as u64,
+        ValueRef::Text(text) => TEXTS + first_bytes(text.bytes()) / 2,
     }
 }
 

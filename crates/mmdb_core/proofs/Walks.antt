@@ -6,6 +6,10 @@ use Rattle.mm_lang.specs.ReplyText.{rows_text}
 use Rattle.mm_lang.proofs.ReplyLemmas.{count_line, row_line, rows_text_split}
 use Rattle.mm_value.specs.declared.values.Value.{Value}
 
+-- the row that was read next
+abbrev pub first_of : {X : Type 0} {all rest : List X} {x : X} → all ≡ x ∷ rest → X
+first_of {x} is = x
+
 -- the lines of rows
 abbrev pub lines : List (List Value) → List ℕ
 lines rows = flat_map row_line rows

@@ -133,7 +133,7 @@ fn write_stored<W: Write>(
 {
     let mut lines = RowLines::new();
     while let Some(row) = rows.next() {
-        lines.add_row(row, writer)?;
+        lines.add_row(&row, writer)?;
     }
     lines.finish(count, writer)
 }

@@ -11,7 +11,7 @@ mod plans;
 mod runs;
 
 use mm_query::{Atom, BoundQuery, Few, FieldPlace, ShortList};
-use mm_value::{Row, Value, compare};
+use mm_value::{AsValue, Row, Value, compare};
 use std::alloc::{AllocError, Global};
 use std::io;
 
@@ -52,6 +52,6 @@ fn are_pairs(rows: &[Row], pairs: &[(i64, i64)]) -> bool {
     rows.len() == pairs.len()
 }
 
-fn is_number(value: &Value, number: i64) -> bool {
+fn is_number<V: AsValue>(value: &V, number: i64) -> bool {
     compare(value, &Value::Int(number)).is_eq()
 }

@@ -1,6 +1,5 @@
 //! Temporary lists and the rows of results.
-ghost use Rattle.std.specs.Prelude.{◌≡◌, ◌+◌, ◌++◌, ◌∷◌, [], length, pos, All, IfOk, OnErr, OnOk};
-ghost use Rattle.mm_value.specs.declared.values.Value.TheVariants.{Int};
+ghost use Rattle.std.specs.Prelude.{◌≡◌, ◌+◌, ◌++◌, ◌∷◌, [], length, All, IfOk, OnErr, OnOk};
 ghost use Rattle.mm_templist.specs.Combos.{AreLive};
 ghost use Rattle.mm_templist.specs.Results.{result_rows};
 ghost use Rattle.query_tests.specs.Sample.{IsSample};
@@ -31,21 +30,19 @@ fn push(list: &mut TempList, front: &[RowRef], at: RowRef) -> Result<(), AllocEr
 }
 
 /// The rows of a result in the order of the first column, for which memory may be refused once.
-fn show<'s, 'v: 's>(
+fn show<'s>(
     list: &TempList,
     alloc: Global,
-    view: &mut View<'v>,
+    view: &mut View<'s>,
     distinct: bool,
-    zero: &'s Value,
 ) -> Result<ShownRows<'s>, AllocError>
     requires live { All (AreLive view.old.store list.now.tables) list.now.combos }
-    requires zero { zero.now ≡ Int (pos 0) }
     ensures ok { IfOk result (λ rows. rows ≡ result_rows view.old.store list.now distinct (0 ∷ [])) }
     ensures same { view.new.store ≡ view.old.store }
 {
-    match list.shown(alloc, view, distinct, &[0], zero) {
+    match list.shown(alloc, view, distinct, &[0]) {
         Ok(shown) => Ok(shown),
-        Err(_) => list.shown(alloc, view, distinct, &[0], zero),
+        Err(_) => list.shown(alloc, view, distinct, &[0]),
     }
 }
 
@@ -105,10 +102,9 @@ fn copied(list: &TempList, alloc: Global, view: &mut View<'_>) -> Result<usize, 
 fn shows_none(rt: &impl Abort, list: &TempList, alloc: Global, store: &Store) -> Result<(), Fail>
     requires { All (AreLive store.now list.now.tables) list.now.combos }
 {
-    let zero = Value::Int(0);
     let mut view = store.view();
     assert_same(rt, copied(list, alloc, &mut view)?, 0);
-    let shown = show(list, alloc, &mut view, true, &zero)?;
+    let shown = show(list, alloc, &mut view, true)?;
     assert_same(rt, shown.len(), 0);
     assert_same(rt, view.reads(), 0);
     Ok(())
@@ -130,13 +126,12 @@ fn shows_no_rows_of_no_combinations(rt: HostRuntime) -> Result<(), Fail> {
 fn shows_0(rt: &impl Abort, list: &TempList, alloc: Global, store: &Store) -> Result<(), Fail>
     requires { All (AreLive store.now list.now.tables) list.now.combos }
 {
-    let zero = Value::Int(0);
     let mut view = store.view();
-    let shown = show(list, alloc, &mut view, false, &zero)?;
+    let shown = show(list, alloc, &mut view, false)?;
     assert_same(rt, shown.len(), 1);
     let row = shown.row(0);
     assert_same(rt, row.len(), 1);
-    assert_that(rt, compare(row[0], &zero).is_eq());
+    assert_that(rt, compare(&row[0], &Value::Int(0)).is_eq());
     assert_same(rt, view.reads(), 0);
     Ok(())
 }
@@ -173,9 +168,8 @@ fn all_rows(alloc: Global, store: &Store) -> Result<TempList<'_>, AllocError>
 fn try_count(list: &TempList, alloc: Global, store: &Store) -> Result<(usize, u64), AllocError>
     requires { All (AreLive store.now list.now.tables) list.now.combos }
 {
-    let zero = Value::Int(0);
     let mut view = store.view();
-    let shown = list.shown(alloc, &mut view, false, &[0], &zero)?;
+    let shown = list.shown(alloc, &mut view, false, &[0])?;
     Ok((shown.len(), view.reads()))
 }
 

@@ -4,7 +4,7 @@ ghost use Rattle.std.specs.Prelude.{◌≡◌, length, IfOk};
 use mm_query::{Atom, BoundQuery, Comparison, Few, FieldPlace, FromItem, Operand, ShortList};
 use mm_schema::Name;
 use mm_templist::ShownRows;
-use mm_value::{Refusal, Row, Value, compare};
+use mm_value::{Refusal, Row, Value, ValueRef, compare};
 use std::alloc::{AllocError, Global};
 
 /// The key of the row at a place.
@@ -86,7 +86,7 @@ pub fn row(alloc: Global, key: i64, number: i64) -> Result<Row, AllocError>
 }
 
 /// Whether the values of a shown row are these numbers.
-fn has_numbers(row: &[&Value], numbers: &[i64]) -> bool {
+fn has_numbers(row: &[ValueRef<'_>], numbers: &[i64]) -> bool {
     row.len() == numbers.len()
         && row.iter().zip(numbers.iter()).all(|(value, number)| compare(
             value,

@@ -20,7 +20,7 @@ use mm_relation::Edit;
 use mm_schema::IndexKind;
 use mm_standing::Standing;
 use mm_store::{IndexRef, Store, Undo};
-use mm_value::{Refusal, RowRef, Value};
+use mm_value::{Refusal, RowRef, Value, ValueRef};
 use std::alloc::{AllocError, Global};
 
 /// Two tables of two columns with no rows. With `indexed` the numbers of the first have a HASH index.
@@ -92,8 +92,8 @@ fn has_key(store: &Store, table: usize, at: RowRef, key: i64) -> bool
     requires live { (stored : StoredRows) → IsAt store.now table stored → IsLive stored.places at }
 {
     let mut view = store.view();
-    match view.row(table, at).values().first() {
-        Some(Value::Int(number)) => *number == key,
+    match view.row(table, at).get(0) {
+        Some(ValueRef::Int(number)) => number == key,
         _ => false,
     }
 }

@@ -14,7 +14,7 @@ use crate::triple::triple;
 use mm_order::OrderedRefs;
 use mm_relation::{Edit, Log, Relation};
 use mm_schema::IndexKind;
-use mm_value::{Row, RowRef, Value};
+use mm_value::{Row, RowRef, ValueRef};
 use std::alloc::{AllocError, Global};
 use std::process::Abort;
 use std::test::Fail;
@@ -100,7 +100,7 @@ fn put(relation: &mut Relation, alloc: Global, keys: &[i64]) -> Result<bool, All
 fn at_key(relation: &Relation, key: i64) -> Option<RowRef>
     ensures { IfSome result (Contains relation.now.refs) }
 {
-    relation.find(&Value::Int(key))
+    relation.find(ValueRef::Int(key))
 }
 
 /// Turns the row of one key into that of another, or takes it out.
@@ -141,8 +141,8 @@ fn turn(
 fn digit_of(relation: &Relation, key: i64) -> Option<i64> {
     relation.is_kept();
     let at = at_key(relation, key)?;
-    match relation.row(at).values().get(1) {
-        Some(Value::Int(number)) => Some(*number),
+    match relation.row(at).get(1) {
+        Some(ValueRef::Int(number)) => Some(number),
         _ => None,
     }
 }
@@ -157,13 +157,13 @@ fn count_between(
     requires { IsSample relation.now }
 {
     let mut found = Vec::new(alloc);
-    let low = Value::Int(low);
-    let high = Value::Int(high);
+    let low = ValueRef::Int(low);
+    let high = ValueRef::Int(high);
     if relation
-        .tree_range(alloc, 0, Some(&low), Some(&high), &mut found)
+        .tree_range(alloc, 0, Some(low), Some(high), &mut found)
         .is_err()
     {
-        relation.tree_range(alloc, 0, Some(&low), Some(&high), &mut found)?;
+        relation.tree_range(alloc, 0, Some(low), Some(high), &mut found)?;
     }
     Ok(found.len())
 }
@@ -173,9 +173,9 @@ fn count_of(relation: &Relation, alloc: Global, digit: i64) -> Result<usize, All
     requires { IsSample relation.now }
 {
     let mut found = Vec::new(alloc);
-    let digit = Value::Int(digit);
-    if relation.hash_matches(alloc, 1, &digit, &mut found).is_err() {
-        relation.hash_matches(alloc, 1, &digit, &mut found)?;
+    let digit = ValueRef::Int(digit);
+    if relation.hash_matches(alloc, 1, digit, &mut found).is_err() {
+        relation.hash_matches(alloc, 1, digit, &mut found)?;
     }
     Ok(found.len())
 }
@@ -360,7 +360,7 @@ fn starts_empty(rt: HostRuntime) -> Result<(), Fail> {
     let alloc = rt.alloc();
     let rows = Relation::new(alloc, 3, 0);
     assert_same(&rt, rows.len(), 0);
-    assert_that(&rt, rows.find(&Value::Int(3)).is_none());
+    assert_that(&rt, rows.find(ValueRef::Int(3)).is_none());
     Ok(())
 }
 

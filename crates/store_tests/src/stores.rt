@@ -10,10 +10,11 @@ ghost use Rattle.store_tests.specs.SampleStore.{ArePlain};
 ghost use Rattle.mm_store.specs.Undoing.{CanUndo};
 
 use crate::assertions::{assert_same, assert_that};
+use mm_partition::RowView;
 use mm_relation::Edit;
 use mm_schema::{IndexKind, Reference};
 use mm_store::{IndexRef, Store, Undo};
-use mm_value::{Refusal, Row, RowRef, Value};
+use mm_value::{Refusal, Row, RowRef, Value, ValueRef};
 use std::alloc::{AllocError, Global};
 use std::marker::Model;
 use std::process::Abort;
@@ -159,9 +160,9 @@ fn empty_log(store: &Store, alloc: Global) -> Undo
 }
 
 /// The whole number that a row has in a column, if it has one there.
-pub fn number_of(row: &Row, column: usize) -> Option<i64> {
-    match row.values().get(column) {
-        Some(Value::Int(number)) => Some(*number),
+pub fn number_of(row: RowView<'_>, column: usize) -> Option<i64> {
+    match row.get(column) {
+        Some(ValueRef::Int(number)) => Some(number),
         _ => None,
     }
 }
@@ -407,9 +408,9 @@ fn count_by_tree(
     let Some(index) = view.tree_on(table, 1) else {
         return Ok(0);
     };
-    let value = Value::Int(value);
+    let value = ValueRef::Int(value);
     let mut found = Vec::new(alloc);
-    view.range(alloc, table, index, Some(&value), Some(&value), &mut found)?;
+    view.range(alloc, table, index, Some(value), Some(value), &mut found)?;
     Ok(found.len())
 }
 
@@ -426,9 +427,9 @@ fn count_by_hash(
     let Some(index) = view.hash_on(table, 1) else {
         return Ok(0);
     };
-    let value = Value::Int(value);
+    let value = ValueRef::Int(value);
     let mut found = Vec::new(alloc);
-    view.matches(alloc, table, index, &value, &mut found)?;
+    view.matches(alloc, table, index, value, &mut found)?;
     Ok(found.len())
 }
 
@@ -447,7 +448,7 @@ fn count_by_first(
         return Ok(None);
     };
     let mut found = Vec::new(alloc);
-    view.matches(alloc, table, index, &Value::Int(value), &mut found)?;
+    view.matches(alloc, table, index, ValueRef::Int(value), &mut found)?;
     Ok(Some(found.len()))
 }
 
@@ -462,14 +463,14 @@ fn count_between(
     requires { table < length store.now.tables }
 {
     let view = store.view();
-    let (low, high) = (Value::Int(low), Value::Int(high));
+    let (low, high) = (ValueRef::Int(low), ValueRef::Int(high));
     let mut found = Vec::new(alloc);
     view.range(
         alloc,
         table,
         IndexRef::Key,
-        Some(&low),
-        Some(&high),
+        Some(low),
+        Some(high),
         &mut found,
     )?;
     Ok(found.len())

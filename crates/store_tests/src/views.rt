@@ -4,7 +4,7 @@ ghost use Rattle.std.specs.Prelude.{◌<◌, length};
 use crate::assertions::{assert_same, assert_that};
 use crate::stores::{Case, at_key};
 use mm_store::{IndexRef, Store};
-use mm_value::{RowRef, Value, order_prefix};
+use mm_value::{RowRef, Value, ValueRef, order_prefix};
 use std::alloc::{AllocError, Global};
 use std::process::Abort;
 use std::test::Fail;
@@ -97,6 +97,14 @@ fn walks_along_trees(rt: HostRuntime) -> Result<(), Fail> {
     goes_along_trees(&rt, &case)
 }
 
+/// The end of a range at a number, if there is one.
+fn end_at<'v>(number: Option<i64>) -> Option<ValueRef<'v>> {
+    match number {
+        Some(number) => Some(ValueRef::Int(number)),
+        None => None,
+    }
+}
+
 /// The references of the rows of the second table between two ends along the tree on a column, none where it has no tree.
 fn between(
     store: &Store,
@@ -108,10 +116,10 @@ fn between(
     requires { 1 < length store.now.tables }
 {
     let view = store.view();
-    let (low, high) = (low.map(Value::Int), high.map(Value::Int));
+    let (low, high) = (end_at(low), end_at(high));
     let mut found = Vec::new(alloc);
     if let Some(index) = view.tree_on(1, column) {
-        view.range(alloc, 1, index, low.as_ref(), high.as_ref(), &mut found)?;
+        view.range(alloc, 1, index, low, high, &mut found)?;
     }
     Ok(found)
 }

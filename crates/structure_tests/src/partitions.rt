@@ -5,7 +5,7 @@ ghost use Rattle.mm_partition.specs.Places.{Free, slot_at, IsLive, IsUnchanged, 
 
 use crate::assertions::{assert_same, assert_that};
 use mm_partition::Partitions;
-use mm_value::{Row, RowRef, Text, Value};
+use mm_value::{AsRow, Row, RowRef, Text, Value, ValueRef};
 use std::alloc::Global;
 use std::process::Abort;
 use std::test::Fail;
@@ -43,13 +43,13 @@ fn place_row(alloc: Global, rows: &mut Partitions, number: i64) -> Result<RowRef
 }
 
 /// The number in a row of one number.
-fn number_in(row: &Row) -> Option<i64> {
+fn number_in(row: &impl AsRow) -> Option<i64> {
     if row.len() != 1 {
         return None;
     }
     match row.value(0) {
-        Value::Int(number) => Some(*number),
-        Value::Text(_) => None,
+        ValueRef::Int(number) => Some(number),
+        ValueRef::Text(_) => None,
     }
 }
 
@@ -59,7 +59,7 @@ fn hide_and_show(rt: &impl Abort, rows: &mut Partitions, at: RowRef)
 {
     rows.hide(at);
     rows.unhide(at);
-    assert_same(rt, number_in(rows.get(at)), Some(2));
+    assert_same(rt, number_in(&rows.get(at)), Some(2));
 
     rows.hide(at);
     let gone = rows.release(at);
@@ -71,7 +71,7 @@ fn keep_a_row(rt: &(impl Abort + AllocGlobal), rows: &mut Partitions) -> Result<
     let alloc = rt.alloc();
     reserve(alloc, rows, 1)?;
     let at = place_row(alloc, rows, 1)?;
-    assert_same(rt, number_in(rows.get(at)), Some(1));
+    assert_same(rt, number_in(&rows.get(at)), Some(1));
 
     let was = rows.replace(at, row_of(alloc, 2)?);
     assert_same(rt, number_in(&was), Some(1));
@@ -108,7 +108,7 @@ fn assert_two(rt: &impl Abort, rows: &Partitions, one: RowRef, two: RowRef)
     requires one { IsLive rows.now one }
     requires two { IsLive rows.now two }
 {
-    let numbers = [number_in(rows.get(one)), number_in(rows.get(two))];
+    let numbers = [number_in(&rows.get(one)), number_in(&rows.get(two))];
     assert_same(rt, numbers, [Some(1), Some(2)]);
 }
 
@@ -124,11 +124,11 @@ fn place_behind(
 {
     let alloc = rt.alloc();
     reserve(alloc, rows, 200)?;
-    assert_same(rt, number_in(rows.get(one)), Some(1));
+    assert_same(rt, number_in(&rows.get(one)), Some(1));
     for _ in 0..200usize {
         place_row(alloc, rows, 3)?;
     }
-    assert_same(rt, number_in(rows.get(two)), Some(2));
+    assert_same(rt, number_in(&rows.get(two)), Some(2));
     Ok(())
 }
 
@@ -201,9 +201,9 @@ fn fill_partitions(rt: &(impl Abort + AllocGlobal), rows: &mut Partitions) -> Re
     for k in 1..130usize {
         let at = place_row(alloc, rows, k as i64)?;
         assert_that(rt, at != first);
-        assert_same(rt, number_in(rows.get(at)), Some(k as i64));
+        assert_same(rt, number_in(&rows.get(at)), Some(k as i64));
     }
-    assert_same(rt, number_in(rows.get(first)), Some(0));
+    assert_same(rt, number_in(&rows.get(first)), Some(0));
     Ok(())
 }
 

@@ -1,16 +1,18 @@
 //! Lines of rows that are put together before they are written.
-ghost use Rattle.std.specs.Prelude.{◌≡◌, [], ◌∷◌, ◌++◌, OnOk, OnSome, codes, decimal, false, map, true};
-ghost use Rattle.mm_lang.specs.Buffered.{KeepsFront, WritesBuffered};
+ghost use Rattle.std.specs.Prelude.{◌≡◌, ◌<◌, [], ◌∷◌, ◌++◌, OnOk, codes, decimal, false, length, map};
+ghost use Rattle.mm_lang.specs.Buffered.{WritesBuffered};
 ghost use Rattle.mm_value.specs.Device.{Writes};
-ghost use Rattle.mm_value.specs.Literal.{quoted};
+ghost use Rattle.mm_value.specs.Literal.{doubled, quoted};
+ghost use Rattle.mm_value.specs.Views.{value_of};
 ghost use Rattle.mm_value.specs.Watched.{has_failed};
-ghost use Rattle.mm_value.specs.Written.{row_text, value_text};
+ghost use Rattle.mm_value.specs.Written.{row_text, value_text, values_text};
 
 use crate::write::reply_text::write_row_count;
+use crate::write::value_row::ValueRow;
 use arrayvec::ArrayVec;
 use bstr::ByteSlice;
 use itoa::Buffer;
-use mm_value::{AsValue, Row, Value, Watched, WriteError, put_all, write_row};
+use mm_value::{AsRow, Value, ValueRef, Watched, WriteError, put_all};
 use std::io::Write;
 use std::marker::Model;
 
@@ -43,29 +45,31 @@ impl RowLines {
         }
     }
 
-    /// Adds the line of a row. Buffered lines are written first where it has no room beside them. Takes no memory.
-    /// After `WriteError` the writer has failed, and a front of those and of the new line was written.
-    pub fn add_row<W: Write>(
+    /// Adds the line of a row. What is buffered is written first where a piece of the line has no room behind it. Takes no memory.
+    /// After `WriteError` the writer has failed, and a front of those lines and of the new one was written.
+    pub fn add_row<R: AsRow, W: Write>(
         &mut self,
-        row: &Row,
+        row: &R,
         writer: &mut Watched<W>,
     ) -> Result<(), WriteError>
         requires { has_failed writer.old ≡ false }
-        ensures { WritesBuffered W.contents writer.old self.old writer.new self.new result (row_text row.now ++ 10 ∷ []) }
+        ensures { WritesBuffered W.contents writer.old self.old writer.new self.new result (row_text (R.AsRow.row row.now) ++ 10 ∷ []) }
     {
-        self.add(row.values(), writer)
+        self.put(b"(", writer)?;
+        self.put_values(row, writer)?;
+        self.put(b")\n", writer)
     }
 
-    /// Adds the line of a row as [`RowLines::add_row`] does, from references to its values.
+    /// Adds the line of a row as [`RowLines::add_row`] does, from its values where they stand.
     pub fn add_tuple<W: Write>(
         &mut self,
-        values: &[&Value],
+        values: &[ValueRef<'_>],
         writer: &mut Watched<W>,
     ) -> Result<(), WriteError>
         requires { has_failed writer.old ≡ false }
-        ensures { WritesBuffered W.contents writer.old self.old writer.new self.new result (row_text (map (λ v. v.now) values.now) ++ 10 ∷ []) }
+        ensures { WritesBuffered W.contents writer.old self.old writer.new self.new result (row_text (map value_of values.now) ++ 10 ∷ []) }
     {
-        self.add(values, writer)
+        self.add_row(&ValueRow { values }, writer)
     }
 
     /// Adds the line of a row as [`RowLines::add_row`] does, from its values.
@@ -77,7 +81,7 @@ impl RowLines {
         requires { has_failed writer.old ≡ false }
         ensures { WritesBuffered W.contents writer.old self.old writer.new self.new result (row_text values.now ++ 10 ∷ []) }
     {
-        self.add(values, writer)
+        self.add_row(&ValueRow { values }, writer)
     }
 
     /// Writes the buffered lines, and behind them the line that says how many rows there are. Takes no memory. After
@@ -94,26 +98,7 @@ impl RowLines {
         write_row_count(count, writer)
     }
 
-    /// Adds the line of a row as [`RowLines::add_row`] does, from its values or from references to them.
-    fn add<V: AsValue, W: Write>(
-        &mut self,
-        values: &[V],
-        writer: &mut Watched<W>,
-    ) -> Result<(), WriteError>
-        requires { has_failed writer.old ≡ false }
-        ensures { WritesBuffered W.contents writer.old self.old writer.new self.new result (row_text (map V.value values.now) ++ 10 ∷ []) }
-    {
-        if self.has_added(values) {
-            return Ok(());
-        }
-        self.write_out(writer)?;
-        if self.has_added(values) {
-            return Ok(());
-        }
-        write_line(values, writer)
-    }
-
-    /// Writes the buffered lines.
+    /// Writes what is buffered.
     fn write_out<W: Write>(&mut self, writer: &mut Watched<W>) -> Result<(), WriteError>
         requires { has_failed writer.old ≡ false }
         ensures written { Writes W.contents writer.old writer.new result self.old }
@@ -124,79 +109,126 @@ impl RowLines {
         Ok(())
     }
 
-    /// Adds the line of a row, if it is short: where there is room for it, and no text has a quote in it, which is written twice.
-    fn has_added<V: AsValue>(&mut self, values: &[V]) -> bool
-        ensures added { result ≡ true → self.new ≡ self.old ++ (row_text (map V.value values.now) ++ 10 ∷ []) }
-        ensures same { result ≡ false → self.new ≡ self.old }
+    /// Puts bytes behind what is buffered, which is written first where they have no room.
+    #[inline(always)]
+    fn put<W: Write>(&mut self, bytes: &[u8], writer: &mut Watched<W>) -> Result<(), WriteError>
+        requires { has_failed writer.old ≡ false }
+        ensures { WritesBuffered W.contents writer.old self.old writer.new self.new result bytes.now }
     {
-        let len = self.buffered.len();
-        if put_line(&mut self.buffered, values).is_some() {
-            return true;
+        if self.buffered.try_extend_from_slice(bytes).is_ok() {
+            return Ok(());
         }
-        self.buffered.truncate(len);
-        false
+        self.put_past(bytes, writer)
     }
-}
 
-/// Writes the line of a row. After `WriteError` the writer has failed, and a front of the line was written.
-fn write_line<V: AsValue, W: Write>(values: &[V], writer: &mut Watched<W>) -> Result<(), WriteError>
-    requires { has_failed writer.old ≡ false }
-    ensures { Writes W.contents writer.old writer.new result (row_text (map V.value values.now) ++ 10 ∷ []) }
-{
-    write_row(values, writer)?;
-    put_all(writer, b"\n")
-}
-
-/// Puts the line of a row behind what is buffered, with its line feed. `None` where there is no room for it, where a
-/// text has a quote in it, and of no values; then a part of it may stand there.
-fn put_line<V: AsValue>(buffered: &mut BufferedBytes, values: &[V]) -> Option<()>
-    ensures some { OnSome result (buffered.new.items ≡ buffered.old.items ++ (row_text (map V.value values.now) ++ 10 ∷ [])) }
-    ensures front { KeepsFront buffered.old.items buffered.new.items }
-{
-    let (first, others) = values.split_first()?;
-    put(buffered, b"(")?;
-    put_value(buffered, first.as_value())?;
-    for value in others {
-        put(buffered, b", ")?;
-        put_value(buffered, value.as_value())?;
-    }
-    put(buffered, b")\n")
-}
-
-/// Puts a value behind what is buffered. `None` where there is no room for it, and where it is a text with a quote in
-/// it; then a part of it may stand there.
-fn put_value(buffered: &mut BufferedBytes, value: &Value) -> Option<()>
-    ensures some { OnSome result (buffered.new.items ≡ buffered.old.items ++ value_text value.now) }
-    ensures front { KeepsFront buffered.old.items buffered.new.items }
-{
-    match value {
-        Value::Int(number) => {
-            let mut buffer = Buffer::new();
-            put(buffered, buffer.format(*number).as_bytes())
+    /// Writes what is buffered, and puts bytes in its place, or writes them too where they are longer than what is buffered can be.
+    fn put_past<W: Write>(
+        &mut self,
+        bytes: &[u8],
+        writer: &mut Watched<W>,
+    ) -> Result<(), WriteError>
+        requires { has_failed writer.old ≡ false }
+        ensures { WritesBuffered W.contents writer.old self.old writer.new self.new result bytes.now }
+    {
+        self.write_out(writer)?;
+        if self.buffered.try_extend_from_slice(bytes).is_ok() {
+            return Ok(());
         }
-        Value::Text(text) => put_quoted(buffered, text.bytes()),
+        put_all(writer, bytes)
     }
-}
 
-/// Puts a text between quotes behind what is buffered. `None` where there is no room for it, and where a quote is in
-/// it; then a part of it may stand there.
-fn put_quoted(buffered: &mut BufferedBytes, text: &[u8]) -> Option<()>
-    ensures some { OnSome result (buffered.new.items ≡ buffered.old.items ++ quoted text.now) }
-    ensures front { KeepsFront buffered.old.items buffered.new.items }
-{
-    if text.find_byte(b'\'').is_some() {
-        return None;
+    /// Puts the values of a row behind what is buffered, with a comma and a space between each two.
+    fn put_values<R: AsRow, W: Write>(
+        &mut self,
+        row: &R,
+        writer: &mut Watched<W>,
+    ) -> Result<(), WriteError>
+        requires { has_failed writer.old ≡ false }
+        ensures { WritesBuffered W.contents writer.old self.old writer.new self.new result (values_text (R.AsRow.row row.now)) }
+    {
+        if row.len() == 0 {
+            return Ok(());
+        }
+        self.put_value(row.value(0), writer)?;
+        for i in 1..row.len() {
+            self.put_next(row.value(i), writer)?;
+        }
+        Ok(())
     }
-    put(buffered, b"'")?;
-    put(buffered, text)?;
-    put(buffered, b"'")
-}
 
-/// Puts bytes behind what is buffered. `None` where there is no room for them.
-#[inline(always)]
-fn put(buffered: &mut BufferedBytes, bytes: &[u8]) -> Option<()>
-    ensures some { OnSome result (buffered.new.items ≡ buffered.old.items ++ bytes.now) }
-    ensures front { KeepsFront buffered.old.items buffered.new.items }
-{
-    buffered.try_extend_from_slice(bytes).ok()
+    /// Puts a value behind another one that is buffered.
+    fn put_next<W: Write>(
+        &mut self,
+        value: ValueRef<'_>,
+        writer: &mut Watched<W>,
+    ) -> Result<(), WriteError>
+        requires { has_failed writer.old ≡ false }
+        ensures { WritesBuffered W.contents writer.old self.old writer.new self.new result (44 ∷ 32 ∷ value_text (value_of value.entry)) }
+    {
+        self.put(b", ", writer)?;
+        self.put_value(value, writer)
+    }
+
+    /// Puts a value behind what is buffered.
+    fn put_value<W: Write>(
+        &mut self,
+        value: ValueRef<'_>,
+        writer: &mut Watched<W>,
+    ) -> Result<(), WriteError>
+        requires { has_failed writer.old ≡ false }
+        ensures { WritesBuffered W.contents writer.old self.old writer.new self.new result (value_text (value_of value.entry)) }
+    {
+        match value {
+            ValueRef::Int(number) => {
+                let mut buffer = Buffer::new();
+                self.put(buffer.format(number).as_bytes(), writer)
+            }
+            ValueRef::Text(text) => self.put_quoted(text.bytes(), writer),
+        }
+    }
+
+    /// Puts a text between quotes behind what is buffered, with each quote in it doubled.
+    fn put_quoted<W: Write>(
+        &mut self,
+        text: &[u8],
+        writer: &mut Watched<W>,
+    ) -> Result<(), WriteError>
+        requires { has_failed writer.old ≡ false }
+        ensures { WritesBuffered W.contents writer.old self.old writer.new self.new result (quoted text.now) }
+    {
+        self.put(b"'", writer)?;
+        self.put_doubled(text, writer)?;
+        self.put(b"'", writer)
+    }
+
+    /// Puts a text behind what is buffered, with each quote in it doubled. It goes from quote to quote.
+    fn put_doubled<W: Write>(
+        &mut self,
+        text: &[u8],
+        writer: &mut Watched<W>,
+    ) -> Result<(), WriteError>
+        requires { has_failed writer.old ≡ false }
+        ensures { WritesBuffered W.contents writer.old self.old writer.new self.new result (doubled text.now) }
+    {
+        let mut rest = text;
+        while let Some(quote) = rest.find_byte(b'\'') {
+            let (piece, others) = rest.split_at(quote);
+            self.put_to_quote(piece, writer)?;
+            rest = &others[1..];
+        }
+        self.put(rest, writer)
+    }
+
+    /// Puts a piece before a quote behind what is buffered, and that quote doubled.
+    fn put_to_quote<W: Write>(
+        &mut self,
+        piece: &[u8],
+        writer: &mut Watched<W>,
+    ) -> Result<(), WriteError>
+        requires { has_failed writer.old ≡ false }
+        ensures { WritesBuffered W.contents writer.old self.old writer.new self.new result (piece.now ++ 39 ∷ 39 ∷ []) }
+    {
+        self.put(piece, writer)?;
+        self.put(b"''", writer)
+    }
 }

@@ -1,7 +1,8 @@
 //! The ends of a range along the order of an index.
 ghost use Rattle.std.specs.Prelude.{◌≡◌};
-ghost use Rattle.std.specs.Option.{ForSome, option_copied};
+ghost use Rattle.std.specs.Option.{ForSome, option_map};
 ghost use Rattle.mm_value.specs.Prefix.{order_prefix};
+ghost use Rattle.mm_value.specs.Views.{value_of};
 ghost use Rattle.mm_relation.specs.Refs.{IsWide};
 ghost use Rattle.mm_relation.specs.Reads.{end_place};
 ghost use Rattle.mm_partition.specs.Places.{slot_at};
@@ -10,7 +11,7 @@ ghost use Rattle.mm_partition.specs.Prefixes.{ArePrefixes};
 use crate::indexes::in_column::place_in;
 use mm_order::Probe;
 use mm_partition::Partitions;
-use mm_value::{RowRef, Value, order_prefix};
+use mm_value::{RowRef, ValueRef, order_prefix};
 use std::cmp::Ordering;
 
 /// An end of a range of values, or no end, which every row meets.
@@ -19,19 +20,19 @@ pub struct AtEnd<'a> {
     pub rows: &'a Partitions,
     pub column: usize,
     pub key: usize,
-    pub end: Option<&'a Value>,
+    pub end: Option<ValueRef<'a>>,
     pub prefix: u64,
     pub prefixes: Option<&'a [u64]>,
-    ghost same: { ForSome end (λ value. prefix ≡ order_prefix value.now) },
+    ghost same: { ForSome end (λ value. prefix ≡ order_prefix (value_of value)) },
     ghost agrees: { ForSome prefixes (λ p. ArePrefixes column rows.now p.now) },
 }
 
 /// The prefix of an end, 0 where there is none.
-pub fn prefix_of_end(end: Option<&Value>) -> u64
-    ensures { ForSome end.entry (λ value. result ≡ order_prefix value.now) }
+pub fn prefix_of_end(end: Option<ValueRef<'_>>) -> u64
+    ensures { ForSome end.entry (λ value. result ≡ order_prefix (value_of value)) }
 {
     match end {
-        Some(value) => order_prefix(value),
+        Some(value) => order_prefix(&value),
         None => 0,
     }
 }
@@ -39,7 +40,7 @@ pub fn prefix_of_end(end: Option<&Value>) -> u64
 impl<'a> Probe for AtEnd<'a> {
     ghost covers = { λ p. IsWide p.column p.key (slot_at p.rows.now) };
 
-    ghost place_of = { λ p. end_place p.column (slot_at p.rows.now) (option_copied p.end) };
+    ghost place_of = { λ p. end_place p.column (slot_at p.rows.now) (option_map value_of p.end) };
 
     fn place(&self, at: RowRef) -> Ordering {
         let rows = self.rows;

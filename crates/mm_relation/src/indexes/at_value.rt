@@ -2,6 +2,7 @@
 ghost use Rattle.std.specs.Prelude.{◌≡◌};
 ghost use Rattle.std.specs.Option.{ForSome};
 ghost use Rattle.mm_value.specs.Prefix.{order_prefix};
+ghost use Rattle.mm_value.specs.Views.{value_of};
 ghost use Rattle.mm_relation.specs.Refs.{IsWide, place_by};
 ghost use Rattle.mm_partition.specs.Places.{slot_at};
 ghost use Rattle.mm_partition.specs.Prefixes.{ArePrefixes};
@@ -9,7 +10,7 @@ ghost use Rattle.mm_partition.specs.Prefixes.{ArePrefixes};
 use crate::indexes::in_column::place_in;
 use mm_order::Probe;
 use mm_partition::Partitions;
-use mm_value::{RowRef, Value};
+use mm_value::{RowRef, ValueRef};
 use std::cmp::Ordering;
 
 /// The place of a value along the order by its column.
@@ -18,17 +19,17 @@ pub struct AtValue<'a> {
     pub rows: &'a Partitions,
     pub column: usize,
     pub key: usize,
-    pub sought: &'a Value,
+    pub sought: ValueRef<'a>,
     pub prefix: u64,
     pub prefixes: Option<&'a [u64]>,
-    ghost same: { prefix ≡ order_prefix sought.now },
+    ghost same: { prefix ≡ order_prefix (value_of sought) },
     ghost agrees: { ForSome prefixes (λ p. ArePrefixes column rows.now p.now) },
 }
 
 impl<'a> Probe for AtValue<'a> {
     ghost covers = { λ p. IsWide p.column p.key (slot_at p.rows.now) };
 
-    ghost place_of = { λ p. place_by p.column (slot_at p.rows.now) p.sought.now };
+    ghost place_of = { λ p. place_by p.column (slot_at p.rows.now) (value_of p.sought) };
 
     fn place(&self, at: RowRef) -> Ordering {
         place_in(

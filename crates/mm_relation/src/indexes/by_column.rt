@@ -36,7 +36,7 @@ impl<'a> RefOrder for ByColumn<'a> {
         let rows = self.rows;
         let first = compare_in(rows, self.column, self.prefixes, a, b);
         if first.is_eq() {
-            compare(rows.get(a).value(self.key), rows.get(b).value(self.key))
+            compare(&rows.get(a).value(self.key), &rows.get(b).value(self.key))
         } else {
             first
         }

@@ -19,8 +19,7 @@ fn hash_at(rows: &Partitions, column: usize, at: RowRef) -> u64
     requires { HasColumn column (slot_at rows.now) at }
     ensures { result ≡ hash_of (slice_get (row_at (slot_at rows.now) at) column) }
 {
-    let row = rows.get(at);
-    hash64(row.value(column))
+    hash64(&rows.get(at).value(column))
 }
 
 /// Takes the pair of one row out, which the index has.

@@ -1,5 +1,6 @@
 //! Reading by hash.
 ghost use Rattle.std.specs.Prelude.{◌≡◌, ◌≤◌, ◌++◌, List, length, map, take, drop, filter, All, IsPermutation, OnOk, OnErr};
+ghost use Rattle.mm_value.specs.Views.{value_of};
 ghost use Rattle.mm_value.specs.declared.row_ref.RowRef.{RowRef};
 ghost use Rattle.mm_partition.specs.Places.{slot_at};
 ghost use Rattle.mm_relation.specs.HashedPairs.{hashed_pair};
@@ -8,24 +9,29 @@ ghost use Rattle.mm_relation.specs.Reads.{has_value, AreMatches, Appends};
 
 use mlhash::HashRefs;
 use mm_partition::Partitions;
-use mm_value::{RowRef, Value, compare, hash64};
+use mm_value::{RowRef, ValueRef, compare, hash64};
 use std::alloc::{AllocError, Global};
 
 /// Whether a row has this value in a column.
-fn is_match(rows: &Partitions, column: usize, value: &Value, at: RowRef) -> bool
+fn is_match(rows: &Partitions, column: usize, value: ValueRef<'_>, at: RowRef) -> bool
     requires { HasColumn column (slot_at rows.now) at }
-    ensures { result ≡ has_value column (slot_at rows.now) value.now at }
+    ensures { result ≡ has_value column (slot_at rows.now) (value_of value.entry) at }
 {
-    let row = rows.get(at);
-    compare(row.value(column), value).is_eq()
+    compare(&rows.get(at).value(column), &value).is_eq()
 }
 
 /// Keeps of the references from a place on those whose rows have this value, in their order.
-fn keep_matches(rows: &Partitions, column: usize, value: &Value, out: &mut Vec<RowRef>, from: usize)
+fn keep_matches(
+    rows: &Partitions,
+    column: usize,
+    value: ValueRef<'_>,
+    out: &mut Vec<RowRef>,
+    from: usize,
+)
     requires from { from ≤ length out.old.items }
     requires wide { All (HasColumn column (slot_at rows.now)) (drop from out.old.items) }
     ensures { out.new.items ≡ take from out.old.items
-        ++ filter (has_value column (slot_at rows.now) value.now) (drop from out.old.items) }
+        ++ filter (has_value column (slot_at rows.now) (value_of value.entry)) (drop from out.old.items) }
 {
     let mut kept = from;
     for i in from..out.len() {
@@ -45,18 +51,18 @@ pub fn copy_matches(
     rows: &Partitions,
     column: usize,
     pairs: &HashRefs,
-    value: &Value,
+    value: ValueRef<'_>,
     out: &mut Vec<RowRef>,
 ) -> Result<(), AllocError>
     requires { (refs : List RowRef) × (All (HasColumn column (slot_at rows.now)) refs)
         × IsPermutation pairs.now.entries (map (hashed_pair column (slot_at rows.now)) refs) }
     ensures ok { OnOk result ((refs : List RowRef)
         → IsPermutation pairs.now.entries (map (hashed_pair column (slot_at rows.now)) refs)
-        → Appends (AreMatches column (slot_at rows.now) value.now refs) out.old.items out.new.items) }
+        → Appends (AreMatches column (slot_at rows.now) (value_of value.entry) refs) out.old.items out.new.items) }
     ensures err { OnErr result (out.new.items ≡ out.old.items) }
 {
     let before = out.len();
-    pairs.matches(alloc, hash64(value), out)?;
+    pairs.matches(alloc, hash64(&value), out)?;
     keep_matches(rows, column, value, out, before);
     Ok(())
 }

@@ -3,6 +3,7 @@
 ghost use Rattle.std.specs.Prelude.{◌≡◌};
 ghost use Rattle.std.specs.Option.{ForSome};
 ghost use Rattle.mm_value.specs.Prefix.{order_prefix};
+ghost use Rattle.mm_value.specs.Views.{value_of};
 ghost use Rattle.mm_partition.specs.Places.{slot_at};
 ghost use Rattle.mm_partition.specs.Prefixes.{ArePrefixes};
 ghost use Rattle.mm_schema.specs.Rows.{column_cmp};
@@ -10,7 +11,7 @@ ghost use Rattle.mm_relation.specs.Refs.{place_by, row_at};
 ghost use Rattle.mm_relation.specs.Index.{HasColumn};
 
 use mm_partition::{Partitions, index_of};
-use mm_value::{RowRef, Value, compare};
+use mm_value::{RowRef, ValueRef, compare};
 use std::cmp::Ordering;
 
 /// How two rows stand to each other by a column.
@@ -36,7 +37,7 @@ pub fn compare_in(
             return Ordering::Greater;
         }
     }
-    compare(rows.get(a).value(column), rows.get(b).value(column))
+    compare(&rows.get(a).value(column), &rows.get(b).value(column))
 }
 
 /// Where a row lies to a value with this prefix by a column.
@@ -45,13 +46,13 @@ pub fn place_in(
     column: usize,
     prefixes: Option<&[u64]>,
     at: RowRef,
-    sought: &Value,
+    sought: ValueRef<'_>,
     prefix: u64,
 ) -> Ordering
     requires prefixes { ForSome prefixes (λ p. ArePrefixes column rows.now p.now) }
     requires at { HasColumn column (slot_at rows.now) at }
-    requires prefix { prefix ≡ order_prefix sought.now }
-    ensures { result ≡ place_by column (slot_at rows.now) sought.now at }
+    requires prefix { prefix ≡ order_prefix (value_of sought) }
+    ensures { result ≡ place_by column (slot_at rows.now) (value_of sought.entry) at }
 {
     if let Some(prefixes) = prefixes {
         let kept = prefixes[index_of(at)];
@@ -62,5 +63,5 @@ pub fn place_in(
             return Ordering::Greater;
         }
     }
-    compare(rows.get(at).value(column), sought)
+    compare(&rows.get(at).value(column), &sought)
 }

@@ -6,15 +6,15 @@ ghost use Rattle.mm_relation.specs.Index.{InOrder, KeysApart};
 ghost use Rattle.mm_relation.specs.Sorting.{IsOf, ref_of, sortable_cmp, AreSorted};
 
 use mm_partition::Partitions;
-use mm_value::{RowRef, Value, compare};
+use mm_value::{RowRef, ValueRef, compare};
 use std::alloc::{AllocError, Global};
 use std::cmp::Ordering;
 
 /// A row to be sorted: its value in the column, its key, and its reference.
 #[derive(Clone, Copy, Drop)]
 struct Sortable<'a> {
-    value: &'a Value,
-    key: &'a Value,
+    value: ValueRef<'a>,
+    key: ValueRef<'a>,
     at: RowRef,
 }
 
@@ -22,9 +22,9 @@ struct Sortable<'a> {
 fn compare_rows(a: &Sortable, b: &Sortable) -> Ordering
     ensures { result ≡ sortable_cmp a.now b.now }
 {
-    let first = compare(a.value, b.value);
+    let first = compare(&a.value, &b.value);
     if first.is_eq() {
-        compare(a.key, b.key)
+        compare(&a.key, &b.key)
     } else {
         first
     }

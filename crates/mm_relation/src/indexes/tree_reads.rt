@@ -1,6 +1,7 @@
 //! Reading along a tree.
 ghost use Rattle.std.specs.Prelude.{◌≡◌, ◌≤◌, ◌++◌, length, IfOk, OnOk, OnErr};
-ghost use Rattle.std.specs.Option.{option_copied};
+ghost use Rattle.std.specs.Option.{option_map};
+ghost use Rattle.mm_value.specs.Views.{value_of};
 ghost use Rattle.mm_order.specs.Probe.{entries_between};
 ghost use Rattle.mm_partition.specs.Places.{slot_at};
 ghost use Rattle.mm_relation.specs.Index.{InOrder};
@@ -11,15 +12,15 @@ use crate::indexes::at_end::{AtEnd, prefix_of_end};
 use crate::indexes::by_column::ByColumn;
 use mm_order::OrderedRefs;
 use mm_partition::Partitions;
-use mm_value::{RowRef, Value};
+use mm_value::{RowRef, ValueRef};
 use std::alloc::{AllocError, Global};
 use ttree::TTree;
 
 /// The ends of a range of values; one that is not there leaves the range open on its side.
 #[derive(Clone, Copy)]
 pub struct Ends<'a> {
-    pub low: Option<&'a Value>,
-    pub high: Option<&'a Value>,
+    pub low: Option<ValueRef<'a>>,
+    pub high: Option<ValueRef<'a>>,
 }
 
 /// Appends the references of a tree whose values are between the ends, in order.
@@ -34,8 +35,8 @@ pub fn copy_range(
 ) -> Result<(), AllocError>
     requires { InOrder column key (slot_at rows.now) tree.now.refs }
     ensures ok { OnOk result (out.new.items ≡ out.old.items ++ entries_between
-        (end_place column (slot_at rows.now) (option_copied ends.entry.low))
-        (end_place column (slot_at rows.now) (option_copied ends.entry.high)) tree.now.refs) }
+        (end_place column (slot_at rows.now) (option_map value_of ends.entry.low))
+        (end_place column (slot_at rows.now) (option_map value_of ends.entry.high)) tree.now.refs) }
     ensures err { OnErr result (out.new.items ≡ out.old.items) }
 {
     let prefixes = rows.prefixes(column);

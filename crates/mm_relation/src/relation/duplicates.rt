@@ -4,7 +4,8 @@ ghost use Rattle.std.specs.List.{list_any};
 ghost use Rattle.mm_value.specs.declared.row_ref.RowRef.{RowRef};
 ghost use Rattle.mm_schema.specs.Rows.{has_duplicate_keys, same_in_column, most_rows};
 ghost use Rattle.mm_partition.specs.Places.{slot_at};
-ghost use Rattle.mm_relation.specs.KeyRows.{rows_of, AreByKey};
+ghost use Rattle.mm_partition.specs.Views.{viewed};
+ghost use Rattle.mm_relation.specs.KeyRows.{AreByKey};
 ghost use Rattle.mm_relation.specs.Kept.{Stay, rows_after};
 ghost use Rattle.mm_relation.specs.Refs.{row_at};
 
@@ -13,7 +14,8 @@ use crate::edits::{Edit, count_added, count_removals};
 use crate::key_rows::{
     contains_key, has_equal_neighbours, rows_that_free_keys, rows_with_new_keys, sort_by_key,
 };
-use mm_value::Row;
+use mm_partition::RowView;
+use mm_value::{AsRow, Row};
 use std::alloc::{AllocError, Global};
 
 impl Relation {
@@ -58,9 +60,9 @@ impl Relation {
     }
 
     /// Whether a row has the key of `row`, and none of those that go or change has it.
-    fn has_key_beside(&self, row: &Row, gone: &[&Row]) -> bool
-        requires { AreByKey self.now.key gone.now }
-        ensures { result ≡ (not (list_any (same_in_column self.now.key row.now) (rows_of gone.now))
+    fn has_key_beside(&self, row: &Row, gone: &[RowView<'_>]) -> bool
+        requires { AreByKey viewed self.now.key gone.now }
+        ensures { result ≡ (not (list_any (same_in_column self.now.key row.now) (map viewed gone.now))
             && list_any (same_in_column self.now.key row.now) (map (row_at (slot_at self.now.places)) self.now.refs)) }
     {
         !contains_key(gone, row, self.key) && self.has_key_of(row)
@@ -70,7 +72,7 @@ impl Relation {
     fn has_key_of(&self, row: &Row) -> bool
         ensures { result ≡ list_any (same_in_column self.now.key row.now) (map (row_at (slot_at self.now.places)) self.now.refs) }
     {
-        match row.values().get(self.key) {
+        match row.get(self.key) {
             Some(key) => self.find(key).is_some(),
             None => false,
         }

@@ -1,5 +1,6 @@
 //! Look-ups along the key.
 ghost use Rattle.std.specs.Prelude.{◌≡◌, ◌≢◌, Contains, All, IfSome, IfNone, Some, slice_get};
+ghost use Rattle.mm_value.specs.Views.{value_of};
 ghost use Rattle.mm_partition.specs.Places.{slot_at};
 ghost use Rattle.mm_relation.specs.Refs.{row_at};
 
@@ -7,16 +8,16 @@ use super::Relation;
 use crate::indexes::at_value::AtValue;
 use crate::indexes::by_column::ByColumn;
 use mm_order::Seek;
-use mm_value::{RowRef, Value, order_prefix};
+use mm_value::{RowRef, ValueRef, order_prefix};
 
 impl Relation {
     /// The reference of the row that has this key, none where no row has it. It searches the T-tree
     /// over the key (Lehman and Carey, VLDB 1986).
-    pub fn find(&self, key: &Value) -> Option<RowRef>
+    pub fn find(&self, key: ValueRef<'_>) -> Option<RowRef>
         ensures held { IfSome result (Contains self.now.refs) }
-        ensures fits { IfSome result (λ at. slice_get (row_at (slot_at self.now.places) at) self.now.key ≡ Some key.now) }
+        ensures fits { IfSome result (λ at. slice_get (row_at (slot_at self.now.places) at) self.now.key ≡ Some (value_of key.entry)) }
         ensures none { IfNone result
-            (All (λ at. slice_get (row_at (slot_at self.now.places) at) self.now.key ≢ Some key.now) self.now.refs) }
+            (All (λ at. slice_get (row_at (slot_at self.now.places) at) self.now.key ≢ Some (value_of key.entry)) self.now.refs) }
     {
         let prefixes = self.rows.prefixes(self.key);
         let order = ByColumn {
@@ -30,7 +31,7 @@ impl Relation {
             column: self.key,
             key: self.key,
             sought: key,
-            prefix: order_prefix(key),
+            prefix: order_prefix(&key),
             prefixes,
         };
         let mut seek = Seek::new(&probe);

@@ -1,6 +1,7 @@
 //! Reading along the indexes.
 ghost use Rattle.std.specs.Prelude.{◌≡◌, ℕ, ◌<◌, ◌≤◌, length, map, All, IfOk, OnOk, OnErr};
-ghost use Rattle.std.specs.Option.{option_copied};
+ghost use Rattle.std.specs.Option.{option_map};
+ghost use Rattle.mm_value.specs.Views.{value_of};
 ghost use Rattle.mm_partition.specs.Places.{IsLive, slot_at};
 ghost use Rattle.mm_schema.specs.Rows.{rows_by, most_rows};
 ghost use Rattle.mm_schema.specs.Sorting.{in_order};
@@ -14,7 +15,7 @@ use crate::indexes::hash_reads::copy_matches;
 use crate::indexes::index::Index;
 use crate::indexes::sorting::sorted_refs;
 use crate::indexes::tree_reads::{Ends, copy_range, copy_refs};
-use mm_value::{RowRef, Value};
+use mm_value::{RowRef, ValueRef};
 use std::alloc::{AllocError, Global};
 use ttree::{Iter, TTree};
 
@@ -59,13 +60,13 @@ impl Relation {
         &self,
         alloc: Global,
         index: usize,
-        low: Option<&Value>,
-        high: Option<&Value>,
+        low: Option<ValueRef<'_>>,
+        high: Option<ValueRef<'_>>,
         out: &mut Vec<RowRef>,
     ) -> Result<(), AllocError>
         requires { (column : ℕ) × HasIndex self.now.indexes index column kind.Tree }
         ensures ok { OnOk result ((column : ℕ) → HasIndex self.now.indexes index column kind.Tree
-            → Appends (IsRange column self.now (option_copied low.entry) (option_copied high.entry)) out.old.items out.new.items) }
+            → Appends (IsRange column self.now (option_map value_of low.entry) (option_map value_of high.entry)) out.old.items out.new.items) }
         ensures err { OnErr result (out.new.items ≡ out.old.items) }
     {
         match &self.indexes[index] {
@@ -85,12 +86,12 @@ impl Relation {
         &self,
         alloc: Global,
         index: usize,
-        value: &Value,
+        value: ValueRef<'_>,
         out: &mut Vec<RowRef>,
     ) -> Result<(), AllocError>
         requires { (column : ℕ) × HasIndex self.now.indexes index column kind.Hash }
         ensures ok { OnOk result ((column : ℕ) → HasIndex self.now.indexes index column kind.Hash
-            → Appends (AreMatches column (slot_at self.now.places) value.now self.now.refs) out.old.items out.new.items) }
+            → Appends (AreMatches column (slot_at self.now.places) (value_of value.entry) self.now.refs) out.old.items out.new.items) }
         ensures err { OnErr result (out.new.items ≡ out.old.items) }
     {
         match &self.indexes[index] {

@@ -1,6 +1,7 @@
 //! Which index a column has, and the rows between two keys.
 ghost use Rattle.std.specs.Prelude.{◌≡◌, ℕ, ◌++◌, ◌∷◌, [], position, IfSome, IfNone, OnOk, OnErr};
-ghost use Rattle.std.specs.Option.{option_copied};
+ghost use Rattle.std.specs.Option.{option_map};
+ghost use Rattle.mm_value.specs.Views.{value_of};
 ghost use Rattle.mm_order.specs.Probe.{entries_between};
 ghost use Rattle.mm_partition.specs.Places.{slot_at};
 ghost use Rattle.mm_relation.specs.Reads.{HasIndex, end_place};
@@ -10,7 +11,7 @@ use super::Relation;
 use crate::indexes::index::Index;
 use crate::indexes::tree_reads::{Ends, copy_range};
 use mm_schema::IndexKind;
-use mm_value::{RowRef, Value, compare};
+use mm_value::{RowRef, ValueRef, compare};
 use std::alloc::{AllocError, Global};
 
 impl Relation {
@@ -30,17 +31,17 @@ impl Relation {
     pub fn key_range(
         &self,
         alloc: Global,
-        low: Option<&Value>,
-        high: Option<&Value>,
+        low: Option<ValueRef<'_>>,
+        high: Option<ValueRef<'_>>,
         out: &mut Vec<RowRef>,
     ) -> Result<(), AllocError>
         ensures ok { OnOk result (out.new.items ≡ out.old.items ++ entries_between
-            (end_place self.now.key (slot_at self.now.places) (option_copied low.entry))
-            (end_place self.now.key (slot_at self.now.places) (option_copied high.entry)) self.now.refs) }
+            (end_place self.now.key (slot_at self.now.places) (option_map value_of low.entry))
+            (end_place self.now.key (slot_at self.now.places) (option_map value_of high.entry)) self.now.refs) }
         ensures err { OnErr result (out.new.items ≡ out.old.items) }
     {
         if let (Some(first), Some(last)) = (low, high) {
-            if compare(first, last).is_eq() {
+            if compare(&first, &last).is_eq() {
                 self.is_kept();
                 return push_found(self.find(first), out);
             }

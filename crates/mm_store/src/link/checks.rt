@@ -12,7 +12,7 @@ ghost use Rattle.mm_schema.specs.References.{is_referred as is_named, lacks_targ
 
 use super::Link;
 use mm_relation::{Edit, Relation};
-use mm_value::{Row, RowRef, compare};
+use mm_value::{AsRow, Row, RowRef, compare};
 
 impl Link {
     /// Whether a new row of the edits of the referring table refers to no row. It takes O(m log n) comparisons for n target rows
@@ -54,8 +54,8 @@ impl Link {
         from.is_kept();
         to.is_kept();
         let column = self.reference.column;
-        match (from.row(at).values().get(column), row.values().get(column)) {
-            (Some(old), Some(new)) => compare(old, new).is_eq(),
+        match (from.row(at).get(column), row.get(column)) {
+            (Some(old), Some(new)) => compare(&old, &new).is_eq(),
             _ => false,
         }
     }
@@ -65,7 +65,7 @@ impl Link {
         ensures { result ≡ lacks_target_row self.now.reference.column to.now.key (rows_of to.now) row.now }
     {
         to.is_kept();
-        match row.values().get(self.reference.column) {
+        match row.get(self.reference.column) {
             Some(value) => to.find(value).is_none(),
             None => true,
         }
@@ -122,5 +122,5 @@ fn has_key_of(relation: &Relation, at: RowRef, row: &Row) -> bool
 {
     relation.is_kept();
     let key = relation.key();
-    compare(relation.row(at).value(key), row.value(key)).is_eq()
+    compare(&relation.row(at).value(key), row.value(key)).is_eq()
 }

@@ -94,7 +94,7 @@ impl Db {
         ensures rows { IfOk result (λ rows. (query : AnyQuery) → IsBoundQuery self.now.schema query bound.now → rows ≡ selected query self.now) }
     {
         let contents = &self.contents;
-        select_rows(alloc, &contents.store, bound, self.zero.value())
+        select_rows(alloc, &contents.store, bound)
     }
 
     /// Makes a change of rows by its bound form, which has to be bound by the catalog as it is, and replies `Count` or `Refused`.

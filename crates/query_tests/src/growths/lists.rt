@@ -1,6 +1,5 @@
 //! Temporary lists and the rows of results.
-ghost use Rattle.std.specs.Prelude.{◌≡◌, length, pos, All, IfOk};
-ghost use Rattle.mm_value.specs.declared.values.Value.TheVariants.{Int};
+ghost use Rattle.std.specs.Prelude.{◌≡◌, length, All, IfOk};
 ghost use Rattle.mm_templist.specs.Combos.{AreLive};
 
 use super::{are_pairs, asked_again, is_number};
@@ -12,7 +11,7 @@ use mm_schema::IndexKind;
 use mm_select::{Access, select};
 use mm_store::Store;
 use mm_templist::{Descriptor, ShownRows, TempList};
-use mm_value::{Row, RowRef, Value};
+use mm_value::{Row, RowRef};
 use std::alloc::{AllocError, Global};
 use std::process::Abort;
 use std::test::Fail;
@@ -129,7 +128,7 @@ fn are_shown(rows: &ShownRows, pairs: &[(i64, i64)]) -> bool {
     }
     for (i, (first, second)) in pairs.iter().enumerate() {
         let row = rows.row(i);
-        if row.len() != 2 || !is_number(row[0], *first) || !is_number(row[1], *second) {
+        if row.len() != 2 || !is_number(&row[0], *first) || !is_number(&row[1], *second) {
             return false;
         }
     }
@@ -142,17 +141,15 @@ fn show_again<'s>(
     alloc: Global,
     list: &TempList,
     store: &'s Store,
-    zero: &'s Value,
 ) -> Result<ShownRows<'s>, Fail>
     requires live { All (AreLive store.now list.now.tables) list.now.combos }
-    requires zero { zero.now ≡ Int (pos 0) }
 {
     let mut view = store.view();
-    match list.shown(alloc, &mut view, false, &[1], zero) {
+    match list.shown(alloc, &mut view, false, &[1]) {
         Ok(rows) => Ok(rows),
         Err(_) => {
             asked_again(rt)?;
-            let rows = list.shown(alloc, &mut view, false, &[1], zero)?;
+            let rows = list.shown(alloc, &mut view, false, &[1])?;
             Ok(rows)
         }
     }
@@ -165,8 +162,7 @@ fn shows(rt: &(impl Abort + Print), alloc: Global, store: &Store) -> Result<(), 
     let Ok(list) = all_rows(alloc, store) else {
         return Ok(());
     };
-    let zero = Value::Int(0);
-    let rows = show_again(rt, alloc, &list, store, &zero)?;
+    let rows = show_again(rt, alloc, &list, store)?;
     assert_that(rt, are_shown(&rows, &[(3, 1), (2, 2), (1, 3)]));
     Ok(())
 }

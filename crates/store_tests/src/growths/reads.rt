@@ -7,7 +7,7 @@ use crate::assertions::{assert_same, assert_that};
 use crate::stores::{Case, number_of};
 use mm_schema::IndexKind;
 use mm_store::{IndexRef, Store, TableRows};
-use mm_value::{RowRef, Value};
+use mm_value::{RowRef, ValueRef};
 use std::alloc::{AllocError, Global};
 use std::process::Abort;
 use std::test::Fail;
@@ -59,8 +59,8 @@ fn keys_between(
     requires { 1 < length store.now.tables }
 {
     let view = store.view();
-    let (low, high) = (Value::Int(low), Value::Int(high));
-    view.range(alloc, 1, IndexRef::Key, Some(&low), Some(&high), found)
+    let (low, high) = (ValueRef::Int(low), ValueRef::Int(high));
+    view.range(alloc, 1, IndexRef::Key, Some(low), Some(high), found)
 }
 
 fn along_tree(
@@ -76,8 +76,8 @@ fn along_tree(
     let Some(index) = view.tree_on(1, 1) else {
         return Ok(());
     };
-    let (low, high) = (Value::Int(low), Value::Int(high));
-    view.range(alloc, 1, index, Some(&low), Some(&high), found)
+    let (low, high) = (ValueRef::Int(low), ValueRef::Int(high));
+    view.range(alloc, 1, index, Some(low), Some(high), found)
 }
 
 fn by_hash(
@@ -92,7 +92,7 @@ fn by_hash(
     let Some(index) = view.hash_on(1, 1) else {
         return Ok(());
     };
-    view.matches(alloc, 1, index, &Value::Int(value), found)
+    view.matches(alloc, 1, index, ValueRef::Int(value), found)
 }
 
 fn by_first(
@@ -107,7 +107,7 @@ fn by_first(
     let Some(index) = view.index_on(1, 1) else {
         return Ok(());
     };
-    view.matches(alloc, 1, index, &Value::Int(value), found)
+    view.matches(alloc, 1, index, ValueRef::Int(value), found)
 }
 
 /// Appends what a search finds to a list of one reference. The rows are then to be those of these keys.

@@ -3,7 +3,7 @@ ghost use Rattle.std.specs.Prelude.{◌<◌, length};
 
 use crate::stores::{at_key, value_at};
 use mm_store::{IndexRef, Store};
-use mm_value::Value;
+use mm_value::ValueRef;
 use std::alloc::{AllocError, Global};
 use ttree::Iter;
 
@@ -50,7 +50,7 @@ fn has_rows(
             return Ok(false);
         };
         found.clear();
-        view.matches(alloc, table, IndexRef::Key, &Value::Int(*key), &mut found)?;
+        view.matches(alloc, table, IndexRef::Key, ValueRef::Int(*key), &mut found)?;
         if found.as_slice() != [at].as_slice() || value_at(store, table, *key) != Some(*value) {
             return Ok(false);
         }
@@ -98,7 +98,7 @@ fn has_matches(
     };
     for (value, count) in counts {
         let mut found = Vec::new(alloc);
-        view.matches(alloc, table, index, &Value::Int(*value), &mut found)?;
+        view.matches(alloc, table, index, ValueRef::Int(*value), &mut found)?;
         if found.len() != *count {
             return Ok(false);
         }

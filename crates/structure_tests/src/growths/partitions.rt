@@ -4,8 +4,8 @@ ghost use Rattle.mm_partition.specs.Places.{IsLive, IsUnchanged};
 
 use crate::assertions::{assert_same, assert_that};
 use crate::growths::asked_again;
-use mm_partition::Partitions;
-use mm_value::{Refusal, Row, RowRef, Value};
+use mm_partition::{Partitions, RowView};
+use mm_value::{Refusal, Row, RowRef, Value, ValueRef};
 use std::alloc::Global;
 use std::process::Abort;
 use std::test::Fail;
@@ -27,9 +27,9 @@ fn place_five(alloc: Global, rows: &mut Partitions) -> Result<RowRef, Refusal>
 }
 
 /// Whether a row is that of a number.
-fn is_row_of(row: &Row, number: i64) -> bool {
-    match row.values() {
-        [Value::Int(found)] => *found == number,
+fn is_row_of(row: RowView<'_>, number: i64) -> bool {
+    match row.get(0) {
+        Some(ValueRef::Int(found)) => row.len() == 1 && found == number,
         _ => false,
     }
 }

@@ -1,4 +1,5 @@
 use Rattle.std.proofs.Common.{◌≡◌, ◌≤◌, ◌+◌, map, take}
+use Rattle.mm_partition.specs.Reads.{row_read}
 use Rattle.mm_partition.specs.Places.{slot_at}
 use Rattle.mm_relation.specs.Kept.{StoredRows}
 use Rattle.mm_relation.specs.Refs.{row_at}
@@ -9,6 +10,6 @@ abbrev pub invariant-loop-at : goal.invariant-loop-at
 invariant-loop-at l = record {
   same : l.view.store ≡ l.fn.view.store;
   rows : (stored : StoredRows) → IsAt l.fn.view.store l.table stored
-      → map (λ row. row.now) l.rows.items ≡ map (row_at (slot_at stored.places)) (take l.at-index l.refs);
+      → map row_read l.rows.items ≡ map (row_at (slot_at stored.places)) (take l.at-index l.refs);
   reads : l.view.reads ≤ l.fn.view.reads + l.at-index;
 }

@@ -1,7 +1,8 @@
 use Rattle.std.proofs.Common.{◌≡◌, ◌+◌, ◌<◌, [], ◌∷◌, ◌++◌, List, Some, get_or, length, drop, map, sym, ap, ◌∙◌, subst, arith}
-use Rattle.std.specs.Option.{option_copied}
 use Rattle.std.proofs.lemmas.List.{append-nil}
 use Rattle.std.proofs.lemmas.Option.{slice_get_within}
+use Rattle.mm_partition.specs.Views.{viewed}
+use Rattle.mm_query.specs.Queries.{rows_read}
 use Rattle.mm_relation.specs.Kept.{StoredRows}
 use Rattle.mm_partition.specs.Places.{IsLive}
 use Rattle.mm_select.proofs.Walks.{row_given}
@@ -55,17 +56,17 @@ loop-place-preserved c =
     let within : table < length c.loop-place.view.store.tables = subst (λ (s : Tables). table < length s.tables) (sym c.loop-place.invariant.same)
     (slice_get_within store.tables table live.0 live.1) in
     let below = table_within store tables outer place record { part = 0; slot = 0 } c.loop-place-test.true c.loop-place.invariant.live in
-    let given : row_of store table at ≡ c.row.result.now =
+    let given : row_of store table at ≡ viewed c.row.result =
     ap (λ (s : Tables). row_of s table at) (sym c.loop-place.invariant.same)
-    ∙ row_given c.loop-place.view.store table at c.row.result.now within c.row.ensures.row in
-    let pushed : map option_copied c.push.new.self.items ≡ map option_copied c.loop-place.rows.items ++ Some (row_of store table at) ∷ [] =
+    ∙ row_given c.loop-place.view.store table at (viewed c.row.result) within c.row.ensures.row in
+    let pushed : rows_read viewed c.push.new.self.items ≡ rows_read viewed c.loop-place.rows.items ++ Some (row_of store table at) ∷ [] =
     pushed_row c.loop-place.rows.items c.push.new.self.items (Some c.row.result) c.in_ok-push.ensures.items
-    ∙ ap (λ (row : List Value). map option_copied c.loop-place.rows.items ++ Some row ∷ []) (sym given) in
+    ∙ ap (λ (row : List Value). rows_read viewed c.loop-place.rows.items ++ Some row ∷ []) (sym given) in
     record {
       same = c.row.ensures.same ∙ c.loop-place.invariant.same;
       rows = ap (λ l. l ++ map Some (rows_of_combo store (drop (place + 1) tables) (drop (place + 1) outer))) pushed
           ∙ chosen_next store tables outer place record { part = 0; slot = 0 } c.loop-place-test.true c.loop-place.invariant.live
-          (map option_copied c.loop-place.rows.items) (map Some (rows_of_combo store tables outer)) c.loop-place.invariant.rows;
+          (rows_read viewed c.loop-place.rows.items) (map Some (rows_of_combo store tables outer)) c.loop-place.invariant.rows;
       live = rest_live store tables outer place record { part = 0; slot = 0 } c.loop-place-test.true c.loop-place.invariant.live;
       within = omega (arith, below);
       reads = omega (arith, c.row.ensures.counted, c.loop-place.invariant.reads);
@@ -77,8 +78,8 @@ returns-clause-rows c =
     let tables = c.args.outer.tables.now in
     let outer = c.args.outer.refs.now in
     let none = none_left store tables outer c.loop-place.place c.loop-place-test.false in
-    sym (append-nil (map option_copied c.loop-place.rows.items))
-    ∙ (sym (ap (λ (l : List (List Value)). map option_copied c.loop-place.rows.items ++ map Some l) none) ∙ c.loop-place.invariant.rows)
+    sym (append-nil (rows_read viewed c.loop-place.rows.items))
+    ∙ (sym (ap (λ (l : List (List Value)). rows_read viewed c.loop-place.rows.items ++ map Some l) none) ∙ c.loop-place.invariant.rows)
 
 pub returns-clause-reads : goal.returns-clause-reads
 returns-clause-reads c = omega (arith, c.loop-place.invariant.within, c.loop-place.invariant.reads)

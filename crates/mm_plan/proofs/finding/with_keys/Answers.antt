@@ -3,6 +3,7 @@ use Rattle.std.specs.Prelude.{slice_get}
 use Rattle.std.specs.List.{All}
 use Rattle.std.proofs.lemmas.List.{map-append, take_all}
 use Rattle.std.proofs.lemmas.List.Elements.{All-get_or, All-push}
+use Rattle.mm_partition.specs.Views.{viewed}
 use Rattle.mm_partition.specs.Places.{IsLive}
 use Rattle.mm_plan.specs.Finding.{IsKeyed}
 use Rattle.mm_plan.specs.declared.finding.Keyed.{Keyed}
@@ -46,7 +47,7 @@ loop-at-preserved c =
           let is = c.row-row.ensures.row stored (subst (λ (s : Tables). IsAt s c.args.table stored) (sym c.loop-at.invariant.same) here) in
           let keyed : IsKeyed stored new =
           ap (λ content. slice_get (row_in content) stored.key) is
-          ∙ (ap (slice_get c.row-row.result.now) (sym (c.requires.key stored here).0) ∙ c.value.ensures) in
+          ∙ (ap (slice_get (viewed c.row-row.result)) (sym (c.requires.key stored here).0) ∙ c.value.ensures) in
           subst (All (IsKeyed stored)) (sym c.in_ok-push.ensures.items)
           (All-push (IsKeyed stored) c.loop-at.rows.items new (c.loop-at.invariant.keys stored here) keyed);
       reads = omega (arith, c.row-row.ensures.counted, c.loop-at.invariant.reads);

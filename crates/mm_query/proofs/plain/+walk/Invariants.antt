@@ -1,7 +1,7 @@
 use Rattle.std.proofs.Common.{◌≡◌, ◌≤◌, ◌++◌, [], ◌∷◌, Some, length, map, take}
 use Rattle.std.specs.List.{flat_map}
-use Rattle.std.specs.Option.{option_copied}
 use Rattle.mm_schema.specs.Rows.{most_rows}
+use Rattle.mm_query.specs.Queries.{rows_read}
 use Rattle.mm_query.specs.Walk.{found_behind}
 use Rattle.mm_query.proofs.plain.+walk.Given as goal
 
@@ -13,6 +13,6 @@ invariant-loop-row l = record {
   chosen : l.chosen.items ≡ l.fn.chosen.items;
   small : length l.found.items ≤ most_rows;
   found : l.found.items ≡ l.fn.found.items
-      ++ flat_map (λ row. found_behind l.query (map option_copied l.fn.chosen.items ++ Some row ∷ []) (map (λ rows. rows.now) l.rest))
+      ++ flat_map (λ row. found_behind l.query (rows_read (λ r. r.now) l.fn.chosen.items ++ Some row ∷ []) (map (λ rows. rows.now) l.rest))
       (take l.row-index l.rows);
 }

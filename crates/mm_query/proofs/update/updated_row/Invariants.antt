@@ -5,7 +5,8 @@ use Rattle.mm_query.proofs.update.updated_row.Given as goal
 
 -- what was computed so far, and then the rest of the new row; none of the former is past the range
 abbrev pub invariant-loop-column : goal.invariant-loop-column
-invariant-loop-column l = record {
-  rest : l.values.items ++ updated_from l.assignments l.row l.column (drop l.column l.row) ≡ updated_row l.assignments l.row;
+invariant-loop-column g l = record {
+  rest : l.values.items ++ updated_from l.assignments (g.R.AsRow.row l.row) l.column (drop l.column (g.R.AsRow.row l.row))
+      ≡ updated_row l.assignments (g.R.AsRow.row l.row);
   in_range : list_any is_past_range l.values.items ≡ false;
 }

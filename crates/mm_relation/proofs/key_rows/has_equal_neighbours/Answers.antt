@@ -7,6 +7,7 @@ use Rattle.mm_relation.proofs.Duplicates.{duplicates_from_neighbours}
 use Rattle.mm_relation.proofs.key_rows.has_equal_neighbours.Goals as goal
 
 pub returns : goal.returns
-returns c =
-    duplicates_from_neighbours (λ r. r.now) c.args.key c.args.rows.now c.requires c.is_sorted_by.result
-    (c.is_sorted_by.ensures.cases (λ a b. is_lt (column_cmp c.args.key a.now b.now)) (always_returns_same _ _ _ (λ a r f k. search rules)))
+returns g c =
+    let row = g.R.AsRow.row in
+    duplicates_from_neighbours row c.args.key c.args.rows.now c.requires c.is_sorted_by.result
+    (c.is_sorted_by.ensures.cases (λ a b. is_lt (column_cmp c.args.key (row a) (row b))) (always_returns_same _ _ _ (λ a r f k. search rules)))

@@ -3,9 +3,9 @@ use Rattle.std.proofs.lemmas.List.{map_push}
 use Rattle.mm_value.specs.declared.row_ref.RowRef.{RowRef}
 use Rattle.mm_value.specs.declared.values.Value.{Value}
 use Rattle.mm_partition.specs.Places.{slot_at}
+use Rattle.mm_partition.specs.Views.{viewed}
 use Rattle.mm_relation.specs.declared.indexes.names.Side.TheVariants.{Old}
 use Rattle.mm_relation.specs.Edits.{edit_name, edit_other}
-use Rattle.mm_relation.specs.KeyRows.{rows_of}
 use Rattle.mm_relation.specs.Moves.{moved}
 use Rattle.mm_relation.specs.Refs.{HasRow, row_in, row_at}
 use Rattle.mm_relation.proofs.Gathered.{gathered_some, gathered_none, All-gathered}
@@ -38,9 +38,9 @@ loop-edit-preserved c =
           c.edit-item.result w.in-Some.at c.loop-edit-test.true c.edit-item.is
           (sym c.moved_name.ensures ∙ w.in-Some.is) in
           rw w.rows-is
-          (ap rows_of w.in_ok-push.ensures.items
-          ∙ (map_push (λ r. r.now) c.loop-edit.rows.items w.get.result
-          ∙ (ap (λ xs. xs ++ w.get.result.now ∷ []) c.loop-edit.invariant
+          (ap (map viewed) w.in_ok-push.ensures.items
+          ∙ (map_push viewed c.loop-edit.rows.items w.get.result
+          ∙ (ap (λ xs. xs ++ viewed w.get.result ∷ []) c.loop-edit.invariant
           ∙ (ap (λ x. map f (moving edit_name edit_other c.args.key c.args.key (slot_at c.args.places.now) Old (take c.loop-edit.edit-index c.args.edits.now))
           ++ x ∷ []) (sym (ap row_in w.get.ensures))
           ∙ (sym (map_push f (moving edit_name edit_other c.args.key c.args.key (slot_at c.args.places.now) Old

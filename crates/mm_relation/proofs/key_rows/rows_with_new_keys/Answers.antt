@@ -1,8 +1,8 @@
-use Rattle.std.proofs.Common.{◌≡◌, [], ◌∷◌, ◌++◌, None, Some, sym, ap, ◌∙◌}
+use Rattle.std.proofs.Common.{◌≡◌, map, [], ◌∷◌, ◌++◌, None, Some, sym, ap, ◌∙◌}
 use Rattle.std.specs.Option.{option_copied}
 use Rattle.std.proofs.lemmas.List.{map_push}
 use Rattle.mm_partition.specs.Places.{slot_at}
-use Rattle.mm_relation.specs.KeyRows.{rows_of, row_with_new_key}
+use Rattle.mm_relation.specs.KeyRows.{row_with_new_key}
 use Rattle.mm_relation.specs.Edits.{edit_name}
 use Rattle.mm_relation.specs.Refs.{HasRow}
 use Rattle.mm_relation.specs.declared.indexes.names.Side.TheVariants.{Old}
@@ -23,7 +23,7 @@ loop-edit-preserved c =
           let gives : row_with_new_key c.args.key (slot_at c.args.places.now) c.edit-item.result ≡ Some w.in-Some.row.now = sym c.row_with_new_key.ensures
           ∙ ap (λ o. option_copied o) w.in-Some.is in
           rw w.rows-is
-          (ap rows_of w.in_ok-push.ensures.items
+          (ap (map (λ r. r.now)) w.in_ok-push.ensures.items
           ∙ (map_push (λ r. r.now) c.loop-edit.rows.items w.in-Some.row
           ∙ (ap (λ xs. xs ++ w.in-Some.row.now ∷ []) c.loop-edit.invariant
           ∙ sym (gathered_some (row_with_new_key c.args.key (slot_at c.args.places.now)) c.args.edits.now c.loop-edit.edit-index c.edit-item.result

@@ -8,6 +8,7 @@ use Rattle.mm_schema.proofs.Duplicates.{column_cmp_total}
 use Rattle.mm_relation.proofs.key_rows.sort_by_key.Goals as goal
 
 pub returns-clause-sorted : goal.returns-clause-sorted
-returns-clause-sorted c =
-    c.sort_unstable_by.ensures.sorted (λ a b. is_lt (column_cmp c.args.key a.now b.now)) (ranks_by (column_cmp_total c.args.key) (λ r. r.now))
+returns-clause-sorted g c =
+    let row = g.R.AsRow.row in
+    c.sort_unstable_by.ensures.sorted (λ a b. is_lt (column_cmp c.args.key (row a) (row b))) (ranks_by (column_cmp_total c.args.key) row)
     (always_returns_same _ _ _ (λ a r f k. search rules))

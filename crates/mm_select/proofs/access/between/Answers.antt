@@ -20,7 +20,8 @@ returns-clause-along c = λ stored at.
     subst (AreAlong stored (access.Range c.args.index c.args.column c.args.low c.args.high)) (sym c.from_vec.ensures.items)
     (range_along stored (table_seen c.args.view.now c.args.table stored at).kept c.args.index c.args.column c.args.low c.args.high c.new-found.result.items
     c.range.new.out.items
-    (c.requires.served stored at) c.new-found.ensures.items (c.in_ok-range.ensures.ok stored c.args.column at (c.requires.served stored at).0))
+    (c.requires.served stored at) c.new-found.ensures.items
+    (rw (c.end_ref.ensures, c.end_ref-2.ensures) at (c.in_ok-range.ensures.ok stored c.args.column at (c.requires.served stored at).0)))
 
 pub returns-clause-ordered : goal.returns-clause-ordered
 returns-clause-ordered c = λ stored at ordered.
@@ -28,7 +29,7 @@ returns-clause-ordered c = λ stored at ordered.
     c.from_vec.ensures.items
     ∙ range_in_order stored (table_seen c.args.view.now c.args.table stored at).kept c.args.index c.args.column c.args.low c.args.high c.range.new.out.items on
     (appended (IsRange c.args.column stored (option_copied c.args.low) (option_copied c.args.high)) c.new-found.result.items c.range.new.out.items
-    c.new-found.ensures.items (c.in_ok-range.ensures.ok stored c.args.column at on.0)) ordered
+    c.new-found.ensures.items (rw (c.end_ref.ensures, c.end_ref-2.ensures) at (c.in_ok-range.ensures.ok stored c.args.column at on.0))) ordered
 
 pub returns-clause-live : goal.returns-clause-live
 returns-clause-live c = λ stored at.

@@ -16,7 +16,7 @@ returns-clause-along c = λ stored at.
     subst (AreAlong stored (access.Equal c.args.index c.args.column c.args.value)) (sym c.from_vec.ensures.items)
     (equal_along stored (table_seen c.args.view.now c.args.table stored at).kept c.args.index c.args.column c.args.value c.new-found.result.items
     c.matches.new.out.items (c.requires.served stored at) c.new-found.ensures.items
-    (c.in_ok-matches.ensures.ok stored c.args.column at (c.requires.served stored at)))
+    (rw c.as_ref.ensures at (c.in_ok-matches.ensures.ok stored c.args.column at (c.requires.served stored at))))
 
 pub returns-clause-live : goal.returns-clause-live
 returns-clause-live c = λ stored at.

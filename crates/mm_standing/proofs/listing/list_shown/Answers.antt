@@ -1,9 +1,10 @@
 -- The values are those of the rows that are shown, and these are as wide as the query.
 use Rattle.std.proofs.Common.{◌≡◌, ◌*◌, ◌++◌, List, length, sym, ap, ◌∙◌}
-use Rattle.std.specs.Borrow.{Bor}
 use Rattle.std.specs.List.{All}
 use Rattle.std.proofs.lemmas.List.{length-map}
 use Rattle.std.proofs.lemmas.Result.{IfOk-weaker}
+use Rattle.mm_value.specs.Views.{value_of}
+use Rattle.mm_value.specs.declared.value_ref.ValueRef.{ValueRef}
 use Rattle.mm_value.specs.declared.values.Value.{Value}
 use Rattle.mm_schema.specs.Sorting.{in_order}
 use Rattle.mm_query.specs.Queries.{rows_by_columns}
@@ -23,13 +24,13 @@ wide c =
     rows_wide c.args.query.now c.args.query.now.distinct c.args.bag.now.entries c.requires.0 c.count_shown-count.ensures.once c.requires.1
 
 values_are : (c : In_ok-push_entries) → referred c.push_entries.new.values.items ≡ values_in_turn (rows_of c)
-values_are c = c.in_ok-push_entries.ensures ∙ ap (λ (refs : List (Bor Value)). referred refs ++ values_in_turn (rows_of c)) c.in_ok-values.ensures.items
+values_are c = c.in_ok-push_entries.ensures ∙ ap (λ (refs : List ValueRef). referred refs ++ values_in_turn (rows_of c)) c.in_ok-values.ensures.items
 
 pub sorted-requires : goal.sorted-requires
 sorted-requires c =
     let w = (goal.at.sorted-requires c).In_ok-push_entries in
-    let refs : List (Bor Value) = c.push_entries.new.values.items in
-    let long = length-map refs (λ (value : Bor Value). value.now) in
+    let refs : List ValueRef = c.push_entries.new.values.items in
+    let long = length-map refs value_of in
     let are = ap (λ (values : List Value). length values) (values_are w) in
     let turn = length_in_turn (length c.args.query.now.fields) (rows_of w) (wide w) in
     sym long ∙ are ∙ turn ∙ (λ k. sym c.count_shown-count.ensures.count k * length (sym c.as_slice-width.ensures k))

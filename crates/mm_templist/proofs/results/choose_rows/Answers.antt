@@ -1,6 +1,7 @@
 use Rattle.std.proofs.Common.{◌≡◌, ◌+◌, ◌<◌, ◌≤◌, ◌++◌, ◌∷◌, [], Some, get_or, length, map, refl, sym, ap, ◌∙◌, subst, arith}
 use Rattle.std.specs.Prelude.{slice_get}
 use Rattle.std.proofs.lemmas.List.{take_all}
+use Rattle.mm_partition.specs.Views.{viewed}
 use Rattle.mm_query.proofs.PlainEval.{pushed_front}
 use Rattle.mm_store.specs.Tables.{IsAt, Tables}
 use Rattle.mm_templist.specs.Combos.{rows_of_combo}
@@ -30,16 +31,16 @@ loop-i-preserved c =
     let rows = rows_of_combo store c.args.tables.now c.args.combo.now in
     let table = get_or c.args.tables.now c.loop-i.i 0 in
     let there = there_at store c.args.tables.now c.args.combo.now c.loop-i.i 0 (record { part = 0; slot = 0 }) c.requires c.loop-i-test.true in
-    let here : slice_get rows c.loop-i.i ≡ Some c.row.result.now =
+    let here : slice_get rows c.loop-i.i ≡ Some (viewed c.row.result) =
     row_in_place store c.args.tables.now c.args.combo.now c.loop-i.i 0 (record { part = 0; slot = 0 }) c.requires c.loop-i-test.true
-    ∙ ap Some (row_is_found store _ _ c.row.result.now there
+    ∙ ap Some (row_is_found store _ _ (viewed c.row.result) there
     (λ stored is. c.row.ensures.row stored (subst (λ (s : Tables). IsAt s table stored) (sym c.loop-i.invariant.same) is))) in
     let counted = c.row.ensures.counted in
     let more : c.row.new.self.reads ≤ c.args.view.now.reads + (c.loop-i.i + 1) = omega (arith, counted, c.loop-i.invariant.reads) in
-    let pushed = pushed_front c.loop-i.chosen.items c.loop-i.chosen.items c.push.new.self.items (Some c.row.result) c.in_ok-push.ensures.ok refl in
+    let pushed = pushed_front viewed c.loop-i.chosen.items c.loop-i.chosen.items c.push.new.self.items (Some c.row.result) c.in_ok-push.ensures.ok refl in
     record {
       same = c.row.ensures.same ∙ c.loop-i.invariant.same;
-      rows = pushed ∙ (ap (λ l. l ++ Some c.row.result.now ∷ []) c.loop-i.invariant.rows ∙ sym (next_row rows c.loop-i.i c.row.result.now here));
+      rows = pushed ∙ (ap (λ l. l ++ Some (viewed c.row.result) ∷ []) c.loop-i.invariant.rows ∙ sym (next_row rows c.loop-i.i (viewed c.row.result) here));
       reads = more;
     }
 

@@ -1,6 +1,7 @@
 use Rattle.std.proofs.Common.{◌≡◌, List, length, sym, ◌∙◌, arith}
 use Rattle.std.specs.Ordering.{nat_cmp}
 use Rattle.std.proofs.lemmas.List.{length-map}
+use Rattle.mm_value.specs.Views.{value_of}
 use Rattle.mm_value.specs.declared.values.Value.{Value}
 use Rattle.mm_templist.specs.Runs.{referred}
 use Rattle.std.proofs.lemmas.Bool.{ltb-false, ltb-true}
@@ -29,8 +30,8 @@ pub returns : goal.returns
 returns c =
     let a : List Value = referred c.args.a.now in
     let b : List Value = referred c.args.b.now in
-    let long_a : length a ≡ length c.args.a.now = length-map c.args.a.now (λ value. value.now) in
-    let long_b : length b ≡ length c.args.b.now = length-map c.args.b.now (λ value. value.now) in
+    let long_a : length a ≡ length c.args.a.now = length-map c.args.a.now value_of in
+    let long_b : length b ≡ length c.args.b.now = length-map c.args.b.now value_of in
     c.cmp.ensures
     ∙ ((λ k. nat_cmp (sym long_a k) (sym long_b k))
     ∙ lengths_decide c.loop-i.i a b c.loop-i.invariant (omega (arith, long_a, c.loop-i.auto.i-end)) (omega (arith, long_a, c.loop-i-test.false)))

@@ -1,8 +1,8 @@
 use Rattle.std.proofs.Common.{◌≡◌, ◌≤◌, ◌*◌, ◌++◌, ◌∷◌, [], All, List, Some, length, map, sym, ap, ◌∙◌, subst, arith}
-use Rattle.std.specs.Borrow.{Bor}
 use Rattle.std.specs.Prelude.{slice_get}
 use Rattle.std.proofs.lemmas.List.{map_push, take_all}
 use Rattle.std.proofs.lemmas.List.Elements.{All-push}
+use Rattle.mm_value.specs.declared.value_ref.ValueRef.{ValueRef}
 use Rattle.mm_value.specs.declared.values.Value.{Value}
 use Rattle.mm_query.specs.Queries.{sort_key}
 use Rattle.mm_templist.specs.Pieces.{pieces}
@@ -17,7 +17,7 @@ use Rattle.mm_templist.proofs.shown.placed_rows.Goals as goal
 pub loop-i-preserved : goal.loop-i-preserved
 loop-i-preserved c =
     let width = c.args.width in
-    let refs : List (Bor Value) = c.args.values.now in
+    let refs : List ValueRef = c.args.values.now in
     let row : Placed → List Value = placed_row width refs in
     let placed : Placed = record { prefix = c.leading_prefix-prefix.result; start = c.loop-i.i * width } in
     let all : List (List Value) = pieces width c.args.count (referred refs) in

@@ -2,9 +2,11 @@
 use Rattle.std.proofs.Common.{◌<◌, ◌++◌, [], ◌∷◌, length, slice_get, take, ap, ◌∙◌, subst, sym, arith}
 use Rattle.std.proofs.lemmas.List.{take_all, take_more}
 use Rattle.mm_partition.specs.Places.{slot_at}
+use Rattle.mm_partition.specs.Views.{viewed}
 use Rattle.mm_relation.specs.Refs.{row_in}
 use Rattle.mm_relation.specs.declared.edits.Edit.{Edit}
 use Rattle.mm_store.specs.Tables.{IsAt, Tables}
+use Rattle.mm_value.specs.Views.{value_of}
 use Rattle.mm_txn.specs.Cascades.{AddsReferrers}
 use Rattle.mm_txn.proofs.CascadeFinds.{gone_live, is_cascaded_by_at}
 use Rattle.mm_txn.proofs.CascadeTables.{fits_within}
@@ -64,13 +66,13 @@ loop-edit-preserved c = record {
             let told = w.in_ok-matches.ensures.ok stored cascade.column seen (c.requires.index stored at) in
             let row = w.row.ensures.row target (subst (λ (s : Tables). IsAt s cascade.to target) (sym same) there) in
             let has = ap (λ content. slice_get (row_in content) target.key) row
-            ∙ ap (slice_get w.row.result.now) (sym (c.key_of-column.ensures.key target there)) ∙ w.value-key.ensures in
+            ∙ ap (slice_get (viewed w.row.result)) (sym (c.key_of-column.ensures.key target there)) ∙ w.value-key.ensures in
             subst (λ es. AddsReferrers stored (tests cascade.column target.key (rows_taken (slot_at target.places) es)) c.args.found.now.items
             c.match-row_gone.found.items)
             (sym more)
             (rw w.found-is (matches_added stored cascade.column target.key (slot_at target.places) (take k cascade.gone.now)
             c.edit-item.result c.args.found.now.items c.loop-edit.found.items was w.in-Some.at (sym c.row_gone.ensures ∙ w.in-Some.is)
-            w.value-key.result.now has told.0 _ told.1 told.2 (w.in_ok-matches.ensures.live stored seen)))
+            (value_of w.value-key.result) has told.0 _ told.1 told.2 (w.in_ok-matches.ensures.live stored seen)))
         | in_default w ↦
             subst (λ es. AddsReferrers stored (tests cascade.column target.key (rows_taken (slot_at target.places) es)) c.args.found.now.items
             c.match-row_gone.found.items)

@@ -5,6 +5,7 @@ use Rattle.std.proofs.lemmas.List.{map-append, take_all}
 use Rattle.std.proofs.lemmas.List.Elements.{All-get_or}
 use Rattle.std.proofs.lemmas.Result.{err_from_is_err_and}
 use Rattle.mm_partition.specs.Places.{IsLive, slot_at}
+use Rattle.mm_partition.specs.Views.{viewed}
 use Rattle.mm_query.specs.Atoms.{is_past_range, updated_row}
 use Rattle.mm_query.specs.Binding.{AssignmentsWithin}
 use Rattle.mm_relation.specs.Kept.{StoredRows}
@@ -54,7 +55,7 @@ loop-at-preserved c =
           ∙ (sym (map-append swaps (take i refs) (at ∷ [])) ∙ ap (map swaps) more)));
       in_range = λ stored here.
           subst (λ rs. list_any is_past_range (values_of (slot_at stored.places) assignments rs) ≡ false) more
-          (none_more (slot_at stored.places) assignments (take i refs) at c.row.result.now (is stored here) (c.loop-at.invariant.in_range stored here)
+          (none_more (slot_at stored.places) assignments (take i refs) at (viewed c.row.result) (is stored here) (c.loop-at.invariant.in_range stored here)
           c.in_ok-swap.ensures.due);
     }
 
@@ -67,7 +68,7 @@ returns-in_err-swap-clause-due c = λ stored here.
     let is = ap row_in (c.row.ensures.row stored (subst (λ (s : Tables). IsAt s c.args.table stored) (sym c.loop-at.invariant.same) here)) in
     rw (p.1, p.2)
     (elim c.in_err-swap.ensures.due [
-      | inl due ↦ inl (one_due (slot_at stored.places) c.args.assignments.now refs (take i refs) _ at c.row.result.now _ is
+      | inl due ↦ inl (one_due (slot_at stored.places) c.args.assignments.now refs (take i refs) _ at (viewed c.row.result) _ is
           (split_at refs i none c.loop-at-test.true) due)
       | inr memory ↦ inr memory
     ])

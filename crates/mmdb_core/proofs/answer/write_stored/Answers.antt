@@ -3,7 +3,7 @@ use Rattle.std.proofs.lemmas.Result.{err_from_is_err_and}
 use Rattle.mm_lang.proofs.BufferedLines.{buffered_end, buffered_front, buffered_more}
 use Rattle.mm_lang.proofs.ReplyLemmas.{count_line, row_line}
 use Rattle.mm_value.proofs.Writing.{Writes-nil, Writes-then, Writes-stops}
-use Rattle.mmdb_core.proofs.Walks.{behind, lines, lines_more, text_all, text_at}
+use Rattle.mmdb_core.proofs.Walks.{behind, first_of, lines, lines_more, text_all, text_at}
 use Rattle.mmdb_core.proofs.answer.write_stored.Goals as goal
 
 pub loop-row-init : goal.loop-row-init
@@ -16,19 +16,19 @@ pub returns-in_err-add_row : goal.returns-in_err-add_row
 returns-in_err-add_row g c =
     let p = err_from_is_err_and c.from_residual.result c.from_residual.ensures.1 in
     let rows = c.args.rows in
-    let row = c.in-Some.row.now in
+    let row = first_of c.in-Some.ensures in
     let rest = c.next.new.self in
     let read = c.loop-row.invariant.0 in
     let was = c.loop-row.invariant.2 in
     let line_buffered = c.in_err-add_row.ensures in
     let text = text_at rows read rest row (c.loop-row.invariant.1 ∙ ap (λ r. read ++ r) c.in-Some.ensures) in
-    let written = sym (buffered_front was.0 c.loop-row.lines line_buffered.0 (row_line row) (lines read) was.2 line_buffered.2) in
+    let written = sym (buffered_front was.0 c.loop-row.lines line_buffered.done (row_line row) (lines read) was.2 line_buffered.kept) in
     Writes-stops (behind rest (length rows)) (text ∙ ap (λ l. l ++ behind rest (length rows)) written) p.1
-    (Writes-then {result = Err c.in_err-add_row.field-0.0} refl was.1 line_buffered.1)
+    (Writes-then {result = Err c.in_err-add_row.field-0.0} refl was.1 line_buffered.written)
 
 pub loop-row-preserved : goal.loop-row-preserved
 loop-row-preserved g c =
-    let row = c.in-Some.row.now in
+    let row = first_of c.in-Some.ensures in
     let rest = c.next.new.self in
     let read = c.loop-row.invariant.0 in
     let was = c.loop-row.invariant.2 in
@@ -36,9 +36,10 @@ loop-row-preserved g c =
       read ++ row ∷ [],
       c.loop-row.invariant.1 ∙ ap (λ r. read ++ r) c.in-Some.ensures ∙ sym (append_assoc read (row ∷ []) rest),
       (
-        was.0 ++ line_buffered.0,
-        Writes-then refl was.1 line_buffered.1,
-        buffered_more was.0 c.loop-row.lines line_buffered.0 c.add_row.new.self (row_line row) (lines read) was.2 line_buffered.2 ∙ sym (lines_more read row),
+        was.0 ++ line_buffered.done,
+        Writes-then refl was.1 line_buffered.written,
+        buffered_more was.0 c.loop-row.lines line_buffered.done c.add_row.new.self (row_line row) (lines read) was.2 line_buffered.kept
+            ∙ sym (lines_more read row),
       ),
     )
 

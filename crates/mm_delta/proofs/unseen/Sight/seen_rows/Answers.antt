@@ -1,4 +1,5 @@
 use Rattle.std.proofs.Common.{◌+◌, [], map, ◌∙◌, subst, sym, arith}
+use Rattle.mm_partition.specs.Reads.{row_read}
 use Rattle.mm_partition.specs.Places.{IsLive, slot_at}
 use Rattle.mm_relation.specs.Edits.{edit_name}
 use Rattle.mm_relation.specs.declared.indexes.names.Side.TheVariants.{Old}
@@ -30,12 +31,12 @@ loop-edit-preserved c = record {
   same = c.in_ok-add_seen.ensures.same ∙ c.loop-edit.invariant.same;
   gone = λ stored at.
       coming_more (gone_seen c.args.self.now.query.now c.args.self.now.place (slot_at stored.places)) c.args.edits.now c.loop-edit.edit-index c.edit-item.result
-      [] (map (λ row. row.now) c.loop-edit.seen.gone.items) (map (λ row. row.now) c.add_seen.new.seen.gone.items) c.loop-edit-test.true c.edit-item.is
+      [] (map row_read c.loop-edit.seen.gone.items) (map row_read c.add_seen.new.seen.gone.items) c.loop-edit-test.true c.edit-item.is
       (c.loop-edit.invariant.gone stored at)
       (c.in_ok-add_seen.ensures.gone stored (subst (λ s. IsAt s c.args.table stored) (sym c.loop-edit.invariant.same) at));
   come = λ stored at.
       coming_more (come_seen c.args.self.now.query.now c.args.self.now.place (slot_at stored.places)) c.args.edits.now c.loop-edit.edit-index c.edit-item.result
-      [] (map (λ row. row.now) c.loop-edit.seen.come.items) (map (λ row. row.now) c.add_seen.new.seen.come.items) c.loop-edit-test.true c.edit-item.is
+      [] (map row_read c.loop-edit.seen.come.items) (map row_read c.add_seen.new.seen.come.items) c.loop-edit-test.true c.edit-item.is
       (c.loop-edit.invariant.come stored at)
       (c.in_ok-add_seen.ensures.come stored (subst (λ s. IsAt s c.args.table stored) (sym c.loop-edit.invariant.same) at));
   reads = omega (

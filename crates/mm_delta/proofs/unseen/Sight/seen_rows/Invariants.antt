@@ -1,5 +1,6 @@
 use Rattle.std.proofs.Common.{◌≡◌, ◌≤◌, ◌+◌, length, map, take}
 use Rattle.std.specs.List.{filter_map}
+use Rattle.mm_partition.specs.Reads.{row_read}
 use Rattle.mm_partition.specs.Places.{slot_at}
 use Rattle.mm_relation.specs.Edits.{edit_name, named}
 use Rattle.mm_relation.specs.Kept.{StoredRows}
@@ -12,9 +13,9 @@ use Rattle.mm_delta.proofs.unseen.Sight.seen_rows.Given as goal
 abbrev pub invariant-loop-edit : goal.invariant-loop-edit
 invariant-loop-edit l = record {
   same : l.view.store ≡ l.fn.view.store;
-  gone : (stored : StoredRows) → IsAt l.fn.view.store l.table stored → map (λ row. row.now) l.seen.gone.items
+  gone : (stored : StoredRows) → IsAt l.fn.view.store l.table stored → map row_read l.seen.gone.items
       ≡ filter_map (gone_seen l.self.query.now l.self.place (slot_at stored.places)) (take l.edit-index l.edits);
-  come : (stored : StoredRows) → IsAt l.fn.view.store l.table stored → map (λ row. row.now) l.seen.come.items
+  come : (stored : StoredRows) → IsAt l.fn.view.store l.table stored → map row_read l.seen.come.items
       ≡ filter_map (come_seen l.self.query.now l.self.place (slot_at stored.places)) (take l.edit-index l.edits);
   reads : l.view.reads ≤ l.fn.view.reads + length (named edit_name Old (take l.edit-index l.edits));
 }

@@ -1,5 +1,6 @@
 use Rattle.std.proofs.Common.{◌≡◌, ◌+◌, ◌≤◌, Some, List, set, length, map, take}
 use Rattle.std.specs.List.{sum_by}
+use Rattle.mm_partition.specs.Reads.{row_read}
 use Rattle.mm_value.specs.declared.values.Value.{Value}
 use Rattle.mm_multiset.specs.Counts.{count_in, count_of}
 use Rattle.mm_delta.specs.Edited.{walked}
@@ -16,9 +17,9 @@ invariant-loop-row l = record {
   counted : (other : List Value) → count_in other l.out.entries ≡ count_in other l.fn.out.entries
       + sum_by (λ row. count_of other (found l.fn.self.query.now (walked l.fn.view.store l.fn.self.changes.now l.fn.self.tables.now l.fn.self.place) l.rest
       (set l.chosen l.place (Some row))))
-      (map (λ row. row.now) (take l.row-index l.row-items));
+      (map row_read (take l.row-index l.row-items));
   reads : l.view.reads ≤ l.initial.view.reads
       + sum_by (λ row. reads_for l.fn.self.query.now l.fn.view.store l.fn.self.changes.now l.fn.self.tables.now l.fn.self.place l.rest
       (set l.chosen l.place (Some row)))
-      (map (λ row. row.now) (take l.row-index l.row-items));
+      (map row_read (take l.row-index l.row-items));
 }

@@ -1,6 +1,7 @@
 use Rattle.std.proofs.Common.{◌∙◌, All, length, map, get_or, ap, subst, sym, arith}
 use Rattle.std.specs.List.{filter_map, sum_by}
 use Rattle.std.proofs.lemmas.Result.{on_ok_weaker}
+use Rattle.mm_partition.specs.Reads.{row_read}
 use Rattle.mm_partition.specs.Places.{slot_at}
 use Rattle.mm_store.proofs.Joining.{some_at}
 use Rattle.mm_store.specs.Tables.{AreFit}
@@ -42,9 +43,9 @@ from_rows-requires-clause-edited c =
     let at = some_at c.args.view.now.store.tables table (c.requires.there k 0 c.requires.place) in
     let Row = IsRowOf c.args.view.now.store c.args.self.now.changes.now table in
     let edits = edits_at c.args.self.now.changes.now table in
-    subst (λ s. All (IsRowOf s c.args.self.now.changes.now table) (map (λ row. row.now) c.deref.result.now)) (sym c.in_ok-seen.ensures.same)
+    subst (λ s. All (IsRowOf s c.args.self.now.changes.now table) (map row_read c.deref.result.now)) (sym c.in_ok-seen.ensures.same)
     (subst (All Row)
-    (sym (ap (map (λ row. row.now)) c.deref.ensures.value ∙ c.in_ok-seen.ensures.gone at.0 at.1
+    (sym (ap (map row_read) c.deref.ensures.value ∙ c.in_ok-seen.ensures.gone at.0 at.1
     ∙ ap (filter_map (gone_seen q k (slot_at at.0.places))) c.edits_of-edits.ensures))
     (among_gone q k (slot_at at.0.places) Row edits (subst (All Row) (gone_is c.args.view.now.store c.args.self.now.changes.now table at.0 at.1)
     (gone_are_rows c.args.view.now c.args.self.now.changes.now table at.0 at.1 c.requires.fit))))
@@ -72,10 +73,10 @@ from_rows-requires-2-clause-edited c =
     let at = some_at c.args.view.now.store.tables table (c.requires.there k 0 c.requires.place) in
     let Row = IsRowOf c.args.view.now.store c.args.self.now.changes.now table in
     let edits = edits_at c.args.self.now.changes.now table in
-    subst (λ s. All (IsRowOf s c.args.self.now.changes.now table) (map (λ row. row.now) c.deref-2.result.now))
+    subst (λ s. All (IsRowOf s c.args.self.now.changes.now table) (map row_read c.deref-2.result.now))
     (sym (c.in_ok-from_rows.ensures.same ∙ c.in_ok-seen.ensures.same))
     (subst (All Row)
-    (sym (ap (map (λ row. row.now)) c.deref-2.ensures.value ∙ c.in_ok-seen.ensures.come at.0 at.1
+    (sym (ap (map row_read) c.deref-2.ensures.value ∙ c.in_ok-seen.ensures.come at.0 at.1
     ∙ ap (filter_map (come_seen q k (slot_at at.0.places))) c.edits_of-edits.ensures))
     (among_come q k (slot_at at.0.places) Row edits
     (come_are_rows c.args.view.now c.args.self.now.changes.now table at.0 at.1 c.requires.fit)))
@@ -95,14 +96,14 @@ returns-clause-net c =
     net_count q store changes tables k at.0 c.requires.place at.1 row (count_in row c.args.comes.now.entries) (count_in row c.from_rows-2.new.out.entries)
     (count_in row c.args.goes.now.entries) (count_in row c.from_rows.new.out.entries)
     (term_count q store c.seen_rows.new.view.store changes tables k row (seen_gone q k (slot_at at.0.places) edits)
-    (map (λ row. row.now) c.deref.result.now) (count_in row c.args.goes.now.entries) (count_in row c.from_rows.new.out.entries) c.in_ok-seen.ensures.same
-    (ap (map (λ row. row.now)) c.deref.ensures.value ∙ c.in_ok-seen.ensures.gone at.0 at.1
+    (map row_read c.deref.result.now) (count_in row c.args.goes.now.entries) (count_in row c.from_rows.new.out.entries) c.in_ok-seen.ensures.same
+    (ap (map row_read) c.deref.ensures.value ∙ c.in_ok-seen.ensures.gone at.0 at.1
     ∙ ap (filter_map (gone_seen q k (slot_at at.0.places))) c.edits_of-edits.ensures)
     (c.in_ok-from_rows.ensures.counted row))
     (term_count q store c.from_rows.new.view.store changes tables k row (seen_come q k (slot_at at.0.places) edits)
-    (map (λ row. row.now) c.deref-2.result.now) (count_in row c.args.comes.now.entries) (count_in row c.from_rows-2.new.out.entries)
+    (map row_read c.deref-2.result.now) (count_in row c.args.comes.now.entries) (count_in row c.from_rows-2.new.out.entries)
     (c.in_ok-from_rows.ensures.same ∙ c.in_ok-seen.ensures.same)
-    (ap (map (λ row. row.now)) c.deref-2.ensures.value ∙ c.in_ok-seen.ensures.come at.0 at.1
+    (ap (map row_read) c.deref-2.ensures.value ∙ c.in_ok-seen.ensures.come at.0 at.1
     ∙ ap (filter_map (come_seen q k (slot_at at.0.places))) c.edits_of-edits.ensures)
     (counted row)))
     c.from_rows-2.ensures.counted
@@ -135,9 +136,9 @@ returns-in_err-from_rows-clause-reads c = λ skipped only.
       arith,
       c.in_ok-seen.ensures.reads,
       c.in_err-from_rows.ensures.reads skipped only,
-      reads_same q store c.seen_rows.new.view.store changes tables skipped k (map (λ row. row.now) c.deref.result.now) (seen_gone q k slots edits)
+      reads_same q store c.seen_rows.new.view.store changes tables skipped k (map row_read c.deref.result.now) (seen_gone q k slots edits)
           c.in_ok-seen.ensures.same
-          (ap (map (λ row. row.now)) c.deref.ensures.value ∙ c.in_ok-seen.ensures.gone at.0 at.1
+          (ap (map row_read) c.deref.ensures.value ∙ c.in_ok-seen.ensures.gone at.0 at.1
           ∙ ap (filter_map (gone_seen q k slots)) c.edits_of-edits.ensures),
       fewer_gone q k slots reads edits,
       ap (sum_by reads) (gone_is store changes table at.0 at.1),
@@ -162,15 +163,15 @@ returns-clause-reads c = λ skipped only.
       c.in_ok-seen.ensures.reads,
       c.in_ok-from_rows.ensures.reads skipped only,
       c.from_rows-2.ensures.reads skipped only,
-      reads_same q store c.seen_rows.new.view.store changes tables skipped k (map (λ row. row.now) c.deref.result.now) (seen_gone q k slots edits)
+      reads_same q store c.seen_rows.new.view.store changes tables skipped k (map row_read c.deref.result.now) (seen_gone q k slots edits)
           c.in_ok-seen.ensures.same
-          (ap (map (λ row. row.now)) c.deref.ensures.value ∙ c.in_ok-seen.ensures.gone at.0 at.1
+          (ap (map row_read) c.deref.ensures.value ∙ c.in_ok-seen.ensures.gone at.0 at.1
           ∙ ap (filter_map (gone_seen q k slots)) c.edits_of-edits.ensures),
       fewer_gone q k slots reads edits,
       ap (sum_by reads) (gone_is store changes table at.0 at.1),
-      reads_same q store c.from_rows.new.view.store changes tables skipped k (map (λ row. row.now) c.deref-2.result.now) (seen_come q k slots edits)
+      reads_same q store c.from_rows.new.view.store changes tables skipped k (map row_read c.deref-2.result.now) (seen_come q k slots edits)
           (c.in_ok-from_rows.ensures.same ∙ c.in_ok-seen.ensures.same)
-          (ap (map (λ row. row.now)) c.deref-2.ensures.value ∙ c.in_ok-seen.ensures.come at.0 at.1
+          (ap (map row_read) c.deref-2.ensures.value ∙ c.in_ok-seen.ensures.come at.0 at.1
           ∙ ap (filter_map (come_seen q k slots)) c.edits_of-edits.ensures),
       fewer_come q k slots reads edits,
       gone_length store changes table at.0 at.1 c.edits_of-edits.result.now c.edits_of-edits.ensures,

@@ -1,6 +1,7 @@
 use Rattle.std.proofs.Common.{◌++◌, ◌∙◌, ap, get_or, map, subst, sym, arith}
 use Rattle.std.specs.List.{All}
 use Rattle.std.proofs.lemmas.List.Elements.{All-filter}
+use Rattle.mm_partition.specs.Reads.{row_read}
 use Rattle.mm_partition.specs.Places.{IsLive, slot_at}
 use Rattle.mm_relation.specs.Refs.{row_at}
 use Rattle.mm_store.proofs.Joining.{some_at}
@@ -56,7 +57,7 @@ returns-clause-rows c =
     let at = some_at c.args.view.now.store.tables (get_or c.args.self.now.tables.now c.args.place 0) c.requires.there.1 in
     let r = asked c.in_ok-look_up.look_up in
     let edits = (overlay_edits c.edits_at-edits.result) in
-    subst (AreAlike (map (λ row. row.now) c.add_coming.new.rows.items))
+    subst (AreAlike (map row_read c.add_coming.new.rows.items))
     (λ i. having (c.in_ok-look_up.ensures.ok i)
     ((ap (rows_with at.0) c.edits_at-edits.ensures ∙ sym (walked_is c.args.view.now.store c.args.self.now.changes.now c.args.self.now.tables.now
     c.args.self.now.place c.args.place at.0 at.1)) i))
@@ -64,6 +65,6 @@ returns-clause-rows c =
     (c.in_ok-refs.ensures at.0 at.1) edits
     (subst (AreFit at.0) (sym c.edits_at-edits.ensures) (fit_walked c.args.view.now.store c.args.self.now.changes.now c.args.self.now.place c.args.place
     (get_or c.args.self.now.tables.now c.args.place 0) at.0 c.requires.fit at.1))
-    (map (λ row. row.now) c.in_ok-rows.rows.items) (map (λ row. row.now) c.add_coming.new.rows.items)
+    (map row_read c.in_ok-rows.rows.items) (map row_read c.add_coming.new.rows.items)
     (c.in_ok-rows.ensures.rows at.0 at.1 ∙ ap (map (row_at (slot_at at.0.places))) (c.deref.ensures.value ∙ c.leave_standing.ensures))
-    (c.in_ok-add_coming.ensures ∙ ap (λ l. map (λ row. row.now) c.in_ok-rows.rows.items ++ l) (coming_all r edits)))
+    (c.in_ok-add_coming.ensures ∙ ap (λ l. map row_read c.in_ok-rows.rows.items ++ l) (coming_all r edits)))

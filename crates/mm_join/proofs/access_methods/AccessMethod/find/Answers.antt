@@ -1,5 +1,6 @@
 use Rattle.std.proofs.Common.{◌≡◌, ◌<◌, [], ◌∷◌, ◌++◌, Some, get_or, map, refl, sym, ap, ◌∙◌, subst, arith}
-use Rattle.std.specs.Option.{option_copied}
+use Rattle.mm_partition.specs.Views.{viewed}
+use Rattle.mm_query.specs.Queries.{rows_read}
 use Rattle.mm_partition.specs.Places.{IsLive}
 use Rattle.mm_relation.specs.Kept.{StoredRows}
 use Rattle.mm_store.proofs.Joining.{one_relation, some_at}
@@ -94,4 +95,4 @@ returns-in-Sought-clause-found c =
     subst (λ (w : AccessMethod). AreCandidates store inner.table inner.atoms.now rows (found_behind w (rows_at store.tables inner.table) rows)
     (listed w c.find_partners.new.found.items)) (sym c.in-Sought.is)
     (found_candidates c.args.view.now inner.table stored here inner.atoms.now outer.tables.now outer.refs.now c.requires.live
-    look_up.key method.0 look_up.among (map option_copied c.args.rows.now) c.requires.rows c.find_partners.new.found.items (finds stored here)))
+    look_up.key method.0 look_up.among (rows_read viewed c.args.rows.now) c.requires.rows c.find_partners.new.found.items (finds stored here)))

@@ -1,7 +1,8 @@
 use Rattle.std.proofs.Common.{◌≡◌, ◌+◌, ◌<◌, ◌≤◌, [], ◌++◌, List, Some, inl, inr, length, map, take, sym, ap, ◌∙◌, subst, arith}
 use Rattle.std.specs.List.{All, sum_by}
-use Rattle.std.specs.Option.{option_copied}
 use Rattle.std.proofs.lemmas.Result.{err_from_is_err_and}
+use Rattle.mm_partition.specs.Views.{viewed}
+use Rattle.mm_query.specs.Queries.{rows_read}
 use Rattle.mm_partition.specs.Places.{IsLive}
 use Rattle.mm_select.specs.Matches.{matches}
 use Rattle.mm_store.specs.Tables.{Tables, rows_at}
@@ -117,7 +118,7 @@ returns-in_err-add_all-clause-joins c = λ table is.
     let join = c.args.self.now in
     let outer = join.outer.now in
     let front = c.combo-refs.result.now in
-    let rows = map option_copied c.choose.new.rows.items in
+    let rows = rows_read viewed c.choose.new.rows.items in
     let inner = c.inner-inner.ensures table is.0 in
     let t : c.inner-inner.result.table ≡ table = ap (λ (x : Inner). x.table) inner in
     let same = c.choose.ensures.same ∙ c.loop-i.invariant.same in
@@ -177,7 +178,7 @@ loop-i-preserved c =
     let outer = join.outer.now in
     let front = c.combo-refs.result.now in
     let method = c.args.method.now in
-    let rows = map option_copied c.choose.new.rows.items in
+    let rows = rows_read viewed c.choose.new.rows.items in
     let table = c.requires.next.0 in
     let next = c.requires.next.1.0 in
     let all = c.requires.next.1.1 in

@@ -11,6 +11,7 @@ use Rattle.mm_relation.specs.Refs.{row_at}
 use Rattle.mm_select.proofs.Along.{appended}
 use Rattle.mm_value.specs.Hash.{value_hash}
 use Rattle.mm_value.specs.Prefix.{order_prefix}
+use Rattle.mm_value.specs.Views.{value_of}
 use Rattle.mm_value.specs.declared.row_ref.RowRef.{RowRef}
 use Rattle.mm_join.proofs.Found.{column_there, finds_matches, finds_taken, found_of_hash, run_of_walk}
 use Rattle.mm_join.proofs.Success.{on_success}
@@ -29,7 +30,7 @@ pub returns-in-Index-clause-found : goal.returns-in-Index-clause-found
 returns-in-Index-clause-found c =
     on_success _ _ c.matches.result c.matches.ensures.ok (λ ok. λ stored here.
     let column = c.args.self.now.key.column in
-    let value = c.args.value.now in
+    let value = value_of c.args.value in
     let kept = (table_seen c.args.view.now c.args.table stored here).kept in
     let on = subst (IsAmong stored column) c.in-Index.is (c.requires.among stored here) in
     subst (λ a. Finds stored column a value c.matches.new.out.items) (sym c.in-Index.is)
@@ -41,7 +42,7 @@ pub returns-in-Built-clause-found : goal.returns-in-Built-clause-found
 returns-in-Built-clause-found c =
     on_success _ _ c.matches-in-Built.result c.matches-in-Built.ensures.ok (λ added. λ stored here.
     let column = c.args.self.now.key.column in
-    let value = c.args.value.now in
+    let value = value_of c.args.value in
     let all = subst (IsAmong stored column) c.in-Built.is (c.requires.among stored here) in
     subst (λ a. Finds stored column a value c.matches-in-Built.new.out.items) (sym c.in-Built.is)
     (finds_taken stored column (among.Built c.in-Built.pairs) value (eq-eqb (value_hash value) (value_hash value) refl) c.matches-in-Built.new.out.items
@@ -55,7 +56,7 @@ pub returns-in-Walk-clause-found : goal.returns-in-Walk-clause-found
 returns-in-Walk-clause-found c =
     on_success _ _ c.find.result c.find.ensures.run (λ run. λ stored here.
     let column = c.args.self.now.key.column in
-    let value = c.args.value.now in
+    let value = value_of c.args.value in
     let (walk, same, is) = subst (IsAmong stored column) c.in-Walk.is (c.requires.among stored here) in
     subst (λ a. Finds stored column a value c.find.new.found.items) (sym c.in-Walk.is)
     (finds_taken stored column (among.Walk c.in-Walk.cursor) value (eq-eqb (order_prefix value) (order_prefix value) refl) c.find.new.found.items

@@ -20,10 +20,10 @@ returns-in_err-add_values g c =
     let at : row ≡ get_or rows i row = sym (get_or_from_slice_get rows i row row c.row.ensures) in
     let was = c.loop-i.invariant in
     let line_buffered = c.in_err-add_values.ensures in
-    let lines = row_lines_more rows i row within at ∙ sym (buffered_front was.0 c.loop-i.lines line_buffered.0 (row_line row)
-    (flat_map row_line (take i rows)) was.2 line_buffered.2) in
+    let lines = row_lines_more rows i row within at ∙ sym (buffered_front was.0 c.loop-i.lines line_buffered.done (row_line row)
+    (flat_map row_line (take i rows)) was.2 line_buffered.kept) in
     Writes-stops (text_behind (i + 1) rows) (rows_text_at rows (i + 1) ∙ ap (λ l. l ++ text_behind (i + 1) rows) lines) p.1
-    (Writes-then {result = Err c.in_err-add_values.field-0.0} refl was.1 line_buffered.1)
+    (Writes-then {result = Err c.in_err-add_values.field-0.0} refl was.1 line_buffered.written)
 
 pub loop-i-preserved : goal.loop-i-preserved
 loop-i-preserved g c =
@@ -34,9 +34,9 @@ loop-i-preserved g c =
     let at : row ≡ get_or rows i row = sym (get_or_from_slice_get rows i row row c.row.ensures) in
     let was = c.loop-i.invariant in
     let line_buffered = c.in_ok-add_values.ensures in (
-      was.0 ++ line_buffered.0,
-      Writes-then refl was.1 line_buffered.1,
-      buffered_more was.0 c.loop-i.lines line_buffered.0 c.add_values.new.self (row_line row) (flat_map row_line (take i rows)) was.2 line_buffered.2
+      was.0 ++ line_buffered.done,
+      Writes-then refl was.1 line_buffered.written,
+      buffered_more was.0 c.loop-i.lines line_buffered.done c.add_values.new.self (row_line row) (flat_map row_line (take i rows)) was.2 line_buffered.kept
           ∙ sym (row_lines_more rows i row within at),
     )
 

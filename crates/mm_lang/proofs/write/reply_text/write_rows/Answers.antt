@@ -16,9 +16,9 @@ loop-row-preserved g c =
     let was = c.loop-row.invariant in
     let line_buffered = c.in_ok-add_row.ensures in
     let line = row_line c.row-item.result in (
-      was.0 ++ line_buffered.0,
-      Writes-then refl was.1 line_buffered.1,
-      buffered_more was.0 c.loop-row.lines line_buffered.0 c.add_row.new.self line (flat_map row_line (take i rows)) was.2 line_buffered.2
+      was.0 ++ line_buffered.done,
+      Writes-then refl was.1 line_buffered.written,
+      buffered_more was.0 c.loop-row.lines line_buffered.done c.add_row.new.self line (flat_map row_line (take i rows)) was.2 line_buffered.kept
           ∙ sym (row_lines_more rows i c.row-item.result c.loop-row-test.true c.row-item.is),
     )
 
@@ -31,9 +31,9 @@ returns-in_err-add_row g c =
     let line_buffered = c.in_err-add_row.ensures in
     let line = row_line c.row-item.result in
     let lines = row_lines_more rows i c.row-item.result c.loop-row-test.true c.row-item.is
-    ∙ sym (buffered_front was.0 c.loop-row.lines line_buffered.0 line (flat_map row_line (take i rows)) was.2 line_buffered.2) in
+    ∙ sym (buffered_front was.0 c.loop-row.lines line_buffered.done line (flat_map row_line (take i rows)) was.2 line_buffered.kept) in
     Writes-stops (text_behind (i + 1) rows) (rows_text_at rows (i + 1) ∙ ap (λ l. l ++ text_behind (i + 1) rows) lines) p.1
-    (Writes-then {result = Err c.in_err-add_row.field-0.0} refl was.1 line_buffered.1)
+    (Writes-then {result = Err c.in_err-add_row.field-0.0} refl was.1 line_buffered.written)
 
 pub returns : goal.returns
 returns g c =

@@ -2,6 +2,7 @@ use Rattle.std.proofs.Common.{◌≡◌, ℕ, List, ◌++◌, length, take, drop
 use Rattle.std.proofs.Math.Seq.{take-append_seam, drop-append_seam}
 use Rattle.std.specs.List.{All, filter}
 use Rattle.mm_value.specs.declared.row_ref.RowRef.{RowRef}
+use Rattle.mm_value.specs.Views.{value_of}
 use Rattle.mm_partition.specs.Places.{slot_at}
 use Rattle.mm_relation.specs.Index.{HasColumn}
 use Rattle.mm_relation.specs.Reads.{has_value}
@@ -25,7 +26,7 @@ pub returns-clause-ok : goal.returns-clause-ok
 returns-clause-ok c = λ refs all.
     let now = slot_at c.args.rows.now in
     let old : List RowRef = c.args.out.now.items in
-    let test = has_value c.args.column now c.args.value.now in
+    let test = has_value c.args.column now (value_of c.args.value) in
     let found = c.in_ok-matches.ensures.ok in
     let front : take c.len-before.result c.matches.new.out.items ≡ old =
     ap (λ (n : ℕ). take n c.matches.new.out.items) (c.len-before.ensures ∙ c.args.out.now.ok.0)
@@ -39,5 +40,5 @@ returns-clause-ok c = λ refs all.
       c.keep_matches.ensures
           ∙ (ap (λ (l : List RowRef). l ++ filter test (drop c.len-before.result c.matches.new.out.items)) front
           ∙ ap (λ (l : List RowRef). old ++ filter test l) back),
-      matches_found c.args.column now c.args.pairs.now.entries refs all c.hash64.result found.behind found.same_bag c.args.value.now c.hash64.ensures,
+      matches_found c.args.column now c.args.pairs.now.entries refs all c.hash64.result found.behind found.same_bag (value_of c.args.value) c.hash64.ensures,
     )

@@ -1,9 +1,10 @@
 use Rattle.std.proofs.Common.{◌≡◌, ◌++◌, Option, Some, sym, ap, ◌∙◌, subst}
 use Rattle.std.specs.Prelude.{OnOk}
-use Rattle.std.specs.Option.{option_copied}
+use Rattle.std.specs.Option.{option_map}
 use Rattle.mm_order.specs.Probe.{entries_between}
 use Rattle.mm_partition.specs.Places.{slot_at}
 use Rattle.mm_schema.proofs.Orderings.{equal_from_is_eq}
+use Rattle.mm_value.specs.Views.{value_of}
 use Rattle.mm_value.proofs.Orders.{value_cmp_exact}
 use Rattle.mm_value.specs.declared.values.Value.{Value}
 use Rattle.mm_relation.specs.Reads.{end_place}
@@ -14,14 +15,14 @@ pub returns-then-is_eq-clause-ok : goal.returns-then-is_eq-clause-ok
 returns-then-is_eq-clause-ok c =
     let stored = c.args.self.now in
     let now = slot_at stored.places in
-    let first = c.in-Some-Some.first.now in
-    let last = c.in-Some-Some.last.now in
+    let first = value_of c.in-Some-Some.first in
+    let last = value_of c.in-Some-Some.last in
     let same : first ≡ last = value_cmp_exact first last
     (sym c.compare.ensures ∙ equal_from_is_eq c.compare.result (sym c.is_eq.ensures ∙ c.if-is_eq.true)) in
-    let low : option_copied c.args.low ≡ Some first = ap option_copied c.in-Some-Some.is-0 in
-    let high : option_copied c.args.high ≡ Some first = ap option_copied c.in-Some-Some.is-1 ∙ ap Some (sym same) in
+    let low : option_map value_of c.args.low ≡ Some first = ap (option_map value_of) c.in-Some-Some.is-0 in
+    let high : option_map value_of c.args.high ≡ Some first = ap (option_map value_of) c.in-Some-Some.is-1 ∙ ap Some (sym same) in
     subst (λ (end : Option Value). OnOk c.push_found.result (c.push_found.new.out.items ≡ c.args.out.now.items
-    ++ entries_between (end_place stored.key now end) (end_place stored.key now (option_copied c.args.high)) stored.refs)) (sym low)
+    ++ entries_between (end_place stored.key now end) (end_place stored.key now (option_map value_of c.args.high)) stored.refs)) (sym low)
     (subst (λ (end : Option Value). OnOk c.push_found.result (c.push_found.new.out.items ≡ c.args.out.now.items
     ++ entries_between (end_place stored.key now (Some first)) (end_place stored.key now end) stored.refs)) (sym high)
     (pushed_key stored.key now stored.refs c.is_kept.ensures.by_key first c.push_found.result c.find.result c.args.out.now.items c.push_found.new.out.items

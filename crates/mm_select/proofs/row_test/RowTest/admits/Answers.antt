@@ -1,5 +1,6 @@
 use Rattle.std.proofs.Common.{rules, ◌≡◌, ◌∷◌, [], false, Some, sym, ap, ◌∙◌}
 use Rattle.std.specs.List.{list_any}
+use Rattle.mm_partition.specs.Views.{viewed}
 use Rattle.mm_query.specs.Queries.{none_fails}
 use Rattle.mm_select.proofs.Meeting.{all_admit}
 use Rattle.mm_select.proofs.Walks.{row_given}
@@ -16,5 +17,5 @@ returns-then-not-self-clause-told c =
 pub returns-clause-told : goal.returns-clause-told
 returns-clause-told c =
     let test = c.args.self.now in
-    let is = row_given c.args.view.now.store test.table c.args.at c.row-row.result.now c.requires.there c.row-row.ensures.row in
+    let is = row_given c.args.view.now.store test.table c.args.at (viewed c.row-row.result) c.requires.there c.row-row.ensures.row in
     c.none_fails.ensures ∙ ap (λ row. none_fails test.atoms.now (Some row ∷ [])) (sym is)

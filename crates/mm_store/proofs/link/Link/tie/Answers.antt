@@ -2,6 +2,7 @@ use Rattle.std.proofs.Common.{◌≡◌, ◌≢◌, Some, sym, ap, ◌∙◌, su
 use Rattle.std.specs.Prelude.{slice_get, IfNone}
 use Rattle.std.specs.List.{All, Contains}
 use Rattle.std.proofs.lemmas.List.Elements.{All-contains}
+use Rattle.mm_value.specs.Views.{value_of}
 use Rattle.mm_partition.specs.Places.{slot_at}
 use Rattle.mm_relation.specs.Refs.{row_at, row_in}
 use Rattle.mm_store.specs.Links.{HasTargetRow}
@@ -11,7 +12,7 @@ pub unreachable-requires : goal.unreachable-requires
 unreachable-requires c =
     let then = slot_at c.args.to.now.places in
     let key = c.args.to.now.key in
-    let value = c.value-value.result.now in
+    let value = value_of c.value-value.result in
     let target : HasTargetRow c.args.self.now.reference.column key then (row_at (slot_at c.args.from.now.places) c.args.at) = c.requires.target in
     let here : Contains c.args.to.now.refs target.0 = (c.is_kept-2.ensures.held target.0).1 target.1.live in
     let has : slice_get (row_at then target.0) key ≡ Some value =

@@ -1,6 +1,7 @@
 use Rattle.std.proofs.Common.{[], sym, ◌∙◌, subst}
 use Rattle.std.specs.List.{cons_option}
 use Rattle.std.specs.Prelude.{IfSome}
+use Rattle.mm_value.specs.Views.{value_of}
 use Rattle.mm_partition.specs.Places.{IsLive, slot_at}
 use Rattle.mm_relation.specs.Kept.{StoredRows}
 use Rattle.mm_relation.specs.Reads.{AreMatches}
@@ -13,9 +14,9 @@ pub returns-clause-found : goal.returns-clause-found
 returns-clause-found c = λ stored at.
     let relation = c.relation.result.now in
     let is = c.find.ensures in
-    subst (λ (s : StoredRows). AreMatches s.key (slot_at s.places) c.args.key.now s.refs (cons_option c.find.result []))
+    subst (λ (s : StoredRows). AreMatches s.key (slot_at s.places) (value_of c.args.key) s.refs (cons_option c.find.result []))
     (one_relation relation stored (sym c.relation.ensures.at ∙ at))
-    (found_of_key relation (table_seen c.args.self.now c.args.table relation c.relation.ensures.at).kept c.args.key.now c.find.result is.held is.fits
+    (found_of_key relation (table_seen c.args.self.now c.args.table relation c.relation.ensures.at).kept (value_of c.args.key) c.find.result is.held is.fits
     is.none)
 
 pub returns-clause-live : goal.returns-clause-live

@@ -1,6 +1,7 @@
 use Rattle.std.proofs.Common.{sym, ◌∙◌, subst, ◌≡◌}
 use Rattle.std.specs.List.{All}
 use Rattle.std.proofs.lemmas.Result.{on_ok_weaker}
+use Rattle.mm_value.specs.Views.{value_of}
 use Rattle.mm_partition.specs.Places.{IsLive, slot_at}
 use Rattle.mm_relation.specs.Kept.{StoredRows}
 use Rattle.mm_relation.specs.Reads.{Appends, AreMatches}
@@ -15,7 +16,8 @@ returns-clause-ok c =
     on_ok_weaker c.append_matches.result
     (λ each stored column at on.
     let same : c.relation.result.now ≡ stored = one_relation c.relation.result.now stored (sym c.relation.ensures.at ∙ at) in
-    subst (λ (s : StoredRows). Appends (AreMatches column (slot_at s.places) c.args.value.now s.refs) c.args.out.now.items c.append_matches.new.out.items) same
+    subst (λ (s : StoredRows). Appends (AreMatches column (slot_at s.places) (value_of c.args.value) s.refs) c.args.out.now.items
+    c.append_matches.new.out.items) same
     (each column (subst (λ (s : StoredRows). IsIndexOn s column c.args.index) (sym same) on)))
     c.append_matches.ensures.ok
 
@@ -27,6 +29,6 @@ returns-clause-live c =
     let (column, on) = c.requires.index stored at in
     subst (λ (s : StoredRows). All (IsLive s.places) c.args.out.now.items → All (IsLive s.places) c.append_matches.new.out.items) same
     (live_matches c.relation.result.now (table_seen c.args.self.now c.args.table c.relation.result.now c.relation.ensures.at).kept column
-    c.args.value.now c.args.out.now.items c.append_matches.new.out.items
+    (value_of c.args.value) c.args.out.now.items c.append_matches.new.out.items
     (each column (subst (λ (s : StoredRows). IsIndexOn s column c.args.index) (sym same) on))))
     c.append_matches.ensures.ok

@@ -1,5 +1,6 @@
 use Rattle.std.proofs.Common.{◌≡◌, ap, sym, ◌∙◌, subst}
 use Rattle.std.specs.Prelude.{slice_get}
+use Rattle.mm_partition.specs.Views.{viewed}
 use Rattle.mm_partition.specs.Places.{Live, slot_at}
 use Rattle.mm_relation.specs.Kept.{StoredRows}
 use Rattle.mm_store.proofs.Joining.{one_relation}
@@ -10,6 +11,6 @@ use Rattle.mm_store.proofs.view.View.row.Goals as goal
 pub returns-clause-wide : goal.returns-clause-wide
 returns-clause-wide c = λ stored at.
     let here = ap (λ (seen : Seen). slice_get seen.store.tables c.args.table) c.self.view_is ∙ at in
-    (table_seen c.args.self.now c.args.table stored at).kept.wide c.args.at c.row.result.now
-    (subst (λ (s : StoredRows). slot_at s.places c.args.at ≡ Live c.row.result.now)
+    (table_seen c.args.self.now c.args.table stored at).kept.wide c.args.at (viewed c.row.result)
+    (subst (λ (s : StoredRows). slot_at s.places c.args.at ≡ Live (viewed c.row.result))
     (one_relation c.table.result.now stored (sym c.table.ensures.at ∙ here)) c.row.ensures)

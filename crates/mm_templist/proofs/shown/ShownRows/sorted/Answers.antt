@@ -1,5 +1,5 @@
 use Rattle.std.proofs.Common.{◌≡◌, List, cond, map, sym, ◌∙◌}
-use Rattle.std.specs.Borrow.{Bor}
+use Rattle.mm_value.specs.declared.value_ref.ValueRef.{ValueRef}
 use Rattle.mm_value.specs.declared.values.Value.{Value}
 use Rattle.mm_schema.specs.Sorting.{in_order}
 use Rattle.mm_query.specs.Queries.{one_of_each, rows_by_columns}
@@ -15,7 +15,7 @@ pub returns : goal.returns
 returns c =
     let order = c.args.order.now in
     let width = c.args.width in
-    let refs : List (Bor Value) = c.as_slice-refs.result.now in
+    let refs : List ValueRef = c.as_slice-refs.result.now in
     let all : List (List Value) = pieces width c.args.count (referred c.args.values.items) in
     let placed : List Placed = c.in_ok-places.places.items in
     let sorted : List Placed = c.sort_places.new.places.items in

@@ -1,8 +1,8 @@
 use Rattle.std.proofs.Common.{◌≡◌, ◌++◌, ◌∷◌, [], List, Some, map, sym, ap, ◌∙◌}
-use Rattle.std.specs.Option.{option_copied}
 use Rattle.std.proofs.lemmas.Result.{IfOk-equal}
+use Rattle.mm_partition.specs.Views.{viewed}
 use Rattle.mm_value.specs.declared.values.Value.{Value}
-use Rattle.mm_query.specs.Queries.{values_of}
+use Rattle.mm_query.specs.Queries.{rows_read, values_of}
 use Rattle.mm_templist.specs.Combos.{rows_of_combo}
 use Rattle.mm_templist.specs.Results.{projected_rows}
 use Rattle.mm_templist.proofs.Only.{only_projected}
@@ -14,9 +14,9 @@ returns-clause-ok c =
     let list = c.args.self.now in
     let combo = c.combo.result.now in
     let before : List (List Value) = c.args.buffer.now in
-    let row : List Value = values_of c.descriptor-descriptor.result.fields.now (map option_copied c.as_slice.result.now) in
+    let row : List Value = values_of c.descriptor-descriptor.result.fields.now (rows_read viewed c.as_slice.result.now) in
     let only : before ++ row ∷ [] ≡ before ++ projected_rows store list =
-    (λ k. before ++ values_of (c.descriptor-descriptor.ensures.fields k) (map option_copied (c.as_slice.ensures k)) ∷ [])
+    (λ k. before ++ values_of (c.descriptor-descriptor.ensures.fields k) (rows_read viewed (c.as_slice.ensures k)) ∷ [])
     ∙ (ap (λ rows. before ++ values_of list.fields rows ∷ [])
     (c.in_ok-choose_rows.ensures.rows ∙ (λ k. map Some (rows_of_combo store (c.descriptor-descriptor.ensures.tables k) combo)))
     ∙ ap (λ rows. before ++ rows) (sym (only_projected store list combo c.requires.only c.combo.ensures))) in

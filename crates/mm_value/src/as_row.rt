@@ -1,0 +1,62 @@
+//! Rows and references to them, as one.
+ghost use Rattle.std.specs.Prelude.{◌≡◌, ◌<◌, List, Some, length, slice_get};
+ghost use Rattle.std.specs.Option.{option_map};
+ghost use Rattle.mm_value.specs.Views.{value_of};
+ghost use Rattle.mm_value.specs.declared.values.Value.{Value as AnyValue};
+
+use crate::tuple::Row;
+use crate::value_ref::ValueRef;
+
+/// What a row can be read from.
+pub trait AsRow {
+    ghost row: { Self → List AnyValue };
+
+    /// How many values the row has.
+    fn len(&self) -> usize
+        ensures { result ≡ length (row self.now) };
+
+    /// The value at a position, counted from 0.
+    fn value(&self, i: usize) -> ValueRef<'_>
+        requires { i < length (row self.now) }
+        ensures { slice_get (row self.now) i ≡ Some (value_of result) };
+
+    /// The value at a position, counted from 0, if the row has one there.
+    #[inline(always)]
+    fn get(&self, i: usize) -> Option<ValueRef<'_>>
+        ensures { option_map value_of result ≡ slice_get (row self.now) i }
+    {
+        if i < self.len() {
+            Some(self.value(i))
+        } else {
+            None
+        }
+    }
+}
+
+impl AsRow for Row {
+    ghost row = { λ r. r };
+
+    #[inline(always)]
+    fn len(&self) -> usize {
+        self.values().len()
+    }
+
+    #[inline(always)]
+    fn value(&self, i: usize) -> ValueRef<'_> {
+        self.values()[i].as_ref()
+    }
+}
+
+impl<'r> AsRow for &'r Row {
+    ghost row = { λ r. r.now };
+
+    #[inline(always)]
+    fn len(&self) -> usize {
+        (*self).values().len()
+    }
+
+    #[inline(always)]
+    fn value(&self, i: usize) -> ValueRef<'_> {
+        (*self).values()[i].as_ref()
+    }
+}
