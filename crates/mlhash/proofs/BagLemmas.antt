@@ -1,6 +1,6 @@
 -- The pairs in the nodes: what writes to nodes do to the bag.
-use Rattle.std.proofs.Common.{◌≡◌, ℕ, zero, suc, ◌<◌, Bool, true, false, cond, eqb, ◌&&◌, inl, inr, List, [], ◌∷◌, ◌++◌, length, map, set, refl, sym, ap, ◌∙◌}
-use Rattle.std.proofs.Common.{subst, arith, length-set, get_or-set_same, get_or-set_other}
+use Rattle.std.proofs.Common.{◌≡◌, ℕ, zero, suc, ◌<◌, Bool, true, false, cond, eqb, ltb, ◌&&◌, inl, inr, List, [], ◌∷◌, ◌++◌, length, map, set}
+use Rattle.std.proofs.Common.{refl, sym, ap, ◌∙◌, subst, arith, length-set, get_or-set_same, get_or-set_other}
 use Rattle.std.specs.List.{filter, count_by, Contains, All}
 use Rattle.std.specs.List.Sorted.{IsPermutation}
 use Rattle.std.proofs.lemmas.Bool.{cases_eq, cases_Bool, cond-true, cond-false, false≢true}
@@ -11,7 +11,8 @@ use Rattle.std.proofs.lemmas.List.Elements.{filter-append, All-nil, All-cons, Al
 use Rattle.std.proofs.lemmas.List.{append-nil, length-map, set-set, set-get_or}
 use Rattle.mm_value.specs.declared.row_ref.RowRef.{RowRef}
 use Rattle.mlhash.specs.declared.node.Node.{Node}
-use Rattle.mlhash.specs.Pairs.{blank, node_at, row_of, pair_of, SameEntry}
+use Rattle.mlhash.specs.declared.node.TheConstants.{FREE}
+use Rattle.mlhash.specs.Pairs.{blank, free_node, is_live, node_at, row_ref, row_of, pair_of, SameEntry}
 use Rattle.mlhash.specs.Bag.{refs_of, all_refs}
 use Rattle.mlhash.specs.Chain.{Among}
 use Rattle.mlhash.specs.Table.{entries}
@@ -59,44 +60,42 @@ module _ (q : Node → Bool) where
       ap (λ m. m ∷ map (node_at (set ns at n)) is) e ∙ ap (λ ms. node_at ns i ∷ ms) (map_other ns at n is (λ a. out (inr a)))
 
   -- different places with all nodes that pass have just those nodes
-  pub filter_places : q blank ≡ false → (is : List ℕ) (ns : List Node) → IsSet is → ((i : ℕ) → Among i is → i < length ns)
+  pub filter_places : q free_node ≡ false → (is : List ℕ) (ns : List Node) → IsSet is → ((i : ℕ) → Among i is → i < length ns)
       → ((i : ℕ) → i < length ns → q (node_at ns i) ≡ true → Among i is) → IsPermutation (filter q (map (node_at ns) is)) (filter q ns)
   filter_places void [] ns distinct below every =
       subst (λ xs. IsPermutation [] xs) (sym (filter_nothing ns every)) (IsPermutation-refl [])
   filter_places void (i ∷ is) ns distinct below every =
       let n = node_at ns i in
-      let ms = set ns i blank in
+      let ms = set ns i free_node in
       let rest : List Node = filter q (map (node_at ns) is) in
       let inside : i < length ns = below i (inl refl) in
-      let at_i : node_at ms i ≡ blank = get_or-set_same ns i blank blank inside in
-      let size : length ms ≡ length ns = length-set ns i blank in
+      let at_i : node_at ms i ≡ free_node = get_or-set_same ns i free_node blank inside in
+      let size : length ms ≡ length ns = length-set ns i free_node in
       let step : IsPermutation (filter q (map (node_at ms) is)) (filter q ms) = filter_places void is ms distinct.1
       (λ j a. let b : j < length ns = below j (inr a) in omega (arith, size, b))
       (λ j lt t. elim (cases_eq j i) [
         | inl e ↦ absurd (false≢true (sym void ∙ ap q (sym at_i) ∙ ap (λ k. q (node_at ms k)) (sym e) ∙ t))
-        | inr ne ↦ elim (every j (omega (arith, size, lt)) (ap q (sym (get_or-set_other ns i j blank blank ne)) ∙ t)) [ inl e ↦ absurd (ne e) | inr a ↦ a ]
+        | inr ne ↦ elim (every j (omega (arith, size, lt)) (ap q (sym (get_or-set_other ns i j free_node blank ne)) ∙ t)) [ inl e ↦ absurd (ne e) | inr a ↦ a ]
       ]) in
-      let kept : IsPermutation rest (filter q ms) = subst (λ xs. IsPermutation (filter q xs) (filter q ms)) (map_other ns i blank is distinct.0) step in
+      let kept : IsPermutation rest (filter q ms) = subst (λ xs. IsPermutation (filter q xs) (filter q ms)) (map_other ns i free_node is distinct.0) step in
       elim (cases_Bool (q n)) [
         | inl t ↦ subst (λ xs. IsPermutation xs (filter q ns)) (sym (cond-true (q n) (n ∷ rest) rest t))
-            (IsPermutation-trans _ _ _ (IsPermutation-cons n rest (filter q ms) kept) (IsPermutation-sym _ _ (filter-set_out ns i blank inside t void)))
+            (IsPermutation-trans _ _ _ (IsPermutation-cons n rest (filter q ms) kept) (IsPermutation-sym _ _ (filter-set_out ns i free_node inside t void)))
         | inr f ↦ subst (λ xs. IsPermutation xs (filter q ns)) (sym (cond-false (q n) (n ∷ rest) rest f))
-            (subst (λ xs. IsPermutation rest xs) (filter-set_none ns i blank inside f void) kept)
+            (subst (λ xs. IsPermutation rest xs) (filter-set_none ns i free_node inside f void) kept)
       ]
 
 -- the tests
-abbrev pub is_live : Node → Bool
-is_live n = n.live
-
 abbrev pub is_match : ℕ → Node → Bool
-is_match hash n = n.live && eqb n.hash hash
+is_match hash n = is_live n && eqb n.hash hash
 
 pub pair_same : (m n : Node) → SameEntry m n → pair_of n ≡ pair_of m
 pair_same m n s =
-    let p1 : pair_of n ≡ (m.hash, row_of n) = ap (λ (h : ℕ). let p : ℕ × RowRef = (h, row_of n) in p) s.hash in
-    let p2 : row_of n ≡ record { part = m.part; slot = n.slot } = ap (λ (x : ℕ). let r : RowRef = record { part = x; slot = n.slot } in r) s.part in
-    let p3 : record { part = m.part; slot = n.slot } ≡ row_of m = ap (λ (x : ℕ). let r : RowRef = record { part = m.part; slot = x } in r) s.slot in
-    p1 ∙ ap (λ (r : RowRef). let p : ℕ × RowRef = (m.hash, r) in p) (p2 ∙ p3)
+    let p : pair_of n ≡ (m.hash, row_of n) = ap (λ (h : ℕ). let p : ℕ × RowRef = (h, row_of n) in p) s.hash in
+    p ∙ ap (λ (x : ℕ). let p : ℕ × RowRef = (m.hash, row_ref x) in p) s.number
+
+pub live_same : (m n : Node) → SameEntry m n → is_live n ≡ is_live m
+live_same m n s = ap (λ x. ltb x FREE) s.number
 
 -- links are no part of the bag
 pub entries_same : (ns ms : List Node) → length ms ≡ length ns → ((i : ℕ) → SameEntry (node_at ns i) (node_at ms i)) → entries ms ≡ entries ns
@@ -106,10 +105,11 @@ entries_same (n ∷ ns) [] size same = absurd (omega arith)
 entries_same (n ∷ ns) (m ∷ ms) size same =
     let s : SameEntry n m = same 0 in
     let rest : entries ms ≡ entries ns = entries_same ns ms (omega arith) (λ i. same (suc i)) in
-    let live : map pair_of (cond m.live (m ∷ filter is_live ms) (filter is_live ms)) ≡ map pair_of
-    (cond n.live (m ∷ filter is_live ms) (filter is_live ms)) = ap (λ b. map pair_of (cond b (m ∷ filter is_live ms) (filter is_live ms))) s.live in
-    let both : map pair_of (cond n.live (m ∷ filter is_live ms) (filter is_live ms)) ≡ map pair_of
-    (cond n.live (n ∷ filter is_live ns) (filter is_live ns)) = elim n.live as (λ b. map pair_of
+    let live : map pair_of (cond (is_live m) (m ∷ filter is_live ms) (filter is_live ms)) ≡ map pair_of
+    (cond (is_live n) (m ∷ filter is_live ms) (filter is_live ms))
+    = ap (λ b. map pair_of (cond b (m ∷ filter is_live ms) (filter is_live ms))) (live_same n m s) in
+    let both : map pair_of (cond (is_live n) (m ∷ filter is_live ms) (filter is_live ms)) ≡ map pair_of
+    (cond (is_live n) (n ∷ filter is_live ns) (filter is_live ns)) = elim (is_live n) as (λ b. map pair_of
     (cond b (m ∷ filter is_live ms) (filter is_live ms)) ≡ map pair_of (cond b (n ∷ filter is_live ns) (filter is_live ns)))
     [ true ↦ ap (λ e. e ∷ entries ms) (pair_same n m s) ∙ ap (λ es. pair_of n ∷ es) rest | false ↦ rest ] in
     live ∙ both
@@ -118,50 +118,50 @@ pub length-entries : (ns : List Node) → length (entries ns) ≡ count_by is_li
 length-entries ns = length-map (filter is_live ns) pair_of ∙ length-filter is_live ns
 
 -- no live node has this pair
-none_held : (ns : List Node) (e : ℕ × RowRef) → ((i : ℕ) → i < length ns → (node_at ns i).live ≡ true → pair_of (node_at ns i) ≡ e → ⊥)
+none_held : (ns : List Node) (e : ℕ × RowRef) → ((i : ℕ) → i < length ns → is_live (node_at ns i) ≡ true → pair_of (node_at ns i) ≡ e → ⊥)
     → All (λ x. x ≡ e → ⊥) (entries ns)
 none_held [] e none = All-nil (λ x. x ≡ e → ⊥)
 none_held (n ∷ ns) e none =
     let rest = none_held ns e (λ i below. none (suc i) (omega arith)) in
-    elim (cases_Bool n.live) [
-      | inl t ↦ All-same (λ x. x ≡ e → ⊥) _ _ (ap (map pair_of) (cond-true n.live (n ∷ filter is_live ns) (filter is_live ns) t))
+    elim (cases_Bool (is_live n)) [
+      | inl t ↦ All-same (λ x. x ≡ e → ⊥) _ _ (ap (map pair_of) (cond-true (is_live n) (n ∷ filter is_live ns) (filter is_live ns) t))
           (All-cons (λ x. x ≡ e → ⊥) (pair_of n) (entries ns) (none 0 (omega arith) t) rest)
       | inr f ↦ All-same (λ x. x ≡ e → ⊥) _ _
-          (ap (map pair_of) (cond-false n.live (n ∷ filter is_live ns) (filter is_live ns) f)) rest
+          (ap (map pair_of) (cond-false (is_live n) (n ∷ filter is_live ns) (filter is_live ns) f)) rest
     ]
 
-pub not_held : (ns : List Node) (e : ℕ × RowRef) → ((i : ℕ) → i < length ns → (node_at ns i).live ≡ true → pair_of (node_at ns i) ≡ e → ⊥)
+pub not_held : (ns : List Node) (e : ℕ × RowRef) → ((i : ℕ) → i < length ns → is_live (node_at ns i) ≡ true → pair_of (node_at ns i) ≡ e → ⊥)
     → Contains (entries ns) e → ⊥
 not_held ns e none c = All-contains (λ x. x ≡ e → ⊥) (entries ns) e (none_held ns e none) c refl
 
 -- a live node's pair comes out
-pub entries-set_out : (ns : List Node) (i : ℕ) (n : Node) → i < length ns → (node_at ns i).live ≡ true → n.live ≡ false
+pub entries-set_out : (ns : List Node) (i : ℕ) (n : Node) → i < length ns → is_live (node_at ns i) ≡ true → is_live n ≡ false
     → IsPermutation (entries ns) (pair_of (node_at ns i) ∷ entries (set ns i n))
 entries-set_out ns i n below was is =
     IsPermutation-map pair_of _ _ (filter-set_out is_live ns i n below was is)
 
 -- a pair goes into a node that has none
-pub entries-set_in : (ns : List Node) (i : ℕ) (n : Node) → i < length ns → (node_at ns i).live ≡ false → n.live ≡ true
+pub entries-set_in : (ns : List Node) (i : ℕ) (n : Node) → i < length ns → is_live (node_at ns i) ≡ false → is_live n ≡ true
     → IsPermutation (entries (set ns i n)) (pair_of n ∷ entries ns)
 entries-set_in ns i n below was is =
     let ms = set ns i n in
     let at : node_at ms i ≡ n = get_or-set_same ns i n blank below in
     let back : set ms i (node_at ns i) ≡ ns = set-set ns i n (node_at ns i) ∙ set-get_or ns i blank in
     let out : IsPermutation (entries ms) (pair_of (node_at ms i) ∷ entries (set ms i (node_at ns i))) = entries-set_out ms i (node_at ns i)
-    (omega (arith, length-set ns i n)) (ap (λ (m : Node). m.live) at ∙ is) was in
+    (omega (arith, length-set ns i n)) (ap is_live at ∙ is) was in
     subst (λ xs. IsPermutation (entries ms) (pair_of n ∷ entries xs)) back
     (subst (λ m. IsPermutation (entries ms) (pair_of m ∷ entries (set ms i (node_at ns i)))) at out)
 
-pub held : (ns : List Node) (i : ℕ) → i < length ns → (node_at ns i).live ≡ true → Contains (entries ns) (pair_of (node_at ns i))
+pub held : (ns : List Node) (i : ℕ) → i < length ns → is_live (node_at ns i) ≡ true → Contains (entries ns) (pair_of (node_at ns i))
 held ns i below live =
-    Contains-permutation _ _ _ (IsPermutation-sym _ _ (entries-set_out ns i blank below live refl)) (0, omega arith, refl)
+    Contains-permutation _ _ _ (IsPermutation-sym _ _ (entries-set_out ns i free_node below live refl)) (0, omega arith, refl)
 
 -- the references of one hash, from the nodes
 pub refs_of-entries : (hash : ℕ) (ns : List Node) → refs_of hash (entries ns) ≡ map row_of (filter (is_match hash) ns)
 refs_of-entries hash [] = refl
 refs_of-entries hash (n ∷ ns) =
     let rest = refs_of-entries hash ns in
-    elim n.live as (λ b. refs_of hash (map pair_of (cond b (n ∷ filter is_live ns) (filter is_live ns))) ≡ map row_of
+    elim (is_live n) as (λ b. refs_of hash (map pair_of (cond b (n ∷ filter is_live ns) (filter is_live ns))) ≡ map row_of
     (cond (b && eqb n.hash hash) (n ∷ filter (is_match hash) ns) (filter (is_match hash) ns))) [
       | true ↦ elim (eqb n.hash hash) as (λ b. map (λ (e : ℕ × RowRef). e.1)
           (cond b (pair_of n ∷ filter (λ (e : ℕ × RowRef). eqb e.0 hash) (entries ns)) (filter (λ (e : ℕ × RowRef). eqb e.0 hash) (entries ns))) ≡ map
@@ -169,7 +169,7 @@ refs_of-entries hash (n ∷ ns) =
       | false ↦ rest
     ]
 
-pub live_matches : (hash : ℕ) (ns : List Node) (is : List ℕ) → ((i : ℕ) → Among i is → (node_at ns i).live ≡ true)
+pub live_matches : (hash : ℕ) (ns : List Node) (is : List ℕ) → ((i : ℕ) → Among i is → is_live (node_at ns i) ≡ true)
     → filter (λ n. eqb n.hash hash) (map (node_at ns) is) ≡ filter (is_match hash) (map (node_at ns) is)
 live_matches hash ns [] live = refl
 live_matches hash ns (i ∷ is) live =
@@ -182,5 +182,5 @@ live_matches hash ns (i ∷ is) live =
 pub all_refs-entries : (ns : List Node) → all_refs (entries ns) ≡ map row_of (filter is_live ns)
 all_refs-entries [] = refl
 all_refs-entries (n ∷ ns) =
-    elim n.live as (λ b. all_refs (map pair_of (cond b (n ∷ filter is_live ns) (filter is_live ns))) ≡ map row_of
+    elim (is_live n) as (λ b. all_refs (map pair_of (cond b (n ∷ filter is_live ns) (filter is_live ns))) ≡ map row_of
     (cond b (n ∷ filter is_live ns) (filter is_live ns))) [ true ↦ ap (λ rs. row_of n ∷ rs) (all_refs-entries ns) | false ↦ all_refs-entries ns ]

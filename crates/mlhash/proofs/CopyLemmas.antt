@@ -9,9 +9,9 @@ use Rattle.std.proofs.lemmas.List.Sums.{sum_by-drop_more}
 use Rattle.mm_value.specs.declared.row_ref.RowRef.{RowRef}
 use Rattle.mlhash.specs.declared.node.Node.{Node}
 use Rattle.mlhash.specs.Bag.{all_refs, AppendsInSomeOrder}
-use Rattle.mlhash.specs.Pairs.{blank, node_at, row_of}
+use Rattle.mlhash.specs.Pairs.{blank, is_live, node_at, row_of}
 use Rattle.mlhash.specs.Table.{entries}
-use Rattle.mlhash.proofs.BagLemmas.{is_live, all_refs-entries}
+use Rattle.mlhash.proofs.BagLemmas.{all_refs-entries}
 
 -- the references of the nodes so far are copied, and there is room for the others
 pub record IsCopying (ns : List Node) (i : ℕ) (old out : List RowRef) (len capacity : ℕ) : Type 0 where
@@ -23,20 +23,20 @@ pub IsCopying-start : (ns xs : List Node) (old out : List RowRef) (n len capacit
 IsCopying-start ns xs old out n len capacity same counted is fits =
     record { so_far = is ∙ sym (append-nil old); room = omega (arith, ap (count_by is_live) same, counted, fits) }
 
-pub copying_room : (ns : List Node) (i : ℕ) (old out : List RowRef) (len capacity : ℕ) → i < length ns → (node_at ns i).live ≡ true
+pub copying_room : (ns : List Node) (i : ℕ) (old out : List RowRef) (len capacity : ℕ) → i < length ns → is_live (node_at ns i) ≡ true
     → IsCopying ns i old out len capacity → len < capacity
 copying_room ns i old out len capacity below live s =
-    let e = sum_by-drop_more (λ (n : Node). cond n.live 1 0) ns i blank below in
-    let one : cond (node_at ns i).live 1 0 ≡ 1 = ap (λ (b : Bool). let x : ℕ = cond b 1 0 in x) live in
+    let e = sum_by-drop_more (λ (n : Node). cond (is_live n) 1 0) ns i blank below in
+    let one : cond (is_live (node_at ns i)) 1 0 ≡ 1 = ap (λ (b : Bool). let x : ℕ = cond b 1 0 in x) live in
     omega (arith, e, one, s.room)
 
-pub IsCopying-take : (ns : List Node) (i : ℕ) (old out : List RowRef) (len capacity : ℕ) (r : RowRef) → i < length ns → (node_at ns i).live ≡ true
+pub IsCopying-take : (ns : List Node) (i : ℕ) (old out : List RowRef) (len capacity : ℕ) (r : RowRef) → i < length ns → is_live (node_at ns i) ≡ true
     → r ≡ row_of (node_at ns i) → IsCopying ns i old out len capacity → IsCopying ns (i + 1) old (out ++ r ∷ []) (len + 1) capacity
 IsCopying-take ns i old out len capacity r below live row s =
     let f : filter is_live (take (i + 1) ns) ≡ filter is_live (take i ns) ++ node_at ns i ∷ [] = filter_more is_live ns i blank below
     ∙ ap (λ xs. filter is_live (take i ns) ++ xs) (cond-true _ (node_at ns i ∷ []) [] live) in
-    let e = sum_by-drop_more (λ (n : Node). cond n.live 1 0) ns i blank below in
-    let one : cond (node_at ns i).live 1 0 ≡ 1 = ap (λ (b : Bool). let x : ℕ = cond b 1 0 in x) live in
+    let e = sum_by-drop_more (λ (n : Node). cond (is_live n) 1 0) ns i blank below in
+    let one : cond (is_live (node_at ns i)) 1 0 ≡ 1 = ap (λ (b : Bool). let x : ℕ = cond b 1 0 in x) live in
     record {
       so_far = ap (λ xs. xs ++ r ∷ []) s.so_far ∙ append_assoc old (map row_of (filter is_live (take i ns))) (r ∷ [])
           ∙ ap (λ x. old ++ (map row_of (filter is_live (take i ns)) ++ x ∷ [])) row ∙ ap (λ xs. old ++ xs)
@@ -44,13 +44,13 @@ IsCopying-take ns i old out len capacity r below live row s =
       room = omega (arith, e, one, s.room);
     }
 
-pub IsCopying-skip : (ns : List Node) (i : ℕ) (old out : List RowRef) (len capacity : ℕ) → i < length ns → (node_at ns i).live ≡ false
+pub IsCopying-skip : (ns : List Node) (i : ℕ) (old out : List RowRef) (len capacity : ℕ) → i < length ns → is_live (node_at ns i) ≡ false
     → IsCopying ns i old out len capacity → IsCopying ns (i + 1) old out len capacity
 IsCopying-skip ns i old out len capacity below dead s =
     let f : filter is_live (take (i + 1) ns) ≡ filter is_live (take i ns) = filter_more is_live ns i blank below
     ∙ ap (λ xs. filter is_live (take i ns) ++ xs) (cond-false _ (node_at ns i ∷ []) [] dead) ∙ append-nil (filter is_live (take i ns)) in
-    let e = sum_by-drop_more (λ (n : Node). cond n.live 1 0) ns i blank below in
-    let none : cond (node_at ns i).live 1 0 ≡ 0 = ap (λ (b : Bool). let x : ℕ = cond b 1 0 in x) dead in
+    let e = sum_by-drop_more (λ (n : Node). cond (is_live n) 1 0) ns i blank below in
+    let none : cond (is_live (node_at ns i)) 1 0 ≡ 0 = ap (λ (b : Bool). let x : ℕ = cond b 1 0 in x) dead in
     record {
       so_far = s.so_far ∙ ap (λ xs. old ++ map row_of xs) (sym f);
       room = omega (arith, e, none, s.room);

@@ -1,7 +1,7 @@
 mod AddressLemmas
+mod AlongLemmas
 mod BagLemmas
 mod ChainLemmas
-mod CollectLemmas
 mod CopyLemmas
 mod DealLemmas
 mod FindLemmas

@@ -1,5 +1,5 @@
 -- The references along a chain are those that the bag has of the hash.
-use Rattle.std.proofs.Common.{◌≡◌, ℕ, eqb, List, ◌++◌, map, refl, sym, ap, ◌∙◌, subst}
+use Rattle.std.proofs.Common.{◌≡◌, ℕ, eqb, List, map, refl, sym, ap, ◌∙◌, subst}
 use Rattle.std.specs.List.{filter}
 use Rattle.std.specs.List.Sorted.{IsPermutation}
 use Rattle.std.proofs.lemmas.Bool.{and_parts, eqb-true}
@@ -8,7 +8,7 @@ use Rattle.mm_value.specs.declared.row_ref.RowRef.{RowRef}
 use Rattle.mlhash.specs.declared.node.Node.{Node}
 use Rattle.mlhash.specs.declared.place.Place.{Place}
 use Rattle.mlhash.specs.Address.{bucket_of}
-use Rattle.mlhash.specs.Bag.{refs_of, AppendsInSomeOrder}
+use Rattle.mlhash.specs.Bag.{refs_of}
 use Rattle.mlhash.specs.Chain.{chain, refs_along}
 use Rattle.mlhash.specs.Pairs.{node_at, row_of}
 use Rattle.mlhash.specs.Table.{entries, IsBucket}
@@ -28,11 +28,9 @@ refs_along-all ns p head b hash b_is k =
     (subst (λ rs. IsPermutation (map row_of (filter (is_match hash) (map (node_at ns) is))) rs) (sym (refs_of-entries hash ns))
     (IsPermutation-map row_of _ _ places))
 
-pub matches_all : (ns : List Node) (p : Place) (head b hash : ℕ) (old new : List RowRef) (xs : List Node) (es : List (ℕ × RowRef))
-    → b ≡ bucket_of p hash → IsBucket ns p head b → xs ≡ ns → entries ns ≡ es → new ≡ old ++ refs_along xs head hash
-    → AppendsInSomeOrder old new (refs_of hash es)
-matches_all ns p head b hash old new xs es b_is k same bag e = record {
-  behind = refs_along ns head hash;
-  appends = e ∙ ap (λ ys. old ++ refs_along ys head hash) same;
-  same_bag = subst (λ fs. IsPermutation (refs_along ns head hash) (refs_of hash fs)) bag (refs_along-all ns p head b hash b_is k);
-}
+-- what is left of the references of a hash is what the bag has of it
+pub matching_all : (ns : List Node) (p : Place) (head b hash : ℕ) (xs : List Node) (refs : List RowRef) (es : List (ℕ × RowRef))
+    → b ≡ bucket_of p hash → IsBucket ns p head b → xs ≡ ns → entries ns ≡ es → refs ≡ refs_along xs head hash → IsPermutation refs (refs_of hash es)
+matching_all ns p head b hash xs refs es b_is k same bag e =
+    subst (λ rs. IsPermutation rs (refs_of hash es)) (sym (e ∙ ap (λ ys. refs_along ys head hash) same))
+    (subst (λ fs. IsPermutation (refs_along ns head hash) (refs_of hash fs)) bag (refs_along-all ns p head b hash b_is k))

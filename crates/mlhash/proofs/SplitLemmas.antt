@@ -9,12 +9,12 @@ use Rattle.mlhash.specs.declared.node.Node.{Node}
 use Rattle.mlhash.specs.declared.node.TheConstants.{NIL}
 use Rattle.mlhash.specs.declared.place.Place.{Place}
 use Rattle.mlhash.specs.Address.{bucket_of, place_after}
-use Rattle.mlhash.specs.Pairs.{node_at}
+use Rattle.mlhash.specs.Pairs.{is_live, node_at}
 use Rattle.mlhash.specs.Chain.{Among, chain, IsLinked, AreApart, stays, Deals}
 use Rattle.mlhash.specs.Table.{entries, IsBucket, IsFree, IsTable}
 use Rattle.mlhash.proofs.AddressLemmas.{place_after-size, place_after-split, after_split, after_other, split_in_two, before_in, before_other}
 use Rattle.mlhash.proofs.AddressLemmas.{place_after-steps, high_mask, level_small}
-use Rattle.mlhash.proofs.BagLemmas.{is_live, entries_same, length-entries}
+use Rattle.mlhash.proofs.BagLemmas.{live_same, entries_same, length-entries}
 use Rattle.mlhash.proofs.ChainLemmas.{chain_end, below_linked, Keeps, keeps_frame}
 use Rattle.mlhash.proofs.DealLemmas.{among_along}
 
@@ -33,13 +33,13 @@ dealt_count ns from mask stay onto ms staying leaving d =
 
 -- the free nodes stay as they are
 dealt_pool : (ns : List Node) (from mask stay onto : ℕ) (ms : List Node) (staying leaving len free : ℕ)
-    → Deals ns from mask stay onto ms staying leaving → ((i : ℕ) → Among i (chain ns from) → (node_at ns i).live ≡ true) → IsFree ns len free
+    → Deals ns from mask stay onto ms staying leaving → ((i : ℕ) → Among i (chain ns from) → is_live (node_at ns i) ≡ true) → IsFree ns len free
     → IsFree ms len free
 dealt_pool ns from mask stay onto ms staying leaving len free d live pool =
     let kept = dealt_keeps ns from mask stay onto ms staying leaving free d pool.linked (λ i a f. false≢true (sym (pool.dead i a) ∙ live i f)) in
     record {
       linked = kept.linked;
-      dead = λ i a. (d.entries i).live ∙ pool.dead i (among_along i _ _ kept.same a);
+      dead = λ i a. live_same (node_at ns i) (node_at ms i) (d.entries i) ∙ pool.dead i (among_along i _ _ kept.same a);
       rest = omega (arith, ap length kept.same, pool.rest, d.size);
     }
 
@@ -59,8 +59,8 @@ module _ (heads : List ℕ) (ns : List Node) (len : ℕ) (p : Place) (free mask 
   from_bucket : IsBucket ns p from p.split
   from_bucket = subst (λ h. IsBucket ns p h p.split) (sym k.from_is) (k.table.buckets p.split split_inside)
 
-  live_is : (i : ℕ) → (node_at ms i).live ≡ (node_at ns i).live
-  live_is i = (k.deals.entries i).live
+  live_is : (i : ℕ) → is_live (node_at ms i) ≡ is_live (node_at ns i)
+  live_is i = live_same (node_at ns i) (node_at ms i) (k.deals.entries i)
 
   hash_is : (i : ℕ) → (node_at ms i).hash ≡ (node_at ns i).hash
   hash_is i = (k.deals.entries i).hash
@@ -81,7 +81,7 @@ module _ (heads : List ℕ) (ns : List Node) (len : ℕ) (p : Place) (free mask 
   not_end i a = among_along i _ [] (chain_end ms few) a
 
   -- a live node whose hash had the bucket is on the chain
-  there : (i : ℕ) → i < length ms → (node_at ms i).live ≡ true → bucket_of p (node_at ns i).hash ≡ p.split → Among i (chain ns from)
+  there : (i : ℕ) → i < length ms → is_live (node_at ms i) ≡ true → bucket_of p (node_at ns i).hash ≡ p.split → Among i (chain ns from)
   there i below live e =
       from_bucket.every i (omega (arith, k.deals.size, below)) (sym (live_is i) ∙ live) e
 
@@ -223,8 +223,8 @@ module _ (heads : List ℕ) (ns : List Node) (len : ℕ) (q : Place) (free last 
   onto_bucket =
       subst (λ h. IsBucket ns (place_after q) h q.split) (sym k.onto_is) (k.table.buckets q.split (omega (arith, k.last_is, at_last)))
 
-  merged_live : (i : ℕ) → (node_at ms i).live ≡ (node_at ns i).live
-  merged_live i = (k.deals.entries i).live
+  merged_live : (i : ℕ) → is_live (node_at ms i) ≡ is_live (node_at ns i)
+  merged_live i = live_same (node_at ns i) (node_at ms i) (k.deals.entries i)
 
   merged_hash : (i : ℕ) → (node_at ms i).hash ≡ (node_at ns i).hash
   merged_hash i = (k.deals.entries i).hash

@@ -10,11 +10,11 @@ use Rattle.mlhash.specs.declared.node.Node.{Node}
 use Rattle.mlhash.specs.declared.node.TheConstants.{NIL}
 use Rattle.mlhash.specs.declared.place.Place.{Place}
 use Rattle.mlhash.specs.Address.{bucket_of}
-use Rattle.mlhash.specs.Pairs.{blank, free_node, node_at, pair_of}
+use Rattle.mlhash.specs.Pairs.{blank, free_node, is_live, node_at, pair_of}
 use Rattle.mlhash.specs.Chain.{Among, IsChain, chain, IsLinked}
 use Rattle.mlhash.specs.Table.{entries, IsBucket, IsTable, Stocks}
 use Rattle.mlhash.proofs.AddressLemmas.{bucket_below}
-use Rattle.mlhash.proofs.BagLemmas.{filter-push_none, is_live, entries-set_in}
+use Rattle.mlhash.proofs.BagLemmas.{filter-push_none, entries-set_in}
 use Rattle.mlhash.proofs.ChainLemmas.{chain_is, linked_by, chain_end, below_linked, chain_step, Keeps, keeps_frame, keeps_set, fronts_set}
 use Rattle.mlhash.proofs.DealLemmas.{among_along}
 
@@ -22,12 +22,12 @@ use Rattle.mlhash.proofs.DealLemmas.{among_along}
 pub bucket_in : (heads : List ℕ) (ns : List Node) (len : ℕ) (p : Place) (free : ℕ) → IsTable heads ns len p free → (h : ℕ) → bucket_of p h < length heads
 bucket_in heads ns len p free t h = omega (arith, t.size, bucket_below p h)
 
-push_live : (ns : List Node) (i : ℕ) → (node_at (ns ++ free_node ∷ []) i).live ≡ true → i < length (ns ++ free_node ∷ []) → i < length ns
+push_live : (ns : List Node) (i : ℕ) → is_live (node_at (ns ++ free_node ∷ []) i) ≡ true → i < length (ns ++ free_node ∷ []) → i < length ns
 push_live ns i live below =
     elim (cases_lt i (length ns)) [
       | inl lt ↦ lt
       | inr ge ↦ absurd (let e : length ns ≡ i = omega (arith, length-append ns (free_node ∷ []), below, ge) in false≢true
-          (ap (λ (n : Node). n.live) (sym (get_or_push ns free_node blank i e)) ∙ live))
+          (ap is_live (sym (get_or_push ns free_node blank i e)) ∙ live))
     ]
 
 -- a new node
@@ -52,13 +52,13 @@ stock_new heads ns len p room t =
     let alone : chain ms new ≡ new ∷ [] = chain_is ms new (new ∷ []) few links in
     record {
       table = record {
-        counted = sum_by_push (λ (n : Node). cond n.live 1 0) ns free_node ∙ (let e : count_by is_live ns + 0 ≡ len = omega (arith, t.counted) in e);
+        counted = sum_by_push (λ (n : Node). cond (is_live n) 1 0) ns free_node ∙ (let e : count_by is_live ns + 0 ≡ len = omega (arith, t.counted) in e);
         size = t.size;
         split = t.split;
         limit = t.limit;
         pool = record {
           linked = linked_by ms new (new ∷ []) few links;
-          dead = λ i a. elim (among_along i _ _ alone a) [ inl e ↦ ap (λ k. (node_at ms k).live) e ∙ ap (λ (n : Node). n.live) at_new | inr b ↦ absurd b ];
+          dead = λ i a. elim (among_along i _ _ alone a) [ inl e ↦ ap (λ k. is_live (node_at ms k)) e ∙ ap is_live at_new | inr b ↦ absurd b ];
           rest = omega (arith, ap length alone, ap length none, t.pool.rest, size);
         };
         buckets =
@@ -67,13 +67,13 @@ stock_new heads ns len p room t =
               here =
                   λ i a. let a' = among_along i _ _ kept.same a in let e = old i
                   (below_linked ns _ k.linked i a') in (
-                    ap (λ (n : Node). n.live) e ∙ (k.here i a').0,
+                    ap is_live e ∙ (k.here i a').0,
                     ap (λ (n : Node). bucket_of p n.hash) e
                         ∙ (k.here i a').1,
                   );
               every =
                   λ i below live is. let lt' = push_live ns i live below in let e = old i lt' in among_along i _ _ (sym kept.same)
-                  (k.every i lt' (ap (λ (n : Node). n.live) (sym e) ∙ live) (ap (λ (n : Node). bucket_of p n.hash) (sym e) ∙ is));
+                  (k.every i lt' (ap is_live (sym e) ∙ live) (ap (λ (n : Node). bucket_of p n.hash) (sym e) ∙ is));
             };
       };
       on = omega (arith, room);
@@ -98,7 +98,7 @@ all_used heads ns len p free t e =
     omega (arith, t.pool.rest, ap length none)
 
 -- an entry goes in front of its bucket's chain
-pub put_table : (heads : List ℕ) (ns : List Node) (len : ℕ) (p : Place) (at : ℕ) (n : Node) → at ≢ NIL → n.live ≡ true
+pub put_table : (heads : List ℕ) (ns : List Node) (len : ℕ) (p : Place) (at : ℕ) (n : Node) → at ≢ NIL → is_live n ≡ true
     → n.next ≡ get_or heads (bucket_of p n.hash) 0 → IsTable heads ns len p at
     → IsTable (set heads (bucket_of p n.hash) at) (set ns at n) (len + 1) p (node_at ns at).next
 put_table heads ns len p at n on live next t =
@@ -107,15 +107,15 @@ put_table heads ns len p at n on live next t =
     let b_in : b < length heads = bucket_in heads ns len p at t n.hash in
     let step = chain_step ns at t.pool.linked on in
     let here : Among at (chain ns at) = among_along at _ _ (sym step.is) (inl refl) in
-    let dead : (node_at ns at).live ≡ false = t.pool.dead at here in
+    let dead : is_live (node_at ns at) ≡ false = t.pool.dead at here in
     let size : length ms ≡ length ns = length-set ns at n in
     let at_n : node_at ms at ≡ n = get_or-set_same ns at n blank step.below in
     let other : (i : ℕ) → (i ≡ at → ⊥) → node_at ms i ≡ node_at ns i = λ i ne. get_or-set_other ns at i n blank ne in
     let apart : (c : ℕ) → c < length heads → Among at (chain ns (get_or heads c 0)) → ⊥ = λ c lt a. false≢true (sym dead ∙ ((t.buckets c lt).here at a).0) in
     let tail = keeps_set ns at n (node_at ns at).next step.fresh step.next in
     record {
-      counted = let e = sum_by-set (λ (m : Node). cond m.live 1 0) ns at n blank step.below in let e0 : cond (node_at ns at).live 1
-          0 ≡ 0 = ap (λ (x : Bool). let y : ℕ = cond x 1 0 in y) dead in let e1 : cond n.live 1
+      counted = let e = sum_by-set (λ (m : Node). cond (is_live m) 1 0) ns at n blank step.below in let e0 : cond (is_live (node_at ns at)) 1
+          0 ≡ 0 = ap (λ (x : Bool). let y : ℕ = cond x 1 0 in y) dead in let e1 : cond (is_live n) 1
           0 ≡ 1 = ap (λ (x : Bool). let y : ℕ = cond x 1 0 in y) live in omega (arith, e, e0, e1, t.counted);
       size = length-set heads b at ∙ t.size;
       split = t.split;
@@ -123,7 +123,7 @@ put_table heads ns len p at n on live next t =
       pool = record {
         linked = tail.linked;
         dead =
-            λ i a. let a' = among_along i _ _ tail.same a in ap (λ (m : Node). m.live)
+            λ i a. let a' = among_along i _ _ tail.same a in ap is_live
             (other i (λ e. step.fresh (subst (λ k. Among k (chain ns (node_at ns at).next)) e a'))) ∙ t.pool.dead i (among_along i _ _ (sym step.is) (inr a'));
         rest = omega (arith, ap length step.is, ap length tail.same, t.pool.rest, size);
       };
@@ -136,13 +136,13 @@ put_table heads ns len p at n on live next t =
                   here =
                       λ i a. elim (among_along i _ _ front.is a) [
                         | inl f ↦ (
-                          ap (λ x. (node_at ms x).live) f ∙ ap (λ (m : Node). m.live) at_n ∙ live,
+                          ap (λ x. is_live (node_at ms x)) f ∙ ap is_live at_n ∙ live,
                           ap (λ x. bucket_of p (node_at ms x).hash) f
                               ∙ ap (λ (m : Node). bucket_of p m.hash) at_n ∙ sym e,
                         )
                         | inr a' ↦ (let o = other i
                             (λ f. apart c lt (subst (λ x. Among x (chain ns (get_or heads c 0))) f a')) in (
-                              ap (λ (m : Node). m.live) o ∙ (k.here i a').0,
+                              ap is_live o ∙ (k.here i a').0,
                               ap (λ (m : Node). bucket_of p m.hash) o ∙ (k.here i a').1,
                             ))
                       ];
@@ -151,7 +151,7 @@ put_table heads ns len p at n on live next t =
                       (elim (cases_eq i at) [
                         | inl f ↦ inl f
                         | inr ne ↦ (let o = other i
-                            ne in inr (k.every i (omega (arith, size, below)) (ap (λ (m : Node). m.live) (sym o) ∙ is_live')
+                            ne in inr (k.every i (omega (arith, size, below)) (ap is_live (sym o) ∙ is_live')
                             (ap (λ (m : Node). bucket_of p m.hash) (sym o) ∙ is)))
                       ]);
                 }))
@@ -161,21 +161,21 @@ put_table heads ns len p at n on live next t =
                   here =
                       λ i a. let a' = among_along i _ _ kept.same a in let o = other i
                       (λ f. apart c lt (subst (λ x. Among x (chain ns (get_or heads c 0))) f a')) in (
-                        ap (λ (m : Node). m.live) o ∙ (k.here i a').0,
+                        ap is_live o ∙ (k.here i a').0,
                         ap (λ (m : Node). bucket_of p m.hash) o ∙ (k.here i a').1,
                       );
                   every =
                       λ i below is_live' is. among_along i _ _ (sym kept.same)
                       (elim (cases_eq i at) [
                         | inl f ↦ absurd (ne (sym is ∙ ap (λ x. bucket_of p (node_at ms x).hash) f ∙ ap (λ (m : Node). bucket_of p m.hash) at_n))
-                        | inr nf ↦ (let o = other i nf in k.every i (omega (arith, size, below)) (ap (λ (m : Node). m.live) (sym o) ∙ is_live')
+                        | inr nf ↦ (let o = other i nf in k.every i (omega (arith, size, below)) (ap is_live (sym o) ∙ is_live')
                             (ap (λ (m : Node). bucket_of p m.hash) (sym o) ∙ is))
                       ]);
                 }))
           ];
     }
 
-pub put_entries : (heads : List ℕ) (ns : List Node) (len : ℕ) (p : Place) (at : ℕ) (n : Node) → at ≢ NIL → n.live ≡ true → IsTable heads ns len p at
+pub put_entries : (heads : List ℕ) (ns : List Node) (len : ℕ) (p : Place) (at : ℕ) (n : Node) → at ≢ NIL → is_live n ≡ true → IsTable heads ns len p at
     → IsPermutation (entries (set ns at n)) (pair_of n ∷ entries ns)
 put_entries heads ns len p at n on live t =
     let step = chain_step ns at t.pool.linked on in
@@ -189,7 +189,7 @@ room_for_node heads ns len p free capacity spare is some t e =
     (omega (arith, used, is, some), omega (arith, used, is, some))
 
 -- the whole of an insert that splits nothing
-pub put_all : (heads : List ℕ) (ns : List Node) (len : ℕ) (p : Place) (at b head next : ℕ) (heads' : List ℕ) (n : Node) → at ≢ NIL → n.live ≡ true
+pub put_all : (heads : List ℕ) (ns : List Node) (len : ℕ) (p : Place) (at b head next : ℕ) (heads' : List ℕ) (n : Node) → at ≢ NIL → is_live n ≡ true
     → b ≡ bucket_of p n.hash → n.next ≡ head → head ≡ get_or heads b 0 → heads' ≡ set heads b at → next ≡ (node_at ns at).next
     → IsTable heads ns len p at → IsTable heads' (set ns at n) (len + 1) p next
 put_all heads ns len p at b head next heads' n on live b_is next_is head_is heads_is at_next t =

@@ -10,13 +10,13 @@ use Rattle.std.proofs.lemmas.List.Sorted.{IsPermutation-sym, IsPermutation-trans
 use Rattle.std.proofs.lemmas.List.Sums.{sum_by-set}
 use Rattle.mm_value.specs.declared.row_ref.RowRef.{RowRef}
 use Rattle.mlhash.specs.declared.node.Node.{Node}
-use Rattle.mlhash.specs.declared.node.TheConstants.{NIL}
+use Rattle.mlhash.specs.declared.node.TheConstants.{NIL, FREE}
 use Rattle.mlhash.specs.declared.place.Place.{Place}
 use Rattle.mlhash.specs.Address.{bucket_of}
-use Rattle.mlhash.specs.Pairs.{blank, node_at, pair_of}
+use Rattle.mlhash.specs.Pairs.{blank, free_node, is_live, node_at, pair_of}
 use Rattle.mlhash.specs.Chain.{Among, chain, IsLinked, HasAll, Finds}
 use Rattle.mlhash.specs.Table.{entries, IsBucket, IsTable}
-use Rattle.mlhash.proofs.BagLemmas.{is_live, entries-set_out, not_held}
+use Rattle.mlhash.proofs.BagLemmas.{entries-set_out, not_held}
 use Rattle.mlhash.proofs.ChainLemmas.{chain_end, below_linked, IsStep, chain_step, Keeps, keeps_frame, keeps_set, Fronts, fronts_set}
 use Rattle.mlhash.proofs.DealLemmas.{among_along}
 use Rattle.mlhash.proofs.TableLemmas.{bucket_in}
@@ -31,9 +31,9 @@ pub record IsTaking (heads : List ℕ) (ns : List Node) (len : ℕ) (p : Place) 
   pub hash : n1.hash ≡ (node_at ns head).hash
   pub pair : pair_of n1 ≡ pair_of (node_at ns head)
   pub link : n1.next ≡ (node_at ns at).next
-  pub live : n1.live ≡ true
+  pub live : is_live n1 ≡ true
   pub link2 : n2.next ≡ free
-  pub dead : n2.live ≡ false
+  pub dead : is_live n2 ≡ false
 
 module _ (heads : List ℕ) (ns : List Node) (len : ℕ) (p : Place) (free b head at : ℕ) (n1 n2 : Node) (k : IsTaking heads ns len p free b head at n1 n2) where
   bucket : IsBucket ns p head b
@@ -55,10 +55,10 @@ module _ (heads : List ℕ) (ns : List Node) (len : ℕ) (p : Place) (free b hea
   pub at_below : at < length ns
   at_below = below_linked ns head bucket.linked at k.found
 
-  pub at_live : (node_at ns at).live ≡ true
+  pub at_live : is_live (node_at ns at) ≡ true
   at_live = (bucket.here at k.found).0
 
-  head_live : (node_at ns head).live ≡ true
+  head_live : is_live (node_at ns head) ≡ true
   head_live = (bucket.here head head_here).0
 
   size1 : length (set ns at n1) ≡ length ns
@@ -96,9 +96,9 @@ module _ (heads : List ℕ) (ns : List Node) (len : ℕ) (p : Place) (free b hea
       let two = keeps_set (set ns at n1) head n2 h (λ a. apart (among_along head _ _ one.same a)) one.linked in
       record { linked = two.linked; same = two.same ∙ one.same }
 
-  not_head : (i : ℕ) → (node_at (set (set ns at n1) head n2) i).live ≡ true → i ≡ head → ⊥
+  not_head : (i : ℕ) → is_live (node_at (set (set ns at n1) head n2) i) ≡ true → i ≡ head → ⊥
   not_head i live e =
-      false≢true (sym k.dead ∙ ap (λ (m : Node). m.live) (sym head_now) ∙ ap (λ x. (node_at (set (set ns at n1) head n2) x).live) (sym e) ∙ live)
+      false≢true (sym k.dead ∙ ap is_live (sym head_now) ∙ ap (λ x. is_live (node_at (set (set ns at n1) head n2) x)) (sym e) ∙ live)
 
   bucket_n1 : bucket_of p n1.hash ≡ b
   bucket_n1 = ap (bucket_of p) k.hash ∙ (bucket.here head head_here).1
@@ -113,14 +113,14 @@ module _ (heads : List ℕ) (ns : List Node) (len : ℕ) (p : Place) (free b hea
             λ i a. let a' = among_along i _ _ tail.same a in let ne : i ≡ head → ⊥ = λ e. step.fresh
             (subst (λ x. Among x (chain ns (node_at ns head).next)) e a') in elim (cases_eq i at) [
               | inl e ↦ (let now = ap (node_at ms) e ∙ at_now
-                  (λ f. ne (e ∙ f)) in (ap (λ (m : Node). m.live) now ∙ k.live, ap (λ (m : Node). bucket_of p m.hash) now ∙ bucket_n1))
+                  (λ f. ne (e ∙ f)) in (ap is_live now ∙ k.live, ap (λ (m : Node). bucket_of p m.hash) now ∙ bucket_n1))
               | inr na ↦ (let o = other i ne na in let h = bucket.here i
-                  (among_along i _ _ (sym step.is) (inr a')) in (ap (λ (m : Node). m.live) o ∙ h.0, ap (λ (m : Node). bucket_of p m.hash) o ∙ h.1))
+                  (among_along i _ _ (sym step.is) (inr a')) in (ap is_live o ∙ h.0, ap (λ (m : Node). bucket_of p m.hash) o ∙ h.1))
             ];
         every =
             λ i below live is. let ne = not_head i live in let there : Among i (chain ns head) = elim (cases_eq i at) [
               | inl e ↦ subst (λ x. Among x (chain ns head)) (sym e) k.found
-              | inr na ↦ (let o = other i ne na in bucket.every i (omega (arith, size, below)) (ap (λ (m : Node). m.live) (sym o) ∙ live)
+              | inr na ↦ (let o = other i ne na in bucket.every i (omega (arith, size, below)) (ap is_live (sym o) ∙ live)
                   (ap (λ (m : Node). bucket_of p m.hash) (sym o) ∙ is))
             ] in among_along i _ _ (sym tail.same)
             (elim (among_along i _ _ step.is there) [ inl e ↦ absurd (ne e) | inr a ↦ a ]);
@@ -138,19 +138,19 @@ module _ (heads : List ℕ) (ns : List Node) (len : ℕ) (p : Place) (free b hea
         here =
             λ i a. let a' = among_along i _ _ kept.same a in let o = other i (λ e. no_head (subst (λ x. Among x (chain ns (get_or heads c 0))) e a'))
             (λ e. no_at (subst (λ x. Among x (chain ns (get_or heads c 0))) e a')) in (
-              ap (λ (m : Node). m.live) o ∙ (old.here i a').0,
+              ap is_live o ∙ (old.here i a').0,
               ap (λ (m : Node). bucket_of p m.hash) o ∙ (old.here i a').1,
             );
         every =
             λ i below live is. let ne = not_head i live in among_along i _ _ (sym kept.same)
             (elim (cases_eq i at) [
               | inl e ↦ absurd (nb (sym is ∙ ap (λ (m : Node). bucket_of p m.hash) (ap (node_at ms) e ∙ at_now (λ f. ne (e ∙ f))) ∙ bucket_n1))
-              | inr na ↦ (let o = other i ne na in old.every i (omega (arith, size, below)) (ap (λ (m : Node). m.live) (sym o) ∙ live)
+              | inr na ↦ (let o = other i ne na in old.every i (omega (arith, size, below)) (ap is_live (sym o) ∙ live)
                   (ap (λ (m : Node). bucket_of p m.hash) (sym o) ∙ is))
             ]);
       }
 
-  pool_apart : (i : ℕ) → (node_at ns i).live ≡ true → Among i (chain ns free) → ⊥
+  pool_apart : (i : ℕ) → is_live (node_at ns i) ≡ true → Among i (chain ns free) → ⊥
   pool_apart i live a = false≢true (sym (k.table.pool.dead i a) ∙ live)
 
   front : Fronts (set ns at n1) (set (set ns at n1) head n2) free head
@@ -161,13 +161,13 @@ module _ (heads : List ℕ) (ns : List Node) (len : ℕ) (p : Place) (free b hea
 
   one_less : count_by is_live (set (set ns at n1) head n2) + 1 ≡ len
   one_less =
-      let f : Node → ℕ = λ m. cond m.live 1 0 in
+      let f : Node → ℕ = λ m. cond (is_live m) 1 0 in
       let f' : Bool → ℕ = λ x. cond x 1 0 in
       let e1 = sum_by-set f ns at n1 blank at_below in
       let e2 = sum_by-set f (set ns at n1) head n2 blank (omega (arith, size1, head_below)) in
-      let head1 : (node_at (set ns at n1) head).live ≡ true = elim (cases_eq head at) [
-        | inl e ↦ ap (λ x. (node_at (set ns at n1) x).live) e ∙ ap (λ (m : Node). m.live) (get_or-set_same ns at n1 blank at_below) ∙ k.live
-        | inr ne ↦ ap (λ (m : Node). m.live) (get_or-set_other ns at head n1 blank ne) ∙ head_live
+      let head1 : is_live (node_at (set ns at n1) head) ≡ true = elim (cases_eq head at) [
+        | inl e ↦ ap (λ x. is_live (node_at (set ns at n1) x)) e ∙ ap is_live (get_or-set_same ns at n1 blank at_below) ∙ k.live
+        | inr ne ↦ ap is_live (get_or-set_other ns at head n1 blank ne) ∙ head_live
       ] in
       let a1 : f (node_at ns at) ≡ 1 = ap f' at_live in
       let a2 : f n1 ≡ 1 = ap f' k.live in
@@ -191,8 +191,8 @@ module _ (heads : List ℕ) (ns : List Node) (len : ℕ) (p : Place) (free b hea
           linked = front.linked;
           dead =
               λ i a. elim (among_along i _ _ front.is a) [
-                | inl e ↦ ap (λ x. (node_at ms x).live) e ∙ ap (λ (m : Node). m.live) head_now ∙ k.dead
-                | inr a1 ↦ (let a' = among_along i _ _ one.same a1 in ap (λ (m : Node). m.live)
+                | inl e ↦ ap (λ x. is_live (node_at ms x)) e ∙ ap is_live head_now ∙ k.dead
+                | inr a1 ↦ (let a' = among_along i _ _ one.same a1 in ap is_live
                     (other i (λ e. pool_apart head head_live (subst (λ x. Among x (chain ns free)) e a'))
                     (λ e. pool_apart at at_live (subst (λ x. Among x (chain ns free)) e a'))) ∙ k.table.pool.dead i a')
               ];
@@ -215,16 +215,16 @@ module _ (heads : List ℕ) (ns : List Node) (len : ℕ) (p : Place) (free b hea
   two_places : (at ≡ head → ⊥) → IsPermutation (entries ns) (pair_of (node_at ns at) ∷ entries (set (set ns at n1) head n2))
   two_places ne =
       let ms = set (set ns at n1) head n2 in
-      let ns0 = set ns at blank in
+      let ns0 = set ns at free_node in
       let ne' : head ≡ at → ⊥ = λ e. ne (sym e) in
       let rest = set ns0 head n2 in
-      let head0 : node_at ns0 head ≡ node_at ns head = get_or-set_other ns at head blank blank ne' in
-      let out1 : IsPermutation (entries ns) (pair_of (node_at ns at) ∷ entries ns0) = entries-set_out ns at blank at_below at_live refl in
+      let head0 : node_at ns0 head ≡ node_at ns head = get_or-set_other ns at head free_node blank ne' in
+      let out1 : IsPermutation (entries ns) (pair_of (node_at ns at) ∷ entries ns0) = entries-set_out ns at free_node at_below at_live refl in
       let out2 : IsPermutation (entries ns0) (pair_of (node_at ns0 head) ∷ entries rest) = entries-set_out ns0 head n2
-      (omega (arith, length-set ns at blank, head_below)) (ap (λ (m : Node). m.live) head0 ∙ head_live) k.dead in
-      let out3 : IsPermutation (entries ms) (pair_of (node_at ms at) ∷ entries (set ms at blank)) = entries-set_out ms at blank
-      (omega (arith, size, at_below)) (ap (λ (m : Node). m.live) (at_now ne) ∙ k.live) refl in
-      let same : set ms at blank ≡ rest = set_comm (set ns at n1) head at n2 blank ne' ∙ ap (λ xs. set xs head n2) (set-set ns at n1 blank) in
+      (omega (arith, length-set ns at free_node, head_below)) (ap is_live head0 ∙ head_live) k.dead in
+      let out3 : IsPermutation (entries ms) (pair_of (node_at ms at) ∷ entries (set ms at free_node)) = entries-set_out ms at free_node
+      (omega (arith, size, at_below)) (ap is_live (at_now ne) ∙ k.live) refl in
+      let same : set ms at free_node ≡ rest = set_comm (set ns at n1) head at n2 free_node ne' ∙ ap (λ xs. set xs head n2) (set-set ns at n1 free_node) in
       let pairs : pair_of (node_at ms at) ≡ pair_of (node_at ns0 head) = ap pair_of (at_now ne) ∙ k.pair ∙ ap pair_of (sym head0) in
       let out3' : IsPermutation (entries ms)
       (pair_of (node_at ns0 head) ∷ entries rest) = subst (λ (e : ℕ × RowRef). IsPermutation (entries ms) (e ∷ entries rest)) pairs
@@ -260,10 +260,10 @@ Finds-read ms ns head hash r at read s = subst (λ xs. Finds xs head hash r at) 
 
 -- a node with the pair of another one, and a free node
 abbrev pub pair_in : Node → ℕ → Node
-pair_in n next = record { hash = n.hash; part = n.part; next = next; slot = n.slot; live = true }
+pair_in n next = record { hash = n.hash; number = n.number; next = next }
 
 abbrev pub freed : ℕ → Node
-freed next = record { hash = 0; part = 0; next = next; slot = 0; live = false }
+freed next = record { hash = 0; number = FREE; next = next }
 
 -- what the code writes where the pair was found; m1 is the first node as read, m2 the found one
 pub taking : (heads : List ℕ) (ns : List Node) (len : ℕ) (p : Place) (free hash b head : ℕ) (r : RowRef) (at : ℕ) (m1 m2 : Node)
@@ -283,7 +283,7 @@ taking heads ns len p free hash b head r at m1 m2 b_is head_is t s on read1 read
       hash = ap (λ (m : Node). m.hash) is1;
       pair = ap pair_of is1;
       link = ap (λ (m : Node). m.next) is2;
-      live = refl;
+      live = ap is_live is1 ∙ (k.here head (among_along head _ _ (sym (chain_step ns head k.linked head_on).is) (inl refl))).0;
       link2 = refl;
       dead = refl;
     }

@@ -3,7 +3,7 @@ use Rattle.std.specs.Prelude.{◌≡◌, ◌≢◌, ℕ, zero, suc, ◌<◌, ◌
 use Rattle.mm_value.specs.declared.row_ref.RowRef.{RowRef}
 use Rattle.mlhash.specs.declared.node.Node.{Node}
 use Rattle.mlhash.specs.declared.node.TheConstants.{NIL}
-use Rattle.mlhash.specs.Pairs.{node_at, row_of, pair_of, SameEntry}
+use Rattle.mlhash.specs.Pairs.{is_live, node_at, row_of, pair_of, SameEntry}
 
 -- an index is one of a list
 abbrev pub Among : ℕ → List ℕ → Type 0
@@ -31,7 +31,7 @@ pub record IsLinked (ns : List Node) (head : ℕ) : Type 0 where
 
 -- each node with an entry of this hash is on the chain
 abbrev pub HasAll : List Node → ℕ → ℕ → Type 0
-HasAll ns head hash = (i : ℕ) → i < length ns → (node_at ns i).live ≡ true → (node_at ns i).hash ≡ hash → Among i (chain ns head)
+HasAll ns head hash = (i : ℕ) → i < length ns → is_live (node_at ns i) ≡ true → (node_at ns i).hash ≡ hash → Among i (chain ns head)
 
 -- no node is of both
 abbrev pub AreApart : List ℕ → List ℕ → Type 0

@@ -1,24 +1,32 @@
 -- Nodes and the pairs in them. No public clause cites this module.
-use Rattle.std.specs.Prelude.{◌≡◌, ℕ, false, List, slice_index_or}
+use Rattle.std.specs.Prelude.{◌≡◌, ℕ, ◌/◌, ◌%◌, Bool, nat_lt, List, slice_index_or}
 use Rattle.mm_value.specs.declared.row_ref.RowRef.{RowRef}
 use Rattle.mlhash.specs.declared.node.Node.{Node}
-use Rattle.mlhash.specs.declared.node.TheConstants.{NIL}
+use Rattle.mlhash.specs.declared.node.TheConstants.{NIL, FREE}
 
 -- a node of zeros, which stands for what is past the end of a list
 abbrev pub blank : Node
-blank = record { hash = 0; part = 0; next = 0; slot = 0; live = false }
+blank = record { hash = 0; number = 0; next = 0 }
 
 -- a new node, with nothing in it and no other behind it
 abbrev pub free_node : Node
-free_node = record { hash = 0; part = 0; next = NIL; slot = 0; live = false }
+free_node = record { hash = 0; number = FREE; next = NIL }
 
 -- the node at an index
 abbrev pub node_at : List Node → ℕ → Node
 node_at ns i = slice_index_or ns i blank
 
+-- a node holds an entry
+abbrev pub is_live : Node → Bool
+is_live n = nat_lt n.number FREE
+
+-- the reference that a number stands for: 64 slots a partition
+abbrev pub row_ref : ℕ → RowRef
+row_ref number = record { part = number / 64; slot = number % 64 }
+
 -- the reference in a node
 abbrev pub row_of : Node → RowRef
-row_of n = record { part = n.part; slot = n.slot }
+row_of n = row_ref n.number
 
 -- the pair in a node
 abbrev pub pair_of : Node → ℕ × RowRef
@@ -27,6 +35,4 @@ pair_of n = (n.hash, row_of n)
 -- two nodes that differ in their links alone
 pub record SameEntry (m n : Node) : Type 0 where
   pub hash : n.hash ≡ m.hash
-  pub part : n.part ≡ m.part
-  pub slot : n.slot ≡ m.slot
-  pub live : n.live ≡ m.live
+  pub number : n.number ≡ m.number

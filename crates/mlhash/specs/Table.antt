@@ -6,27 +6,27 @@ use Rattle.mlhash.specs.declared.node.TheConstants.{NIL}
 use Rattle.mlhash.specs.declared.place.Place.{Place}
 use Rattle.mlhash.specs.Address.{bucket_of}
 use Rattle.mlhash.specs.Chain.{Among, chain, IsLinked}
-use Rattle.mlhash.specs.Pairs.{free_node, node_at, pair_of}
+use Rattle.mlhash.specs.Pairs.{free_node, is_live, node_at, pair_of}
 
 -- the pairs in the nodes that hold one
 abbrev pub entries : List Node → List (ℕ × RowRef)
-entries ns = map pair_of (filter (λ n. n.live) ns)
+entries ns = map pair_of (filter is_live ns)
 
 -- a bucket's chain has just the entries whose hash has this bucket
 pub record IsBucket (ns : List Node) (place : Place) (head bucket : ℕ) : Type 0 where
   pub linked : IsLinked ns head
-  pub here : (i : ℕ) → Among i (chain ns head) → ((node_at ns i).live ≡ true) × (bucket_of place (node_at ns i).hash ≡ bucket)
-  pub every : (i : ℕ) → i < length ns → (node_at ns i).live ≡ true → bucket_of place (node_at ns i).hash ≡ bucket → Among i (chain ns head)
+  pub here : (i : ℕ) → Among i (chain ns head) → (is_live (node_at ns i) ≡ true) × (bucket_of place (node_at ns i).hash ≡ bucket)
+  pub every : (i : ℕ) → i < length ns → is_live (node_at ns i) ≡ true → bucket_of place (node_at ns i).hash ≡ bucket → Among i (chain ns head)
 
 -- a chain of free nodes, as many as there are beside the entries
 pub record IsFree (ns : List Node) (len free : ℕ) : Type 0 where
   pub linked : IsLinked ns free
-  pub dead : (i : ℕ) → Among i (chain ns free) → (node_at ns i).live ≡ false
+  pub dead : (i : ℕ) → Among i (chain ns free) → is_live (node_at ns i) ≡ false
   pub rest : length (chain ns free) + len ≡ length ns
 
 -- each entry is in the chain of its bucket, and each other node in the chain of free ones
 pub record IsTable (heads : List ℕ) (ns : List Node) (len : ℕ) (place : Place) (free : ℕ) : Type 0 where
-  pub counted : count_by (λ n. n.live) ns ≡ len
+  pub counted : count_by is_live ns ≡ len
   pub size : length heads ≡ 4 * 2 ^ place.level + place.split
   pub split : place.split < 4 * 2 ^ place.level
   pub limit : length heads ≤ 2 ^ 31

@@ -1,11 +1,11 @@
 //! Chains: walks along the links of the nodes.
-ghost use Rattle.std.specs.Prelude.{◌≡◌, ◌≢◌, ℕ, ◌++◌, OnOk, OnErr};
+ghost use Rattle.std.specs.Prelude.{◌≡◌, ◌≢◌, ℕ};
+ghost use Rattle.mlhash.specs.Pairs.{node_at};
 ghost use Rattle.mlhash.specs.Chain.{IsLinked, HasAll, Finds, refs_along, Deals, chain, AreApart};
 
 use crate::directory::Directory;
 use crate::node::{NIL, Node};
 use mm_value::RowRef;
-use std::alloc::AllocError;
 
 /// A node of the chain with this hash and reference, `NIL` where it has none.
 pub(crate) fn find(nodes: &[Node], head: u32, hash: u64, reference: RowRef) -> u32
@@ -42,35 +42,29 @@ pub(crate) fn find_by_hint(
     let hint = directory.hint(reference);
     if (hint as usize) < nodes.len() {
         let node = &nodes[hint as usize];
-        if node.live && node.has(hash, reference) {
+        if node.is_live() && node.has(hash, reference) {
             return hint;
         }
     }
     find(nodes, head, hash, reference)
 }
 
-/// Appends the references of this hash along the chain.
-pub(crate) fn collect(
-    nodes: &[Node],
-    head: u32,
-    hash: u64,
-    out: &mut Vec<RowRef>,
-) -> Result<(), AllocError>
+/// The first node of the chain with this hash, `NIL` where it has none.
+pub(crate) fn first_of(nodes: &[Node], head: u32, hash: u64) -> u32
     requires { IsLinked nodes.now head }
-    ensures ok { OnOk result (out.new.items ≡ out.old.items ++ refs_along nodes.now head hash) }
-    ensures err { OnErr result (out.new.items ≡ out.old.items) }
+    ensures linked { IsLinked nodes.now result }
+    ensures same { refs_along nodes.now result hash ≡ refs_along nodes.now head hash }
+    ensures here { result ≢ NIL → (node_at nodes.now result).hash ≡ hash }
 {
-    let kept = out.len();
     let mut at = head;
     while at != NIL {
         let node = &nodes[at as usize];
-        if node.hash == hash && out.push(node.row()).is_err() {
-            out.truncate(kept);
-            return Err(AllocError);
+        if node.hash == hash {
+            return at;
         }
         at = node.next;
     }
-    Ok(())
+    NIL
 }
 
 /// Deals the nodes of the chain `from` out: those whose hash under `mask` is `stay` go in front of the

@@ -1,16 +1,17 @@
 //! The bag.
 ghost use Rattle.std.specs.Prelude.{◌≡◌, ◌+◌, ◌<◌, ◌≤◌, ◌↔◌, vec_len, vec_capacity, [], ◌∷◌, ◌++◌, length, Contains, IsPermutation, IsTrue, IsOk, OnOk, OnErr};
 ghost use Rattle.std.specs.Bool.{OnTrue, OnFalse};
-ghost use Rattle.mlhash.specs.Bag.{refs_of, all_refs, AppendsInSomeOrder};
+ghost use Rattle.mlhash.specs.Bag.{IsSmall, refs_of, all_refs, AppendsInSomeOrder};
 ghost use Rattle.mlhash.specs.Table.{Stocks};
 
 #[cfg(test)]
 mod tests;
 
-use crate::chains::{collect, deal, find_by_hint};
+use crate::chains::{deal, find_by_hint};
 use crate::directory::Directory;
 use crate::heads::Heads;
-use crate::node::{NIL, Node};
+use crate::matching::Matching;
+use crate::node::{FREE, NIL, Node, number_of};
 use crate::place::{Place, bucket_of, place_after, place_before};
 use mm_value::RowRef;
 use std::alloc::{AllocError, Global};
@@ -67,10 +68,8 @@ fn stock(nodes: &mut Vec<Node>, free: u32) -> u32
     let fresh = nodes.len() as u32;
     nodes.push_reserved(Node {
         hash: 0,
-        part: 0,
+        number: FREE,
         next: NIL,
-        slot: 0,
-        live: false,
     });
     fresh
 }
@@ -132,9 +131,10 @@ impl HashRefs {
         Ok(())
     }
 
-    /// Puts a pair in, in room that is there.
+    /// Puts a pair in, in room that is there. The reference is kept in four bytes, and so it has to be small.
     pub fn insert(&mut self, hash: u64, reference: RowRef)
-        requires { 0 < self.old.spare }
+        requires room { 0 < self.old.spare }
+        requires small { IsSmall reference }
         ensures entries { IsPermutation self.new.entries ((hash, reference) ∷ self.old.entries) }
         ensures spare { self.new.spare + 1 ≡ self.old.spare }
     {
@@ -160,6 +160,14 @@ impl HashRefs {
         true
     }
 
+    /// The references of a hash one after the other, each as often as held, in no promised order. It takes no memory.
+    pub fn matching(&self, hash: u64) -> Matching<'_>
+        ensures { IsPermutation result (refs_of hash self.now.entries) }
+    {
+        let head = self.heads.get(bucket_of(self.place, hash));
+        Matching::along(&self.nodes, head, hash)
+    }
+
     /// Appends the references of a hash, each as often as held, in no promised order. After an error
     /// the vector is as before.
     pub fn matches(
@@ -171,8 +179,14 @@ impl HashRefs {
         ensures ok { OnOk result (AppendsInSomeOrder out.old.items out.new.items (refs_of hash self.now.entries)) }
         ensures err { OnErr result (out.new.items ≡ out.old.items) }
     {
-        let head = self.heads.get(bucket_of(self.place, hash));
-        collect(&self.nodes, head, hash, out)
+        let kept = out.len();
+        for reference in self.matching(hash) {
+            if out.push(reference).is_err() {
+                out.truncate(kept);
+                return Err(AllocError);
+            }
+        }
+        Ok(())
     }
 
     /// Appends all references, each as often as held, in no promised order. After an error the vector
@@ -183,7 +197,7 @@ impl HashRefs {
     {
         out.reserve(self.len)?;
         for node in &self.nodes {
-            if node.live {
+            if node.is_live() {
                 out.push_reserved(node.row());
             }
         }
@@ -192,20 +206,20 @@ impl HashRefs {
 
     /// Puts a pair in front of its bucket's chain.
     fn put(&mut self, hash: u64, reference: RowRef)
-        requires { 0 < self.old.spare }
+        requires room { 0 < self.old.spare }
+        requires small { IsSmall reference }
         ensures entries { IsPermutation self.new.entries ((hash, reference) ∷ self.old.entries) }
         ensures spare { self.new.spare + 1 ≡ self.old.spare }
     {
+        let number = number_of(reference);
         let at = stock(&mut self.nodes, self.free);
         let bucket = bucket_of(self.place, hash);
         let node = &mut self.nodes[at as usize];
         self.free = node.next;
         *node = Node {
             hash,
-            part: reference.part,
+            number,
             next: self.heads.get(bucket),
-            slot: reference.slot,
-            live: true,
         };
         self.heads.set(bucket, at);
         self.directory.note(reference, at);
@@ -230,17 +244,13 @@ impl HashRefs {
         let next = self.nodes[at as usize].next;
         self.nodes[at as usize] = Node {
             hash: first.hash,
-            part: first.part,
+            number: first.number,
             next,
-            slot: first.slot,
-            live: true,
         };
         self.nodes[head as usize] = Node {
             hash: 0,
-            part: 0,
+            number: FREE,
             next: self.free,
-            slot: 0,
-            live: false,
         };
         self.heads.set(bucket, first.next);
         self.directory.note_move(first.row(), head, at);

@@ -10,7 +10,9 @@ mod chains;
 mod directory;
 mod hash_refs;
 mod heads;
+mod matching;
 mod node;
 mod place;
 
 pub use hash_refs::HashRefs;
+pub use matching::Matching;

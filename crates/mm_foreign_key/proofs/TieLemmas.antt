@@ -1,14 +1,16 @@
 -- Which row a row refers to, read from the entries.
-use Rattle.std.proofs.Common.{◌≡◌, ℕ, ◌<◌, ◌≤◌, List, ◌++◌, length, Option, Some, None, get_or, set, replicate, refl, sym, ap, ◌∙◌, ⊎_elim, arith}
+use Rattle.std.proofs.Common.{◌≡◌, ℕ, ◌-◌, ◌^◌, ◌<◌, ◌≤◌, min, List, ◌++◌, length, Option, Some, None, get_or, set, replicate}
+use Rattle.std.proofs.Common.{refl, sym, ap, ◌∙◌, ⊎_elim, arith}
 use Rattle.std.specs.Prelude.{map, count_by}
 use Rattle.std.specs.Option.{option_map}
 use Rattle.std.proofs.lemmas.Bool.{cases_lt, lt-ltb, le-ltb, cond-true, cond-false}
 use Rattle.std.proofs.lemmas.List.{get_or-map, get_or_past, get_or-set_other, get_or-set_same, length-map}
 use Rattle.mm_value.specs.declared.row_ref.RowRef.{RowRef}
 use Rattle.mm_partition.specs.Places.{slot_index_of}
-use Rattle.mm_foreign_key.specs.Counts.{refers_to}
+use Rattle.mm_foreign_key.specs.Counts.{refers_to, entry_of, entries_of}
 use Rattle.mm_foreign_key.specs.Ties.{Ties, reference_at, target_at, HasTarget, IsReferred, KeepsTargets, ChangesTarget}
 use Rattle.mm_foreign_key.proofs.CountLemmas.{entry_within, entry_from_count, count_from_entry, get_or-grown}
+use Rattle.mm_foreign_key.proofs.EntryLemmas.{as_many_entries, entry_at, index_of_entry}
 
 -- the index of the reference at an index is that index
 index-reference : (i : ℕ) → slot_index_of (reference_at i) ≡ i
@@ -147,3 +149,23 @@ ChangesTarget-set old new targets i entry from target holds old_views new_views 
           (λ (h : 64 ≤ other.slot). target_at-large new other h ∙ sym (target_at-large old other h))
           (cases_lt other.slot 64);
     }
+
+-- the number at the place of a row is the index of the slot that it refers to
+pub record IsTied (numbers : List ℕ) (from : RowRef) (i number : ℕ) : Type 0 where
+  pub small : from.slot < 64
+  pub at : i ≡ slot_index_of from
+  pub within : i < length numbers
+  pub entry : get_or (entries_of numbers) i None ≡ Some number
+
+-- such is the number that is read for a row which refers to some row
+pub IsTied-read : (ties : Ties) (numbers : List ℕ) (from : RowRef) (i number d : ℕ) → Views ties (entries_of numbers) → HasTarget ties from
+    → length numbers < 2 ^ 64 → i ≡ min (slot_index_of from) (2 ^ 64 - 1) → number ≡ get_or numbers i d → IsTied numbers from i number
+IsTied-read ties numbers from i number d views (to, is) fits index read =
+    let enters : Enters (entries_of numbers) from to = Enters-from_target ties (entries_of numbers) from to views is in
+    let there : slot_index_of from < length numbers
+    = omega (arith, entry_within (entries_of numbers) (slot_index_of from) (slot_index_of to) enters.entry, as_many_entries numbers) in
+    let at : i ≡ slot_index_of from = omega (arith, index, there, fits) in
+    let within : i < length numbers = omega (arith, at, there) in
+    let entry : get_or (entries_of numbers) i None ≡ Some (slot_index_of to) = ap (λ n. get_or (entries_of numbers) n None) at ∙ enters.entry in
+    let same : number ≡ slot_index_of to = index_of_entry number (slot_index_of to) (ap entry_of read ∙ sym (entry_at numbers i d within) ∙ entry) in
+    record { small = enters.small; at = at; within = within; entry = entry ∙ ap Some (sym same) }

@@ -1,5 +1,14 @@
--- How the referrers of each row are counted. No public clause cites this module.
-use Rattle.std.specs.Prelude.{◌≡◌, ℕ, ◌<◌, ◌^◌, ◌==◌, Bool, false, List, length, Option, Some, None, slice_index_or, count_by}
+-- How targets are kept, and the referrers of each row are counted. No public clause cites this module.
+use Rattle.std.specs.Prelude.{◌≡◌, ℕ, ◌<◌, ◌^◌, ◌==◌, Bool, false, List, length, map, Option, Some, None, slice_index_or, count_by, if◌then◌else◌}
+use Rattle.mm_foreign_key.specs.declared.slots.TheConstants.{NONE}
+
+-- the index of a slot that a number is, none where it stands for no slot
+abbrev pub entry_of : ℕ → Option ℕ
+entry_of number = (if number == NONE then None else Some number)
+
+-- the entries that numbers are
+abbrev pub entries_of : List ℕ → List (Option ℕ)
+entries_of numbers = map entry_of numbers
 
 -- the entry is that of a row which refers to the row at this place
 abbrev pub refers_to : ℕ → Option ℕ → Bool

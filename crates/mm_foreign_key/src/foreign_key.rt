@@ -4,10 +4,11 @@ ghost use Rattle.mm_partition.specs.Places.{slot_index_of};
 ghost use Rattle.mm_foreign_key.specs.declared.foreign_key.TheConstants.{MAX_SLOTS};
 ghost use Rattle.mm_foreign_key.specs.Ties.{target_at, HasTarget, IsReferred, KeepsTargets, ChangesTarget};
 
-use crate::slots::{SLOTS, index_of, reference_to};
+use crate::slots::{NONE, SLOTS, index_of, reference_to};
 use mm_value::RowRef;
 use std::alloc::{AllocError, Global};
 use std::marker::Model;
+use std::mem;
 
 /// The most slots of either table: an index and a count have 32 bits.
 const MAX_SLOTS: usize = u32::MAX as usize;
@@ -23,8 +24,8 @@ const MAX_SLOTS: usize = u32::MAX as usize;
 /// rows there are.
 #[derive(Drop)]
 pub struct ForeignKey {
-    /// By the slot index of a row, the slot index of the row that it refers to.
-    targets: Vec<Option<u32>>,
+    /// By the slot index of a row, the slot index of the row that it refers to, `NONE` where it refers to none.
+    targets: Vec<u32>,
     /// By the slot index of a row, how many rows refer to it.
     counts: Vec<u32>,
 }
@@ -36,14 +37,14 @@ impl Model for ForeignKey {
 
     ghost Value = { Ties };
 
-    ghost use Rattle.mm_foreign_key.specs.Counts.{IsCounted};
+    ghost use Rattle.mm_foreign_key.specs.Counts.{IsCounted, entries_of};
 
     ghost view = { λ key. record {
-      targets = map (option_map reference_at) key.targets.items;
+      targets = map (option_map reference_at) (entries_of key.targets.items);
       extent = length key.counts.items;
     } };
 
-    ghost invariant = { λ key. IsCounted key.targets.items key.counts.items };
+    ghost invariant = { λ key. IsCounted (entries_of key.targets.items) key.counts.items };
 }
 
 /// Makes room so that there can be `len` items. The items stay; `AllocError` where memory is refused, or
@@ -105,7 +106,7 @@ impl ForeignKey {
     {
         reserve_to(&mut self.targets, referrers)?;
         reserve_to(&mut self.counts, targets)?;
-        fill_to(&mut self.targets, referrers, None);
+        fill_to(&mut self.targets, referrers, NONE);
         fill_to(&mut self.counts, targets, 0);
         Ok(())
     }
@@ -118,8 +119,7 @@ impl ForeignKey {
         if usize::from(from.slot) >= SLOTS || index >= self.targets.len() {
             return None;
         }
-        let target = self.targets[index]?;
-        Some(reference_to(target))
+        reference_to(self.targets[index])
     }
 
     /// Whether some row refers to a row.
@@ -145,7 +145,7 @@ impl ForeignKey {
     {
         let place = index_of(to);
         self.counts[place] += 1;
-        self.targets[index_of(from)] = Some(place as u32);
+        self.targets[index_of(from)] = place as u32;
     }
 
     /// Has a row refer to none, where it referred to one.
@@ -155,9 +155,7 @@ impl ForeignKey {
         ensures referrers { length self.new.targets ≡ length self.old.targets }
         ensures extent { self.new.extent ≡ self.old.extent }
     {
-        let Some(place) = self.targets[index_of(from)].take() else {
-            unreachable!()
-        };
+        let place = mem::replace(&mut self.targets[index_of(from)], NONE);
         self.counts[place as usize] -= 1;
     }
 }

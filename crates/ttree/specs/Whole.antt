@@ -7,4 +7,4 @@ use Rattle.ttree.specs.Balanced.{IsTTree}
 pub record IsWhole (tree : Tree) (len spares : ℕ) : Type 0 where
   pub balanced : IsTTree tree
   pub len_is : len ≡ length (in_order tree)
-  pub nodes_fit : node_count tree + spares ≤ 2 ^ 59
+  pub nodes_fit : node_count tree + spares ≤ 2 ^ 31

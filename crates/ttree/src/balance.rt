@@ -30,7 +30,7 @@ pub(crate) fn is_leaf(tree: Option<&Subtree>) -> bool
 /// Balances a root whose sides differ in height by at most 2, by one rotation, single or double.
 pub(crate) fn balance(node: Subtree) -> Subtree
     requires root { IsRootOver 2 node }
-    requires height_fits { height_of (fork node) + 1 < 2 ^ 64 }
+    requires height_fits { height_of (fork node) + 1 < 2 ^ 32 }
     ensures tree { IsTTree (fork result) }
     ensures same_entries { in_order (fork result) ≡ in_order (fork node) }
     ensures same_nodes { node_count (fork result) ≡ node_count (fork node) }
@@ -51,7 +51,7 @@ pub(crate) fn balance(node: Subtree) -> Subtree
 fn lower_left(mut node: Subtree) -> Subtree
     requires root { IsRootOver 2 node }
     requires left_higher { height_of node.left ≡ height_of node.right + 2 }
-    requires height_fits { height_of (fork node) + 1 < 2 ^ 64 }
+    requires height_fits { height_of (fork node) + 1 < 2 ^ 32 }
     ensures tree { IsTTree (fork result) }
     ensures same_entries { in_order (fork result) ≡ in_order (fork node) }
     ensures same_nodes { node_count (fork result) ≡ node_count (fork node) }
@@ -69,7 +69,7 @@ fn lower_left(mut node: Subtree) -> Subtree
 fn lower_right(mut node: Subtree) -> Subtree
     requires root { IsRootOver 2 node }
     requires right_higher { height_of node.right ≡ height_of node.left + 2 }
-    requires height_fits { height_of (fork node) + 1 < 2 ^ 64 }
+    requires height_fits { height_of (fork node) + 1 < 2 ^ 32 }
     ensures tree { IsTTree (fork result) }
     ensures same_entries { in_order (fork result) ≡ in_order (fork node) }
     ensures same_nodes { node_count (fork result) ≡ node_count (fork node) }
@@ -87,7 +87,7 @@ fn lower_right(mut node: Subtree) -> Subtree
 /// an internal node, first receives entries of its old parent.
 fn lean_left(mut node: Subtree) -> Subtree
     requires tree { IsTTree (fork node) }
-    requires height_fits { height_of (fork node) + 1 < 2 ^ 64 }
+    requires height_fits { height_of (fork node) + 1 < 2 ^ 32 }
     ensures root { IsRootOver 2 result }
     ensures same_entries { in_order (fork result) ≡ in_order (fork node) }
     ensures same_nodes { node_count (fork result) ≡ node_count (fork node) }
@@ -107,7 +107,7 @@ fn lean_left(mut node: Subtree) -> Subtree
 /// an internal node, first receives entries of its old parent.
 fn lean_right(mut node: Subtree) -> Subtree
     requires tree { IsTTree (fork node) }
-    requires height_fits { height_of (fork node) + 1 < 2 ^ 64 }
+    requires height_fits { height_of (fork node) + 1 < 2 ^ 32 }
     ensures root { IsRootOver 2 result }
     ensures same_entries { in_order (fork result) ≡ in_order (fork node) }
     ensures same_nodes { node_count (fork result) ≡ node_count (fork node) }

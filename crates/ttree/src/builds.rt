@@ -1,5 +1,5 @@
 //! A T-tree made from a list at once.
-ghost use Rattle.std.specs.Prelude.{◌≡◌, ◌+◌, ◌*◌, ◌<◌, ◌≤◌, [], length, All};
+ghost use Rattle.std.specs.Prelude.{◌≡◌, ◌+◌, ◌*◌, ◌^◌, ◌<◌, ◌≤◌, [], length, All};
 ghost use Rattle.ttree_node.specs.Entries.{IsSmall};
 ghost use Rattle.ttree_node.specs.Tree.{Empty, tree_of, in_order, height_of, node_count};
 ghost use Rattle.ttree.specs.Balanced.{IsTTree};
@@ -35,6 +35,7 @@ pub(crate) fn build(refs: &[RowRef], nodes: usize, spares: &mut Spares) -> Optio
     requires filled { 16 * nodes < length refs.now + 16 }
     requires small { All IsSmall refs.now }
     requires spare { nodes ≤ spares.old }
+    requires height_fits { nodes < 2 ^ 32 }
     ensures tree { IsTTree (tree_of result) }
     ensures entries { in_order (tree_of result) ≡ refs.now }
     ensures nodes { node_count (tree_of result) ≡ nodes }

@@ -20,7 +20,7 @@ fn absorb_left(mut node: Subtree, spares: &mut Spares) -> Subtree
     requires left_leaf { IsLeaf node.left }
     requires no_right { node.right ≡ Empty }
     requires at_most_16 { length node.entries ≤ 16 }
-    requires pool_fits { node_count (fork node) + spares.old < 2 ^ 64 }
+    requires pool_fits { node_count (fork node) + spares.old < 2 ^ 32 }
     ensures tree { IsTTree (fork result) }
     ensures same_entries { in_order (fork result) ≡ in_order (fork node) }
     ensures nodes { node_count (fork result) + spares.new ≡ node_count (fork node) + spares.old }
@@ -45,7 +45,7 @@ fn absorb_right(mut node: Subtree, spares: &mut Spares) -> Subtree
     requires right_leaf { IsLeaf node.right }
     requires no_left { node.left ≡ Empty }
     requires at_most_16 { length node.entries ≤ 16 }
-    requires pool_fits { node_count (fork node) + spares.old < 2 ^ 64 }
+    requires pool_fits { node_count (fork node) + spares.old < 2 ^ 32 }
     ensures tree { IsTTree (fork result) }
     ensures same_entries { in_order (fork result) ≡ in_order (fork node) }
     ensures nodes { node_count (fork result) + spares.new ≡ node_count (fork node) + spares.old }
@@ -68,8 +68,8 @@ fn absorb_right(mut node: Subtree, spares: &mut Spares) -> Subtree
 /// they fit, another root is balanced.
 fn mend(node: Subtree, spares: &mut Spares) -> Subtree
     requires root { IsRootOver 2 node }
-    requires height_fits { height_of (fork node) + 1 < 2 ^ 64 }
-    requires pool_fits { node_count (fork node) + spares.old < 2 ^ 64 }
+    requires height_fits { height_of (fork node) + 1 < 2 ^ 32 }
+    requires pool_fits { node_count (fork node) + spares.old < 2 ^ 32 }
     ensures tree { IsTTree (fork result) }
     ensures same_entries { in_order (fork result) ≡ in_order (fork node) }
     ensures nodes { node_count (fork result) + spares.new ≡ node_count (fork node) + spares.old }
@@ -95,7 +95,7 @@ fn settle(node: Subtree, spares: &mut Spares) -> Option<Subtree>
     requires left_low { height_of node.left ≤ 1 }
     requires right_low { height_of node.right ≤ 1 }
     requires at_most_16 { length node.entries ≤ 16 }
-    requires pool_fits { node_count (fork node) + spares.old < 2 ^ 64 }
+    requires pool_fits { node_count (fork node) + spares.old < 2 ^ 32 }
     ensures tree { IsTTree (tree_of result) }
     ensures same_entries { in_order (tree_of result) ≡ in_order (fork node) }
     ensures nodes { node_count (tree_of result) + spares.new ≡ node_count (fork node) + spares.old }
@@ -118,8 +118,8 @@ fn settle(node: Subtree, spares: &mut Spares) -> Option<Subtree>
 /// Takes the greatest entry out of a tree.
 fn take_last(mut node: Subtree, spares: &mut Spares) -> (Option<Subtree>, RowRef)
     requires tree { IsTTree (fork node) }
-    requires height_fits { height_of (fork node) + 1 < 2 ^ 64 }
-    requires pool_fits { node_count (fork node) + spares.old < 2 ^ 64 }
+    requires height_fits { height_of (fork node) + 1 < 2 ^ 32 }
+    requires pool_fits { node_count (fork node) + spares.old < 2 ^ 32 }
     ensures tree { IsTTree (tree_of result.0) }
     ensures entries { in_order (tree_of result.0) ++ result.1 ∷ [] ≡ in_order (fork node) }
     ensures small { IsSmall result.1 }
@@ -149,8 +149,8 @@ fn refill(mut node: Subtree, spares: &mut Spares) -> Option<Subtree>
     requires left_low { height_of node.left ≤ height_of node.right + 1 }
     requires right_low { height_of node.right ≤ height_of node.left + 1 }
     requires at_most_16 { length node.entries ≤ 16 }
-    requires height_fits { height_of (fork node) + 1 < 2 ^ 64 }
-    requires pool_fits { node_count (fork node) + spares.old < 2 ^ 64 }
+    requires height_fits { height_of (fork node) + 1 < 2 ^ 32 }
+    requires pool_fits { node_count (fork node) + spares.old < 2 ^ 32 }
     ensures tree { IsTTree (tree_of result) }
     ensures same_entries { in_order (tree_of result) ≡ in_order (fork node) }
     ensures nodes { node_count (tree_of result) + spares.new ≡ node_count (fork node) + spares.old }
@@ -232,8 +232,8 @@ fn remove_among<O: RefOrder>(
     requires tree { IsTTree (fork node) }
     requires ordered { IsOrdered (O.covers order.now) (O.cmp order.now) (in_order (fork node)) }
     requires covered { O.covers order.now gone }
-    requires height_fits { height_of (fork node) + 1 < 2 ^ 64 }
-    requires pool_fits { node_count (fork node) + spares.old < 2 ^ 64 }
+    requires height_fits { height_of (fork node) + 1 < 2 ^ 32 }
+    requires pool_fits { node_count (fork node) + spares.old < 2 ^ 32 }
     ensures tree { IsTTree (tree_of result.0) }
     ensures held { IsSome result.1 ↔ Contains node.entries gone }
     ensures few { IfSome result.1 (λ along. along ≤ length behind.now) }
@@ -267,8 +267,8 @@ pub(crate) fn remove_from<O: RefOrder>(
     requires tree { IsTTree (tree_of tree) }
     requires ordered { IsOrdered (O.covers order.now) (O.cmp order.now) (in_order (tree_of tree)) }
     requires covered { O.covers order.now gone }
-    requires height_fits { height_of (tree_of tree) + 1 < 2 ^ 64 }
-    requires pool_fits { node_count (tree_of tree) + spares.old < 2 ^ 64 }
+    requires height_fits { height_of (tree_of tree) + 1 < 2 ^ 32 }
+    requires pool_fits { node_count (tree_of tree) + spares.old < 2 ^ 32 }
     ensures tree { IsTTree (tree_of result.0) }
     ensures held { IsSome result.1 ↔ Contains (in_order (tree_of tree)) gone }
     ensures few { IfSome result.1 (λ along. along ≤ length behind.now) }

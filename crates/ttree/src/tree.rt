@@ -21,8 +21,8 @@ use std::alloc::{AllocError, Global};
 use std::marker::Model;
 use ttree_node::{Spares, Subtree};
 
-/// No memory holds this many nodes.
-const MAX_NODES: usize = 576_460_752_303_423_488;
+/// The most nodes, so that heights and numbers of nodes fit into 32 bits. A table has fewer rows, and each node has an entry.
+const MAX_NODES: usize = 1 << 31;
 
 /// Ordered references in a T-tree: a balanced binary tree whose nodes hold up to 16 references in
 /// order (Lehman and Carey, VLDB 1986). It keeps free nodes, so that an insertion takes no memory.

@@ -1,5 +1,5 @@
 -- What stands where along a path, and what edits at its end leave.
-use Rattle.std.proofs.Common.{◌≡◌, ℕ, suc, ◌+◌, ◌-◌, ◌≤◌, length, get_or, take, drop, arith, List, [], ◌∷◌, ◌++◌, max, refl, sym, ap, ◌∙◌, append_assoc, rules}
+use Rattle.std.proofs.Common.{◌≡◌, ℕ, suc, ◌+◌, ◌-◌, ◌≤◌, length, take, drop, arith, List, [], ◌∷◌, ◌++◌, max, refl, sym, ap, ◌∙◌, append_assoc}
 use Rattle.std.proofs.lemmas.List.{append-nil, take-append-drop}
 use Rattle.std.proofs.Math.ListN.{drop_of_length-le}
 use Rattle.std.proofs.Math.Seq.{drop-cons}
@@ -7,7 +7,7 @@ use Rattle.std.specs.List.{remove}
 use Rattle.ttree_node.specs.Entries.{last_entry}
 use Rattle.mm_value.specs.declared.row_ref.RowRef.{RowRef}
 use Rattle.ttree_node.specs.Tree.{Tree, Empty, Fork, IsFork, in_order, height_of, node_count}
-use Rattle.ttree_node.specs.Paths.{HasSpareAtEnd, borrowed, end_of, popped, tree_at, root_entries, exchanged, pushed, with_root, with_entries, with_tree}
+use Rattle.ttree_node.specs.Paths.{HasSpareAtEnd, borrowed, end_of, popped, tree_at, exchanged, pushed, with_root, with_entries, with_tree}
 use Rattle.ttree_node.specs.Paths.{lead, trail}
 use Rattle.ttree_node.specs.declared.slides.Side.{Side}
 use Rattle.ttree_node.specs.declared.slides.Side.TheVariants.{Left, Right}

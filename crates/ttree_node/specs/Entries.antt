@@ -1,5 +1,5 @@
 -- The entries of a node, each kept as one number.
-use Rattle.std.specs.Prelude.{ℕ, ◌-◌, ◌*◌, ◌+◌, ◌/◌, ◌%◌, ◌^◌, ◌<◌, List, length, map, slice_index_or}
+use Rattle.std.specs.Prelude.{ℕ, ◌-◌, ◌/◌, ◌%◌, ◌^◌, ◌<◌, List, length, map, slice_index_or}
 use Rattle.mm_value.specs.declared.row_ref.RowRef.{RowRef}
 
 -- the reference that a number stands for: 64 slots a partition

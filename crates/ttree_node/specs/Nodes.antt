@@ -1,12 +1,25 @@
 -- What a node in memory is seen as.
-use Rattle.std.specs.Prelude.{◌≡◌}
-use Rattle.ttree_node.specs.Tree.{Root, fork, tree_of, height_of}
+use Rattle.std.specs.Prelude.{◌≡◌, ℕ}
+use Rattle.ttree_node.specs.Tree.{Tree, Empty, Root, fork, height_of}
+use Rattle.ttree_node.specs.declared.nodes.Link.{Link}
+use Rattle.ttree_node.specs.declared.nodes.Link.TheVariants.{Free, Tied}
 use Rattle.ttree_node.specs.declared.nodes.Node.{Node}
+
+-- the tree that hangs on a link
+abbrev pub link_tree : Link → Tree
+link_tree Free = Empty
+link_tree (Tied height subtree) = fork subtree
+
+-- the height that a link keeps
+abbrev pub link_height : Link → ℕ
+link_height Free = 0
+link_height (Tied height subtree) = height
 
 -- its entries between the trees of its links
 abbrev pub root_of : Node → Root
-root_of n = record { left = tree_of n.left; entries = n.entries; right = tree_of n.right }
+root_of n = record { left = link_tree n.left; entries = n.entries; right = link_tree n.right }
 
--- its height is the number of nodes on a longest path from it downwards
-abbrev pub IsHeightExact : Node → Type 0
-IsHeightExact n = n.height ≡ height_of (fork (root_of n))
+-- each of its links keeps the number of nodes on a longest path from there downwards
+pub record IsHeightExact (n : Node) : Type 0 where
+  pub left : link_height n.left ≡ height_of (link_tree n.left)
+  pub right : link_height n.right ≡ height_of (link_tree n.right)

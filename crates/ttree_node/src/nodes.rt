@@ -2,7 +2,9 @@
 ghost use Rattle.std.specs.Prelude.{◌≡◌, ◌+◌, ◌^◌, ◌<◌, ◌≤◌, [], ◌∷◌, ◌++◌, length, take, drop, insert, remove, slice_get, Some, IfOk};
 ghost use Rattle.std.specs.Option.{option_copied};
 ghost use Rattle.ttree_node.specs.Entries.{IsSmall};
+ghost use Rattle.ttree_node.specs.Nodes.{link_tree, link_height};
 ghost use Rattle.ttree_node.specs.Tree.{Empty, fork, tree_of, height_of, node_count};
+ghost use Rattle.ttree_node.specs.declared.nodes.Link.TheVariants.{Free};
 
 use crate::entries::Entries;
 use crate::owned::Owned;
@@ -10,6 +12,7 @@ use crate::pool::Spares;
 use mm_value::RowRef;
 use std::alloc::{AllocError, Global};
 use std::marker::Model;
+use std::mem;
 
 /// A T-tree that is not empty: a node of at most 16 entries, between what stands left and
 /// what stands right of it (Lehman and Carey, VLDB 1986).
@@ -24,9 +27,21 @@ pub struct Subtree {
 #[derive(Drop)]
 pub(crate) struct Node {
     pub(crate) entries: Entries,
-    height: usize,
-    pub(crate) left: Option<Subtree>,
-    pub(crate) right: Option<Subtree>,
+    pub(crate) left: Link,
+    pub(crate) right: Link,
+}
+
+const _: () = prove!(size_of::<Node>() == 104);
+
+/// A link of a node. It keeps the height of what hangs on it, in bytes that would be empty behind the tag: so a node takes
+/// 104 bytes, a block of 112 by `malloc`.
+#[cycle(subtree)]
+#[derive(Drop)]
+pub(crate) enum Link {
+    /// Nothing hangs on it.
+    Free,
+    /// A subtree of this height hangs on it.
+    Tied(u32, Subtree),
 }
 
 impl Model for Subtree {
@@ -52,13 +67,48 @@ impl Model for Subtree {
     ghost size_decreases = { λ a h. Prim.grind arith };
 }
 
-/// The height of what hangs on a link.
-fn link_height(link: &Option<Subtree>) -> usize
-    ensures { result ≡ height_of (tree_of link.now) }
-{
-    match link {
-        None => 0,
-        Some(subtree) => subtree.height(),
+impl Link {
+    /// A link to what may be there.
+    fn to(tree: Option<Subtree>) -> Link
+        requires { height_of (tree_of tree) < 2 ^ 32 }
+        ensures tree { link_tree result ≡ tree_of tree }
+        ensures height { link_height result ≡ height_of (tree_of tree) }
+    {
+        match tree {
+            None => Link::Free,
+            Some(subtree) => Link::Tied(subtree.height() as u32, subtree),
+        }
+    }
+
+    /// What hangs on the link.
+    pub(crate) fn tree(&self) -> Option<&Subtree>
+        ensures { tree_of (option_copied result) ≡ link_tree self.now }
+    {
+        match self {
+            Link::Free => None,
+            Link::Tied(_, subtree) => Some(subtree),
+        }
+    }
+
+    /// Takes off what hangs on the link.
+    fn take(&mut self) -> Option<Subtree>
+        ensures taken { tree_of result ≡ link_tree self.old }
+        ensures rest { self.new ≡ Free }
+    {
+        match mem::replace(self, Link::Free) {
+            Link::Free => None,
+            Link::Tied(_, subtree) => Some(subtree),
+        }
+    }
+
+    /// The height that it keeps, 0 where nothing hangs on it.
+    fn height(&self) -> u32
+        ensures { result ≡ link_height self.now }
+    {
+        match self {
+            Link::Free => 0,
+            Link::Tied(height, _) => *height,
+        }
     }
 }
 
@@ -71,9 +121,8 @@ impl Subtree {
             alloc,
             Node {
                 entries: Entries::new(),
-                height: 1,
-                left: None,
-                right: None,
+                left: Link::Free,
+                right: Link::Free,
             },
         )?;
         Ok(Subtree { root })
@@ -95,7 +144,7 @@ impl Subtree {
 
     /// Gives each node back to the pool.
     pub fn free_into(mut self, spares: &mut Spares)
-        requires { spares.old + node_count (fork self) < 2 ^ 64 }
+        requires { spares.old + node_count (fork self) ≤ 2 ^ 32 }
         ensures { spares.new ≡ spares.old + node_count (fork self) }
     {
         if let Some(left) = self.take_left() {
@@ -123,21 +172,22 @@ impl Subtree {
     pub fn left(&self) -> Option<&Subtree>
         ensures { tree_of (option_copied result) ≡ self.now.left }
     {
-        self.root.as_ref().left.as_ref()
+        self.root.as_ref().left.tree()
     }
 
     /// What stands right of the root, none where nothing does.
     pub fn right(&self) -> Option<&Subtree>
         ensures { tree_of (option_copied result) ≡ self.now.right }
     {
-        self.root.as_ref().right.as_ref()
+        self.root.as_ref().right.tree()
     }
 
     /// The number of nodes on a longest path from the root downwards.
     pub fn height(&self) -> usize
         ensures { result ≡ height_of (fork self.now) }
     {
-        self.root.as_ref().height
+        let node = self.root.as_ref();
+        node.left.height().max(node.right.height()) as usize + 1
     }
 
     /// Puts an entry before the one at place `i` of the root.
@@ -168,11 +218,7 @@ impl Subtree {
         ensures rest { self.new ≡ record self.old { left = Empty } }
     {
         let node = self.root.as_mut();
-        // It fits, and so does one level more than the right side has.
-        let _height = node.height;
-        let left = node.left.take();
-        node.height = link_height(&node.right) + 1;
-        left
+        node.left.take()
     }
 
     /// Takes away what stands right of the root and gives it, none where nothing does.
@@ -181,33 +227,27 @@ impl Subtree {
         ensures rest { self.new ≡ record self.old { right = Empty } }
     {
         let node = self.root.as_mut();
-        // It fits, and so does one level more than the left side has.
-        let _height = node.height;
-        let right = node.right.take();
-        node.height = link_height(&node.left) + 1;
-        right
+        node.right.take()
     }
 
     /// Puts a tree left of the root, where there is none.
     pub fn set_left(&mut self, left: Option<Subtree>)
         requires vacant { self.old.left ≡ Empty }
-        requires height_fits { height_of (tree_of left) + 1 < 2 ^ 64 }
+        requires height_fits { height_of (tree_of left) < 2 ^ 32 }
         ensures { self.new ≡ record self.old { left = tree_of left } }
     {
         let node = self.root.as_mut();
-        node.height = node.height.max(link_height(&left) + 1);
-        node.left = left;
+        node.left = Link::to(left);
     }
 
     /// Puts a tree right of the root, where there is none.
     pub fn set_right(&mut self, right: Option<Subtree>)
         requires vacant { self.old.right ≡ Empty }
-        requires height_fits { height_of (tree_of right) + 1 < 2 ^ 64 }
+        requires height_fits { height_of (tree_of right) < 2 ^ 32 }
         ensures { self.new ≡ record self.old { right = tree_of right } }
     {
         let node = self.root.as_mut();
-        node.height = node.height.max(link_height(&right) + 1);
-        node.right = right;
+        node.right = Link::to(right);
     }
 
     /// Puts entries before those of the root, which has room for them.

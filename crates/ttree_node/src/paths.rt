@@ -5,7 +5,7 @@ ghost use Rattle.ttree_node.specs.Entries.{IsSmall};
 ghost use Rattle.ttree_node.specs.Tree.{IsFork, fork};
 ghost use Rattle.ttree_node.specs.Paths.{HasRoomAtEnd, HasRoomOnLeft, HasSpareAtEnd, HasSpareOnLeft, borrowed, end_of, popped, tree_at, entries_at, exchanged, pushed, with_entries, with_tree};
 
-use crate::nodes::Subtree;
+use crate::nodes::{Link, Subtree};
 use crate::slides::Side;
 use mm_value::RowRef;
 
@@ -26,14 +26,14 @@ impl Subtree {
         let node = self.root.as_mut();
         match side {
             Side::Left => {
-                let Some(left) = &mut node.left else {
+                let Link::Tied(_, left) = &mut node.left else {
                     unreachable!()
                 };
                 left.put_entry_at(rest, i, entry);
                 return;
             }
             Side::Right => {
-                let Some(right) = &mut node.right else {
+                let Link::Tied(_, right) = &mut node.right else {
                     unreachable!()
                 };
                 right.put_entry_at(rest, i, entry);
@@ -57,13 +57,13 @@ impl Subtree {
         let node = self.root.as_mut();
         match side {
             Side::Left => {
-                let Some(left) = &mut node.left else {
+                let Link::Tied(_, left) = &mut node.left else {
                     unreachable!()
                 };
                 return left.take_entry_at(rest, i);
             }
             Side::Right => {
-                let Some(right) = &mut node.right else {
+                let Link::Tied(_, right) = &mut node.right else {
                     unreachable!()
                 };
                 return right.take_entry_at(rest, i);
@@ -80,7 +80,7 @@ impl Subtree {
         ensures kept { OnFalse result (fork self.new ≡ fork self.old) }
     {
         let node = self.root.as_mut();
-        let Some(right) = &mut node.right else {
+        let Link::Tied(_, right) = &mut node.right else {
             if node.entries.len() == 16 {
                 return false;
             }
@@ -105,7 +105,7 @@ impl Subtree {
         // It is at most 16.
         let _len = node.entries.len();
         let least = node.entries.least();
-        let Some(left) = &mut node.left else {
+        let Link::Tied(_, left) = &mut node.left else {
             return false;
         };
         if !left.push_at_end(least) {
@@ -134,13 +134,13 @@ impl Subtree {
         let node = self.root.as_mut();
         match side {
             Side::Left => {
-                let Some(left) = &mut node.left else {
+                let Link::Tied(_, left) = &mut node.left else {
                     unreachable!()
                 };
                 return left.exchange_entry_at(rest, i, entry);
             }
             Side::Right => {
-                let Some(right) = &mut node.right else {
+                let Link::Tied(_, right) = &mut node.right else {
                     unreachable!()
                 };
                 return right.exchange_entry_at(rest, i, entry);
@@ -158,8 +158,8 @@ impl Subtree {
         ensures kept { IfNone result (fork self.new ≡ fork self.old) }
     {
         let node = self.root.as_mut();
-        let Some(right) = &mut node.right else {
-            if node.left.is_some() {
+        let Link::Tied(_, right) = &mut node.right else {
+            if node.left.tree().is_some() {
                 return None;
             }
             let len = node.entries.len();
@@ -182,7 +182,7 @@ impl Subtree {
         ensures kept { OnFalse result (fork self.new ≡ fork self.old) }
     {
         let node = self.root.as_mut();
-        let Some(left) = &mut node.left else {
+        let Link::Tied(_, left) = &mut node.left else {
             return false;
         };
         let Some(last) = left.pop_at_end() else {
@@ -210,13 +210,13 @@ impl Subtree {
         let node = self.root.as_mut();
         match side {
             Side::Left => {
-                let Some(left) = &mut node.left else {
+                let Link::Tied(_, left) = &mut node.left else {
                     unreachable!()
                 };
                 return left.borrow_entry_at(rest, i);
             }
             Side::Right => {
-                let Some(right) = &mut node.right else {
+                let Link::Tied(_, right) = &mut node.right else {
                     unreachable!()
                 };
                 return right.borrow_entry_at(rest, i);

@@ -6,6 +6,9 @@ use crate::nodes::Subtree;
 use std::alloc::{AllocError, Global};
 use std::marker::Model;
 
+/// The most free nodes: the height of their chain has 32 bits in each link.
+const MAX_SPARES: usize = 1 << 32;
+
 /// Free nodes, so that an insertion that follows cannot meet want of memory.
 /// Seen as how many there are.
 pub struct Spares {
@@ -51,14 +54,19 @@ impl Spares {
     }
 
     /// Allocates nodes until there are at least `n`. Where memory is refused before, it answers
-    /// `AllocError`, and there may be more than before, but fewer than `n`.
+    /// `AllocError`, and there may be more than before, but fewer than `n`. More than 2^32 are refused
+    /// as if memory were short.
     pub fn reserve(&mut self, alloc: Global, n: usize) -> Result<(), AllocError>
         ensures ok { OnOk result (self.new ≡ max self.old n) }
         ensures err { OnErr result (self.new < n) }
         ensures not_fewer { self.old ≤ self.new }
         ensures not_more { self.new ≤ max self.old n }
     {
-        for _ in self.len()..n {
+        let held = self.len();
+        if n > held && n > MAX_SPARES {
+            return Err(AllocError);
+        }
+        for _ in held..n {
             let node = Subtree::blank(alloc)?;
             self.put(node);
         }
@@ -78,7 +86,7 @@ impl Spares {
     pub(crate) fn put(&mut self, mut node: Subtree)
         requires no_left { node.left ≡ Empty }
         requires no_right { node.right ≡ Empty }
-        requires fits { self.old + 1 < 2 ^ 64 }
+        requires fits { self.old < 2 ^ 32 }
         ensures { self.new ≡ self.old + 1 }
     {
         node.set_left(self.chain.take());

@@ -9,7 +9,7 @@ impl Subtree {
     /// Its right child on top, and the old root left below it.
     pub fn rotate_left(mut self) -> Subtree
         requires has_right { IsFork self.right }
-        requires height_fits { height_of (fork self) + 1 < 2 ^ 64 }
+        requires height_fits { height_of (fork self) < 2 ^ 32 }
         ensures shape { result ≡ rotated_left self }
         ensures same_entries { in_order (fork result) ≡ in_order (fork self) }
     {
@@ -25,7 +25,7 @@ impl Subtree {
     /// Its left child on top, and the old root right below it.
     pub fn rotate_right(mut self) -> Subtree
         requires has_left { IsFork self.left }
-        requires height_fits { height_of (fork self) + 1 < 2 ^ 64 }
+        requires height_fits { height_of (fork self) < 2 ^ 32 }
         ensures shape { result ≡ rotated_right self }
         ensures same_entries { in_order (fork result) ≡ in_order (fork self) }
     {

@@ -1,19 +1,27 @@
-//! Tests of what no contract says and no public call tells: in which buckets entries stand, and where the directory leads.
+//! Tests of what no contract says and no public call tells: in which buckets entries stand, where the directory leads,
+//! and how large a node is.
+ghost use Rattle.std.specs.Prelude.{◌<◌};
+ghost use Rattle.mlhash.specs.Bag.{IsSmall};
 
 use crate::chains::find;
 use crate::hash_refs::HashRefs;
-use crate::node::NIL;
+use crate::node::{NIL, Node};
 use mm_value::RowRef;
 use std::process::Abort;
 use std::test::Fail;
 
 /// A reference into the first partition.
-fn slot(slot: u8) -> RowRef {
+fn slot(slot: u8) -> RowRef
+    requires { slot < 64 }
+    ensures { IsSmall result }
+{
     RowRef { part: 0, slot }
 }
 
 /// The reference of the row that was placed after so many others.
-fn row(number: u16) -> RowRef {
+fn row(number: u16) -> RowRef
+    ensures { IsSmall result }
+{
     RowRef {
         part: usize::from(number / 64),
         slot: (number % 64) as u8,
@@ -25,7 +33,7 @@ fn is_led_to(refs: &HashRefs, hash: u64, reference: RowRef) -> bool {
     let hint = refs.directory.hint(reference);
     refs.nodes
         .get(hint as usize)
-        .is_some_and(|node| node.live && node.has(hash, reference))
+        .is_some_and(|node| node.is_live() && node.has(hash, reference))
 }
 
 /// Whether the pair stands in this bucket.
@@ -34,7 +42,9 @@ fn stands_in(refs: &HashRefs, bucket: usize, hash: u64, reference: RowRef) -> bo
 }
 
 /// Inserts where there is room, and fails the test where there is none.
-fn insert(rt: &impl Abort, refs: &mut HashRefs, hash: u64, reference: RowRef) {
+fn insert(rt: &impl Abort, refs: &mut HashRefs, hash: u64, reference: RowRef)
+    requires { IsSmall reference }
+{
     assert!(rt; refs.spare() > 0, "no room for {hash}");
     refs.insert(hash, reference);
 }
@@ -115,13 +125,8 @@ fn removes_references_past_the_directory(rt: HostRuntime) -> Result<(), Fail> {
     let alloc = rt.alloc();
     let mut refs = HashRefs::new(alloc);
     refs.reserve(alloc, 4)?;
-    // The numbers of the last two slots are past `usize`; wrapped they are 0 and 191.
-    let far = [
-        (1_000_000, 3),
-        (0, 255),
-        (288_230_376_151_711_744, 0),
-        (usize::MAX, 255),
-    ];
+    // The last one has the greatest number of all.
+    let far = [(1_000_000, 3), (67_108_863, 62)];
     for (part, slot) in far {
         insert(&rt, &mut refs, 9, RowRef { part, slot });
     }
@@ -133,6 +138,52 @@ fn removes_references_past_the_directory(rt: HostRuntime) -> Result<(), Fail> {
     }
     assert_eq!(rt; refs.len(), 0);
     Ok(())
+}
+
+#[test]
+fn removes_no_reference_that_is_not_small(rt: HostRuntime) -> Result<(), Fail> {
+    let alloc = rt.alloc();
+    let mut refs = HashRefs::new(alloc);
+    refs.reserve(alloc, 4)?;
+    insert(&rt, &mut refs, 0, slot(0));
+    insert(&rt, &mut refs, 0, slot(63));
+    // A free node is left behind, with hash 0 and the greatest number of 32 bits.
+    assert!(rt; refs.remove(0, slot(0)));
+    // The numbers of the last two slots are past `usize`; wrapped they are 0 and 191.
+    for (part, slot) in [
+        (67_108_863, 63),
+        (0, 127),
+        (67_108_864, 63),
+        (288_230_376_151_711_744, 0),
+        (usize::MAX, 255),
+    ] {
+        assert!(rt; !refs.remove(0, RowRef { part, slot }), "{part} {slot}");
+    }
+    assert_eq!(rt; refs.len(), 1);
+    Ok(())
+}
+
+#[test]
+fn gives_the_references_of_one_hash(rt: HostRuntime) -> Result<(), Fail> {
+    let alloc = rt.alloc();
+    let mut refs = HashRefs::new(alloc);
+    refs.reserve(alloc, 100)?;
+    for number in 0..100u16 {
+        insert(&rt, &mut refs, u64::from(number % 8), row(number));
+    }
+    let mut count = 0u32;
+    for reference in refs.matching(3) {
+        assert_eq!(rt; reference.slot % 8, 3);
+        count = count.wrapping_add(1);
+    }
+    assert_eq!(rt; count, 13);
+    assert!(rt; refs.matching(8).next().is_none());
+    Ok(())
+}
+
+#[test]
+fn keeps_an_entry_in_16_bytes(rt: HostRuntime) {
+    assert_eq!(rt; size_of::<Node>(), 16);
 }
 
 #[test]

@@ -1,13 +1,13 @@
-use Rattle.std.proofs.Common.{◌+◌, ◌++◌, ◌∷◌, [], ap, vec_len, vec_capacity}
+use Rattle.std.proofs.Common.{◌+◌, ◌++◌, ◌∷◌, [], sym, ap, ◌∙◌, vec_len, vec_capacity}
 use Rattle.mlhash.specs.Bag.{Bag}
 use Rattle.mlhash.proofs.CopyLemmas.{IsCopying-start, IsCopying-take, IsCopying-skip, copying_room, copying_along, copied}
 use Rattle.mlhash.proofs.hash_refs.HashRefs.copy_all.Goals as goal
-use Rattle.mlhash.proofs.hash_refs.HashRefs.copy_all.Goals.{then-node, else-node}
+use Rattle.mlhash.proofs.hash_refs.HashRefs.copy_all.Goals.{then-is_live, else-is_live}
 
 pub push_reserved-requires : goal.push_reserved-requires
 push_reserved-requires c =
     copying_room c.deref-node-items.result.now c.loop-node.node-index c.args.out.now.items c.loop-node.out.items _ _ c.loop-node-test.true
-    c.if-node.true c.loop-node.invariant
+    (sym c.is_live.ensures ∙ c.if-is_live.true) c.loop-node.invariant
 
 pub loop-node-init : goal.loop-node-init
 loop-node-init c =
@@ -20,14 +20,16 @@ loop-node-preserved c =
     let i = c.loop-node.node-index in
     let old = c.args.out.now.items in
     let out = c.loop-node.out in
-    elim c.if-node.branch [
-      | then-node w ↦ copying_along ns (i + 1) old (out.items ++ w.row.result ∷ []) c.if-node.out.items (vec_len out + 1) (vec_len c.if-node.out)
-          (vec_capacity out) (vec_capacity c.if-node.out) (cc) (cc) (cc)
-          (IsCopying-take ns i old out.items (vec_len out) (vec_capacity out) w.row.result c.loop-node-test.true w.if-node.true w.row.ensures
+    elim c.if-is_live.branch [
+      | then-is_live w ↦ copying_along ns (i + 1) old (out.items ++ w.row.result ∷ []) c.if-is_live.out.items (vec_len out + 1) (vec_len c.if-is_live.out)
+          (vec_capacity out) (vec_capacity c.if-is_live.out) (cc) (cc) (cc)
+          (IsCopying-take ns i old out.items (vec_len out) (vec_capacity out) w.row.result c.loop-node-test.true (sym c.is_live.ensures ∙ w.if-is_live.true)
+          w.row.ensures
           c.loop-node.invariant)
-      | else-node w ↦ copying_along ns (i + 1) old out.items c.if-node.out.items (vec_len out) (vec_len c.if-node.out)
-          (vec_capacity out) (vec_capacity c.if-node.out) (cc) (cc) (cc)
-          (IsCopying-skip ns i old out.items (vec_len out) (vec_capacity out) c.loop-node-test.true w.if-node.false c.loop-node.invariant)
+      | else-is_live w ↦ copying_along ns (i + 1) old out.items c.if-is_live.out.items (vec_len out) (vec_len c.if-is_live.out)
+          (vec_capacity out) (vec_capacity c.if-is_live.out) (cc) (cc) (cc)
+          (IsCopying-skip ns i old out.items (vec_len out) (vec_capacity out) c.loop-node-test.true (sym c.is_live.ensures ∙ w.if-is_live.false)
+          c.loop-node.invariant)
     ]
 
 pub returns-clause-ok : goal.returns-clause-ok

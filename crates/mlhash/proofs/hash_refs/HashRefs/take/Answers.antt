@@ -52,6 +52,11 @@ index-requires-2 c =
     let s = Finds-read _ _ _ _ _ _ c.deref.ensures.value c.find_by_hint-at.ensures.found in
     omega (arith, (first_below _ _ _ _ _ _ _ _ _ _ c.bucket_of-bucket.ensures c.get-head.ensures c.self.invariant s c.if-at.false).1, c.self.inside.nodes.ok.0)
 
+pub index_mut-requires : goal.index_mut-requires
+index_mut-requires c =
+    let s = Finds-read _ _ _ _ _ _ c.deref.ensures.value c.find_by_hint-at.ensures.found in
+    omega (arith, (first_below _ _ _ _ _ _ _ _ _ _ c.bucket_of-bucket.ensures c.get-head.ensures c.self.invariant s c.if-at.false).1, c.self.inside.nodes.ok.0)
+
 pub index_mut-requires-2 : goal.index_mut-requires-2
 index_mut-requires-2 c =
     let s = Finds-read _ _ _ _ _ _ c.deref.ensures.value c.find_by_hint-at.ensures.found in

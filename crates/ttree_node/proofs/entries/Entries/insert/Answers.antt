@@ -1,4 +1,4 @@
-use Rattle.std.proofs.Common.{◌≡◌, ap, ◌∙◌, rules}
+use Rattle.std.proofs.Common.{◌≡◌, ◌∙◌, rules}
 use Rattle.std.specs.List.{insert}
 use Rattle.ttree_node.specs.Entries.{row_ref}
 use Rattle.ttree_node.proofs.RowRefs.{row_refs-insert}
