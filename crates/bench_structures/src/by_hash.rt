@@ -1,4 +1,7 @@
 //! The bag of references by hash.
+ghost use Rattle.std.specs.Prelude.{◌-◌, ◌^◌, ◌<◌};
+ghost use Rattle.mlhash.specs.Bag.{IsSmall};
+
 use crate::entries::{Entry, after, key_of};
 use crate::report::{Pass, print};
 use mlhash::HashRefs;
@@ -19,25 +22,27 @@ enum Hashes {
 }
 
 /// Fills, asks and empties a bag of `n` entries, and fills and empties one of few hashes.
-pub(crate) fn measure(rt: &HostRuntime, n: usize) -> anyhow::Result<()> {
+pub(crate) fn measure(rt: &HostRuntime, n: usize) -> anyhow::Result<()>
+    requires { n < 2 ^ 32 }
+{
     measure_distinct(rt, n)?;
     measure_few(rt, n)
 }
 
-fn measure_distinct(rt: &HostRuntime, n: usize) -> anyhow::Result<()> {
+fn measure_distinct(rt: &HostRuntime, n: usize) -> anyhow::Result<()>
+    requires { n < 2 ^ 32 }
+{
     let alloc = rt.alloc();
     let sought = shuffled(alloc, n, Hashes::Distinct)?;
     let mut bag = HashRefs::new(alloc);
-    time_distinct(rt, &mut bag, sought.as_slice())
+    time_fill(rt, "HashRefs", &mut bag, n, Hashes::Distinct)?;
+    time_ask(rt, "HashRefs", &bag, sought.as_slice())?;
+    time_empty(rt, "HashRefs", &mut bag, sought.as_slice())
 }
 
-fn time_distinct(rt: &HostRuntime, bag: &mut HashRefs, sought: &[Entry]) -> anyhow::Result<()> {
-    time_fill(rt, "HashRefs", bag, sought.len(), Hashes::Distinct)?;
-    time_ask(rt, "HashRefs", bag, sought)?;
-    time_empty(rt, "HashRefs", bag, sought)
-}
-
-fn measure_few(rt: &HostRuntime, n: usize) -> anyhow::Result<()> {
+fn measure_few(rt: &HostRuntime, n: usize) -> anyhow::Result<()>
+    requires { n < 2 ^ 32 }
+{
     let alloc = rt.alloc();
     let sought = shuffled(alloc, n, Hashes::Few)?;
     let mut bag = HashRefs::new(alloc);
@@ -46,7 +51,9 @@ fn measure_few(rt: &HostRuntime, n: usize) -> anyhow::Result<()> {
 }
 
 /// The entry of a number: the rows are numbered as they are placed, 64 to a partition.
-fn entry_of(number: usize, hashes: Hashes) -> Entry {
+fn entry_of(number: usize, hashes: Hashes) -> Entry
+    ensures { number < 2 ^ 32 - 1 → IsSmall result.reference }
+{
     Entry {
         key: match hashes {
             Hashes::Distinct => key_of(number),
@@ -76,7 +83,9 @@ fn time_fill(
     bag: &mut HashRefs,
     n: usize,
     hashes: Hashes,
-) -> anyhow::Result<()> {
+) -> anyhow::Result<()>
+    requires { n < 2 ^ 32 }
+{
     let alloc = rt.alloc();
     let start = Instant::now(rt)?;
     for number in 0..n {

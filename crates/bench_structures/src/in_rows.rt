@@ -1,5 +1,5 @@
 //! The rows by reference.
-ghost use Rattle.std.specs.Prelude.{IfOk, All};
+ghost use Rattle.std.specs.Prelude.{◌≡◌, [], IfOk, All};
 ghost use Rattle.mm_partition.specs.Places.{IsLive};
 ghost use Rattle.bench_structures.specs.Apart.{AreApart};
 
@@ -12,13 +12,14 @@ use std::time::Instant;
 
 /// Fills partitions with `n` rows of no values, asks for each in shuffled order, and takes them out, the last one first.
 pub(crate) fn measure(rt: &HostRuntime, n: usize) -> anyhow::Result<()> {
-    let mut rows = Partitions::new(rt.alloc());
+    let mut rows = Partitions::new(rt.alloc(), &[])?;
     let refs = time_fill(rt, &mut rows, n)?;
     time_ask(rt, &rows, refs.as_slice())?;
     time_empty(rt, &mut rows, refs)
 }
 
 fn time_fill(rt: &HostRuntime, rows: &mut Partitions, n: usize) -> anyhow::Result<Vec<RowRef>>
+    requires { rows.old.types ≡ [] }
     ensures live { IfOk result (λ refs. All (IsLive rows.new) refs.items) }
     ensures apart { IfOk result (λ refs. AreApart refs.items) }
 {
@@ -53,6 +54,7 @@ fn time_empty(rt: &HostRuntime, rows: &mut Partitions, refs: Vec<RowRef>) -> any
 
 #[tactic(auto, using(crate::proofs::Rows::live_after))]
 fn fill(alloc: Global, rows: &mut Partitions, n: usize) -> Result<Vec<RowRef>, AllocError>
+    requires { rows.old.types ≡ [] }
     ensures live { IfOk result (λ refs. All (IsLive rows.new) refs.items) }
     ensures apart { IfOk result (λ refs. AreApart refs.items) }
 {

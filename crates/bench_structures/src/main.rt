@@ -27,7 +27,8 @@ fn main(rt: HostRuntime) -> anyhow::Result<()> {
     if word.as_str() == "irrelevance" {
         return irrelevance::measure(&rt);
     }
-    for n in [10_000, 100_000, 1_048_576] {
+    for n in [10_000u32, 100_000, 1_048_576] {
+        let n = n as usize;
         by_hash::measure(&rt, n)?;
         in_order::measure_tree(&rt, n)?;
         in_rows::measure(&rt, n)?;

@@ -48,7 +48,7 @@ module _ (seen : Seen) (changes : List TableChange) (table : ℕ) (stored : Stor
     abbrev store : Tables
     store = seen.store
 
-    was : IsKept stored.width stored.key (slot_at stored.places) stored.refs stored.indexes
+    was : IsKept stored.places.types stored.key (slot_at stored.places) stored.refs stored.indexes
     was = (table_seen seen table stored at).kept
 
     -- A row that goes is one before the change.

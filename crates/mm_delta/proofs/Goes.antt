@@ -52,17 +52,17 @@ takes_named (Gone r ∷ edits) at = ap (λ b. same_ref r at || b) (takes_named e
 apart_turned : (a b : RowRef) → a ≢ b → b ≢ a
 apart_turned a b apart same = apart (sym same)
 
-module _ (stored : StoredRows) (was : IsKept stored.width stored.key (slot_at stored.places) stored.refs stored.indexes)
+module _ (stored : StoredRows) (was : IsKept stored.places.types stored.key (slot_at stored.places) stored.refs stored.indexes)
     (edits : List Edit) (fit : AreFit stored edits) where
   abbrev now : Slots
   now = slot_at stored.places
 
   kept : List RowRef
-  kept = (split stored.width stored.key now stored.refs stored.indexes was edits fit.standing).0
+  kept = (split stored.places.types stored.key now stored.refs stored.indexes was edits fit.standing).0
 
   same : IsPermutation stored.refs (olds edits ++ kept)
   unfolding kept
-  same = (split stored.width stored.key now stored.refs stored.indexes was edits fit.standing).1
+  same = (split stored.places.types stored.key now stored.refs stored.indexes was edits fit.standing).1
 
   apart : AllPairs (λ a b. a ≢ b) (olds edits ++ kept)
   apart = AllPairs-permutation (λ a b. a ≢ b) apart_turned stored.refs (olds edits ++ kept) same (distinct stored.key now stored.refs was.by_key)

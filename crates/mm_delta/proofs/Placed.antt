@@ -32,7 +32,7 @@ use Rattle.mm_delta.proofs.Sums.{sum_by-map, sum_by_same}
 fit_nothing : (stored : StoredRows) → AreFit stored []
 fit_nothing stored = record {
   standing = record { live = λ k d within. absurd (omega arith); apart = λ i j d before within. absurd (omega arith) };
-  wide = λ k d within. absurd (omega arith);
+  typed = λ k d within. absurd (omega arith);
 }
 
 -- The edits that count at a place fit.
@@ -91,7 +91,7 @@ swapped true false n = refl
 swapped false true n = refl
 swapped false false n = refl
 
-module _ (stored : StoredRows) (was : IsKept stored.width stored.key (slot_at stored.places) stored.refs stored.indexes) (r : Option Required)
+module _ (stored : StoredRows) (was : IsKept stored.places.types stored.key (slot_at stored.places) stored.refs stored.indexes) (r : Option Required)
     (refs : List RowRef) (found : IsPermutation refs (filter (λ at. passes r (row_at (slot_at stored.places) at)) stored.refs)) where
   abbrev now : Slots
   now = slot_at stored.places

@@ -9,6 +9,7 @@ use Rattle.std.proofs.lemmas.List.Elements.{All-filter, All-head, All-tail, Cont
 use Rattle.std.proofs.lemmas.List.Sorted.{All-permutation, IsPermutation-sym}
 use Rattle.std.proofs.lemmas.Option.{slice_get-get_or}
 use Rattle.mm_partition.specs.Places.{IsLive, slot_at}
+use Rattle.mm_relation.proofs.Typed.{HasTypes-length}
 use Rattle.mm_relation.specs.Kept.{IsKept, StoredRows}
 use Rattle.mm_relation.specs.Reads.{Appends, AreMatches, IsRange, has_value}
 use Rattle.mm_relation.specs.Refs.{Slots, row_at, row_in}
@@ -36,7 +37,7 @@ filter_everything : {X : Type 0} (xs : List X) → filter (λ x. true) xs ≡ xs
 filter_everything [] = refl
 filter_everything (x ∷ xs) = ap (λ l. x ∷ l) (filter_everything xs)
 
-module _ (stored : StoredRows) (was : IsKept stored.width stored.key (slot_at stored.places) stored.refs stored.indexes) where
+module _ (stored : StoredRows) (was : IsKept stored.places.types stored.key (slot_at stored.places) stored.refs stored.indexes) where
   abbrev now : Slots
   now = slot_at stored.places
 
@@ -44,22 +45,23 @@ module _ (stored : StoredRows) (was : IsKept stored.width stored.key (slot_at st
   abbrev pub Finds : Option Required → List RowRef → Type 0
   Finds required found = IsPermutation found (filter (λ at. passes required (row_at now at)) stored.refs)
 
-  column_in : (column : ℕ) (index : IndexRef) → IsIndexOn stored column index → column < stored.width
-  column_in column Key is = subst (λ n. n < stored.width) (sym is) was.key_in
+  column_in : (column : ℕ) (index : IndexRef) → IsIndexOn stored column index → column < length stored.places.types
+  column_in column Key is = subst (λ n. n < length stored.places.types) (sym is) was.key_in
   column_in column (Tree place) has =
-      let d : Index = any_of stored.indexes place has.0 in subst (λ n. n < stored.width) (has.1 d).0 (was.columns place d has.0)
+      let d : Index = any_of stored.indexes place has.0 in subst (λ n. n < length stored.places.types) (has.1 d).0 (was.columns place d has.0)
   column_in column (Hash place) has =
-      let d : Index = any_of stored.indexes place has.0 in subst (λ n. n < stored.width) (has.1 d).0 (was.columns place d has.0)
+      let d : Index = any_of stored.indexes place has.0 in subst (λ n. n < length stored.places.types) (has.1 d).0 (was.columns place d has.0)
 
   all_live : All (IsLive stored.places) stored.refs
   all_live k d within = (was.held (get_or stored.refs k d)).0 (Contains-get_or stored.refs k d within)
 
-  same_value : (column : ℕ) (value : Value) → column < stored.width
+  same_value : (column : ℕ) (value : Value) → column < length stored.places.types
       → All (λ at. has_value column now value at ≡ passes (Some (column, value)) (row_at now at)) stored.refs
   same_value column value within k d below =
       let at : RowRef = get_or stored.refs k d in
       let live = all_live k d below in
-      let wide : length (row_at now at) ≡ stored.width = ap (λ c. length (row_in c)) live.1 ∙ was.wide at live.0 live.1 in
+      let wide : length (row_at now at) ≡ length stored.places.types =
+      ap (λ c. length (row_in c)) live.1 ∙ HasTypes-length stored.places.types live.0 (was.typed at live.0 live.1) in
       ap (λ o. is_eq (option_cmp value_cmp o (Some value))) (slice_get-get_or (row_at now at) column (Int (pos 0)) (omega (arith, within, wide)))
 
   -- What a look-up appends to nothing is all that has the value.

@@ -48,7 +48,7 @@ gone_is store changes table stored at =
 
 -- The rows of a table after the change and those that go are those before it and those that come.
 pub table_balance : (store : Tables) (changes : List TableChange) (table : ℕ) (stored : StoredRows) → IsAt store table stored
-    → IsKept stored.width stored.key (slot_at stored.places) stored.refs stored.indexes → EachFit store changes
+    → IsKept stored.places.types stored.key (slot_at stored.places) stored.refs stored.indexes → EachFit store changes
     → Balance (after_at store changes table) (gone_at store changes table) (before_at store table) (come_at changes table)
 table_balance store changes table stored at was fit f =
     let after_is : after_at store changes table ≡ rows_with stored (edits_at changes table) =
@@ -172,7 +172,7 @@ module _ (q : BoundQuery) (store : Tables) (changes : List TableChange) (tables 
 
   -- One place more.
   pub counts_more : (k : ℕ) (stored : StoredRows) (first comes comes' goes goes' : ℕ) → k < length tables → IsAt store (get_or tables k 0) stored
-      → IsKept stored.width stored.key (slot_at stored.places) stored.refs stored.indexes → EachFit store changes
+      → IsKept stored.places.types stored.key (slot_at stored.places) stored.refs stored.indexes → EachFit store changes
       → comes + first ≡ goes + halfway k → comes' + goes + added (gone_at store changes) k ≡ goes' + comes + added (come_at changes) k
       → comes' + first ≡ goes' + halfway (k + 1)
   counts_more k stored first comes comes' goes goes' within at was fit so_far net =

@@ -62,7 +62,7 @@ module _ (seen : Seen) (table : ℕ) (stored : StoredRows) (here : IsAt seen.sto
   abbrev store : Tables
   store = seen.store
 
-  kept : IsKept stored.width stored.key (slot_at stored.places) stored.refs stored.indexes
+  kept : IsKept stored.places.types stored.key (slot_at stored.places) stored.refs stored.indexes
   kept = (table_seen seen table stored here).kept
 
   abbrev rows : List Row

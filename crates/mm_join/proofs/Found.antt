@@ -23,6 +23,7 @@ use Rattle.mm_query.proofs.Storables.{value_in_storable}
 use Rattle.mm_relation.proofs.Bags.{IsPermutation-filter}
 use Rattle.mm_relation.proofs.RefTests.{pair_from_test, pair_itself, same_pair}
 use Rattle.mm_relation.proofs.Storables.{row_storable}
+use Rattle.mm_relation.proofs.Typed.{HasTypes-length}
 use Rattle.mm_relation.specs.Kept.{IsKept, StoredRows}
 use Rattle.mm_relation.specs.Reads.{AreMatches, has_value}
 use Rattle.mm_relation.specs.Refs.{Slots, row_at, row_in}
@@ -83,29 +84,34 @@ module _ (stored : StoredRows) (column : ℕ) (from : Among) (value : Value) (it
 
 -- ---- in an index
 
-module _ (stored : StoredRows) (kept : IsKept stored.width stored.key (slot_at stored.places) stored.refs stored.indexes) where
+module _ (stored : StoredRows) (kept : IsKept stored.places.types stored.key (slot_at stored.places) stored.refs stored.indexes) where
   -- All references are live, ..
   pub all_live : All (IsLive stored.places) stored.refs
   all_live k d within = (kept.held (get_or stored.refs k d)).0 (Contains-get_or stored.refs k d within)
 
   -- .. their rows have each column, ..
-  placed : (column : ℕ) → column < stored.width → (value : Value)
+  placed : (column : ℕ) → column < length stored.places.types → (value : Value)
       → All (λ at. has_value column (slot_at stored.places) value at ≡ is_eq (value_cmp (value_in column (row_at (slot_at stored.places) at)) value))
       stored.refs
   placed column below value k d within =
       let at : RowRef = get_or stored.refs k d in
       let live = all_live k d within in
       let wide : column < length (row_at (slot_at stored.places) at) =
-      omega (arith, below, kept.wide at live.0 live.1, ap (λ content. length (row_in content)) live.1) in
+      omega (
+        arith,
+        below,
+        HasTypes-length stored.places.types live.0 (kept.typed at live.0 live.1),
+        ap (λ content. length (row_in content)) live.1,
+      ) in
       ap (λ (o : Option Value). is_eq (option_cmp value_cmp o (Some value))) (slice_get-get_or (row_at (slot_at stored.places) at) column (Int (pos 0)) wide)
 
-  pub column_there : (at : IndexRef) (column : ℕ) → IsIndexOn stored column at → column < stored.width
-  column_there index.Key column on = subst (λ n. n < stored.width) (sym on) kept.key_in
+  pub column_there : (at : IndexRef) (column : ℕ) → IsIndexOn stored column at → column < length stored.places.types
+  column_there index.Key column on = subst (λ n. n < length stored.places.types) (sym on) kept.key_in
   column_there (index.Tree place) column on = column_in stored kept place column kind.Tree on
   column_there (index.Hash place) column on = column_in stored kept place column kind.Hash on
 
   -- .. and what is found in an index by a value are the references of all that have it.
-  pub finds_matches : (at : IndexRef) (column : ℕ) → column < stored.width → (value : Value) (found : List RowRef)
+  pub finds_matches : (at : IndexRef) (column : ℕ) → column < length stored.places.types → (value : Value) (found : List RowRef)
       → AreMatches column (slot_at stored.places) value stored.refs found → Finds stored column (among.Index at) value found
   finds_matches at column below value found are =
       finds_taken stored column (among.Index at) value (ap is_eq (tied_itself value_cmp_total value)) found

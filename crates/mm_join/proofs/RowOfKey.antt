@@ -16,6 +16,7 @@ use Rattle.mm_partition.specs.Places.{IsLive, slot_at}
 use Rattle.mm_query.specs.Atoms.{value_in}
 use Rattle.mm_query.specs.Queries.{Partial, value_at}
 use Rattle.mm_query.specs.declared.bound_query.FieldPlace.{FieldPlace}
+use Rattle.mm_relation.proofs.Typed.{HasTypes-length}
 use Rattle.mm_relation.specs.Kept.{IsKept, StoredRows}
 use Rattle.mm_relation.specs.Reads.{AreMatches, has_value}
 use Rattle.mm_relation.specs.Refs.{HasRow, Slots, place_by, row_at, row_in}
@@ -39,7 +40,7 @@ not_apart ordering.Less = refl
 not_apart ordering.Equal = refl
 not_apart ordering.Greater = refl
 
-module _ (stored : StoredRows) (kept : IsKept stored.width stored.key (slot_at stored.places) stored.refs stored.indexes)
+module _ (stored : StoredRows) (kept : IsKept stored.places.types stored.key (slot_at stored.places) stored.refs stored.indexes)
     (value : Value) (at : RowRef) (live : HasRow (slot_at stored.places) at) (own : slice_get (row_at (slot_at stored.places) at) stored.key ≡ Some value) where
   -- The reference alone is all the matches of its key.
   one_of_key : AreMatches stored.key (slot_at stored.places) value stored.refs (at ∷ [])
@@ -78,7 +79,8 @@ module _ (store : Tables) where
 
   module _ (tables : List ℕ) (front : List RowRef) (live : AreLive store tables front) (field : FieldPlace) (within : field.place < length tables)
       (partial : Partial) (chosen : partial ≡ map Some (rows_of_combo store tables front)) (table : ℕ) (relation : StoredRows)
-      (here : IsAt store table relation) (kept : IsKept relation.width relation.key (slot_at relation.places) relation.refs relation.indexes) (d : RowRef)
+      (here : IsAt store table relation)
+      (kept : IsKept relation.places.types relation.key (slot_at relation.places) relation.refs relation.indexes) (d : RowRef)
     where
       abbrev from : ℕ
       from = get_or tables field.place 0
@@ -100,7 +102,12 @@ module _ (store : Tables) where
       followed_matches stored at to refers =
           let slots : Slots = slot_at relation.places in
           let wide : relation.key < length (row_at slots to) =
-          omega (arith, kept.key_in, kept.wide to refers.live.0 refers.live.1, ap (λ content. length (row_in content)) refers.live.1) in
+          omega (
+            arith,
+            kept.key_in,
+            HasTypes-length relation.places.types refers.live.0 (kept.typed to refers.live.0 refers.live.1),
+            ap (λ content. length (row_in content)) refers.live.1,
+          ) in
           let key : slice_get (row_at slots to) relation.key ≡ Some (value_in relation.key (row_at slots to)) =
           slice_get-get_or (row_at slots to) relation.key (Int (pos 0)) wide in
           let same : unwrap_or (value_at partial field) (Int (pos 0)) ≡ value_in relation.key (row_at slots to) =

@@ -26,6 +26,7 @@ pub(crate) fn hashed_rows(
 {
     let mut pairs = HashRefs::new(alloc);
     pairs.reserve(alloc, view.len_of(table))?;
+    view.are_references_small(table);
     for at in view.walk(table, IndexRef::Key) {
         let hash = hash_in(view.row(table, at), column);
         pairs.insert(hash, at);

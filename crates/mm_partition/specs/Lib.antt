@@ -1,6 +1,9 @@
-pub mod Links
+pub mod Cells
+pub mod Keys
 pub mod Places
 pub mod Prefixes
 pub mod Reads
-pub mod Tracked
+pub mod Stored
+pub mod TextCells
+pub mod Types
 pub mod Views

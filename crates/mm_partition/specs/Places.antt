@@ -1,6 +1,7 @@
 -- What the slots of the partitions hold, reference by reference.
-use Rattle.std.specs.Prelude.{◌≡◌, ◌≢◌, ℕ, ◌+◌, ◌*◌, ◌^◌, ◌<◌, List, length, slice_index_or, nat_lt, if◌then◌else◌}
+use Rattle.std.specs.Prelude.{◌≡◌, ◌≢◌, ℕ, ◌+◌, ◌-◌, ◌*◌, ◌^◌, ◌<◌, List, [], length, slice_index_or, nat_lt, if◌then◌else◌}
 use Rattle.mm_value.specs.Storable.{AreStorable}
+use Rattle.mm_value.specs.declared.col_type.ColType.{ColType}
 use Rattle.mm_value.specs.declared.row_ref.RowRef.{RowRef}
 use Rattle.mm_value.specs.declared.values.Value.{Value}
 
@@ -10,10 +11,11 @@ pub data Content : Type 0 where
   Live : (row : List Value) → Content
   Hidden : (row : List Value) → Content
 
--- Partitions: what their slots hold, 64 to a partition, and how many more rows they take without growing.
+-- Partitions: what their slots hold, 64 to a partition, how many more rows they take without growing, and the types of the columns.
 pub record Places : Type 0 where
   pub slots : List Content
   pub room : ℕ
+  pub types : List ColType
 
 -- where the slot of a reference lies among all slots
 abbrev pub slot_index_of : RowRef → ℕ
@@ -26,6 +28,16 @@ extent_of places = length places.slots
 -- what stands where a reference points: nothing where no partition has such a slot
 abbrev pub slot_at : Places → RowRef → Content
 slot_at places at = (if nat_lt at.slot 64 then slice_index_or places.slots (slot_index_of at) Free else Free)
+
+-- what the slot at an index among all slots holds: nothing where there is no such slot
+abbrev pub content_at : Places → ℕ → Content
+content_at places i = slice_index_or places.slots i Free
+
+-- the row in a slot, of no values where there is none
+abbrev pub row_in : Content → List Value
+row_in Free = []
+row_in (Live row) = row
+row_in (Hidden row) = row
 
 -- the reference gives a row
 abbrev pub IsLive : Places → RowRef → Type 0
@@ -54,6 +66,6 @@ IsStorableIn (Hidden row) = AreStorable row
 abbrev pub AreRowsStorable : Places → Type 0
 AreRowsStorable places = (at : RowRef) → IsStorableIn (slot_at places at)
 
--- each reference that gives a row is to one of the first 2^26 partitions, and to one of their 64 slots
+-- each reference that gives a row is to one of 64 slots of a partition, and the slot's index is below 2^32 - 1
 abbrev pub AreReferencesSmall : Places → Type 0
-AreReferencesSmall places = (at : RowRef) → IsLive places at → (at.part < 2 ^ 26) × (at.slot < 64)
+AreReferencesSmall places = (at : RowRef) → IsLive places at → (at.slot < 64) × (slot_index_of at < 2 ^ 32 - 1)

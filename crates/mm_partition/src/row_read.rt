@@ -19,6 +19,7 @@ pub enum RowRead<'a> {
 
 impl<'a> RowRead<'a> {
     /// How many values it has.
+    #[inline(always)]
     pub fn len(&self) -> usize
         ensures { result ≡ length (row_read self.now) }
     {
@@ -29,6 +30,7 @@ impl<'a> RowRead<'a> {
     }
 
     /// The value at a position, counted from 0.
+    #[inline(always)]
     pub fn value(&self, i: usize) -> ValueRef<'a>
         requires { i < length (row_read self.now) }
         ensures { slice_get (row_read self.now) i ≡ Some (value_of result) }
@@ -40,6 +42,7 @@ impl<'a> RowRead<'a> {
     }
 
     /// The value at a position, counted from 0, if the row has one there.
+    #[inline(always)]
     pub fn get(&self, i: usize) -> Option<ValueRef<'a>>
         ensures { option_map value_of result ≡ slice_get (row_read self.now) i }
     {

@@ -1,91 +1,112 @@
 //! Rows by reference.
-ghost use Rattle.std.specs.Prelude.{◌≡◌, ◌+◌, ◌<◌, ◌≤◌, max, List, OnOk};
-ghost use Rattle.std.specs.Option.{ForSome};
+ghost use Rattle.std.specs.Prelude.{◌≡◌, ◌+◌, ◌<◌, ◌≤◌, max, List, length, Some, slice_get, IfOk, OnOk};
+ghost use Rattle.mm_value.specs.Views.{value_of};
 ghost use Rattle.mm_value.specs.declared.values.Value.{Value};
-ghost use Rattle.mm_partition.specs.Prefixes.{ArePrefixes};
-ghost use Rattle.mm_partition.specs.Places.{Free, Live, Hidden, slot_index_of, extent_of, slot_at, AreRowsStorable, AreReferencesSmall, IsLive, IsHidden, IsUnchanged, ChangesOnly};
+ghost use Rattle.mm_partition.specs.Keys.{AreKeys};
+ghost use Rattle.mm_partition.specs.Places.{Free, Live, Hidden, slot_index_of, extent_of, slot_at, content_at, IsLive, IsHidden, IsUnchanged, ChangesOnly};
+ghost use Rattle.mm_partition.specs.Places.{AreRowsStorable, AreReferencesSmall};
+ghost use Rattle.mm_partition.specs.Types.{HasTypes};
 ghost use Rattle.mm_partition.specs.Views.{viewed};
 
-use crate::slots::{SLOTS, Slot, index_of, reference_to};
-use crate::tracked::{
-    Tracked, find_column, push_each, reserve_each, set_each, track_column, untrack_column,
-};
+use crate::columns::Column;
+use crate::keys::ColumnKeys;
+use crate::slots::{SLOTS, State, index_of, reference_to};
+use crate::sweeps::{clear_each, push_each, reserve_each, swap_each};
 use crate::view::RowView;
-use mm_value::{Row, RowRef};
+use mm_value::{ColType, Row, RowRef, ValueRef};
 use std::alloc::{AllocError, Global};
 use std::marker::Model;
-use std::mem;
 
-/// The most slots that there are: those of 2^26 partitions.
-const MAX_SLOTS: usize = 4_294_967_296;
+/// The most slots that there are: the index of each has 32 bits.
+const MAX_SLOTS: usize = 4_294_967_295;
 
 /// The rows of one table, 64 to a partition (partitions and tuple pointers of Lehman and Carey,
-/// SIGMOD 1986). A row is found by its reference, which stays the same while the row lives. Only
-/// `reserve` and `track` take memory. Placing, hiding and releasing a row take the same time however
-/// many rows there are: the freed slots are a linked list, and the last one freed is the first given out.
+/// SIGMOD 1986), column by column (the decomposed storage of Copeland and Khoshafian, SIGMOD 1985). A row is
+/// found by its reference, which stays the same while the row lives. Only `new`, `reserve` and `track` take
+/// memory. Placing, hiding and releasing a row take the same time however many rows there are.
 ///
 /// The slot of a reference has an index, `64 * part + slot`. The *extent* is how many slots have been
 /// in use so far: the index of each reference that was given out is below it. A caller that keeps a
 /// vector beside the rows, an entry for each slot, needs one of that length. Only `place` makes the
 /// extent greater, by at most 1, and nothing makes it less.
 ///
-/// The links stand in the freed slots themselves, so that `release` needs no room for one: a stack
-/// of indices beside the slots would have to grow with them, for the case that all are freed. Room
-/// that no row has had yet is capacity behind the last slot, and nothing is written there.
+/// The values of a row stand in the cells of its slot, one in the vector of each column. The freed slots are a
+/// stack beside the columns, and the last one freed is the first given out. `reserve` gives the stack room for
+/// every slot, so that `release` needs no memory. Room that no row has had yet is capacity behind the last
+/// slot, and nothing is written there.
 ///
-/// A column can be tracked: then the prefixes of its values are kept too, in a vector with an entry for
+/// A column of texts can be tracked: then the prefixes of its texts are kept too, in a vector with an entry for
 /// each slot, by which most rows are put in order without a look at them. The rows are the same with it.
 #[derive(Drop)]
 pub struct Partitions {
-    slots: Vec<Slot>,
-    /// The freed slot that is given out next, if there is one.
-    first_free: Option<usize>,
-    /// How many freed slots there are.
-    free_count: usize,
-    /// For how many more slots there is room, in `slots` and in each tracked column.
+    states: Vec<State>,
+    columns: Vec<Column>,
+    /// The freed slots. The last one is given out next.
+    free: Vec<u32>,
+    /// For how many more slots there is room, in `states`, in `free` and in each column.
     spare: usize,
-    tracked: Vec<Tracked>,
 }
 
 impl Model for Partitions {
-    ghost use Rattle.std.specs.Prelude.{◌+◌, map};
-    ghost use Rattle.std.specs.Vec.{vec_capacity};
+    ghost use Rattle.std.specs.Prelude.{◌+◌};
+    ghost use Rattle.std.specs.Vec.{vec_len, vec_capacity};
     ghost use Rattle.mm_partition.specs.Places.{Places};
 
     ghost Value = { Places };
 
-    ghost use Rattle.mm_partition.specs.Links.{content_of};
-    ghost use Rattle.mm_partition.specs.Tracked.{IsStored};
+    ghost use Rattle.mm_partition.specs.Cells.{types_of};
+    ghost use Rattle.mm_partition.specs.Stored.{contents_from, IsStored};
 
     ghost view = { λ p. record {
-      slots = map content_of p.slots.items;
-      room = p.free_count + p.spare;
+      slots = contents_from 0 p.columns.items p.states.items;
+      room = vec_len p.free + p.spare;
+      types = types_of p.columns.items;
     } };
 
-    ghost invariant = { λ p. IsStored p.slots.items p.first_free p.free_count (vec_capacity p.slots) p.spare p.tracked.items };
+    ghost invariant = { λ p. IsStored p.states.items p.free.items (vec_capacity p.states) (vec_capacity p.free) p.spare p.columns.items };
 }
 
 impl Partitions {
-    /// No rows, and an extent of 0. It takes no memory.
-    pub fn new(alloc: Global) -> Self
-        ensures empty { (at : RowRef) → slot_at result at ≡ Free }
-        ensures room { result.room ≡ 0 }
-        ensures extent { extent_of result ≡ 0 }
+    /// No rows, of columns of these types, and an extent of 0. `AllocError` where memory is refused for the list of columns.
+    pub fn new(alloc: Global, types: &[ColType]) -> Result<Self, AllocError>
+        ensures empty { IfOk result (λ rows. (at : RowRef) → slot_at rows at ≡ Free) }
+        ensures room { IfOk result (λ rows. rows.room ≡ 0) }
+        ensures extent { IfOk result (λ rows. extent_of rows ≡ 0) }
+        ensures types { IfOk result (λ rows. rows.types ≡ types.now) }
     {
-        Partitions {
-            slots: Vec::new(alloc),
-            first_free: None,
-            free_count: 0,
-            spare: 0,
-            tracked: Vec::new(alloc),
+        let mut columns = Vec::with_capacity(alloc, types.len())?;
+        for col_type in types {
+            columns.push_reserved(Column::new(alloc, *col_type));
         }
+        Ok(Partitions {
+            states: Vec::new(alloc),
+            columns,
+            free: Vec::new(alloc),
+            spare: 0,
+        })
     }
 
     /// How many slots have been in use so far.
     pub fn extent(&self) -> usize
         ensures { result ≡ extent_of self.now }
     {
-        self.slots.as_slice().len()
+        self.states.as_slice().len()
+    }
+
+    /// How many columns there are.
+    #[inline(always)]
+    pub fn width(&self) -> usize
+        ensures { result ≡ length self.now.types }
+    {
+        self.columns.as_slice().len()
+    }
+
+    /// The type of a column.
+    pub fn column_type(&self, column: usize) -> ColType
+        requires { column < length self.now.types }
+        ensures { slice_get self.now.types column ≡ Some result }
+    {
+        self.columns[column].col_type()
     }
 
     /// A law of the rows that are kept: their whole numbers have 64 bits, and their texts at most 64 bytes without a line feed.
@@ -93,78 +114,118 @@ impl Partitions {
     pub fn are_storable(&self)
         ensures { AreRowsStorable self.now }
     {
-        let _slots = &self.slots;
+        let _columns = &self.columns;
     }
 
-    /// A law of the references: each that gives a row is to one of the first 2^26 partitions, and to one of their 64 slots.
+    /// A law of the references: each that gives a row is to one of the 64 slots of a partition, and the slot's index is below 2^32 - 1.
     /// It does nothing.
     pub fn are_references_small(&self)
         ensures { AreReferencesSmall self.now }
     {
-        let _slots = &self.slots;
+        let _states = &self.states;
+    }
+
+    /// A law of the rows in use: each has the types of the columns. It does nothing.
+    pub fn have_types(&self)
+        ensures { (at : RowRef) (row : List Value) → slot_at self.now at ≡ Live row → HasTypes self.now.types row }
+    {
+        let _columns = &self.columns;
     }
 
     /// The row of a reference, where it stands.
+    #[inline(always)]
     pub fn get(&self, at: RowRef) -> RowView<'_>
         requires { IsLive self.now at }
         ensures { slot_at self.now at ≡ Live (viewed result) }
     {
-        match &self.slots[index_of(at)] {
-            Slot::Live(row) => RowView { row },
-            _ => unreachable!(),
+        let _states = &self.states;
+        RowView {
+            rows: self,
+            index: index_of(at),
         }
     }
 
-    /// Keeps the prefixes of a column from now on, in a pass over the rows where they are not kept yet.
-    /// `AllocError` where memory is refused; then they are kept as before.
+    /// What the row of a reference has in a column.
+    #[inline(always)]
+    pub fn value(&self, at: RowRef, column: usize) -> ValueRef<'_>
+        requires live { IsLive self.now at }
+        requires column { column < length self.now.types }
+        ensures { (row : List Value) → slot_at self.now at ≡ Live row → slice_get row column ≡ Some (value_of result) }
+    {
+        self.columns[column].value(index_of(at))
+    }
+
+    /// What the row in the slot at an index has in a column.
+    #[inline(always)]
+    pub(crate) fn cell(&self, index: usize, column: usize) -> ValueRef<'_>
+        requires live { (row : List Value) × (content_at self.now index ≡ Live row) }
+        requires column { column < length self.now.types }
+        ensures { (row : List Value) → content_at self.now index ≡ Live row → slice_get row column ≡ Some (value_of result) }
+    {
+        self.columns[column].value(index)
+    }
+
+    /// What tells rows apart by a column, with an entry for each slot: its numbers, or the prefixes of its texts if they are
+    /// kept. It is nothing for texts whose prefixes are not kept, and for a column past the last one.
+    pub fn keys(&self, column: usize) -> ColumnKeys<'_>
+        ensures { AreKeys column self.now result }
+    {
+        if column >= self.columns.len() {
+            return ColumnKeys::None;
+        }
+        match &self.columns[column] {
+            Column::Numbers(numbers) => ColumnKeys::Numbers(numbers.as_slice()),
+            Column::Texts(texts) => match texts.prefixes() {
+                Some(prefixes) => ColumnKeys::Prefixes(prefixes),
+                None => ColumnKeys::None,
+            },
+        }
+    }
+
+    /// Keeps the prefixes of a column of texts from now on, in a pass over the slots where they are not kept yet. For other
+    /// columns it does nothing. `AllocError` where memory is refused; then they are kept as before.
     pub fn track(&mut self, alloc: Global, column: usize) -> Result<(), AllocError>
         ensures { self.new ≡ self.old }
     {
-        if self.prefixes(column).is_some() {
+        if column >= self.columns.len() {
             return Ok(());
         }
-        self.tracked.reserve(1)?;
-        let tracked = track_column(alloc, self.slots.as_slice(), self.spare, column)?;
-        self.tracked.push_reserved(tracked);
-        Ok(())
+        self.columns[column].track(alloc)
     }
 
     /// Drops the prefixes of a column, if they are kept.
     pub fn untrack(&mut self, column: usize)
         ensures { self.new ≡ self.old }
     {
-        untrack_column(&mut self.tracked, column);
-    }
-
-    /// The prefixes of a column, by the index of the slot, if they are kept: the `order_prefix` of what the
-    /// row has there, and 0 where it is too short.
-    pub fn prefixes(&self, column: usize) -> Option<&[u64]>
-        ensures { ForSome result (λ prefixes. ArePrefixes column self.now prefixes.now) }
-    {
-        find_column(self.tracked.as_slice(), column)
+        if column < self.columns.len() {
+            self.columns[column].untrack();
+        }
     }
 
     /// Makes room for at least `n` rows more, in whole partitions. Every row stays as it is, and so
-    /// does the room that was there; `AllocError` where memory is refused, or where more than 2^32
-    /// slots would be needed. The extent stays.
+    /// does the room that was there; `AllocError` where memory is refused, or where 2^32 slots or more
+    /// would be needed. The extent stays.
     pub fn reserve(&mut self, _alloc: Global, n: usize) -> Result<(), AllocError>
         ensures ok { OnOk result (n ≤ self.new.room) }
         ensures rows { IsUnchanged self.old self.new }
         ensures room { self.old.room ≤ self.new.room }
         ensures extent { extent_of self.new ≡ extent_of self.old }
+        ensures types { self.new.types ≡ self.old.types }
     {
-        let room = self.free_count + self.spare;
+        let room = self.free.len() + self.spare;
         if n <= room {
             return Ok(());
         }
         let partitions = (n - room).div_ceil(SLOTS);
         let more = partitions.checked_mul(SLOTS).ok_or(AllocError)?;
         let spare = self.spare.checked_add(more).ok_or(AllocError)?;
-        if self.slots.len().saturating_add(spare) > MAX_SLOTS {
+        if self.states.len().saturating_add(spare) > MAX_SLOTS {
             return Err(AllocError);
         }
-        self.slots.reserve(spare)?;
-        reserve_each(&mut self.tracked, spare)?;
+        self.states.reserve(spare)?;
+        self.free
+            .reserve(self.states.len() - self.free.len() + spare)?;
+        reserve_each(&mut self.columns, spare)?;
         self.spare = spare;
         Ok(())
     }
@@ -172,45 +233,49 @@ impl Partitions {
     /// Puts a row into a free slot and gives its reference, whose slot is below 64. The index of that
     /// slot is at most the extent that there was, and the extent grows to have it within.
     pub fn place(&mut self, row: Row) -> RowRef
-        requires { 1 ≤ self.old.room }
+        requires room { 1 ≤ self.old.room }
+        requires typed { HasTypes self.old.types row }
         ensures fresh { slot_at self.old result ≡ Free }
         ensures placed { ChangesOnly self.old self.new result (Live row) }
         ensures slot { result.slot < 64 }
         ensures room { self.new.room + 1 ≡ self.old.room }
         ensures within { slot_index_of result ≤ extent_of self.old }
         ensures extent { extent_of self.new ≡ max (extent_of self.old) (slot_index_of result + 1) }
+        ensures types { self.new.types ≡ self.old.types }
     {
         row.is_storable();
-        let Some(index) = self.first_free else {
-            let index = self.slots.len();
-            push_each(&mut self.tracked, &row);
-            self.slots.push_reserved(Slot::Live(row));
-            self.spare -= 1;
-            return reference_to(index);
-        };
-        set_each(&mut self.tracked, index, &row);
-        let Slot::Free(next) = mem::replace(&mut self.slots[index], Slot::Live(row)) else {
-            unreachable!()
-        };
-        self.first_free = next;
-        self.free_count -= 1;
-        reference_to(index)
+        let mut values = row.into_values();
+        match self.free.pop() {
+            None => {
+                let index = self.states.len();
+                push_each(&mut self.columns, index, &mut values);
+                self.states.push_reserved(State::Live);
+                self.spare -= 1;
+                reference_to(index)
+            }
+            Some(index) => {
+                let index = index as usize;
+                swap_each(&mut self.columns, index, &mut values);
+                self.states[index] = State::Live;
+                reference_to(index)
+            }
+        }
     }
 
     /// Puts a row in the place of another and gives the old one. The reference stays.
     pub fn replace(&mut self, at: RowRef, row: Row) -> Row
-        requires { IsLive self.old at }
+        requires live { IsLive self.old at }
+        requires typed { HasTypes self.old.types row }
         ensures was { slot_at self.old at ≡ Live result }
         ensures replaced { ChangesOnly self.old self.new at (Live row) }
         ensures room { self.new.room ≡ self.old.room }
         ensures extent { extent_of self.new ≡ extent_of self.old }
+        ensures types { self.new.types ≡ self.old.types }
     {
         row.is_storable();
-        set_each(&mut self.tracked, index_of(at), &row);
-        match mem::replace(&mut self.slots[index_of(at)], Slot::Live(row)) {
-            Slot::Live(old) => old,
-            _ => unreachable!(),
-        }
+        let mut values = row.into_values();
+        swap_each(&mut self.columns, index_of(at), &mut values);
+        Row::new(values)
     }
 
     /// Takes a row out of use. It keeps its slot, so that it can come back.
@@ -220,12 +285,9 @@ impl Partitions {
             → ChangesOnly self.old self.new at (Hidden row) }
         ensures room { self.new.room ≡ self.old.room }
         ensures extent { extent_of self.new ≡ extent_of self.old }
+        ensures types { self.new.types ≡ self.old.types }
     {
-        let slot = &mut self.slots[index_of(at)];
-        let Slot::Live(row) = mem::replace(slot, Slot::Free(None)) else {
-            unreachable!()
-        };
-        *slot = Slot::Hidden(row);
+        self.states[index_of(at)] = State::Hidden;
     }
 
     /// Brings a hidden row back into use.
@@ -235,29 +297,23 @@ impl Partitions {
             → ChangesOnly self.old self.new at (Live row) }
         ensures room { self.new.room ≡ self.old.room }
         ensures extent { extent_of self.new ≡ extent_of self.old }
+        ensures types { self.new.types ≡ self.old.types }
     {
-        let slot = &mut self.slots[index_of(at)];
-        let Slot::Hidden(row) = mem::replace(slot, Slot::Free(None)) else {
-            unreachable!()
-        };
-        *slot = Slot::Live(row);
+        self.states[index_of(at)] = State::Live;
     }
 
-    /// Gives a hidden row out and frees its slot.
-    pub fn release(&mut self, at: RowRef) -> Row
+    /// Drops a hidden row and frees its slot.
+    pub fn release(&mut self, at: RowRef)
         requires { IsHidden self.old at }
-        ensures was { slot_at self.old at ≡ Hidden result }
         ensures freed { ChangesOnly self.old self.new at Free }
         ensures room { self.new.room ≡ self.old.room + 1 }
         ensures extent { extent_of self.new ≡ extent_of self.old }
+        ensures types { self.new.types ≡ self.old.types }
     {
-        let freed = Slot::Free(self.first_free);
+        let states = &mut self.states;
         let index = index_of(at);
-        let Slot::Hidden(row) = mem::replace(&mut self.slots[index], freed) else {
-            unreachable!()
-        };
-        self.first_free = Some(index);
-        self.free_count += 1;
-        row
+        states[index] = State::Free;
+        clear_each(&mut self.columns, index);
+        self.free.push_reserved(index as u32);
     }
 }

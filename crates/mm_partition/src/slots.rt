@@ -1,23 +1,24 @@
 //! The slots of a partition.
 ghost use Rattle.std.specs.Prelude.{◌≡◌, ◌+◌, ◌*◌, ◌<◌, ◌^◌};
 
-use mm_value::{Row, RowRef};
+use mm_value::RowRef;
 
 /// How many slots a partition has.
 pub const SLOTS: usize = 64;
 
-/// What a slot holds.
-#[derive(Drop)]
-pub enum Slot {
-    /// No row: the slot may be given out. It has the index of the next such slot, if there is one.
-    Free(Option<usize>),
+/// Whether a slot has a row.
+#[derive(Clone, Copy)]
+pub enum State {
+    /// No row: the slot may be given out.
+    Free,
     /// A row that its reference gives.
-    Live(Row),
+    Live,
     /// A row out of use, which keeps its slot until it is released.
-    Hidden(Row),
+    Hidden,
 }
 
 /// Where the slot of a reference lies among all slots: its index in a vector with an entry for each slot.
+#[inline(always)]
 pub fn index_of(at: RowRef) -> usize
     requires { 64 * at.part + at.slot < 2 ^ 64 }
     ensures { result ≡ 64 * at.part + at.slot }

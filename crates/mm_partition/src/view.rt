@@ -1,41 +1,54 @@
 //! Rows where they stand.
-ghost use Rattle.std.specs.Prelude.{◌≡◌, ◌<◌, length, slice_get, Some, IfOk};
-ghost use Rattle.std.specs.Option.{option_map};
-ghost use Rattle.mm_value.specs.Views.{value_of};
-ghost use Rattle.mm_partition.specs.Views.{viewed};
+ghost use Rattle.std.specs.Prelude.{◌≡◌};
+ghost use Rattle.mm_partition.specs.Places.{Live, content_at, row_in};
+ghost use Rattle.mm_partition.specs.Types.{HasTypes};
 
+use crate::rows::Partitions;
 use mm_value::{AsRow, Row, ValueRef};
 use std::alloc::{AllocError, Global};
 
 /// A row of partitions to read, where it stands.
 #[derive(Clone, Copy)]
 pub struct RowView<'a> {
-    pub(crate) row: &'a Row,
+    pub(crate) rows: &'a Partitions,
+    /// Where the slot of the row lies among all slots.
+    pub(crate) index: usize,
+    ghost live: { content_at rows.now index ≡ Live (row_in (content_at rows.now index)) },
+    ghost typed: { HasTypes rows.now.types (row_in (content_at rows.now index)) },
 }
 
 impl<'a> RowView<'a> {
+    ghost use Rattle.std.specs.Prelude.{◌<◌, length, slice_get, Some, IfOk};
+    ghost use Rattle.std.specs.Option.{option_map};
+    ghost use Rattle.mm_value.specs.Views.{value_of};
+    ghost use Rattle.mm_partition.specs.Views.{viewed};
+
     /// How many values it has.
+    #[inline(always)]
     pub fn len(&self) -> usize
         ensures { result ≡ length (viewed self.now) }
     {
-        self.row.len()
+        self.rows.width()
     }
 
     /// The value at a position, counted from 0.
+    #[inline(always)]
     pub fn value(&self, i: usize) -> ValueRef<'a>
         requires { i < length (viewed self.now) }
         ensures { slice_get (viewed self.now) i ≡ Some (value_of result) }
     {
-        self.row.value(i).as_ref()
+        self.rows.cell(self.index, i)
     }
 
     /// The value at a position, counted from 0, if the row has one there.
+    #[inline(always)]
     pub fn get(&self, i: usize) -> Option<ValueRef<'a>>
         ensures { option_map value_of result ≡ slice_get (viewed self.now) i }
     {
-        match self.row.values().get(i) {
-            Some(value) => Some(value.as_ref()),
-            None => None,
+        if i < self.len() {
+            Some(self.value(i))
+        } else {
+            None
         }
     }
 
@@ -43,11 +56,18 @@ impl<'a> RowView<'a> {
     pub fn copy(&self, alloc: Global) -> Result<Row, AllocError>
         ensures ok { IfOk result (λ row. row ≡ viewed self.now) }
     {
-        self.row.copy(alloc)
+        let width = self.len();
+        let mut values = Vec::with_capacity(alloc, width)?;
+        for i in 0..width {
+            values.push_reserved(self.value(i).copy(alloc)?);
+        }
+        Ok(Row::new(values))
     }
 }
 
 impl<'a> AsRow for RowView<'a> {
+    ghost use Rattle.mm_partition.specs.Views.{viewed};
+
     ghost row = { viewed };
 
     #[inline(always)]

@@ -113,7 +113,7 @@ less_from_rest Less behind = inr refl
 less_from_rest Equal behind = inl refl
 less_from_rest Greater behind = cc
 
-module _ (stored : StoredRows) (kept : IsKept stored.width stored.key (slot_at stored.places) stored.refs stored.indexes) where
+module _ (stored : StoredRows) (kept : IsKept stored.places.types stored.key (slot_at stored.places) stored.refs stored.indexes) where
   abbrev now : Slots
   now = slot_at stored.places
 

@@ -1,5 +1,5 @@
 -- How a store keeps the tables of a catalog: beside each of them a relation.
-use Rattle.std.specs.Prelude.{◌≡◌, All, List, [], ◌∷◌, Some, length, map}
+use Rattle.std.specs.Prelude.{◌≡◌, All, List, [], ◌∷◌, Some, map}
 use Rattle.mm_relation.specs.Index.{column_of, kind_of}
 use Rattle.mm_relation.specs.Kept.{StoredRows}
 use Rattle.mm_relation.specs.RowLists.{rows_of}
@@ -29,10 +29,10 @@ AreIndexes columns (d ∷ ds) (x ∷ xs) = IsIndex columns d x × AreIndexes col
 AreIndexes columns [] (x ∷ xs) = ⊥
 AreIndexes columns (d ∷ ds) [] = ⊥
 
--- The relation has the columns of the table, its key and its indexes.
+-- The relation has the types of the table's columns, its key and its indexes.
 pub record IsOf (table : Table) (stored : StoredRows) : Type 0 where
   pub key : stored.key ≡ key_place table.definition.columns
-  pub width : stored.width ≡ length table.definition.columns
+  pub types : stored.places.types ≡ map (λ (c : Column). c.col_type) table.definition.columns
   pub indexes : AreIndexes table.definition.columns table.indexes stored.indexes
 
 -- There is a relation for each table and no others.

@@ -94,7 +94,7 @@ fn with_keys<'v>(
     refs: &[RowRef],
 ) -> Result<Vec<Keyed<'v>>, AllocError>
     requires there { table < length view.old.store.tables }
-    requires key { (stored : StoredRows) → IsAt view.old.store table stored → (key ≡ stored.key) × (key < stored.width) }
+    requires key { (stored : StoredRows) → IsAt view.old.store table stored → (key ≡ stored.key) × (key < length stored.places.types) }
     requires live { (stored : StoredRows) → IsAt view.old.store table stored → All (IsLive stored.places) refs.now }
     ensures refs { IfOk result (λ rows. map (λ row. row.at) rows.items ≡ refs.now) }
     ensures keys { IfOk result (λ rows. (stored : StoredRows) → IsAt view.old.store table stored → All (IsKeyed stored) rows.items) }

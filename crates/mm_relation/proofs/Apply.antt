@@ -13,6 +13,8 @@ use Rattle.mm_value.specs.declared.row_ref.RowRef.{RowRef}
 use Rattle.mm_value.specs.declared.values.Value.{Value}
 use Rattle.mm_schema.specs.Rows.{column_cmp}
 use Rattle.mm_partition.specs.Places.{Live}
+use Rattle.mm_value.specs.declared.col_type.ColType.{ColType}
+use Rattle.mm_partition.specs.Types.{HasTypes}
 use Rattle.mm_relation.specs.Refs.{Slots, HasRow, row_in, row_at, IsWide}
 use Rattle.mm_relation.specs.Edits.{Among, edit_name, edit_other, new_rows, record_name, record_other}
 use Rattle.mm_relation.specs.Changes.{Changes, Standing}
@@ -34,18 +36,18 @@ use Rattle.mm_relation.proofs.Phase.{split_outs, keep_outs, wide_outs, stays, wi
 use Rattle.mm_relation.proofs.Unmoved.{EditsPaired, EditsPaired-changes}
 use Rattle.mm_relation.proofs.WaysBack.{fresh, news_apart}
 
--- a new row has the table's width
-sized : (width : ℕ) (new : Slots) (names : List RowRef) (rows : List (List Value)) → map new names ≡ map Live rows → All (λ row. length row ≡ width) rows
-    → (at : RowRef) (row : List Value) → new at ≡ Live row → Contains names at → length row ≡ width
-sized width new [] rows e all at row is here = let no : ⊥ = omega arith in absurd no
-sized width new (x ∷ xs) [] e all at row is here = cc
-sized width new (x ∷ xs) (r ∷ rs) e all at row is here =
+-- a new row has the types of the columns
+typed_there : (types : List ColType) (new : Slots) (names : List RowRef) (rows : List (List Value)) → map new names ≡ map Live rows → All (HasTypes types) rows
+    → (at : RowRef) (row : List Value) → new at ≡ Live row → Contains names at → HasTypes types row
+typed_there types new [] rows e all at row is here = let no : ⊥ = omega arith in absurd no
+typed_there types new (x ∷ xs) [] e all at row is here = cc
+typed_there types new (x ∷ xs) (r ∷ rs) e all at row is here =
     let first : new x ≡ Live r = cc in
     let later : map new xs ≡ map Live rs = cc in
     ⊎_elim
     (λ (h : Contains (x ∷ []) at). let same : Live row ≡ Live r = sym is ∙ (ap new (sym (only x at h)) ∙ first) in let one : row ≡ r = cc in
-    ap (λ (v : List Value). length v) one ∙ All-head (λ (v : List Value). length v ≡ width) r rs all)
-    (λ (h : Contains xs at). sized width new xs rs later (All-tail (λ (v : List Value). length v ≡ width) r rs all) at row is h)
+    subst (HasTypes types) (sym one) (All-head (HasTypes types) r rs all))
+    (λ (h : Contains xs at). typed_there types new xs rs later (All-tail (HasTypes types) r rs all) at row is h)
     (Contains-append_cases (x ∷ []) xs at here)
 
 -- as many references come as there are new rows
@@ -64,17 +66,18 @@ Differs-changes es ns old new standing changes = record {
   came = λ x live. came es ns old new x changes live;
 }
 
-module _ (width key : ℕ) (old : Slots) (refs : List RowRef) (indexes : List Index) (was : IsKept width key old refs indexes) (edits : List Edit)
+module _ (types : List ColType) (key : ℕ) (old : Slots) (refs : List RowRef) (indexes : List Index) (was : IsKept types key old refs indexes)
+    (edits : List Edit)
     (standing : Standing old edits) where
   pub split : Among refs (olds edits)
-  split = split_outs width key old refs indexes was (olds edits) standing.live standing.apart
+  split = split_outs types key old refs indexes was (olds edits) standing.live standing.apart
 
   pub keep_split : All (Keeps key old (olds edits ++ split.0)) indexes
   unfolding split
-  keep_split = keep_outs width key old refs indexes was (olds edits) standing.live standing.apart
+  keep_split = keep_outs types key old refs indexes was (olds edits) standing.live standing.apart
 
   pub wide_olds : All (λ x. All (IsWide (column_of x) key old) (olds edits)) indexes
-  wide_olds = wide_outs width key old refs indexes was (olds edits) standing.live standing.apart
+  wide_olds = wide_outs types key old refs indexes was (olds edits) standing.live standing.apart
 
   module _ (new : Slots) (logged : List UndoRecord) (changes : Changes edits old logged new) (left : List RowRef) (stay : Stay refs edits left) where
     stand : map new (news logged) ≡ map Live (new_rows edits)
@@ -97,7 +100,7 @@ module _ (width key : ℕ) (old : Slots) (refs : List RowRef) (indexes : List In
     rows = map-append (row_at new) (news logged) left
         ∙ (ap (λ (xs : List (List Value)). xs ++ map (row_at new) left) (rows_from new (news logged) (new_rows edits) stand)
         ∙ ap (λ (xs : List (List Value)). new_rows edits ++ xs)
-        (rows_left left (stays width key old refs indexes was new (olds edits) (news logged) differs left stay)))
+        (rows_left left (stays types key old refs indexes was new (olds edits) (news logged) differs left stay)))
 
     pub keys_apart : RowsApart key (rows_after old edits left) → KeysApart key new (news logged ++ left)
     keys_apart all i j d before within =
@@ -118,53 +121,53 @@ module _ (width key : ℕ) (old : Slots) (refs : List RowRef) (indexes : List In
         IsPermutation-trans (rows_after old edits kept) (rows_after old edits left) (map (row_at new) more) first
         (subst (λ (xs : List (List Value)). IsPermutation xs (map (row_at new) more)) rows (IsPermutation-map (row_at new) (news logged ++ left) more moved))
 
-    module _ (sizes : All (λ row. length row ≡ width) (new_rows edits)) where
-      wide_after : (at : RowRef) (row : List Value) → new at ≡ Live row → length row ≡ width
-      wide_after at row is =
+    module _ (typed : All (HasTypes types) (new_rows edits)) where
+      typed_after : (at : RowRef) (row : List Value) → new at ≡ Live row → HasTypes types row
+      typed_after at row is =
           let live : HasRow new at = (row, is) in
           ⊎_elim
-          (λ (h : Contains (news logged) at). sized width new (news logged) (new_rows edits) stand sizes at row is h)
+          (λ (h : Contains (news logged) at). typed_there types new (news logged) (new_rows edits) stand typed at row is h)
           (λ (h : HasRow old at × (Contains (olds edits) at → ⊥)). let same : new at ≡ old at = row_stays edits logged old new at changes h.0 h.1 in
-          was.wide at row (sym same ∙ is))
+          was.typed at row (sym same ∙ is))
           (came edits logged old new at changes live)
 
-      pub wide_news : (column : ℕ) → column < width → All (IsWide column key new) (news logged)
+      pub wide_news : (column : ℕ) → column < length types → All (IsWide column key new) (news logged)
       wide_news column within =
-          wide_ins edit_name edit_other Old record_name record_other New width key old new refs indexes was edits logged differs paired wide_after left stay
+          wide_ins edit_name edit_other Old record_name record_other New types key old new refs indexes was edits logged differs paired typed_after left stay
           column within
 
       module _ (held : List RowRef) (holds : IsPermutation held (staying edit_name edit_other key key old Old edits ++ left)) where
         pub order_stands : InOrder key key old held → InOrder key key new held
         order_stands ordered =
-            phase.order_stands edit_name edit_other Old record_name record_other New width key old new refs indexes was edits logged differs paired
-            wide_after left stay held holds ordered
+            phase.order_stands edit_name edit_other Old record_name record_other New types key old new refs indexes was edits logged differs paired
+            typed_after left stay held holds ordered
 
         pub held_beside : IsPermutation held (staying record_name record_other key key new New logged ++ left)
         held_beside =
-            phase.held_beside edit_name edit_other Old record_name record_other New width key old new refs indexes was edits logged differs paired
-            wide_after left stay held holds
+            phase.held_beside edit_name edit_other Old record_name record_other New types key old new refs indexes was edits logged differs paired
+            typed_after left stay held holds
 
       module _ (some : List Index)
           (taken : EachTurns (λ x. Taken key old (olds edits) (unmoved edit_name edit_other key old Old edits x) x) indexes some) where
         pub keep_some : All (λ y. Keeps key new (unmoved record_name record_other key new New logged y ++ left) y) some
         keep_some =
-            phase.keep_some edit_name edit_other Old record_name record_other New width key old new refs indexes was edits logged differs paired wide_after
+            phase.keep_some edit_name edit_other Old record_name record_other New types key old new refs indexes was edits logged differs paired typed_after
             left stay some taken
 
         pub wide_some : All (λ x. All (IsWide (column_of x) key new) (news logged)) some
         wide_some =
-            phase.wide_some edit_name edit_other Old record_name record_other New width key old new refs indexes was edits logged differs paired wide_after
+            phase.wide_some edit_name edit_other Old record_name record_other New types key old new refs indexes was edits logged differs paired typed_after
             left stay some taken
 
         pub spare_some : All (λ x. length (new_rows edits) ≤ spare_of x) indexes → All (λ x. length (news logged) ≤ spare_of x) some
         spare_some all =
             subst (λ (n : ℕ). All (λ x. n ≤ spare_of x) some) (sym (length-news edits logged old new standing changes))
-            (phase.spare_some edit_name edit_other Old record_name record_other New width key old new refs indexes was edits logged differs paired wide_after
+            (phase.spare_some edit_name edit_other Old record_name record_other New types key old new refs indexes was edits logged differs paired typed_after
             left stay some taken (length (new_rows edits)) all)
 
         module _ (more : List RowRef) (moved : IsPermutation (news logged ++ left) more) (full : List Index)
             (put : EachTurns (λ x. Put key new (news logged) (unmoved record_name record_other key new New logged x) x) some full) where
-          pub after : InOrder key key new more → IsKept width key new more full
+          pub after : InOrder key key new more → IsKept types key new more full
           after ordered =
-              phase.after edit_name edit_other Old record_name record_other New width key old new refs indexes was edits logged differs paired wide_after
+              phase.after edit_name edit_other Old record_name record_other New types key old new refs indexes was edits logged differs paired typed_after
               left stay some taken more moved full put ordered

@@ -1,13 +1,13 @@
 -- Where the rows come from that stand after the edits, and how many there are.
-use Rattle.std.proofs.Common.{◌≡◌, ◌≢◌, ℕ, ◌<◌, ◌≤◌, ◌⊎◌, inl, inr, ⊎_elim, List, [], ◌∷◌, ◌++◌, length, refl, sym, ap, ◌∙◌, subst, arith}
+use Rattle.std.proofs.Common.{◌≡◌, ◌≢◌, ◌≤◌, ◌⊎◌, inl, inr, ⊎_elim, List, [], ◌∷◌, ◌++◌, length, refl, sym, ap, ◌∙◌, subst, arith}
 use Rattle.std.specs.Prelude.{map}
 use Rattle.std.specs.List.{All, Contains}
-use Rattle.std.proofs.lemmas.List.Elements.{All-nil, All-cons, All-head, All-tail, Contains-append_left, Contains-append_right, Contains-append_cases}
+use Rattle.std.proofs.lemmas.List.Elements.{All-nil, All-cons, Contains-append_left, Contains-append_right, Contains-append_cases}
 use Rattle.std.proofs.lemmas.List.Elements.{filter_map-append}
 use Rattle.mm_value.specs.declared.row_ref.RowRef.{RowRef}
 use Rattle.mm_value.specs.declared.values.Value.{Value}
 use Rattle.mm_partition.specs.Places.{Live, Hidden}
-use Rattle.mm_relation.specs.Refs.{Slots, HasRow, IsWide}
+use Rattle.mm_relation.specs.Refs.{Slots, HasRow}
 use Rattle.mm_relation.specs.Edits.{named, new_rows, record_name}
 use Rattle.mm_relation.specs.Changes.{Step, Changes}
 use Rattle.mm_relation.specs.declared.log.UndoRecord.{UndoRecord}
@@ -83,17 +83,6 @@ length_same new [] (row ∷ rows) e = cc
 length_same new (x ∷ xs) [] e = cc
 length_same new (x ∷ xs) (row ∷ rows) e = let later : map new xs ≡ map Live rows = cc in
     let rest : length xs ≡ length rows = length_same new xs rows later in omega arith
-
-pub wide_from : (width column key : ℕ) (new : Slots) (names : List RowRef) (rows : List (List Value)) → column < width → key < width
-    → map new names ≡ map Live rows → All (λ row. length row ≡ width) rows → All (IsWide column key new) names
-wide_from width column key new [] rows c k e all = All-nil (IsWide column key new)
-wide_from width column key new (x ∷ xs) [] c k e all = cc
-wide_from width column key new (x ∷ xs) (row ∷ rows) c k e all =
-    let first : new x ≡ Live row = cc in
-    let later : map new xs ≡ map Live rows = cc in
-    let size : length row ≡ width = All-head (λ (r : List Value). length r ≡ width) row rows all in
-    let one : IsWide column key new x = record { row = row; live = first; column_in = omega (arith, size); key_in = omega (arith, size) } in
-    All-cons (IsWide column key new) x xs one (wide_from width column key new xs rows c k later (All-tail (λ (r : List Value). length r ≡ width) row rows all))
 
 pub live_from : (new : Slots) (names : List RowRef) (rows : List (List Value)) → map new names ≡ map Live rows → All (HasRow new) names
 live_from new [] rows e = All-nil (HasRow new)

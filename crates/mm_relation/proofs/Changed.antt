@@ -11,7 +11,7 @@ use Rattle.mm_partition.specs.Places.{Content, Free, Live, Hidden}
 use Rattle.mm_order.proofs.Pairs.{All-append_left, All-append_right, AllPairs-append_left, AllPairs-append_right, AllPairs-append_across}
 use Rattle.mm_relation.specs.Refs.{Slots, HasRow, Turns, row_in, row_at}
 use Rattle.mm_relation.specs.Before.{same_ref, shown, step_back, before}
-use Rattle.mm_relation.specs.Edits.{edit_name, record_name, named, new_rows, is_addition, added_count}
+use Rattle.mm_relation.specs.Edits.{edit_name, record_name, named, new_row, new_rows, is_addition, added_count}
 use Rattle.mm_relation.specs.Changes.{Moves, Step, Changes, Standing}
 use Rattle.mm_relation.specs.declared.log.UndoRecord.{UndoRecord}
 use Rattle.mm_relation.specs.declared.log.UndoRecord.TheVariants.{Added, Changed, Removed}
@@ -29,6 +29,17 @@ olds_split e es = filter_map-append (λ (x : Edit). edit_name x Old) (e ∷ []) 
 
 pub added_count-cons : (e : Edit) (es : List Edit) → added_count (e ∷ es) ≡ added_count (e ∷ []) + added_count es
 added_count-cons e es = sum_by-append (λ (x : Edit). cond (is_addition x) 1 0) (e ∷ []) es
+
+new_rows_split : (e : Edit) (es : List Edit) → new_rows (e ∷ es) ≡ new_rows (e ∷ []) ++ new_rows es
+new_rows_split e es = filter_map-append new_row (e ∷ []) es
+
+-- the new rows of a first edit, and of all others
+module _ (P : List Value → Type 0) (e : Edit) (es : List Edit) (all : All P (new_rows (e ∷ es))) where
+  pub new_rows-first : All P (new_rows (e ∷ []))
+  new_rows-first = All-append_left P (new_rows (e ∷ [])) (new_rows es) (subst (All P) (new_rows_split e es) all)
+
+  pub new_rows-rest : All P (new_rows es)
+  new_rows-rest = All-append_right P (new_rows (e ∷ [])) (new_rows es) (subst (All P) (new_rows_split e es) all)
 
 pub Standing-first : (now : Slots) (e : Edit) (es : List Edit) → Standing now (e ∷ es) → Standing now (e ∷ [])
 Standing-first now e es all = record {

@@ -13,11 +13,11 @@ use Rattle.mm_relation.proofs.Apply.{split}
 use Rattle.mm_relation.proofs.Changed.{olds}
 use Rattle.mm_relation.proofs.RowLists.{IsPermutation-changed, RowsApart-from_duplicates, duplicates_after}
 
-module _ (v : StoredRows) (was : IsKept v.width v.key (slot_at v.places) v.refs v.indexes) (edits : List Edit)
+module _ (v : StoredRows) (was : IsKept v.places.types v.key (slot_at v.places) v.refs v.indexes) (edits : List Edit)
     (standing : Standing (slot_at v.places) edits) where
   -- some references stay
   pub stays : Among v.refs (olds edits)
-  stays = split v.width v.key (slot_at v.places) v.refs v.indexes was edits standing
+  stays = split v.places.types v.key (slot_at v.places) v.refs v.indexes was edits standing
 
   pub duplicates_with : (duplicates : Bool) → ((kept : List RowRef) → Stay v.refs edits kept
       → duplicates ≡ has_duplicate_keys v.key (rows_after (slot_at v.places) edits kept))

@@ -18,6 +18,7 @@ use Rattle.mm_value.specs.declared.row_ref.RowRef.{RowRef}
 use Rattle.mm_schema.specs.Rows.{same_in_column, has_duplicate_keys}
 use Rattle.mm_schema.proofs.Duplicates.{Row, has_duplicate_keys-IsPermutation}
 use Rattle.mm_partition.specs.Places.{slot_at}
+use Rattle.mm_value.specs.declared.col_type.ColType.{ColType}
 use Rattle.mm_relation.specs.Refs.{Slots, HasRow, row_at}
 use Rattle.mm_relation.specs.Edits.{edit_name, edit_other, new_rows, added_count}
 use Rattle.mm_relation.specs.Index.{InOrder}
@@ -237,9 +238,10 @@ module _ (now : Slots) (refs : List RowRef) (edits : List Edit) (kept : List Row
       )
 
 -- edits of rows that are there stand
-pub Standing-of_refs : (width key : ℕ) (now : Slots) (refs : List RowRef) (indexes : List Index) → IsKept width key now refs indexes → (edits : List Edit)
+pub Standing-of_refs : (types : List ColType) (key : ℕ) (now : Slots) (refs : List RowRef) (indexes : List Index)
+    → IsKept types key now refs indexes → (edits : List Edit)
     (kept : List RowRef) → Stay refs edits kept → Standing now edits
-Standing-of_refs width key now refs indexes is edits kept stay = record {
+Standing-of_refs types key now refs indexes is edits kept stay = record {
   live = olds_stand now refs edits kept stay is.held;
   apart = AllPairs-append_left (λ (a b : RowRef). a ≢ b) (olds edits) kept (AllPairs-permutation (λ (a b : RowRef). a ≢ b)
       (λ a b differ same. differ (sym same)) refs (olds edits ++ kept) stay (distinct key now refs is.by_key));

@@ -6,6 +6,7 @@ use Rattle.std.proofs.lemmas.List.{get_or_default}
 use Rattle.std.specs.declared.cmp.Ordering.TheVariants.{Equal}
 use Rattle.mm_value.specs.declared.row_ref.RowRef.{RowRef}
 use Rattle.mm_schema.specs.Rows.{column_cmp}
+use Rattle.mm_value.specs.declared.col_type.ColType.{ColType}
 use Rattle.mm_relation.specs.Index.{KeysApart}
 use Rattle.mm_relation.specs.Kept.{IsKept}
 use Rattle.mm_relation.specs.Lawful.{IsLawful}
@@ -29,10 +30,10 @@ one_of_key key now refs apart a b at_a at_b tie =
     (cases_order at_a.0 at_b.0)
 
 -- what a relation keeps is lawful
-pub IsLawful-kept : (width key : ℕ) (now : Slots) (refs : List RowRef) (indexes : List Index) → IsKept width key now refs indexes
-    → IsLawful width key now
-IsLawful-kept width key now refs indexes was = record {
-  wide = was.wide;
+pub IsLawful-kept : (types : List ColType) (key : ℕ) (now : Slots) (refs : List RowRef) (indexes : List Index) → IsKept types key now refs indexes
+    → IsLawful types key now
+IsLawful-kept types key now refs indexes was = record {
+  typed = was.typed;
   apart = λ a b x y live_a live_b tie.
       let has_a : HasRow now a = (x, live_a) in
       let has_b : HasRow now b = (y, live_b) in

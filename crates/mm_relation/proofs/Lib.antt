@@ -27,6 +27,7 @@ pub mod Steps
 pub mod Storables
 pub mod TakenBack
 pub mod Turning
+pub mod Typed
 pub mod Duplicates
 pub mod DuplicatesAfter
 pub mod Unmoved

@@ -3,6 +3,8 @@ use Rattle.std.proofs.Common.{◌≡◌, ℕ, suc, ◌<◌, List, [], ◌∷◌,
 use Rattle.std.specs.List.{All, remove}
 use Rattle.std.proofs.lemmas.List.Elements.{All-append, All-nil, All-cons, All-take, All-drop, Contains-get_or}
 use Rattle.mm_value.specs.declared.row_ref.RowRef.{RowRef}
+use Rattle.mm_value.specs.declared.col_type.ColType.{ColType}
+use Rattle.mm_relation.proofs.Typed.{HasTypes-length}
 use Rattle.mm_relation.specs.Refs.{Slots, HasRow, IsWide}
 use Rattle.mm_relation.specs.Edits.{named, ref_name, ref_other}
 use Rattle.mm_relation.specs.Index.{KeysApart, Keeps, column_of, tie_column, unmoved}
@@ -28,12 +30,12 @@ none_stay column key now side (at ∷ rest) = none_stay column key now side rest
 pub none_unmoved : (key : ℕ) (now : Slots) (side : Side) (refs : List RowRef) (x : Index) → unmoved ref_name ref_other key now side refs x ≡ []
 none_unmoved key now side refs x = none_stay (column_of x) (tie_column key x) now side refs
 
-module _ (width key : ℕ) (now : Slots) (refs : List RowRef) (indexes : List Index) (was : IsKept width key now refs indexes) where
-  pub wide_refs : (column : ℕ) → column < width → All (IsWide column key now) refs
+module _ (types : List ColType) (key : ℕ) (now : Slots) (refs : List RowRef) (indexes : List Index) (was : IsKept types key now refs indexes) where
+  pub wide_refs : (column : ℕ) → column < length types → All (IsWide column key now) refs
   wide_refs column within k d below =
       let at : RowRef = get_or refs k d in
       let live : HasRow now at = (was.held at).0 (Contains-get_or refs k d below) in
-      let size : length live.0 ≡ width = was.wide at live.0 live.1 in
+      let size : length live.0 ≡ length types = HasTypes-length types live.0 (was.typed at live.0 live.1) in
       record { row = live.0; live = live.1; column_in = omega arith; key_in = omega (arith, was.key_in) }
 
   pub live_refs : All (HasRow now) refs
@@ -42,13 +44,13 @@ module _ (width key : ℕ) (now : Slots) (refs : List RowRef) (indexes : List In
   pub apart_refs : KeysApart key now refs
   apart_refs = KeysApart-ordered key now refs was.by_key
 
-  pub IsKept-removed : (i : ℕ) → IsKept width key now refs (remove indexes i)
+  pub IsKept-removed : (i : ℕ) → IsKept types key now refs (remove indexes i)
   IsKept-removed i = record {
     key_in = was.key_in;
     columns =
-        All-append (λ y. column_of y < width) (take i indexes) (drop (suc i) indexes) (All-take (λ y. column_of y < width) i indexes was.columns)
-        (All-drop (λ y. column_of y < width) (suc i) indexes was.columns);
-    wide = was.wide;
+        All-append (λ y. column_of y < length types) (take i indexes) (drop (suc i) indexes) (All-take (λ y. column_of y < length types) i indexes was.columns)
+        (All-drop (λ y. column_of y < length types) (suc i) indexes was.columns);
+    typed = was.typed;
     held = was.held;
     by_key = was.by_key;
     keep =
@@ -56,13 +58,13 @@ module _ (width key : ℕ) (now : Slots) (refs : List RowRef) (indexes : List In
         (All-drop (Keeps key now refs) (suc i) indexes was.keep);
   }
 
-  pub IsKept-added : (x : Index) → column_of x < width → Keeps key now refs x → IsKept width key now refs (indexes ++ x ∷ [])
+  pub IsKept-added : (x : Index) → column_of x < length types → Keeps key now refs x → IsKept types key now refs (indexes ++ x ∷ [])
   IsKept-added x within keeps = record {
     key_in = was.key_in;
     columns =
-        All-append (λ y. column_of y < width) indexes (x ∷ []) was.columns
-        (All-cons (λ y. column_of y < width) x [] within (All-nil (λ y. column_of y < width)));
-    wide = was.wide;
+        All-append (λ y. column_of y < length types) indexes (x ∷ []) was.columns
+        (All-cons (λ y. column_of y < length types) x [] within (All-nil (λ y. column_of y < length types)));
+    typed = was.typed;
     held = was.held;
     by_key = was.by_key;
     keep =

@@ -6,8 +6,8 @@ use Rattle.std.specs.List.{All, filter}
 use Rattle.std.specs.Ordering.{is_eq}
 use Rattle.std.proofs.Math.Seq.{drop-cons}
 use Rattle.std.proofs.lemmas.Bool.{eq-eqb}
-use Rattle.std.proofs.lemmas.List.{take_more_set, drop-set-lt, length-set}
-use Rattle.std.proofs.lemmas.List.Elements.{All-head, All-tail, All-filter}
+use Rattle.std.proofs.lemmas.List.{append-nil, length-append, take_more_set, drop-set-lt, length-set}
+use Rattle.std.proofs.lemmas.List.Elements.{All-head, All-tail, All-filter, filter-append}
 use Rattle.std.proofs.lemmas.List.Sorted.{IsPermutation-trans, IsPermutation-sym, IsPermutation-map, All-permutation}
 use Rattle.std.specs.declared.cmp.Ordering.{Ordering}
 use Rattle.std.specs.declared.cmp.Ordering.TheVariants.{Less, Equal, Greater}
@@ -68,6 +68,34 @@ module _ {X : Type 0} (p : X → Bool) (P : X → Type 0) (from : ℕ) (old out 
             ∙ (append_assoc (take kept out) (x ∷ []) (filter p (drop (i + 1) out))
             ∙ (ap (λ (l : List X). take kept out ++ l) (sym passed) ∙ result_left)));
       }
+
+-- the first of those that are left is among those that are done
+pub split_next : {X : Type 0} (all done left rest : List X) (x : X) → all ≡ done ++ left → left ≡ x ∷ rest → all ≡ done ++ x ∷ [] ++ rest
+split_next all done left rest x split next =
+    split ∙ (ap (λ l. done ++ l) next ∙ sym (append_assoc done (x ∷ []) rest))
+
+-- the next element is found where it passes, else not, ..
+module _ {X : Type 0} (p : X → Bool) (done : List X) (x : X) where
+  pub filter_found : (found : List X) → found ≡ filter p done → p x ≡ true → found ++ x ∷ [] ≡ filter p (done ++ x ∷ [])
+  filter_found found was passes =
+      ap (λ l. l ++ x ∷ []) was
+      ∙ sym (filter-append p done (x ∷ []) ∙ ap (λ (b : Bool). filter p done ++ cond b (x ∷ []) []) passes)
+
+  pub filter_passed : (found : List X) → found ≡ filter p done → p x ≡ false → found ≡ filter p (done ++ x ∷ [])
+  filter_passed found was fails =
+      was
+      ∙ sym (filter-append p done (x ∷ []) ∙ (ap (λ (b : Bool). filter p done ++ cond b (x ∷ []) []) fails ∙ append-nil (filter p done)))
+
+  -- .. and where it passes, more pass than those before it
+  pub more_pass : (rest : List X) → p x ≡ true → length (filter p done) + 1 ≤ length (filter p (done ++ x ∷ rest))
+  more_pass rest passes =
+      let first : filter p (x ∷ rest) ≡ x ∷ filter p rest = ap (λ (b : Bool). cond b (x ∷ filter p rest) (filter p rest)) passes in
+      omega (
+        arith,
+        ap length (filter-append p done (x ∷ rest)),
+        length-append (filter p done) (filter p (x ∷ rest)),
+        ap length first,
+      )
 
 -- a second test may be left out where the first one implies it
 module _ {X : Type 0} (p u : X → Bool) (implies : (x : X) → p x ≡ true → u x ≡ true) where

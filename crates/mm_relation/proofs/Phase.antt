@@ -12,6 +12,9 @@ use Rattle.mm_value.specs.declared.values.Value.{Value}
 use Rattle.mm_schema.specs.Rows.{column_cmp}
 use Rattle.mm_partition.specs.Places.{Live}
 use Rattle.mm_order.proofs.Pairs.{AllPairs-append_right, AllPairs-append_across, AllPairs-append}
+use Rattle.mm_value.specs.declared.col_type.ColType.{ColType}
+use Rattle.mm_partition.specs.Types.{HasTypes}
+use Rattle.mm_relation.proofs.Typed.{HasTypes-length}
 use Rattle.mm_relation.specs.Orders.{refs_by_total}
 use Rattle.mm_relation.specs.Refs.{Slots, HasRow, row_in, row_at, refs_by, IsWide}
 use Rattle.mm_relation.specs.Differs.{Differs}
@@ -55,7 +58,7 @@ distinct key now refs ordered i j d before within same =
     let less : refs_by key key now a a ≡ Less = subst (λ (x : RowRef). refs_by key key now a x ≡ Less) (sym same) (ordered.ascending i j d before within) in
     less_than_itself (refs_by key key now a a) ((refs_by_total key key now).antisymm a a) less
 
-module _ (width key : ℕ) (now : Slots) (refs : List RowRef) (indexes : List Index) (was : IsKept width key now refs indexes) where
+module _ (types : List ColType) (key : ℕ) (now : Slots) (refs : List RowRef) (indexes : List Index) (was : IsKept types key now refs indexes) where
   -- ---- the rows that go
 
   module _ (outs : List RowRef) (live : All (HasRow now) outs) (differ : AllPairs (λ a b. a ≢ b) outs) where
@@ -69,8 +72,8 @@ module _ (width key : ℕ) (now : Slots) (refs : List RowRef) (indexes : List In
     pub wide_outs : All (λ x. All (IsWide (column_of x) key now) outs) indexes
     wide_outs k d within n e below =
         let row : HasRow now (get_or outs n e) = live n e below in
-        let size : length row.0 ≡ width = was.wide (get_or outs n e) row.0 row.1 in
-        let column : column_of (get_or indexes k d) < width = was.columns k d within in
+        let size : length row.0 ≡ length types = HasTypes-length types row.0 (was.typed (get_or outs n e) row.0 row.1) in
+        let column : column_of (get_or indexes k d) < length types = was.columns k d within in
         record { row = row.0; live = row.1; column_in = omega arith; key_in = omega (arith, was.key_in) }
 
   -- ---- the rows that stay
@@ -94,11 +97,11 @@ module _ (width key : ℕ) (now : Slots) (refs : List RowRef) (indexes : List In
         let here : Contains left (get_or left k e) = Contains-get_or left k e within in
         d.stays (get_or left k e) (live_left (get_or left k e) here) (apart (get_or left k e) here)
 
-    wide_left : (column : ℕ) → column < width → All (IsWide column key then) left
+    wide_left : (column : ℕ) → column < length types → All (IsWide column key then) left
     wide_left column within k e below =
         let at : RowRef = get_or left k e in
         let live : HasRow now at = live_left at (Contains-get_or left k e below) in
-        let size : length live.0 ≡ width = was.wide at live.0 live.1 in
+        let size : length live.0 ≡ length types = HasTypes-length types live.0 (was.typed at live.0 live.1) in
         record { row = live.0; live = stays k e below ∙ live.1; column_in = omega arith; key_in = omega (arith, was.key_in) }
 
     live_all : All (HasRow then) (ins ++ left)
@@ -132,7 +135,7 @@ module _ (width key : ℕ) (now : Slots) (refs : List RowRef) (indexes : List In
         apart x in_left (d.fresh x (Contains-get_or ins k e within) (live_left x in_left)))
 
     -- lawful rows have keys apart
-    pub lawful_apart : IsLawful width key then → KeysApart key then (ins ++ left)
+    pub lawful_apart : IsLawful types key then → KeysApart key then (ins ++ left)
     lawful_apart lawful i j e before within tie =
         let xs : List RowRef = ins ++ left in
         let a : RowRef = get_or xs i e in
@@ -149,15 +152,15 @@ module _ (width key : ℕ) (now : Slots) (refs : List RowRef) (indexes : List In
 
 module _ {T U : Type 0} (name : T → Side → Option RowRef) (other : T → Option (List Value)) (side : Side)
     (later : U → Side → Option RowRef) (former : U → Option (List Value)) (end : Side)
-    (width key : ℕ) (now then : Slots) (refs : List RowRef) (indexes : List Index) (was : IsKept width key now refs indexes)
+    (types : List ColType) (key : ℕ) (now then : Slots) (refs : List RowRef) (indexes : List Index) (was : IsKept types key now refs indexes)
     (ts : List T) (us : List U) (d : Differs now then (named name side ts) (named later end us))
     (paired : ArePaired name other side later former end now then ts us)
-    (wide : (at : RowRef) (row : List Value) → then at ≡ Live row → length row ≡ width)
+    (typed : (at : RowRef) (row : List Value) → then at ≡ Live row → HasTypes types row)
     (left : List RowRef) (stay : IsPermutation refs (named name side ts ++ left)) where
-  pub wide_ins : (column : ℕ) → column < width → All (IsWide column key then) (named later end us)
+  pub wide_ins : (column : ℕ) → column < length types → All (IsWide column key then) (named later end us)
   wide_ins column within k e below =
       let live : HasRow then (get_or (named later end us) k e) = d.in_live k e below in
-      let size : length live.0 ≡ width = wide (get_or (named later end us) k e) live.0 live.1 in
+      let size : length live.0 ≡ length types = HasTypes-length types live.0 (typed (get_or (named later end us) k e) live.0 live.1) in
       record { row = live.0; live = live.1; column_in = omega arith; key_in = omega (arith, was.key_in) }
 
   -- the rows that keep their places beside those that stay: both have the values that they had
@@ -165,14 +168,14 @@ module _ {T U : Type 0} (name : T → Side → Option RowRef) (other : T → Opt
   beside_level column tie =
       All-append (IsLevel column tie now then) (staying name other column tie now side ts) left
       (levels name other side later former end column tie now then ts us paired)
-      (levels_same column tie now then left (stays width key now refs indexes was then (named name side ts) (named later end us) d left stay))
+      (levels_same column tie now then left (stays types key now refs indexes was then (named name side ts) (named later end us) d left stay))
 
-  beside_wide : (column tie : ℕ) → column < width → All (IsWide column key then) (staying name other column tie now side ts ++ left)
+  beside_wide : (column tie : ℕ) → column < length types → All (IsWide column key then) (staying name other column tie now side ts ++ left)
   beside_wide column tie within =
       All-append (IsWide column key then) (staying name other column tie now side ts) left
       (subst (All (IsWide column key then)) (sym (same_stay name other side later former end column tie now then ts us paired))
       (All-staying later former column tie then end (IsWide column key then) us (wide_ins column within)))
-      (wide_left width key now refs indexes was then (named name side ts) (named later end us) d left stay column within)
+      (wide_left types key now refs indexes was then (named name side ts) (named later end us) d left stay column within)
 
   module _ (held : List RowRef) (holds : IsPermutation held (staying name other key key now side ts ++ left)) where
     -- the key's order of what is held stands, and those that keep their places are named by the items after the change too
@@ -190,9 +193,10 @@ module _ {T U : Type 0} (name : T → Side → Option RowRef) (other : T → Opt
 
   module _ (some : List Index)
       (taken : EachTurns (λ x. Taken key now (named name side ts) (unmoved name other key now side ts x) x) indexes some) where
-    columns_some : All (λ x. column_of x < width) some
+    columns_some : All (λ x. column_of x < length types) some
     columns_some =
-        All-turned (λ x. Taken key now (named name side ts) (unmoved name other key now side ts x) x) (λ x. column_of x < width) (λ x. column_of x < width)
+        All-turned (λ x. Taken key now (named name side ts) (unmoved name other key now side ts x) x)
+        (λ x. column_of x < length types) (λ x. column_of x < length types)
         indexes some taken (λ x y within t. omega (arith, within, t.column)) was.columns
 
     keep_old : All (λ y. Keeps key now (unmoved name other key now side ts y ++ left) y) some
@@ -221,14 +225,14 @@ module _ {T U : Type 0} (name : T → Side → Option RowRef) (other : T → Opt
 
     module _ (more : List RowRef) (moved : IsPermutation (named later end us ++ left) more) (full : List Index)
         (put : EachTurns (λ x. Put key then (named later end us) (unmoved later former key then end us x) x) some full) where
-      pub after : InOrder key key then more → IsKept width key then more full
+      pub after : InOrder key key then more → IsKept types key then more full
       after ordered = record {
         key_in = was.key_in;
         columns =
-            All-turned (λ x. Put key then (named later end us) (unmoved later former key then end us x) x) (λ x. column_of x < width)
-            (λ x. column_of x < width) some full put (λ x y within t. omega (arith, within, t.column)) columns_some;
-        wide = wide;
-        held = held_after width key now refs indexes was then (named name side ts) (named later end us) d left stay more moved;
+            All-turned (λ x. Put key then (named later end us) (unmoved later former key then end us x) x) (λ x. column_of x < length types)
+            (λ x. column_of x < length types) some full put (λ x y within t. omega (arith, within, t.column)) columns_some;
+        typed = typed;
+        held = held_after types key now refs indexes was then (named name side ts) (named later end us) d left stay more moved;
         by_key = ordered;
         keep =
             All-turned (λ x. Put key then (named later end us) (unmoved later former key then end us x) x)

@@ -7,6 +7,7 @@ use Rattle.std.proofs.lemmas.List.Kept.{AllPairs-cons}
 use Rattle.mm_value.specs.declared.row_ref.RowRef.{RowRef}
 use Rattle.mm_value.specs.declared.values.Value.{Value}
 use Rattle.mm_partition.specs.Places.{Free, Live, Hidden}
+use Rattle.mm_value.specs.declared.col_type.ColType.{ColType}
 use Rattle.mm_relation.specs.Refs.{Slots, HasRow, Turns}
 use Rattle.mm_relation.specs.Edits.{removed}
 use Rattle.mm_relation.specs.Changes.{Step, Changes, Standing, AreHidden}
@@ -112,7 +113,7 @@ pub record Frees (old new : Slots) (gone : List RowRef) : Type 0 where
   pub freed : (at : RowRef) → Contains gone at → new at ≡ Free
   pub others : (at : RowRef) → (Contains gone at → ⊥) → new at ≡ old at
 
-module _ (width key : ℕ) (old new : Slots) (refs : List RowRef) (indexes : List Index) (gone : List RowRef) (hidden : AreHidden old gone)
+module _ (types : List ColType) (key : ℕ) (old new : Slots) (refs : List RowRef) (indexes : List Index) (gone : List RowRef) (hidden : AreHidden old gone)
     (frees : Frees old new gone) where
   live_stays : (at : RowRef) → HasRow old at → new at ≡ old at
   live_stays at live =
@@ -129,18 +130,18 @@ module _ (width key : ℕ) (old new : Slots) (refs : List RowRef) (indexes : Lis
       (among gone at)
 
   -- the rows stay as they are
-  pub stays_freed : IsKept width key old refs indexes → Same old new refs
+  pub stays_freed : IsKept types key old refs indexes → Same old new refs
   stays_freed was k d within = live_stays (get_or refs k d) ((was.held (get_or refs k d)).0 (Contains-get_or refs k d within))
 
-  pub IsKept-freed : IsKept width key old refs indexes → IsKept width key new refs indexes
+  pub IsKept-freed : IsKept types key old refs indexes → IsKept types key new refs indexes
   IsKept-freed was =
       let same : Same old new refs = stays_freed was in
       record {
         key_in = was.key_in;
         columns = was.columns;
-        wide = λ at row is.
+        typed = λ at row is.
             let now : HasRow new at = (row, is) in
-            was.wide at row (sym (live_stays at (live_before at now)) ∙ is);
+            was.typed at row (sym (live_stays at (live_before at now)) ∙ is);
         held = λ at. (
           λ here. let live : HasRow old at = (was.held at).0 here in let it : HasRow new at = (live.0, live_stays at live ∙ live.1) in it,
           λ now. (was.held at).1 (live_before at now),

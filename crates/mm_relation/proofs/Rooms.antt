@@ -5,6 +5,7 @@ use Rattle.mm_value.specs.declared.row_ref.RowRef.{RowRef}
 use Rattle.mm_value.specs.declared.values.Value.{Value}
 use Rattle.mm_partition.specs.Places.{Hidden, slot_at}
 use Rattle.mm_schema.specs.Rows.{changed}
+use Rattle.mm_value.specs.declared.col_type.ColType.{ColType}
 use Rattle.mm_relation.specs.Refs.{Slots, row_at}
 use Rattle.mm_relation.specs.RowLists.{edit_pairs, rows_of}
 use Rattle.mm_relation.specs.Differs.{Differs}
@@ -50,31 +51,31 @@ pub EachTurns-Grown-refl : (xs : List Index) → EachTurns Grown xs xs
 EachTurns-Grown-refl xs = record { size = refl; each = λ k d within. Grown-refl _ }
 
 -- with the same entries in each index a relation still keeps its rows ..
-pub IsKept-same : (width key : ℕ) (old new : Slots) (refs more : List RowRef) (xs ys : List Index)
+pub IsKept-same : (types : List ColType) (key : ℕ) (old new : Slots) (refs more : List RowRef) (xs ys : List Index)
     → ((at : RowRef) → new at ≡ old at) → more ≡ refs → EachTurns SameEntries xs ys
-    → IsKept width key old refs xs → IsKept width key new more ys
-IsKept-same width key old new refs more xs ys stays same entries was =
-    let kept : IsKept width key old refs ys = record {
+    → IsKept types key old refs xs → IsKept types key new more ys
+IsKept-same types key old new refs more xs ys stays same entries was =
+    let kept : IsKept types key old refs ys = record {
       key_in = was.key_in;
       columns =
-          All-turned SameEntries (λ x. column_of x < width) (λ x. column_of x < width) xs ys entries
-          (λ x y within e. subst (λ (n : ℕ). n < width) (sym (column_same x y e)) within) was.columns;
-      wide = was.wide;
+          All-turned SameEntries (λ x. column_of x < length types) (λ x. column_of x < length types) xs ys entries
+          (λ x y within e. subst (λ (n : ℕ). n < length types) (sym (column_same x y e)) within) was.columns;
+      typed = was.typed;
       held = was.held;
       by_key = was.by_key;
       keep =
           All-turned SameEntries (Keeps key old refs) (Keeps key old refs) xs ys entries
           (λ x y keeps e. Keeps-same key old refs x y e keeps) was.keep;
     } in
-    subst (λ (now : Slots). IsKept width key now more ys) (sym (alike new old stays))
-    (subst (λ (l : List RowRef). IsKept width key old l ys) (sym same) kept)
+    subst (λ (now : Slots). IsKept types key now more ys) (sym (alike new old stays))
+    (subst (λ (l : List RowRef). IsKept types key old l ys) (sym same) kept)
 
 -- .. and so it does with more room
-pub IsKept-grown : (width key : ℕ) (old new : Slots) (refs more : List RowRef) (xs ys : List Index)
+pub IsKept-grown : (types : List ColType) (key : ℕ) (old new : Slots) (refs more : List RowRef) (xs ys : List Index)
     → ((at : RowRef) → new at ≡ old at) → more ≡ refs → EachTurns Grown xs ys
-    → IsKept width key old refs xs → IsKept width key new more ys
-IsKept-grown width key old new refs more xs ys stays same grown was =
-    IsKept-same width key old new refs more xs ys stays same (EachTurns-weaker Grown SameEntries (λ x y g. g.same) xs ys grown) was
+    → IsKept types key old refs xs → IsKept types key new more ys
+IsKept-grown types key old new refs more xs ys stays same grown was =
+    IsKept-same types key old new refs more xs ys stays same (EachTurns-weaker Grown SameEntries (λ x y g. g.same) xs ys grown) was
 
 -- what is said of the rows is said of those with more room
 module _ (old mid : StoredRows) (same : SameButRoom old mid) where

@@ -9,7 +9,7 @@ use Rattle.std.specs.declared.cmp.Ordering.TheVariants.{Less, Equal}
 use Rattle.std.proofs.lemmas.List.{get_or-map, length-map}
 use Rattle.std.proofs.lemmas.List.Elements.{All-map}
 use Rattle.mm_value.specs.Order.{value_cmp}
-use Rattle.mm_value.specs.Views.{value_of}
+use Rattle.mm_value.specs.declared.values.Value.{Value}
 use Rattle.mm_value.proofs.Orders.{value_cmp_total}
 use Rattle.mm_schema.specs.Rows.{column_cmp}
 use Rattle.mm_schema.proofs.Orderings.{less_from_no_tie}
@@ -21,43 +21,46 @@ use Rattle.mm_relation.specs.declared.indexes.sorting.Sortable.{Sortable}
 use Rattle.mm_relation.proofs.RowLists.{not_tied}
 use Rattle.mm_relation.proofs.Steps.{then_second}
 
-pub sortable_total : IsTotalOrder sortable_cmp
-sortable_total = then_total (on_total (λ (x : Sortable). value_of x.value) value_cmp_total) (on_total (λ (x : Sortable). value_of x.key) value_cmp_total)
+pub sortable_total : {V : Type 0} (read : V → Value) → IsTotalOrder (sortable_cmp read)
+sortable_total {V} read =
+    then_total (on_total (λ (x : Sortable V). read x.value) value_cmp_total) (on_total (λ (x : Sortable V). read x.key) value_cmp_total)
 
-module _ (column key : ℕ) (now : Slots) where
+module _ {V : Type 0} (read : V → Value) (column key : ℕ) (now : Slots) where
   -- they compare as their references do ..
-  agree : (a b : Sortable) → IsOf column key now a → IsOf column key now b → refs_by column key now a.at b.at ≡ sortable_cmp a b
-  agree a b one other = rw (one.value, other.value, one.key_is, other.key_is) refl
+  agree : (a b : Sortable V) → IsOf read column key now a → IsOf read column key now b → refs_by column key now a.at b.at ≡ sortable_cmp read a b
+  agree a b one other = rw (one.value_is, other.value_is, one.key_is, other.key_is) refl
 
   -- .. and so do their keys
-  keys_agree : (a b : Sortable) → IsOf column key now a → IsOf column key now b
-      → column_cmp key (row_at now a.at) (row_at now b.at) ≡ value_cmp (value_of a.key) (value_of b.key)
+  keys_agree : (a b : Sortable V) → IsOf read column key now a → IsOf read column key now b
+      → column_cmp key (row_at now a.at) (row_at now b.at) ≡ value_cmp (read a.key) (read b.key)
   keys_agree a b one other = rw (one.key_is, other.key_is) refl
 
-  module _ (xs : List Sortable) (all : All (IsOf column key now) xs) (sorted : AreSorted xs) (apart : KeysApart key now (map ref_of xs)) where
-    neighbours : (k : ℕ) (d : Sortable) → k + 1 < length xs → sortable_cmp (get_or xs k d) (get_or xs (suc k) d) ≡ Less
+  module _ (xs : List (Sortable V)) (all : All (IsOf read column key now) xs) (sorted : AreSorted read xs) (apart : KeysApart key now (map ref_of xs)) where
+    neighbours : (k : ℕ) (d : Sortable V) → k + 1 < length xs → sortable_cmp read (get_or xs k d) (get_or xs (suc k) d) ≡ Less
     neighbours k d within =
-        let one : Sortable = get_or xs k d in
-        let next : Sortable = get_or xs (suc k) d in
+        let one : Sortable V = get_or xs k d in
+        let next : Sortable V = get_or xs (suc k) d in
         let keys_differ : column_cmp key (row_at now one.at) (row_at now next.at) ≢ Equal =
         rw (sym (get_or-map ref_of xs k d d.at (omega arith)), sym (get_or-map ref_of xs (suc k) d d.at (omega arith)))
         (apart k (suc k) d.at (omega arith) (omega (arith, length-map xs ref_of))) in
-        let differ : sortable_cmp one next ≢ Equal = λ tie. keys_differ
+        let differ : sortable_cmp read one next ≢ Equal = λ tie. keys_differ
         (keys_agree one next (all k d (omega arith)) (all (suc k) d (omega arith))
-        ∙ then_second (value_cmp (value_of one.value) (value_of next.value)) (value_cmp (value_of one.key) (value_of next.key)) tie) in
-        let not_back : is_lt (sortable_cmp next one) ≡ false = rw (← add-one k) (sorted k d (omega arith) within) in
-        less_from_no_tie (sortable_cmp one next) (not_tied (sortable_cmp one next) differ) (ap is_lt (sym (sortable_total.antisymm next one)) ∙ not_back)
+        ∙ then_second (value_cmp (read one.value) (read next.value)) (value_cmp (read one.key) (read next.key)) tie) in
+        let not_back : is_lt (sortable_cmp read next one) ≡ false = rw (← add-one k) (sorted k d (omega arith) within) in
+        less_from_no_tie (sortable_cmp read one next) (not_tied (sortable_cmp read one next) differ)
+        (ap is_lt (sym ((sortable_total read).antisymm next one)) ∙ not_back)
 
-    strictly : IsStrictlySortedBy sortable_cmp xs
-    strictly = IsStrictlySortedBy-from_neighbours sortable_total xs neighbours
+    strictly : IsStrictlySortedBy (sortable_cmp read) xs
+    strictly = IsStrictlySortedBy-from_neighbours (sortable_total read) xs neighbours
 
-    ascending : Sortable → AllPairs (λ a b. refs_by column key now a b ≡ Less) (map ref_of xs)
+    ascending : Sortable V → AllPairs (λ a b. refs_by column key now a b ≡ Less) (map ref_of xs)
     ascending x i j d before within =
         let below : j < length xs = omega (arith, within, length-map xs ref_of) in
         rw (get_or-map ref_of xs i x d (omega arith), get_or-map ref_of xs j x d below)
-        (agree (get_or xs i x) (get_or xs j x) (all i x (omega arith)) (all j x below) ∙ IsStrictlySortedBy-at sortable_total xs i j x before below strictly)
+        (agree (get_or xs i x) (get_or xs j x) (all i x (omega arith)) (all j x below)
+        ∙ IsStrictlySortedBy-at (sortable_total read) xs i j x before below strictly)
 
-  pub InOrder-sorted : (xs : List Sortable) → All (IsOf column key now) xs → AreSorted xs → KeysApart key now (map ref_of xs)
+  pub InOrder-sorted : (xs : List (Sortable V)) → All (IsOf read column key now) xs → AreSorted read xs → KeysApart key now (map ref_of xs)
       → InOrder column key now (map ref_of xs)
   InOrder-sorted [] all sorted apart = record { covered = λ k d within. absurd (omega arith); ascending = λ i j d before within. absurd (omega arith) }
   InOrder-sorted (x ∷ rest) all sorted apart = record {

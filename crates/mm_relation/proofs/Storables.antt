@@ -1,5 +1,4 @@
 -- Rows of a relation have values that a program can have.
-use Rattle.std.specs.Prelude.{List}
 use Rattle.std.proofs.lemmas.List.Elements.{All-nil}
 use Rattle.mm_partition.specs.Places.{AreRowsStorable, Content, Free, Hidden, IsStorableIn, Live, Places, slot_at}
 use Rattle.mm_relation.specs.Refs.{row_at, row_in}

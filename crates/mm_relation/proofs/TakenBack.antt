@@ -1,8 +1,8 @@
 -- Entries that are taken back, the newest first.
 use Rattle.std.proofs.Common.{◌≡◌, ◌≢◌, ℕ, zero, suc, ◌+◌, ◌<◌, ◌≤◌, ◌⊎◌, ⊎_elim, List, [], ◌∷◌, ◌++◌, Option, Some, true, false, cond, length, get_or, drop}
 use Rattle.std.proofs.Common.{refl, sym, ap, ◌∙◌, subst, arith, add-one}
-use Rattle.std.specs.Prelude.{slice_get, slice_set}
-use Rattle.std.specs.List.{AllPairs, Contains, cons_option}
+use Rattle.std.specs.Prelude.{slice_get, slice_set, IfSome}
+use Rattle.std.specs.List.{All, AllPairs, Contains, cons_option}
 use Rattle.std.proofs.Math.Seq.{drop-cons}
 use Rattle.std.proofs.lemmas.Bool.{cases_order}
 use Rattle.std.proofs.lemmas.List.{get_or-set_same, get_or-set_other, length-set, drop_all}
@@ -12,8 +12,10 @@ use Rattle.mm_value.specs.declared.row_ref.RowRef.{RowRef}
 use Rattle.mm_value.specs.declared.values.Value.{Value}
 use Rattle.mm_order.proofs.Pairs.{AllPairs-append_right}
 use Rattle.mm_partition.specs.Places.{Content, Free, Live}
+use Rattle.mm_value.specs.declared.col_type.ColType.{ColType}
+use Rattle.mm_partition.specs.Types.{HasTypes}
 use Rattle.mm_relation.specs.Before.{same_ref, shown, step_back, before, Stands, StandsBack}
-use Rattle.mm_relation.specs.Edits.{named, record_name}
+use Rattle.mm_relation.specs.Edits.{named, record_name, record_other}
 use Rattle.mm_relation.specs.Index.{EachTurns}
 use Rattle.mm_relation.specs.Refs.{Slots, Turns}
 use Rattle.mm_relation.specs.Inverted.{Inverted}
@@ -119,6 +121,19 @@ restored (e ∷ es) (suc k) d now at row within is new_apart old_apart =
     step_back_others e (before es now) at
     (λ first. first_alone New e es at new_apart first in_new) (λ first. first_alone Old e es at old_apart first in_old)
     ∙ restored es k d now at row below is (apart_later New e es new_apart) (apart_later Old e es old_apart)
+
+-- so the old rows that the undo records keep have the types that all rows had
+old_typed : (types : List ColType) (e : UndoRecord) → ((at : RowRef) (row : List Value) → e ≡ Changed at row → HasTypes types row)
+    → IfSome (record_other e) (HasTypes types)
+old_typed types (Added at) given = tt
+old_typed types (Changed at was) given = given at was refl
+old_typed types (Removed at) given = tt
+
+pub olds_typed : (types : List ColType) (es : List UndoRecord) (now : Slots)
+    → ((at : RowRef) (row : List Value) → before es now at ≡ Live row → HasTypes types row) → NamesApart New es → NamesApart Old es
+    → All (λ e. IfSome (record_other e) (HasTypes types)) es
+olds_typed types es now typed new_apart old_apart k d within =
+    old_typed types (get_or es k d) (λ at row is. typed at row (restored es k d now at row within is new_apart old_apart))
 
 -- what an undo record has from one state it has from another in which its row is the same
 pub inverted_still : (mid start : Slots) (e n : UndoRecord) → ((at : RowRef) (row : List Value) → e ≡ Changed at row → mid at ≡ start at)
@@ -236,6 +251,10 @@ module _ (start : Slots) (es : List UndoRecord) (stands : StandsBack es start) (
   stands_next =
       subst (λ (s : Slots). Stands s e) (sym slots_are)
       (subst (Stands (before (drop (suc i) es) start)) record_was (stands_at es i e start (omega (arith, t.within)) stands))
+
+  -- .. its old row has the types that all have
+  pub typed_next : (types : List ColType) → All (λ x. IfSome (record_other x) (HasTypes types)) es → IfSome (record_other e) (HasTypes types)
+  typed_next types all = subst (λ x. IfSome (record_other x) (HasTypes types)) record_was (all i e (omega (arith, t.within)))
 
   -- .. and when it is taken back, one undo record less is left
   pub TakenBackTo-less : NamesApart New es → NamesApart Old es → (new : Slots) (none n : UndoRecord) (out more : List UndoRecord) → new ≡ step_back e now

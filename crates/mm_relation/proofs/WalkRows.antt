@@ -81,7 +81,7 @@ walk_rows column stored walk by_key is_walk =
     (in_from_permutation _ _ moved) (in_from_permutation _ _ (IsPermutation-sym _ _ moved))
 
 -- A TREE index of the relation gives a walk.
-pub kept_walk : (stored : StoredRows) → IsKept stored.width stored.key (slot_at stored.places) stored.refs stored.indexes
+pub kept_walk : (stored : StoredRows) → IsKept stored.places.types stored.key (slot_at stored.places) stored.refs stored.indexes
     → (column place : ℕ) (x : Index) (own : ℕ) (tree : Held) → HasIndex stored.indexes place column kind.Tree → x ≡ slice_index_or stored.indexes place x
     → x ≡ Tree own tree → IsWalk column stored tree.refs
 kept_walk stored kept column place x own tree has there is =

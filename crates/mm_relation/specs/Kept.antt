@@ -1,10 +1,12 @@
 -- A table with a key index and any other indexes.
 use Rattle.std.specs.Prelude.{◌≡◌, ◌≢◌, ℕ, ◌<◌, ◌≤◌, ◌↔◌, List, ◌++◌, length, map, All, AllPairs, Contains, IsPermutation}
 use Rattle.std.specs.declared.cmp.Ordering.TheVariants.{Equal}
+use Rattle.mm_value.specs.declared.col_type.ColType.{ColType}
 use Rattle.mm_value.specs.declared.row_ref.RowRef.{RowRef}
 use Rattle.mm_value.specs.declared.values.Value.{Value}
 use Rattle.mm_schema.specs.Rows.{column_cmp}
 use Rattle.mm_partition.specs.Places.{Places, Live, slot_at, IsUnchanged, extent_of}
+use Rattle.mm_partition.specs.Types.{HasTypes}
 use Rattle.mm_relation.specs.declared.edits.Edit.{Edit}
 use Rattle.mm_relation.specs.declared.indexes.names.Side.TheVariants.{Old}
 use Rattle.mm_relation.specs.declared.indexes.index.Index.{Index}
@@ -12,21 +14,20 @@ use Rattle.mm_relation.specs.Refs.{Slots, HasRow, row_at}
 use Rattle.mm_relation.specs.Edits.{edit_name, named, new_rows}
 use Rattle.mm_relation.specs.Index.{InOrder, Keeps, EachTurns, Grown, column_of}
 
--- What callers see of a relation: the number of its columns, its key, what stands at each reference, the references in
+-- What callers see of a relation: its key, what stands at each reference and the types of its columns, the references in
 -- key order, how many more the key index takes without growing, and the further indexes.
 pub record StoredRows : Type 0 where
-  pub width : ℕ
   pub key : ℕ
   pub places : Places
   pub refs : List RowRef
   pub spare : ℕ
   pub indexes : List Index
 
--- the references are those of the rows, in key order, and each index keeps them
-pub record IsKept (width key : ℕ) (now : Slots) (refs : List RowRef) (indexes : List Index) : Type 0 where
-  pub key_in : key < width
-  pub columns : All (λ x. column_of x < width) indexes
-  pub wide : (at : RowRef) (row : List Value) → now at ≡ Live row → length row ≡ width
+-- each live row has the types of the columns, the references are those of the live rows, in key order, and each index keeps them
+pub record IsKept (types : List ColType) (key : ℕ) (now : Slots) (refs : List RowRef) (indexes : List Index) : Type 0 where
+  pub key_in : key < length types
+  pub columns : All (λ x. column_of x < length types) indexes
+  pub typed : (at : RowRef) (row : List Value) → now at ≡ Live row → HasTypes types row
   pub held : (at : RowRef) → Contains refs at ↔ HasRow now at
   pub by_key : InOrder key key now refs
   pub keep : All (Keeps key now refs) indexes
@@ -45,7 +46,7 @@ RowsApart key rows = AllPairs (λ x y. column_cmp key x y ≢ Equal) rows
 
 -- The relation is as before, but for spare room, of which there is no less.
 pub record SameButRoom (old new : StoredRows) : Type 0 where
-  pub width : new.width ≡ old.width
+  pub types : new.places.types ≡ old.places.types
   pub key : new.key ≡ old.key
   pub places : IsUnchanged old.places new.places
   pub extent : extent_of new.places ≡ extent_of old.places

@@ -7,6 +7,7 @@ pub mod Index
 pub mod Inverted
 pub mod Kept
 pub mod KeyRows
+pub mod Keys
 pub mod Lawful
 pub mod Moves
 pub mod Orders

@@ -1,13 +1,14 @@
 //! Edits of the slots, logged so that they can be taken back.
-ghost use Rattle.std.specs.Prelude.{◌≡◌, ◌≢◌, ◌+◌, ◌≤◌, [], ◌∷◌, length, AllPairs};
+ghost use Rattle.std.specs.Prelude.{◌≡◌, ◌≢◌, ◌+◌, ◌≤◌, [], ◌∷◌, length, All, AllPairs, IfSome};
 ghost use Rattle.mm_partition.specs.Places.{slot_at, extent_of};
 ghost use Rattle.std.specs.Prelude.{Contains};
 ghost use Rattle.mm_value.specs.declared.row_ref.RowRef.{RowRef};
 ghost use Rattle.mm_partition.specs.Places.{Free};
+ghost use Rattle.mm_partition.specs.Types.{HasTypes};
 ghost use Rattle.mm_relation.specs.declared.indexes.names.Side.TheVariants.{New, Old};
 ghost use Rattle.mm_relation.specs.Before.{Stands, StandsBack, step_back, before};
 ghost use Rattle.mm_relation.specs.Changes.{Standing, Step, Changes, AreHidden};
-ghost use Rattle.mm_relation.specs.Edits.{added_count, named, record_name, removed};
+ghost use Rattle.mm_relation.specs.Edits.{added_count, named, new_rows, record_name, record_other, removed};
 ghost use Rattle.mm_relation.specs.Index.{EachTurns};
 ghost use Rattle.mm_relation.specs.Inverted.{Inverted};
 
@@ -20,9 +21,11 @@ use mm_value::RowRef;
 fn change(rows: &mut Partitions, edit: Edit) -> UndoRecord
     requires room { added_count (edit ∷ []) ≤ rows.old.room }
     requires standing { Standing (slot_at rows.old) (edit ∷ []) }
+    requires typed { All (HasTypes rows.old.types) (new_rows (edit ∷ [])) }
     ensures step { Step edit (slot_at rows.old) result (slot_at rows.new) }
     ensures room { rows.old.room ≤ rows.new.room + added_count (edit ∷ []) }
     ensures extent { extent_of rows.new ≤ extent_of rows.old + added_count (edit ∷ []) }
+    ensures types { rows.new.types ≡ rows.old.types }
 {
     match edit {
         Edit::Add(row) => UndoRecord::Added(rows.place(row)),
@@ -40,8 +43,10 @@ pub fn change_each(rows: &mut Partitions, edits: Vec<Edit>, log: &mut Log)
     requires log { length edits.items ≤ log.old.room }
     requires empty { log.old.entries ≡ [] }
     requires standing { Standing (slot_at rows.old) edits.items }
+    requires typed { All (HasTypes rows.old.types) (new_rows edits.items) }
     ensures changes { Changes edits.items (slot_at rows.old) log.new.entries (slot_at rows.new) }
     ensures extent { extent_of rows.new ≤ extent_of rows.old + added_count edits.items }
+    ensures types { rows.new.types ≡ rows.old.types }
 {
     for edit in edits {
         log.append(change(rows, edit));
@@ -55,6 +60,7 @@ pub fn release_each(rows: &mut Partitions, entries: &[UndoRecord])
     ensures others { (at : RowRef) → (Contains (removed entries.now) at → ⊥)
         → slot_at rows.new at ≡ slot_at rows.old at }
     ensures extent { extent_of rows.new ≡ extent_of rows.old }
+    ensures types { rows.new.types ≡ rows.old.types }
 {
     for entry in entries {
         if let Some(at) = entry.removed() {
@@ -65,10 +71,12 @@ pub fn release_each(rows: &mut Partitions, entries: &[UndoRecord])
 
 /// Takes one change of the slots back. Its undo record keeps the row that was taken away.
 fn take_back(rows: &mut Partitions, entry: UndoRecord) -> UndoRecord
-    requires { Stands (slot_at rows.old) entry }
+    requires stands { Stands (slot_at rows.old) entry }
+    requires typed { IfSome (record_other entry) (HasTypes rows.old.types) }
     ensures slots { slot_at rows.new ≡ step_back entry (slot_at rows.old) }
     ensures inverted { Inverted (slot_at rows.old) entry result }
     ensures extent { extent_of rows.new ≡ extent_of rows.old }
+    ensures types { rows.new.types ≡ rows.old.types }
 {
     match entry {
         UndoRecord::Added(at) => {
@@ -90,9 +98,11 @@ pub fn take_back_each(rows: &mut Partitions, log: &mut Log)
     requires stands { StandsBack log.old.entries (slot_at rows.old) }
     requires new_apart { AllPairs (λ a b. a ≢ b) (named record_name New log.old.entries) }
     requires old_apart { AllPairs (λ a b. a ≢ b) (named record_name Old log.old.entries) }
+    requires typed { All (λ entry. IfSome (record_other entry) (HasTypes rows.old.types)) log.old.entries }
     ensures slots { slot_at rows.new ≡ before log.old.entries (slot_at rows.old) }
     ensures inverted { EachTurns (Inverted (slot_at rows.old)) log.old.entries log.new.entries }
     ensures extent { extent_of rows.new ≡ extent_of rows.old }
+    ensures types { rows.new.types ≡ rows.old.types }
 {
     for index in (0..log.entries().len()).rev() {
         // Another undo record stands in for this one while it is with the rows.

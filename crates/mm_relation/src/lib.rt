@@ -5,6 +5,7 @@
 
 mod change;
 mod edits;
+mod found_refs;
 mod indexes;
 mod key_rows;
 mod log;
@@ -12,6 +13,7 @@ mod moves;
 mod relation;
 
 pub use edits::{Edit, count_added};
+pub use found_refs::FoundRefs;
 pub use indexes::index::Index;
 pub use log::{Log, UndoRecord};
 pub use relation::Relation;

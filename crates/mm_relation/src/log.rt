@@ -103,13 +103,16 @@ impl Log {
             .count()
     }
 
-    /// Makes room for at least `n` more changes. The changes stay, and so does the room that was there;
-    /// `AllocError` where memory is refused.
-    pub(crate) fn reserve(&mut self, _alloc: Global, n: usize) -> Result<(), AllocError>
+    /// Makes room for at least `n` more changes, and in an empty log for no more, since an open transaction keeps it. The changes
+    /// stay, and so does the room that was there; `AllocError` where memory is refused.
+    pub(crate) fn reserve(&mut self, alloc: Global, n: usize) -> Result<(), AllocError>
         ensures room { OnOk result (n ≤ self.new.room) }
         ensures entries { self.new.entries ≡ self.old.entries }
         ensures kept { self.old.room ≤ self.new.room }
     {
+        if self.entries.is_empty() && self.entries.capacity() < n {
+            self.entries = Vec::with_capacity(alloc, n)?;
+        }
         self.entries.reserve(n)
     }
 

@@ -1,5 +1,5 @@
 //! One table's rows with the index on its key and any further indexes.
-ghost use Rattle.std.specs.Prelude.{◌≡◌, ◌<◌, ◌≤◌, [], length, All};
+ghost use Rattle.std.specs.Prelude.{◌≡◌, ◌<◌, ◌≤◌, [], length, slice_get, Some, All, IfOk};
 ghost use Rattle.mm_value.specs.declared.row_ref.RowRef.{RowRef};
 ghost use Rattle.mm_partition.specs.Places.{Free, Live, IsLive, slot_at, extent_of};
 ghost use Rattle.mm_partition.specs.Views.{viewed};
@@ -21,8 +21,8 @@ mod spares;
 use crate::indexes::index::Index;
 use mm_order::OrderedRefs;
 use mm_partition::{Partitions, RowView};
-use mm_value::RowRef;
-use std::alloc::Global;
+use mm_value::{ColType, RowRef};
+use std::alloc::{AllocError, Global};
 use std::marker::Model;
 use ttree::{Iter, TTree};
 
@@ -31,7 +31,6 @@ use ttree::{Iter, TTree};
 /// which keep references alone (Lehman and Carey, VLDB 1986).
 #[derive(Drop)]
 pub struct Relation {
-    width: usize,
     key: usize,
     rows: Partitions,
     by_key: TTree,
@@ -45,7 +44,6 @@ impl Model for Relation {
     ghost Value = { StoredRows };
 
     ghost view = { λ t. record {
-      width = t.width;
       key = t.key;
       places = t.rows;
       refs = t.by_key.refs;
@@ -53,29 +51,28 @@ impl Model for Relation {
       indexes = t.indexes.items;
     } };
 
-    ghost invariant = { λ t. IsKept t.width t.key (slot_at t.rows) t.by_key.refs t.indexes.items };
+    ghost invariant = { λ t. IsKept t.rows.types t.key (slot_at t.rows) t.by_key.refs t.indexes.items };
 }
 
 impl Relation {
-    /// No rows, of so many columns, with this one as the key, and no further index. It takes no memory.
-    pub fn new(alloc: Global, width: usize, key: usize) -> Relation
-        requires { key < width }
-        ensures width { result.width ≡ width }
-        ensures key { result.key ≡ key }
-        ensures places { (at : RowRef) → slot_at result.places at ≡ Free }
-        ensures extent { extent_of result.places ≡ 0 }
-        ensures room { result.places.room ≡ 0 }
-        ensures refs { result.refs ≡ [] }
-        ensures spare { result.spare ≡ 0 }
-        ensures indexes { result.indexes ≡ [] }
+    /// No rows, of columns of these types, with one of them as the key, and no further index. `AllocError` where memory is refused.
+    pub fn new(alloc: Global, types: &[ColType], key: usize) -> Result<Relation, AllocError>
+        requires { key < length types.now }
+        ensures types { IfOk result (λ relation. relation.places.types ≡ types.now) }
+        ensures key { IfOk result (λ relation. relation.key ≡ key) }
+        ensures places { IfOk result (λ relation. (at : RowRef) → slot_at relation.places at ≡ Free) }
+        ensures extent { IfOk result (λ relation. extent_of relation.places ≡ 0) }
+        ensures room { IfOk result (λ relation. relation.places.room ≡ 0) }
+        ensures refs { IfOk result (λ relation. relation.refs ≡ []) }
+        ensures spare { IfOk result (λ relation. relation.spare ≡ 0) }
+        ensures indexes { IfOk result (λ relation. relation.indexes ≡ []) }
     {
-        Relation {
-            width,
+        Ok(Relation {
             key,
-            rows: Partitions::new(alloc),
+            rows: Partitions::new(alloc, types)?,
             by_key: TTree::new(alloc),
             indexes: Vec::new(alloc),
-        }
+        })
     }
 
     /// How many rows there are.
@@ -90,6 +87,14 @@ impl Relation {
         ensures { result ≡ self.now.key }
     {
         self.key
+    }
+
+    /// The type of a column.
+    pub fn column_type(&self, column: usize) -> ColType
+        requires { column < length self.now.places.types }
+        ensures { slice_get self.now.places.types column ≡ Some result }
+    {
+        self.rows.column_type(column)
     }
 
     /// How many slots of rows have been in use so far: the slot index of each live reference is below it.

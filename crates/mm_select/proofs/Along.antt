@@ -60,18 +60,18 @@ appended Holds old new none (found, is, holds) = subst Holds (sym (is ∙ ap (λ
 
 -- ---- along an index
 
-module _ (stored : StoredRows) (kept : IsKept stored.width stored.key (slot_at stored.places) stored.refs stored.indexes) where
+module _ (stored : StoredRows) (kept : IsKept stored.places.types stored.key (slot_at stored.places) stored.refs stored.indexes) where
   pub all_live : All (IsLive stored.places) stored.refs
   all_live k d within = (kept.held (get_or stored.refs k d)).0 (Contains-get_or stored.refs k d within)
 
   -- An index is on a column of the relation.
-  pub column_in : (index column : ℕ) (kind : IndexKind) → HasIndex stored.indexes index column kind → column < stored.width
+  pub column_in : (index column : ℕ) (kind : IndexKind) → HasIndex stored.indexes index column kind → column < length stored.places.types
   column_in index column kind has =
       let d : Index = any_of stored.indexes index has.0 in
-      subst (λ n. n < stored.width) (has.1 d).0 (kept.columns index d has.0)
+      subst (λ n. n < length stored.places.types) (has.1 d).0 (kept.columns index d has.0)
 
-  pub on_column : (column : ℕ) (index : IndexRef) → IsIndexOn stored column index → column < stored.width
-  on_column column Key is = subst (λ n. n < stored.width) (sym is) kept.key_in
+  pub on_column : (column : ℕ) (index : IndexRef) → IsIndexOn stored column index → column < length stored.places.types
+  on_column column Key is = subst (λ n. n < length stored.places.types) (sym is) kept.key_in
   on_column column (Tree place) has = column_in place column kind.Tree has
   on_column column (Hash place) has = column_in place column kind.Hash has
 

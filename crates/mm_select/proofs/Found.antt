@@ -1,5 +1,5 @@
 -- What is found along an index are the rows along the access.
-use Rattle.std.proofs.Common.{◌≡◌, ℕ, ◌<◌, ◌&&◌, Bool, true, List, [], length, get_or, Some, None, Option, refl, sym, ap, ◌∙◌, subst, arith}
+use Rattle.std.proofs.Common.{◌≡◌, ℕ, ◌<◌, ◌≤◌, ◌&&◌, Bool, true, List, [], length, get_or, Some, None, Option, refl, sym, ap, ◌∙◌, subst, arith}
 use Rattle.std.specs.Prelude.{pos}
 use Rattle.std.specs.List.{All, filter}
 use Rattle.std.specs.List.Sorted.{IsPermutation}
@@ -12,14 +12,15 @@ use Rattle.std.proofs.lemmas.Option.{slice_get-get_or}
 use Rattle.mm_order.specs.Probe.{entries_between, is_between}
 use Rattle.mm_partition.specs.Places.{slot_at}
 use Rattle.mm_query.specs.Atoms.{value_in}
+use Rattle.mm_relation.proofs.Typed.{HasTypes-length}
 use Rattle.mm_relation.specs.Kept.{IsKept, StoredRows}
 use Rattle.mm_relation.specs.Reads.{Appends, AreMatches, IsRange, end_place, has_value}
 use Rattle.mm_relation.specs.Refs.{Slots, place_by, row_at, row_in}
 use Rattle.mm_select.proofs.Along.{all_live, appended, filter_moved, filter_same, on_column}
-use Rattle.mm_select.specs.Accesses.{AreAlong, IsOfKey, IsServed, has, is_along, is_from, is_up_to, lies_between, refs_along}
+use Rattle.mm_select.specs.Accesses.{AreAlong, IsOfHash, IsOfKey, IsServed, has, is_along, is_from, is_up_to, lies_between, refs_along}
 use Rattle.mm_select.specs.declared.access.Access.{Access}
 use Rattle.mm_select.specs.declared.access.Access.TheVariants as access
-use Rattle.mm_store.specs.Looked.{IsIndexOn}
+use Rattle.mm_store.specs.Looked.{IsHash, IsIndexOn}
 use Rattle.mm_store.specs.declared.index_ref.IndexRef.{IndexRef}
 use Rattle.mm_store.specs.declared.index_ref.IndexRef.TheVariants.{Key, Tree, Hash}
 use Rattle.mm_value.specs.Order.{value_cmp}
@@ -27,7 +28,7 @@ use Rattle.mm_value.specs.declared.row_ref.RowRef.{RowRef}
 use Rattle.mm_value.specs.declared.values.Value.{Value}
 use Rattle.mm_value.specs.declared.values.Value.TheVariants.{Int}
 
-module _ (stored : StoredRows) (kept : IsKept stored.width stored.key (slot_at stored.places) stored.refs stored.indexes) where
+module _ (stored : StoredRows) (kept : IsKept stored.places.types stored.key (slot_at stored.places) stored.refs stored.indexes) where
   abbrev now : Slots
   now = slot_at stored.places
 
@@ -35,12 +36,13 @@ module _ (stored : StoredRows) (kept : IsKept stored.width stored.key (slot_at s
   abbrev pub Finds : (List Value → Bool) → List RowRef → Type 0
   Finds test found = IsPermutation found (filter (λ at. test (row_at now at)) stored.refs)
 
-  module _ (column : ℕ) (within : column < stored.width) where
+  module _ (column : ℕ) (within : column < length stored.places.types) where
     placed : (value : Value) → All (λ at. place_by column now value at ≡ value_cmp (value_in column (row_at now at)) value) stored.refs
     placed value k d below =
         let at : RowRef = get_or stored.refs k d in
         let live = all_live stored kept k d below in
-        let wide : length (row_at now at) ≡ stored.width = ap (λ c. length (row_in c)) live.1 ∙ kept.wide at live.0 live.1 in
+        let wide : length (row_at now at) ≡ length stored.places.types =
+        ap (λ c. length (row_in c)) live.1 ∙ HasTypes-length stored.places.types live.0 (kept.typed at live.0 live.1) in
         ap (λ o. option_cmp value_cmp o (Some value)) (slice_get-get_or (row_at now at) column (Int (pos 0)) (omega (arith, within, wide)))
 
     from_same : (low : Option Value) → All (λ at. is_ge (end_place column now low at) ≡ is_from low (value_in column (row_at now at))) stored.refs
@@ -51,10 +53,13 @@ module _ (stored : StoredRows) (kept : IsKept stored.width stored.key (slot_at s
     up_to_same None k d below = refl
     up_to_same (Some value) k d below = ap is_le (placed value k d below)
 
+    pub equal_same : (value : Value) → filter (has_value column now value) stored.refs ≡ filter (λ at. has column value (row_at now at)) stored.refs
+    equal_same value =
+        filter_same (has_value column now value) (λ at. has column value (row_at now at)) stored.refs
+        (λ k d below. ap is_eq (placed value k d below))
+
     pub found_equal : (value : Value) (found : List RowRef) → AreMatches column now value stored.refs found → Finds (has column value) found
-    found_equal value found are =
-        subst (IsPermutation found) (filter_same (has_value column now value) (λ at. has column value (row_at now at)) stored.refs
-        (λ k d below. ap is_eq (placed value k d below))) are
+    found_equal value found are = subst (IsPermutation found) (equal_same value) are
 
     between_same : (low high : Option Value) → filter (is_between (end_place column now low) (end_place column now high)) stored.refs
         ≡ filter (λ at. lies_between column low high (row_at now at)) stored.refs
@@ -73,6 +78,17 @@ module _ (stored : StoredRows) (kept : IsKept stored.width stored.key (slot_at s
       → Appends (AreMatches column now value.now stored.refs) old new → AreAlong stored (access.Equal index column value) new
   equal_along index column value old new on none appends =
       found_equal column (on_column stored kept column index on) value.now new (appended (AreMatches column now value.now stored.refs) old new none appends)
+
+  -- Along a HASH index there is what a search by it finds, ..
+  pub hash_along : (index : IndexRef) (column : ℕ) (value : Bor Value) (found : List RowRef) → IsServed stored (access.Equal index column value)
+      → AreMatches column now value.now stored.refs found → AreAlong stored (access.Equal index column value) found
+  hash_along index column value found on are = found_equal column (on_column stored kept column index on) value.now found are
+
+  -- .. which are as many.
+  pub few_along : (index : IndexRef) (column : ℕ) (value : Bor Value) → IsServed stored (access.Equal index column value)
+      → length (refs_along stored (access.Equal index column value)) ≤ 4 → length (filter (has_value column now value.now) stored.refs) ≤ 4
+  few_along index column value on few =
+      subst (λ (l : List RowRef). length l ≤ 4) (sym (equal_same column (on_column stored kept column index on) value.now)) few
 
   -- Along the key there is what a search by it finds.
   pub key_along : (index : IndexRef) (column : ℕ) (value : Bor Value) (found : List RowRef) → index ≡ Key
@@ -104,6 +120,11 @@ pub key_looked_up : (index : IndexRef) (column : ℕ) (value : Bor Value) → Is
 key_looked_up Key column value of_key = refl
 key_looked_up (Tree place) column value of_key = absurd of_key
 key_looked_up (Hash place) column value of_key = absurd of_key
+
+pub hash_looked_up : (index : IndexRef) (column : ℕ) (value : Bor Value) → IsOfHash (access.Equal index column value) → IsHash index
+hash_looked_up Key column value of_hash = absurd of_hash
+hash_looked_up (Tree place) column value of_hash = absurd of_hash
+hash_looked_up (Hash place) column value of_hash = tt
 
 -- Their rows lie along the access.
 pub lie_along : (stored : StoredRows) (a : Access) (found : List RowRef) → AreAlong stored a found

@@ -34,7 +34,7 @@ use Rattle.mm_select.specs.declared.access.Access.TheVariants as access
 moved : (xs ys : List RowRef) → IsPermutation xs ys → (at : RowRef) → IsIn at xs → IsIn at ys
 moved xs ys there at here = IsIn-from_Contains ys at (Contains-permutation xs ys at there (Contains-from_IsIn xs at here))
 
-module _ (stored : StoredRows) (kept : IsKept stored.width stored.key (slot_at stored.places) stored.refs stored.indexes) where
+module _ (stored : StoredRows) (kept : IsKept stored.places.types stored.key (slot_at stored.places) stored.refs stored.indexes) where
   abbrev now : Slots
   now = slot_at stored.places
 

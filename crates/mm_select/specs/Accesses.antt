@@ -83,6 +83,14 @@ IsOfKey (access.Equal (Tree place) column value) = ⊥
 IsOfKey (access.Equal (Hash place) column value) = ⊥
 IsOfKey (access.Range index column low high) = ⊥
 
+-- It looks up a value in a HASH index.
+abbrev pub IsOfHash : Access → Type 0
+IsOfHash access.Scan = ⊥
+IsOfHash (access.Equal Key column value) = ⊥
+IsOfHash (access.Equal (Tree place) column value) = ⊥
+IsOfHash (access.Equal (Hash place) column value) = Unit {0}
+IsOfHash (access.Range index column low high) = ⊥
+
 -- Every value from this lower end on stands so to a value: the end does, and so does whatever is greater.
 abbrev pub stand_from : Option Value → Comparison → Value → Bool
 stand_from None comparison value = false

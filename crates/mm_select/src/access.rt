@@ -1,11 +1,12 @@
 //! Ways to the rows of a table.
-ghost use Rattle.std.specs.Prelude.{◌≡◌, ◌<◌, ◌≤◌, true, All, IfOk, IsOkAnd, filter, length};
+ghost use Rattle.std.specs.Prelude.{◌≡◌, ◌<◌, ◌≤◌, true, All, IfOk, IsOk, IsOkAnd, filter, length};
 ghost use Rattle.std.specs.Option.{option_copied, option_map};
 ghost use Rattle.mm_partition.specs.Places.{IsLive, slot_at};
 ghost use Rattle.mm_relation.specs.Kept.{StoredRows};
 ghost use Rattle.mm_relation.specs.Reads.{AreMatches};
 ghost use Rattle.mm_select.specs.Accesses.{AreAlong, IsServed, all_stand, all_stand_to, is_in_key_order, is_met_along, refs_along, stand_from, stand_up_to};
 ghost use Rattle.mm_select.specs.declared.access.Access.TheVariants as access;
+ghost use Rattle.mm_store.specs.Looked.{IsHash};
 ghost use Rattle.mm_store.specs.Tables.{IsAt};
 ghost use Rattle.mm_value.specs.Views.{value_of};
 
@@ -144,8 +145,8 @@ fn matches_along(
     Ok(SmallVec::from_vec(found))
 }
 
-/// The references of the rows that have a value in the column of an index. Along the key it takes no memory, and finds one at most.
-/// `AllocError` where memory is refused.
+/// The references of the rows that have a value in the column of an index. Along the key it takes no memory, and finds one at most;
+/// along a HASH index it takes none for up to four. `AllocError` where memory is refused.
 pub(crate) fn equal_to(
     alloc: Global,
     view: &View<'_>,
@@ -160,12 +161,13 @@ pub(crate) fn equal_to(
         → IfOk result (λ found. AreAlong stored (access.Equal index column value.entry) found.items) }
     ensures live { (stored : StoredRows) → IsAt view.now.store table stored → IfOk result (λ found. All (IsLive stored.places) found.items) }
     ensures by_key { index ≡ IndexRef.Key → IsOkAnd result (λ found. length found.items ≤ 1) }
+    ensures few { IsHash index → (stored : StoredRows) → IsAt view.now.store table stored
+        → length (refs_along stored (access.Equal index column value.entry)) ≤ 4 → IsOk result }
 {
     match index {
         IndexRef::Key => Ok(row_of_key(alloc, view, table, value)),
-        IndexRef::Tree(_) | IndexRef::Hash(_) => {
-            matches_along(alloc, view, table, index, column, value)
-        }
+        IndexRef::Tree(_) => matches_along(alloc, view, table, index, column, value),
+        IndexRef::Hash(place) => view.find_by_hash(alloc, table, place, value.as_ref()),
     }
 }
 

@@ -3,7 +3,7 @@ ghost use Rattle.std.specs.Prelude.{◌≡◌, ℕ, ◌+◌, ◌∷◌, ◌<◌,
 ghost use Rattle.std.specs.List.{count_by, list_any};
 ghost use Rattle.mm_partition.specs.Places.{IsLive};
 ghost use Rattle.mm_relation.specs.Kept.{StoredRows};
-ghost use Rattle.mm_select.specs.Accesses.{AreAlong, Asks, IsOfKey, IsServed, asks_along, is_along, is_in_key_order};
+ghost use Rattle.mm_select.specs.Accesses.{AreAlong, Asks, IsOfHash, IsOfKey, IsServed, asks_along, is_along, is_in_key_order, refs_along};
 ghost use Rattle.mm_select.specs.Fitting.{AreFitting};
 ghost use Rattle.mm_select.specs.Matches.{matching};
 ghost use Rattle.mm_select.specs.declared.access.Access.TheVariants as access;
@@ -40,6 +40,8 @@ pub fn select<'a>(
     ensures unread { list_any (asks_along access.entry) atoms.now ≡ false → view.new.reads ≡ view.old.reads }
     ensures same { view.new.store ≡ view.old.store }
     ensures met { IsOfKey access.entry → IsOk result }
+    ensures few { IsOfHash access.entry → (table : ℕ) (stored : StoredRows) → descriptor.entry.tables.now ≡ table ∷ []
+        → IsAt view.old.store table stored → length (refs_along stored access.entry) ≤ 4 → IsOk result }
 {
     let refs = select_refs(alloc, view, descriptor.tables[0], atoms, access)?;
     Ok(TempList::of_refs(descriptor, refs))
@@ -49,7 +51,7 @@ pub fn select<'a>(
 /// look-up or a range in an index (the access paths of Lehman and Carey, SIGMOD 1986). They are in key order where the rows along
 /// the access are, and else in no promised order. It looks at no row that does not lie along the access, and at none at all where
 /// every row along it meets all that the atoms ask of the table alone. It takes memory for what lies along the access, and no more;
-/// a look-up by key takes none. `AllocError` where memory is refused.
+/// a look-up by key takes none, and a look-up in a HASH index none for up to four rows. `AllocError` where memory is refused.
 pub fn select_refs(
     alloc: Global,
     view: &mut View<'_>,
@@ -69,6 +71,8 @@ pub fn select_refs(
     ensures unread { list_any (asks_along access.entry) atoms.now ≡ false → view.new.reads ≡ view.old.reads }
     ensures same { view.new.store ≡ view.old.store }
     ensures by_key { IsOfKey access.entry → IsOkAnd result (λ found. length found.items ≤ 1) }
+    ensures few { IsOfHash access.entry → (stored : StoredRows) → IsAt view.old.store table stored
+        → length (refs_along stored access.entry) ≤ 4 → IsOk result }
 {
     match access {
         Access::Scan => scan(alloc, view, table, atoms),

@@ -7,6 +7,7 @@ use Rattle.mm_relation.specs.declared.edits.Edit.TheVariants.{Add}
 use Rattle.mm_relation.specs.declared.indexes.index.Index.{Index}
 use Rattle.mm_relation.specs.declared.indexes.index.Index.TheVariants.{Tree}
 use Rattle.mm_store.specs.Tables.{Tables}
+use Rattle.mm_value.specs.declared.col_type.ColType.TheVariants.{Int}
 use Rattle.mm_value.specs.declared.row_ref.RowRef.{RowRef}
 use Rattle.mm_value.specs.declared.values.Value.{Value}
 use Rattle.mm_delta.specs.Edited.{has_index}
@@ -16,12 +17,11 @@ use Rattle.mm_standing.specs.ReadExamples.{AddsBesideFour, AddsThirdFive, row_of
 abbrev refs_to : ℕ → List RowRef
 refs_to rows = map (λ slot. record { part = 0; slot = slot }) (range_with_len 0 rows)
 
--- A table of two columns with these rows, which stand in the order of their keys.
+-- A table of two columns of whole numbers with these rows, which stand in the order of their keys.
 abbrev table_of : List (List Value) → List Index → StoredRows
 table_of rows indexes = record {
-  width = 2;
   key = 0;
-  places = record { slots = map Live rows; room = 0 };
+  places = record { slots = map Live rows; room = 0; types = Int ∷ Int ∷ [] };
   refs = refs_to (length rows);
   spare = 0;
   indexes = indexes;

@@ -82,7 +82,7 @@ module _ (tables : List StoredRows) (place : ℕ) (old : StoredRows) (there : sl
       → list_any p (rows_with old edits) ≡ list_any p (new_rows edits)
   any_row p none =
       let now = slot_at old.places in
-      let kept = split old.width old.key now old.refs old.indexes old_table.kept edits fit.standing in
+      let kept = split old.places.types old.key now old.refs old.indexes old_table.kept edits fit.standing in
       let same : IsPermutation (rows_after now edits kept.0) (rows_with old edits) =
       IsPermutation-changed old.key now old.refs old_table.kept.by_key edits kept.0 kept.1 in
       let none_kept : list_any p (map (row_at now) kept.0) ≡ false =

@@ -47,7 +47,7 @@ module _ (items : List StoredRows) (links : List Reference) (len place : ℕ) (c
 pub HasRows-same : (old new : StoredRows) → SameButRoom old new → HasRows old (rows_of old) new
 HasRows-same old new same = record {
   rows_are = λ i. rows_with_room i;
-  width = same.width;
+  types = same.types;
   key = same.key;
   indexes = record {
     size = same.indexes.size;
@@ -70,7 +70,7 @@ each P view place relation at here stored there_too = subst P (sym (one_value st
 -- a relation has the room that it has
 pub SameButRoom-refl : (stored : StoredRows) → SameButRoom stored stored
 SameButRoom-refl stored = record {
-  width = refl;
+  types = refl;
   key = refl;
   places = λ at. refl;
   extent = refl;

@@ -34,13 +34,13 @@ use Rattle.mm_store.proofs.Referring.{refers_same, same_from_refers}
 
 -- the relation has the rows, columns and key that it had
 pub record SameRows (old new : StoredRows) : Type 0 where
-  pub width : new.width ≡ old.width
+  pub types : new.places.types ≡ old.places.types
   pub key : new.key ≡ old.key
   pub slots : slot_at new.places ≡ slot_at old.places
   pub extent : extent_of new.places ≡ extent_of old.places
 
 pub SameRows-from_room : (old new : StoredRows) → SameButRoom old new → SameRows old new
-SameRows-from_room old new same = record { width = same.width; key = same.key; slots = slots_same old new same; extent = same.extent }
+SameRows-from_room old new same = record { types = same.types; key = same.key; slots = slots_same old new same; extent = same.extent }
 
 module _ (column : ℕ) where
   pub Joins-grown : (from to : StoredRows) (was is : Ties) → KeepsTargets was is → length was.targets ≤ length is.targets → was.extent ≤ is.extent
@@ -53,7 +53,7 @@ module _ (column : ℕ) where
 
   Joins-source : (old new to : StoredRows) (ties : Ties) → SameRows old new → Joins column old to ties → Joins column new to ties
   Joins-source old new to ties same j = record {
-    column_in = omega (arith, same.width, j.column_in);
+    column_in = omega (arith, ap length same.types, j.column_in);
     follows = subst (λ (s : Slots). Follows column to.key s (slot_at to.places) ties) (sym same.slots) j.follows;
     room = record { referrers = omega (arith, same.extent, j.room.referrers); targets = j.room.targets };
   }

@@ -11,11 +11,11 @@ use Rattle.mm_store.specs.Tables.{IsAt, SameForm, Tables, Turns}
 use Rattle.mm_store.specs.Undoing.{heading_of}
 
 pub SameForm-refl : (stored : StoredRows) → SameForm stored stored
-SameForm-refl stored = record { width = refl; key = refl; indexes = record { size = refl; each = λ k d within. (refl, refl) } }
+SameForm-refl stored = record { types = refl; key = refl; indexes = record { size = refl; each = λ k d within. (refl, refl) } }
 
 SameForm-trans : (a b c : StoredRows) → SameForm a b → SameForm b c → SameForm a c
 SameForm-trans a b c first second = record {
-  width = second.width ∙ first.width;
+  types = second.types ∙ first.types;
   key = second.key ∙ first.key;
   indexes =
       EachTurns-twice SameIndex SameIndex SameIndex (λ x y z one two. (two.0 ∙ one.0, two.1 ∙ one.1)) a.indexes b.indexes c.indexes first.indexes
@@ -52,11 +52,11 @@ headings_formed [] (y ∷ ys) forms = absurd (omega (arith, forms.size))
 headings_formed (x ∷ xs) [] forms = absurd (omega (arith, forms.size))
 headings_formed (x ∷ xs) (y ∷ ys) forms =
     let first : SameForm x y = forms.each 0 x (omega arith) in
-    let width : y.width ≡ x.width = first.width in
+    let types : y.places.types ≡ x.places.types = first.types in
     let key : y.key ≡ x.key = first.key in
     let rest : EachTurns SameForm xs ys = record {
       size = omega (arith, forms.size);
       each = λ k d within. forms.each (suc k) d (omega (arith, within));
     } in
     let others = headings_formed xs ys rest in
-    λ i. record { width = width i; key = key i } ∷ others i
+    λ i. record { types = types i; key = key i } ∷ others i

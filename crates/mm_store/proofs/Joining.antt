@@ -47,7 +47,7 @@ get_set_other (t ∷ ts) (suc place) (suc other) new apart = get_set_other ts pl
 
 -- what is known of a link before its ties are brought up
 pub record Behind (tables : List StoredRows) (stored target : StoredRows) (entries : List UndoRecord) (link : Link) : Type 0 where
-  pub column_in : link.reference.column < stored.width
+  pub column_in : link.reference.column < length stored.places.types
   pub behind : IsBehind link.reference.column target.key (slot_at stored.places) (slot_at target.places) entries link.ties
   pub room : HasRoom stored.places target.places link.ties
 

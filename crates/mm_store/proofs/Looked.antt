@@ -155,7 +155,7 @@ module _ (stored : StoredRows) (column : ℕ) where
 -- ---- along a tree
 
 -- The references in key order are a walk along the key.
-pub walk_of_keys : (stored : StoredRows) → IsKept stored.width stored.key (slot_at stored.places) stored.refs stored.indexes
+pub walk_of_keys : (stored : StoredRows) → IsKept stored.places.types stored.key (slot_at stored.places) stored.refs stored.indexes
     → IsWalk stored.key stored stored.refs
 walk_of_keys stored kept = record { ordered = kept.by_key; same = IsPermutation-refl stored.refs }
 
@@ -179,7 +179,7 @@ matches_in_range column stored value found (walk, is_walk, is) =
 
 -- ---- the row of a key
 
-module _ (stored : StoredRows) (kept : IsKept stored.width stored.key (slot_at stored.places) stored.refs stored.indexes) where
+module _ (stored : StoredRows) (kept : IsKept stored.places.types stored.key (slot_at stored.places) stored.refs stored.indexes) where
   -- What is sought by the key is all that has the value.
   pub found_of_key : (value : Value) (found : Option RowRef) → IfSome found (Contains stored.refs)
       → IfSome found (λ at. slice_get (row_at (slot_at stored.places) at) stored.key ≡ Some value)
@@ -201,12 +201,12 @@ module _ (stored : StoredRows) (kept : IsKept stored.width stored.key (slot_at s
   found_live None held = tt
 
 -- What is found along an index is live, ..
-all_live : (stored : StoredRows) → IsKept stored.width stored.key (slot_at stored.places) stored.refs stored.indexes
+all_live : (stored : StoredRows) → IsKept stored.places.types stored.key (slot_at stored.places) stored.refs stored.indexes
     → All (IsLive stored.places) stored.refs
 all_live stored kept = λ k d within. (kept.held (get_or stored.refs k d)).0 (Contains-get_or stored.refs k d within)
 
 -- .. of one value ..
-pub live_matches : (stored : StoredRows) → IsKept stored.width stored.key (slot_at stored.places) stored.refs stored.indexes
+pub live_matches : (stored : StoredRows) → IsKept stored.places.types stored.key (slot_at stored.places) stored.refs stored.indexes
     → (column : ℕ) (value : Value) (old new : List RowRef) → Appends (AreMatches column (slot_at stored.places) value stored.refs) old new
     → All (IsLive stored.places) old → All (IsLive stored.places) new
 live_matches stored kept column value old new (found, is, are) live =
@@ -216,7 +216,7 @@ live_matches stored kept column value old new (found, is, are) live =
     (All-filter met (IsLive stored.places) stored.refs (all_live stored kept))))
 
 -- .. or between two.
-pub live_range : (stored : StoredRows) → IsKept stored.width stored.key (slot_at stored.places) stored.refs stored.indexes
+pub live_range : (stored : StoredRows) → IsKept stored.places.types stored.key (slot_at stored.places) stored.refs stored.indexes
     → (column : ℕ) (low high : Option Value) (old new : List RowRef) → Appends (IsRange column stored low high) old new
     → All (IsLive stored.places) old → All (IsLive stored.places) new
 live_range stored kept column low high old new (found, is, (walk, is_walk, cut)) live =
@@ -226,7 +226,7 @@ live_range stored kept column low high old new (found, is, (walk, is_walk, cut))
     (All-permutation (IsLive stored.places) stored.refs walk (IsPermutation-sym walk stored.refs is_walk.same) (all_live stored kept)))))
 
 -- The range along the key.
-pub range_of_keys : (stored : StoredRows) → IsKept stored.width stored.key (slot_at stored.places) stored.refs stored.indexes
+pub range_of_keys : (stored : StoredRows) → IsKept stored.places.types stored.key (slot_at stored.places) stored.refs stored.indexes
     → (low high : Option Value) (old new : List RowRef)
     → new ≡ old ++ entries_between (end_place stored.key (slot_at stored.places) low) (end_place stored.key (slot_at stored.places) high) stored.refs
     → Appends (IsRange stored.key stored low high) old new

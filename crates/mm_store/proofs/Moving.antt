@@ -43,7 +43,7 @@ module _ (tables : List StoredRows) (new : StoredRows) where
   }
 
   module _ (empty : (at : RowRef) → slot_at new.places at ≡ Free) (none : extent_of new.places ≡ 0) where
-    IsJoined-ready : (link : Link) → IsFrom (length tables) new.width link.reference → IsReady tables link
+    IsJoined-ready : (link : Link) → IsFrom (length tables) (length new.places.types) link.reference → IsReady tables link
         → IsJoined (tables ++ new ∷ []) link.reference link.ties
     IsJoined-ready link is ready = record {
       source = new;
@@ -62,11 +62,12 @@ module _ (tables : List StoredRows) (new : StoredRows) where
     }
 
     pub IsSound-added : (links more : List Link) (references : List Reference) → map (λ (link : Link). link.reference) more ≡ references
-        → All (IsFrom (length tables) new.width) references → All (IsReady tables) more → IsTable new → IsSound tables links
+        → All (IsFrom (length tables) (length new.places.types)) references → All (IsReady tables) more → IsTable new → IsSound tables links
         → IsSound (tables ++ new ∷ []) (links ++ more)
     IsSound-added links more references are from ready is_table sound =
         let f = λ (link : Link). link.reference in
-        let theirs : All (IsFrom (length tables) new.width) (map f more) = subst (All (IsFrom (length tables) new.width)) (sym are) from in
+        let theirs : All (IsFrom (length tables) (length new.places.types)) (map f more) =
+        subst (All (IsFrom (length tables) (length new.places.types))) (sym are) from in
         record {
           all = All-push IsTable tables new sound.all is_table;
           joined =
@@ -74,7 +75,7 @@ module _ (tables : List StoredRows) (new : StoredRows) where
               (λ k d within. IsJoined-more (get_or links k d).reference (get_or links k d).ties (sound.joined k d within))
               (λ k d within.
               IsJoined-ready (get_or more k d)
-              (subst (IsFrom (length tables) new.width) (get_or-map f more k d d.reference within)
+              (subst (IsFrom (length tables) (length new.places.types)) (get_or-map f more k d d.reference within)
               (theirs k d.reference (omega (arith, within, length-map more f)))) (ready k d within));
         }
 

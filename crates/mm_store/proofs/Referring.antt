@@ -27,6 +27,7 @@ use Rattle.mm_schema.proofs.Orderings.{equal_from_is_eq}
 use Rattle.mm_schema.proofs.Duplicates.{column_cmp_total}
 use Rattle.mm_value.proofs.Orders.{value_cmp_total}
 use Rattle.mm_value.specs.Order.{value_cmp}
+use Rattle.mm_value.specs.declared.col_type.ColType.{ColType}
 use Rattle.mm_value.specs.declared.row_ref.RowRef.{RowRef}
 use Rattle.mm_value.specs.declared.values.Value.{Value}
 use Rattle.mm_store.specs.Links.{Follows, IsTied, RefersTo}
@@ -143,17 +144,18 @@ module _ (column key : ℕ) (now then : Slots) (ties : Ties) (follows : Follows 
 
   -- a row that has the value of a live row refers to the row that this one is tied to
   pub target_kept : (at : RowRef) → HasRow now at → (row : List Value) → slice_get row column ≡ slice_get (row_at now at) column
-      → (width : ℕ) (refs : List RowRef) (indexes : List Index) → IsKept width key then refs indexes
+      → (types : List ColType) (refs : List RowRef) (indexes : List Index) → IsKept types key then refs indexes
       → lacks_target_row column key (map (row_at then) refs) row ≡ false
-  target_kept at live row same width refs indexes kept =
+  target_kept at live row same types refs indexes kept =
       let tied = tied_to at live in
       let here : Contains refs tied.0 = (kept.held tied.0).1 tied.2.live in
       ap not (list_any-map (row_at then) (refers column key row) refs
       ∙ list_any_at (λ x. refers column key row (row_at then x)) refs here.0 tied.0 here.1
       (ap (λ x. refers column key row (row_at then x)) here.2 ∙ refers_same column key row (row_at then tied.0) (same ∙ tied.2.same)))
 
-  module _ (from_width from_key : ℕ) (from_refs : List RowRef) (from_indexes : List Index) (from_kept : IsKept from_width from_key now from_refs from_indexes)
-      (width : ℕ) (refs : List RowRef) (indexes : List Index) (kept : IsKept width key then refs indexes) (at : RowRef) (live : HasRow then at) where
+  module _ (from_types : List ColType) (from_key : ℕ) (from_refs : List RowRef) (from_indexes : List Index)
+      (from_kept : IsKept from_types from_key now from_refs from_indexes)
+      (types : List ColType) (refs : List RowRef) (indexes : List Index) (kept : IsKept types key then refs indexes) (at : RowRef) (live : HasRow then at) where
     listed : IsReferred ties at → is_referred column key (map (row_at now) from_refs) (row_at then at) ≡ true
     listed (from, target) =
         let r : Referrer from at = Referrer-from_target from at target in

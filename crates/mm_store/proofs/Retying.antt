@@ -42,7 +42,7 @@ module _ (tables : List StoredRows) (place : ℕ) (old new : StoredRows) (there 
     pub source_room : link.reference.from ≡ place → extent_of new.places ≤ length link.ties.targets
     pub target_room : link.reference.to ≡ place → extent_of new.places ≤ link.ties.extent
 
-  module _ (width : new.width ≡ old.width) (key : new.key ≡ old.key) where
+  module _ (types : new.places.types ≡ old.places.types) (key : new.key ≡ old.key) where
     -- its ties can be brought up by what the undo records describe
     pub CanRetie-turned : (entries : List UndoRecord) → DescribeAll (slot_at old.places) (slot_at new.places) entries → (link : Link) → CanTurn link
         → ((target : StoredRows) → link.reference.from ≡ place → slice_get tables link.reference.to ≡ Some target
@@ -59,7 +59,7 @@ module _ (tables : List StoredRows) (place : ℕ) (old new : StoredRows) (there 
         record {
           target = target;
           target_at = get_set_other tables place link.reference.to new (λ e. joined.apart (from ∙ sym e)) ∙ joined.target_at;
-          column_in = omega (arith, width, joins.column_in);
+          column_in = omega (arith, ap length types, joins.column_in);
           behind = record {
             was = slot_at old.places;
             described = tell.described;
@@ -76,7 +76,7 @@ module _ (tables : List StoredRows) (place : ℕ) (old new : StoredRows) (there 
       as_source : (target : StoredRows) → link.reference.from ≡ place → slice_get tables link.reference.to ≡ Some target
           → Joins link.reference.column old target link.ties → Joins link.reference.column new target after.ties
       as_source target from target_there joins = record {
-        column_in = omega (arith, width, joins.column_in);
+        column_in = omega (arith, ap length types, joins.column_in);
         follows =
             retied.follows from target (get_set_other tables place link.reference.to new (λ e. can.joined.apart (from ∙ sym e)) ∙ target_there);
         room = record {

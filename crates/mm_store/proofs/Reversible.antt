@@ -25,6 +25,7 @@ use Rattle.mm_schema.specs.Rows.{column_cmp, most_rows}
 use Rattle.mm_schema.specs.declared.reference.Reference.{Reference}
 use Rattle.mm_value.proofs.Orders.{value_cmp_total}
 use Rattle.mm_value.specs.Order.{value_cmp}
+use Rattle.mm_value.specs.declared.col_type.ColType.{ColType}
 use Rattle.mm_value.specs.declared.row_ref.RowRef.{RowRef}
 use Rattle.mm_value.specs.declared.values.Value.{Value}
 use Rattle.mm_store.specs.Joined.{AreJoined, IsJoined, IsTable}
@@ -60,9 +61,9 @@ joined_of tables links reference joined here = at links here.0 joined here.1 her
         at ls k (All-tail (λ (x : Link). IsJoined tables x.reference x.ties) l ls all) (omega (arith, within)) is
 
 -- two live rows of one key are one
-one_target : (width key : ℕ) (now : Slots) → IsLawful width key now → (a b : RowRef) → HasRow now a → HasRow now b
+one_target : (types : List ColType) (key : ℕ) (now : Slots) → IsLawful types key now → (a b : RowRef) → HasRow now a → HasRow now b
     → slice_get (row_at now a) key ≡ slice_get (row_at now b) key → a ≡ b
-one_target width key now lawful a b live_a live_b same =
+one_target types key now lawful a b live_a live_b same =
     let tie : option_cmp value_cmp (slice_get (row_at now a) key) (slice_get (row_at now b) key) ≡ Equal =
     subst (λ (o : Option Value). option_cmp value_cmp (slice_get (row_at now a) key) o ≡ Equal) same
     (tied_itself (options_total value_cmp_total) (slice_get (row_at now a) key)) in
@@ -98,11 +99,11 @@ module _ (before_it after_it : Tables) (links : List Link) (place : ℕ) (old ne
       subst (λ c. IsTied column old.key (slot_at new.places) c (target_at ties from)) live (is from) in
       let both : Some tied.0 ≡ Some still.0 = sym tied.1 ∙ still.1 in
       let one : tied.0 ≡ still.0 = cc in
-      let lawful : IsLawful new.width old.key (slot_at new.places) =
-      subst (λ (k : ℕ). IsLawful new.width k (slot_at new.places)) key
-      (IsLawful-kept new.width new.key (slot_at new.places) new.refs new.indexes is_table.kept) in
+      let lawful : IsLawful new.places.types old.key (slot_at new.places) =
+      subst (λ (k : ℕ). IsLawful new.places.types k (slot_at new.places)) key
+      (IsLawful-kept new.places.types new.key (slot_at new.places) new.refs new.indexes is_table.kept) in
       let same : still.0 ≡ at =
-      one_target new.width old.key (slot_at new.places) lawful still.0 at still.2.live refers.live (sym still.2.same ∙ refers.same) in
+      one_target new.places.types old.key (slot_at new.places) lawful still.0 at still.2.live refers.live (sym still.2.same ∙ refers.same) in
       subst (RefersTo column old.key (slot_at old.places) row) (one ∙ same) tied.2
 
   pub IsReversible-made : StandsBack entries (slot_at new.places)
@@ -120,8 +121,8 @@ module _ (before_it after_it : Tables) (links : List Link) (place : ℕ) (old ne
         subst (λ (s : Slots). Differs (snapshot_of after_it place) s (named record_name New entries) (named record_name Old entries)) (sym stood_is)
         (subst (λ (s : Slots). Differs s (slot_at old.places) (named record_name New entries) (named record_name Old entries)) (sym now_is) differs);
     lawful =
-        subst (IsLawful old.width old.key) (sym stood_is)
-        (IsLawful-kept old.width old.key (slot_at old.places) old.refs old.indexes (table_at before_it.tables place old all there).kept);
+        subst (IsLawful old.places.types old.key) (sym stood_is)
+        (IsLawful-kept old.places.types old.key (slot_at old.places) old.refs old.indexes (table_at before_it.tables place old all there).kept);
     few = subst (HasAtMost most_rows) (sym stood_is) (HasAtMost-table old (table_at before_it.tables place old all there));
     targets = λ reference here from other other_there at row live.
         let found = joined_of before_it.tables links reference joined (subst (λ rs. Contains rs reference) listed here) in

@@ -79,15 +79,16 @@ module _ (tables : List StoredRows) (links : List Link) (sound : IsSound tables 
       subst (λ (s : Slots). Differs s (before entries (slot_at old.places)) (named record_name New entries) (named record_name Old entries)) was
       (subst (λ (s : Slots). Differs (snapshot_of store place) s (named record_name New entries) (named record_name Old entries)) stood_is reversible.differs)
 
-  pub lawful_there : IsLawful old.width old.key (before entries (slot_at old.places))
+  pub lawful_there : IsLawful old.places.types old.key (before entries (slot_at old.places))
   lawful_there =
-      subst (λ (h : Heading). IsLawful h.width h.key (before entries (slot_at old.places))) headed
-      (subst (IsLawful reversible.heading.width reversible.heading.key) stood_is reversible.lawful)
+      subst (λ (h : Heading). IsLawful h.types h.key (before entries (slot_at old.places))) headed
+      (subst (IsLawful reversible.heading.types reversible.heading.key) stood_is reversible.lawful)
 
-  module _ (new : StoredRows) (turned : List UndoRecord) (slots : slot_at new.places ≡ before entries (slot_at old.places)) (width : new.width ≡ old.width)
+  module _ (new : StoredRows) (turned : List UndoRecord) (slots : slot_at new.places ≡ before entries (slot_at old.places))
+      (types : new.places.types ≡ old.places.types)
       (key : new.key ≡ old.key) (extent : extent_of new.places ≡ extent_of old.places)
       (turns : EachTurns (Inverted (slot_at old.places)) entries turned)
-      (kept : IsKept new.width new.key (slot_at new.places) new.refs new.indexes) (storable : AreRowsStorable new.places) where
+      (kept : IsKept new.places.types new.key (slot_at new.places) new.refs new.indexes) (storable : AreRowsStorable new.places) where
     stood_new : stood command (snapshot_of store) ≡ slot_at new.places
     stood_new = stood_is ∙ sym slots
 
@@ -147,10 +148,10 @@ module _ (tables : List StoredRows) (links : List Link) (sound : IsSound tables 
     -- the ties of the table's links can be brought up
     pub AreBehind-back : All (λ link. link.reference.from ≡ place → CanRetie (slice_set tables place new) new turned link) links
     AreBehind-back k d within =
-        CanRetie-turned tables place old new there width key turned tell (get_or links k d) (all_can k d within)
+        CanRetie-turned tables place old new there types key turned tell (get_or links k d) (all_can k d within)
         (targets_back (get_or links k d) (reference_in links k d within))
 
     -- .. and then the store is sound
     pub IsSound-back : (after : List Link) → EachTurns (IsRetied (slice_set tables place new) place new) links after
         → IsSound (slice_set tables place new) after
-    IsSound-back after retied = IsSound-turned tables place old new there width key links after sound.all IsTable-back all_can retied
+    IsSound-back after retied = IsSound-turned tables place old new there types key links after sound.all IsTable-back all_can retied

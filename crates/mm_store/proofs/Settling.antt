@@ -1,5 +1,5 @@
 -- A store in which hidden rows are freed.
-use Rattle.std.proofs.Common.{◌≡◌, ℕ, List, Some, sym, subst, get_or, arith}
+use Rattle.std.proofs.Common.{◌≡◌, ℕ, List, Some, length, sym, ap, subst, get_or, arith}
 use Rattle.std.specs.Prelude.{slice_get, slice_set}
 use Rattle.std.proofs.lemmas.List.Elements.{All-set}
 use Rattle.mm_partition.specs.Places.{extent_of, slot_at}
@@ -29,15 +29,15 @@ SameIndex-trimmed n old new trimmed = record {
 
 pub IsSound-freed : (tables : List StoredRows) (links : List Link) (place : ℕ) (old new : StoredRows) → slice_get tables place ≡ Some old
     → (gone : List RowRef) → AreHidden (slot_at old.places) gone → Frees (slot_at old.places) (slot_at new.places) gone
-    → new.width ≡ old.width → new.key ≡ old.key → extent_of new.places ≡ extent_of old.places → IsTable new
+    → new.places.types ≡ old.places.types → new.key ≡ old.key → extent_of new.places ≡ extent_of old.places → IsTable new
     → IsSound tables links → IsSound (slice_set tables place new) links
-IsSound-freed tables links place old new there gone hidden frees width key extent is_table sound = record {
+IsSound-freed tables links place old new there gone hidden frees types key extent is_table sound = record {
   all = All-set IsTable tables place new is_table sound.all;
   joined = λ k d within.
       let link : Link = get_or links k d in
       IsJoined-set tables place old new there link.reference link.ties link.ties (sound.joined k d within) (record {
         as_source = λ target is at joins. record {
-          column_in = omega (arith, width, joins.column_in);
+          column_in = omega (arith, ap length types, joins.column_in);
           follows =
               Follows-freed_source link.reference.column target.key (slot_at old.places) (slot_at new.places) gone hidden frees (slot_at target.places)
               link.ties joins.follows;

@@ -18,6 +18,7 @@ use Rattle.mm_relation.proofs.Bags.{IsPermutation-from_counts}
 use Rattle.mm_relation.proofs.RefTests.{pair_from_test, pair_itself, same_from_test, same_pair, test_from_same}
 use Rattle.mm_relation.proofs.WaysBack.{among}
 use Rattle.mm_value.specs.Storable.{IsStorable}
+use Rattle.mm_value.specs.declared.col_type.ColType.{ColType}
 use Rattle.mm_value.specs.declared.row_ref.RowRef.{RowRef}
 use Rattle.mm_value.specs.declared.values.Value.{Value}
 use Rattle.mm_value.specs.declared.values.Value.TheVariants.{Int, Text}
@@ -71,12 +72,12 @@ Keeps-had key now held (Tree column refs) h = (
 Keeps-had key now held (Hash column pairs) h =
     IsPermutation-had same_pair pair_from_test pair_itself pairs.entries (map (hashed_pair column now) held) h
 
-IsKept-had : (width key : ℕ) (now : Slots) (refs : List RowRef) (indexes : List Index) → ∥ IsKept width key now refs indexes ∥₁
-    → IsKept width key now refs indexes
-IsKept-had width key now refs indexes h = record {
+IsKept-had : (types : List ColType) (key : ℕ) (now : Slots) (refs : List RowRef) (indexes : List Index) → ∥ IsKept types key now refs indexes ∥₁
+    → IsKept types key now refs indexes
+IsKept-had types key now refs indexes h = record {
   key_in = ∥∥₁_elim h le_prop (λ kept. kept.key_in);
   columns = λ k d within. ∥∥₁_elim h le_prop (λ kept. kept.columns k d within);
-  wide = λ at row live. ∥∥₁_elim h (hlevel props) (λ kept. kept.wide at row live);
+  typed = λ at row live. ∥∥₁_elim h (hlevel props) (λ kept. kept.typed at row live);
   held = λ at. (
     λ here. row_had (now at) (∥∥₁_map h (λ kept. (kept.held at).0 here)),
     λ live. Contains-had refs at (∥∥₁_map h (λ kept. (kept.held at).1 live)),
@@ -97,7 +98,7 @@ IsStorableIn-prop (Hidden row) = hlevel (IsStorable-prop, props)
 IsTable-had : (stored : StoredRows) → ∥ IsTable stored ∥₁ → IsTable stored
 IsTable-had stored h = record {
   few = ∥∥₁_elim h le_prop (λ table. table.few);
-  kept = IsKept-had stored.width stored.key (slot_at stored.places) stored.refs stored.indexes (∥∥₁_map h (λ table. table.kept));
+  kept = IsKept-had stored.places.types stored.key (slot_at stored.places) stored.refs stored.indexes (∥∥₁_map h (λ table. table.kept));
   storable = λ at. ∥∥₁_elim h (IsStorableIn-prop (slot_at stored.places at)) (λ table. table.storable at);
 }
 

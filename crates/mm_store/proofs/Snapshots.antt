@@ -114,19 +114,19 @@ module _ (old new : Tables) (place : ℕ) (was is : StoredRows) (there : IsAt ol
 -- ---- headings
 
 pub headings_set : (tables : List StoredRows) (place : ℕ) (was is : StoredRows) → slice_get tables place ≡ Some was
-    → is.width ≡ was.width → is.key ≡ was.key → map heading_of (slice_set tables place is) ≡ map heading_of tables
-headings_set [] place was is there width key = refl
-headings_set (t ∷ ts) zero was is there width key =
+    → is.places.types ≡ was.places.types → is.key ≡ was.key → map heading_of (slice_set tables place is) ≡ map heading_of tables
+headings_set [] place was is there types key = refl
+headings_set (t ∷ ts) zero was is there types key =
     let one : t ≡ was = one_relation t was there in
-    let wide : is.width ≡ t.width = width ∙ ap (λ (s : StoredRows). s.width) (sym one) in
+    let typed : is.places.types ≡ t.places.types = types ∙ ap (λ (s : StoredRows). s.places.types) (sym one) in
     let keyed : is.key ≡ t.key = key ∙ ap (λ (s : StoredRows). s.key) (sym one) in
-    λ i. record { width = wide i; key = keyed i } ∷ map heading_of ts
-headings_set (t ∷ ts) (suc place) was is there width key = ap (λ hs. heading_of t ∷ hs) (headings_set ts place was is there width key)
+    λ i. record { types = typed i; key = keyed i } ∷ map heading_of ts
+headings_set (t ∷ ts) (suc place) was is there types key = ap (λ hs. heading_of t ∷ hs) (headings_set ts place was is there types key)
 
 pub headings_turned : (old new : Tables) (place : ℕ) (was is : StoredRows) → IsAt old place was → Turns old place is new
-    → is.width ≡ was.width → is.key ≡ was.key → headings_of new ≡ headings_of old
-headings_turned old new place was is there turned width key =
-    ap (map heading_of) turned ∙ headings_set old.tables place was is there width key
+    → is.places.types ≡ was.places.types → is.key ≡ was.key → headings_of new ≡ headings_of old
+headings_turned old new place was is there turned types key =
+    ap (map heading_of) turned ∙ headings_set old.tables place was is there types key
 
 -- a relation has the heading at its place, ..
 pub heading_at : (tables : List StoredRows) (place : ℕ) (stored : StoredRows) → slice_get tables place ≡ Some stored

@@ -52,12 +52,12 @@ CanUndo-nil store undo none = subst (CanUndo store) (sym none) (record {
 -- ---- a relation has turned
 
 module _ (old new : Tables) (place : ℕ) (was is : StoredRows) (there : IsAt old place was) (turned : Turns old place is new)
-    (links : new.links ≡ old.links) (width : is.width ≡ was.width) (key : is.key ≡ was.key) where
+    (links : new.links ≡ old.links) (types : is.places.types ≡ was.places.types) (key : is.key ≡ was.key) where
   -- the log goes back where it did, over a snapshot that is the one before
   goes_back : (undo : List Logged) (snapshot : Snapshot) → snapshot_of old ≡ snapshot → GoesBack (headings_of old) old.links undo (snapshot_of old)
       → GoesBack (headings_of new) new.links undo snapshot
   goes_back undo snapshot same goes =
-      subst (λ (hs : List Heading). GoesBack hs new.links undo snapshot) (sym (headings_turned old new place was is there turned width key))
+      subst (λ (hs : List Heading). GoesBack hs new.links undo snapshot) (sym (headings_turned old new place was is there turned types key))
       (subst (λ (ls : List Reference). GoesBack (headings_of old) ls undo snapshot) (sym links)
       (subst (GoesBack (headings_of old) old.links undo) same goes))
 
@@ -95,7 +95,7 @@ module _ (old new : Tables) (place : ℕ) (was is : StoredRows) (there : IsAt ol
         GoesBack-append (headings_of new) new.links undo (command ∷ []) (snapshot_of new)
         (goes_back undo (back command (snapshot_of new)) (sym (back_is_old old new place was is there turned command about makes)) can.back) (
           tt,
-          subst (λ (hs : List Heading). IsReversible hs new.links command (snapshot_of new)) (sym (headings_turned old new place was is there turned width key))
+          subst (λ (hs : List Heading). IsReversible hs new.links command (snapshot_of new)) (sym (headings_turned old new place was is there turned types key))
               (subst (λ (ls : List Reference). IsReversible (headings_of old) ls command (snapshot_of new)) (sym links) reversible),
         );
   }
@@ -117,7 +117,7 @@ module _ (old new : Tables) (place : ℕ) (was is : StoredRows) (there : IsAt ol
   pub rows-reindexed : (undo : List Logged) (mark : ℕ) → is ≡ record was { indexes = is.indexes } → CanUndo old undo → CanUndo new undo
       → rows_at_mark mark undo new ≡ rows_at_mark mark undo old
   rows-reindexed undo mark same can can_now =
-      rows_at_mark-same old new undo undo mark can can_now (headings_turned old new place was is there turned width key)
+      rows_at_mark-same old new undo undo mark can can_now (headings_turned old new place was is there turned types key)
       (ap (back_all (drop mark undo)) (snapshot_reindexed same))
 
 -- ---- the newest command
@@ -145,14 +145,14 @@ module _ (store : Tables) (undo : List Logged) (command : Logged) (can : CanUndo
     -- Once it is taken back the others can be.
     pub CanUndo-back : CanUndo new undo
     CanUndo-back = record {
-      spare = each_spare store new command.table was is there turned links taken.form.width taken.form.key (λ p s. HasSpare (undo_room p undo) s)
+      spare = each_spare store new command.table was is there turned links taken.form.types taken.form.key (λ p s. HasSpare (undo_room p undo) s)
           (taken.spare (undo_room command.table undo) (newest_spare was there))
           (λ other stored apart at.
           HasSpare-less (undo_room other (undo ++ command ∷ [])) (undo_room other undo) stored (omega (arith, undo_room-push other undo command))
           (can.spare other stored at));
       back =
           subst (λ (hs : List Heading). GoesBack hs new.links undo (snapshot_of new))
-          (sym (headings_turned store new command.table was is there turned taken.form.width taken.form.key))
+          (sym (headings_turned store new command.table was is there turned taken.form.types taken.form.key))
           (subst (λ (ls : List Reference). GoesBack (headings_of store) ls undo (snapshot_of new)) (sym links)
           (subst (GoesBack (headings_of store) store.links undo) (sym snapshot_back)
           (GoesBack-older (headings_of store) store.links undo (command ∷ []) (snapshot_of store) can.back)));

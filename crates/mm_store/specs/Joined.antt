@@ -25,10 +25,11 @@ pub record IsJoined (tables : List StoredRows) (reference : Reference) (ties : T
 abbrev pub AreJoined : List StoredRows → List Link → Type 0
 AreJoined tables links = All (λ link. IsJoined tables link.reference link.ties) links
 
--- A table of a store is not too large, its indexes are those of its rows, and its rows have values that a program can have.
+-- A table of a store is not too large, its rows have the types of its columns and values that a program can have, and its indexes are
+-- those of its rows.
 pub record IsTable (stored : StoredRows) : Type 0 where
   pub few : length stored.refs ≤ most_rows
-  pub kept : IsKept stored.width stored.key (slot_at stored.places) stored.refs stored.indexes
+  pub kept : IsKept stored.places.types stored.key (slot_at stored.places) stored.refs stored.indexes
   pub storable : AreRowsStorable stored.places
 
 -- What always holds of a store: each of its tables is one, and all links are between them.
@@ -53,7 +54,7 @@ pub record HasGrownTo (table extent : ℕ) (old new : Link) : Type 0 where
 pub record CanRetie (tables : List StoredRows) (stored : StoredRows) (entries : List UndoRecord) (link : Link) : Type 0 where
   pub target : StoredRows
   pub target_at : slice_get tables link.reference.to ≡ Some target
-  pub column_in : link.reference.column < stored.width
+  pub column_in : link.reference.column < length stored.places.types
   pub behind : IsBehind link.reference.column target.key (slot_at stored.places) (slot_at target.places) entries link.ties
   pub room : HasRoom stored.places target.places link.ties
 

@@ -51,7 +51,7 @@ pub record HasRoom (from to : Places) (ties : Ties) : Type 0 where
 
 -- The ties are those of a column of the one relation that refers to the key of the other, with room for all rows.
 pub record Joins (column : ℕ) (from to : StoredRows) (ties : Ties) : Type 0 where
-  pub column_in : column < from.width
+  pub column_in : column < length from.places.types
   pub follows : Follows column to.key (slot_at from.places) (slot_at to.places) ties
   pub room : HasRoom from.places to.places ties
 

@@ -3,6 +3,7 @@ use Rattle.std.specs.Prelude.{◌≡◌, ℕ, ◌<◌, ◌≤◌, ◌==◌, ◌&
 use Rattle.std.specs.List.{list_any}
 use Rattle.std.specs.Option.{option_map_or}
 use Rattle.mm_partition.specs.Places.{slot_at}
+use Rattle.mm_partition.specs.Types.{HasTypes}
 use Rattle.mm_relation.specs.Changes.{Standing}
 use Rattle.mm_relation.specs.Edits.{new_rows}
 use Rattle.mm_relation.specs.Index.{EachTurns, SameIndex}
@@ -64,10 +65,10 @@ edit_conditions store table stored edits =
     table_rows_conditions stored.key (rows_with stored edits) (has_orphans store table (rows_with stored edits))
     (makes_orphans store table stored.key (edit_pairs (slot_at stored.places) edits))
 
--- The edits name rows that are there, each once, and bring rows of as many values as the relation has columns.
+-- The edits name rows that are there, each once, and bring rows of the types of the relation's columns.
 pub record AreFit (stored : StoredRows) (edits : List Edit) : Type 0 where
   pub standing : Standing (slot_at stored.places) edits
-  pub wide : All (λ row. length row ≡ stored.width) (new_rows edits)
+  pub typed : All (HasTypes stored.places.types) (new_rows edits)
 
 -- .. and leave no two rows with one key, no row that refers to none, and at most 1,048,576 rows.
 pub record AreLawful (store : Tables) (table : ℕ) (stored : StoredRows) (edits : List Edit) : Type 0 where
@@ -77,16 +78,16 @@ pub record AreLawful (store : Tables) (table : ℕ) (stored : StoredRows) (edits
   pub referred : makes_orphans store table stored.key (edit_pairs (slot_at stored.places) edits) ≡ false
   pub few : length (rows_with stored edits) ≤ most_rows
 
--- A relation has the columns, the key and the indexes that it had.
+-- A relation has the types of columns, the key and the indexes that it had.
 pub record SameForm (old new : StoredRows) : Type 0 where
-  pub width : new.width ≡ old.width
+  pub types : new.places.types ≡ old.places.types
   pub key : new.key ≡ old.key
   pub indexes : EachTurns SameIndex old.indexes new.indexes
 
--- The relation has these rows, with the columns, the key and the indexes that it had.
+-- The relation has these rows, with the types of columns, the key and the indexes that it had.
 pub record HasRows (old : StoredRows) (rows : List (List Value)) (new : StoredRows) : Type 0 where
   pub rows_are : rows_of new ≡ rows
-  pub width : new.width ≡ old.width
+  pub types : new.places.types ≡ old.places.types
   pub key : new.key ≡ old.key
   pub indexes : EachTurns SameIndex old.indexes new.indexes
 

@@ -10,6 +10,7 @@ use Rattle.mm_relation.specs.Lawful.{IsLawful}
 use Rattle.mm_relation.specs.Refs.{HasRow, Slots}
 use Rattle.mm_relation.specs.declared.indexes.names.Side.TheVariants.{New, Old}
 use Rattle.mm_schema.specs.declared.reference.Reference.{Reference}
+use Rattle.mm_value.specs.declared.col_type.ColType.{ColType}
 use Rattle.mm_value.specs.declared.row_ref.RowRef.{RowRef}
 use Rattle.mm_value.specs.declared.values.Value.{Value}
 use Rattle.mm_store.specs.Links.{HasTargetRow, RefersTo}
@@ -17,14 +18,14 @@ use Rattle.mm_store.specs.Tables.{IsAt, Tables}
 use Rattle.mm_store.specs.Snapshots.{Logged, Snapshot, back_all, snapshot_of, stood}
 use Rattle.mm_schema.specs.Rows.{most_rows}
 
--- How many columns a table has, and which of them is its key.
+-- The types of the columns of a table, and which of them is its key.
 pub record Heading : Type 0 where
-  pub width : ℕ
+  pub types : List ColType
   pub key : ℕ
 
 -- The heading of a relation.
 abbrev pub heading_of : StoredRows → Heading
-heading_of stored = record { width = stored.width; key = stored.key }
+heading_of stored = record { types = stored.places.types; key = stored.key }
 
 -- The headings of all tables.
 abbrev pub headings_of : Tables → List Heading
@@ -41,7 +42,7 @@ pub record IsReversible (headings : List Heading) (links : List Reference) (comm
   pub there : slice_get headings command.table ≡ Some heading
   pub stands : StandsBack command.entries (now command.table)
   pub differs : Differs (now command.table) (stood command now) (named record_name New command.entries) (named record_name Old command.entries)
-  pub lawful : IsLawful heading.width heading.key (stood command now)
+  pub lawful : IsLawful heading.types heading.key (stood command now)
   pub few : HasAtMost most_rows (stood command now)
   pub targets : (reference : Reference) → Contains links reference → reference.from ≡ command.table
       → (other : Heading) → slice_get headings reference.to ≡ Some other

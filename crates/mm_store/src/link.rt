@@ -1,5 +1,5 @@
 //! Foreign keys: a column of one table whose values are keys of another.
-ghost use Rattle.std.specs.Prelude.{◌≡◌, ◌<◌, ◌≤◌, ◌∷◌, List, None, Some, IfOk, OnOk};
+ghost use Rattle.std.specs.Prelude.{◌≡◌, ◌<◌, ◌≤◌, ◌∷◌, List, length, None, Some, IfOk, OnOk};
 ghost use Rattle.mm_foreign_key.specs.Ties.{ChangesTarget, target_at};
 ghost use Rattle.mm_partition.specs.Places.{IsLive, Live, slot_at};
 ghost use Rattle.mm_relation.specs.Refs.{Slots, row_at};
@@ -80,7 +80,7 @@ impl Link {
 
     /// Brings the ties up to changes of the referring table that were made or taken back, by their undo records.
     pub(crate) fn retie(&mut self, from: &Relation, to: &Relation, entries: &[UndoRecord])
-        requires column { self.old.reference.column < from.now.width }
+        requires column { self.old.reference.column < length from.now.places.types }
         requires behind { IsBehind self.old.reference.column to.now.key (slot_at from.now.places) (slot_at to.now.places) entries.now self.old.ties }
         requires room { HasRoom from.now.places to.now.places self.old.ties }
         ensures reference { self.new.reference ≡ self.old.reference }
@@ -94,7 +94,7 @@ impl Link {
 
     /// Brings the ties up to one change.
     fn retie_row(&mut self, from: &Relation, to: &Relation, entry: &UndoRecord)
-        requires column { self.old.reference.column < from.now.width }
+        requires column { self.old.reference.column < length from.now.places.types }
         requires behind { (rest : List Change)
             × IsBehind self.old.reference.column to.now.key (slot_at from.now.places) (slot_at to.now.places) (entry.now ∷ rest) self.old.ties }
         requires room { HasRoom from.now.places to.now.places self.old.ties }
@@ -113,7 +113,7 @@ impl Link {
 
     /// Brings the tie of a row up that has come or gone. Its tie tells which: a row that has come is tied to none.
     fn retie_switched(&mut self, from: &Relation, to: &Relation, at: RowRef)
-        requires column { self.old.reference.column < from.now.width }
+        requires column { self.old.reference.column < length from.now.places.types }
         requires switches { (was : Slots) × Switches was (slot_at from.now.places) at
             × IsTied self.old.reference.column to.now.key (slot_at to.now.places) (was at) (target_at self.old.ties at) }
         requires target { (row : List Val) → slot_at from.now.places at ≡ Live row
@@ -132,7 +132,7 @@ impl Link {
 
     /// Brings the tie of a row up that was another one. It stays where both have the same value in the column.
     fn retie_changed(&mut self, from: &Relation, to: &Relation, at: RowRef, other: &Row)
-        requires column { self.old.reference.column < from.now.width }
+        requires column { self.old.reference.column < length from.now.places.types }
         requires live { IsLive from.now.places at }
         requires tied { IsTied self.old.reference.column to.now.key (slot_at to.now.places) (Live other.now) (target_at self.old.ties at) }
         requires target { (row : List Val) → slot_at from.now.places at ≡ Live row
@@ -152,7 +152,7 @@ impl Link {
 
     /// Ties a row that is tied to none to the row that it refers to.
     fn tie(&mut self, from: &Relation, to: &Relation, at: RowRef)
-        requires column { self.old.reference.column < from.now.width }
+        requires column { self.old.reference.column < length from.now.places.types }
         requires live { IsLive from.now.places at }
         requires target { HasTargetRow self.old.reference.column to.now.key (slot_at to.now.places) (row_at (slot_at from.now.places) at) }
         requires room { HasRoom from.now.places to.now.places self.old.ties }

@@ -27,7 +27,7 @@ use crate::links::{
 use crate::undo::Undo;
 use mm_relation::{Edit, Relation};
 use mm_schema::{IndexKind, MAX_ROWS, Reference};
-use mm_value::{Refusal, RowRef};
+use mm_value::{ColType, Refusal, RowRef};
 use std::alloc::{AllocError, Global};
 use std::marker::Model;
 
@@ -71,27 +71,27 @@ impl Store {
         self.tables.len()
     }
 
-    /// Adds a table of so many columns with no rows, which comes last; the key stands in this column, and these references are
-    /// those of its columns, each to a table that is there. `AllocError` where memory is refused, and then all is as before.
+    /// Adds a table with columns of these types and no rows, which comes last; the key stands in this column, and these references
+    /// are those of its columns, each to a table that is there. `AllocError` where memory is refused, and then all is as before.
     pub fn add_table(
         &mut self,
         alloc: Global,
-        width: usize,
+        types: &[ColType],
         key: usize,
         references: &[Reference],
     ) -> Result<(), AllocError>
-        requires key { key < width }
-        requires references { All (IsFrom (length self.old.tables) width) references.now }
+        requires key { key < length types.now }
+        requires references { All (IsFrom (length self.old.tables) (length types.now)) references.now }
         ensures ok { OnOk result ((new : StoredRows) × (self.new.tables ≡ self.old.tables ++ new ∷ [])
-            × (rows_of new ≡ []) × (new.width ≡ width) × (new.key ≡ key) × (new.indexes ≡ [])) }
+            × (rows_of new ≡ []) × (new.places.types ≡ types.now) × (new.key ≡ key) × (new.indexes ≡ [])) }
         ensures links { OnOk result (self.new.links ≡ self.old.links ++ references.now) }
         ensures err { OnErr result (self.new ≡ self.old) }
     {
         let mut links = new_links(alloc, self.tables.as_slice(), references)?;
+        let relation = Relation::new(alloc, types, key)?;
+        is_kept(&relation);
         self.tables.reserve(1)?;
         self.links.append(&mut links)?;
-        let relation = Relation::new(alloc, width, key);
-        is_kept(&relation);
         self.tables.push_reserved(relation);
         Ok(())
     }
@@ -209,7 +209,7 @@ impl Store {
         undo: &Undo,
     ) -> Result<(), AllocError>
         requires there { table < length self.old.tables }
-        requires column { (stored : StoredRows) → IsAt self.old table stored → column < stored.width }
+        requires column { (stored : StoredRows) → IsAt self.old table stored → column < length stored.places.types }
         requires fits { CanUndo self.old undo.now }
         ensures ok { OnOk result ((stored : StoredRows) → IsAt self.old table stored
             → (new : StoredRows) × Turns self.old table new self.new × (new ≡ record stored { indexes = new.indexes })
@@ -241,10 +241,10 @@ impl Store {
     }
 }
 
-/// What always holds of a relation: its indexes are those of its rows, and its rows have values that a program can have. The call does
-/// nothing.
+/// What always holds of a relation: its rows have the types of its columns and values that a program can have, and its indexes are those
+/// of its rows. The call does nothing.
 fn is_kept(relation: &Relation)
-    ensures kept { IsKept relation.now.width relation.now.key (slot_at relation.now.places) relation.now.refs relation.now.indexes }
+    ensures kept { IsKept relation.now.places.types relation.now.key (slot_at relation.now.places) relation.now.refs relation.now.indexes }
     ensures storable { AreRowsStorable relation.now.places }
 {
     relation.is_kept();

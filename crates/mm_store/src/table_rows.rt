@@ -95,7 +95,7 @@ impl<'a> View<'a> {
     ) -> Result<TableRows<'a>, AllocError>
         requires there { table < length self.now.store.tables }
         requires index { (stored : Stored) → IsAt self.now.store table stored → HasIndex stored.indexes place column kind }
-        requires column { (stored : Stored) → IsAt self.now.store table stored → column < stored.width }
+        requires column { (stored : Stored) → IsAt self.now.store table stored → column < length stored.places.types }
         ensures { IfOk result (λ rows. (stored : Stored) → IsAt self.now.store table stored → rows ≡ rows_in_order column stored) }
     {
         let relation = self.relation(table);

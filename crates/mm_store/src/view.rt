@@ -1,11 +1,12 @@
 //! What a query sees of a store.
-ghost use Rattle.std.specs.Prelude.{◌≡◌, ℕ, ◌+◌, ◌<◌, ◌≤◌, ◌↔◌, [], length, min, All, IfSome, IsTrue, OnOk, OnErr, Contains, Some, slice_get};
+ghost use Rattle.std.specs.Prelude.{◌≡◌, ℕ, ◌+◌, ◌<◌, ◌≤◌, ◌↔◌, [], length, min, filter, All, IfOk, IfSome, IsOk, IsTrue, OnOk, OnErr, Contains, Some, slice_get};
 ghost use Rattle.std.specs.List.{cons_option};
 ghost use Rattle.std.specs.Option.{option_map};
-ghost use Rattle.mm_partition.specs.Places.{IsLive, Live, slot_at};
+ghost use Rattle.mm_partition.specs.Places.{AreReferencesSmall, IsLive, Live, slot_at};
+ghost use Rattle.mm_partition.specs.Types.{HasTypes};
 ghost use Rattle.mm_partition.specs.Views.{viewed};
 ghost use Rattle.mm_relation.specs.Kept.{StoredRows};
-ghost use Rattle.mm_relation.specs.Reads.{Appends, AreMatches, IsRange, IsWalk};
+ghost use Rattle.mm_relation.specs.Reads.{Appends, AreMatches, HasIndex, IsRange, IsWalk, has_value};
 ghost use Rattle.mm_relation.specs.Refs.{row_at};
 ghost use Rattle.mm_relation.specs.RowLists.{rows_of};
 ghost use Rattle.mm_store.specs.Joined.{IsTable};
@@ -15,14 +16,15 @@ ghost use Rattle.mm_store.specs.Tables.{IsAt};
 ghost use Rattle.mm_value.specs.Prefix.{order_prefix};
 ghost use Rattle.mm_value.specs.Views.{value_of};
 ghost use Rattle.mm_schema.specs.Rows.{most_rows};
+ghost use Rattle.mm_schema.specs.declared.index.IndexKind.TheVariants as kind;
 
 use crate::index_ref::{
     IndexRef, append_matches, append_range, first_hash, first_index, first_tree, tree_walk,
 };
 use crate::store::Store;
 use mm_partition::RowView;
-use mm_relation::Relation;
-use mm_value::{RowRef, ValueRef};
+use mm_relation::{FoundRefs, Relation};
+use mm_value::{ColType, RowRef, ValueRef};
 use std::alloc::{AllocError, Global};
 use std::marker::Model;
 use ttree::Iter;
@@ -75,13 +77,22 @@ impl<'a> View<'a> {
         self.store.table(table)
     }
 
-    /// The row of a live reference of a table, where it stands. It has a value for each column. This adds 1 to the count of reads,
-    /// up to `u64::MAX`.
+    /// Each reference that gives a row of a table is to one of the 64 slots of a partition, and the slot's index is below
+    /// 2^32 - 1. The call does nothing.
+    pub fn are_references_small(&self, table: usize)
+        requires { table < length self.now.store.tables }
+        ensures { (stored : StoredRows) → IsAt self.now.store table stored → AreReferencesSmall stored.places }
+    {
+        self.relation(table).are_references_small();
+    }
+
+    /// The row of a live reference of a table, where it stands. It has the types of the table's columns. This adds 1 to the count
+    /// of reads, up to `u64::MAX`.
     pub fn row(&mut self, table: usize, at: RowRef) -> RowView<'a>
         requires there { table < length self.old.store.tables }
         requires live { (stored : StoredRows) → IsAt self.old.store table stored → IsLive stored.places at }
         ensures row { (stored : StoredRows) → IsAt self.old.store table stored → slot_at stored.places at ≡ Live (viewed result) }
-        ensures wide { (stored : StoredRows) → IsAt self.old.store table stored → length (viewed result) ≡ stored.width }
+        ensures typed { (stored : StoredRows) → IsAt self.old.store table stored → HasTypes stored.places.types (viewed result) }
         ensures counted { self.new.reads ≡ min (self.old.reads + 1) u64.MAX }
         ensures same { self.new.store ≡ self.old.store }
     {
@@ -114,9 +125,18 @@ impl<'a> View<'a> {
     pub fn key_of(&self, table: usize) -> usize
         requires { table < length self.now.store.tables }
         ensures key { (stored : StoredRows) → IsAt self.now.store table stored → result ≡ stored.key }
-        ensures within { (stored : StoredRows) → IsAt self.now.store table stored → result < stored.width }
+        ensures within { (stored : StoredRows) → IsAt self.now.store table stored → result < length stored.places.types }
     {
         self.relation(table).key()
+    }
+
+    /// The type of a column of a table.
+    pub fn column_type(&self, table: usize, column: usize) -> ColType
+        requires there { table < length self.now.store.tables }
+        requires within { (stored : StoredRows) → IsAt self.now.store table stored → column < length stored.places.types }
+        ensures { (stored : StoredRows) → IsAt self.now.store table stored → slice_get stored.places.types column ≡ Some result }
+    {
+        self.relation(table).column_type(column)
     }
 
     /// The index in which values of a column of a table are looked up: of those on the column the one that was created first,
@@ -175,6 +195,30 @@ impl<'a> View<'a> {
         ensures err { OnErr result (out.new.items ≡ out.old.items) }
     {
         append_matches(alloc, self.relation(table), index, value, out)
+    }
+
+    /// The references of the rows of a table that have this value in the column of the HASH index at a place, counted from 0, each
+    /// once and in no promised order. No row is counted. Up to four take no memory. `AllocError` where memory is refused.
+    pub fn find_by_hash(
+        &self,
+        alloc: Global,
+        table: usize,
+        index: usize,
+        value: ValueRef<'_>,
+    ) -> Result<FoundRefs, AllocError>
+        requires there { table < length self.now.store.tables }
+        requires index { (stored : StoredRows) → IsAt self.now.store table stored
+            → (column : ℕ) × HasIndex stored.indexes index column kind.Hash }
+        ensures found { IfOk result (λ found. (stored : StoredRows) (column : ℕ) → IsAt self.now.store table stored
+            → HasIndex stored.indexes index column kind.Hash
+            → AreMatches column (slot_at stored.places) (value_of value.entry) stored.refs found.items) }
+        ensures live { IfOk result (λ found. (stored : StoredRows) → IsAt self.now.store table stored
+            → All (IsLive stored.places) found.items) }
+        ensures few { (stored : StoredRows) (column : ℕ) → IsAt self.now.store table stored
+            → HasIndex stored.indexes index column kind.Hash
+            → length (filter (has_value column (slot_at stored.places) (value_of value.entry)) stored.refs) ≤ 4 → IsOk result }
+    {
+        self.relation(table).find_by_hash(alloc, index, value)
     }
 
     /// Appends the references of the rows of a table whose values in the column of a tree of it are between two ends, these

@@ -2,13 +2,11 @@
 ghost use Rattle.std.specs.Prelude.{◌≡◌, ◌+◌, ◌++◌, ◌∷◌, ◌<◌, [], Some, length, map, slice_get, OnErr, OnOk};
 
 use mm_query::FieldPlace;
+use mm_relation::FoundRefs;
 use mm_value::RowRef;
 use smallvec::SmallVec;
 use std::alloc::{AllocError, Global};
 use std::marker::Model;
-
-/// References to rows that were found. Up to four lie in the value itself and take no block of memory.
-pub type FoundRefs = SmallVec<RowRef, 4>;
 
 /// What a temporary list refers to, and which fields its result has.
 #[derive(Clone, Copy)]

@@ -75,7 +75,7 @@ is_cascaded_by_at store column change target at row = λ i.
 pub scan_goes : (store : Tables) (table column : ℕ) (change : PlacedEdits) → IsCascade store table column change → (row : Row) (found : RowRef)
     → (target : StoredRows) × (to : ℕ) × Contains store.links (record { from = table; column = column; to = to }) × IsAt store to target
     × RefersTo column target.key (slot_at target.places) row found
-    → ((target : StoredRows) → IsAt store change.0 target → IsKept target.width target.key (slot_at target.places) target.refs target.indexes)
+    → ((target : StoredRows) → IsAt store change.0 target → IsKept target.places.types target.key (slot_at target.places) target.refs target.indexes)
     → list_any (takes found) change.1 ≡ is_cascaded_by store.tables column change row
 scan_goes store table column change is row found (target, to, link, at, refers_to) kept =
     let own : IsAt store change.0 target = subst (λ n. IsAt store n target) (is.link.1 to link) at in

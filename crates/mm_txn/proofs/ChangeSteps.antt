@@ -1,12 +1,13 @@
 -- A change of rows as a step of the machine, by the edits of its table.
-use Rattle.std.proofs.Common.{◌≡◌, ℕ, ◌<◌, ◌==◌, ◌&&◌, ◌||◌, Bool, true, false, cond, not, Result, Err, List, [], ◌∷◌, ◌++◌, Option, Some, None, filter, find}
-use Rattle.std.proofs.Common.{map, inl, inr, zero, suc, length, get_or, slice_get, refl, sym, ap, subst, ◌∙◌, ⊎_elim, arith}
+use Rattle.std.proofs.Common.{◌≡◌, ℕ, ◌<◌, ◌==◌, ◌&&◌, ◌||◌, Bool, cond, Result, Err, List, [], ◌∷◌, ◌++◌, Option, Some, None, filter, find}
+use Rattle.std.proofs.Common.{map, inl, inr, length, slice_get, refl, sym, ap, subst, ◌∙◌, ⊎_elim, arith}
 use Rattle.std.specs.List.{All, AllByRecursion, list_any}
 use Rattle.std.specs.Option.{option_map_or, unwrap_or}
-use Rattle.std.proofs.lemmas.Bool.{eq-eqb, eqb-true, or_parts}
+use Rattle.std.proofs.lemmas.Bool.{eq-eqb}
 use Rattle.std.proofs.lemmas.List.{length-map}
 use Rattle.std.proofs.lemmas.List.Elements.{All-head, recursion_from_All}
 use Rattle.mm_partition.specs.Places.{slot_at}
+use Rattle.mm_partition.specs.Types.{HasTypes}
 use Rattle.mm_relation.specs.Changes.{Standing}
 use Rattle.mm_relation.specs.Edits.{new_rows}
 use Rattle.mm_relation.specs.Kept.{StoredRows}
@@ -17,7 +18,8 @@ use Rattle.mm_schema.specs.Instance.{Instance, TableEdits as NamedEdits}
 use Rattle.mm_schema.specs.References.{RefersBack, all_references, lacks_target_row, lose_targets, references_of}
 use Rattle.mm_schema.specs.Refused.{AnswersDue, first_refusal}
 use Rattle.mm_schema.specs.Rows.{Pair, additions, table_rows_conditions}
-use Rattle.mm_schema.specs.Schema.{HasDistinctNames, Schema, columns_named, key_named, lacks_table, table_passes, table_place}
+use Rattle.mm_schema.specs.Schema.{HasDistinctNames, Schema, columns_named, key_named, table_place}
+use Rattle.mm_schema.specs.declared.column.Column.{Column}
 use Rattle.mm_schema.specs.declared.reference.Reference.{Reference}
 use Rattle.mm_schema.specs.declared.table.Table.{Table}
 use Rattle.mm_schema.proofs.Dues.{due_behind, due_in_front}
@@ -26,10 +28,10 @@ use Rattle.mm_schema.proofs.Places.{place_from_some, table_at_place}
 use Rattle.mm_schema.proofs.Duplicates.{Row}
 use Rattle.mm_store.specs.Tables.{AreFit, IsAt, Tables, finds_orphan, has_orphans, key_at, rows_at, rows_with}
 use Rattle.mm_standing.specs.Queries.{RowsByPlace, StandingQuery, change_conditions as list_conditions}
+use Rattle.mm_value.specs.declared.col_type.ColType.{ColType}
 use Rattle.mm_value.specs.declared.refusal.Refusal.{Refusal}
-use Rattle.mm_value.specs.declared.refusal.Refusal.TheVariants.{NoSuchTable, TypeMismatch, WrongNumberOfValues}
 use Rattle.mm_query.specs.Atoms.{range_conditions}
-use Rattle.mm_query.specs.Binding.{AssignmentsWithin, Binds, binding_conditions, has_other_length, has_type_mismatch}
+use Rattle.mm_query.specs.Binding.{AssignmentsWithin, Binds, binding_conditions}
 use Rattle.mm_query.specs.Edits.{also, changed_table, edits, is_cascaded, new_values, own_edits, own_pairs, removals_of, value_conditions, with_cascades}
 use Rattle.mm_query.specs.Machine.{after_change, after_edits, change_conditions, is_referred_to, some_is_referred, some_lacks_target}
 use Rattle.mm_query.specs.Standing.{growth_conditions}
@@ -42,7 +44,7 @@ use Rattle.mm_query.specs.declared.bound_query.FieldPlace.{FieldPlace}
 use Rattle.mm_query.specs.declared.command.Mutation.{Mutation}
 use Rattle.mm_query.specs.declared.command.Mutation.TheVariants as written
 use Rattle.mm_query.proofs.Binds.{bound_pairs, bound_place, delete_pairs, update_pairs}
-use Rattle.mm_query.proofs.Due.{due_behind_values, due_in_front_of_rows, not_lacking, passes_at_place}
+use Rattle.mm_query.proofs.Due.{due_behind_values, due_in_front_of_rows, not_lacking}
 use Rattle.mm_plan.specs.Finding.{meets}
 use Rattle.mm_plan.specs.Kept.{AreOf, instance_of}
 use Rattle.mm_txn.specs.Kept.{state_of, watched_state}
@@ -57,43 +59,11 @@ use Rattle.mm_txn.proofs.Placed.{rows_by_name}
 use Rattle.mm_txn.proofs.SavedRows.{edits_watched, values_watched}
 use Rattle.mm_txn.proofs.ReferenceRows.{AreToOthers, IsToKept, IsToOther, all_there, key_by_name, lacks_are, loses_are, others_at, placed_itself}
 use Rattle.mm_txn.proofs.ReferenceRows.{rows_by_name as rows_at_name, some_place}
-use Rattle.mm_txn.proofs.RowsBeside.{AreOf-formed, IsBeside, as_many_rows, beside}
+use Rattle.mm_txn.proofs.RowsBeside.{AreOf-formed, IsBeside, as_many_rows, beside, types_of}
 use Rattle.mm_txn.proofs.RowsMade.{InTurn, after_edited, in_turn, instance_is, many_after, none_at, none_later, rows_after}
+use Rattle.mm_txn.proofs.TypedEdits.{inserted_typed}
 
 -- ---- what was bound
-
-third_of_none : (a b c : Bool) → cond a (Some NoSuchTable) (cond b (Some TypeMismatch) (cond c (Some WrongNumberOfValues) None)) ≡ None → c ≡ false
-third_of_none true b c e = cc
-third_of_none false true c e = cc
-third_of_none false false true e = cc
-third_of_none false false false e = refl
-
-none_passes : (p : Row → Bool) (rows : List Row) (k : ℕ) (d : Row) → k < length rows → list_any p rows ≡ false → p (get_or rows k d) ≡ false
-none_passes p [] k d within none = absurd (omega arith)
-none_passes p (r ∷ rs) zero d within none = (or_parts (p r) (list_any p rs) none).0
-none_passes p (r ∷ rs) (suc k) d within none = none_passes p rs k d (omega arith) (or_parts (p r) (list_any p rs) none).1
-
-same_length : (n m : ℕ) → not (n == m) ≡ false → n ≡ m
-same_length n m e = eqb-true n m (not_false (n == m) e)
-  where
-    not_false : (b : Bool) → not b ≡ false → b ≡ true
-    not_false true e = refl
-    not_false false e = cc
-
--- The tuples of an INSERT have as many values as the table has columns.
-widths : (schema : Schema) (mutation : Mutation) (place : ℕ) (rows : List Row) → Binds schema mutation (bound.Insert place rows)
-    → first_refusal (binding_conditions mutation schema) ≡ None → (table : Table) → slice_get schema.tables place ≡ Some table
-    → All (λ row. length row ≡ length table.definition.columns) rows
-widths schema (written.Insert name tuples) place rows binds none table there =
-    let passes = passes_at_place name schema place table binds.0 there (λ t. list_any (has_other_length t.definition.columns) tuples) in
-    let fits : list_any (has_other_length table.definition.columns) tuples ≡ false =
-    sym passes ∙ third_of_none (lacks_table name schema) (table_passes (λ t. list_any (has_type_mismatch t.definition.columns) tuples) name schema)
-    (table_passes (λ t. list_any (has_other_length t.definition.columns) tuples) name schema) none in
-    subst (All (λ row. length row ≡ length table.definition.columns)) (sym binds.1)
-    (λ k d within. same_length (length (get_or tuples k d)) (length table.definition.columns)
-    (none_passes (has_other_length table.definition.columns) tuples k d within fits))
-widths schema (written.Update name assignments tests) place rows binds none table there = absurd binds
-widths schema (written.Delete name tests) place rows binds none table there = absurd binds
 
 -- UPDATE computes the values of its new rows.
 pub update_values : (schema : Schema) (mutation : Mutation) (place : ℕ) (assignments : List (Assignment ℕ)) (tests : List (Atom FieldPlace)) (state : State)
@@ -126,8 +96,8 @@ module _ (schema : Schema) (rs : List StoredRows) (are : AreOf schema.tables rs)
         let at = beside schema.tables rs place stored are there in
         record {
           standing = standing (slot_at stored.places);
-          wide = subst (All (λ row. length row ≡ stored.width)) (sym brings)
-              (subst (λ (n : ℕ). All (λ row. length row ≡ n) rows) (sym at.is_of.width) (widths schema mutation place rows binds none at.table at.there));
+          typed = subst (All (HasTypes stored.places.types)) (sym brings)
+              (subst (λ types. All (HasTypes types) rows) (sym at.is_of.types) (inserted_typed schema mutation place rows binds none at.table at.there));
         };
     pairs = λ stored there. pairs (slot_at stored.places) ∙ sym (bound_pairs schema mutation place rows (state_of schema rs) binds);
   }
@@ -137,20 +107,26 @@ module _ (schema : Schema) (rs : List StoredRows) (are : AreOf schema.tables rs)
     place_within_rows = rows_there schema rs are (changed_table mutation) place placed
 
     module _ (stored : StoredRows) (there : slice_get rs place ≡ Some stored) where
-      -- The relation there has a column for each of the table's.
-      pub width_is : length (columns_named (changed_table mutation) schema) ≡ stored.width
-      width_is =
+      -- The relation there has the types of the table's columns.
+      pub types_are : types_of (columns_named (changed_table mutation) schema) ≡ stored.places.types
+      types_are =
           let at = beside schema.tables rs place stored are there in
-          ap (λ t. length (option_map_or (λ (u : Table). u.definition.columns) t [])) (table_at_place (changed_table mutation) schema place placed ∙ at.there)
-          ∙ sym at.is_of.width
+          ap (λ t. types_of (option_map_or (λ (u : Table). u.definition.columns) t []))
+          (table_at_place (changed_table mutation) schema place placed ∙ at.there)
+          ∙ sym at.is_of.types
+
+      pub width_is : length (columns_named (changed_table mutation) schema) ≡ length stored.places.types
+      width_is =
+          sym (length-map (columns_named (changed_table mutation) schema) (λ (c : Column). c.col_type))
+          ∙ ap (λ (types : List ColType). length types) types_are
 
       -- Edits that turn its rows by pairs are those of a change that has the pairs.
       pub stored_edits : (edits : List Edit) (pairs : List Pair) → edit_pairs (slot_at stored.places) edits ≡ pairs
           → own_pairs mutation (state_of schema rs) ≡ pairs → Standing (slot_at stored.places) edits
-          → All (λ row. length row ≡ stored.width) (new_rows edits) → AreOwnEditsOf mutation schema rs place edits
-      stored_edits edits pairs are_pairs owns standing wide = record {
+          → All (HasTypes stored.places.types) (new_rows edits) → AreOwnEditsOf mutation schema rs place edits
+      stored_edits edits pairs are_pairs owns standing typed = record {
         placed = placed;
-        fit = λ other at. subst (λ (s : StoredRows). AreFit s edits) (one_there rs place stored other there at) (record { standing = standing; wide = wide });
+        fit = λ other at. subst (λ (s : StoredRows). AreFit s edits) (one_there rs place stored other there at) (record { standing = standing; typed = typed });
         pairs = λ other at. subst (λ (s : StoredRows). edit_pairs (slot_at s.places) edits ≡ own_pairs mutation (state_of schema rs))
             (one_there rs place stored other there at) (are_pairs ∙ sym owns);
       }

@@ -14,15 +14,15 @@ use Rattle.mm_query.specs.declared.command.Definition.TheVariants as define
 use Rattle.mm_query.proofs.Due.{key_at_place}
 use Rattle.mm_plan.specs.Kept.{AreIndexes, AreOf, instance_of}
 use Rattle.mm_txn.specs.Kept.{state_of}
-use Rattle.mm_txn.proofs.RowsBeside.{AreOf-push, as_many_rows, beside, dropped_at_place, rows_at_place}
+use Rattle.mm_txn.proofs.RowsBeside.{AreOf-push, as_many_rows, beside, dropped_at_place, rows_at_place, types_of}
 
 module _ (schema : Schema) (rs : List StoredRows) (are : AreOf schema.tables rs) where
   -- The rows of a new table are those beside it.
-  pub rows_added : (definition : TableDef) (stored : StoredRows) → stored.key ≡ key_place definition.columns → stored.width ≡ length definition.columns
-      → stored.indexes ≡ [] → AreOf (with_table definition schema).tables (rs ++ stored ∷ [])
-  rows_added definition stored key width none =
+  pub rows_added : (definition : TableDef) (stored : StoredRows) → stored.key ≡ key_place definition.columns
+      → stored.places.types ≡ types_of definition.columns → stored.indexes ≡ [] → AreOf (with_table definition schema).tables (rs ++ stored ∷ [])
+  rows_added definition stored key types none =
       AreOf-push schema.tables rs (record { definition = definition; indexes = [] }) stored
-      (record { key = key; width = width; indexes = subst (AreIndexes definition.columns []) (sym none) tt }) are
+      (record { key = key; types = types; indexes = subst (AreIndexes definition.columns []) (sym none) tt }) are
 
   module _ (name : List ℕ) (place : ℕ) (placed : table_place name schema ≡ Some place) where
     -- There are rows at the place of a name.

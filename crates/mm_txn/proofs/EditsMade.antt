@@ -1,11 +1,12 @@
 -- What the edits of an INSERT, an UPDATE and a DELETE name and bring.
-use Rattle.std.proofs.Common.{◌≡◌, ◌≢◌, ℕ, ◌+◌, Bool, List, [], ◌∷◌, Some, None, length, map, refl, sym, ap, ◌∙◌, subst, arith}
+use Rattle.std.proofs.Common.{◌≡◌, ◌≢◌, ℕ, Bool, List, [], ◌∷◌, Some, None, map, refl, sym, ap, ◌∙◌, subst, arith}
 use Rattle.std.specs.List.{All, AllPairs, filter}
-use Rattle.std.proofs.lemmas.List.Elements.{All-map, All-nil, All-weaker}
+use Rattle.std.proofs.lemmas.List.Elements.{All-nil}
 use Rattle.mm_value.specs.declared.row_ref.RowRef.{RowRef}
 use Rattle.mm_value.specs.declared.values.Value.{Value}
 use Rattle.mm_partition.specs.Places.{slot_at}
-use Rattle.mm_query.specs.Atoms.{updated_from, updated_row}
+use Rattle.mm_partition.specs.Types.{HasTypes}
+use Rattle.mm_query.specs.Atoms.{updated_row}
 use Rattle.mm_query.specs.Edits.{removals_of}
 use Rattle.mm_query.specs.declared.atom.Assignment.{Assignment}
 use Rattle.mm_schema.specs.Rows.{Pair, additions}
@@ -20,7 +21,7 @@ use Rattle.mm_relation.specs.declared.indexes.names.Side.TheVariants.{Old}
 use Rattle.mm_select.proofs.Fits.{filter-map}
 use Rattle.mm_store.specs.Tables.{AreFit}
 use Rattle.mm_txn.specs.RowEdits.{swap_of, updates_of}
-use Rattle.mm_txn.proofs.RowsPassing.{passing_apart, passing_live, passing_wide}
+use Rattle.mm_txn.proofs.RowsPassing.{passing_apart, passing_live}
 
 -- edits of references that are live and apart stand
 Standing-of : (now : Slots) (edits : List Edit) (refs : List RowRef) → named edit_name Old edits ≡ refs → All (HasRow now) refs
@@ -62,17 +63,6 @@ olds-swapped : (now : Slots) (assignments : List (Assignment ℕ)) (refs : List 
 olds-swapped now assignments [] = refl
 olds-swapped now assignments (x ∷ xs) = ap (λ others. x ∷ others) (olds-swapped now assignments xs)
 
-new_rows-swapped : (now : Slots) (assignments : List (Assignment ℕ)) (refs : List RowRef)
-    → new_rows (map (swap_of now assignments) refs) ≡ map (updated_at now assignments) refs
-new_rows-swapped now assignments [] = refl
-new_rows-swapped now assignments (x ∷ xs) = ap (λ others. updated_at now assignments x ∷ others) (new_rows-swapped now assignments xs)
-
--- an updated row is as long as the old one
-length-updated_from : (assignments : List (Assignment ℕ)) (row : List Value) (column : ℕ) (olds : List Value)
-    → length (updated_from assignments row column olds) ≡ length olds
-length-updated_from assignments row column [] = refl
-length-updated_from assignments row column (old ∷ olds) = omega (arith, length-updated_from assignments row (column + 1) olds)
-
 -- ---- DELETE
 
 edit_pairs-gone : (now : Slots) (refs : List RowRef) → edit_pairs now (map Gone refs) ≡ removals_of (map (row_at now) refs)
@@ -89,28 +79,21 @@ new_rows-gone (x ∷ xs) = new_rows-gone xs
 
 -- ---- the edits of rows that pass a test
 
-module _ (stored : StoredRows) (kept : IsKept stored.width stored.key (slot_at stored.places) stored.refs stored.indexes) (p : RowRef → Bool) where
+module _ (stored : StoredRows) (kept : IsKept stored.places.types stored.key (slot_at stored.places) stored.refs stored.indexes) (p : RowRef → Bool) where
   abbrev passing : List RowRef
   passing = filter p stored.refs
 
   pub fit-gone : AreFit stored (map Gone passing)
   fit-gone = record {
     standing = Standing-of (slot_at stored.places) (map Gone passing) passing (olds-gone passing) (passing_live stored kept p) (passing_apart stored kept p);
-    wide = subst (All (λ (row : List Value). length row ≡ stored.width)) (sym (new_rows-gone passing))
-        (All-nil (λ (row : List Value). length row ≡ stored.width));
+    typed = subst (All (HasTypes stored.places.types)) (sym (new_rows-gone passing)) (All-nil (HasTypes stored.places.types));
   }
 
-  pub fit-swapped : (assignments : List (Assignment ℕ)) → AreFit stored (map (swap_of (slot_at stored.places) assignments) passing)
-  fit-swapped assignments =
+  pub Standing-swapped : (assignments : List (Assignment ℕ)) → Standing (slot_at stored.places) (map (swap_of (slot_at stored.places) assignments) passing)
+  Standing-swapped assignments =
       let now : Slots = slot_at stored.places in
-      record {
-        standing = Standing-of now (map (swap_of now assignments) passing) passing (olds-swapped now assignments passing)
-            (passing_live stored kept p) (passing_apart stored kept p);
-        wide = subst (All (λ (row : List Value). length row ≡ stored.width)) (sym (new_rows-swapped now assignments passing))
-            (All-map (λ (row : List Value). length row ≡ stored.width) (updated_at now assignments) passing
-            (All-weaker (λ at. length (row_at now at) ≡ stored.width) (λ at. length (updated_at now assignments at) ≡ stored.width)
-            (λ at wide. length-updated_from assignments (row_at now at) 0 (row_at now at) ∙ wide) passing (passing_wide stored kept p)));
-      }
+      Standing-of now (map (swap_of now assignments) passing) passing (olds-swapped now assignments passing) (passing_live stored kept p)
+      (passing_apart stored kept p)
 
 -- ---- the pairs of the rows that pass a test
 

@@ -39,7 +39,7 @@ use Rattle.mm_plan.specs.Kept.{AreIndexes, AreOf, IsIndex, IsOf, instance_of}
 use Rattle.mm_txn.specs.Kept.{state_of}
 use Rattle.mm_txn.proofs.DatabaseSteps.{key_is, place_found, rows_of_name, rows_there, some_there}
 use Rattle.mm_txn.proofs.IndexesBeside.{AreOf-with_index, AreOf-without_index}
-use Rattle.mm_txn.proofs.RowsBeside.{as_many_rows, beside, instance_of-set}
+use Rattle.mm_txn.proofs.RowsBeside.{as_many_rows, beside, instance_of-set, many_columns}
 
 -- what a look-up by a name that lies elsewhere finds
 pub column_found : {at name : List ℕ} {found wanted : Option ℕ} (columns : List Column) → at ≡ name → found ≡ column_place at columns → found ≡ wanted
@@ -211,12 +211,12 @@ module _ (schema : Schema) (rs : List StoredRows) (are : AreOf schema.tables rs)
     one_table : (a b : Table) → Some a ≡ Some b → a ≡ b
     one_table a b same = cc
 
-    pub column_within : (stored : StoredRows) → slice_get rs place ≡ Some stored → column < stored.width
+    pub column_within : (stored : StoredRows) → slice_get rs place ≡ Some stored → column < length stored.places.types
     column_within stored there =
         let b = beside schema.tables rs place stored are there in
         let same : b.table ≡ table = one_table b.table table (sym b.there ∙ at) in
         let within : column < length table.definition.columns = within_from_some _ table.definition.columns column found in
-        omega (arith, within, b.is_of.width, ap (λ (t : Table). length t.definition.columns) same)
+        omega (arith, within, many_columns b.table stored b.is_of, ap (λ (t : Table). length t.definition.columns) same)
 
     -- An index that comes and goes leaves the catalog as it was.
     pub taken_back : {T : Type 0} (name : List ℕ) (mid after : Schema) (result : Result T Refusal) → name ≡ index.name → mid ≡ with_index index schema
@@ -362,10 +362,10 @@ module _ (schema : Schema) (rs : List StoredRows) (are : AreOf schema.tables rs)
 
       module _ (i : ℕ) (found : position (λ e. same_name name e.name) table.indexes ≡ Some i) (column : ℕ)
           (placed_column : column_place d.column table.definition.columns ≡ Some column) (stored : StoredRows) (there : slice_get rs place ≡ Some stored) where
-        pub along_within : column < stored.width
+        pub along_within : column < length stored.places.types
         along_within =
             let below : column < length table.definition.columns = within_from_some _ table.definition.columns column placed_column in
-            omega (arith, below, (is_of stored there).width)
+            omega (arith, below, many_columns table stored (is_of stored there))
 
         pub has_index : HasIndex stored.indexes i column d.kind
         has_index =

@@ -30,7 +30,7 @@ module _ (index : IndexDef) (stored new : StoredRows) (x : Index) (is_new : new 
   IsOf-with_index : (t : Table) → IsIndex t.definition.columns index x → IsOf t stored → IsOf (record t { indexes = t.indexes ++ index ∷ [] }) new
   IsOf-with_index t is is_of = record {
     key = ap (λ (s : StoredRows). s.key) is_new ∙ is_of.key;
-    width = ap (λ (s : StoredRows). s.width) is_new ∙ is_of.width;
+    types = ap (λ (s : StoredRows). s.places.types) is_new ∙ is_of.types;
     indexes = subst (AreIndexes t.definition.columns (t.indexes ++ index ∷ [])) (sym pushed)
         (AreIndexes-push t.definition.columns t.indexes stored.indexes index x is is_of.indexes);
   }
@@ -112,7 +112,7 @@ module _ (name : List ℕ) where
         let is_of : IsOf t stored = subst (IsOf t) same are.0 in (
           record {
             key = is_of.key;
-            width = is_of.width;
+            types = is_of.types;
             indexes = subst (λ k. AreIndexes t.definition.columns (filter (λ d. not (same_name name d.name)) t.indexes) (remove stored.indexes k))
                 (sym (place t refl))
                 (AreIndexes-remove t.definition.columns t.indexes stored.indexes is_of.indexes (in_front t.indexes (indexes_of ts) none));

@@ -83,7 +83,7 @@ after_is store changes =
 fit_none : (stored : StoredRows) → AreFit stored []
 fit_none stored = record {
   standing = record { live = λ k d within. absurd (omega (arith, within)); apart = λ i j d below within. absurd (omega (arith, within)) };
-  wide = λ k d within. absurd (omega (arith, within));
+  typed = λ k d within. absurd (omega (arith, within));
 }
 
 fit_found : (store : Tables) (changes : List PlacedEdits) → All (FitsAt store) changes → (place : ℕ) (stored : StoredRows) → IsAt store place stored
@@ -153,7 +153,7 @@ rows_formed old new same form = record {
         record {
           rows_are = sym (ap (λ (f : Option StoredRows). option_map_or rows_of f []) at)
               ∙ (rows_at_place new.tables place ∙ ap (λ (rows : Instance). rows_by_place rows place) same);
-          width = turned.width;
+          types = turned.types;
           key = turned.key;
           indexes = turned.indexes;
         },
@@ -168,7 +168,7 @@ have_formed rows old new have = record {
       let stored : StoredRows = get_or old.tables place d in
       let found = have.each place stored (slice_get-get_or old.tables place d within) in
       subst (SameForm stored) (sym (get_or_from_slice_get new.tables place found.0 d found.1))
-      (record { width = found.2.width; key = found.2.key; indexes = found.2.indexes });
+      (record { types = found.2.types; key = found.2.key; indexes = found.2.indexes });
 }
 
 -- All relations have the rows that they have, ..

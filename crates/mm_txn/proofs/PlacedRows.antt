@@ -94,7 +94,7 @@ IsPartly-none old = record {
       there,
       record {
         rows_are = sym (ap (λ (f : Option StoredRows). option_map_or (λ (s : StoredRows). rows_with s []) f []) there);
-        width = refl;
+        types = refl;
         key = refl;
         indexes = record { size = refl; each = λ k d below. (refl, refl) };
       },

@@ -178,8 +178,8 @@ passing_added stored rows test old new is = record {
     q : RowRef → Bool
     q at = test (row_at (slot_at stored.places) at)
 
-module _ (column : ℕ) (target : StoredRows) (kept : IsKept target.width target.key (slot_at target.places) target.refs target.indexes) (row : Row) (to : RowRef)
-    (refers_to : RefersTo column target.key (slot_at target.places) row to) where
+module _ (column : ℕ) (target : StoredRows) (kept : IsKept target.places.types target.key (slot_at target.places) target.refs target.indexes)
+    (row : Row) (to : RowRef) (refers_to : RefersTo column target.key (slot_at target.places) row to) where
   abbrev then : Slots
   then = slot_at target.places
 

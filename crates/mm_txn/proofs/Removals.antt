@@ -241,7 +241,7 @@ form_turned old new place within rows each =
     let stored = some_at old.tables place within in
     let next = each stored.0 stored.1 in
     forms_turned old new place stored.0 next.0 stored.1 next.1
-    (record { width = next.2.width; key = next.2.key; indexes = next.2.indexes })
+    (record { types = next.2.types; key = next.2.key; indexes = next.2.indexes })
 
 -- ---- logs
 

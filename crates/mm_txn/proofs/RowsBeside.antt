@@ -2,6 +2,7 @@
 use Rattle.std.proofs.Common.{◌≡◌, ℕ, zero, suc, ◌+◌, ◌<◌, Bool, true, false, cond, not, List, [], ◌∷◌, ◌++◌, Some, length, map, slice_get, slice_set, refl}
 use Rattle.std.proofs.Common.{sym, ap, subst, ◌∙◌, arith}
 use Rattle.std.specs.List.{IsDistinct, filter, position_or_len, remove}
+use Rattle.std.proofs.lemmas.List.{length-map}
 use Rattle.std.proofs.lemmas.Map.Keys.{IsDistinct-tail}
 use Rattle.mm_schema.specs.Instance.{rows_named, without_rows}
 use Rattle.mm_schema.specs.Name.{same_name}
@@ -16,6 +17,7 @@ use Rattle.mm_schema.specs.declared.column.Column.{Column}
 use Rattle.mm_schema.specs.declared.index.IndexDef.{IndexDef}
 use Rattle.mm_relation.specs.RowLists.{rows_of}
 use Rattle.mm_store.specs.Tables.{SameForm}
+use Rattle.mm_value.specs.declared.col_type.ColType.{ColType}
 
 -- There are as many rows as tables.
 pub as_many_rows : (ts : List Table) (rs : List StoredRows) → AreOf ts rs → length rs ≡ length ts
@@ -29,6 +31,17 @@ are_beside [] [] are = tt
 are_beside (t ∷ ts) (r ∷ rs) are = are_beside ts rs are.1
 are_beside [] (r ∷ rs) are = absurd are
 are_beside (t ∷ ts) [] are = absurd are
+
+-- ---- columns
+
+-- the types of columns
+abbrev pub types_of : List Column → List ColType
+types_of columns = map (λ (c : Column). c.col_type) columns
+
+-- A relation has as many columns as its table.
+pub many_columns : (t : Table) (stored : StoredRows) → IsOf t stored → length stored.places.types ≡ length t.definition.columns
+many_columns t stored is_of =
+    ap (λ (types : List ColType). length types) is_of.types ∙ length-map t.definition.columns (λ (c : Column). c.col_type)
 
 -- ---- at a place
 
@@ -96,7 +109,7 @@ AreOf-formed (t ∷ ts) (r ∷ rs) (n ∷ ns) formed are =
     in (
       record {
         key = first.key ∙ are.0.key;
-        width = first.width ∙ are.0.width;
+        types = first.types ∙ are.0.types;
         indexes = AreIndexes-turned t.definition.columns t.indexes r.indexes n.indexes first.indexes are.0.indexes;
       },
       AreOf-formed ts rs ns later are.1,

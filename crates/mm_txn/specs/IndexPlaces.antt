@@ -8,5 +8,5 @@ use Rattle.mm_txn.specs.declared.index_place.IndexPlace.{IndexPlace}
 -- The table has the index at its place, on its column.
 pub record IsThere (store : Tables) (place : IndexPlace) : Type 0 where
   pub table : place.table < length store.tables
-  pub column : (stored : StoredRows) → IsAt store place.table stored → place.column < stored.width
+  pub column : (stored : StoredRows) → IsAt store place.table stored → place.column < length stored.places.types
   pub index : (stored : StoredRows) → IsAt store place.table stored → HasIndex stored.indexes place.place place.column place.kind

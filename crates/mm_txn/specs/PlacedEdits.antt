@@ -62,8 +62,8 @@ pub record AreEdits (store : Tables) (changes : List PlacedEdits) : Type 0 where
   pub ascend : AllPairs (λ (a b : PlacedEdits). a.0 < b.0) changes
   pub removals : 1 < length changes → All (λ (c : PlacedEdits). new_rows c.1 ≡ []) changes
 
--- Edits are for the relation of the table that a change names; each names another row of it and brings a row of its width; and the
--- rows that go and come are the pairs of that table.
+-- Edits are for the relation of the table that a change names; each names another row of it and brings a row of the types of
+-- its columns; and the rows that go and come are the pairs of that table.
 pub record AreOwnEditsOf (mutation : Mutation) (schema : Schema) (relations : List StoredRows) (place : ℕ) (edits : List Edit) : Type 0 where
   pub placed : table_place (changed_table mutation) schema ≡ Some place
   pub fit : (stored : StoredRows) → slice_get relations place ≡ Some stored → AreFit stored edits

@@ -1,6 +1,6 @@
 //! Changes of the catalog, and of the relations beside its tables. But for those of indexes they are for a database in which no
 //! transaction is open.
-ghost use Rattle.std.specs.Prelude.{◌≡◌, ℕ, true, false, List, OnOk, OnErr};
+ghost use Rattle.std.specs.Prelude.{◌≡◌, ℕ, true, false, List, IfOk, OnOk, OnErr, map};
 ghost use Rattle.mm_schema.specs.Indexes.{drop_index_conditions, index_conditions};
 ghost use Rattle.mm_schema.specs.Refused.{AnswersDue, first_refusal};
 ghost use Rattle.mm_schema.specs.Schema.{drop_table_conditions, table_conditions};
@@ -16,9 +16,9 @@ ghost use Rattle.mm_txn.specs.Saved.{IsSettled};
 
 use crate::contents::Contents;
 use mm_query::Definition;
-use mm_schema::{Catalog, IndexDef, Name, TableDef};
+use mm_schema::{Catalog, Column, IndexDef, Name, TableDef};
 use mm_store::{Store, Undo};
-use mm_value::Refusal;
+use mm_value::{ColType, Refusal};
 use std::alloc::{AllocError, Global};
 
 /// Whether a change of the catalog concerns an index alone, and so no row.
@@ -95,14 +95,21 @@ fn add_table(
         return Err(refusal);
     }
     let references = catalog.references(alloc, &definition.columns)?;
-    let width = definition.columns.as_slice().len();
+    let types = types_of(alloc, definition.columns.as_slice())?;
     let key = definition.columns.key();
-    store.add_table(alloc, width, key, references.as_slice())?;
+    store.add_table(alloc, types.as_slice(), key, references.as_slice())?;
     if let Err(refusal) = catalog.add_table(definition) {
         store.drop_table(store.len() - 1);
         return Err(refusal);
     }
     Ok(())
+}
+
+/// The types of columns, from left to right. `AllocError` where memory is refused.
+fn types_of(alloc: Global, columns: &[Column]) -> Result<Vec<ColType>, AllocError>
+    ensures { IfOk result (λ types. types.items ≡ map (λ column. column.col_type) columns.now) }
+{
+    columns.iter().map(|column| column.col_type).collect(alloc)
 }
 
 /// Makes an index over the rows that are there, with room for what comes into it when the log is taken back. The refusals are those

@@ -47,12 +47,12 @@ pub(crate) fn updates(
     atoms: &[Atom<FieldPlace>],
 ) -> Result<Vec<Edit>, Refusal>
     requires there { table < length view.old.store.tables }
-    requires assignments { (stored : StoredRows) → IsAt view.old.store table stored → AssignmentsWithin stored.width assignments.now }
+    requires assignments { (stored : StoredRows) → IsAt view.old.store table stored → AssignmentsWithin (length stored.places.types) assignments.now }
     ensures due { (stored : StoredRows) → IsAt view.old.store table stored
         → AnswersDue (first_refusal (range_conditions (new_values (updates_of assignments.now (filter (meets atoms.now) (rows_of stored)))))) result }
     ensures pairs { IfOk result (λ edits. (stored : StoredRows) → IsAt view.old.store table stored
         → edit_pairs (slot_at stored.places) edits.items ≡ updates_of assignments.now (filter (meets atoms.now) (rows_of stored))) }
-    ensures fit { IfOk result (λ edits. (stored : StoredRows) → IsAt view.old.store table stored → AreFit stored edits.items) }
+    ensures standing { IfOk result (λ edits. (stored : StoredRows) → IsAt view.old.store table stored → Standing (slot_at stored.places) edits.items) }
 {
     let found = find_rows(alloc, view, table, atoms)?;
     swaps(alloc, view, table, found.as_slice(), assignments)
@@ -68,7 +68,7 @@ fn swaps(
 ) -> Result<Vec<Edit>, Refusal>
     requires there { table < length view.old.store.tables }
     requires live { (stored : StoredRows) → IsAt view.old.store table stored → All (IsLive stored.places) refs.now }
-    requires assignments { (stored : StoredRows) → IsAt view.old.store table stored → AssignmentsWithin stored.width assignments.now }
+    requires assignments { (stored : StoredRows) → IsAt view.old.store table stored → AssignmentsWithin (length stored.places.types) assignments.now }
     ensures due { (stored : StoredRows) → IsAt view.old.store table stored → AnswersDue (first_refusal (range_conditions
         (flat_map (λ at. updated_row assignments.now (row_at (slot_at stored.places) at)) refs.now))) result }
     ensures made { IfOk result (λ edits. (stored : StoredRows) → IsAt view.old.store table stored

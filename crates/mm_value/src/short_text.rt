@@ -1,5 +1,5 @@
 //! Texts.
-ghost use Rattle.std.specs.Prelude.{◌≡◌, ◌≢◌, ◌⊎◌, ◌<◌, ◌≤◌, ◌↔◌, length, All, Any, IfOk, IfErr, IsErrOf, IsOk};
+ghost use Rattle.std.specs.Prelude.{◌≡◌, ◌≢◌, ◌⊎◌, ◌<◌, ◌≤◌, ◌↔◌, [], length, All, Any, IfOk, IfErr, IsErrOf, IsOk};
 ghost use Rattle.mm_value.specs.Text.{IsText};
 ghost use Rattle.mm_value.specs.declared.refusal.Refusal.TheVariants.{Syntax, TextTooLong, Memory};
 
@@ -48,6 +48,15 @@ impl Text {
         Ok(Text {
             bytes: SmallVec::from_slice(alloc, bytes)?,
         })
+    }
+
+    /// The text of no bytes. It takes no memory.
+    pub fn empty(alloc: Global) -> Text
+        ensures { result ≡ [] }
+    {
+        Text {
+            bytes: SmallVec::new(alloc),
+        }
     }
 
     /// The bytes of the text: at most 64, and no line feed among them.

@@ -64,6 +64,14 @@ impl Row {
         self.values.as_slice()
     }
 
+    /// The values, from left to right, each for the caller to keep.
+    pub fn into_values(self) -> Vec<Value>
+        ensures { result.items ≡ self }
+    {
+        let Row { values } = self;
+        values
+    }
+
     /// A row of the same values. `AllocError` where memory is refused for the list of them or for a text.
     pub fn copy(&self, alloc: Global) -> Result<Row, AllocError>
         ensures ok { IfOk result (λ row. row ≡ self.now) }

@@ -1,8 +1,9 @@
 -- The tables of the tests.
-use Rattle.std.specs.Prelude.{◌≡◌, All, length}
+use Rattle.std.specs.Prelude.{◌≡◌, length}
 use Rattle.mm_store.specs.Tables.{Tables}
+use Rattle.store_tests.specs.SampleStore.{ArePlain}
 
--- The store has two tables of two columns each.
+-- The store has two tables, each of two columns of whole numbers.
 pub record IsSample (store : Tables) : Type 0 where
   pub two : length store.tables ≡ 2
-  pub wide : All (λ stored. stored.width ≡ 2) store.tables
+  pub plain : ArePlain store

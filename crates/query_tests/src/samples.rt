@@ -1,15 +1,20 @@
 //! Stores for tests.
 ghost use Rattle.std.specs.Prelude.{◌≡◌, ◌<◌, [], length, All, IfOk};
+ghost use Rattle.mm_partition.specs.Types.{HasTypes};
 ghost use Rattle.mm_relation.specs.Edits.{edit_name, named, new_rows};
 ghost use Rattle.mm_relation.specs.declared.indexes.names.Side.TheVariants as side;
 ghost use Rattle.query_tests.specs.Sample.{IsSample};
+ghost use Rattle.store_tests.specs.SampleStore.{plain_types};
 
 use crate::pair::pair;
 use mm_relation::Edit;
 use mm_schema::{IndexKind, Reference};
 use mm_store::{Store, Undo};
-use mm_value::Refusal;
+use mm_value::{ColType, Refusal};
 use std::alloc::{AllocError, Global};
+
+/// The types of the two columns of each table.
+const TYPES: &[ColType] = &[ColType::Int, ColType::Int];
 
 /// The values of the second table are keys of the first.
 const VALUE_TO_KEY: Reference = Reference {
@@ -34,8 +39,8 @@ fn try_empty(alloc: Global) -> Result<Store, AllocError>
     ensures { IfOk result (λ store. length store.tables ≡ 2) }
 {
     let mut store = Store::new(alloc);
-    store.add_table(alloc, 2, 0, &[])?;
-    store.add_table(alloc, 2, 0, &[])?;
+    store.add_table(alloc, TYPES, 0, &[])?;
+    store.add_table(alloc, TYPES, 0, &[])?;
     Ok(store)
 }
 
@@ -52,7 +57,7 @@ pub fn empty(alloc: Global) -> Result<Store, AllocError>
 /// The additions of rows of the keys from 1 to `count` with these values.
 fn additions(alloc: Global, count: u32, values: Values) -> Result<Vec<Edit>, AllocError>
     ensures none { IfOk result (λ edits. named edit_name side.Old edits.items ≡ []) }
-    ensures wide { IfOk result (λ edits. All (λ row. length row ≡ 2) (new_rows edits.items)) }
+    ensures typed { IfOk result (λ edits. All (HasTypes plain_types) (new_rows edits.items)) }
 {
     let mut edits = Vec::new(alloc);
     for earlier in 0..count {
@@ -100,8 +105,8 @@ fn try_sample(
     ensures { IfOk result IsSample }
 {
     let mut store = Store::new(alloc);
-    store.add_table(alloc, 2, 0, &[])?;
-    store.add_table(alloc, 2, 0, &[VALUE_TO_KEY])?;
+    store.add_table(alloc, TYPES, 0, &[])?;
+    store.add_table(alloc, TYPES, 0, &[VALUE_TO_KEY])?;
     fill(&mut store, alloc, 0, kind, counts[0], values)?;
     fill(&mut store, alloc, 1, kind, counts[1], values)?;
     Ok(store)

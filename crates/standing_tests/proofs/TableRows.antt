@@ -112,7 +112,7 @@ after_is store change = λ i place. by (change.table == place) (slice_get store.
 fit_none : (stored : StoredRows) → AreFit stored []
 fit_none stored = record {
   standing = record { live = λ k d within. absurd (omega (arith, within)); apart = λ i j d below within. absurd (omega (arith, within)) };
-  wide = λ k d within. absurd (omega (arith, within));
+  typed = λ k d within. absurd (omega (arith, within));
 }
 
 -- Edits that fit their table fit each.

@@ -1,5 +1,7 @@
 //! Queries and rows for tests. Each table has a key and a number.
-ghost use Rattle.std.specs.Prelude.{◌≡◌, length, IfOk};
+ghost use Rattle.std.specs.Prelude.{IfOk};
+ghost use Rattle.mm_partition.specs.Types.{HasTypes};
+ghost use Rattle.store_tests.specs.SampleStore.{plain_types};
 
 use mm_query::{Atom, BoundQuery, Comparison, Few, FieldPlace, FromItem, Operand, ShortList};
 use mm_schema::Name;
@@ -79,7 +81,7 @@ pub fn joined(alloc: Global) -> Result<BoundQuery, Refusal> {
 
 /// The row of a key and a number. `AllocError` where memory is refused.
 pub fn row(alloc: Global, key: i64, number: i64) -> Result<Row, AllocError>
-    ensures { IfOk result (λ row. length row ≡ 2) }
+    ensures { IfOk result (HasTypes plain_types) }
 {
     let values = vec![in alloc; Value::Int(key), Value::Int(number)]?;
     Ok(Row::new(values))

@@ -7,11 +7,12 @@ ghost use Rattle.mm_relation.specs.Edits.{edit_name, named, new_rows};
 ghost use Rattle.mm_relation.specs.Kept.{StoredRows};
 ghost use Rattle.mm_relation.specs.declared.indexes.names.Side.TheVariants as side;
 ghost use Rattle.mm_partition.specs.Places.{IsLive};
+ghost use Rattle.mm_partition.specs.Types.{HasTypes};
 ghost use Rattle.mm_standing.specs.State.{AreServed, FitNow, FitPrepared, count_at, count_now};
 ghost use Rattle.mm_store.specs.Tables.{AreFit, IsAt, rows_at};
 ghost use Rattle.standing_tests.specs.Cases.{IsCase, IsMark, IsWhole, adds_none, is_unshifted, rows_edited};
 ghost use Rattle.mm_value.specs.declared.values.Value.{Value as Val};
-ghost use Rattle.store_tests.specs.SampleStore.{ArePlain};
+ghost use Rattle.store_tests.specs.SampleStore.{ArePlain, plain_types};
 
 use crate::samples::row;
 use mm_delta::{Signed, TableChange, delta};
@@ -20,8 +21,11 @@ use mm_relation::Edit;
 use mm_schema::IndexKind;
 use mm_standing::Standing;
 use mm_store::{IndexRef, Store, Undo};
-use mm_value::{Refusal, RowRef, Value, ValueRef};
+use mm_value::{ColType, Refusal, RowRef, Value, ValueRef};
 use std::alloc::{AllocError, Global};
+
+/// The types of the two columns of each table.
+const TYPES: &[ColType] = &[ColType::Int, ColType::Int];
 
 /// Two tables of two columns with no rows. With `indexed` the numbers of the first have a HASH index.
 pub fn tables(alloc: Global, indexed: bool) -> Result<Store, Refusal>
@@ -29,8 +33,8 @@ pub fn tables(alloc: Global, indexed: bool) -> Result<Store, Refusal>
     ensures plain { IfOk result ArePlain }
 {
     let mut store = Store::new(alloc);
-    store.add_table(alloc, 2, 0, &[])?;
-    store.add_table(alloc, 2, 0, &[])?;
+    store.add_table(alloc, TYPES, 0, &[])?;
+    store.add_table(alloc, TYPES, 0, &[])?;
     if indexed {
         add_index(alloc, &mut store)?;
     }
@@ -52,7 +56,7 @@ fn add_index(alloc: Global, store: &mut Store) -> Result<(), AllocError>
 /// The addition of the row of a key and a number.
 pub fn addition(alloc: Global, key: i64, number: i64) -> Result<Vec<Edit>, AllocError>
     ensures none { IfOk result (λ edits. named edit_name side.Old edits.items ≡ []) }
-    ensures wide { IfOk result (λ edits. All (λ row. length row ≡ 2) (new_rows edits.items)) }
+    ensures typed { IfOk result (λ edits. All (HasTypes plain_types) (new_rows edits.items)) }
 {
     Ok(vec![in alloc; Edit::Add(row(alloc, key, number)?)]?)
 }

@@ -1,11 +1,12 @@
 -- What the tests do to plain tables leaves them plain.
 use Rattle.std.proofs.Common.{◌≡◌, ℕ, ◌<◌, ◌≤◌, ◌⊎◌, inl, inr, List, [], ◌∷◌, Some, None, length, slice_get, get_or, sym, ap, ◌∙◌, subst, arith}
 use Rattle.std.specs.Prelude.{◌≢◌}
-use Rattle.std.specs.List.{All, AllPairs}
+use Rattle.std.specs.List.{AllPairs}
 use Rattle.std.proofs.lemmas.List.{length-set}
 use Rattle.std.proofs.lemmas.List.Elements.{All-cons, All-get_or, All-nil, All-same, All-set}
 use Rattle.std.proofs.lemmas.Option.{get_or_from_slice_get, slice_get_cases, slice_get_within}
 use Rattle.mm_partition.specs.Places.{IsLive, slot_at}
+use Rattle.mm_partition.specs.Types.{HasTypes}
 use Rattle.mm_relation.specs.Edits.{new_rows}
 use Rattle.mm_relation.specs.Index.{EachTurns}
 use Rattle.mm_relation.specs.Kept.{StoredRows}
@@ -14,12 +15,13 @@ use Rattle.mm_relation.specs.Refs.{HasRow}
 use Rattle.mm_relation.specs.declared.edits.Edit.{Edit}
 use Rattle.mm_relation.specs.declared.edits.Edit.TheVariants.{Swap}
 use Rattle.mm_relation.proofs.Changed.{olds}
-use Rattle.store_tests.proofs.SampleEdits.{AreWide}
+use Rattle.store_tests.proofs.SampleEdits.{AreTyped}
 use Rattle.mm_relation.proofs.Turning.{All-turned}
 use Rattle.mm_schema.specs.declared.index.IndexKind.{IndexKind}
+use Rattle.mm_value.specs.declared.col_type.ColType.{ColType}
 use Rattle.mm_value.specs.declared.row_ref.RowRef.{RowRef}
 use Rattle.mm_value.specs.declared.values.Value.{Value}
-use Rattle.store_tests.specs.SampleStore.{ArePlain, IsPlain}
+use Rattle.store_tests.specs.SampleStore.{ArePlain, IsPlain, plain_types}
 use Rattle.mm_store.specs.Tables.{AreFit, HasRows, IsAt, SameForm, Tables, Turns}
 
 -- a table is at each place below the count
@@ -45,29 +47,29 @@ still_plain old new place x plain turned fits = All-same IsPlain new.tables _ tu
 pub as_many : (old new : Tables) (place : ℕ) (x : StoredRows) → Turns old place x new → length new.tables ≡ length old.tables
 as_many old new place x turned = ap (λ (ts : List StoredRows). length ts) turned ∙ length-set old.tables place x
 
--- rows of two values may be added to a plain table
-pub fits_plain : (view : Tables) (place : ℕ) → ArePlain view → (edits : List Edit) → olds edits ≡ [] → AreWide 2 (new_rows edits)
+-- rows of its types may be added to a plain table
+pub fits_plain : (view : Tables) (place : ℕ) → ArePlain view → (edits : List Edit) → olds edits ≡ [] → AreTyped plain_types (new_rows edits)
     → (stored : StoredRows) → IsAt view place stored → AreFit stored edits
-fits_plain view place plain edits none wide stored at = record {
+fits_plain view place plain edits none typed stored at = record {
   standing = record {
     live = All-same (HasRow (slot_at stored.places)) (olds edits) [] none (All-nil (HasRow (slot_at stored.places)));
     apart = subst (λ (refs : List RowRef). AllPairs (λ a b. a ≢ b) refs) (sym none) (λ i j d before within same. absurd (omega arith));
   };
-  wide = subst (λ (n : ℕ). All (λ row. length row ≡ n) (new_rows edits)) (sym (plain_at view place plain stored at).width) wide;
+  typed = subst (λ (types : List ColType). AreTyped types (new_rows edits)) (sym (plain_at view place plain stored at).types) typed;
 }
 
--- a row of two values may take the place of a row of a plain table
+-- a row of its types may take the place of a row of a plain table
 pub turns_plain : (view : Tables) (place : ℕ) → ArePlain view → (at : RowRef) (row : List Value)
-    → ((stored : StoredRows) → IsAt view place stored → IsLive stored.places at) → length row ≡ 2 → (edits : List Edit) → edits ≡ Swap at row ∷ []
+    → ((stored : StoredRows) → IsAt view place stored → IsLive stored.places at) → HasTypes plain_types row → (edits : List Edit) → edits ≡ Swap at row ∷ []
     → (stored : StoredRows) → IsAt view place stored → AreFit stored edits
-turns_plain view place plain at row live size edits is stored there =
+turns_plain view place plain at row live typed edits is stored there =
     subst (AreFit stored) (sym is) (record {
       standing = record {
         live = All-cons (HasRow (slot_at stored.places)) at [] (live stored there) (All-nil (HasRow (slot_at stored.places)));
         apart = λ i j d before within same. absurd (omega arith);
       };
-      wide = All-cons (λ (r : List Value). length r ≡ stored.width) row []
-          (size ∙ sym (plain_at view place plain stored there).width) (All-nil (λ (r : List Value). length r ≡ stored.width));
+      typed = All-cons (HasTypes stored.places.types) row [] (typed ∙ sym (plain_at view place plain stored there).types)
+          (All-nil (HasTypes stored.places.types));
     })
 
 -- what the edits of one table leave
@@ -79,13 +81,13 @@ kept old new place within plain rows told =
     let turned = told found.0 found.1 in
     let was = plain_at old place plain found.0 found.1 in
     let has : HasRows found.0 (rows found.0) turned.0 = turned.2 in
-    let fits : IsPlain turned.0 = record { width = has.width ∙ was.width } in
+    let fits : IsPlain turned.0 = record { types = has.types ∙ was.types } in
     (as_many old new place turned.0 turned.1, still_plain old new place turned.0 plain turned.1 fits)
 
 -- so does what keeps the forms of all tables
 pub plain_formed : (old new : Tables) → EachTurns SameForm old.tables new.tables → ArePlain old → ArePlain new
 plain_formed old new forms plain =
-    All-turned SameForm IsPlain IsPlain old.tables new.tables forms (λ x y is same. record { width = same.width ∙ is.width }) plain
+    All-turned SameForm IsPlain IsPlain old.tables new.tables forms (λ x y is same. record { types = same.types ∙ is.types }) plain
 
 -- and a further index
 pub plain_indexed : (old new : Tables) (place column : ℕ) (kind : IndexKind) → place < length old.tables → ArePlain old
@@ -96,5 +98,5 @@ plain_indexed old new place column kind within plain told =
     let found = at_place old place within in
     let turned = told found.0 found.1 in
     let was = plain_at old place plain found.0 found.1 in
-    let fits : IsPlain turned.0 = record { width = ap (λ (s : StoredRows). s.width) turned.2 ∙ was.width } in
+    let fits : IsPlain turned.0 = record { types = ap (λ (s : StoredRows). s.places.types) turned.2 ∙ was.types } in
     (as_many old new place turned.0 turned.1, still_plain old new place turned.0 plain turned.1 fits)

@@ -1,11 +1,13 @@
 -- Edits that the tests make.
-use Rattle.std.proofs.Common.{◌≡◌, ℕ, zero, suc, List, [], ◌∷◌, ◌++◌, length, Some, true, false, sym, ap, ◌∙◌, subst, arith}
+use Rattle.std.proofs.Common.{◌≡◌, zero, suc, List, [], ◌∷◌, ◌++◌, Some, true, false, sym, ap, ◌∙◌, subst, arith}
 use Rattle.std.specs.Prelude.{◌≢◌}
 use Rattle.std.specs.List.{All, AllPairs, Contains}
 use Rattle.std.proofs.lemmas.List.Elements.{All-cons, All-append, All-push, filter_map-append}
 use Rattle.std.proofs.lemmas.List.Sorted.{IsPermutation-refl}
+use Rattle.mm_value.specs.declared.col_type.ColType.{ColType}
 use Rattle.mm_value.specs.declared.row_ref.RowRef.{RowRef}
 use Rattle.mm_value.specs.declared.values.Value.{Value}
+use Rattle.mm_partition.specs.Types.{HasTypes}
 use Rattle.mm_relation.specs.declared.indexes.names.Side.TheVariants.{Old}
 use Rattle.mm_relation.specs.declared.edits.Edit.{Edit}
 use Rattle.mm_relation.specs.declared.edits.Edit.TheVariants.{Add}
@@ -15,21 +17,23 @@ use Rattle.mm_relation.specs.Before.{same_ref}
 use Rattle.mm_relation.proofs.RefTests.{test_from_same}
 use Rattle.mm_relation.proofs.Changed.{olds}
 
--- rows of so many values
-abbrev pub AreWide : ℕ → List (List Value) → Type 0
-AreWide n rows = All (λ row. length row ≡ n) rows
+-- rows of these types
+abbrev pub AreTyped : List ColType → List (List Value) → Type 0
+AreTyped types rows = All (HasTypes types) rows
 
 -- one row more
 pub none_named : (edits : List Edit) (row : List Value) → olds edits ≡ [] → olds (edits ++ Add row ∷ []) ≡ []
 none_named edits row none = filter_map-append (λ e. edit_name e Old) edits (Add row ∷ []) ∙ ap (λ (xs : List RowRef). xs ++ []) none
 
-pub wide_more : (n : ℕ) (edits more : List Edit) → AreWide n (new_rows edits) → AreWide n (new_rows more) → AreWide n (new_rows (edits ++ more))
-wide_more n edits more first second =
-    subst (AreWide n) (sym (filter_map-append new_row edits more)) (All-append (λ row. length row ≡ n) (new_rows edits) (new_rows more) first second)
+pub typed_more : (types : List ColType) (edits more : List Edit) → AreTyped types (new_rows edits) → AreTyped types (new_rows more)
+    → AreTyped types (new_rows (edits ++ more))
+typed_more types edits more first second =
+    subst (AreTyped types) (sym (filter_map-append new_row edits more)) (All-append (HasTypes types) (new_rows edits) (new_rows more) first second)
 
-pub wide_added : (n : ℕ) (edits : List Edit) (row : List Value) → AreWide n (new_rows edits) → length row ≡ n → AreWide n (new_rows (edits ++ Add row ∷ []))
-wide_added n edits row first size =
-    subst (AreWide n) (sym (filter_map-append new_row edits (Add row ∷ []))) (All-push (λ row. length row ≡ n) (new_rows edits) row first size)
+pub typed_added : (types : List ColType) (edits : List Edit) (row : List Value) → AreTyped types (new_rows edits) → HasTypes types row
+    → AreTyped types (new_rows (edits ++ Add row ∷ []))
+typed_added types edits row first typed =
+    subst (AreTyped types) (sym (filter_map-append new_row edits (Add row ∷ []))) (All-push (HasTypes types) (new_rows edits) row first typed)
 
 -- the rows of no edit
 pub none_among : (refs : List RowRef) (edits : List Edit) → olds edits ≡ [] → Among refs (olds edits)

@@ -1,13 +1,19 @@
 -- The tables of the tests.
-use Rattle.std.specs.Prelude.{◌≡◌, List, length, All, Contains}
+use Rattle.std.specs.Prelude.{◌≡◌, List, [], ◌∷◌, length, All, Contains}
 use Rattle.mm_relation.specs.Kept.{StoredRows}
 use Rattle.mm_store.specs.Tables.{Tables}
 use Rattle.mm_store.specs.Undoing.{CanUndo}
 use Rattle.mm_store.specs.Snapshots.{Logged}
+use Rattle.mm_value.specs.declared.col_type.ColType.{ColType}
+use Rattle.mm_value.specs.declared.col_type.ColType.TheVariants.{Int}
 
--- The table has two columns.
+-- The types of the two columns of each.
+abbrev pub plain_types : List ColType
+plain_types = Int ∷ Int ∷ []
+
+-- The table has these columns.
 pub record IsPlain (stored : StoredRows) : Type 0 where
-  pub width : stored.width ≡ 2
+  pub types : stored.places.types ≡ plain_types
 
 -- Each table of the store is such a one.
 abbrev pub ArePlain : Tables → Type 0

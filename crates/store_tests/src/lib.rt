@@ -12,6 +12,4 @@ mod relations;
 #[cfg(test)]
 mod stores;
 #[cfg(test)]
-mod triple;
-#[cfg(test)]
 mod views;

@@ -3,47 +3,54 @@ ghost use Rattle.std.specs.Prelude.{◌≡◌, ◌≤◌, List, ◌<◌, [], ◌
 ghost use Rattle.mm_value.specs.declared.row_ref.RowRef.{RowRef as Ref};
 ghost use Rattle.mm_relation.specs.declared.indexes.names.Side.TheVariants as side;
 ghost use Rattle.mm_partition.specs.Places.{slot_at};
+ghost use Rattle.mm_partition.specs.Types.{HasTypes};
 ghost use Rattle.mm_relation.specs.Changes.{Standing};
 ghost use Rattle.mm_relation.specs.Edits.{Among, edit_name, named, new_rows};
 ghost use Rattle.mm_relation.specs.Index.{spare_of};
 ghost use Rattle.mm_relation.specs.Kept.{KeysStayApart, Stay};
-ghost use Rattle.store_tests.specs.SampleRelation.{IsSample};
+ghost use Rattle.store_tests.specs.SampleRelation.{IsSample, sample_types};
 
 use crate::assertions::{assert_same, assert_that};
-use crate::triple::triple;
 use mm_order::OrderedRefs;
 use mm_relation::{Edit, Log, Relation};
 use mm_schema::IndexKind;
-use mm_value::{Row, RowRef, ValueRef};
+use mm_value::{ColType, Row, RowRef, Text, Value, ValueRef};
 use std::alloc::{AllocError, Global};
 use std::process::Abort;
 use std::test::Fail;
+
+/// The types of the columns: a key, a digit and a mark.
+const TYPES: &[ColType] = &[ColType::Int, ColType::Int, ColType::Text];
 
 /// No rows, with a TREE index on the second column at place 0, and a HASH index at place 1.
 fn sample(alloc: Global) -> Result<Relation, AllocError>
     ensures { IfOk result IsSample }
 {
-    let mut relation = Relation::new(alloc, 3, 0);
+    let mut relation = Relation::new(alloc, TYPES, 0)?;
     relation.add_index(alloc, 1, IndexKind::Tree, 0)?;
     relation.add_index(alloc, 1, IndexKind::Hash, 0)?;
     Ok(relation)
 }
 
-/// A row of a key, a digit and a mark.
-fn row_of(alloc: Global, key: i64, digit: i64, mark: i64) -> Result<Row, AllocError>
-    ensures { IfOk result (λ row. length row ≡ 3) }
+/// A row of a key, a digit and a mark of no bytes.
+fn row_of(alloc: Global, key: i64, digit: i64) -> Result<Row, AllocError>
+    ensures { IfOk result (HasTypes sample_types) }
 {
-    triple(alloc, key, digit, mark)
+    let Ok(mark) = Text::new(alloc, b"") else {
+        return Err(AllocError);
+    };
+    let values = vec![in alloc; Value::Int(key), Value::Int(digit), Value::Text(mark)]?;
+    Ok(Row::new(values))
 }
 
-/// The addition of a row for each key, with its last decimal digit and the mark 0.
+/// The addition of a row for each key, with its last decimal digit.
 fn additions(alloc: Global, keys: &[i64]) -> Result<Vec<Edit>, AllocError>
     ensures none { IfOk result (λ edits. named edit_name side.Old edits.items ≡ []) }
-    ensures wide { IfOk result (λ edits. All (λ row. length row ≡ 3) (new_rows edits.items)) }
+    ensures typed { IfOk result (λ edits. All (HasTypes sample_types) (new_rows edits.items)) }
 {
     let mut edits = Vec::new(alloc);
     for key in keys {
-        edits.push(Edit::Add(row_of(alloc, *key, *key % 10, 0)?))?;
+        edits.push(Edit::Add(row_of(alloc, *key, *key % 10)?))?;
     }
     Ok(edits)
 }
@@ -51,11 +58,11 @@ fn additions(alloc: Global, keys: &[i64]) -> Result<Vec<Edit>, AllocError>
 /// The edit of a row into one of another key and that key's last decimal digit, or out.
 fn edit_of(alloc: Global, at: RowRef, to: Option<i64>) -> Result<Edit, AllocError>
     ensures old { IfOk result (λ edit. edit_name edit side.Old ≡ Some at) }
-    ensures wide { IfOk result (λ edit. All (λ row. length row ≡ 3) (new_rows (edit ∷ []))) }
+    ensures typed { IfOk result (λ edit. All (HasTypes sample_types) (new_rows (edit ∷ []))) }
 {
     match to {
         None => Ok(Edit::Gone(at)),
-        Some(key) => Ok(Edit::Swap(at, row_of(alloc, key, key % 10, 0)?)),
+        Some(key) => Ok(Edit::Swap(at, row_of(alloc, key, key % 10)?)),
     }
 }
 
@@ -63,7 +70,7 @@ fn edit_of(alloc: Global, at: RowRef, to: Option<i64>) -> Result<Edit, AllocErro
 fn make(relation: &mut Relation, alloc: Global, edits: Vec<Edit>) -> Result<bool, AllocError>
     requires sample { IsSample relation.old }
     requires stay { (kept : List Ref) × Stay relation.old.refs edits.items kept }
-    requires wide { All (λ row. length row ≡ 3) (new_rows edits.items) }
+    requires typed { All (HasTypes sample_types) (new_rows edits.items) }
     ensures { IsSample relation.new }
 {
     relation.is_kept();
@@ -284,13 +291,13 @@ fn edits_of(
     gone: RowRef,
 ) -> Result<Vec<Edit>, AllocError>
     ensures old { IfOk result (λ edits. named edit_name side.Old edits.items ≡ one ∷ other ∷ gone ∷ []) }
-    ensures wide { IfOk result (λ edits. All (λ row. length row ≡ 3) (new_rows edits.items)) }
+    ensures typed { IfOk result (λ edits. All (HasTypes sample_types) (new_rows edits.items)) }
 {
     let digit = digit_of(relation, exchange.one).unwrap_or(0);
-    let first = row_of(alloc, exchange.other, digit, 0)?;
+    let first = row_of(alloc, exchange.other, digit)?;
     let digit = digit_of(relation, exchange.other).unwrap_or(0);
-    let second = row_of(alloc, exchange.one, digit, 0)?;
-    let new = row_of(alloc, exchange.key, exchange.digit, 0)?;
+    let second = row_of(alloc, exchange.one, digit)?;
+    let new = row_of(alloc, exchange.key, exchange.digit)?;
     let edits = vec![in alloc;
         Edit::Swap(one, first),
         Edit::Swap(other, second),
@@ -308,7 +315,7 @@ fn edits_apart(
 ) -> Result<Option<Vec<Edit>>, AllocError>
     ensures standing { IfOk result (λ found. IfSome found (λ edits. Standing (slot_at relation.now.places) edits.items)) }
     ensures apart { IfOk result (λ found. IfSome found (λ edits. KeysStayApart relation.now edits.items)) }
-    ensures wide { IfOk result (λ found. IfSome found (λ edits. All (λ row. length row ≡ 3) (new_rows edits.items))) }
+    ensures typed { IfOk result (λ found. IfSome found (λ edits. All (HasTypes sample_types) (new_rows edits.items))) }
 {
     relation.is_kept();
     let Some((one, other, gone)) = rows_of(relation, exchange) else {
@@ -358,7 +365,7 @@ fn there_and_back(
 #[test]
 fn starts_empty(rt: HostRuntime) -> Result<(), Fail> {
     let alloc = rt.alloc();
-    let rows = Relation::new(alloc, 3, 0);
+    let rows = Relation::new(alloc, TYPES, 0)?;
     assert_same(&rt, rows.len(), 0);
     assert_that(&rt, rows.find(ValueRef::Int(3)).is_none());
     Ok(())
@@ -518,9 +525,9 @@ fn orders_rows_in_a_full_tree(rt: HostRuntime) -> Result<(), Fail> {
 
 /// Adds a TREE index, where memory is refused once at most.
 fn add_tree(relation: &mut Relation, alloc: Global, column: usize) -> Result<(), AllocError>
-    requires column { column < relation.old.width }
+    requires column { column < length relation.old.places.types }
     requires few { length relation.old.refs ≤ 1048576 }
-    ensures width { relation.new.width ≡ relation.old.width }
+    ensures types { relation.new.places.types ≡ relation.old.places.types }
     ensures refs { relation.new.refs ≡ relation.old.refs }
 {
     if relation
@@ -551,13 +558,13 @@ fn builds_trees_over_rows(rt: HostRuntime) -> Result<(), Fail> {
     add_trees(&rt, &mut relation)
 }
 
-/// Whether the prefix is kept that the row of a key has in a column, which it is where the column's prefixes are.
+/// Whether the relation tells the prefix that the row of a key has in a column.
 fn has_prefix(relation: &Relation, column: usize, key: i64) -> bool {
     relation.is_kept();
     at_key(relation, key).is_some_and(|at| relation.prefix_of(column, at).is_some())
 }
 
-/// Of which of the three columns the prefixes are kept, as the row of key 1 tells.
+/// Of which of the three columns it tells the prefixes, as the row of key 1 shows.
 fn with_prefixes(relation: &Relation) -> [bool; 3] {
     [0, 1, 2].map(|column| has_prefix(relation, column, 1))
 }
@@ -571,21 +578,29 @@ fn drop_tree(relation: &mut Relation, column: usize) -> bool {
     true
 }
 
-/// Drops TREE indexes on the key and on another column, which has two of them and a HASH index.
-fn drop_trees(rt: &impl Abort, relation: &mut Relation) {
+/// Adds two TREE indexes on the column of texts, and drops all TREE indexes. The numbers tell their prefixes.
+fn add_and_drop_trees(rt: &(impl Abort + AllocGlobal), relation: &mut Relation) -> Result<(), Fail>
+    requires { IsSample relation.old }
+{
+    let alloc = rt.alloc();
+    assert_that(rt, relation.len() <= 1000);
     assert_same(rt, with_prefixes(relation), [true, true, false]);
-    assert_that(rt, drop_tree(relation, 0) && drop_tree(relation, 1));
+    add_tree(relation, alloc, 2)?;
+    add_tree(relation, alloc, 2)?;
+    assert_same(rt, with_prefixes(relation), [true, true, true]);
+    assert_that(rt, drop_tree(relation, 2));
+    assert_same(rt, with_prefixes(relation), [true, true, true]);
+    assert_that(rt, drop_tree(relation, 2) && !drop_tree(relation, 2));
     assert_same(rt, with_prefixes(relation), [true, true, false]);
     assert_that(rt, drop_tree(relation, 1) && !drop_tree(relation, 1));
-    assert_same(rt, with_prefixes(relation), [true, false, false]);
+    assert_same(rt, with_prefixes(relation), [true, true, false]);
+    Ok(())
 }
 
 #[test]
-fn keeps_prefixes_of_the_key_and_of_trees(rt: HostRuntime) -> Result<(), Fail> {
+fn keeps_prefixes_of_numbers_and_of_texts_with_trees(rt: HostRuntime) -> Result<(), Fail> {
     let mut relation = sample_with(rt.alloc(), &FIVE)?;
-    add_trees(&rt, &mut relation)?;
-    drop_trees(&rt, &mut relation);
-    Ok(())
+    add_and_drop_trees(&rt, &mut relation)
 }
 
 /// Whether the row of a key has the key's digit and can be taken out.

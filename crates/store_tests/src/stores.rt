@@ -5,8 +5,9 @@ ghost use Rattle.mm_store.specs.Tables.{AreFit, AreLawful, IsAt, IsFrom};
 ghost use Rattle.mm_relation.specs.declared.indexes.names.Side.TheVariants as side;
 ghost use Rattle.mm_relation.specs.Edits.{edit_name, named, new_rows};
 ghost use Rattle.mm_partition.specs.Places.{IsLive};
+ghost use Rattle.mm_partition.specs.Types.{HasTypes};
 ghost use Rattle.mm_schema.specs.declared.reference.Reference.{Reference as Link};
-ghost use Rattle.store_tests.specs.SampleStore.{ArePlain};
+ghost use Rattle.store_tests.specs.SampleStore.{ArePlain, plain_types};
 ghost use Rattle.mm_store.specs.Undoing.{CanUndo};
 
 use crate::assertions::{assert_same, assert_that};
@@ -14,11 +15,14 @@ use mm_partition::RowView;
 use mm_relation::Edit;
 use mm_schema::{IndexKind, Reference};
 use mm_store::{IndexRef, Store, Undo};
-use mm_value::{Refusal, Row, RowRef, Value, ValueRef};
+use mm_value::{ColType, Refusal, Row, RowRef, Value, ValueRef};
 use std::alloc::{AllocError, Global};
 use std::marker::Model;
 use std::process::Abort;
 use std::test::Fail;
+
+/// The types of the two columns of each table.
+pub const TYPES: &[ColType] = &[ColType::Int, ColType::Int];
 
 /// Adds an index on the second column of a table.
 pub fn add_index(
@@ -48,8 +52,8 @@ fn add_both(store: &mut Store, alloc: Global, references: &[Reference]) -> Resul
     ensures plain { OnOk result (ArePlain store.new) }
     ensures links { OnOk result (store.new.links ≡ references.now) }
 {
-    store.add_table(alloc, 2, 0, &[])?;
-    store.add_table(alloc, 2, 0, references)?;
+    store.add_table(alloc, TYPES, 0, &[])?;
+    store.add_table(alloc, TYPES, 0, references)?;
     add_index(store, alloc, 0, IndexKind::Tree)?;
     add_index(store, alloc, 0, IndexKind::Hash)?;
     add_index(store, alloc, 1, IndexKind::Tree)?;
@@ -84,7 +88,7 @@ fn sample_again(alloc: Global, references: &[Reference]) -> Result<Store, AllocE
 
 /// A row of a key and its last decimal digit.
 fn row_of(alloc: Global, key: i64) -> Result<Row, AllocError>
-    ensures { IfOk result (λ row. length row ≡ 2) }
+    ensures { IfOk result (HasTypes plain_types) }
 {
     let values = vec![in alloc; Value::Int(key), Value::Int(key % 10)]?;
     Ok(Row::new(values))
@@ -93,7 +97,7 @@ fn row_of(alloc: Global, key: i64) -> Result<Row, AllocError>
 /// The addition of a row for each key.
 fn additions(alloc: Global, keys: &[i64]) -> Result<Vec<Edit>, AllocError>
     ensures none { IfOk result (λ edits. named edit_name side.Old edits.items ≡ []) }
-    ensures wide { IfOk result (λ edits. All (λ row. length row ≡ 2) (new_rows edits.items)) }
+    ensures typed { IfOk result (λ edits. All (HasTypes plain_types) (new_rows edits.items)) }
 {
     let mut edits = Vec::new(alloc);
     for key in keys {

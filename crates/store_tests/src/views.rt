@@ -35,8 +35,8 @@ fn tells_the_indexes_of_columns(rt: HostRuntime) -> Result<(), Fail> {
     Ok(())
 }
 
-/// The prefixes of what the row of a key of the second table has in its first three columns, where they are kept, and how many rows
-/// are counted for them.
+/// The prefixes of what the row of a key of the second table has in its first three columns, None where the view tells none, and
+/// how many rows are counted for them.
 fn prefixes_at(store: &Store, key: i64) -> Option<([Option<u64>; 3], u64)>
     requires { 1 < length store.now.tables }
 {
@@ -55,7 +55,7 @@ fn prefix(number: i64) -> Option<u64> {
     Some(order_prefix(&Value::Int(number)))
 }
 
-/// Looks at the prefixes of a row: they are kept of columns that have trees.
+/// Looks at the prefixes of a row: the view tells them of both columns, since these have numbers, and there is no third.
 fn has_prefixes(rt: &impl Abort, store: &Store)
     requires { 1 < length store.now.tables }
 {

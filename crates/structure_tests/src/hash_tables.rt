@@ -1,4 +1,7 @@
 //! Bags of references by hash.
+ghost use Rattle.std.specs.Prelude.{◌<◌};
+ghost use Rattle.mlhash.specs.Bag.{IsSmall};
+
 use crate::assertions::{assert_same, assert_that};
 use crate::references::are;
 use mlhash::HashRefs;
@@ -8,12 +11,17 @@ use std::process::Abort;
 use std::test::Fail;
 
 /// A reference into the first partition.
-fn slot(slot: u8) -> RowRef {
+fn slot(slot: u8) -> RowRef
+    requires { slot < 64 }
+    ensures { IsSmall result }
+{
     RowRef { part: 0, slot }
 }
 
 /// Inserts where there is room, and fails the test where there is none.
-fn insert(rt: &impl Abort, refs: &mut HashRefs, hash: u64, reference: RowRef) {
+fn insert(rt: &impl Abort, refs: &mut HashRefs, hash: u64, reference: RowRef)
+    requires { IsSmall reference }
+{
     assert!(rt; refs.spare() > 0, "no room for {hash}");
     refs.insert(hash, reference);
 }

@@ -1,17 +1,31 @@
-//! Rows in partitions, and the prefixes of their columns.
-ghost use Rattle.std.specs.Prelude.{◌≡◌, ◌≢◌, ◌≤◌, ◌+◌, IfOk, OnOk};
+//! Rows in partitions, and what tells them apart by a column.
+ghost use Rattle.std.specs.Prelude.{◌≡◌, ◌≢◌, ◌≤◌, ◌+◌, ◌∷◌, [], List, IfOk, OnOk};
+ghost use Rattle.mm_value.specs.declared.col_type.ColType.TheVariants.{Int, Text as OfText};
 ghost use Rattle.mm_value.specs.declared.row_ref.RowRef.{RowRef};
 ghost use Rattle.mm_partition.specs.Places.{Free, slot_at, IsLive, IsUnchanged, ChangesOnly};
+ghost use Rattle.mm_partition.specs.Types.{HasTypes};
 
 use crate::assertions::{assert_same, assert_that};
-use mm_partition::Partitions;
-use mm_value::{AsRow, Row, RowRef, Text, Value, ValueRef};
+use mm_partition::{ColumnKeys, Partitions};
+use mm_value::{AsRow, ColType, Row, RowRef, Text, Value, ValueRef};
 use std::alloc::Global;
 use std::process::Abort;
 use std::test::Fail;
 
+/// Partitions of columns of these types, for which memory may be refused once.
+fn partitions_of(alloc: Global, types: &[ColType]) -> Result<Partitions, Fail>
+    ensures { IfOk result (λ rows. rows.types ≡ types.now) }
+{
+    match Partitions::new(alloc, types) {
+        Ok(rows) => Ok(rows),
+        Err(_) => Ok(Partitions::new(alloc, types)?),
+    }
+}
+
 /// The row of this number, whose memory may be refused once.
-fn row_of(alloc: Global, number: i64) -> Result<Row, Fail> {
+fn row_of(alloc: Global, number: i64) -> Result<Row, Fail>
+    ensures { IfOk result (HasTypes (Int ∷ [])) }
+{
     let mut values = Vec::new(alloc);
     if values.reserve(1).is_err() {
         values.reserve(1)?;
@@ -24,6 +38,7 @@ fn row_of(alloc: Global, number: i64) -> Result<Row, Fail> {
 fn reserve(alloc: Global, rows: &mut Partitions, n: usize) -> Result<(), Fail>
     ensures room { OnOk result (n ≤ rows.new.room) }
     ensures rows { IsUnchanged rows.old rows.new }
+    ensures types { rows.new.types ≡ rows.old.types }
 {
     if rows.reserve(alloc, n).is_err() {
         rows.reserve(alloc, n)?;
@@ -33,11 +48,13 @@ fn reserve(alloc: Global, rows: &mut Partitions, n: usize) -> Result<(), Fail>
 
 /// Places the row of this number.
 fn place_row(alloc: Global, rows: &mut Partitions, number: i64) -> Result<RowRef, Fail>
-    requires { 1 ≤ rows.old.room }
+    requires room { 1 ≤ rows.old.room }
+    requires types { rows.old.types ≡ Int ∷ [] }
     ensures fresh { IfOk result (λ at. slot_at rows.old at ≡ Free) }
     ensures live { IfOk result (IsLive rows.new) }
     ensures others { IfOk result (λ at. (other : RowRef) → other ≢ at → slot_at rows.new other ≡ slot_at rows.old other) }
     ensures room { OnOk result (rows.new.room + 1 ≡ rows.old.room) }
+    ensures types { rows.new.types ≡ rows.old.types }
 {
     Ok(rows.place(row_of(alloc, number)?))
 }
@@ -62,12 +79,13 @@ fn hide_and_show(rt: &impl Abort, rows: &mut Partitions, at: RowRef)
     assert_same(rt, number_in(&rows.get(at)), Some(2));
 
     rows.hide(at);
-    let gone = rows.release(at);
-    assert_same(rt, number_in(&gone), Some(2));
+    rows.release(at);
 }
 
 /// Places a row, replaces it, hides and shows it, and releases it.
-fn keep_a_row(rt: &(impl Abort + AllocGlobal), rows: &mut Partitions) -> Result<(), Fail> {
+fn keep_a_row(rt: &(impl Abort + AllocGlobal), rows: &mut Partitions) -> Result<(), Fail>
+    requires { rows.old.types ≡ Int ∷ [] }
+{
     let alloc = rt.alloc();
     reserve(alloc, rows, 1)?;
     let at = place_row(alloc, rows, 1)?;
@@ -82,7 +100,7 @@ fn keep_a_row(rt: &(impl Abort + AllocGlobal), rows: &mut Partitions) -> Result<
 
 #[test]
 fn keeps_a_row_by_its_reference(rt: HostRuntime) -> Result<(), Fail> {
-    let mut rows = Partitions::new(rt.alloc());
+    let mut rows = partitions_of(rt.alloc(), &[ColType::Int])?;
     keep_a_row(&rt, &mut rows)
 }
 
@@ -91,9 +109,11 @@ fn place_two(
     rt: &(impl Abort + AllocGlobal),
     rows: &mut Partitions,
 ) -> Result<(RowRef, RowRef), Fail>
+    requires { rows.old.types ≡ Int ∷ [] }
     ensures one { IfOk result (λ placed. IsLive rows.new placed.0) }
     ensures two { IfOk result (λ placed. IsLive rows.new placed.1) }
     ensures apart { IfOk result (λ placed. placed.0 ≢ placed.1) }
+    ensures types { rows.new.types ≡ rows.old.types }
 {
     let alloc = rt.alloc();
     reserve(alloc, rows, 2)?;
@@ -121,6 +141,7 @@ fn place_behind(
 ) -> Result<(), Fail>
     requires one { IsLive rows.old one }
     requires two { IsLive rows.old two }
+    requires types { rows.old.types ≡ Int ∷ [] }
 {
     let alloc = rt.alloc();
     reserve(alloc, rows, 200)?;
@@ -134,7 +155,7 @@ fn place_behind(
 
 #[test]
 fn gives_each_row_its_own_place(rt: HostRuntime) -> Result<(), Fail> {
-    let mut rows = Partitions::new(rt.alloc());
+    let mut rows = partitions_of(rt.alloc(), &[ColType::Int])?;
     let (one, two) = place_two(&rt, &mut rows)?;
     assert_two(&rt, &rows, one, two);
     place_behind(&rt, &mut rows, one, two)
@@ -145,13 +166,16 @@ fn free(rows: &mut Partitions, at: RowRef)
     requires { IsLive rows.old at }
     ensures freed { ChangesOnly rows.old rows.new at Free }
     ensures room { rows.new.room ≡ rows.old.room + 1 }
+    ensures types { rows.new.types ≡ rows.old.types }
 {
     rows.hide(at);
     rows.release(at);
 }
 
 /// Places two rows, frees their slots, and places two others.
-fn free_two(rt: &(impl Abort + AllocGlobal), rows: &mut Partitions) -> Result<(), Fail> {
+fn free_two(rt: &(impl Abort + AllocGlobal), rows: &mut Partitions) -> Result<(), Fail>
+    requires { rows.old.types ≡ Int ∷ [] }
+{
     let alloc = rt.alloc();
     let (one, two) = place_two(rt, rows)?;
     free(rows, one);
@@ -165,12 +189,14 @@ fn free_two(rt: &(impl Abort + AllocGlobal), rows: &mut Partitions) -> Result<()
 
 #[test]
 fn gives_freed_slots_again_before_new_ones(rt: HostRuntime) -> Result<(), Fail> {
-    let mut rows = Partitions::new(rt.alloc());
+    let mut rows = partitions_of(rt.alloc(), &[ColType::Int])?;
     free_two(&rt, &mut rows)
 }
 
 /// Places a row behind one that is hidden, and one more once that is released.
-fn hide_one(rt: &(impl Abort + AllocGlobal), rows: &mut Partitions) -> Result<(), Fail> {
+fn hide_one(rt: &(impl Abort + AllocGlobal), rows: &mut Partitions) -> Result<(), Fail>
+    requires { rows.old.types ≡ Int ∷ [] }
+{
     let alloc = rt.alloc();
     reserve(alloc, rows, 2)?;
     let one = place_row(alloc, rows, 1)?;
@@ -189,12 +215,14 @@ fn hide_one(rt: &(impl Abort + AllocGlobal), rows: &mut Partitions) -> Result<()
 
 #[test]
 fn leaves_a_hidden_slot_alone(rt: HostRuntime) -> Result<(), Fail> {
-    let mut rows = Partitions::new(rt.alloc());
+    let mut rows = partitions_of(rt.alloc(), &[ColType::Int])?;
     hide_one(&rt, &mut rows)
 }
 
 /// Places 130 rows.
-fn fill_partitions(rt: &(impl Abort + AllocGlobal), rows: &mut Partitions) -> Result<(), Fail> {
+fn fill_partitions(rt: &(impl Abort + AllocGlobal), rows: &mut Partitions) -> Result<(), Fail>
+    requires { rows.old.types ≡ Int ∷ [] }
+{
     let alloc = rt.alloc();
     reserve(alloc, rows, 130)?;
     let first = place_row(alloc, rows, 0)?;
@@ -209,12 +237,14 @@ fn fill_partitions(rt: &(impl Abort + AllocGlobal), rows: &mut Partitions) -> Re
 
 #[test]
 fn finds_each_row_of_several_partitions(rt: HostRuntime) -> Result<(), Fail> {
-    let mut rows = Partitions::new(rt.alloc());
+    let mut rows = partitions_of(rt.alloc(), &[ColType::Int])?;
     fill_partitions(&rt, &mut rows)
 }
 
 /// The row of this number and this text, whose memory may be refused once.
-fn row_with_text(alloc: Global, number: i64, text: &[u8]) -> Result<Row, Fail> {
+fn row_with_text(alloc: Global, number: i64, text: &[u8]) -> Result<Row, Fail>
+    ensures { IfOk result (HasTypes (Int ∷ OfText ∷ [])) }
+{
     let mut values = Vec::new(alloc);
     if values.reserve(2).is_err() {
         values.reserve(2)?;
@@ -234,6 +264,27 @@ fn track(alloc: Global, rows: &mut Partitions, column: usize) -> Result<(), Fail
     Ok(())
 }
 
+/// The numbers of a column, if it has any.
+fn numbers_in(rows: &Partitions, column: usize) -> Option<&[i64]> {
+    match rows.keys(column) {
+        ColumnKeys::Numbers(numbers) => Some(numbers),
+        _ => None,
+    }
+}
+
+/// The prefixes of a column, if they are kept.
+fn prefixes_in(rows: &Partitions, column: usize) -> Option<&[u64]> {
+    match rows.keys(column) {
+        ColumnKeys::Prefixes(prefixes) => Some(prefixes),
+        _ => None,
+    }
+}
+
+/// Whether nothing tells rows apart by a column.
+fn has_no_keys(rows: &Partitions, column: usize) -> bool {
+    matches!(rows.keys(column), ColumnKeys::None)
+}
+
 /// Places the row of this number and this text.
 fn place_with_text(
     alloc: Global,
@@ -241,96 +292,110 @@ fn place_with_text(
     number: i64,
     text: &[u8],
 ) -> Result<RowRef, Fail>
-    requires { 1 ≤ rows.old.room }
+    requires room { 1 ≤ rows.old.room }
+    requires types { rows.old.types ≡ Int ∷ OfText ∷ [] }
     ensures live { IfOk result (IsLive rows.new) }
     ensures room { OnOk result (rows.new.room + 1 ≡ rows.old.room) }
+    ensures types { rows.new.types ≡ rows.old.types }
 {
     Ok(rows.place(row_with_text(alloc, number, text)?))
 }
 
-/// Tracks two columns, one row before and one behind.
-fn track_two(rt: &(impl Abort + AllocGlobal), rows: &mut Partitions) -> Result<(), Fail> {
+/// Tracks a column of texts, one row before and one behind.
+fn track_texts(rt: &(impl Abort + AllocGlobal), rows: &mut Partitions) -> Result<(), Fail>
+    requires { rows.old.types ≡ Int ∷ OfText ∷ [] }
+{
     let alloc = rt.alloc();
     reserve(alloc, rows, 2)?;
     place_with_text(alloc, rows, 5, b"abcdefgh")?;
-    assert_that(rt, rows.prefixes(0).is_none());
+    assert_that(rt, has_no_keys(rows, 1));
     track(alloc, rows, 1)?;
-    track(alloc, rows, 0)?;
-    place_row(alloc, rows, i64::MAX)?;
+    place_with_text(alloc, rows, i64::MAX, b"")?;
     assert_same(
         rt,
-        rows.prefixes(0),
-        Some(&[0x4000000000000005u64, 0x7fffffffffffffff]),
+        prefixes_in(rows, 1),
+        Some(&[0xb0b131b232b333b4u64, 0x8000000000000000]),
     );
-    // The second row has no second value.
-    assert_same(rt, rows.prefixes(1), Some(&[0xb0b131b232b333b4u64, 0]));
     Ok(())
 }
 
 #[test]
-fn keeps_the_prefixes_of_tracked_columns(rt: HostRuntime) -> Result<(), Fail> {
-    let mut rows = Partitions::new(rt.alloc());
-    track_two(&rt, &mut rows)
+fn keeps_the_prefixes_of_tracked_texts(rt: HostRuntime) -> Result<(), Fail> {
+    let mut rows = partitions_of(rt.alloc(), &[ColType::Int, ColType::Text])?;
+    track_texts(&rt, &mut rows)
 }
 
 /// Replaces a row, and places one in the slot that it gives up.
-fn overwrite(rt: &(impl Abort + AllocGlobal), rows: &mut Partitions) -> Result<(), Fail> {
+fn overwrite(rt: &(impl Abort + AllocGlobal), rows: &mut Partitions) -> Result<(), Fail>
+    requires { rows.old.types ≡ Int ∷ OfText ∷ [] }
+{
     let alloc = rt.alloc();
     reserve(alloc, rows, 1)?;
     let one = place_with_text(alloc, rows, 5, b"a")?;
     track(alloc, rows, 1)?;
     rows.replace(one, row_with_text(alloc, 6, b"b")?);
-    assert_same(rt, rows.prefixes(1), Some(&[0xb100000000000000u64]));
+    assert_same(rt, prefixes_in(rows, 1), Some(&[0xb100000000000000u64]));
+    assert_same(rt, numbers_in(rows, 0), Some(&[6i64]));
 
     // The freed slot is given out again.
     free(rows, one);
     place_with_text(alloc, rows, 7, b"")?;
-    assert_same(rt, rows.prefixes(1), Some(&[0x8000000000000000u64]));
+    assert_same(rt, prefixes_in(rows, 1), Some(&[0x8000000000000000u64]));
+    assert_same(rt, numbers_in(rows, 0), Some(&[7i64]));
     Ok(())
 }
 
 #[test]
-fn overwrites_the_prefixes_of_a_slot(rt: HostRuntime) -> Result<(), Fail> {
-    let mut rows = Partitions::new(rt.alloc());
+fn overwrites_the_cells_of_a_slot(rt: HostRuntime) -> Result<(), Fail> {
+    let mut rows = partitions_of(rt.alloc(), &[ColType::Int, ColType::Text])?;
     overwrite(&rt, &mut rows)
 }
 
-/// Tracks two columns, and one of them no more.
+/// Tracks each column twice, and then none.
 fn track_and_untrack(rt: &(impl Abort + AllocGlobal), rows: &mut Partitions) -> Result<(), Fail> {
     let alloc = rt.alloc();
-    track(alloc, rows, 0)?;
-    track(alloc, rows, 1)?;
-    track(alloc, rows, 1)?;
-    rows.untrack(1);
-    assert_that(rt, rows.prefixes(1).is_none());
-    assert_that(rt, rows.prefixes(0).is_some());
+    for column in 0..3usize {
+        track(alloc, rows, column)?;
+        track(alloc, rows, column)?;
+    }
+    assert_that(rt, prefixes_in(rows, 1).is_some());
+    for column in 0..3usize {
+        rows.untrack(column);
+    }
+    assert_that(rt, has_no_keys(rows, 1));
+    // The numbers of a column are there in any case, and no column is past the last one.
+    assert_that(rt, numbers_in(rows, 0).is_some());
+    assert_that(rt, has_no_keys(rows, 2));
     Ok(())
 }
 
 #[test]
 fn forgets_a_column_that_is_not_tracked_any_more(rt: HostRuntime) -> Result<(), Fail> {
-    let mut rows = Partitions::new(rt.alloc());
+    let mut rows = partitions_of(rt.alloc(), &[ColType::Int, ColType::Text])?;
     track_and_untrack(&rt, &mut rows)
 }
 
-/// Tracks a column, and places 130 rows.
-fn track_and_fill(rt: &(impl Abort + AllocGlobal), rows: &mut Partitions) -> Result<(), Fail> {
+/// Tracks a column of texts, and places 130 rows.
+fn track_and_fill(rt: &(impl Abort + AllocGlobal), rows: &mut Partitions) -> Result<(), Fail>
+    requires { rows.old.types ≡ Int ∷ OfText ∷ [] }
+{
     let alloc = rt.alloc();
-    track(alloc, rows, 0)?;
+    track(alloc, rows, 1)?;
     for k in 0..130usize {
         reserve(alloc, rows, 1)?;
-        place_row(alloc, rows, k as i64)?;
+        place_with_text(alloc, rows, k as i64, b"")?;
     }
-    let prefixes = rows.prefixes(0).unwrap_or(&[]);
-    assert_same(rt, prefixes.len(), 130);
-    for (k, prefix) in prefixes.iter().enumerate() {
-        assert_same(rt, *prefix, 0x4000000000000000 + k as u64);
+    assert_same(rt, prefixes_in(rows, 1).unwrap_or(&[]).len(), 130);
+    let numbers = numbers_in(rows, 0).unwrap_or(&[]);
+    assert_same(rt, numbers.len(), 130);
+    for (k, number) in numbers.iter().enumerate() {
+        assert_same(rt, *number, k as i64);
     }
     Ok(())
 }
 
 #[test]
-fn tracks_the_rows_to_come(rt: HostRuntime) -> Result<(), Fail> {
-    let mut rows = Partitions::new(rt.alloc());
+fn keeps_keys_of_the_rows_to_come(rt: HostRuntime) -> Result<(), Fail> {
+    let mut rows = partitions_of(rt.alloc(), &[ColType::Int, ColType::Text])?;
     track_and_fill(&rt, &mut rows)
 }

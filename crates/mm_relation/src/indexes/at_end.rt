@@ -5,12 +5,13 @@ ghost use Rattle.mm_value.specs.Prefix.{order_prefix};
 ghost use Rattle.mm_value.specs.Views.{value_of};
 ghost use Rattle.mm_relation.specs.Refs.{IsWide};
 ghost use Rattle.mm_relation.specs.Reads.{end_place};
+ghost use Rattle.mm_partition.specs.Keys.{AreKeys};
+ghost use Rattle.mm_relation.specs.Keys.{AreKeys-prop};
 ghost use Rattle.mm_partition.specs.Places.{slot_at};
-ghost use Rattle.mm_partition.specs.Prefixes.{ArePrefixes};
 
 use crate::indexes::in_column::place_in;
 use mm_order::Probe;
-use mm_partition::Partitions;
+use mm_partition::{ColumnKeys, Partitions};
 use mm_value::{RowRef, ValueRef, order_prefix};
 use std::cmp::Ordering;
 
@@ -22,9 +23,9 @@ pub struct AtEnd<'a> {
     pub key: usize,
     pub end: Option<ValueRef<'a>>,
     pub prefix: u64,
-    pub prefixes: Option<&'a [u64]>,
+    pub values: ColumnKeys<'a>,
     ghost same: { ForSome end (λ value. prefix ≡ order_prefix (value_of value)) },
-    ghost agrees: { ForSome prefixes (λ p. ArePrefixes column rows.now p.now) },
+    ghost values_agree: { AreKeys column rows.now values } by { AreKeys-prop column rows.now values },
 }
 
 /// The prefix of an end, 0 where there is none.
@@ -42,12 +43,13 @@ impl<'a> Probe for AtEnd<'a> {
 
     ghost place_of = { λ p. end_place p.column (slot_at p.rows.now) (option_map value_of p.end) };
 
+    #[inline(always)]
     fn place(&self, at: RowRef) -> Ordering {
         let rows = self.rows;
-        let prefixes = self.prefixes;
+        let values = self.values;
         match self.end {
             None => Ordering::Equal,
-            Some(end) => place_in(rows, self.column, prefixes, at, end, self.prefix),
+            Some(end) => place_in(rows, self.column, values, at, end, self.prefix),
         }
     }
 }

@@ -1,19 +1,19 @@
 //! The place of a value along the order of an index.
 ghost use Rattle.std.specs.Prelude.{◌≡◌};
-ghost use Rattle.std.specs.Option.{ForSome};
 ghost use Rattle.mm_value.specs.Prefix.{order_prefix};
 ghost use Rattle.mm_value.specs.Views.{value_of};
 ghost use Rattle.mm_relation.specs.Refs.{IsWide, place_by};
+ghost use Rattle.mm_partition.specs.Keys.{AreKeys};
+ghost use Rattle.mm_relation.specs.Keys.{AreKeys-prop};
 ghost use Rattle.mm_partition.specs.Places.{slot_at};
-ghost use Rattle.mm_partition.specs.Prefixes.{ArePrefixes};
 
 use crate::indexes::in_column::place_in;
 use mm_order::Probe;
-use mm_partition::Partitions;
+use mm_partition::{ColumnKeys, Partitions};
 use mm_value::{RowRef, ValueRef};
 use std::cmp::Ordering;
 
-/// The place of a value along the order by its column.
+/// The place of a value along the order by its column. What is kept of the column beside the rows tells most of them.
 #[derive(Drop)]
 pub struct AtValue<'a> {
     pub rows: &'a Partitions,
@@ -21,9 +21,9 @@ pub struct AtValue<'a> {
     pub key: usize,
     pub sought: ValueRef<'a>,
     pub prefix: u64,
-    pub prefixes: Option<&'a [u64]>,
+    pub values: ColumnKeys<'a>,
     ghost same: { prefix ≡ order_prefix (value_of sought) },
-    ghost agrees: { ForSome prefixes (λ p. ArePrefixes column rows.now p.now) },
+    ghost values_agree: { AreKeys column rows.now values } by { AreKeys-prop column rows.now values },
 }
 
 impl<'a> Probe for AtValue<'a> {
@@ -31,11 +31,12 @@ impl<'a> Probe for AtValue<'a> {
 
     ghost place_of = { λ p. place_by p.column (slot_at p.rows.now) (value_of p.sought) };
 
+    #[inline(always)]
     fn place(&self, at: RowRef) -> Ordering {
         place_in(
             self.rows,
             self.column,
-            self.prefixes,
+            self.values,
             at,
             self.sought,
             self.prefix,

@@ -41,6 +41,7 @@ fn put_pair(rows: &Partitions, column: usize, pairs: &mut HashRefs, at: RowRef)
     ensures spare { pairs.old.spare ≤ pairs.new.spare + 1 }
 {
     let hash = hash_at(rows, column, at);
+    rows.are_references_small();
     pairs.insert(hash, at);
 }
 

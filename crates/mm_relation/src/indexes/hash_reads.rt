@@ -1,5 +1,5 @@
 //! Reading by hash.
-ghost use Rattle.std.specs.Prelude.{◌≡◌, ◌≤◌, ◌++◌, List, length, map, take, drop, filter, All, IsPermutation, OnOk, OnErr};
+ghost use Rattle.std.specs.Prelude.{◌≡◌, ◌≤◌, ◌++◌, List, length, map, take, drop, filter, All, IfOk, IsOk, IsPermutation, OnOk, OnErr};
 ghost use Rattle.mm_value.specs.Views.{value_of};
 ghost use Rattle.mm_value.specs.declared.row_ref.RowRef.{RowRef};
 ghost use Rattle.mm_partition.specs.Places.{slot_at};
@@ -7,6 +7,7 @@ ghost use Rattle.mm_relation.specs.HashedPairs.{hashed_pair};
 ghost use Rattle.mm_relation.specs.Index.{HasColumn};
 ghost use Rattle.mm_relation.specs.Reads.{has_value, AreMatches, Appends};
 
+use crate::found_refs::FoundRefs;
 use mlhash::HashRefs;
 use mm_partition::Partitions;
 use mm_value::{RowRef, ValueRef, compare, hash64};
@@ -65,4 +66,31 @@ pub fn copy_matches(
     pairs.matches(alloc, hash64(&value), out)?;
     keep_matches(rows, column, value, out, before);
     Ok(())
+}
+
+/// The references of the rows that have this value, in no promised order. Rows whose values only have the same hash are left out.
+/// Up to four references take no memory. `AllocError` where memory is refused.
+pub fn find_matches(
+    alloc: Global,
+    rows: &Partitions,
+    column: usize,
+    pairs: &HashRefs,
+    value: ValueRef<'_>,
+) -> Result<FoundRefs, AllocError>
+    requires { (refs : List RowRef) × (All (HasColumn column (slot_at rows.now)) refs)
+        × IsPermutation pairs.now.entries (map (hashed_pair column (slot_at rows.now)) refs) }
+    ensures found { IfOk result (λ found. (refs : List RowRef)
+        → IsPermutation pairs.now.entries (map (hashed_pair column (slot_at rows.now)) refs)
+        → AreMatches column (slot_at rows.now) (value_of value.entry) refs found.items) }
+    ensures few { (refs : List RowRef)
+        → IsPermutation pairs.now.entries (map (hashed_pair column (slot_at rows.now)) refs)
+        → length (filter (has_value column (slot_at rows.now) (value_of value.entry)) refs) ≤ 4 → IsOk result }
+{
+    let mut found = FoundRefs::new(alloc);
+    for at in pairs.matching(hash64(&value)) {
+        if is_match(rows, column, value, at) {
+            found.push(at)?;
+        }
+    }
+    Ok(found)
 }

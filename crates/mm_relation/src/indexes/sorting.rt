@@ -1,26 +1,42 @@
 //! References of rows, sorted by a column.
-ghost use Rattle.std.specs.Prelude.{◌≡◌, length, map, All, IsPermutation, IfOk};
+ghost use Rattle.std.specs.Prelude.{◌≡◌, ℕ, length, map, All, IsPermutation, IfOk, IfSome};
+ghost use Rattle.mm_value.specs.Views.{value_of};
 ghost use Rattle.mm_partition.specs.Places.{slot_at};
-ghost use Rattle.mm_relation.specs.Refs.{IsWide};
+ghost use Rattle.mm_relation.specs.Refs.{Slots, IsWide};
 ghost use Rattle.mm_relation.specs.Index.{InOrder, KeysApart};
-ghost use Rattle.mm_relation.specs.Sorting.{IsOf, ref_of, sortable_cmp, AreSorted};
+ghost use Rattle.mm_relation.specs.Sorting.{IsOf, ref_of, sortable_cmp, value_of_number, AreSorted};
 
-use mm_partition::Partitions;
-use mm_value::{RowRef, ValueRef, compare};
+use mm_partition::{ColumnKeys, Partitions, index_of};
+use mm_value::{AsValue, RowRef, ValueRef, compare};
 use std::alloc::{AllocError, Global};
 use std::cmp::Ordering;
 
 /// A row to be sorted: its value in the column, its key, and its reference.
 #[derive(Clone, Copy, Drop)]
-struct Sortable<'a> {
-    value: ValueRef<'a>,
-    key: ValueRef<'a>,
+struct Sortable<V> {
+    value: V,
+    key: V,
     at: RowRef,
 }
 
+/// A whole number, as a value.
+#[derive(Clone, Copy, Drop)]
+struct Number {
+    number: i64,
+}
+
+impl AsValue for Number {
+    ghost value = { value_of_number };
+
+    #[inline(always)]
+    fn as_value(&self) -> ValueRef<'_> {
+        ValueRef::Int(self.number)
+    }
+}
+
 /// How two rows stand: by their values in the column, where these are equal by their keys.
-fn compare_rows(a: &Sortable, b: &Sortable) -> Ordering
-    ensures { result ≡ sortable_cmp a.now b.now }
+fn compare_rows<V: AsValue>(a: &Sortable<V>, b: &Sortable<V>) -> Ordering
+    ensures { result ≡ sortable_cmp V.AsValue.value a.now b.now }
 {
     let first = compare(&a.value, &b.value);
     if first.is_eq() {
@@ -31,9 +47,9 @@ fn compare_rows(a: &Sortable, b: &Sortable) -> Ordering
 }
 
 /// The row of a reference, to be sorted by a column and the key.
-fn sortable_at(rows: &Partitions, column: usize, key: usize, at: RowRef) -> Sortable<'_>
+fn sortable_at(rows: &Partitions, column: usize, key: usize, at: RowRef) -> Sortable<ValueRef<'_>>
     requires { IsWide column key (slot_at rows.now) at }
-    ensures of { IsOf column key (slot_at rows.now) result }
+    ensures of { IsOf value_of column key (slot_at rows.now) result }
     ensures reference { result.at ≡ at }
 {
     let row = rows.get(at);
@@ -51,9 +67,9 @@ fn sortables<'a>(
     column: usize,
     key: usize,
     refs: &[RowRef],
-) -> Result<Vec<Sortable<'a>>, AllocError>
+) -> Result<Vec<Sortable<ValueRef<'a>>>, AllocError>
     requires { All (IsWide column key (slot_at rows.now)) refs.now }
-    ensures of { IfOk result (λ list. All (IsOf column key (slot_at rows.now)) list.items) }
+    ensures of { IfOk result (λ list. All (IsOf value_of column key (slot_at rows.now)) list.items) }
     ensures refs { IfOk result (λ list. map ref_of list.items ≡ refs.now) }
 {
     let mut list = Vec::with_capacity(alloc, refs.len())?;
@@ -63,19 +79,66 @@ fn sortables<'a>(
     Ok(list)
 }
 
+/// The rows of these references, to be sorted by numbers in the column and in the key, without a look at a row. None
+/// where one of the two has texts.
+fn numbered(
+    alloc: Global,
+    rows: &Partitions,
+    column: usize,
+    key: usize,
+    refs: &[RowRef],
+) -> Result<Option<Vec<Sortable<Number>>>, AllocError>
+    requires { All (IsWide column key (slot_at rows.now)) refs.now }
+    ensures of { IfOk result (λ found. IfSome found
+        (λ list. All (IsOf value_of_number column key (slot_at rows.now)) list.items)) }
+    ensures refs { IfOk result (λ found. IfSome found (λ list. map ref_of list.items ≡ refs.now)) }
+{
+    let (ColumnKeys::Numbers(values), ColumnKeys::Numbers(keys)) = (
+        rows.keys(column),
+        rows.keys(key),
+    ) else {
+        return Ok(None);
+    };
+    let mut list = Vec::with_capacity(alloc, refs.len())?;
+    for at in refs {
+        let slot = index_of(*at);
+        list.push(Sortable {
+            value: Number {
+                number: values[slot],
+            },
+            key: Number { number: keys[slot] },
+            at: *at,
+        })?;
+    }
+    Ok(Some(list))
+}
+
 /// Sorts rows. It takes no memory and O(n log n) comparisons for n rows.
-fn sort(list: &mut Vec<Sortable>)
+fn sort<V: AsValue>(list: &mut Vec<Sortable<V>>)
     ensures permutation { IsPermutation list.old.items list.new.items }
-    ensures sorted { AreSorted list.new.items }
+    ensures sorted { AreSorted V.AsValue.value list.new.items }
 {
     list.sort_unstable_by(compare_rows);
 }
 
 /// The references of rows.
-fn refs_of(alloc: Global, list: &[Sortable]) -> Result<Vec<RowRef>, AllocError>
+fn refs_of<V>(alloc: Global, list: &[Sortable<V>]) -> Result<Vec<RowRef>, AllocError>
     ensures { IfOk result (λ refs. refs.items ≡ map ref_of list.now) }
 {
     list.iter().map(|row| row.at).collect(alloc)
+}
+
+/// The references of rows, by their values and, where these are equal, by their keys. `AllocError` where memory is refused.
+fn in_order<V: AsValue>(
+    alloc: Global,
+    list: &mut Vec<Sortable<V>>,
+) -> Result<Vec<RowRef>, AllocError>
+    ensures ordered { IfOk result (λ refs. (column key : ℕ) (now : Slots) → All (IsOf V.AsValue.value column key now) list.old.items
+        → KeysApart key now (map ref_of list.old.items) → InOrder column key now refs.items) }
+    ensures same { IfOk result (λ refs. IsPermutation refs.items (map ref_of list.old.items)) }
+{
+    sort(list);
+    refs_of(alloc, list.as_slice())
 }
 
 /// The references in the order of the values in a column, those of one value in the order of their keys.
@@ -92,7 +155,11 @@ pub fn sorted_refs(
     ensures ordered { IfOk result (λ sorted. InOrder column key (slot_at rows.now) sorted.items) }
     ensures same { IfOk result (λ sorted. IsPermutation sorted.items refs.now) }
 {
-    let mut list = sortables(alloc, rows, column, key, refs)?;
-    sort(&mut list);
-    refs_of(alloc, list.as_slice())
+    match numbered(alloc, rows, column, key, refs)? {
+        Some(mut list) => in_order(alloc, &mut list),
+        None => {
+            let mut list = sortables(alloc, rows, column, key, refs)?;
+            in_order(alloc, &mut list)
+        }
+    }
 }

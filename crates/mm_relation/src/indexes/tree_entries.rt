@@ -32,7 +32,8 @@ fn put<L: OrderedRefs>(rows: &Partitions, column: usize, key: usize, tree: &mut 
         rows,
         column,
         key,
-        prefixes: rows.prefixes(column),
+        values: rows.keys(column),
+        ties: rows.keys(key),
     };
     rows.are_references_small();
     tree.insert(&order, at);
@@ -54,7 +55,8 @@ fn take_all(rows: &Partitions, column: usize, key: usize, tree: &mut TTree, refs
         rows,
         column,
         key,
-        prefixes: rows.prefixes(column),
+        values: rows.keys(column),
+        ties: rows.keys(key),
     };
     let mut rest = refs;
     while let Some((first, behind)) = rest.split_first() {

@@ -39,12 +39,13 @@ pub fn copy_range(
         (end_place column (slot_at rows.now) (option_map value_of ends.entry.high)) tree.now.refs) }
     ensures err { OnErr result (out.new.items ≡ out.old.items) }
 {
-    let prefixes = rows.prefixes(column);
+    let values = rows.keys(column);
     let order = ByColumn {
         rows,
         column,
         key,
-        prefixes,
+        values,
+        ties: rows.keys(key),
     };
     let low = AtEnd {
         rows,
@@ -52,7 +53,7 @@ pub fn copy_range(
         key,
         end: ends.low,
         prefix: prefix_of_end(ends.low),
-        prefixes,
+        values,
     };
     let high = AtEnd {
         rows,
@@ -60,7 +61,7 @@ pub fn copy_range(
         key,
         end: ends.high,
         prefix: prefix_of_end(ends.high),
-        prefixes,
+        values,
     };
     tree.copy_range(alloc, &order, &low, &high, out)
 }

@@ -3,6 +3,7 @@ ghost use Rattle.std.specs.Prelude.{◌≡◌, ◌+◌, ◌≤◌, [], List, len
 ghost use Rattle.mm_value.specs.declared.row_ref.RowRef.{RowRef};
 ghost use Rattle.mm_value.specs.declared.values.Value.{Value};
 ghost use Rattle.mm_partition.specs.Places.{Hidden, slot_at, extent_of};
+ghost use Rattle.mm_partition.specs.Types.{HasTypes};
 ghost use Rattle.mm_relation.specs.declared.indexes.names.Side.TheVariants.{New, Old};
 ghost use Rattle.mm_relation.specs.Before.{before, StandsBack};
 ghost use Rattle.mm_relation.specs.Differs.{Differs};
@@ -34,9 +35,9 @@ impl Relation {
     /// the command is taken back, one for each row that goes or changes. `undo_room` says how many places the commands
     /// before this one need to be taken back: so much room is there too. `AllocError` also where the sum is no `usize`.
     ///
-    /// The edits have to stand: each names a live row, no two the same one; each new row has the relation's
-    /// width; and of the rows that are kept and the new ones no two have one key. The extent grows by at most the number of
-    /// rows that are added.
+    /// The edits have to stand: each names a live row, no two the same one; each new row has the types of the
+    /// columns; and of the rows that are kept and the new ones no two have one key. The extent grows by at most the number
+    /// of rows that are added.
     pub fn apply(
         &mut self,
         alloc: Global,
@@ -46,7 +47,7 @@ impl Relation {
     ) -> Result<(), AllocError>
         requires empty { log.old.entries ≡ [] }
         requires standing { Standing (slot_at self.old.places) edits.items }
-        requires wide { All (λ row. length row ≡ self.old.width) (new_rows edits.items) }
+        requires typed { All (HasTypes self.old.places.types) (new_rows edits.items) }
         requires keys { KeysStayApart self.old edits.items }
         ensures changes { OnOk result
             (Changes edits.items (slot_at self.old.places) log.new.entries (slot_at self.new.places)) }
@@ -64,7 +65,7 @@ impl Relation {
         ensures differs { OnOk result (Differs (slot_at self.new.places) (slot_at self.old.places)
             (named record_name New log.new.entries) (named record_name Old log.new.entries)) }
         ensures key { OnOk result (self.new.key ≡ self.old.key) }
-        ensures width { OnOk result (self.new.width ≡ self.old.width) }
+        ensures types { OnOk result (self.new.places.types ≡ self.old.places.types) }
         ensures indexes { OnOk result (EachTurns SameIndex self.old.indexes self.new.indexes) }
         ensures extent { OnOk result (extent_of self.new.places ≤ extent_of self.old.places + added_count edits.items) }
         ensures undo_room { OnOk result (undo_room + length (named record_name Old log.new.entries) ≤ self.new.spare) }
@@ -112,7 +113,7 @@ impl Relation {
         requires spare { length (new_rows edits.items) ≤ self.old.spare }
         requires spares { All (λ x. length (new_rows edits.items) ≤ spare_of x) self.old.indexes }
         requires standing { Standing (slot_at self.old.places) edits.items }
-        requires wide { All (λ row. length row ≡ self.old.width) (new_rows edits.items) }
+        requires typed { All (HasTypes self.old.places.types) (new_rows edits.items) }
         requires keys { KeysStayApart self.old edits.items }
         ensures changes { Changes edits.items (slot_at self.old.places) log.new.entries (slot_at self.new.places) }
         ensures back { before log.new.entries (slot_at self.new.places) ≡ slot_at self.old.places }
@@ -127,7 +128,7 @@ impl Relation {
             ≡ changed self.old.key (edit_pairs (slot_at self.old.places) edits.items) (rows_of self.old) }
         ensures ordered { InOrder self.new.key self.new.key (slot_at self.new.places) self.new.refs }
         ensures key { self.new.key ≡ self.old.key }
-        ensures width { self.new.width ≡ self.old.width }
+        ensures types { self.new.places.types ≡ self.old.places.types }
         ensures indexes { EachTurns SameIndex self.old.indexes self.new.indexes }
         ensures extent { extent_of self.new.places ≤ extent_of self.old.places + added_count edits.items }
         ensures spare { self.old.spare ≤ self.new.spare + length (new_rows edits.items) }

@@ -19,7 +19,7 @@ impl Relation {
             ≡ has_duplicate_keys self.now.key (changed self.now.key (edit_pairs (slot_at self.now.places) edits.now) (rows_of self.now))) }
         ensures apart { IfOk result (λ duplicates. duplicates ≡ false → KeysStayApart self.now edits.now) }
     {
-        let _ = &self.width;
+        let _ = &self.rows;
         self.has_duplicates_after(alloc, edits)
     }
 
@@ -29,7 +29,7 @@ impl Relation {
         requires few { length self.now.refs ≤ most_rows }
         ensures { result ≡ length (changed self.now.key (edit_pairs (slot_at self.now.places) edits.now) (rows_of self.now)) }
     {
-        let _ = &self.width;
+        let _ = &self.rows;
         self.len_after(edits)
     }
 }

@@ -23,7 +23,7 @@ impl Relation {
         kind: IndexKind,
         undo_room: usize,
     ) -> Result<(), AllocError>
-        requires column { column < self.old.width }
+        requires column { column < length self.old.places.types }
         requires few { length self.old.refs ≤ most_rows }
         ensures added { OnOk result (AddsIndex column kind self.old.indexes self.new.indexes) }
         ensures rest { OnOk result (self.new ≡ record self.old { indexes = self.new.indexes }) }

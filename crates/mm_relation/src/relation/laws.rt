@@ -1,14 +1,14 @@
 //! What always holds of a relation.
-ghost use Rattle.mm_partition.specs.Places.{AreRowsStorable, slot_at};
+ghost use Rattle.mm_partition.specs.Places.{AreReferencesSmall, AreRowsStorable, slot_at};
 ghost use Rattle.mm_relation.specs.Kept.{IsKept};
 
 use super::Relation;
 
 impl Relation {
     /// The references of a relation are those of its live rows, in key order and no two of one key; each live row has
-    /// the relation's width, and each index keeps the references. The call does nothing.
+    /// the types of the columns, and each index keeps the references. The call does nothing.
     pub fn is_kept(&self)
-        ensures { IsKept self.now.width self.now.key (slot_at self.now.places) self.now.refs self.now.indexes }
+        ensures { IsKept self.now.places.types self.now.key (slot_at self.now.places) self.now.refs self.now.indexes }
     {
         let _rows = &self.rows;
     }
@@ -19,5 +19,13 @@ impl Relation {
         ensures { AreRowsStorable self.now.places }
     {
         self.rows.are_storable();
+    }
+
+    /// Each reference that gives a row of a relation is to one of the 64 slots of a partition, and the slot's index is below
+    /// 2^32 - 1. The call does nothing.
+    pub fn are_references_small(&self)
+        ensures { AreReferencesSmall self.now.places }
+    {
+        self.rows.are_references_small();
     }
 }

@@ -19,12 +19,13 @@ impl Relation {
         ensures none { IfNone result
             (All (λ at. slice_get (row_at (slot_at self.now.places) at) self.now.key ≢ Some (value_of key.entry)) self.now.refs) }
     {
-        let prefixes = self.rows.prefixes(self.key);
+        let values = self.rows.keys(self.key);
         let order = ByColumn {
             rows: &self.rows,
             column: self.key,
             key: self.key,
-            prefixes,
+            values,
+            ties: values,
         };
         let probe = AtValue {
             rows: &self.rows,
@@ -32,7 +33,7 @@ impl Relation {
             key: self.key,
             sought: key,
             prefix: order_prefix(&key),
-            prefixes,
+            values,
         };
         let mut seek = Seek::new(&probe);
         self.by_key.find(&order, &mut seek)

@@ -1,17 +1,18 @@
 //! Reading along the indexes.
-ghost use Rattle.std.specs.Prelude.{◌≡◌, ℕ, ◌<◌, ◌≤◌, length, map, All, IfOk, OnOk, OnErr};
+ghost use Rattle.std.specs.Prelude.{◌≡◌, ℕ, ◌<◌, ◌≤◌, length, map, filter, All, IfOk, IsOk, OnOk, OnErr};
 ghost use Rattle.std.specs.Option.{option_map};
 ghost use Rattle.mm_value.specs.Views.{value_of};
 ghost use Rattle.mm_partition.specs.Places.{IsLive, slot_at};
 ghost use Rattle.mm_schema.specs.Rows.{rows_by, most_rows};
 ghost use Rattle.mm_schema.specs.Sorting.{in_order};
 ghost use Rattle.mm_schema.specs.declared.index.IndexKind.TheVariants as kind;
-ghost use Rattle.mm_relation.specs.Reads.{HasIndex, IsWalk, IsRange, AreMatches, Appends};
+ghost use Rattle.mm_relation.specs.Reads.{HasIndex, IsWalk, IsRange, AreMatches, Appends, has_value};
 ghost use Rattle.mm_relation.specs.Refs.{row_at};
 ghost use Rattle.mm_relation.specs.RowLists.{rows_of};
 
 use super::Relation;
-use crate::indexes::hash_reads::copy_matches;
+use crate::found_refs::FoundRefs;
+use crate::indexes::hash_reads::{copy_matches, find_matches};
 use crate::indexes::index::Index;
 use crate::indexes::sorting::sorted_refs;
 use crate::indexes::tree_reads::{Ends, copy_range, copy_refs};
@@ -40,7 +41,7 @@ impl Relation {
     /// The references of all rows, of which there are at most 1,048,576, by the values in a column and those of one value by
     /// their keys, in a tree of their own. It takes O(n log n) comparisons for n rows. `AllocError` where memory is refused.
     pub fn ordered_by(&self, alloc: Global, column: usize) -> Result<TTree, AllocError>
-        requires column { column < self.now.width }
+        requires column { column < length self.now.places.types }
         requires few { length self.now.refs ≤ most_rows }
         ensures rows { IfOk result (λ tree. map (row_at (slot_at self.now.places)) tree.refs
             ≡ in_order (rows_by column self.now.key) (rows_of self.now)) }
@@ -98,6 +99,28 @@ impl Relation {
             Index::Tree { .. } => unreachable!(),
             Index::Hash { column, pairs } => {
                 copy_matches(alloc, &self.rows, *column, pairs, value, out)
+            }
+        }
+    }
+
+    /// The references of the rows whose value in the column of the HASH index at a place is this one, in no promised order.
+    /// They are found as `hash_matches` finds them; up to four take no memory. `AllocError` where memory is refused.
+    pub fn find_by_hash(
+        &self,
+        alloc: Global,
+        index: usize,
+        value: ValueRef<'_>,
+    ) -> Result<FoundRefs, AllocError>
+        requires { (column : ℕ) × HasIndex self.now.indexes index column kind.Hash }
+        ensures found { IfOk result (λ found. (column : ℕ) → HasIndex self.now.indexes index column kind.Hash
+            → AreMatches column (slot_at self.now.places) (value_of value.entry) self.now.refs found.items) }
+        ensures few { (column : ℕ) → HasIndex self.now.indexes index column kind.Hash
+            → length (filter (has_value column (slot_at self.now.places) (value_of value.entry)) self.now.refs) ≤ 4 → IsOk result }
+    {
+        match &self.indexes[index] {
+            Index::Tree { .. } => unreachable!(),
+            Index::Hash { column, pairs } => {
+                find_matches(alloc, &self.rows, *column, pairs, value)
             }
         }
     }

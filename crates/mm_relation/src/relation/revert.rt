@@ -27,7 +27,7 @@ impl Relation {
         requires stands { StandsBack log.old.entries (slot_at self.old.places) }
         requires differs { Differs (slot_at self.old.places) (before log.old.entries (slot_at self.old.places))
             (named record_name New log.old.entries) (named record_name Old log.old.entries) }
-        requires lawful { IsLawful self.old.width self.old.key (before log.old.entries (slot_at self.old.places)) }
+        requires lawful { IsLawful self.old.places.types self.old.key (before log.old.entries (slot_at self.old.places)) }
         requires spare { length (named record_name Old log.old.entries) ≤ self.old.spare }
         requires spares { All (λ x. length (named record_name Old log.old.entries) ≤ spare_of x) self.old.indexes }
         ensures slots { slot_at self.new.places ≡ before log.old.entries (slot_at self.old.places) }
@@ -35,7 +35,7 @@ impl Relation {
         ensures spares { EachTurns (λ x y. spare_of x ≤ spare_of y + length (named record_name Old log.old.entries))
             self.old.indexes self.new.indexes }
         ensures key { self.new.key ≡ self.old.key }
-        ensures width { self.new.width ≡ self.old.width }
+        ensures types { self.new.places.types ≡ self.old.places.types }
         ensures indexes { EachTurns SameIndex self.old.indexes self.new.indexes }
         ensures extent { extent_of self.new.places ≡ extent_of self.old.places }
         ensures inverted { EachTurns (Inverted (slot_at self.old.places)) log.old.entries log.new.entries }

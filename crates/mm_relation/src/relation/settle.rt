@@ -22,7 +22,7 @@ impl Relation {
         ensures refs { self.new.refs ≡ self.old.refs }
         ensures row_list { rows_of self.new ≡ rows_of self.old }
         ensures indexes { self.new.indexes ≡ self.old.indexes }
-        ensures width { self.new.width ≡ self.old.width }
+        ensures types { self.new.places.types ≡ self.old.places.types }
         ensures key { self.new.key ≡ self.old.key }
         ensures extent { extent_of self.new.places ≡ extent_of self.old.places }
         ensures spare { self.new.spare ≡ self.old.spare }

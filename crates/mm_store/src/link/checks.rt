@@ -1,7 +1,8 @@
 //! What refuses a change because of a foreign key.
-ghost use Rattle.std.specs.Prelude.{◌≡◌, ◌∷◌, [], true, false, length, All};
+ghost use Rattle.std.specs.Prelude.{◌≡◌, ◌∷◌, [], true, false, All};
 ghost use Rattle.std.specs.List.{list_any};
 ghost use Rattle.mm_partition.specs.Places.{IsLive, slot_at};
+ghost use Rattle.mm_partition.specs.Types.{HasTypes};
 ghost use Rattle.mm_relation.specs.Changes.{Standing};
 ghost use Rattle.mm_relation.specs.Edits.{new_rows};
 ghost use Rattle.mm_relation.specs.RowLists.{edit_pair, edit_pairs, rows_of};
@@ -76,7 +77,7 @@ impl Link {
     pub(crate) fn leaves_orphans(&self, from: &Relation, to: &Relation, edits: &[Edit]) -> bool
         requires follows { Follows self.now.reference.column to.now.key (slot_at from.now.places) (slot_at to.now.places) self.now.ties }
         requires standing { Standing (slot_at to.now.places) edits.now }
-        requires wide { All (λ row. length row ≡ to.now.width) (new_rows edits.now) }
+        requires typed { All (HasTypes to.now.places.types) (new_rows edits.now) }
         ensures { result ≡ lose_targets self.now.reference.column to.now.key (rows_of from.now) (edit_pairs (slot_at to.now.places) edits.now) }
     {
         for edit in edits {
@@ -91,7 +92,7 @@ impl Link {
     fn leaves_orphan(&self, from: &Relation, to: &Relation, edit: &Edit) -> bool
         requires follows { Follows self.now.reference.column to.now.key (slot_at from.now.places) (slot_at to.now.places) self.now.ties }
         requires standing { Standing (slot_at to.now.places) (edit.now ∷ []) }
-        requires wide { All (λ row. length row ≡ to.now.width) (new_rows (edit.now ∷ [])) }
+        requires typed { All (HasTypes to.now.places.types) (new_rows (edit.now ∷ [])) }
         ensures { let pair = edit_pair (slot_at to.now.places) edit.now in
             result ≡ loses_target self.now.reference.column to.now.key (rows_of from.now) pair.0 pair.1 }
     {
@@ -114,10 +115,10 @@ impl Link {
     }
 }
 
-/// Whether a live row has the key of a row of the relation's width.
+/// Whether a live row has the key of a row of the relation's types.
 fn has_key_of(relation: &Relation, at: RowRef, row: &Row) -> bool
     requires live { IsLive relation.now.places at }
-    requires wide { length row.now ≡ relation.now.width }
+    requires typed { HasTypes relation.now.places.types row.now }
     ensures { result ≡ same_in_column relation.now.key (row_at (slot_at relation.now.places) at) row.now }
 {
     relation.is_kept();

@@ -5,7 +5,7 @@ ghost use Rattle.store_tests.specs.SampleStore.{ArePlain};
 use super::asked_again;
 use super::shows::{Shows, table_shows};
 use crate::assertions::{assert_same, assert_that};
-use crate::stores::{add_index, put};
+use crate::stores::{TYPES, add_index, put};
 use mm_schema::{IndexKind, Reference};
 use mm_store::Store;
 use std::alloc::{AllocError, Global};
@@ -18,10 +18,10 @@ fn add_four(store: &mut Store, alloc: Global) -> Result<(), AllocError>
     ensures four { OnOk result (length store.new.tables ≡ 4) }
     ensures plain { OnOk result (ArePlain store.new) }
 {
-    store.add_table(alloc, 2, 0, &[])?;
-    store.add_table(alloc, 2, 0, &[])?;
-    store.add_table(alloc, 2, 0, &[])?;
-    store.add_table(alloc, 2, 0, &[])?;
+    store.add_table(alloc, TYPES, 0, &[])?;
+    store.add_table(alloc, TYPES, 0, &[])?;
+    store.add_table(alloc, TYPES, 0, &[])?;
+    store.add_table(alloc, TYPES, 0, &[])?;
     put(store, alloc, 0, &KEYS)?;
     Ok(())
 }
@@ -81,7 +81,7 @@ fn adds_table_again(rt: &(impl Abort + Print), alloc: Global, store: &mut Store)
     asked_again(rt)?;
     assert_same(rt, store.len(), 4);
     assert_that(rt, !store.view().refers_only_to(4, 1, 0));
-    store.add_table(alloc, 2, 0, &[TO_FIRST])?;
+    store.add_table(alloc, TYPES, 0, &[TO_FIRST])?;
     Ok(())
 }
 
@@ -89,7 +89,7 @@ fn adds_table_again(rt: &(impl Abort + Print), alloc: Global, store: &mut Store)
 fn adds_table(rt: &(impl Abort + Print), alloc: Global, store: &mut Store) -> Result<(), Fail>
     requires { length store.old.tables ≡ 4 }
 {
-    if store.add_table(alloc, 2, 0, &[TO_FIRST]).is_err() {
+    if store.add_table(alloc, TYPES, 0, &[TO_FIRST]).is_err() {
         adds_table_again(rt, alloc, store)?;
     }
     assert_same(rt, store.len(), 5);

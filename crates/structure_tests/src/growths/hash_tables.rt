@@ -1,14 +1,25 @@
 //! Bags of references by hash.
 ghost use Rattle.std.specs.Prelude.{◌<◌};
+ghost use Rattle.mlhash.specs.Bag.{IsSmall};
 
 use crate::assertions::{assert_same, assert_that};
 use crate::growths::asked_again;
-use crate::references::{are, first_of};
+use crate::references::are;
 use mlhash::HashRefs;
 use mm_value::RowRef;
 use std::alloc::{AllocError, Global};
 use std::process::Abort;
 use std::test::Fail;
+
+/// The reference to the first slot of a partition.
+fn first_of(part: u8) -> RowRef
+    ensures { IsSmall result }
+{
+    RowRef {
+        part: usize::from(part),
+        slot: 0,
+    }
+}
 
 /// Puts references of the hash 4 into a bag, and one of the hash 9.
 fn put_three(alloc: Global, refs: &mut HashRefs) -> Result<(), AllocError> {

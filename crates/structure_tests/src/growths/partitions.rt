@@ -1,49 +1,63 @@
 //! Partitions of rows, and the prefixes of a column.
-ghost use Rattle.std.specs.Prelude.{◌≤◌, IfOk, OnOk};
+ghost use Rattle.std.specs.Prelude.{◌≡◌, ◌≤◌, ◌∷◌, [], List, IfOk, OnOk};
+ghost use Rattle.mm_value.specs.declared.col_type.ColType.TheVariants.{Text as OfText};
 ghost use Rattle.mm_partition.specs.Places.{IsLive, IsUnchanged};
+ghost use Rattle.mm_partition.specs.Types.{HasTypes};
 
 use crate::assertions::{assert_same, assert_that};
 use crate::growths::asked_again;
-use mm_partition::{Partitions, RowView};
-use mm_value::{Refusal, Row, RowRef, Value, ValueRef};
+use mm_partition::{ColumnKeys, Partitions, RowView};
+use mm_value::{ColType, Refusal, Row, RowRef, Text, Value, ValueRef};
 use std::alloc::Global;
 use std::process::Abort;
 use std::test::Fail;
 
-/// The row of a number.
-fn row_of(alloc: Global, number: i64) -> Result<Row, Refusal> {
+/// The row of a text.
+fn row_of(alloc: Global, text: &[u8]) -> Result<Row, Refusal>
+    ensures { IfOk result (HasTypes (OfText ∷ [])) }
+{
     let mut values = Vec::with_capacity(alloc, 1)?;
-    values.push(Value::Int(number))?;
+    values.push(Value::Text(Text::new(alloc, text)?))?;
     Ok(Row::new(values))
 }
 
-/// Puts the row of 5 among rows, and answers its reference.
-fn place_five(alloc: Global, rows: &mut Partitions) -> Result<RowRef, Refusal>
-    ensures { IfOk result (IsLive rows.new) }
+/// Puts the row of `a` among rows, and answers its reference.
+fn place_a(alloc: Global, rows: &mut Partitions) -> Result<RowRef, Refusal>
+    requires { rows.old.types ≡ OfText ∷ [] }
+    ensures live { IfOk result (IsLive rows.new) }
+    ensures types { rows.new.types ≡ rows.old.types }
 {
-    let row = row_of(alloc, 5)?;
+    let row = row_of(alloc, b"a")?;
     rows.reserve(alloc, 1)?;
     Ok(rows.place(row))
 }
 
-/// Whether a row is that of a number.
-fn is_row_of(row: RowView<'_>, number: i64) -> bool {
+/// Whether a row is that of a text.
+fn is_row_of(row: RowView<'_>, text: &[u8]) -> bool {
     match row.get(0) {
-        Some(ValueRef::Int(found)) => row.len() == 1 && found == number,
+        Some(ValueRef::Text(found)) => row.len() == 1 && found.bytes() == text,
         _ => false,
     }
 }
 
-/// Asserts that the first column is tracked, and the row of 5 is the only one.
-fn assert_five(rt: &impl Abort, rows: &Partitions, first: RowRef)
+/// The prefixes of the first column, if they are kept.
+fn prefixes_in(rows: &Partitions) -> Option<&[u64]> {
+    match rows.keys(0) {
+        ColumnKeys::Prefixes(prefixes) => Some(prefixes),
+        _ => None,
+    }
+}
+
+/// Asserts that the column is tracked, and the row of `a` is the only one.
+fn assert_a(rt: &impl Abort, rows: &Partitions, first: RowRef)
     requires { IsLive rows.now first }
 {
     assert_same(rt, rows.extent(), 1);
-    assert_that(rt, is_row_of(rows.get(first), 5));
-    assert_same(rt, rows.prefixes(0), Some(&[0x4000000000000005u64]));
+    assert_that(rt, is_row_of(rows.get(first), b"a"));
+    assert_same(rt, prefixes_in(rows), Some(&[0xb080000000000000u64]));
 }
 
-/// Makes room for 200 rows more, and for their prefixes, beside the row of 5.
+/// Makes room for 200 rows more, and for their prefixes, beside the row of `a`.
 fn reserve(
     rt: &(impl Abort + AllocGlobal + Print),
     rows: &mut Partitions,
@@ -52,77 +66,87 @@ fn reserve(
     requires { IsLive rows.old first }
     ensures room { OnOk result (200 ≤ rows.new.room) }
     ensures rows { IsUnchanged rows.old rows.new }
+    ensures types { rows.new.types ≡ rows.old.types }
 {
     if rows.reserve(rt.alloc(), 200).is_err() {
         asked_again(rt)?;
-        assert_five(rt, rows, first);
+        assert_a(rt, rows, first);
         rows.reserve(rt.alloc(), 200)?;
     }
     Ok(())
 }
 
-/// Puts the row of 6 behind that of 5, into room that is made for it.
-fn place_six(
+/// Puts the row of `b` behind that of `a`, into room that is made for it.
+fn place_b(
     rt: &(impl Abort + AllocGlobal + Print),
     rows: &mut Partitions,
     first: RowRef,
-    six: Row,
+    b: Row,
 ) -> Result<(), Fail>
-    requires { IsLive rows.old first }
+    requires live { IsLive rows.old first }
+    requires typed { HasTypes rows.old.types b }
 {
     reserve(rt, rows, first)?;
-    let second = rows.place(six);
-    assert_that(rt, is_row_of(rows.get(first), 5));
-    assert_that(rt, is_row_of(rows.get(second), 6));
+    let second = rows.place(b);
+    assert_that(rt, is_row_of(rows.get(first), b"a"));
+    assert_that(rt, is_row_of(rows.get(second), b"b"));
     assert_same(
         rt,
-        rows.prefixes(0),
-        Some(&[0x4000000000000005u64, 0x4000000000000006]),
+        prefixes_in(rows),
+        Some(&[0xb080000000000000u64, 0xb100000000000000]),
     );
     Ok(())
 }
 
-/// Puts the rows of 5 and 6 among rows whose first column is tracked, and makes room between the two.
+/// Puts the rows of `a` and `b` among rows whose column is tracked, and makes room between the two.
 fn reserve_between(
     rt: &(impl Abort + AllocGlobal + Print),
     rows: &mut Partitions,
-) -> Result<(), Fail> {
-    let Ok(first) = place_five(rt.alloc(), rows) else {
+) -> Result<(), Fail>
+    requires { rows.old.types ≡ OfText ∷ [] }
+{
+    let Ok(first) = place_a(rt.alloc(), rows) else {
         return Ok(());
     };
     if rows.track(rt.alloc(), 0).is_err() {
         return Ok(());
     }
-    match row_of(rt.alloc(), 6) {
-        Ok(six) => place_six(rt, rows, first, six),
+    match row_of(rt.alloc(), b"b") {
+        Ok(b) => place_b(rt, rows, first, b),
         Err(_) => Ok(()),
     }
 }
 
 #[test]
 fn reserve_growths(rt: HostRuntime) -> Result<(), Fail> {
-    let mut rows = Partitions::new(rt.alloc());
-    reserve_between(&rt, &mut rows)
+    match Partitions::new(rt.alloc(), &[ColType::Text]) {
+        Ok(mut rows) => reserve_between(&rt, &mut rows),
+        Err(_) => Ok(()),
+    }
 }
 
-/// Tracks the first column of the row of 5, again where memory is refused.
-fn track_five(rt: &(impl Abort + AllocGlobal + Print), rows: &mut Partitions) -> Result<(), Fail> {
-    let Ok(first) = place_five(rt.alloc(), rows) else {
+/// Tracks the column of the row of `a`, again where memory is refused.
+fn track_a(rt: &(impl Abort + AllocGlobal + Print), rows: &mut Partitions) -> Result<(), Fail>
+    requires { rows.old.types ≡ OfText ∷ [] }
+{
+    let Ok(first) = place_a(rt.alloc(), rows) else {
         return Ok(());
     };
     if rows.track(rt.alloc(), 0).is_err() {
         asked_again(rt)?;
-        assert_that(rt, rows.prefixes(0).is_none());
-        assert_that(rt, is_row_of(rows.get(first), 5));
+        assert_that(rt, prefixes_in(rows).is_none());
+        assert_that(rt, is_row_of(rows.get(first), b"a"));
         rows.track(rt.alloc(), 0)?;
     }
-    assert_same(rt, rows.prefixes(0), Some(&[0x4000000000000005u64]));
-    assert_that(rt, is_row_of(rows.get(first), 5));
+    assert_same(rt, prefixes_in(rows), Some(&[0xb080000000000000u64]));
+    assert_that(rt, is_row_of(rows.get(first), b"a"));
     Ok(())
 }
 
 #[test]
 fn track_growths(rt: HostRuntime) -> Result<(), Fail> {
-    let mut rows = Partitions::new(rt.alloc());
-    track_five(&rt, &mut rows)
+    match Partitions::new(rt.alloc(), &[ColType::Text]) {
+        Ok(mut rows) => track_a(&rt, &mut rows),
+        Err(_) => Ok(()),
+    }
 }

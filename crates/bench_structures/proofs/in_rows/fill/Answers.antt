@@ -22,4 +22,5 @@ loop-preserved c =
       apart = subst AreApart (sym c.in_ok-push.ensures.items)
           (AreApart-push refs at c.loop.invariant.apart
           (λ k d within. is_elsewhere c.reserve.new.self at (get_or refs k d) c.place-at.ensures.fresh (reserved k d within)));
+      types = c.place-at.ensures.types ∙ (c.in_ok-reserve.ensures.types ∙ c.loop.invariant.types);
     }

@@ -23,6 +23,14 @@ row-requires-clause-live c = λ stored here.
     (sym c.into_iter-at-iterator.ensures.into_iter_gives ∙ (c.loop-at.invariant.split ∙ ap (λ l. c.loop-at.yielded ++ l) c.in-Some.ensures.steps))
     (c.walk-at-items.ensures.live stored (subst (λ (s : Tables). IsAt s c.args.table stored) c.loop-at.invariant.same here))
 
+pub insert-requires-clause-small : goal.insert-requires-clause-small
+insert-requires-clause-small c =
+    let (stored, here) = some_at c.args.view.now.store.tables c.args.table c.requires in
+    c.are_references_small.ensures stored here c.in-Some.at
+    (holds_next (IsLive stored.places) c.walk-at-items.result c.loop-at.yielded c.next.new.self c.in-Some.at
+    (sym c.into_iter-at-iterator.ensures.into_iter_gives ∙ (c.loop-at.invariant.split ∙ ap (λ l. c.loop-at.yielded ++ l) c.in-Some.ensures.steps))
+    (c.walk-at-items.ensures.live stored here))
+
 pub loop-at-preserved : goal.loop-at-preserved
 loop-at-preserved c = record {
   split = split_next c.into_iter-at-iterator.result c.loop-at.yielded c.loop-at.at-iterator c.next.new.self c.in-Some.at

@@ -7,6 +7,7 @@ use Rattle.mm_partition.specs.Views.{viewed}
 use Rattle.mm_partition.specs.Places.{IsLive}
 use Rattle.mm_plan.specs.Finding.{IsKeyed}
 use Rattle.mm_plan.specs.declared.finding.Keyed.{Keyed}
+use Rattle.mm_relation.proofs.Typed.{HasTypes-length}
 use Rattle.mm_relation.specs.Refs.{row_in}
 use Rattle.mm_store.proofs.Joining.{some_at}
 use Rattle.mm_store.proofs.Lists.{take_more}
@@ -28,8 +29,8 @@ row-row-requires-clause-live c = λ stored at.
 pub value-requires : goal.value-requires
 value-requires c =
     let (stored, here) = some_at c.args.view.now.store.tables c.args.table c.requires.there in
-    let wide = c.row-row.ensures.wide stored (subst (λ (s : Tables). IsAt s c.args.table stored) (sym c.loop-at.invariant.same) here) in
-    omega (arith, wide, (c.requires.key stored here).1)
+    let typed = c.row-row.ensures.typed stored (subst (λ (s : Tables). IsAt s c.args.table stored) (sym c.loop-at.invariant.same) here) in
+    omega (arith, HasTypes-length stored.places.types (viewed c.row-row.result) typed, (c.requires.key stored here).1)
 
 pub loop-at-preserved : goal.loop-at-preserved
 loop-at-preserved c =

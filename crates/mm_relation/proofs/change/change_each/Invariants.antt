@@ -1,6 +1,8 @@
 use Rattle.std.proofs.Common.{◌≡◌, ◌+◌, ◌≤◌, List, ◌++◌, length}
+use Rattle.std.specs.List.{All}
+use Rattle.mm_partition.specs.Types.{HasTypes}
 use Rattle.mm_partition.specs.Places.{slot_at, extent_of}
-use Rattle.mm_relation.specs.Edits.{added_count}
+use Rattle.mm_relation.specs.Edits.{added_count, new_rows}
 use Rattle.mm_relation.specs.Refs.{Slots}
 use Rattle.mm_relation.specs.declared.log.UndoRecord.{UndoRecord}
 use Rattle.mm_relation.specs.Changes.{Standing, Changes}
@@ -15,6 +17,8 @@ invariant-loop-edit l = record {
   room : added_count l.edit-iterator.rest.items ≤ l.rows.room;
   extent : extent_of l.rows + added_count l.edit-iterator.rest.items ≤ extent_of l.fn.rows + added_count l.fn.edits.items;
   log : length l.edit-iterator.rest.items ≤ l.log.room;
+  types : l.rows.types ≡ l.fn.rows.types;
+  typed : All (HasTypes l.fn.rows.types) (new_rows l.edit-iterator.rest.items);
   standing : Standing (slot_at l.rows) l.edit-iterator.rest.items;
   changes : (ns : List UndoRecord) (final : Slots) → Changes l.edit-iterator.rest.items (slot_at l.rows) ns final
       → Changes l.fn.edits.items (slot_at l.fn.rows) (l.log.entries ++ ns) final;

@@ -41,6 +41,7 @@ loop-entry-preserved c =
             freeing = Freeing-step old (slot_at c.loop-entry.rows) (slot_at w.release.new.self) all rest w.in-Some.at
                 (subst (Freeing old (slot_at c.loop-entry.rows) all) names c.loop-entry.invariant.freeing)
                 (record { changed = w.release.ensures.freed.changed; others = w.release.ensures.freed.others });
+            types = w.release.ensures.types ∙ c.loop-entry.invariant.types;
             extent = w.release.ensures.extent ∙ c.loop-entry.invariant.extent;
           })
       | in_default w ↦
@@ -54,6 +55,7 @@ loop-entry-preserved c =
 pub loop-entry-init : goal.loop-entry-init
 loop-entry-init c = record {
   freeing = Freeing-start (slot_at c.args.rows.now) (removed c.args.entries.now) c.requires;
+  types = refl;
   extent = refl;
 }
 
@@ -64,4 +66,4 @@ returns c =
     Freeing-end (slot_at c.args.rows.now) (slot_at c.loop-entry.rows) (removed c.args.entries.now)
     (removed (drop c.loop-entry.entry-index c.args.entries.now)) (ap (λ (es : List UndoRecord). removed es) none) c.loop-entry.invariant.freeing
     in
-    record { freed = end.freed; others = end.others; extent = c.loop-entry.invariant.extent }
+    record { freed = end.freed; others = end.others; extent = c.loop-entry.invariant.extent; types = c.loop-entry.invariant.types }

@@ -10,7 +10,7 @@ pub returns-in-Added-clause-slots : goal.returns-in-Added-clause-slots
 returns-in-Added-clause-slots c =
     let old = slot_at c.args.rows.now in
     let hidden = slot_at c.hide.new.self in
-    let live : HasRow old c.in-Added.at = subst (Stands old) c.in-Added.is c.requires in
+    let live : HasRow old c.in-Added.at = subst (Stands old) c.in-Added.is c.requires.stands in
     let hid = c.hide.ensures.hidden live.0 live.1 in
     let freed = c.release.ensures.freed in
     added_back old hidden (slot_at c.release.new.self) c.in-Added.at (Hidden live.0)

@@ -1,10 +1,11 @@
 use Rattle.std.proofs.Common.{◌+◌, ◌<◌, ◌≤◌, get_or, length, refl, sym, ap, ◌∙◌, subst}
 use Rattle.std.specs.List.{count_by}
+use Rattle.std.proofs.lemmas.Bool.{false≢true}
 use Rattle.mm_select.proofs.Fits.{refs_fit, refs_live, rows_along}
 use Rattle.mm_select.proofs.Walks.{one_first}
 use Rattle.mm_select.specs.Accesses.{is_along}
 use Rattle.mm_store.proofs.Joining.{some_at}
-use Rattle.mm_store.specs.Tables.{rows_at}
+use Rattle.mm_store.specs.Tables.{IsAt, rows_at}
 use Rattle.mm_templist.specs.Combos.{Combos}
 use Rattle.mm_select.proofs.selecting.select.Goals as goal
 
@@ -48,3 +49,8 @@ pub returns-in_err-refs-clause-reads : goal.returns-in_err-refs-clause-reads
 returns-in_err-refs-clause-reads c = λ table is.
     subst (λ n. c.select_refs.new.view.reads ≤ c.args.view.now.reads + count_by (is_along c.args.access) (rows_at c.args.view.now.store.tables n))
     (ap (λ l. get_or l 0 0) is) c.select_refs.ensures.reads
+
+pub returns-in_err-refs-clause-few : goal.returns-in_err-refs-clause-few
+returns-in_err-refs-clause-few c = λ of_hash table stored is here few.
+    absurd (false≢true (c.in_err-refs.ensures.few of_hash stored
+    (subst (λ l. IsAt c.args.view.now.store (get_or l 0 0) stored) (sym is) here) few))

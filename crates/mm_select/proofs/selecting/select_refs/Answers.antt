@@ -8,12 +8,12 @@ use Rattle.std.proofs.lemmas.Result.{IfOk-weaker}
 use Rattle.mm_query.specs.Queries.{none_fails}
 use Rattle.mm_store.proofs.Joining.{some_at}
 use Rattle.mm_store.specs.Tables.{rows_at}
-use Rattle.mm_select.specs.Accesses.{AreAlong, IsOfKey, is_along, is_in_key_order, refs_along}
+use Rattle.mm_select.specs.Accesses.{AreAlong, IsOfHash, IsOfKey, is_along, is_in_key_order, refs_along}
 use Rattle.mm_select.specs.Matches.{matching}
 use Rattle.mm_select.specs.declared.access.Access.{Access}
 use Rattle.mm_templist.specs.Combos.{row_of}
 use Rattle.mm_value.specs.declared.row_ref.RowRef.{RowRef}
-use Rattle.mm_select.proofs.Found.{key_looked_up}
+use Rattle.mm_select.proofs.Found.{hash_looked_up, key_looked_up}
 use Rattle.mm_select.proofs.Covered.{counted, scan_counted, selected, selected_in_order, selected_live}
 use Rattle.mm_select.proofs.selecting.select_refs.Goals as goal
 
@@ -90,6 +90,12 @@ pub returns-in_err-found-in-Equal-clause-by_key : goal.returns-in_err-found-in-E
 returns-in_err-found-in-Equal-clause-by_key c = λ of_key.
     absurd (c.in_err-found-in-Equal.ensures.by_key
     (key_looked_up c.in-Equal.index c.in-Equal.column c.in-Equal.value (subst IsOfKey c.in-Equal.is of_key)))
+
+pub returns-in_err-found-in-Equal-clause-few : goal.returns-in_err-found-in-Equal-clause-few
+returns-in_err-found-in-Equal-clause-few c = λ of_hash stored here few.
+    absurd (false≢true (c.in_err-found-in-Equal.ensures.few
+    (hash_looked_up c.in-Equal.index c.in-Equal.column c.in-Equal.value (subst IsOfHash c.in-Equal.is of_hash))
+    stored here (subst (λ (a : Access). length (refs_along stored a) ≤ 4) c.in-Equal.is few)))
 
 pub returns-in_ok-found-in-Equal-clause-by_key : goal.returns-in_ok-found-in-Equal-clause-by_key
 returns-in_ok-found-in-Equal-clause-by_key c = λ of_key.

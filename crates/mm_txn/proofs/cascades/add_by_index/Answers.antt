@@ -3,6 +3,7 @@ use Rattle.std.proofs.Common.{◌<◌, ◌++◌, [], ◌∷◌, length, slice_ge
 use Rattle.std.proofs.lemmas.List.{take_all, take_more}
 use Rattle.mm_partition.specs.Places.{slot_at}
 use Rattle.mm_partition.specs.Views.{viewed}
+use Rattle.mm_relation.proofs.Typed.{HasTypes-length}
 use Rattle.mm_relation.specs.Refs.{row_in}
 use Rattle.mm_relation.specs.declared.edits.Edit.{Edit}
 use Rattle.mm_store.specs.Tables.{IsAt, Tables}
@@ -30,7 +31,8 @@ value-key-requires c =
     let (target, at, fit) = c.requires.cascade.fit in
     omega (
       arith,
-      c.row.ensures.wide target (subst (λ (s : Tables). IsAt s c.args.cascade.now.to target) (sym c.loop-edit.invariant.same) at),
+      HasTypes-length target.places.types (viewed c.row.result)
+          (c.row.ensures.typed target (subst (λ (s : Tables). IsAt s c.args.cascade.now.to target) (sym c.loop-edit.invariant.same) at)),
       c.key_of-column.ensures.within target at,
     )
 

@@ -1,19 +1,25 @@
 -- The edits are those of the change that is bound.
-use Rattle.std.proofs.Common.{ℕ, ◌<◌, Err, length, sym, subst, ◌∙◌}
+use Rattle.std.proofs.Common.{◌≡◌, ℕ, ◌<◌, Err, Some, length, slice_get, sym, subst, ◌∙◌}
 use Rattle.std.proofs.lemmas.Result.{err_from_is_err_and}
-use Rattle.std.specs.List.{filter}
+use Rattle.std.specs.List.{All, filter}
+use Rattle.mm_partition.specs.Places.{slot_at}
+use Rattle.mm_partition.specs.Types.{HasTypes}
 use Rattle.mm_plan.specs.Finding.{meets}
+use Rattle.mm_relation.specs.Edits.{new_rows}
+use Rattle.mm_relation.specs.Kept.{StoredRows}
 use Rattle.mm_relation.specs.RowLists.{rows_of}
 use Rattle.mm_schema.specs.Refused.{AnswersDue}
 use Rattle.mm_query.specs.Binding.{AssignmentsWithin, Binds}
 use Rattle.mm_query.specs.Edits.{removals_of}
 use Rattle.mm_query.proofs.Binds.{delete_place, update_place}
 use Rattle.mm_store.proofs.Joining.{some_at}
+use Rattle.mm_store.proofs.Shown.{table_seen}
 use Rattle.mm_store.specs.Tables.{IsAt, Tables}
 use Rattle.mm_txn.specs.Bound.{bound_of}
 use Rattle.mm_txn.specs.RowEdits.{updates_of}
 use Rattle.mm_txn.specs.declared.bound.ChangeToRun.{ChangeToRun}
-use Rattle.mm_txn.proofs.ChangeSteps.{delete_owns, insert_edits, place_within_rows, stored_edits, update_due, update_owns, update_within, width_is}
+use Rattle.mm_txn.proofs.ChangeSteps.{delete_owns, insert_edits, place_within_rows, stored_edits, types_are, update_due, update_owns, update_within, width_is}
+use Rattle.mm_txn.proofs.TypedEdits.{swaps_typed}
 use Rattle.mm_txn.proofs.edits.own_edits.Goals as goal
 
 pub returns-in_ok-edits-in-Insert-clause-ok : goal.returns-in_ok-edits-in-Insert-clause-ok
@@ -72,11 +78,17 @@ returns-in_ok-edits-in-Update-clause-ok c = λ schema mutation are is.
     let placed = update_place schema mutation c.in-Update.table c.in-Update.assignments.now c.in-Update.tests.now binds in
     let (stored, here) = some_at rs c.in-Update.table (place_within_rows schema rs are mutation c.in-Update.table placed) in
     let at = subst (λ (s : Tables). IsAt s c.in-Update.table stored) (sym c.view-view.ensures.store) here in
-    let fit = c.in_ok-edits-in-Update.ensures.fit stored at in
-    stored_edits schema rs are mutation c.in-Update.table placed stored here c.in_ok-edits-in-Update.edits.items
-    (updates_of c.in-Update.assignments.now (filter (meets c.in-Update.tests.now) (rows_of stored))) (c.in_ok-edits-in-Update.ensures.pairs stored at)
-    (update_owns schema rs are mutation c.in-Update.table placed stored here c.in-Update.assignments.now c.in-Update.tests.now binds)
-    fit.standing fit.wide
+    let edits = c.in_ok-edits-in-Update.edits.items in
+    let pairs = c.in_ok-edits-in-Update.ensures.pairs stored at in
+    let owns = update_owns schema rs are mutation c.in-Update.table placed stored here c.in-Update.assignments.now c.in-Update.tests.now binds in
+    let kept = λ (other : ℕ) (relation : StoredRows) (has : slice_get rs other ≡ Some relation).
+    (table_seen c.view-view.result other relation (subst (λ (s : Tables). IsAt s other relation) (sym c.view-view.ensures.store) has)).kept in
+    stored_edits schema rs are mutation c.in-Update.table placed stored here edits
+    (updates_of c.in-Update.assignments.now (filter (meets c.in-Update.tests.now) (rows_of stored))) pairs owns
+    (c.in_ok-edits-in-Update.ensures.standing stored at)
+    (subst (λ types. All (HasTypes types) (new_rows edits)) (types_are schema rs are mutation c.in-Update.table placed stored here)
+    (swaps_typed schema rs are kept is.distinct mutation c.in-Update.table c.in-Update.assignments.now c.in-Update.tests.now binds is.due
+    (slot_at stored.places) edits (pairs ∙ sym owns)))
 
 -- ---- DELETE
 
@@ -98,4 +110,4 @@ returns-in_ok-edits-in-Delete-clause-ok c = λ schema mutation are is.
     let fit = c.in_ok-edits-in-Delete.ensures.fit stored at in
     stored_edits schema rs are mutation c.in-Delete.table placed stored here c.in_ok-edits-in-Delete.edits.items
     (removals_of (filter (meets c.in-Delete.tests.now) (rows_of stored))) (c.in_ok-edits-in-Delete.ensures.pairs stored at)
-    (delete_owns schema rs are mutation c.in-Delete.table placed stored here c.in-Delete.tests.now binds) fit.standing fit.wide
+    (delete_owns schema rs are mutation c.in-Delete.table placed stored here c.in-Delete.tests.now binds) fit.standing fit.typed

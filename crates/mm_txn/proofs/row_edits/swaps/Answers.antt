@@ -8,6 +8,7 @@ use Rattle.mm_partition.specs.Places.{IsLive, slot_at}
 use Rattle.mm_partition.specs.Views.{viewed}
 use Rattle.mm_query.specs.Atoms.{is_past_range, updated_row}
 use Rattle.mm_query.specs.Binding.{AssignmentsWithin}
+use Rattle.mm_relation.proofs.Typed.{HasTypes-length}
 use Rattle.mm_relation.specs.Kept.{StoredRows}
 use Rattle.mm_relation.specs.Refs.{row_in}
 use Rattle.mm_relation.specs.declared.edits.Edit.TheVariants.{Swap}
@@ -33,8 +34,9 @@ row-requires-clause-live c = λ stored at.
 pub swap-requires : goal.swap-requires
 swap-requires c =
     let (stored, here) = some_at c.args.view.now.store.tables c.args.table c.requires.there in
-    let wide = c.row.ensures.wide stored (subst (λ (s : Tables). IsAt s c.args.table stored) (sym c.loop-at.invariant.same) here) in
-    subst (λ n. AssignmentsWithin n c.args.assignments.now) (sym wide) (c.requires.assignments stored here)
+    let typed = c.row.ensures.typed stored (subst (λ (s : Tables). IsAt s c.args.table stored) (sym c.loop-at.invariant.same) here) in
+    subst (λ n. AssignmentsWithin n c.args.assignments.now) (sym (HasTypes-length stored.places.types (viewed c.row.result) typed))
+    (c.requires.assignments stored here)
 
 pub loop-at-preserved : goal.loop-at-preserved
 loop-at-preserved c =

@@ -4,14 +4,15 @@ use Rattle.std.proofs.lemmas.Result.{IfOk-weaker}
 use Rattle.mm_partition.specs.Places.{IsLive, slot_at}
 use Rattle.mm_plan.specs.Finding.{meets}
 use Rattle.mm_query.specs.Atoms.{range_conditions}
+use Rattle.mm_relation.specs.Changes.{Standing}
 use Rattle.mm_relation.specs.Kept.{StoredRows}
 use Rattle.mm_relation.specs.Refs.{row_at}
 use Rattle.mm_relation.specs.RowLists.{edit_pairs}
 use Rattle.mm_schema.specs.Refused.{AnswersDue, first_refusal}
 use Rattle.mm_store.proofs.Shown.{table_seen}
-use Rattle.mm_store.specs.Tables.{AreFit, IsAt, Tables}
+use Rattle.mm_store.specs.Tables.{IsAt, Tables}
 use Rattle.mm_txn.specs.RowEdits.{swap_of}
-use Rattle.mm_txn.proofs.EditsMade.{fit-swapped, pairs-updated}
+use Rattle.mm_txn.proofs.EditsMade.{Standing-swapped, pairs-updated}
 use Rattle.mm_txn.proofs.NewValues.{values-updates, values_of}
 use Rattle.mm_txn.proofs.RowsPassing.{passing_live}
 use Rattle.mm_txn.proofs.row_edits.updates.Goals as goal
@@ -48,9 +49,10 @@ returns c =
           ap (edit_pairs (slot_at stored.places))
           (made stored (there stored at) ∙ ap (map (swap_of (slot_at stored.places) assignments)) (refs stored at))
           ∙ pairs-updated (slot_at stored.places) (meets atoms) stored.refs assignments) c.swaps.ensures.made;
-      fit = IfOk-weaker c.swaps.result _ _
+      standing = IfOk-weaker c.swaps.result _ _
           (λ edits made stored at.
-          subst (AreFit stored) (sym (made stored (there stored at) ∙ ap (map (swap_of (slot_at stored.places) assignments)) (refs stored at)))
-          (fit-swapped stored (table_seen c.args.view.now c.args.table stored at).kept
+          subst (Standing (slot_at stored.places))
+          (sym (made stored (there stored at) ∙ ap (map (swap_of (slot_at stored.places) assignments)) (refs stored at)))
+          (Standing-swapped stored (table_seen c.args.view.now c.args.table stored at).kept
           (λ r. meets atoms (row_at (slot_at stored.places) r)) assignments)) c.swaps.ensures.made;
     }

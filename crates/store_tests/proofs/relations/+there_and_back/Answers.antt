@@ -9,6 +9,7 @@ use Rattle.mm_relation.specs.Refs.{Slots}
 use Rattle.mm_relation.specs.declared.log.UndoRecord.{UndoRecord}
 use Rattle.mm_relation.specs.declared.indexes.names.Side.TheVariants.{Old, New}
 use Rattle.mm_relation.proofs.Lawful.{IsLawful-kept}
+use Rattle.mm_value.specs.declared.col_type.ColType.{ColType}
 use Rattle.store_tests.proofs.relations.+there_and_back.Goals as goal
 use Rattle.store_tests.proofs.relations.+there_and_back.Goals.{in-Some-checked_add, in-None}
 
@@ -35,17 +36,17 @@ revert-requires-clause-lawful t c =
           ∙ (ap (before es) w.there_and_back-shown.ensures.slots ∙ c.in_ok-apply.ensures.back)
       | in-None w ↦ ap (λ (v : StoredRows). before es (slot_at v.places)) w.relation-is ∙ c.in_ok-apply.ensures.back
     ] in
-    let width : now.width ≡ old.width = elim c.match-checked_add.branch [
+    let types : now.places.types ≡ old.places.types = elim c.match-checked_add.branch [
       | in-Some-checked_add w ↦
-          ap (λ (v : StoredRows). v.width) w.relation-is ∙ (w.there_and_back-shown.ensures.sample.width ∙ sym c.requires.sample.width)
-      | in-None w ↦ ap (λ (v : StoredRows). v.width) w.relation-is ∙ c.in_ok-apply.ensures.width
+          ap (λ (v : StoredRows). v.places.types) w.relation-is ∙ (w.there_and_back-shown.ensures.sample.types ∙ sym c.requires.sample.types)
+      | in-None w ↦ ap (λ (v : StoredRows). v.places.types) w.relation-is ∙ c.in_ok-apply.ensures.types
     ] in
     let key : now.key ≡ old.key = elim c.match-checked_add.branch [
       | in-Some-checked_add w ↦
           ap (λ (v : StoredRows). v.key) w.relation-is ∙ (w.there_and_back-shown.ensures.key ∙ c.in_ok-apply.ensures.key)
       | in-None w ↦ ap (λ (v : StoredRows). v.key) w.relation-is ∙ c.in_ok-apply.ensures.key
     ] in
-    let was : IsLawful old.width old.key (slot_at old.places) =
-    IsLawful-kept old.width old.key (slot_at old.places) old.refs old.indexes c.is_kept.ensures in
-    subst (λ (n : ℕ). IsLawful n now.key (before es (slot_at now.places))) (sym width)
-    (subst (λ (n : ℕ). IsLawful old.width n (before es (slot_at now.places))) (sym key) (subst (IsLawful old.width old.key) (sym slots) was))
+    let was : IsLawful old.places.types old.key (slot_at old.places) =
+    IsLawful-kept old.places.types old.key (slot_at old.places) old.refs old.indexes c.is_kept.ensures in
+    subst (λ (ts : List ColType). IsLawful ts now.key (before es (slot_at now.places))) (sym types)
+    (subst (λ (n : ℕ). IsLawful old.places.types n (before es (slot_at now.places))) (sym key) (subst (IsLawful old.places.types old.key) (sym slots) was))

@@ -11,13 +11,13 @@ has_duplicates_with-requires c =
     let v = c.args.relation.now in
     let stay : Among v.refs (olds c.in_ok-edits.edits.items) = subst (Among v.refs) (sym c.in_ok-edits.ensures.old) c.in-Some.ensures in
     subst (Standing (slot_at v.places)) (sym c.as_slice.ensures.value)
-    (Standing-of_refs v.width v.key (slot_at v.places) v.refs v.indexes c.is_kept.ensures c.in_ok-edits.edits.items stay.0 stay.1)
+    (Standing-of_refs v.places.types v.key (slot_at v.places) v.refs v.indexes c.is_kept.ensures c.in_ok-edits.edits.items stay.0 stay.1)
 
 pub returns-clause-standing : goal.returns-clause-standing
 returns-clause-standing c =
     let v = c.args.relation.now in
     let stay : Among v.refs (olds c.in_ok-edits.edits.items) = subst (Among v.refs) (sym c.in_ok-edits.ensures.old) c.in-Some.ensures in
-    Standing-of_refs v.width v.key (slot_at v.places) v.refs v.indexes c.is_kept.ensures c.in_ok-edits.edits.items stay.0 stay.1
+    Standing-of_refs v.places.types v.key (slot_at v.places) v.refs v.indexes c.is_kept.ensures c.in_ok-edits.edits.items stay.0 stay.1
 
 pub returns-clause-apart : goal.returns-clause-apart
 returns-clause-apart c =

@@ -8,12 +8,12 @@ pub has_duplicates_with-requires : goal.has_duplicates_with-requires
 has_duplicates_with-requires c =
     let v = c.args.relation.now in
     subst (Standing (slot_at v.places)) (sym c.as_slice.ensures.value)
-    (Standing-of_refs v.width v.key (slot_at v.places) v.refs v.indexes c.is_kept.ensures c.args.edits.items c.requires.stay.0 c.requires.stay.1)
+    (Standing-of_refs v.places.types v.key (slot_at v.places) v.refs v.indexes c.is_kept.ensures c.args.edits.items c.requires.stay.0 c.requires.stay.1)
 
 pub apply-requires-clause-standing : goal.apply-requires-clause-standing
 apply-requires-clause-standing c =
     let v = c.args.relation.now in
-    Standing-of_refs v.width v.key (slot_at v.places) v.refs v.indexes c.is_kept.ensures c.args.edits.items c.requires.stay.0 c.requires.stay.1
+    Standing-of_refs v.places.types v.key (slot_at v.places) v.refs v.indexes c.is_kept.ensures c.args.edits.items c.requires.stay.0 c.requires.stay.1
 
 pub apply-requires-clause-keys : goal.apply-requires-clause-keys
 apply-requires-clause-keys c =

@@ -1,10 +1,12 @@
-use Rattle.std.proofs.Common.{◌+◌, ◌≤◌}
+use Rattle.std.proofs.Common.{◌≡◌, ◌+◌, ◌≤◌, ◌∷◌, []}
+use Rattle.mm_value.specs.declared.col_type.ColType.TheVariants.{Int}
 use Rattle.mm_partition.specs.Places.{IsLive}
 use Rattle.structure_tests.proofs.partitions.place_behind.Given as goal
 
--- there is room for the rows to come, and the second row lives
+-- there is room for the rows to come, and the second row lives, and the rows have a number each
 abbrev pub invariant-loop : goal.invariant-loop
 invariant-loop g l = record {
   room : 200 ≤ l.counter + l.rows.room;
   live : IsLive l.rows l.two;
+  types : l.rows.types ≡ Int ∷ [];
 }

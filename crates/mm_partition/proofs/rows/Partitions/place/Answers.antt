@@ -1,113 +1,130 @@
-use Rattle.std.proofs.Common.{◌≡◌, ◌+◌, ◌-◌, ◌∙◌, List, ℕ, set, length, Some, None, sym, ap, subst, arith, length-set}
-use Rattle.std.specs.Prelude.{All, map}
-use Rattle.std.proofs.lemmas.List.{length-map}
-use Rattle.mm_partition.specs.declared.slots.Slot.{Slot}
-use Rattle.mm_partition.specs.Links.{content_of, LinksFree}
-use Rattle.mm_partition.specs.Places.{Places}
-use Rattle.mm_partition.specs.Tracked.{Tracks, IsStored}
-use Rattle.mm_partition.proofs.LinkLemmas.{first_within, LinksFree-given}
-use Rattle.mm_partition.proofs.PlaceLemmas.{ChangesOnly-set}
-use Rattle.mm_partition.proofs.StoredLemmas.{IsStored-set, IsStored-pushed, none_free, first_is_free}
+use Rattle.std.proofs.Common.{◌≡◌, ℕ, ◌+◌, List, ◌∷◌, [], ◌++◌, length, set, ap, ◌∙◌, subst, arith, length-set, length-append}
+use Rattle.std.specs.Prelude.{vec_len}
+use Rattle.mm_partition.specs.declared.slots.State.{State}
+use Rattle.mm_partition.specs.declared.slots.State.TheVariants as state
+use Rattle.mm_partition.specs.Cells.{row_of}
+use Rattle.mm_partition.specs.Places.{Places, Live}
+use Rattle.mm_partition.specs.Stored.{IsFreeStack, IsStored}
+use Rattle.mm_partition.proofs.ContentLemmas.{length-contents, content_if, ChangesOnly-at, extent_is, free_at, Written-slot, Written-pushed, Storable-written}
+use Rattle.mm_partition.proofs.FreeLemmas.{IsFreeStack-given, last_is_free, IsStored-pushed, is_empty, IsStored-at}
 use Rattle.mm_partition.proofs.rows.Partitions.place.Goals as goal
-
-pub push_each-requires : goal.push_each-requires
-push_each-requires c =
-    let slots : List Slot = c.self.inside.slots.items in
-    let none : c.self.inside.free_count ≡ 0 = none_free slots _
-    (subst (λ h. LinksFree slots h c.self.inside.free_count) c.in_default.is c.self.invariant.free) in
-    let room : c.self.inside.free_count + c.self.inside.spare ≡ c.args.self.now.room = ap (λ (p : Places). p.room) c.self.view_is in
-    let some : c.self.inside.spare ≡ (c.self.inside.spare - 1) + 1 = omega (arith, none, room, c.requires) in (
-      map content_of slots,
-      c.self.inside.spare - 1,
-      subst (λ n. All (Tracks (map content_of slots) n) c.self.inside.tracked.items) some
-          c.self.invariant.tracked,
-    )
+use Rattle.std.proofs.lemmas.Option.{slice_get_past, slice_get_within}
 
 pub invariant_of-self : goal.invariant_of-self
 invariant_of-self c =
-    let slots : List Slot = c.self.inside.slots.items in
-    let old : IsStored slots None c.self.inside.free_count c.self.inside.slots.cap c.self.inside.spare c.self.inside.tracked.items =
-    subst (λ h. IsStored slots h c.self.inside.free_count c.self.inside.slots.cap c.self.inside.spare c.self.inside.tracked.items) c.in_default.is
-    c.self.invariant in
-    let room : c.self.inside.free_count + c.self.inside.spare ≡ c.args.self.now.room = ap (λ (p : Places). p.room) c.self.view_is in
-    let none : c.self.inside.free_count ≡ 0 = none_free slots _ old.free in
-    let some : c.self.inside.spare ≡ (c.self.inside.spare - 1) + 1 = omega (arith, none, room, c.requires) in
-    let tracked = subst (λ n. All (Tracks (map content_of slots) n) c.self.inside.tracked.items) some c.self.invariant.tracked in
-    let pushed = IsStored-pushed slots c.self.inside.free_count c.self.inside.slots.cap c.self.inside.spare c.args.row c.self.inside.tracked.items
-    c.push_each.new.columns.items c.is_storable.ensures (c.push_each.ensures (map content_of slots) (c.self.inside.spare - 1) tracked) (omega (arith, some))
-    old in
-    subst (λ h. IsStored c.push_reserved.new.self.items h c.self.inside.free_count c.push_reserved.new.self.cap (c.self.inside.spare - 1)
-    c.push_each.new.columns.items)
-    (sym c.in_default.is)
-    (subst (λ n. IsStored c.push_reserved.new.self.items None c.self.inside.free_count n (c.self.inside.spare - 1) c.push_each.new.columns.items)
-    (sym c.push_reserved.ensures.capacity)
-    (subst (λ xs. IsStored xs None c.self.inside.free_count c.self.inside.slots.cap (c.self.inside.spare - 1) c.push_each.new.columns.items)
-    (sym c.push_reserved.ensures.items) pushed))
+    let room : vec_len c.self.inside.free + c.self.inside.spare ≡ c.args.self.now.room = ap (λ (p : Places). p.room) c.self.view_is in
+    let none = c.in-None.ensures.cases in
+    IsStored-pushed c.self.inside.states.items _ c.self.inside.free.items c.pop.new.self.items _ _ _ _ c.self.inside.spare c.len-index.result
+    c.self.inside.columns.items _
+    (omega arith) (is_empty c.self.inside.free.items (omega (arith, none.0))) (is_empty c.pop.new.self.items (omega (arith, none.1)))
+    c.push_reserved.ensures.items (omega (arith, room, none.0)) (omega (arith, c.push_reserved.ensures.capacity)) (omega (arith, c.pop.ensures.capacity))
+    c.push_each.ensures.fits
+    (Storable-written c.self.inside.columns.items _ c.self.inside.states.items _ c.len-index.result _
+    (Written-pushed _ _ c.self.inside.states.items _ c.len-index.result state.Live c.args.row (omega arith) c.push_reserved.ensures.items
+    (c.push_each.ensures.here ∙ c.into_values-values.ensures) c.push_each.ensures.others) c.is_storable.ensures c.self.invariant.storable)
+    c.self.invariant
 
-pub set_each-requires : goal.set_each-requires
-set_each-requires c =
-    let slots : List Slot = c.self.inside.slots.items in
-    let free : LinksFree slots (Some c.in-Some.index) c.self.inside.free_count =
-    subst (λ h. LinksFree slots h c.self.inside.free_count) c.in-Some.is c.self.invariant.free in
-    (map content_of slots, c.self.inside.spare, omega (arith, first_within _ _ _ free, length-map slots content_of), c.self.invariant.tracked)
+pub returns-in-None-clause-fresh : goal.returns-in-None-clause-fresh
+returns-in-None-clause-fresh c =
+    let states : List State = c.self.inside.states.items in
+    free_at _ states _ _ c.reference_to.result (length states) c.self.view_is (c.reference_to.ensures.place
+    ∙ (let e : c.len-index.result ≡ length states = omega arith in e))
+    c.reference_to.ensures.slot (ap (λ s. content_if s (row_of c.self.inside.columns.items (length states)))
+    (slice_get_past states (length states) (omega arith)))
+
+pub returns-in-None-clause-placed : goal.returns-in-None-clause-placed
+returns-in-None-clause-placed c =
+    let states : List State = c.self.inside.states.items in
+    ChangesOnly-at _ c.self.inside.columns.items c.push_each.new.columns.items states c.push_reserved.new.self.items _ _ c.len-index.result
+    c.reference_to.result (Live c.args.row) c.self.view_is c.reference_to.ensures.slot c.reference_to.ensures.place
+    (Written-pushed _ _ states _ c.len-index.result state.Live c.args.row (omega arith) c.push_reserved.ensures.items
+    (c.push_each.ensures.here ∙ c.into_values-values.ensures) c.push_each.ensures.others)
+
+pub returns-in-None-clause-within : goal.returns-in-None-clause-within
+returns-in-None-clause-within c = omega (arith, c.reference_to.ensures.place, extent_is _ _ _ _ c.self.view_is)
+
+pub returns-in-None-clause-extent : goal.returns-in-None-clause-extent
+returns-in-None-clause-extent c =
+    let states : List State = c.self.inside.states.items in
+    let size : length c.push_reserved.new.self.items ≡ length states + 1 = ap length c.push_reserved.ensures.items ∙ length-append states (state.Live ∷ []) in
+    omega (
+      arith,
+      length-contents 0 c.push_each.new.columns.items c.push_reserved.new.self.items,
+      size,
+      c.reference_to.ensures.place,
+      extent_is _ _ _ _ c.self.view_is,
+    )
+
+pub swap_each-requires-clause-within : goal.swap_each-requires-clause-within
+swap_each-requires-clause-within c k d h =
+    let states : List State = c.self.inside.states.items in
+    let free : IsFreeStack states (c.pop.new.self.items ++ c.in-Some.index ∷ []) = subst (IsFreeStack states) c.in-Some.ensures.items
+    c.self.invariant.free_slots in
+    omega (arith, slice_get_within states c.in-Some.index state.Free (last_is_free states _ _ free), (c.self.invariant.cells k d h).size)
 
 pub index_mut-requires : goal.index_mut-requires
 index_mut-requires c =
-    let slots : List Slot = c.self.inside.slots.items in
-    let free : LinksFree slots (Some c.in-Some.index) c.self.inside.free_count =
-    subst (λ h. LinksFree slots h c.self.inside.free_count) c.in-Some.is c.self.invariant.free in
-    omega (arith, first_within _ _ _ free, c.self.inside.slots.ok.0)
+    let states : List State = c.self.inside.states.items in
+    let free : IsFreeStack states (c.pop.new.self.items ++ c.in-Some.index ∷ []) = subst (IsFreeStack states) c.in-Some.ensures.items
+    c.self.invariant.free_slots in
+    omega (arith, slice_get_within states c.in-Some.index state.Free (last_is_free states _ _ free))
 
-pub unreachable-requires : goal.unreachable-requires
-unreachable-requires c =
-    let slots : List Slot = c.self.inside.slots.items in
-    let free : LinksFree slots (Some c.in-Some.index) c.self.inside.free_count =
-    subst (λ h. LinksFree slots h c.self.inside.free_count) c.in-Some.is c.self.invariant.free in
-    let (next, is) = first_is_free slots c.self.inside.free_count c.in-Some.index _ free c.index_mut.ensures.value in
-    c.in_default-replace.not-Free next (c.replace.ensures.value ∙ is)
-
-pub invariant_of-self-2 : goal.invariant_of-self-2
-invariant_of-self-2 c =
-    let slots : List Slot = c.self.inside.slots.items in
+pub invariant_of-self-in-Some : goal.invariant_of-self-in-Some
+invariant_of-self-in-Some c =
+    let states : List State = c.self.inside.states.items in
     let i : ℕ = c.in-Some.index in
-    let free : LinksFree slots (Some i) c.self.inside.free_count =
-    subst (λ h. LinksFree slots h c.self.inside.free_count) c.in-Some.is c.self.invariant.free in
-    let set_row = c.set_each.ensures (map content_of slots) c.self.inside.spare (omega (arith, first_within _ _ _ free, length-map slots content_of))
-    c.self.invariant.tracked in
-    subst (λ x. IsStored (set slots i x) c.in-Free.next (c.self.inside.free_count - 1) c.self.inside.slots.cap c.self.inside.spare c.set_each.new.columns.items)
-    (sym c.replace.ensures.after)
-    (IsStored-set slots _ _ _ _ _ _ i c.args.row _ _ c.is_storable.ensures
-    (LinksFree-given slots _ i _ _ c.args.row c.index_mut.ensures.value c.in-Free.ensures.value free) set_row c.self.invariant)
+    let free : IsFreeStack states (c.pop.new.self.items ++ i ∷ []) = subst (IsFreeStack states) c.in-Some.ensures.items c.self.invariant.free_slots in
+    let stored : IsStored (set states i state.Live) c.pop.new.self.items _ _ c.self.inside.spare c.swap_each.new.columns.items =
+    IsStored-at states (set states i state.Live) _ _ _ _ _ _ _ (length-set states i state.Live) (IsFreeStack-given states _ i free)
+    (c.swap_each.ensures.fits _ _ c.self.invariant.cells)
+    (Storable-written c.self.inside.columns.items _ states _ i _
+    (Written-slot _ _ states i state.Live c.args.row (slice_get_within states i state.Free (last_is_free states _ _ free))
+    (c.swap_each.ensures.here ∙ c.into_values-values.ensures) c.swap_each.ensures.others) c.is_storable.ensures c.self.invariant.storable)
+    c.self.invariant in
+    record {
+      free_slots = stored.free_slots;
+      states_room = stored.states_room;
+      free_room = omega (arith, stored.free_room, c.pop.ensures.capacity);
+      few = stored.few;
+      cells = stored.cells;
+      storable = stored.storable;
+    }
+
+pub returns-clause-fresh : goal.returns-clause-fresh
+returns-clause-fresh c =
+    let states : List State = c.self.inside.states.items in
+    let i : ℕ = c.in-Some.index in
+    let free : IsFreeStack states (c.pop.new.self.items ++ i ∷ []) = subst (IsFreeStack states) c.in-Some.ensures.items c.self.invariant.free_slots in
+    free_at _ states _ _ c.reference_to-in-Some.result i c.self.view_is c.reference_to-in-Some.ensures.place c.reference_to-in-Some.ensures.slot
+    (ap (λ s. content_if s (row_of c.self.inside.columns.items i)) (last_is_free states _ _ free))
 
 pub returns-clause-placed : goal.returns-clause-placed
 returns-clause-placed c =
-    let free : LinksFree c.self.inside.slots.items (Some c.in-Some.index)
-    c.self.inside.free_count = subst (λ h. LinksFree c.self.inside.slots.items h c.self.inside.free_count) c.in-Some.is c.self.invariant.free in
-    let view : map content_of c.self.inside.slots.items ≡ c.args.self.now.slots = ap (λ p. p.slots) c.self.view_is in
-    ChangesOnly-set _ _ _ _ _ _ _ (ap content_of c.replace.ensures.after) view
-    (record { place = sym c.reference_to-2.ensures.place; small = c.reference_to-2.ensures.slot; within = first_within _ _ _ free })
+    let states : List State = c.self.inside.states.items in
+    let i : ℕ = c.in-Some.index in
+    let free : IsFreeStack states (c.pop.new.self.items ++ i ∷ []) = subst (IsFreeStack states) c.in-Some.ensures.items c.self.invariant.free_slots in
+    ChangesOnly-at _ c.self.inside.columns.items c.swap_each.new.columns.items states (set states i state.Live) _ _ i c.reference_to-in-Some.result
+    (Live c.args.row) c.self.view_is c.reference_to-in-Some.ensures.slot c.reference_to-in-Some.ensures.place
+    (Written-slot _ _ states i state.Live c.args.row (slice_get_within states i state.Free (last_is_free states _ _ free))
+    (c.swap_each.ensures.here ∙ c.into_values-values.ensures) c.swap_each.ensures.others)
 
 pub returns-clause-within : goal.returns-clause-within
 returns-clause-within c =
-    let slots : List Slot = c.self.inside.slots.items in
-    let free : LinksFree slots (Some c.in-Some.index) c.self.inside.free_count =
-    subst (λ h. LinksFree slots h c.self.inside.free_count) c.in-Some.is c.self.invariant.free in
-    let view : length (map content_of slots) ≡ length c.args.self.now.slots = ap (λ (p : Places). length p.slots) c.self.view_is in
-    omega (arith, c.reference_to-2.ensures.place, first_within _ _ _ free, length-map slots content_of, view)
+    let states : List State = c.self.inside.states.items in
+    let i : ℕ = c.in-Some.index in
+    let free : IsFreeStack states (c.pop.new.self.items ++ i ∷ []) = subst (IsFreeStack states) c.in-Some.ensures.items c.self.invariant.free_slots in
+    omega (arith, slice_get_within states i state.Free (last_is_free states _ _ free), c.reference_to-in-Some.ensures.place, extent_is _ _ _ _ c.self.view_is)
 
 pub returns-clause-extent : goal.returns-clause-extent
 returns-clause-extent c =
-    let slots : List Slot = c.self.inside.slots.items in
-    let free : LinksFree slots (Some c.in-Some.index) c.self.inside.free_count =
-    subst (λ h. LinksFree slots h c.self.inside.free_count) c.in-Some.is c.self.invariant.free in
-    let view : length (map content_of slots) ≡ length c.args.self.now.slots = ap (λ (p : Places). length p.slots) c.self.view_is in
-    let written : List Slot = set slots c.in-Some.index c.replace.new.dest in
+    let states : List State = c.self.inside.states.items in
+    let i : ℕ = c.in-Some.index in
+    let free : IsFreeStack states (c.pop.new.self.items ++ i ∷ []) = subst (IsFreeStack states) c.in-Some.ensures.items c.self.invariant.free_slots in
     omega (
       arith,
-      c.reference_to-2.ensures.place,
-      first_within _ _ _ free,
-      length-map slots content_of,
-      length-map written content_of,
-      length-set slots c.in-Some.index c.replace.new.dest,
-      view,
+      length-contents 0 c.swap_each.new.columns.items (set states i state.Live),
+      length-set states i state.Live,
+      slice_get_within states i state.Free (last_is_free states _ _ free),
+      c.reference_to-in-Some.ensures.place,
+      extent_is _ _ _ _ c.self.view_is,
     )

@@ -1,44 +1,48 @@
-use Rattle.std.proofs.Common.{◌≡◌, ◌∙◌, List, refl, sym, ap, subst, set, arith}
-use Rattle.std.specs.Prelude.{All, map}
-use Rattle.std.proofs.lemmas.List.{length-map}
-use Rattle.mm_partition.specs.declared.slots.Slot.{Slot}
-use Rattle.mm_partition.specs.declared.slots.Slot.TheVariants.{Live}
-use Rattle.mm_partition.specs.Links.{content_of, is_taken, LinksFree}
-use Rattle.mm_partition.specs.Places.{Live as Alive}
-use Rattle.mm_partition.specs.Tracked.{Tracks, IsStored}
-use Rattle.mm_partition.proofs.LinkLemmas.{LinksFree-kept}
-use Rattle.mm_partition.proofs.PlaceLemmas.{Refers, IsLive-refers, ChangesOnly-set}
-use Rattle.mm_partition.proofs.StoredLemmas.{IsStored-set}
+use Rattle.std.proofs.Common.{ℕ, List, refl, sym, ap, ◌∙◌, arith}
+use Rattle.mm_partition.specs.declared.slots.State.{State}
+use Rattle.mm_partition.specs.declared.slots.State.TheVariants as state
+use Rattle.mm_partition.specs.Places.{Live}
+use Rattle.mm_partition.proofs.ContentLemmas.{length-contents, Stands, live_at, ChangesOnly-at, Written, Written-cells, Storable-written, extent_is}
+use Rattle.mm_partition.proofs.ContentLemmas.{live_within, live_small}
+use Rattle.mm_partition.proofs.FreeLemmas.{IsStored-at}
 use Rattle.mm_partition.proofs.rows.Partitions.replace.Goals as goal
 
-pub set_each-requires : goal.set_each-requires
-set_each-requires c =
-    let here : Refers c.self.inside.slots.items c.args.at c.index_of.result = IsLive-refers c.args.self.now _ c.args.at _
-    (ap (λ p. p.slots) c.self.view_is) c.index_of.ensures c.requires in (
-      map content_of c.self.inside.slots.items,
-      c.self.inside.spare,
-      omega (arith, here.within, length-map c.self.inside.slots.items content_of),
-      c.self.invariant.tracked,
-    )
+pub index_of-requires : goal.index_of-requires
+index_of-requires c = omega (arith, live_within _ _ _ _ _ _ c.self.view_is c.requires.live.1, c.self.invariant.few)
+
+pub swap_each-requires-clause-within : goal.swap_each-requires-clause-within
+swap_each-requires-clause-within c k d h =
+    omega (arith, live_within _ _ _ _ _ _ c.self.view_is c.requires.live.1, c.index_of.ensures, (c.self.invariant.cells k d h).size)
 
 pub invariant_of-self : goal.invariant_of-self
 invariant_of-self c =
-    let slots : List Slot = c.self.inside.slots.items in
-    let view : map content_of slots ≡ c.args.self.now.slots = ap (λ p. p.slots) c.self.view_is in
-    let here : Refers slots c.args.at c.index_of-2.result = IsLive-refers c.args.self.now _ c.args.at _ view c.index_of-2.ensures c.requires in
-    let free : LinksFree (set slots c.index_of-2.result (Live c.args.row)) c.self.inside.first_free c.self.inside.free_count =
-    LinksFree-kept _ _ _ _ _ _ here.within c.index_mut.ensures.value (ap is_taken (sym c.in-Live.ensures.value)) refl c.self.invariant.free in
-    let tracked = c.set_each.ensures (map content_of slots) c.self.inside.spare
-    (omega (arith, c.index_of.ensures, c.index_of-2.ensures, here.within, length-map slots content_of)) c.self.invariant.tracked in
-    let same : c.index_of.result ≡ c.index_of-2.result = c.index_of.ensures ∙ sym c.index_of-2.ensures in
-    subst (λ x. IsStored (set slots c.index_of-2.result x) c.self.inside.first_free c.self.inside.free_count c.self.inside.slots.cap
-    c.self.inside.spare c.set_each.new.columns.items) (sym c.replace.ensures.after)
-    (IsStored-set slots _ _ _ _ _ _ c.index_of-2.result c.args.row _ _ c.is_storable.ensures free
-    (subst (λ i. All (Tracks (set (map content_of slots) i (Alive c.args.row)) c.self.inside.spare) c.set_each.new.columns.items) same tracked)
-    c.self.invariant)
+    let states : List State = c.self.inside.states.items in
+    let i : ℕ = c.index_of.result in
+    let stands : Stands c.self.inside.columns.items states i state.Live c.requires.live.0 =
+    live_at _ _ _ _ _ _ i c.self.view_is (sym c.index_of.ensures) c.requires.live.1 in
+    let written : Written c.self.inside.columns.items c.swap_each.new.columns.items states states i (Live c.args.row) = Written-cells _ _ states i
+    state.Live c.args.row
+    stands.state_is (c.swap_each.ensures.here ∙ c.into_values-values.ensures) c.swap_each.ensures.others in
+    IsStored-at _ _ _ _ _ _ _ _ _ refl c.self.invariant.free_slots (c.swap_each.ensures.fits _ _ c.self.invariant.cells)
+    (Storable-written _ _ states states i _ written c.is_storable.ensures c.self.invariant.storable) c.self.invariant
+
+pub returns-clause-was : goal.returns-clause-was
+returns-clause-was c =
+    let i : ℕ = c.index_of.result in
+    let stands : Stands c.self.inside.columns.items c.self.inside.states.items i state.Live c.requires.live.0 =
+    live_at _ _ _ _ _ _ i c.self.view_is (sym c.index_of.ensures) c.requires.live.1 in
+    c.requires.live.1 ∙ ap Live (sym stands.row_is ∙ (sym c.swap_each.ensures.values ∙ sym c.new.ensures))
 
 pub returns-clause-replaced : goal.returns-clause-replaced
 returns-clause-replaced c =
-    let view : map content_of c.self.inside.slots.items ≡ c.args.self.now.slots = ap (λ p. p.slots) c.self.view_is in
-    ChangesOnly-set _ _ _ _ _ _ _ (ap content_of c.replace.ensures.after) view
-    (IsLive-refers c.args.self.now _ c.args.at _ view c.index_of-2.ensures c.requires)
+    let states : List State = c.self.inside.states.items in
+    let i : ℕ = c.index_of.result in
+    let stands : Stands c.self.inside.columns.items states i state.Live c.requires.live.0 =
+    live_at _ _ _ _ _ _ i c.self.view_is (sym c.index_of.ensures) c.requires.live.1 in
+    ChangesOnly-at _ _ _ states states _ _ i c.args.at (Live c.args.row) c.self.view_is (live_small c.args.self.now c.args.at _ c.requires.live.1)
+    (sym c.index_of.ensures)
+    (Written-cells c.self.inside.columns.items c.swap_each.new.columns.items states i state.Live c.args.row stands.state_is
+    (c.swap_each.ensures.here ∙ c.into_values-values.ensures) c.swap_each.ensures.others)
+
+pub returns-clause-extent : goal.returns-clause-extent
+returns-clause-extent c = length-contents 0 c.swap_each.new.columns.items c.self.inside.states.items ∙ sym (extent_is _ _ _ _ c.self.view_is)

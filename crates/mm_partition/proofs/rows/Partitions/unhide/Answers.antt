@@ -1,29 +1,43 @@
-use Rattle.std.proofs.Common.{◌≡◌, List, refl, sym, ap, ◌∙◌, subst}
-use Rattle.std.specs.Prelude.{map}
-use Rattle.mm_partition.specs.declared.slots.Slot.{Slot}
-use Rattle.mm_partition.specs.Links.{content_of, is_taken}
-use Rattle.mm_partition.specs.Places.{Live, Hidden, IsStorableIn}
-use Rattle.mm_partition.specs.Tracked.{IsPrefixIn}
-use Rattle.mm_partition.proofs.LinkLemmas.{LinksFree-kept}
-use Rattle.mm_partition.proofs.PlaceLemmas.{Refers, IsHidden-refers, slot_at-is, ChangesOnly-set}
-use Rattle.mm_partition.proofs.StoredLemmas.{IsStored-kept}
+use Rattle.std.proofs.Common.{ℕ, List, length, set, refl, sym, ap, ◌∙◌, arith, length-set}
+use Rattle.mm_partition.specs.declared.slots.State.{State}
+use Rattle.mm_partition.specs.declared.slots.State.TheVariants as state
+use Rattle.mm_partition.specs.Places.{Places, Live}
+use Rattle.mm_partition.proofs.ContentLemmas.{length-contents, Stands, hidden_at, ChangesOnly-at, Written-slot, Storable-written, stored_in, hidden_within}
+use Rattle.mm_partition.proofs.ContentLemmas.{hidden_small}
+use Rattle.mm_partition.proofs.FreeLemmas.{IsFreeStack-kept, IsStored-at}
 use Rattle.mm_partition.proofs.rows.Partitions.unhide.Goals as goal
+
+pub index_of-requires : goal.index_of-requires
+index_of-requires c = omega (arith, hidden_within _ _ _ _ _ _ c.self.view_is c.requires.1, c.self.invariant.few)
+
+pub index_mut-requires : goal.index_mut-requires
+index_mut-requires c = omega (arith, hidden_within _ _ _ _ _ _ c.self.view_is c.requires.1, c.index_of.ensures)
 
 pub invariant_of-self : goal.invariant_of-self
 invariant_of-self c =
-    let here : Refers c.self.inside.slots.items c.args.at c.index_of.result = IsHidden-refers c.args.self.now _ c.args.at _
-    (ap (λ p. p.slots) c.self.view_is) c.index_of.ensures c.requires in
-    let free = LinksFree-kept _ _ _ _ _ _ here.within c.index_mut-slot.ensures.value (ap is_taken (sym c.in-Hidden.ensures.value)) refl c.self.invariant.free in
-    IsStored-kept _ _ _ _ _ _ _ _ _ _ _ here.within c.index_mut-slot.ensures.value
-    (λ column n same. subst (λ x. IsPrefixIn column (content_of x) n) (sym c.in-Hidden.ensures.value) same)
-    (λ stored. subst (λ x. IsStorableIn (content_of x)) (sym c.in-Hidden.ensures.value) stored) free c.self.invariant
+    let states : List State = c.self.inside.states.items in
+    let i : ℕ = c.index_of.result in
+    let stands : Stands c.self.inside.columns.items states i state.Hidden c.requires.0 =
+    hidden_at _ _ _ _ _ _ i c.self.view_is (sym c.index_of.ensures) c.requires.1 in
+    IsStored-at states (set states i state.Live) _ _ _ _ _ _ _ (length-set states i state.Live)
+    (IsFreeStack-kept states _ i state.Hidden state.Live stands.state_is refl refl c.self.invariant.free_slots) c.self.invariant.cells
+    (Storable-written _ _ states _ i _ (Written-slot _ _ states i state.Live c.requires.0 stands.within stands.row_is (λ k apart. refl))
+    (stored_in _ states i state.Hidden c.requires.0 stands.state_is stands.row_is c.self.invariant.storable) c.self.invariant.storable)
+    c.self.invariant
 
 pub returns-clause-back : goal.returns-clause-back
 returns-clause-back c row is =
-    let slots : List Slot = c.self.inside.slots.items in
-    let view : map content_of slots ≡ c.args.self.now.slots = ap (λ p. p.slots) c.self.view_is in
-    let here : Refers slots c.args.at c.index_of.result = IsHidden-refers c.args.self.now slots c.args.at _ view c.index_of.ensures c.requires in
-    let both : Hidden c.in-Hidden.row ≡ Hidden row = ap content_of c.in-Hidden.ensures.value
-    ∙ (sym (slot_at-is c.args.self.now slots _ _ _ view here c.index_mut-slot.ensures.value) ∙ is) in
-    let same : Live c.in-Hidden.row ≡ Live row = cc in
-    ChangesOnly-set _ _ _ _ _ _ _ same view here
+    let states : List State = c.self.inside.states.items in
+    let i : ℕ = c.index_of.result in
+    let stands : Stands c.self.inside.columns.items states i state.Hidden row =
+    hidden_at _ _ _ _ _ _ i c.self.view_is (sym c.index_of.ensures) is in
+    ChangesOnly-at _ c.self.inside.columns.items c.self.inside.columns.items states (set states i state.Live) _ _ i c.args.at (Live row) c.self.view_is
+    (hidden_small c.args.self.now c.args.at _ is) (sym c.index_of.ensures)
+    (Written-slot _ _ states i state.Live row stands.within stands.row_is (λ k apart. refl))
+
+pub returns-clause-extent : goal.returns-clause-extent
+returns-clause-extent c =
+    let states : List State = c.self.inside.states.items in
+    length-contents 0 _ (set states c.index_of.result state.Live)
+    ∙ (length-set states c.index_of.result state.Live
+    ∙ (sym (length-contents 0 c.self.inside.columns.items states) ∙ ap (λ (p : Places). length p.slots) c.self.view_is))

@@ -8,6 +8,7 @@ use Rattle.mm_relation.proofs.SortedRows.{sortable_total}
 use Rattle.mm_relation.proofs.indexes.sorting.sort.Goals as goal
 
 pub returns-clause-sorted : goal.returns-clause-sorted
-returns-clause-sorted c =
-    c.sort_unstable_by.ensures.sorted (λ a b. is_lt (sortable_cmp a b)) (ranks_by sortable_total (λ x. x))
+returns-clause-sorted g c =
+    let read = g.V.AsValue.value in
+    c.sort_unstable_by.ensures.sorted (λ a b. is_lt (sortable_cmp read a b)) (ranks_by (sortable_total read) (λ x. x))
     (always_returns_same _ _ _ (λ a r f k. search rules))

@@ -1,7 +1,6 @@
-use Rattle.std.proofs.Common.{◌-◌, ◌∷◌, ◌++◌, List, drop, length, subst, take, arith}
+use Rattle.std.proofs.Common.{◌-◌, ◌∷◌, ◌++◌, drop, length, subst, take, arith}
 use Rattle.std.specs.Prelude.{IsPermutation}
 use Rattle.std.proofs.lemmas.List.Elements.{All-contains}
-use Rattle.mm_value.specs.declared.row_ref.RowRef.{RowRef}
 use Rattle.mm_partition.specs.Places.{slot_at}
 use Rattle.mm_relation.specs.Refs.{IsWide}
 use Rattle.mm_relation.proofs.Steps.{next_held, past_run, run_taken}

@@ -1,4 +1,4 @@
-use Rattle.std.proofs.Common.{◌≡◌, ◌<◌, List, [], ◌∷◌, ◌++◌, sym, ap, ◌∙◌, subst}
+use Rattle.std.proofs.Common.{◌≡◌, length, ◌<◌, List, [], ◌∷◌, ◌++◌, sym, ap, ◌∙◌, subst}
 use Rattle.std.specs.List.{All}
 use Rattle.mm_value.specs.declared.row_ref.RowRef.{RowRef}
 use Rattle.mm_partition.specs.Places.{Places, slot_at}
@@ -14,36 +14,40 @@ with_room-requires-clause-wide c =
     let now = slot_at c.track_for.new.rows in
     let refs = c.self.inside.by_key.refs in
     let indexes = c.self.inside.indexes.items in
-    let within : c.args.column < c.self.inside.width = subst (λ (v : StoredRows). c.args.column < v.width) (sym c.self.view_is) c.requires.column in
-    let kept : IsKept c.self.inside.width c.self.inside.key now refs indexes =
-    subst (λ (places : Places). IsKept c.self.inside.width c.self.inside.key (slot_at places) refs indexes) (sym c.track_for.ensures) c.self.invariant in
+    let within : c.args.column < length c.track_for.new.rows.types =
+    subst (λ (places : Places). c.args.column < length places.types) (sym c.track_for.ensures)
+    (subst (λ (v : StoredRows). c.args.column < length v.places.types) (sym c.self.view_is) c.requires.column) in
+    let kept : IsKept c.track_for.new.rows.types c.self.inside.key now refs indexes =
+    subst (λ (places : Places). IsKept places.types c.self.inside.key (slot_at places) refs indexes) (sym c.track_for.ensures) c.self.invariant in
     subst (All (IsWide c.args.column c.self.inside.key now)) (sym (c.as_slice-refs.ensures.value ∙ c.in_ok-refs.ensures))
-    (wide_refs c.self.inside.width c.self.inside.key now refs indexes kept c.args.column within)
+    (wide_refs c.track_for.new.rows.types c.self.inside.key now refs indexes kept c.args.column within)
 
 pub with_room-requires-clause-apart : goal.with_room-requires-clause-apart
 with_room-requires-clause-apart c =
     let now = slot_at c.track_for.new.rows in
     let refs = c.self.inside.by_key.refs in
     let indexes = c.self.inside.indexes.items in
-    let kept : IsKept c.self.inside.width c.self.inside.key now refs indexes =
-    subst (λ (places : Places). IsKept c.self.inside.width c.self.inside.key (slot_at places) refs indexes) (sym c.track_for.ensures) c.self.invariant in
+    let kept : IsKept c.track_for.new.rows.types c.self.inside.key now refs indexes =
+    subst (λ (places : Places). IsKept places.types c.self.inside.key (slot_at places) refs indexes) (sym c.track_for.ensures) c.self.invariant in
     subst (KeysApart c.self.inside.key now) (sym (c.as_slice-refs.ensures.value ∙ c.in_ok-refs.ensures))
-    (apart_refs c.self.inside.width c.self.inside.key now refs indexes kept)
+    (apart_refs c.track_for.new.rows.types c.self.inside.key now refs indexes kept)
 
 pub invariant_of-self-in-Ok : goal.invariant_of-self-in-Ok
 invariant_of-self-in-Ok c =
     let now = slot_at c.track_for.new.rows in
     let refs = c.self.inside.by_key.refs in
     let indexes = c.self.inside.indexes.items in
-    let within : c.args.column < c.self.inside.width = subst (λ (v : StoredRows). c.args.column < v.width) (sym c.self.view_is) c.requires.column in
-    let kept : IsKept c.self.inside.width c.self.inside.key now refs indexes =
-    subst (λ (places : Places). IsKept c.self.inside.width c.self.inside.key (slot_at places) refs indexes) (sym c.track_for.ensures) c.self.invariant in
-    let columns : column_of c.in-Ok.index < c.self.inside.width = rw c.in-Ok.ensures.on.0 within in
+    let within : c.args.column < length c.track_for.new.rows.types =
+    subst (λ (places : Places). c.args.column < length places.types) (sym c.track_for.ensures)
+    (subst (λ (v : StoredRows). c.args.column < length v.places.types) (sym c.self.view_is) c.requires.column) in
+    let kept : IsKept c.track_for.new.rows.types c.self.inside.key now refs indexes =
+    subst (λ (places : Places). IsKept places.types c.self.inside.key (slot_at places) refs indexes) (sym c.track_for.ensures) c.self.invariant in
+    let columns : column_of c.in-Ok.index < length c.track_for.new.rows.types = rw c.in-Ok.ensures.on.0 within in
     let keeps : Keeps c.self.inside.key now refs c.in-Ok.index =
     subst (λ (xs : List RowRef). Keeps c.self.inside.key now xs c.in-Ok.index) (c.as_slice-refs.ensures.value ∙ c.in_ok-refs.ensures) c.in-Ok.ensures.keeps
     in
     let items : c.push_reserved.new.self.items ≡ indexes ++ c.in-Ok.index ∷ [] =
     c.push_reserved.ensures.items ∙ ap (λ (xs : List Index). xs ++ c.in-Ok.index ∷ []) c.reserve.ensures.items
     in
-    subst (IsKept c.self.inside.width c.self.inside.key now refs) (sym items)
-    (IsKept-added c.self.inside.width c.self.inside.key now refs indexes kept c.in-Ok.index columns keeps)
+    subst (IsKept c.track_for.new.rows.types c.self.inside.key now refs) (sym items)
+    (IsKept-added c.track_for.new.rows.types c.self.inside.key now refs indexes kept c.in-Ok.index columns keeps)

@@ -9,4 +9,4 @@ pub returns-clause-live : goal.returns-clause-live
 returns-clause-live c =
     subst (λ (v : StoredRows). All (IsLive v.places) c.iter.result) c.self.view_is
     (subst (All (IsLive c.self.inside.rows)) (sym c.iter.ensures)
-    (live_refs c.self.inside.width c.self.inside.key (slot_at c.self.inside.rows) c.self.inside.by_key.refs c.self.inside.indexes.items c.self.invariant))
+    (live_refs c.self.inside.rows.types c.self.inside.key (slot_at c.self.inside.rows) c.self.inside.by_key.refs c.self.inside.indexes.items c.self.invariant))

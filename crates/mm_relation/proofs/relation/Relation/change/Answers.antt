@@ -4,6 +4,8 @@ use Rattle.std.specs.List.{All}
 use Rattle.std.proofs.lemmas.List.Sorted.{IsPermutation-sym}
 use Rattle.mm_value.specs.declared.row_ref.RowRef.{RowRef}
 use Rattle.mm_partition.specs.Places.{Hidden, slot_at}
+use Rattle.mm_value.specs.declared.col_type.ColType.{ColType}
+use Rattle.mm_partition.specs.Types.{HasTypes}
 use Rattle.mm_relation.specs.Refs.{row_at}
 use Rattle.mm_relation.specs.Edits.{Among, named, edit_name, edit_other, record_name, record_other, new_rows}
 use Rattle.mm_relation.specs.Changes.{Changes, Standing}
@@ -12,7 +14,7 @@ use Rattle.mm_value.specs.declared.values.Value.{Value}
 use Rattle.mm_schema.specs.Rows.{changed}
 use Rattle.mm_relation.specs.RowLists.{edit_pairs, rows_of}
 use Rattle.mm_relation.proofs.RowLists.{changed_is, in_key_order}
-use Rattle.mm_relation.specs.Kept.{StoredRows, Stay, rows_after, RowsApart}
+use Rattle.mm_relation.specs.Kept.{IsKept, StoredRows, Stay, rows_after, RowsApart}
 use Rattle.mm_relation.specs.declared.log.UndoRecord.{UndoRecord}
 use Rattle.mm_relation.specs.declared.edits.Edit.{Edit}
 use Rattle.mm_relation.specs.declared.indexes.names.Side.TheVariants.{Old, New}
@@ -31,7 +33,7 @@ pub take_each-requires-clause-held : goal.take_each-requires-clause-held
 take_each-requires-clause-held c =
     let standing : Standing (slot_at c.self.inside.rows) c.args.edits.items = subst (λ (v : StoredRows). Standing (slot_at v.places) c.args.edits.items)
     (sym c.self.view_is) c.requires.standing in
-    rw c.as_slice.ensures.value (split c.self.inside.width c.self.inside.key (slot_at c.self.inside.rows) c.self.inside.by_key.refs
+    rw c.as_slice.ensures.value (split c.self.inside.rows.types c.self.inside.key (slot_at c.self.inside.rows) c.self.inside.by_key.refs
     c.self.inside.indexes.items c.self.invariant c.args.edits.items standing)
 
 pub take_from_all-requires-clause-keep : goal.take_from_all-requires-clause-keep
@@ -39,9 +41,9 @@ take_from_all-requires-clause-keep c =
     let standing : Standing (slot_at c.self.inside.rows) c.args.edits.items = subst (λ (v : StoredRows). Standing (slot_at v.places) c.args.edits.items)
     (sym c.self.view_is) c.requires.standing in
     rw c.as_slice-2.ensures.value (
-      (split c.self.inside.width c.self.inside.key (slot_at c.self.inside.rows) c.self.inside.by_key.refs
+      (split c.self.inside.rows.types c.self.inside.key (slot_at c.self.inside.rows) c.self.inside.by_key.refs
           c.self.inside.indexes.items c.self.invariant c.args.edits.items standing).0,
-      keep_split c.self.inside.width c.self.inside.key
+      keep_split c.self.inside.rows.types c.self.inside.key
           (slot_at c.self.inside.rows) c.self.inside.by_key.refs c.self.inside.indexes.items c.self.invariant c.args.edits.items standing,
     )
 
@@ -49,8 +51,12 @@ pub take_from_all-requires-clause-wide : goal.take_from_all-requires-clause-wide
 take_from_all-requires-clause-wide c =
     let standing : Standing (slot_at c.self.inside.rows) c.args.edits.items = subst (λ (v : StoredRows). Standing (slot_at v.places) c.args.edits.items)
     (sym c.self.view_is) c.requires.standing in
-    rw c.as_slice-2.ensures.value (wide_olds c.self.inside.width c.self.inside.key (slot_at c.self.inside.rows) c.self.inside.by_key.refs
+    rw c.as_slice-2.ensures.value (wide_olds c.self.inside.rows.types c.self.inside.key (slot_at c.self.inside.rows) c.self.inside.by_key.refs
     c.self.inside.indexes.items c.self.invariant c.args.edits.items standing)
+
+pub change_each-requires-clause-typed : goal.change_each-requires-clause-typed
+change_each-requires-clause-typed c =
+    subst (λ (v : StoredRows). All (HasTypes v.places.types) (new_rows c.args.edits.items)) (sym c.self.view_is) c.requires.typed
 
 pub put_each-requires-clause-spare : goal.put_each-requires-clause-spare
 put_each-requires-clause-spare c =
@@ -67,56 +73,57 @@ pub put_each-requires-clause-ordered : goal.put_each-requires-clause-ordered
 put_each-requires-clause-ordered c =
     let standing : Standing (slot_at c.self.inside.rows) c.args.edits.items = subst (λ (v : StoredRows). Standing (slot_at v.places) c.args.edits.items)
     (sym c.self.view_is) c.requires.standing in
-    let parts : Among c.self.inside.by_key.refs (olds c.args.edits.items) = split c.self.inside.width c.self.inside.key (slot_at c.self.inside.rows)
+    let parts : Among c.self.inside.by_key.refs (olds c.args.edits.items) = split c.self.inside.rows.types c.self.inside.key (slot_at c.self.inside.rows)
     c.self.inside.by_key.refs c.self.inside.indexes.items c.self.invariant c.args.edits.items standing in
-    let sizes : All (λ row. length row ≡ c.self.inside.width) (new_rows c.args.edits.items) = subst
-    (λ (v : StoredRows). All (λ row. length row ≡ v.width) (new_rows c.args.edits.items)) (sym c.self.view_is) c.requires.wide in
+    let typed : All (HasTypes c.self.inside.rows.types) (new_rows c.args.edits.items) = subst
+    (λ (v : StoredRows). All (HasTypes v.places.types) (new_rows c.args.edits.items)) (sym c.self.view_is) c.requires.typed in
     let holds : IsPermutation c.take_each.new.tree.refs
     (staying edit_name edit_other c.self.inside.key c.self.inside.key (slot_at c.self.inside.rows) Old c.args.edits.items ++ parts.0) = subst
     (λ (es : List Edit). IsPermutation c.take_each.new.tree.refs
     (staying edit_name edit_other c.self.inside.key c.self.inside.key (slot_at c.self.inside.rows) Old es ++ parts.0)) c.as_slice.ensures.value
     (c.take_each.ensures.refs parts.0
     (subst (λ (es : List Edit). IsPermutation c.self.inside.by_key.refs (named edit_name Old es ++ parts.0)) (sym c.as_slice.ensures.value) parts.1)) in
-    order_stands c.self.inside.width c.self.inside.key (slot_at c.self.inside.rows) c.self.inside.by_key.refs c.self.inside.indexes.items c.self.invariant
-    c.args.edits.items standing (slot_at c.change_each.new.rows) c.change_each.new.log.entries c.change_each.ensures.changes parts.0 parts.1 sizes
+    order_stands c.self.inside.rows.types c.self.inside.key (slot_at c.self.inside.rows) c.self.inside.by_key.refs c.self.inside.indexes.items c.self.invariant
+    c.args.edits.items standing (slot_at c.change_each.new.rows) c.change_each.new.log.entries c.change_each.ensures.changes parts.0 parts.1 typed
     c.take_each.new.tree.refs holds c.take_each.ensures.ordered
 
 pub put_each-requires-clause-wide : goal.put_each-requires-clause-wide
 put_each-requires-clause-wide c =
     let standing : Standing (slot_at c.self.inside.rows) c.args.edits.items = subst (λ (v : StoredRows). Standing (slot_at v.places) c.args.edits.items)
     (sym c.self.view_is) c.requires.standing in
-    let parts : Among c.self.inside.by_key.refs (olds c.args.edits.items) = split c.self.inside.width c.self.inside.key (slot_at c.self.inside.rows)
+    let parts : Among c.self.inside.by_key.refs (olds c.args.edits.items) = split c.self.inside.rows.types c.self.inside.key (slot_at c.self.inside.rows)
     c.self.inside.by_key.refs c.self.inside.indexes.items c.self.invariant c.args.edits.items standing in
-    let sizes : All (λ row. length row ≡ c.self.inside.width) (new_rows c.args.edits.items) = subst
-    (λ (v : StoredRows). All (λ row. length row ≡ v.width) (new_rows c.args.edits.items)) (sym c.self.view_is) c.requires.wide in
-    rw c.entries.ensures (wide_news c.self.inside.width c.self.inside.key (slot_at c.self.inside.rows) c.self.inside.by_key.refs c.self.inside.indexes.items
+    let typed : All (HasTypes c.self.inside.rows.types) (new_rows c.args.edits.items) = subst
+    (λ (v : StoredRows). All (HasTypes v.places.types) (new_rows c.args.edits.items)) (sym c.self.view_is) c.requires.typed in
+    rw c.entries.ensures (wide_news c.self.inside.rows.types c.self.inside.key (slot_at c.self.inside.rows) c.self.inside.by_key.refs
+    c.self.inside.indexes.items
     c.self.invariant c.args.edits.items standing (slot_at c.change_each.new.rows) c.change_each.new.log.entries c.change_each.ensures.changes
-    parts.0 parts.1 sizes c.self.inside.key c.self.invariant.key_in)
+    parts.0 parts.1 typed c.self.inside.key c.self.invariant.key_in)
 
 pub put_each-requires-clause-apart : goal.put_each-requires-clause-apart
 put_each-requires-clause-apart c =
     let standing : Standing (slot_at c.self.inside.rows) c.args.edits.items = subst (λ (v : StoredRows). Standing (slot_at v.places) c.args.edits.items)
     (sym c.self.view_is) c.requires.standing in
-    let parts : Among c.self.inside.by_key.refs (olds c.args.edits.items) = split c.self.inside.width c.self.inside.key (slot_at c.self.inside.rows)
+    let parts : Among c.self.inside.by_key.refs (olds c.args.edits.items) = split c.self.inside.rows.types c.self.inside.key (slot_at c.self.inside.rows)
     c.self.inside.by_key.refs c.self.inside.indexes.items c.self.invariant c.args.edits.items standing in
     let keys = subst (λ (v : StoredRows). (kept : List RowRef) → Stay v.refs c.args.edits.items kept
     → RowsApart v.key (rows_after (slot_at v.places) c.args.edits.items kept)) (sym c.self.view_is) c.requires.keys in
-    let sizes : All (λ row. length row ≡ c.self.inside.width) (new_rows c.args.edits.items) = subst
-    (λ (v : StoredRows). All (λ row. length row ≡ v.width) (new_rows c.args.edits.items)) (sym c.self.view_is) c.requires.wide in
+    let typed : All (HasTypes c.self.inside.rows.types) (new_rows c.args.edits.items) = subst
+    (λ (v : StoredRows). All (HasTypes v.places.types) (new_rows c.args.edits.items)) (sym c.self.view_is) c.requires.typed in
     let holds : IsPermutation c.take_each.new.tree.refs
     (staying edit_name edit_other c.self.inside.key c.self.inside.key (slot_at c.self.inside.rows) Old c.args.edits.items ++ parts.0) = subst
     (λ (es : List Edit). IsPermutation c.take_each.new.tree.refs
     (staying edit_name edit_other c.self.inside.key c.self.inside.key (slot_at c.self.inside.rows) Old es ++ parts.0)) c.as_slice.ensures.value
     (c.take_each.ensures.refs parts.0
     (subst (λ (es : List Edit). IsPermutation c.self.inside.by_key.refs (named edit_name Old es ++ parts.0)) (sym c.as_slice.ensures.value) parts.1)) in
-    let beside = held_beside c.self.inside.width c.self.inside.key (slot_at c.self.inside.rows) c.self.inside.by_key.refs c.self.inside.indexes.items
+    let beside = held_beside c.self.inside.rows.types c.self.inside.key (slot_at c.self.inside.rows) c.self.inside.by_key.refs c.self.inside.indexes.items
     c.self.invariant
-    c.args.edits.items standing (slot_at c.change_each.new.rows) c.change_each.new.log.entries c.change_each.ensures.changes parts.0 parts.1 sizes
+    c.args.edits.items standing (slot_at c.change_each.new.rows) c.change_each.new.log.entries c.change_each.ensures.changes parts.0 parts.1 typed
     c.take_each.new.tree.refs holds in
     rw c.entries.ensures (
       parts.0,
       beside,
-      keys_apart c.self.inside.width c.self.inside.key (slot_at c.self.inside.rows) c.self.inside.by_key.refs c.self.inside.indexes.items
+      keys_apart c.self.inside.rows.types c.self.inside.key (slot_at c.self.inside.rows) c.self.inside.by_key.refs c.self.inside.indexes.items
           c.self.invariant c.args.edits.items standing (slot_at c.change_each.new.rows) c.change_each.new.log.entries
           c.change_each.ensures.changes parts.0 parts.1 (keys parts.0 parts.1),
     )
@@ -125,10 +132,10 @@ pub put_into_all-requires-clause-keep : goal.put_into_all-requires-clause-keep
 put_into_all-requires-clause-keep c =
     let standing : Standing (slot_at c.self.inside.rows) c.args.edits.items = subst (λ (v : StoredRows). Standing (slot_at v.places) c.args.edits.items)
     (sym c.self.view_is) c.requires.standing in
-    let parts : Among c.self.inside.by_key.refs (olds c.args.edits.items) = split c.self.inside.width c.self.inside.key (slot_at c.self.inside.rows)
+    let parts : Among c.self.inside.by_key.refs (olds c.args.edits.items) = split c.self.inside.rows.types c.self.inside.key (slot_at c.self.inside.rows)
     c.self.inside.by_key.refs c.self.inside.indexes.items c.self.invariant c.args.edits.items standing in
-    let sizes : All (λ row. length row ≡ c.self.inside.width) (new_rows c.args.edits.items) = subst
-    (λ (v : StoredRows). All (λ row. length row ≡ v.width) (new_rows c.args.edits.items)) (sym c.self.view_is) c.requires.wide in
+    let typed : All (HasTypes c.self.inside.rows.types) (new_rows c.args.edits.items) = subst
+    (λ (v : StoredRows). All (HasTypes v.places.types) (new_rows c.args.edits.items)) (sym c.self.view_is) c.requires.typed in
     let taken : EachTurns (λ x. Taken c.self.inside.key (slot_at c.self.inside.rows) (olds c.args.edits.items)
     (unmoved edit_name edit_other c.self.inside.key (slot_at c.self.inside.rows) Old c.args.edits.items x) x) c.self.inside.indexes.items
     c.take_from_all.new.indexes.items = subst
@@ -139,10 +146,10 @@ put_into_all-requires-clause-keep c =
     → RowsApart v.key (rows_after (slot_at v.places) c.args.edits.items kept)) (sym c.self.view_is) c.requires.keys in
     rw c.entries-2.ensures (
       parts.0,
-      keep_some c.self.inside.width c.self.inside.key (slot_at c.self.inside.rows) c.self.inside.by_key.refs
+      keep_some c.self.inside.rows.types c.self.inside.key (slot_at c.self.inside.rows) c.self.inside.by_key.refs
           c.self.inside.indexes.items c.self.invariant c.args.edits.items standing (slot_at c.change_each.new.rows) c.change_each.new.log.entries
-          c.change_each.ensures.changes parts.0 parts.1 sizes c.take_from_all.new.indexes.items taken,
-      keys_apart c.self.inside.width
+          c.change_each.ensures.changes parts.0 parts.1 typed c.take_from_all.new.indexes.items taken,
+      keys_apart c.self.inside.rows.types
           c.self.inside.key (slot_at c.self.inside.rows) c.self.inside.by_key.refs c.self.inside.indexes.items c.self.invariant c.args.edits.items standing
           (slot_at c.change_each.new.rows) c.change_each.new.log.entries c.change_each.ensures.changes parts.0 parts.1
           (keys parts.0 parts.1),
@@ -152,28 +159,28 @@ pub put_into_all-requires-clause-wide : goal.put_into_all-requires-clause-wide
 put_into_all-requires-clause-wide c =
     let standing : Standing (slot_at c.self.inside.rows) c.args.edits.items = subst (λ (v : StoredRows). Standing (slot_at v.places) c.args.edits.items)
     (sym c.self.view_is) c.requires.standing in
-    let parts : Among c.self.inside.by_key.refs (olds c.args.edits.items) = split c.self.inside.width c.self.inside.key (slot_at c.self.inside.rows)
+    let parts : Among c.self.inside.by_key.refs (olds c.args.edits.items) = split c.self.inside.rows.types c.self.inside.key (slot_at c.self.inside.rows)
     c.self.inside.by_key.refs c.self.inside.indexes.items c.self.invariant c.args.edits.items standing in
-    let sizes : All (λ row. length row ≡ c.self.inside.width) (new_rows c.args.edits.items) = subst
-    (λ (v : StoredRows). All (λ row. length row ≡ v.width) (new_rows c.args.edits.items)) (sym c.self.view_is) c.requires.wide in
+    let typed : All (HasTypes c.self.inside.rows.types) (new_rows c.args.edits.items) = subst
+    (λ (v : StoredRows). All (HasTypes v.places.types) (new_rows c.args.edits.items)) (sym c.self.view_is) c.requires.typed in
     let taken : EachTurns (λ x. Taken c.self.inside.key (slot_at c.self.inside.rows) (olds c.args.edits.items)
     (unmoved edit_name edit_other c.self.inside.key (slot_at c.self.inside.rows) Old c.args.edits.items x) x) c.self.inside.indexes.items
     c.take_from_all.new.indexes.items = subst
     (λ (es : List Edit). EachTurns (λ x. Taken c.self.inside.key (slot_at c.self.inside.rows) (named edit_name Old es)
     (unmoved edit_name edit_other c.self.inside.key (slot_at c.self.inside.rows) Old es x) x) c.self.inside.indexes.items
     c.take_from_all.new.indexes.items) c.as_slice-2.ensures.value c.take_from_all.ensures.taken in
-    rw c.entries-2.ensures (wide_some c.self.inside.width c.self.inside.key (slot_at c.self.inside.rows) c.self.inside.by_key.refs
+    rw c.entries-2.ensures (wide_some c.self.inside.rows.types c.self.inside.key (slot_at c.self.inside.rows) c.self.inside.by_key.refs
     c.self.inside.indexes.items c.self.invariant c.args.edits.items standing (slot_at c.change_each.new.rows) c.change_each.new.log.entries
-    c.change_each.ensures.changes parts.0 parts.1 sizes c.take_from_all.new.indexes.items taken)
+    c.change_each.ensures.changes parts.0 parts.1 typed c.take_from_all.new.indexes.items taken)
 
 pub put_into_all-requires-clause-spare : goal.put_into_all-requires-clause-spare
 put_into_all-requires-clause-spare c =
     let standing : Standing (slot_at c.self.inside.rows) c.args.edits.items = subst (λ (v : StoredRows). Standing (slot_at v.places) c.args.edits.items)
     (sym c.self.view_is) c.requires.standing in
-    let parts : Among c.self.inside.by_key.refs (olds c.args.edits.items) = split c.self.inside.width c.self.inside.key (slot_at c.self.inside.rows)
+    let parts : Among c.self.inside.by_key.refs (olds c.args.edits.items) = split c.self.inside.rows.types c.self.inside.key (slot_at c.self.inside.rows)
     c.self.inside.by_key.refs c.self.inside.indexes.items c.self.invariant c.args.edits.items standing in
-    let sizes : All (λ row. length row ≡ c.self.inside.width) (new_rows c.args.edits.items) = subst
-    (λ (v : StoredRows). All (λ row. length row ≡ v.width) (new_rows c.args.edits.items)) (sym c.self.view_is) c.requires.wide in
+    let typed : All (HasTypes c.self.inside.rows.types) (new_rows c.args.edits.items) = subst
+    (λ (v : StoredRows). All (HasTypes v.places.types) (new_rows c.args.edits.items)) (sym c.self.view_is) c.requires.typed in
     let taken : EachTurns (λ x. Taken c.self.inside.key (slot_at c.self.inside.rows) (olds c.args.edits.items)
     (unmoved edit_name edit_other c.self.inside.key (slot_at c.self.inside.rows) Old c.args.edits.items x) x) c.self.inside.indexes.items
     c.take_from_all.new.indexes.items = subst
@@ -182,18 +189,18 @@ put_into_all-requires-clause-spare c =
     c.take_from_all.new.indexes.items) c.as_slice-2.ensures.value c.take_from_all.ensures.taken in
     let spares : All (λ x. length (new_rows c.args.edits.items) ≤ spare_of x) c.self.inside.indexes.items = subst
     (λ (v : StoredRows). All (λ x. length (new_rows c.args.edits.items) ≤ spare_of x) v.indexes) (sym c.self.view_is) c.requires.spares in
-    rw c.entries-2.ensures (spare_some c.self.inside.width c.self.inside.key (slot_at c.self.inside.rows) c.self.inside.by_key.refs
+    rw c.entries-2.ensures (spare_some c.self.inside.rows.types c.self.inside.key (slot_at c.self.inside.rows) c.self.inside.by_key.refs
     c.self.inside.indexes.items c.self.invariant c.args.edits.items standing (slot_at c.change_each.new.rows) c.change_each.new.log.entries
-    c.change_each.ensures.changes parts.0 parts.1 sizes c.take_from_all.new.indexes.items taken spares)
+    c.change_each.ensures.changes parts.0 parts.1 typed c.take_from_all.new.indexes.items taken spares)
 
 pub invariant_of-self : goal.invariant_of-self
 invariant_of-self c =
     let standing : Standing (slot_at c.self.inside.rows) c.args.edits.items = subst (λ (v : StoredRows). Standing (slot_at v.places) c.args.edits.items)
     (sym c.self.view_is) c.requires.standing in
-    let parts : Among c.self.inside.by_key.refs (olds c.args.edits.items) = split c.self.inside.width c.self.inside.key (slot_at c.self.inside.rows)
+    let parts : Among c.self.inside.by_key.refs (olds c.args.edits.items) = split c.self.inside.rows.types c.self.inside.key (slot_at c.self.inside.rows)
     c.self.inside.by_key.refs c.self.inside.indexes.items c.self.invariant c.args.edits.items standing in
-    let sizes : All (λ row. length row ≡ c.self.inside.width) (new_rows c.args.edits.items) = subst
-    (λ (v : StoredRows). All (λ row. length row ≡ v.width) (new_rows c.args.edits.items)) (sym c.self.view_is) c.requires.wide in
+    let typed : All (HasTypes c.self.inside.rows.types) (new_rows c.args.edits.items) = subst
+    (λ (v : StoredRows). All (HasTypes v.places.types) (new_rows c.args.edits.items)) (sym c.self.view_is) c.requires.typed in
     let taken : EachTurns (λ x. Taken c.self.inside.key (slot_at c.self.inside.rows) (olds c.args.edits.items)
     (unmoved edit_name edit_other c.self.inside.key (slot_at c.self.inside.rows) Old c.args.edits.items x) x) c.self.inside.indexes.items
     c.take_from_all.new.indexes.items = subst
@@ -206,9 +213,9 @@ invariant_of-self c =
     (staying edit_name edit_other c.self.inside.key c.self.inside.key (slot_at c.self.inside.rows) Old es ++ parts.0)) c.as_slice.ensures.value
     (c.take_each.ensures.refs parts.0
     (subst (λ (es : List Edit). IsPermutation c.self.inside.by_key.refs (named edit_name Old es ++ parts.0)) (sym c.as_slice.ensures.value) parts.1)) in
-    let beside = held_beside c.self.inside.width c.self.inside.key (slot_at c.self.inside.rows) c.self.inside.by_key.refs c.self.inside.indexes.items
+    let beside = held_beside c.self.inside.rows.types c.self.inside.key (slot_at c.self.inside.rows) c.self.inside.by_key.refs c.self.inside.indexes.items
     c.self.invariant
-    c.args.edits.items standing (slot_at c.change_each.new.rows) c.change_each.new.log.entries c.change_each.ensures.changes parts.0 parts.1 sizes
+    c.args.edits.items standing (slot_at c.change_each.new.rows) c.change_each.new.log.entries c.change_each.ensures.changes parts.0 parts.1 typed
     c.take_each.new.tree.refs holds in
     let more : IsPermutation c.put_each.new.tree.refs (news c.change_each.new.log.entries ++ parts.0) = subst
     (λ (ns : List UndoRecord). IsPermutation c.take_each.new.tree.refs
@@ -222,9 +229,11 @@ invariant_of-self c =
     (λ (ns : List UndoRecord). EachTurns (λ x. Put c.self.inside.key (slot_at c.change_each.new.rows) (named record_name New ns)
     (unmoved record_name record_other c.self.inside.key (slot_at c.change_each.new.rows) New ns x) x) c.take_from_all.new.indexes.items
     c.put_into_all.new.indexes.items) c.entries-2.ensures c.put_into_all.ensures.put in
-    after c.self.inside.width c.self.inside.key (slot_at c.self.inside.rows) c.self.inside.by_key.refs c.self.inside.indexes.items c.self.invariant
+    subst (λ (types : List ColType). IsKept types c.self.inside.key (slot_at c.change_each.new.rows) c.put_each.new.tree.refs c.put_into_all.new.indexes.items)
+    (sym c.change_each.ensures.types)
+    (after c.self.inside.rows.types c.self.inside.key (slot_at c.self.inside.rows) c.self.inside.by_key.refs c.self.inside.indexes.items c.self.invariant
     c.args.edits.items standing (slot_at c.change_each.new.rows) c.change_each.new.log.entries c.change_each.ensures.changes parts.0
-    parts.1 sizes c.take_from_all.new.indexes.items taken c.put_each.new.tree.refs moved c.put_into_all.new.indexes.items put c.put_each.ensures.ordered
+    parts.1 typed c.take_from_all.new.indexes.items taken c.put_each.new.tree.refs moved c.put_into_all.new.indexes.items put c.put_each.ensures.ordered)
 
 pub returns-clause-changes : goal.returns-clause-changes
 returns-clause-changes c =
@@ -240,19 +249,19 @@ pub returns-clause-rows : goal.returns-clause-rows
 returns-clause-rows c =
     let standing : Standing (slot_at c.self.inside.rows) c.args.edits.items = subst (λ (v : StoredRows). Standing (slot_at v.places) c.args.edits.items)
     (sym c.self.view_is) c.requires.standing in
-    let parts : Among c.self.inside.by_key.refs (olds c.args.edits.items) = split c.self.inside.width c.self.inside.key (slot_at c.self.inside.rows)
+    let parts : Among c.self.inside.by_key.refs (olds c.args.edits.items) = split c.self.inside.rows.types c.self.inside.key (slot_at c.self.inside.rows)
     c.self.inside.by_key.refs c.self.inside.indexes.items c.self.invariant c.args.edits.items standing in
-    let sizes : All (λ row. length row ≡ c.self.inside.width) (new_rows c.args.edits.items) = subst
-    (λ (v : StoredRows). All (λ row. length row ≡ v.width) (new_rows c.args.edits.items)) (sym c.self.view_is) c.requires.wide in
+    let typed : All (HasTypes c.self.inside.rows.types) (new_rows c.args.edits.items) = subst
+    (λ (v : StoredRows). All (HasTypes v.places.types) (new_rows c.args.edits.items)) (sym c.self.view_is) c.requires.typed in
     let holds : IsPermutation c.take_each.new.tree.refs
     (staying edit_name edit_other c.self.inside.key c.self.inside.key (slot_at c.self.inside.rows) Old c.args.edits.items ++ parts.0) = subst
     (λ (es : List Edit). IsPermutation c.take_each.new.tree.refs
     (staying edit_name edit_other c.self.inside.key c.self.inside.key (slot_at c.self.inside.rows) Old es ++ parts.0)) c.as_slice.ensures.value
     (c.take_each.ensures.refs parts.0
     (subst (λ (es : List Edit). IsPermutation c.self.inside.by_key.refs (named edit_name Old es ++ parts.0)) (sym c.as_slice.ensures.value) parts.1)) in
-    let beside = held_beside c.self.inside.width c.self.inside.key (slot_at c.self.inside.rows) c.self.inside.by_key.refs c.self.inside.indexes.items
+    let beside = held_beside c.self.inside.rows.types c.self.inside.key (slot_at c.self.inside.rows) c.self.inside.by_key.refs c.self.inside.indexes.items
     c.self.invariant
-    c.args.edits.items standing (slot_at c.change_each.new.rows) c.change_each.new.log.entries c.change_each.ensures.changes parts.0 parts.1 sizes
+    c.args.edits.items standing (slot_at c.change_each.new.rows) c.change_each.new.log.entries c.change_each.ensures.changes parts.0 parts.1 typed
     c.take_each.new.tree.refs holds in
     let more : IsPermutation c.put_each.new.tree.refs (news c.change_each.new.log.entries ++ parts.0) = subst
     (λ (ns : List UndoRecord). IsPermutation c.take_each.new.tree.refs
@@ -262,7 +271,7 @@ returns-clause-rows c =
     IsPermutation-sym c.put_each.new.tree.refs (news c.change_each.new.log.entries ++ parts.0) more in
     subst (λ (v : StoredRows). (kept : List RowRef) → Stay v.refs c.args.edits.items kept
     → IsPermutation (rows_after (slot_at v.places) c.args.edits.items kept) (map (row_at (slot_at c.change_each.new.rows)) c.put_each.new.tree.refs))
-    c.self.view_is (λ kept same. rows_moved c.self.inside.width c.self.inside.key (slot_at c.self.inside.rows) c.self.inside.by_key.refs
+    c.self.view_is (λ kept same. rows_moved c.self.inside.rows.types c.self.inside.key (slot_at c.self.inside.rows) c.self.inside.by_key.refs
     c.self.inside.indexes.items c.self.invariant c.args.edits.items standing (slot_at c.change_each.new.rows) c.change_each.new.log.entries
     c.change_each.ensures.changes parts.0 parts.1 kept c.put_each.new.tree.refs same moved)
 
@@ -270,19 +279,19 @@ pub returns-clause-row_list : goal.returns-clause-row_list
 returns-clause-row_list c =
     let standing : Standing (slot_at c.self.inside.rows) c.args.edits.items = subst (λ (v : StoredRows). Standing (slot_at v.places) c.args.edits.items)
     (sym c.self.view_is) c.requires.standing in
-    let parts : Among c.self.inside.by_key.refs (olds c.args.edits.items) = split c.self.inside.width c.self.inside.key (slot_at c.self.inside.rows)
+    let parts : Among c.self.inside.by_key.refs (olds c.args.edits.items) = split c.self.inside.rows.types c.self.inside.key (slot_at c.self.inside.rows)
     c.self.inside.by_key.refs c.self.inside.indexes.items c.self.invariant c.args.edits.items standing in
-    let sizes : All (λ row. length row ≡ c.self.inside.width) (new_rows c.args.edits.items) = subst
-    (λ (v : StoredRows). All (λ row. length row ≡ v.width) (new_rows c.args.edits.items)) (sym c.self.view_is) c.requires.wide in
+    let typed : All (HasTypes c.self.inside.rows.types) (new_rows c.args.edits.items) = subst
+    (λ (v : StoredRows). All (HasTypes v.places.types) (new_rows c.args.edits.items)) (sym c.self.view_is) c.requires.typed in
     let holds : IsPermutation c.take_each.new.tree.refs
     (staying edit_name edit_other c.self.inside.key c.self.inside.key (slot_at c.self.inside.rows) Old c.args.edits.items ++ parts.0) = subst
     (λ (es : List Edit). IsPermutation c.take_each.new.tree.refs
     (staying edit_name edit_other c.self.inside.key c.self.inside.key (slot_at c.self.inside.rows) Old es ++ parts.0)) c.as_slice.ensures.value
     (c.take_each.ensures.refs parts.0
     (subst (λ (es : List Edit). IsPermutation c.self.inside.by_key.refs (named edit_name Old es ++ parts.0)) (sym c.as_slice.ensures.value) parts.1)) in
-    let beside = held_beside c.self.inside.width c.self.inside.key (slot_at c.self.inside.rows) c.self.inside.by_key.refs c.self.inside.indexes.items
+    let beside = held_beside c.self.inside.rows.types c.self.inside.key (slot_at c.self.inside.rows) c.self.inside.by_key.refs c.self.inside.indexes.items
     c.self.invariant
-    c.args.edits.items standing (slot_at c.change_each.new.rows) c.change_each.new.log.entries c.change_each.ensures.changes parts.0 parts.1 sizes
+    c.args.edits.items standing (slot_at c.change_each.new.rows) c.change_each.new.log.entries c.change_each.ensures.changes parts.0 parts.1 typed
     c.take_each.new.tree.refs holds in
     let more : IsPermutation c.put_each.new.tree.refs (news c.change_each.new.log.entries ++ parts.0) = subst
     (λ (ns : List UndoRecord). IsPermutation c.take_each.new.tree.refs
@@ -293,7 +302,7 @@ returns-clause-row_list c =
     let left : List RowRef = parts.0 in
     let stay : Stay c.self.inside.by_key.refs c.args.edits.items left = parts.1 in
     let rows : List (List Value) = map (row_at (slot_at c.change_each.new.rows)) c.put_each.new.tree.refs in
-    let after_edits : IsPermutation (rows_after (slot_at c.self.inside.rows) c.args.edits.items left) rows = rows_moved c.self.inside.width
+    let after_edits : IsPermutation (rows_after (slot_at c.self.inside.rows) c.args.edits.items left) rows = rows_moved c.self.inside.rows.types
     c.self.inside.key (slot_at c.self.inside.rows) c.self.inside.by_key.refs c.self.inside.indexes.items c.self.invariant c.args.edits.items standing
     (slot_at c.change_each.new.rows) c.change_each.new.log.entries c.change_each.ensures.changes left stay left c.put_each.new.tree.refs stay moved in
     subst (λ (v : StoredRows). rows ≡ changed v.key (edit_pairs (slot_at v.places) c.args.edits.items) (rows_of v)) c.self.view_is

@@ -7,10 +7,10 @@ use Rattle.mm_relation.proofs.relation.Relation.drop_index.Goals as goal
 
 pub invariant_of-self : goal.invariant_of-self
 invariant_of-self c =
-    let width = c.self.inside.width in
+    let types = c.self.inside.rows.types in
     let key = c.self.inside.key in
     let refs = c.self.inside.by_key.refs in
     let items : List Index = c.remove-dropped.new.self.items in
-    subst (λ (places : Places). IsKept width key (slot_at places) refs items) (sym c.untrack_unused.ensures)
-    (subst (IsKept width key (slot_at c.self.inside.rows) refs) (sym c.remove-dropped.ensures.items)
-    (IsKept-removed width key (slot_at c.self.inside.rows) refs c.self.inside.indexes.items c.self.invariant c.args.index))
+    subst (λ (places : Places). IsKept places.types key (slot_at places) refs items) (sym c.untrack_unused.ensures)
+    (subst (IsKept types key (slot_at c.self.inside.rows) refs) (sym c.remove-dropped.ensures.items)
+    (IsKept-removed types key (slot_at c.self.inside.rows) refs c.self.inside.indexes.items c.self.invariant c.args.index))

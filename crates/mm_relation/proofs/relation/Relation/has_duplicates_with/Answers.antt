@@ -7,12 +7,12 @@ use Rattle.mm_relation.proofs.relation.Relation.has_duplicates_with.Goals as goa
 
 pub has_duplicates_after-requires : goal.has_duplicates_after-requires
 has_duplicates_after-requires c =
-    let was = subst (λ (v : StoredRows). IsKept v.width v.key (slot_at v.places) v.refs v.indexes) c.self.view_is c.self.invariant in
+    let was = subst (λ (v : StoredRows). IsKept v.places.types v.key (slot_at v.places) v.refs v.indexes) c.self.view_is c.self.invariant in
     stays c.args.self.now was c.args.edits.now c.requires
 
 pub returns-clause-duplicates : goal.returns-clause-duplicates
 returns-clause-duplicates c =
-    let was = subst (λ (v : StoredRows). IsKept v.width v.key (slot_at v.places) v.refs v.indexes) c.self.view_is c.self.invariant in
+    let was = subst (λ (v : StoredRows). IsKept v.places.types v.key (slot_at v.places) v.refs v.indexes) c.self.view_is c.self.invariant in
     IfOk-weaker c.has_duplicates_after.result _ _ (λ duplicates each. duplicates_with c.args.self.now was c.args.edits.now c.requires duplicates each)
     c.has_duplicates_after.ensures
 

@@ -18,14 +18,15 @@ use Rattle.mm_schema.specs.Rows.{most_rows}
 pub sorted_refs-requires-clause-wide : goal.sorted_refs-requires-clause-wide
 sorted_refs-requires-clause-wide c =
     let now = slot_at c.self.inside.rows in
-    let within : c.args.column < c.self.inside.width = subst (λ (v : StoredRows). c.args.column < v.width) (sym c.self.view_is) c.requires.column in
+    let within : c.args.column < length c.self.inside.rows.types =
+    subst (λ (v : StoredRows). c.args.column < length v.places.types) (sym c.self.view_is) c.requires.column in
     subst (All (IsWide c.args.column c.self.inside.key now)) (sym (c.as_slice.ensures.value ∙ c.in_ok-refs.ensures))
-    (wide_refs c.self.inside.width c.self.inside.key now c.self.inside.by_key.refs c.self.inside.indexes.items c.self.invariant c.args.column within)
+    (wide_refs c.self.inside.rows.types c.self.inside.key now c.self.inside.by_key.refs c.self.inside.indexes.items c.self.invariant c.args.column within)
 
 pub sorted_refs-requires-clause-apart : goal.sorted_refs-requires-clause-apart
 sorted_refs-requires-clause-apart c =
     subst (KeysApart c.self.inside.key (slot_at c.self.inside.rows)) (sym (c.as_slice.ensures.value ∙ c.in_ok-refs.ensures))
-    (apart_refs c.self.inside.width c.self.inside.key (slot_at c.self.inside.rows) c.self.inside.by_key.refs c.self.inside.indexes.items c.self.invariant)
+    (apart_refs c.self.inside.rows.types c.self.inside.key (slot_at c.self.inside.rows) c.self.inside.by_key.refs c.self.inside.indexes.items c.self.invariant)
 
 pub from_sorted-requires : goal.from_sorted-requires
 from_sorted-requires c = record {
@@ -61,7 +62,7 @@ returns-clause-live c =
     let live : All (IsLive c.args.self.now.places) sorted =
     subst (λ (v : StoredRows). All (IsLive v.places) sorted) c.self.view_is
     (All-permutation (IsLive c.self.inside.rows) refs sorted (IsPermutation-sym sorted refs same)
-    (live_refs c.self.inside.width c.self.inside.key (slot_at c.self.inside.rows) refs c.self.inside.indexes.items c.self.invariant))
+    (live_refs c.self.inside.rows.types c.self.inside.key (slot_at c.self.inside.rows) refs c.self.inside.indexes.items c.self.invariant))
     in
     IfOk-weaker c.from_sorted.result _ _
     (λ tree made. subst (All (IsLive c.args.self.now.places)) (sym (made ∙ c.as_slice-2.ensures.value)) live) c.from_sorted.ensures.refs

@@ -3,11 +3,12 @@ use Rattle.std.specs.Prelude.{IsPermutation}
 use Rattle.std.specs.List.{All}
 use Rattle.mm_value.specs.declared.row_ref.RowRef.{RowRef}
 use Rattle.mm_partition.specs.Places.{slot_at}
+use Rattle.mm_value.specs.declared.col_type.ColType.{ColType}
 use Rattle.mm_relation.specs.Before.{before}
 use Rattle.mm_relation.specs.Differs.{Differs}
 use Rattle.mm_relation.specs.Edits.{named, record_name, record_other}
 use Rattle.mm_relation.specs.Index.{Taken, Put, EachTurns, spare_of, unmoved}
-use Rattle.mm_relation.specs.Kept.{StoredRows}
+use Rattle.mm_relation.specs.Kept.{IsKept, StoredRows}
 use Rattle.mm_relation.specs.Lawful.{IsLawful}
 use Rattle.mm_relation.specs.declared.log.UndoRecord.{UndoRecord}
 use Rattle.mm_relation.specs.declared.indexes.names.Side.TheVariants.{Old, New}
@@ -15,7 +16,7 @@ use Rattle.mm_relation.proofs.Reverted.{parts, keep_parts, wide_parts, wide_back
 use Rattle.mm_relation.proofs.Reverted.{IsKept-reverted}
 use Rattle.mm_relation.proofs.Rooms.{spares_changed}
 use Rattle.mm_relation.proofs.Staying.{staying}
-use Rattle.mm_relation.proofs.TakenBack.{names_inverted}
+use Rattle.mm_relation.proofs.TakenBack.{names_inverted, olds_typed}
 use Rattle.mm_relation.proofs.relation.Relation.revert.Goals as goal
 
 pub take_each-requires-clause-held : goal.take_each-requires-clause-held
@@ -25,7 +26,8 @@ take_each-requires-clause-held c =
     let differs : Differs now (before es now) (named record_name New es) (named record_name Old es) =
     subst (λ (v : StoredRows). Differs (slot_at v.places) (before es (slot_at v.places)) (named record_name New es) (named record_name Old es))
     (sym c.self.view_is) c.requires.differs in
-    rw c.entries.ensures (parts c.self.inside.width c.self.inside.key now c.self.inside.by_key.refs c.self.inside.indexes.items c.self.invariant es differs)
+    rw c.entries.ensures (parts c.self.inside.rows.types c.self.inside.key now c.self.inside.by_key.refs c.self.inside.indexes.items c.self.invariant es
+    differs)
 
 pub take_from_all-requires-clause-keep : goal.take_from_all-requires-clause-keep
 take_from_all-requires-clause-keep c =
@@ -35,9 +37,9 @@ take_from_all-requires-clause-keep c =
     subst (λ (v : StoredRows). Differs (slot_at v.places) (before es (slot_at v.places)) (named record_name New es) (named record_name Old es))
     (sym c.self.view_is) c.requires.differs in
     rw c.entries-2.ensures (
-      (parts c.self.inside.width c.self.inside.key now c.self.inside.by_key.refs c.self.inside.indexes.items c.self.invariant es
+      (parts c.self.inside.rows.types c.self.inside.key now c.self.inside.by_key.refs c.self.inside.indexes.items c.self.invariant es
           differs).0,
-      keep_parts c.self.inside.width c.self.inside.key now c.self.inside.by_key.refs c.self.inside.indexes.items c.self.invariant es differs,
+      keep_parts c.self.inside.rows.types c.self.inside.key now c.self.inside.by_key.refs c.self.inside.indexes.items c.self.invariant es differs,
     )
 
 pub take_from_all-requires-clause-wide : goal.take_from_all-requires-clause-wide
@@ -47,8 +49,19 @@ take_from_all-requires-clause-wide c =
     let differs : Differs now (before es now) (named record_name New es) (named record_name Old es) =
     subst (λ (v : StoredRows). Differs (slot_at v.places) (before es (slot_at v.places)) (named record_name New es) (named record_name Old es))
     (sym c.self.view_is) c.requires.differs in
-    rw c.entries-2.ensures (wide_parts c.self.inside.width c.self.inside.key now c.self.inside.by_key.refs c.self.inside.indexes.items c.self.invariant es
+    rw c.entries-2.ensures (wide_parts c.self.inside.rows.types c.self.inside.key now c.self.inside.by_key.refs c.self.inside.indexes.items c.self.invariant es
     differs)
+
+pub take_back_each-requires-clause-typed : goal.take_back_each-requires-clause-typed
+take_back_each-requires-clause-typed c =
+    let now = slot_at c.self.inside.rows in
+    let es : List UndoRecord = c.args.log.now.entries in
+    let differs : Differs now (before es now) (named record_name New es) (named record_name Old es) =
+    subst (λ (v : StoredRows). Differs (slot_at v.places) (before es (slot_at v.places)) (named record_name New es) (named record_name Old es))
+    (sym c.self.view_is) c.requires.differs in
+    let lawful : IsLawful c.self.inside.rows.types c.self.inside.key (before es now) =
+    subst (λ (v : StoredRows). IsLawful v.places.types v.key (before es (slot_at v.places))) (sym c.self.view_is) c.requires.lawful in
+    olds_typed c.self.inside.rows.types es now lawful.typed differs.out_apart differs.in_apart
 
 pub put_each-requires-clause-spare : goal.put_each-requires-clause-spare
 put_each-requires-clause-spare c =
@@ -72,14 +85,14 @@ put_each-requires-clause-ordered c =
     (sym c.self.view_is) c.requires.differs in
     let then = slot_at c.take_back_each.new.rows in
     let ns : List UndoRecord = c.take_back_each.new.log.entries in
-    let lawful : IsLawful c.self.inside.width c.self.inside.key (before es now) =
-    subst (λ (v : StoredRows). IsLawful v.width v.key (before es (slot_at v.places))) (sym c.self.view_is) c.requires.lawful in
-    let left = parts c.self.inside.width c.self.inside.key now c.self.inside.by_key.refs c.self.inside.indexes.items c.self.invariant es differs in
+    let lawful : IsLawful c.self.inside.rows.types c.self.inside.key (before es now) =
+    subst (λ (v : StoredRows). IsLawful v.places.types v.key (before es (slot_at v.places))) (sym c.self.view_is) c.requires.lawful in
+    let left = parts c.self.inside.rows.types c.self.inside.key now c.self.inside.by_key.refs c.self.inside.indexes.items c.self.invariant es differs in
     let holds : IsPermutation c.take_each.new.tree.refs (staying record_name record_other c.self.inside.key c.self.inside.key now New es ++ left.0) =
     subst (λ (xs : List UndoRecord). IsPermutation c.self.inside.by_key.refs (named record_name New xs ++ left.0)
     → IsPermutation c.take_each.new.tree.refs (staying record_name record_other c.self.inside.key c.self.inside.key now New xs ++ left.0)) c.entries.ensures
     (c.take_each.ensures.refs left.0) left.1 in
-    order_back c.self.inside.width c.self.inside.key now c.self.inside.by_key.refs c.self.inside.indexes.items c.self.invariant es differs then ns
+    order_back c.self.inside.rows.types c.self.inside.key now c.self.inside.by_key.refs c.self.inside.indexes.items c.self.invariant es differs then ns
     c.take_back_each.ensures.slots c.take_back_each.ensures.inverted lawful c.take_each.new.tree.refs holds c.take_each.ensures.ordered
 
 pub put_each-requires-clause-wide : goal.put_each-requires-clause-wide
@@ -91,9 +104,9 @@ put_each-requires-clause-wide c =
     (sym c.self.view_is) c.requires.differs in
     let then = slot_at c.take_back_each.new.rows in
     let ns : List UndoRecord = c.take_back_each.new.log.entries in
-    let lawful : IsLawful c.self.inside.width c.self.inside.key (before es now) =
-    subst (λ (v : StoredRows). IsLawful v.width v.key (before es (slot_at v.places))) (sym c.self.view_is) c.requires.lawful in
-    rw c.entries-3.ensures (wide_back c.self.inside.width c.self.inside.key now c.self.inside.by_key.refs c.self.inside.indexes.items c.self.invariant es
+    let lawful : IsLawful c.self.inside.rows.types c.self.inside.key (before es now) =
+    subst (λ (v : StoredRows). IsLawful v.places.types v.key (before es (slot_at v.places))) (sym c.self.view_is) c.requires.lawful in
+    rw c.entries-3.ensures (wide_back c.self.inside.rows.types c.self.inside.key now c.self.inside.by_key.refs c.self.inside.indexes.items c.self.invariant es
     differs then ns c.take_back_each.ensures.slots c.take_back_each.ensures.inverted lawful c.self.inside.key c.self.invariant.key_in)
 
 pub put_each-requires-clause-apart : goal.put_each-requires-clause-apart
@@ -105,18 +118,18 @@ put_each-requires-clause-apart c =
     (sym c.self.view_is) c.requires.differs in
     let then = slot_at c.take_back_each.new.rows in
     let ns : List UndoRecord = c.take_back_each.new.log.entries in
-    let lawful : IsLawful c.self.inside.width c.self.inside.key (before es now) =
-    subst (λ (v : StoredRows). IsLawful v.width v.key (before es (slot_at v.places))) (sym c.self.view_is) c.requires.lawful in
-    let left = parts c.self.inside.width c.self.inside.key now c.self.inside.by_key.refs c.self.inside.indexes.items c.self.invariant es differs in
+    let lawful : IsLawful c.self.inside.rows.types c.self.inside.key (before es now) =
+    subst (λ (v : StoredRows). IsLawful v.places.types v.key (before es (slot_at v.places))) (sym c.self.view_is) c.requires.lawful in
+    let left = parts c.self.inside.rows.types c.self.inside.key now c.self.inside.by_key.refs c.self.inside.indexes.items c.self.invariant es differs in
     let holds : IsPermutation c.take_each.new.tree.refs (staying record_name record_other c.self.inside.key c.self.inside.key now New es ++ left.0) =
     subst (λ (xs : List UndoRecord). IsPermutation c.self.inside.by_key.refs (named record_name New xs ++ left.0)
     → IsPermutation c.take_each.new.tree.refs (staying record_name record_other c.self.inside.key c.self.inside.key now New xs ++ left.0)) c.entries.ensures
     (c.take_each.ensures.refs left.0) left.1 in
     rw c.entries-3.ensures (
       left.0,
-      beside_back c.self.inside.width c.self.inside.key now c.self.inside.by_key.refs c.self.inside.indexes.items
+      beside_back c.self.inside.rows.types c.self.inside.key now c.self.inside.by_key.refs c.self.inside.indexes.items
           c.self.invariant es differs then ns c.take_back_each.ensures.slots c.take_back_each.ensures.inverted lawful c.take_each.new.tree.refs holds,
-      apart_back c.self.inside.width c.self.inside.key now c.self.inside.by_key.refs c.self.inside.indexes.items c.self.invariant es differs then ns
+      apart_back c.self.inside.rows.types c.self.inside.key now c.self.inside.by_key.refs c.self.inside.indexes.items c.self.invariant es differs then ns
           c.take_back_each.ensures.slots c.take_back_each.ensures.inverted lawful,
     )
 
@@ -129,19 +142,19 @@ put_into_all-requires-clause-keep c =
     (sym c.self.view_is) c.requires.differs in
     let then = slot_at c.take_back_each.new.rows in
     let ns : List UndoRecord = c.take_back_each.new.log.entries in
-    let lawful : IsLawful c.self.inside.width c.self.inside.key (before es now) =
-    subst (λ (v : StoredRows). IsLawful v.width v.key (before es (slot_at v.places))) (sym c.self.view_is) c.requires.lawful in
+    let lawful : IsLawful c.self.inside.rows.types c.self.inside.key (before es now) =
+    subst (λ (v : StoredRows). IsLawful v.places.types v.key (before es (slot_at v.places))) (sym c.self.view_is) c.requires.lawful in
     let taken : EachTurns (λ x. Taken c.self.inside.key now (named record_name New es) (unmoved record_name record_other c.self.inside.key now New es x) x)
     c.self.inside.indexes.items c.take_from_all.new.indexes.items =
     subst (λ (xs : List UndoRecord). EachTurns (λ x. Taken c.self.inside.key now (named record_name New xs)
     (unmoved record_name record_other c.self.inside.key now New xs x) x) c.self.inside.indexes.items c.take_from_all.new.indexes.items)
     c.entries-2.ensures c.take_from_all.ensures.taken in
     rw c.entries-4.ensures (
-      (parts c.self.inside.width c.self.inside.key now c.self.inside.by_key.refs c.self.inside.indexes.items c.self.invariant es
+      (parts c.self.inside.rows.types c.self.inside.key now c.self.inside.by_key.refs c.self.inside.indexes.items c.self.invariant es
           differs).0,
-      keep_back c.self.inside.width c.self.inside.key now c.self.inside.by_key.refs c.self.inside.indexes.items c.self.invariant es differs then
+      keep_back c.self.inside.rows.types c.self.inside.key now c.self.inside.by_key.refs c.self.inside.indexes.items c.self.invariant es differs then
           ns c.take_back_each.ensures.slots c.take_back_each.ensures.inverted lawful c.take_from_all.new.indexes.items taken,
-      apart_back c.self.inside.width
+      apart_back c.self.inside.rows.types
           c.self.inside.key now c.self.inside.by_key.refs c.self.inside.indexes.items c.self.invariant es differs then ns c.take_back_each.ensures.slots
           c.take_back_each.ensures.inverted lawful,
     )
@@ -155,14 +168,14 @@ put_into_all-requires-clause-wide c =
     (sym c.self.view_is) c.requires.differs in
     let then = slot_at c.take_back_each.new.rows in
     let ns : List UndoRecord = c.take_back_each.new.log.entries in
-    let lawful : IsLawful c.self.inside.width c.self.inside.key (before es now) =
-    subst (λ (v : StoredRows). IsLawful v.width v.key (before es (slot_at v.places))) (sym c.self.view_is) c.requires.lawful in
+    let lawful : IsLawful c.self.inside.rows.types c.self.inside.key (before es now) =
+    subst (λ (v : StoredRows). IsLawful v.places.types v.key (before es (slot_at v.places))) (sym c.self.view_is) c.requires.lawful in
     let taken : EachTurns (λ x. Taken c.self.inside.key now (named record_name New es) (unmoved record_name record_other c.self.inside.key now New es x) x)
     c.self.inside.indexes.items c.take_from_all.new.indexes.items =
     subst (λ (xs : List UndoRecord). EachTurns (λ x. Taken c.self.inside.key now (named record_name New xs)
     (unmoved record_name record_other c.self.inside.key now New xs x) x) c.self.inside.indexes.items c.take_from_all.new.indexes.items)
     c.entries-2.ensures c.take_from_all.ensures.taken in
-    rw c.entries-4.ensures (wide_each c.self.inside.width c.self.inside.key now c.self.inside.by_key.refs c.self.inside.indexes.items c.self.invariant es
+    rw c.entries-4.ensures (wide_each c.self.inside.rows.types c.self.inside.key now c.self.inside.by_key.refs c.self.inside.indexes.items c.self.invariant es
     differs then ns c.take_back_each.ensures.slots c.take_back_each.ensures.inverted lawful c.take_from_all.new.indexes.items taken)
 
 pub put_into_all-requires-clause-spare : goal.put_into_all-requires-clause-spare
@@ -174,8 +187,8 @@ put_into_all-requires-clause-spare c =
     (sym c.self.view_is) c.requires.differs in
     let then = slot_at c.take_back_each.new.rows in
     let ns : List UndoRecord = c.take_back_each.new.log.entries in
-    let lawful : IsLawful c.self.inside.width c.self.inside.key (before es now) =
-    subst (λ (v : StoredRows). IsLawful v.width v.key (before es (slot_at v.places))) (sym c.self.view_is) c.requires.lawful in
+    let lawful : IsLawful c.self.inside.rows.types c.self.inside.key (before es now) =
+    subst (λ (v : StoredRows). IsLawful v.places.types v.key (before es (slot_at v.places))) (sym c.self.view_is) c.requires.lawful in
     let taken : EachTurns (λ x. Taken c.self.inside.key now (named record_name New es) (unmoved record_name record_other c.self.inside.key now New es x) x)
     c.self.inside.indexes.items c.take_from_all.new.indexes.items =
     subst (λ (xs : List UndoRecord). EachTurns (λ x. Taken c.self.inside.key now (named record_name New xs)
@@ -183,7 +196,7 @@ put_into_all-requires-clause-spare c =
     c.entries-2.ensures c.take_from_all.ensures.taken in
     let spares : All (λ x. length (named record_name Old es) ≤ spare_of x) c.self.inside.indexes.items =
     subst (λ (v : StoredRows). All (λ x. length (named record_name Old es) ≤ spare_of x) v.indexes) (sym c.self.view_is) c.requires.spares in
-    rw c.entries-4.ensures (spare_each c.self.inside.width c.self.inside.key now c.self.inside.by_key.refs c.self.inside.indexes.items c.self.invariant es
+    rw c.entries-4.ensures (spare_each c.self.inside.rows.types c.self.inside.key now c.self.inside.by_key.refs c.self.inside.indexes.items c.self.invariant es
     differs then ns c.take_back_each.ensures.slots c.take_back_each.ensures.inverted lawful c.take_from_all.new.indexes.items taken spares)
 
 pub invariant_of-self : goal.invariant_of-self
@@ -195,9 +208,9 @@ invariant_of-self c =
     (sym c.self.view_is) c.requires.differs in
     let then = slot_at c.take_back_each.new.rows in
     let ns : List UndoRecord = c.take_back_each.new.log.entries in
-    let lawful : IsLawful c.self.inside.width c.self.inside.key (before es now) =
-    subst (λ (v : StoredRows). IsLawful v.width v.key (before es (slot_at v.places))) (sym c.self.view_is) c.requires.lawful in
-    let left = parts c.self.inside.width c.self.inside.key now c.self.inside.by_key.refs c.self.inside.indexes.items c.self.invariant es differs in
+    let lawful : IsLawful c.self.inside.rows.types c.self.inside.key (before es now) =
+    subst (λ (v : StoredRows). IsLawful v.places.types v.key (before es (slot_at v.places))) (sym c.self.view_is) c.requires.lawful in
+    let left = parts c.self.inside.rows.types c.self.inside.key now c.self.inside.by_key.refs c.self.inside.indexes.items c.self.invariant es differs in
     let holds : IsPermutation c.take_each.new.tree.refs (staying record_name record_other c.self.inside.key c.self.inside.key now New es ++ left.0) =
     subst (λ (xs : List UndoRecord). IsPermutation c.self.inside.by_key.refs (named record_name New xs ++ left.0)
     → IsPermutation c.take_each.new.tree.refs (staying record_name record_other c.self.inside.key c.self.inside.key now New xs ++ left.0)) c.entries.ensures
@@ -211,16 +224,18 @@ invariant_of-self c =
     subst (λ (xs : List UndoRecord). IsPermutation c.take_each.new.tree.refs
     (staying record_name record_other c.self.inside.key c.self.inside.key then Old xs ++ left.0)
     → IsPermutation c.put_each.new.tree.refs (named record_name Old xs ++ left.0)) c.entries-3.ensures (c.put_each.ensures.refs left.0)
-    (beside_back c.self.inside.width c.self.inside.key now c.self.inside.by_key.refs c.self.inside.indexes.items c.self.invariant es differs then ns
+    (beside_back c.self.inside.rows.types c.self.inside.key now c.self.inside.by_key.refs c.self.inside.indexes.items c.self.invariant es differs then ns
     c.take_back_each.ensures.slots c.take_back_each.ensures.inverted lawful c.take_each.new.tree.refs holds) in
     let put : EachTurns (λ x. Put c.self.inside.key then (named record_name Old ns) (unmoved record_name record_other c.self.inside.key then Old ns x) x)
     c.take_from_all.new.indexes.items c.put_into_all.new.indexes.items =
     subst (λ (xs : List UndoRecord). EachTurns (λ x. Put c.self.inside.key then (named record_name Old xs)
     (unmoved record_name record_other c.self.inside.key then Old xs x) x) c.take_from_all.new.indexes.items c.put_into_all.new.indexes.items)
     c.entries-4.ensures c.put_into_all.ensures.put in
-    IsKept-reverted c.self.inside.width c.self.inside.key now c.self.inside.by_key.refs c.self.inside.indexes.items c.self.invariant es differs then ns
+    subst (λ (types : List ColType). IsKept types c.self.inside.key then c.put_each.new.tree.refs c.put_into_all.new.indexes.items)
+    (sym c.take_back_each.ensures.types)
+    (IsKept-reverted c.self.inside.rows.types c.self.inside.key now c.self.inside.by_key.refs c.self.inside.indexes.items c.self.invariant es differs then ns
     c.take_back_each.ensures.slots c.take_back_each.ensures.inverted lawful c.take_from_all.new.indexes.items taken c.put_each.new.tree.refs moved
-    c.put_into_all.new.indexes.items put c.put_each.ensures.ordered
+    c.put_into_all.new.indexes.items put c.put_each.ensures.ordered)
 
 pub returns-clause-spare : goal.returns-clause-spare
 returns-clause-spare c =

@@ -29,8 +29,8 @@ iter-requires c =
 pub returns-clause-rows : goal.returns-clause-rows
 returns-clause-rows c = λ column has.
     let stored : StoredRows = c.args.self.now in
-    let kept : IsKept stored.width stored.key (slot_at stored.places) stored.refs stored.indexes =
-    subst (λ (v : StoredRows). IsKept v.width v.key (slot_at v.places) v.refs v.indexes) c.self.view_is c.self.invariant
+    let kept : IsKept stored.places.types stored.key (slot_at stored.places) stored.refs stored.indexes =
+    subst (λ (v : StoredRows). IsKept v.places.types v.key (slot_at v.places) v.refs v.indexes) c.self.view_is c.self.invariant
     in
     let there : c.index.result.now ≡ slice_index_or stored.indexes c.args.index c.index.result.now =
     subst (λ (v : StoredRows). c.index.result.now ≡ slice_index_or v.indexes c.args.index c.index.result.now) c.self.view_is c.index.ensures
@@ -51,7 +51,7 @@ returns-clause-live c =
     in
     let held : Keeps c.self.inside.key now refs (Tree c.in-Tree.column c.in-Tree.refs) = subst (Keeps c.self.inside.key now refs) c.in-Tree.is keeps in
     let live : All (IsLive c.self.inside.rows) refs =
-    live_refs c.self.inside.width c.self.inside.key now refs c.self.inside.indexes.items c.self.invariant in
+    live_refs c.self.inside.rows.types c.self.inside.key now refs c.self.inside.indexes.items c.self.invariant in
     subst (λ (v : StoredRows). All (IsLive v.places) c.iter.result) c.self.view_is
     (subst (All (IsLive c.self.inside.rows)) (sym c.iter.ensures)
     (All-permutation (IsLive c.self.inside.rows) refs c.in-Tree.refs.refs (IsPermutation-sym c.in-Tree.refs.refs refs held.1) live))

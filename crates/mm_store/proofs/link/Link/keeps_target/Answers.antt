@@ -22,4 +22,4 @@ returns-in-Some-Some c = λ tie.
     let alike : Some (value_of w.old) ≡ Some (value_of w.new) = place_exact (Some (value_of w.old)) (value_of w.new)
     (equal_from_is_eq (value_cmp (value_of w.old) (value_of w.new)) (ap is_eq (sym c.compare.ensures) ∙ (sym c.is_eq.ensures ∙ tie))) in
     target_kept column to.key (slot_at from.places) (slot_at to.places) c.args.self.now.ties c.requires.follows c.args.at c.requires.live c.args.row.now
-    (new ∙ (sym alike ∙ sym old)) to.width to.refs to.indexes c.is_kept-2.ensures
+    (new ∙ (sym alike ∙ sym old)) to.places.types to.refs to.indexes c.is_kept-2.ensures

@@ -1,6 +1,7 @@
-use Rattle.std.proofs.Common.{◌≡◌, length, sym, ap, ◌∙◌}
+use Rattle.std.proofs.Common.{◌≡◌, sym, ap, ◌∙◌}
 use Rattle.std.proofs.lemmas.List.Folds.{list_any_at}
 use Rattle.mm_partition.specs.Places.{slot_at}
+use Rattle.mm_partition.specs.Types.{HasTypes}
 use Rattle.mm_relation.specs.RowLists.{edit_pair, rows_of}
 use Rattle.mm_relation.specs.declared.edits.Edit.{Edit}
 use Rattle.mm_relation.proofs.Duplicates.{list_any-map}
@@ -14,10 +15,10 @@ leaves_orphan-requires-clause-standing c =
     Standing-at (slot_at c.args.to.now.places) c.args.edits.now c.loop-edit.edit-index c.edit-item.result c.loop-edit-test.true c.edit-item.is
     c.requires.standing
 
-pub leaves_orphan-requires-clause-wide : goal.leaves_orphan-requires-clause-wide
-leaves_orphan-requires-clause-wide c =
-    new_rows_at (λ row. length row ≡ c.args.to.now.width) c.args.edits.now c.loop-edit.edit-index c.edit-item.result c.loop-edit-test.true c.edit-item.is
-    c.requires.wide
+pub leaves_orphan-requires-clause-typed : goal.leaves_orphan-requires-clause-typed
+leaves_orphan-requires-clause-typed c =
+    new_rows_at (HasTypes c.args.to.now.places.types) c.args.edits.now c.loop-edit.edit-index c.edit-item.result c.loop-edit-test.true c.edit-item.is
+    c.requires.typed
 
 pub returns-then-leaves_orphan : goal.returns-then-leaves_orphan
 returns-then-leaves_orphan c =

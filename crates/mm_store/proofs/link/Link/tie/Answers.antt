@@ -1,12 +1,23 @@
-use Rattle.std.proofs.Common.{◌≡◌, ◌≢◌, Some, sym, ap, ◌∙◌, subst}
+use Rattle.std.proofs.Common.{◌≡◌, ◌≢◌, Some, sym, ap, ◌∙◌, subst, arith}
 use Rattle.std.specs.Prelude.{slice_get, IfNone}
 use Rattle.std.specs.List.{All, Contains}
 use Rattle.std.proofs.lemmas.List.Elements.{All-contains}
 use Rattle.mm_value.specs.Views.{value_of}
 use Rattle.mm_partition.specs.Places.{slot_at}
+use Rattle.mm_partition.specs.Views.{viewed}
 use Rattle.mm_relation.specs.Refs.{row_at, row_in}
+use Rattle.mm_relation.proofs.Typed.{HasTypes-length}
 use Rattle.mm_store.specs.Links.{HasTargetRow}
 use Rattle.mm_store.proofs.link.Link.tie.Goals as goal
+
+pub value-value-requires : goal.value-value-requires
+value-value-requires c =
+    omega (
+      arith,
+      c.requires.column,
+      HasTypes-length c.args.from.now.places.types (viewed c.row.result)
+          (c.is_kept.ensures.typed c.args.at (viewed c.row.result) c.row.ensures),
+    )
 
 pub unreachable-requires : goal.unreachable-requires
 unreachable-requires c =

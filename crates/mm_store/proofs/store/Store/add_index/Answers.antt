@@ -33,14 +33,14 @@ invariant_of-self-2 c =
     (sym (at_index (slice_set items place new) place c.index.result.now (omega (arith, within, length-set items place new)) c.index.ensures)
     ∙ get_set_same items place new within) in
     let same : SameRows relation new = record {
-      width = ap (λ (s : StoredRows). s.width) rest;
+      types = ap (λ (s : StoredRows). s.places.types) rest;
       key = ap (λ (s : StoredRows). s.key) rest;
       slots = ap (λ (s : StoredRows). slot_at s.places) rest;
       extent = ap (λ (s : StoredRows). extent_of s.places) rest;
     } in
     let is_table : IsTable new = record {
       few = omega (arith, was.few, ap (λ (s : StoredRows). length s.refs) rest);
-      kept = subst (λ (s : StoredRows). IsKept s.width s.key (slot_at s.places) s.refs s.indexes) last c.is_kept.ensures.kept;
+      kept = subst (λ (s : StoredRows). IsKept s.places.types s.key (slot_at s.places) s.refs s.indexes) last c.is_kept.ensures.kept;
       storable = subst (λ (s : StoredRows). AreRowsStorable s.places) last c.is_kept.ensures.storable;
     } in
     IsSound-same items links place relation new there same is_table c.self.invariant
@@ -93,14 +93,14 @@ module _ (c : After-index) where
       let rest = c.in_ok-add_index.ensures.rest in
       CanUndo-reindexed c.args.self.now new_store c.args.table relation c.add_index.new.self was_there
       (ap (λ (v : Tables). slice_set v.tables c.args.table c.add_index.new.self) c.self.view_is) (ap (λ (v : Tables). v.links) c.self.view_is)
-      (ap (λ (s : StoredRows). s.width) rest) (ap (λ (s : StoredRows). s.key) rest) c.args.undo.now rest has_undo_room c.requires.fits
+      (ap (λ (s : StoredRows). s.places.types) rest) (ap (λ (s : StoredRows). s.key) rest) c.args.undo.now rest has_undo_room c.requires.fits
 
   same_before : (mark : ℕ) → rows_at_mark mark c.args.undo.now new_store ≡ rows_at_mark mark c.args.undo.now c.args.self.now
   same_before mark =
       let rest = c.in_ok-add_index.ensures.rest in
       rows-reindexed c.args.self.now new_store c.args.table relation c.add_index.new.self was_there
       (ap (λ (v : Tables). slice_set v.tables c.args.table c.add_index.new.self) c.self.view_is) (ap (λ (v : Tables). v.links) c.self.view_is)
-      (ap (λ (s : StoredRows). s.width) rest) (ap (λ (s : StoredRows). s.key) rest) c.args.undo.now mark rest c.requires.fits still_fits
+      (ap (λ (s : StoredRows). s.places.types) rest) (ap (λ (s : StoredRows). s.key) rest) c.args.undo.now mark rest c.requires.fits still_fits
 
 pub returns-clause-fits : goal.returns-clause-fits
 returns-clause-fits c = still_fits (goal.at.returns-clause-fits c).After-index

@@ -51,7 +51,7 @@ module _ (c : In_err-edit) where
   kept_fits : CanUndo c.edit.new.self kept_undo
   kept_fits =
       subst (CanUndo c.edit.new.self) (sym kept_same)
-      (CanUndo-grown c.args.self.now c.edit.new.self c.args.table kept_was.0 kept_is.0 kept_was.1 kept_is.1 c.edit.ensures.links kept_is.2.width
+      (CanUndo-grown c.args.self.now c.edit.new.self c.args.table kept_was.0 kept_is.0 kept_was.1 kept_is.1 c.edit.ensures.links kept_is.2.types
       kept_is.2.key c.args.undo.now kept_is.2 c.requires.fits)
 
   kept_snapshot : (mark : ℕ) → back_all (drop mark kept_undo) (snapshot_of c.edit.new.self) ≡ back_all (drop mark c.args.undo.now) (snapshot_of c.args.self.now)
@@ -62,7 +62,7 @@ module _ (c : In_err-edit) where
 
   kept_headings : headings_of c.edit.new.self ≡ headings_of c.args.self.now
   kept_headings =
-      headings_turned c.args.self.now c.edit.new.self c.args.table kept_was.0 kept_is.0 kept_was.1 kept_is.1 kept_is.2.width kept_is.2.key
+      headings_turned c.args.self.now c.edit.new.self c.args.table kept_was.0 kept_is.0 kept_was.1 kept_is.1 kept_is.2.types kept_is.2.key
 
 pub returns-in_err-edit-clause-fits : goal.returns-in_err-edit-clause-fits
 returns-in_err-edit-clause-fits c = kept_fits (goal.at.returns-in_err-edit-clause-fits c).In_err-edit
@@ -102,7 +102,7 @@ module _ (c : In_ok-edit) where
 
   logged_fits : CanUndo c.edit.new.self (c.args.undo.now ++ command ∷ [])
   logged_fits =
-      CanUndo-logged c.args.self.now c.edit.new.self c.args.table was.0 is.0 was.1 is.1 c.edit.ensures.links is.2.rows.width is.2.rows.key c.args.undo.now
+      CanUndo-logged c.args.self.now c.edit.new.self c.args.table was.0 is.0 was.1 is.1 c.edit.ensures.links is.2.rows.types is.2.rows.key c.args.undo.now
       command refl is.2.makes c.in_ok-edit.ensures.reversible
       (subst (λ (n : ℕ). HasSpare (n + length (named record_name Old entries)) is.0) undo_room_so_far is.2.spare) c.requires.fits
 
@@ -116,7 +116,7 @@ module _ (c : In_ok-edit) where
       (back_is_old c.args.self.now c.edit.new.self c.args.table was.0 is.0 was.1 is.1 command refl is.2.makes))
 
   logged_headings : headings_of c.edit.new.self ≡ headings_of c.args.self.now
-  logged_headings = headings_turned c.args.self.now c.edit.new.self c.args.table was.0 is.0 was.1 is.1 is.2.rows.width is.2.rows.key
+  logged_headings = headings_turned c.args.self.now c.edit.new.self c.args.table was.0 is.0 was.1 is.1 is.2.rows.types is.2.rows.key
 
   logged_needs : c.count_old-needed.result ≡ length (named record_name Old entries)
   logged_needs =

@@ -19,6 +19,7 @@ use Rattle.mm_relation.proofs.Rooms.{IsKept-grown}
 use Rattle.mm_relation.proofs.Turning.{All-turned}
 use Rattle.mm_relation.proofs.WaysBack.{old_names}
 use Rattle.mm_schema.specs.declared.reference.Reference.{Reference}
+use Rattle.mm_value.specs.declared.col_type.ColType.{ColType}
 use Rattle.mm_value.specs.declared.row_ref.RowRef.{RowRef}
 use Rattle.mm_store.specs.Commands.{IsEdited}
 use Rattle.mm_store.specs.Joined.{CanRetie, HasGrown, HasGrownTo, IsJoined, IsRetied, IsTable}
@@ -56,8 +57,8 @@ lawful_there c =
 pub apply-requires-clause-standing : goal.apply-requires-clause-standing
 apply-requires-clause-standing c = (lawful_there (goal.at.apply-requires-clause-standing c).After-index_mut).fit.standing
 
-pub apply-requires-clause-wide : goal.apply-requires-clause-wide
-apply-requires-clause-wide c = (lawful_there (goal.at.apply-requires-clause-wide c).After-index_mut).fit.wide
+pub apply-requires-clause-typed : goal.apply-requires-clause-typed
+apply-requires-clause-typed c = (lawful_there (goal.at.apply-requires-clause-typed c).After-index_mut).fit.typed
 
 pub apply-requires-clause-keys : goal.apply-requires-clause-keys
 apply-requires-clause-keys c = (lawful_there (goal.at.apply-requires-clause-keys c).After-index_mut).apart
@@ -95,13 +96,13 @@ invariant_of-self-in_err-apply c =
     let mid = c.apply.new.self in
     let same = c.in_err-apply.ensures.err in
     let was : IsTable relation = table_at items place relation c.self.invariant.all (at_place at_edits) in
-    let grown : IsKept relation.width relation.key (slot_at mid.places) mid.refs mid.indexes =
-    IsKept-grown relation.width relation.key (slot_at relation.places) (slot_at mid.places) relation.refs mid.refs relation.indexes mid.indexes same.places
-    same.refs same.indexes was.kept in
+    let grown : IsKept relation.places.types relation.key (slot_at mid.places) mid.refs mid.indexes =
+    IsKept-grown relation.places.types relation.key (slot_at relation.places) (slot_at mid.places) relation.refs mid.refs relation.indexes mid.indexes
+    same.places same.refs same.indexes was.kept in
     let is_table : IsTable mid = record {
       few = omega (arith, was.few, ap (λ (xs : List _). length xs) same.refs);
-      kept = subst (λ (w : ℕ). IsKept w mid.key (slot_at mid.places) mid.refs mid.indexes) (sym same.width)
-          (subst (λ (k : ℕ). IsKept relation.width k (slot_at mid.places) mid.refs mid.indexes) (sym same.key) grown);
+      kept = subst (λ (types : List ColType). IsKept types mid.key (slot_at mid.places) mid.refs mid.indexes) (sym same.types)
+          (subst (λ (k : ℕ). IsKept relation.places.types k (slot_at mid.places) mid.refs mid.indexes) (sym same.key) grown);
       storable = λ at. subst IsStorableIn (sym (same.places at)) (was.storable at);
     } in
     record {
@@ -192,7 +193,7 @@ module _ (c : After-is_kept) where
       (sym (at_index (slice_set items place new) place c.index-2.result.now within_too c.index-2.ensures) ∙ get_set_same items place new within) in
       record {
         few = omega (arith, lawful.few, ap (λ (xs : List _). length xs) rows, length-map new.refs (row_at (slot_at new.places)));
-        kept = subst (λ (s : StoredRows). IsKept s.width s.key (slot_at s.places) s.refs s.indexes) last c.is_kept.ensures.kept;
+        kept = subst (λ (s : StoredRows). IsKept s.places.types s.key (slot_at s.places) s.refs s.indexes) last c.is_kept.ensures.kept;
         storable = subst (λ (s : StoredRows). AreRowsStorable s.places) last c.is_kept.ensures.storable;
       }
 
@@ -219,7 +220,7 @@ module _ (c : After-is_kept) where
       All-turned (HasGrownTo place extent) (IsWhole items place old there c.self.invariant.all edits lawful.fit)
       (λ link. link.reference.from ≡ place → CanRetie (slice_set items place new) new entries link) links grown_links c.in_ok-reserve_all.ensures.room
       (λ x y w t from.
-      CanRetie-turned items place old new there c.in_ok-apply.ensures.width c.in_ok-apply.ensures.key entries tell y
+      CanRetie-turned items place old new there c.in_ok-apply.ensures.types c.in_ok-apply.ensures.key entries tell y
       (CanTurn-edited items place old there c.self.invariant.all edits lawful.fit new entries extent c.in_ok-apply.ensures.changes room x y w t)
       (targets_edited items place old there c.self.invariant.all edits lawful.fit new entries extent c.in_ok-apply.ensures.changes room x y w t is_table rows)
       from)
@@ -229,7 +230,7 @@ module _ (c : After-is_kept) where
   edited = record {
     rows = record {
       rows_are = rows;
-      width = c.in_ok-apply.ensures.width;
+      types = c.in_ok-apply.ensures.types;
       key = c.in_ok-apply.ensures.key;
       indexes = c.in_ok-apply.ensures.indexes;
     };
@@ -268,7 +269,7 @@ retied c =
 pub invariant_of-self-2 : goal.invariant_of-self-2
 invariant_of-self-2 c =
     let at = (goal.at.invariant_of-self-2 c).After-is_kept in
-    IsSound-turned (items at) (place at) (old at) (new at) (there at) c.in_ok-apply.ensures.width c.in_ok-apply.ensures.key (grown_links at)
+    IsSound-turned (items at) (place at) (old at) (new at) (there at) c.in_ok-apply.ensures.types c.in_ok-apply.ensures.key (grown_links at)
     c.retie_all.new.links.items c.self.invariant.all (is_table at) (can at) (retied (goal.at.invariant_of-self-2 c).After-retie_all)
 
 pub returns-clause-ok : goal.returns-clause-ok

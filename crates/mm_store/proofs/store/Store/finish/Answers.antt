@@ -69,8 +69,8 @@ module _ (c : After-is_kept) where
   slots : slot_at new.places ≡ slot_at mid.places
   slots = ap (λ (s : StoredRows). slot_at s.places) c.trim_spares.ensures.rest ∙ ap (λ (s : StoredRows). slot_at s.places) again
 
-  width : new.width ≡ old.width
-  width = ap (λ (s : StoredRows). s.width) c.trim_spares.ensures.rest ∙ (ap (λ (s : StoredRows). s.width) again ∙ c.settle.ensures.width)
+  types : new.places.types ≡ old.places.types
+  types = ap (λ (s : StoredRows). s.places.types) c.trim_spares.ensures.rest ∙ (ap (λ (s : StoredRows). s.places.types) again ∙ c.settle.ensures.types)
 
   key : new.key ≡ old.key
   key = ap (λ (s : StoredRows). s.key) c.trim_spares.ensures.rest ∙ (ap (λ (s : StoredRows). s.key) again ∙ c.settle.ensures.key)
@@ -106,14 +106,14 @@ module _ (c : After-is_kept) where
           length-map new.refs (row_at (slot_at new.places)),
           length-map old.refs (row_at (slot_at old.places)),
         );
-        kept = subst (λ (s : StoredRows). IsKept s.width s.key (slot_at s.places) s.refs s.indexes) last c.is_kept.ensures.kept;
+        kept = subst (λ (s : StoredRows). IsKept s.places.types s.key (slot_at s.places) s.refs s.indexes) last c.is_kept.ensures.kept;
         storable = subst (λ (s : StoredRows). AreRowsStorable s.places) last c.is_kept.ensures.storable;
       }
 
   settled : IsSettled old gone new
   settled = record {
     form = record {
-      width = width;
+      types = types;
       key = key;
       indexes =
           subst (λ (xs : List Index). EachTurns SameIndex xs new.indexes) (ap (λ (s : StoredRows). s.indexes) again ∙ c.settle.ensures.indexes)
@@ -128,7 +128,7 @@ pub invariant_of-self : goal.invariant_of-self
 invariant_of-self c =
     let at = (goal.at.invariant_of-self c).After-is_kept in
     subst (λ (ts : List StoredRows). IsSound ts c.self.inside.links.items) (sym (set_twice (items at) (place at) (mid at) (new at)))
-    (IsSound-freed (items at) c.self.inside.links.items (place at) (old at) (new at) (there at) (gone at) (hidden at) (frees at) (width at) (key at)
+    (IsSound-freed (items at) c.self.inside.links.items (place at) (old at) (new at) (there at) (gone at) (hidden at) (frees at) (types at) (key at)
     (extent at) (is_table at) c.self.invariant)
 
 pub returns-clause-settled : goal.returns-clause-settled

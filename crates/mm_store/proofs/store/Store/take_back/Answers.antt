@@ -125,15 +125,15 @@ module _ (c : After-is_kept) where
         one_relation c.index.result.now new
         (sym (at_index (slice_set items place new) place c.index.result.now within_too c.index.ensures) ∙ get_set_same items place new within)
 
-    kept : IsKept new.width new.key (slot_at new.places) new.refs new.indexes
-    kept = subst (λ (s : StoredRows). IsKept s.width s.key (slot_at s.places) s.refs s.indexes) last c.is_kept.ensures.kept
+    kept : IsKept new.places.types new.key (slot_at new.places) new.refs new.indexes
+    kept = subst (λ (s : StoredRows). IsKept s.places.types s.key (slot_at s.places) s.refs s.indexes) last c.is_kept.ensures.kept
 
     storable : AreRowsStorable new.places
     storable = subst (λ (s : StoredRows). AreRowsStorable s.places) last c.is_kept.ensures.storable
 
   taken : IsTakenBack old c.args.log.now.entries new
   taken = record {
-    form = record { width = c.revert.ensures.width; key = c.revert.ensures.key; indexes = c.revert.ensures.indexes };
+    form = record { types = c.revert.ensures.types; key = c.revert.ensures.key; indexes = c.revert.ensures.indexes };
     slots = c.revert.ensures.slots;
     spare = λ n spare. record {
       key = omega (arith, spare.key, c.revert.ensures.spare);
@@ -164,7 +164,7 @@ retie_all-requires-clause-behind c =
     let is : c.as_slice.result.now ≡ tables = c.as_slice.ensures.value in
     let behind : All (λ link. link.reference.from ≡ place at → CanRetie tables (new at) c.revert.new.log.entries link) (links at) =
     AreBehind-back (items at) (links at) c.self.invariant (place at) (old at) there c.args.log.now.entries (reversible_inside first) (new at)
-    c.revert.new.log.entries c.revert.ensures.slots c.revert.ensures.width c.revert.ensures.key c.revert.ensures.extent c.revert.ensures.inverted
+    c.revert.new.log.entries c.revert.ensures.slots c.revert.ensures.types c.revert.ensures.key c.revert.ensures.extent c.revert.ensures.inverted
     (kept at there) (storable at there) in
     λ stored there_now.
     let same : new at ≡ stored =
@@ -181,7 +181,7 @@ invariant_of-self c =
     let first = (goal.at.invariant_of-self c).After-index_mut in
     let there : slice_get (items at) (place at) ≡ Some (old at) = at_place first in
     IsSound-back (items at) (links at) c.self.invariant (place at) (old at) there c.args.log.now.entries (reversible_inside first) (new at)
-    c.revert.new.log.entries c.revert.ensures.slots c.revert.ensures.width c.revert.ensures.key c.revert.ensures.extent c.revert.ensures.inverted
+    c.revert.new.log.entries c.revert.ensures.slots c.revert.ensures.types c.revert.ensures.key c.revert.ensures.extent c.revert.ensures.inverted
     (kept at there) (storable at there) c.retie_all.new.links.items (retied (goal.at.invariant_of-self c).After-retie_all there)
 
 pub returns-clause-back : goal.returns-clause-back

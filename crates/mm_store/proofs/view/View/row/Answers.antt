@@ -8,9 +8,9 @@ use Rattle.mm_store.proofs.Shown.{table_seen}
 use Rattle.mm_store.specs.Seen.{Seen}
 use Rattle.mm_store.proofs.view.View.row.Goals as goal
 
-pub returns-clause-wide : goal.returns-clause-wide
-returns-clause-wide c = λ stored at.
+pub returns-clause-typed : goal.returns-clause-typed
+returns-clause-typed c = λ stored at.
     let here = ap (λ (seen : Seen). slice_get seen.store.tables c.args.table) c.self.view_is ∙ at in
-    (table_seen c.args.self.now c.args.table stored at).kept.wide c.args.at (viewed c.row.result)
+    (table_seen c.args.self.now c.args.table stored at).kept.typed c.args.at (viewed c.row.result)
     (subst (λ (s : StoredRows). slot_at s.places c.args.at ≡ Live (viewed c.row.result))
     (one_relation c.table.result.now stored (sym c.table.ensures.at ∙ here)) c.row.ensures)

@@ -64,7 +64,7 @@ returns-clause-there c =
           (sym c.find_index.ensures.found ∙ ap option_copied c.in_ok-index.ensures.ok_part) c.find_index.ensures.in_place c.place_of.ensures.distinct
           c.in_ok-at.at
           (sym c.place_of.ensures.place ∙ c.in_ok-at.ensures.ok_part) c.table_at-table.result.now c.table_at-table.ensures);
-      column = subst (λ (s : Tables). (stored : StoredRows) → IsAt s c.in_ok-at.at stored → c.in_ok-column.column < stored.width) same
+      column = subst (λ (s : Tables). (stored : StoredRows) → IsAt s c.in_ok-at.at stored → c.in_ok-column.column < length stored.places.types) same
           (λ stored at. along_within c.self.inside.catalog c.self.inside.store.tables c.self.invariant.kept.relations c.args.name.now c.in_ok-index.index.now
           (sym c.find_index.ensures.found ∙ ap option_copied c.in_ok-index.ensures.ok_part) c.find_index.ensures.in_place c.place_of.ensures.distinct
           c.in_ok-at.at

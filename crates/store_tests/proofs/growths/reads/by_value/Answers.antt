@@ -1,4 +1,4 @@
-use Rattle.std.proofs.Common.{sym, subst, arith}
+use Rattle.std.proofs.Common.{length, sym, ap, subst, arith}
 use Rattle.mm_store.specs.Looked.{IsIndexOn}
 use Rattle.store_tests.proofs.PlainStores.{plain_at}
 use Rattle.store_tests.specs.SampleStore.{ArePlain}
@@ -9,4 +9,4 @@ rows_by_index-requires-clause-index c = λ stored at. subst (IsIndexOn stored 1)
 
 pub rows_by_index-requires-clause-column : goal.rows_by_index-requires-clause-column
 rows_by_index-requires-clause-column c = λ stored at.
-    omega (arith, (plain_at c.view-view.result.store 1 (subst ArePlain (sym c.view-view.ensures.store) c.requires.plain) stored at).width)
+    omega (arith, ap length (plain_at c.view-view.result.store 1 (subst ArePlain (sym c.view-view.ensures.store) c.requires.plain) stored at).types)

@@ -1,0 +1,42 @@
+-- What partitions keep. No public clause cites this module.
+use Rattle.std.specs.Prelude.{◌≡◌, ◌≢◌, ℕ, suc, ◌+◌, ◌^◌, ◌<◌, ◌≤◌, List, [], ◌∷◌, length, Bool, true, false, Some, All, AllPairs, slice_get}
+use Rattle.std.specs.Prelude.{slice_index_or, count_by}
+use Rattle.mm_value.specs.declared.values.Value.{Value}
+use Rattle.mm_partition.specs.declared.columns.Column.{Column}
+use Rattle.mm_partition.specs.declared.slots.State.{State}
+use Rattle.mm_partition.specs.declared.slots.State.TheVariants as state
+use Rattle.mm_partition.specs.Cells.{row_of, Fits}
+use Rattle.mm_partition.specs.Places.{Content, Free, Live, Hidden, IsStorableIn}
+
+-- what a slot in this state holds, with these values in its cells
+abbrev pub content : State → List Value → Content
+content state.Free row = Free
+content state.Live row = Live row
+content state.Hidden row = Hidden row
+
+-- what the slots from one on hold
+abbrev pub contents_from : ℕ → List Column → List State → List Content
+contents_from i columns [] = []
+contents_from i columns (s ∷ ss) = content s (row_of columns i) ∷ contents_from (suc i) columns ss
+
+-- the slot has a row
+abbrev pub is_taken : State → Bool
+is_taken state.Free = false
+is_taken state.Live = true
+is_taken state.Hidden = true
+
+-- The stack has each free slot once: these are so many, and all other slots have rows.
+pub record IsFreeStack (states : List State) (free : List ℕ) : Type 0 where
+  pub each : All (λ i. slice_get states i ≡ Some state.Free) free
+  pub apart : AllPairs (λ a b. a ≢ b) free
+  pub counted : length free + count_by is_taken states ≡ length states
+
+-- The free slots are stacked, there is room for so many more slots, also to free them all, with which there are fewer than 2^32 of them, and
+-- each row has values that a program can have.
+pub record IsStored (states : List State) (free : List ℕ) (states_capacity free_capacity spare : ℕ) (columns : List Column) : Type 0 where
+  pub free_slots : IsFreeStack states free
+  pub states_room : length states + spare ≤ states_capacity
+  pub free_room : length states + spare ≤ free_capacity
+  pub few : length states + spare < 2 ^ 32
+  pub cells : All (Fits (length states) spare) columns
+  pub storable : (i : ℕ) → IsStorableIn (slice_index_or (contents_from 0 columns states) i Free)

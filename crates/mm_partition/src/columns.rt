@@ -1,0 +1,145 @@
+//! One column of a table.
+ghost use Rattle.std.specs.Prelude.{◌≡◌, ◌≢◌, ℕ, ◌+◌, ◌<◌, ◌≤◌, OnOk};
+ghost use Rattle.mm_value.specs.Types.{type_of};
+ghost use Rattle.mm_value.specs.Views.{value_of};
+
+use crate::text_column::TextColumn;
+use mm_value::{ColType, Value, ValueRef};
+use std::alloc::{AllocError, Global};
+use std::mem;
+
+/// The values of one column, a cell for each slot.
+#[derive(Drop)]
+pub enum Column {
+    /// Whole numbers.
+    Numbers(Vec<i64>),
+    /// Texts.
+    Texts(TextColumn),
+}
+
+impl Column {
+    ghost use Rattle.mm_partition.specs.Cells.{type_in, size_of, room_of, cell, Writes};
+
+    /// A column with no cells. It takes no memory.
+    pub fn new(alloc: Global, col_type: ColType) -> Column
+        ensures typed { type_in result ≡ col_type }
+        ensures size { size_of result ≡ 0 }
+    {
+        match col_type {
+            ColType::Int => Column::Numbers(Vec::new(alloc)),
+            ColType::Text => Column::Texts(TextColumn::new(alloc)),
+        }
+    }
+
+    /// The type of its values.
+    pub fn col_type(&self) -> ColType
+        ensures { result ≡ type_in self.now }
+    {
+        match self {
+            Column::Numbers(_) => ColType::Int,
+            Column::Texts(_) => ColType::Text,
+        }
+    }
+
+    /// Makes room for at least `n` cells more. `AllocError` where memory is refused; the cells stay in any case.
+    pub fn reserve(&mut self, n: usize) -> Result<(), AllocError>
+        ensures typed { type_in self.new ≡ type_in self.old }
+        ensures size { size_of self.new ≡ size_of self.old }
+        ensures cells { (i : ℕ) → cell self.new i ≡ cell self.old i }
+        ensures room { room_of self.old ≤ room_of self.new }
+        ensures ok { OnOk result (size_of self.new + n ≤ room_of self.new) }
+    {
+        match self {
+            Column::Numbers(numbers) => numbers.reserve(n),
+            Column::Texts(texts) => texts.reserve(n),
+        }
+    }
+
+    /// What stands in a cell.
+    #[inline(always)]
+    pub fn value(&self, index: usize) -> ValueRef<'_>
+        requires { index < size_of self.now }
+        ensures { value_of result ≡ cell self.now index }
+    {
+        match self {
+            Column::Numbers(numbers) => ValueRef::Int(numbers[index]),
+            Column::Texts(texts) => ValueRef::Text(texts.text(index)),
+        }
+    }
+
+    /// Appends the cell of a new slot, and leaves 0 where the value was.
+    pub fn push(&mut self, value: &mut Value)
+        requires room { size_of self.old < room_of self.old }
+        requires typed { type_of value.old ≡ type_in self.old }
+        ensures typed { type_in self.new ≡ type_in self.old }
+        ensures size { size_of self.new ≡ size_of self.old + 1 }
+        ensures room { room_of self.new ≡ room_of self.old }
+        ensures cells { Writes self.old self.new (size_of self.old) value.old }
+    {
+        match (self, mem::replace(value, Value::Int(0))) {
+            (Column::Numbers(numbers), Value::Int(number)) => numbers.push_reserved(number),
+            (Column::Texts(texts), Value::Text(text)) => texts.push(text),
+            _ => unreachable!(),
+        }
+    }
+
+    /// Puts a value into a cell, and what stood there into its place.
+    pub fn swap(&mut self, index: usize, value: &mut Value)
+        requires within { index < size_of self.old }
+        requires typed { type_of value.old ≡ type_in self.old }
+        ensures typed { type_in self.new ≡ type_in self.old }
+        ensures size { size_of self.new ≡ size_of self.old }
+        ensures room { room_of self.new ≡ room_of self.old }
+        ensures cells { Writes self.old self.new index value.old }
+        ensures value { value.new ≡ cell self.old index }
+    {
+        match (self, value) {
+            (Column::Numbers(numbers), Value::Int(number)) => {
+                mem::swap(&mut numbers[index], number)
+            }
+            (Column::Texts(texts), Value::Text(text)) => texts.swap(index, text),
+            _ => unreachable!(),
+        }
+    }
+
+    /// Drops what stands in a cell of texts.
+    pub fn clear(&mut self, index: usize)
+        requires { index < size_of self.old }
+        ensures typed { type_in self.new ≡ type_in self.old }
+        ensures size { size_of self.new ≡ size_of self.old }
+        ensures room { room_of self.new ≡ room_of self.old }
+        ensures cells { (k : ℕ) → k ≢ index → cell self.new k ≡ cell self.old k }
+    {
+        match self {
+            Column::Numbers(_) => {}
+            Column::Texts(texts) => texts.clear(index),
+        }
+    }
+
+    /// Keeps the prefixes of texts from now on; of numbers none are needed. `AllocError` where memory is refused; then
+    /// they are kept as before.
+    pub fn track(&mut self, alloc: Global) -> Result<(), AllocError>
+        ensures typed { type_in self.new ≡ type_in self.old }
+        ensures size { size_of self.new ≡ size_of self.old }
+        ensures cells { (i : ℕ) → cell self.new i ≡ cell self.old i }
+        ensures room { room_of self.old ≤ room_of self.new }
+    {
+        match self {
+            Column::Numbers(_) => Ok(()),
+            Column::Texts(texts) => texts.track(alloc),
+        }
+    }
+
+    /// Drops the prefixes, if they are kept.
+    pub fn untrack(&mut self)
+        ensures typed { type_in self.new ≡ type_in self.old }
+        ensures size { size_of self.new ≡ size_of self.old }
+        ensures cells { (i : ℕ) → cell self.new i ≡ cell self.old i }
+        ensures room { room_of self.old ≤ room_of self.new }
+    {
+        match self {
+            Column::Numbers(_) => {}
+            Column::Texts(texts) => texts.untrack(),
+        }
+    }
+}

@@ -1,0 +1,63 @@
+//! One slot in all columns.
+ghost use Rattle.std.specs.Prelude.{◌≡◌, ◌≢◌, ◌+◌, ◌<◌, ◌≤◌, ℕ, OnOk, All, length};
+ghost use Rattle.mm_partition.specs.Cells.{types_of, row_of, Fits, size_of};
+ghost use Rattle.mm_partition.specs.Types.{HasTypes};
+
+use crate::columns::Column;
+use mm_value::Value;
+use std::alloc::AllocError;
+
+/// Makes room for at least `n` more slots in each column. `AllocError` where memory is refused; the cells stay in any case.
+pub fn reserve_each(columns: &mut Vec<Column>, n: usize) -> Result<(), AllocError>
+    ensures types { types_of columns.new.items ≡ types_of columns.old.items }
+    ensures rows { (k : ℕ) → row_of columns.new.items k ≡ row_of columns.old.items k }
+    ensures stays { (size spare : ℕ) → All (Fits size spare) columns.old.items → All (Fits size spare) columns.new.items }
+    ensures room { OnOk result ((size spare : ℕ)
+        → All (Fits size spare) columns.old.items → All (Fits size n) columns.new.items) }
+{
+    for i in 0..columns.len() {
+        columns[i].reserve(n)?;
+    }
+    Ok(())
+}
+
+/// Appends a slot at this index with these values, which are gone afterwards.
+pub fn push_each(columns: &mut Vec<Column>, index: usize, values: &mut Vec<Value>)
+    requires room { All (Fits index 1) columns.old.items }
+    requires typed { HasTypes (types_of columns.old.items) values.old.items }
+    ensures types { types_of columns.new.items ≡ types_of columns.old.items }
+    ensures here { row_of columns.new.items index ≡ values.old.items }
+    ensures others { (k : ℕ) → k ≢ index → row_of columns.new.items k ≡ row_of columns.old.items k }
+    ensures fits { (spare : ℕ) → All (Fits index (spare + 1)) columns.old.items → All (Fits (index + 1) spare) columns.new.items }
+{
+    for i in 0..columns.len() {
+        columns[i].push(&mut values[i]);
+    }
+}
+
+/// Puts these values into a slot, and what stood there into their place.
+pub fn swap_each(columns: &mut Vec<Column>, index: usize, values: &mut Vec<Value>)
+    requires within { All (λ c. index < size_of c) columns.old.items }
+    requires typed { HasTypes (types_of columns.old.items) values.old.items }
+    ensures types { types_of columns.new.items ≡ types_of columns.old.items }
+    ensures here { row_of columns.new.items index ≡ values.old.items }
+    ensures others { (k : ℕ) → k ≢ index → row_of columns.new.items k ≡ row_of columns.old.items k }
+    ensures fits { (size spare : ℕ) → All (Fits size spare) columns.old.items → All (Fits size spare) columns.new.items }
+    ensures values { values.new.items ≡ row_of columns.old.items index }
+{
+    for i in 0..columns.len() {
+        columns[i].swap(index, &mut values[i]);
+    }
+}
+
+/// Drops the texts of a slot.
+pub fn clear_each(columns: &mut Vec<Column>, index: usize)
+    requires { All (λ c. index < size_of c) columns.old.items }
+    ensures types { types_of columns.new.items ≡ types_of columns.old.items }
+    ensures others { (k : ℕ) → k ≢ index → row_of columns.new.items k ≡ row_of columns.old.items k }
+    ensures fits { (size spare : ℕ) → All (Fits size spare) columns.old.items → All (Fits size spare) columns.new.items }
+{
+    for i in 0..columns.len() {
+        columns[i].clear(index);
+    }
+}
