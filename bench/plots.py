@@ -14,6 +14,8 @@ matplotlib.use("svg")
 from matplotlib import pyplot
 from matplotlib.ticker import LogLocator
 
+from tables import middle_size
+
 COLOURS = {"mmdb": "#1f5fa8", "prepared": "#e0892b", "parsed": "#f2cb9c"}
 NAMES = {"mmdb": "mmdb", "prepared": "SQLite, prepared statements", "parsed": "SQLite, each line parsed"}
 PER_LINE = {"query", "line", "pair of lines"}
@@ -138,9 +140,9 @@ def draw_growth(folder, found):
 
 
 def draw_memory(folder, found):
-    tables = sorted((each for each in found if each["unit"] == "row"), key=lambda each: (each["kind"], each["rows"]))
-    works = [f"{each['kind'].removeprefix('table of ')}, {each['rows']:,} rows" for each in tables]
-    bars(folder / "memory.svg", works, [systems_of(each, 1) for each in tables], "bytes of resident memory per row")
+    size = middle_size({each["rows"] for each in found})
+    tables = [each for each in found if each["unit"] == "row" and each["rows"] == size]
+    bars(folder / "memory.svg", [each["kind"] for each in tables], [systems_of(each, 1) for each in tables], f"bytes of resident memory per row, {size:,} rows")
 
 
 DRAWN = {"instructions": draw_instructions, "times": draw_times, "memory": draw_memory}

@@ -8,6 +8,7 @@ import re
 from dataclasses import dataclass
 
 SEED = 1986
+LETTERS = "abcdefghijklmnopqrstuvwxyz"
 MAX_LINE_BYTES = 4096  # without the line feed
 T = "TABLE t (id INT KEY, k INT, name TEXT)"
 T_INDEXES = ["INDEX i ON t (k) TREE", "INDEX h ON t (k) HASH"]
@@ -54,8 +55,7 @@ def text_of(values):
 def rows_of_t(rows):
     """Ascending keys, numbers below the number of rows, and texts of ten letters."""
     rng = random.Random(SEED)
-    letters = "abcdefghijklmnopqrstuvwxyz"
-    return [f"({key}, {rng.randrange(rows)}, '{''.join(rng.choices(letters, k=10))}')" for key in range(1, rows + 1)]
+    return [f"({key}, {rng.randrange(rows)}, '{''.join(rng.choices(LETTERS, k=10))}')" for key in range(1, rows + 1)]
 
 
 def filled_t(rows, indexes=()):
@@ -326,13 +326,44 @@ GROUPS = [
 ]
 
 
+# Tables whose rows are weighed: the columns behind the key, and the indexes on the first of them.
+SHAPES = [
+    ("", ""),
+    ("INT", ""),
+    ("INT", "TREE"),
+    ("INT", "HASH"),
+    ("INT", "TREE, HASH"),
+    ("TEXT", ""),
+    ("TEXT", "TREE"),
+    ("INT, TEXT", ""),
+    ("INT, TEXT", "TREE"),
+    ("INT, TEXT", "TREE, HASH"),
+    (", ".join(["INT"] * 7), ""),
+]
+
+
+def shaped(columns, indexes, rows):
+    """The lines that make a table of this shape, and its rows: ascending keys, numbers below the number of rows, and texts of ten letters."""
+    rng = random.Random(SEED + 10)
+    types = columns.split(", ") if columns else []
+    values = {"INT": lambda: str(rng.randrange(rows)), "TEXT": lambda: f"'{''.join(rng.choices(LETTERS, k=10))}'"}
+    named = "".join(f", c{place} {name}" for place, name in enumerate(types))
+    made = [f"TABLE s (id INT KEY{named})", *(f"INDEX {kind.lower()} ON s (c0) {kind}" for kind in indexes.split(", ") if kind)]
+    return made, [f"({', '.join([str(key), *(values[name]() for name in types)])})" for key in range(1, rows + 1)]
+
+
+def shown(columns):
+    """The columns with the key, as figures.md names them."""
+    types = ["INT", *(columns.split(", ") if columns else [])]
+    return f"({', '.join(types)})" if len(types) < 5 else f"{len(types)} columns of {types[0]}"
+
+
 def kept(rows):
     """Works that leave something in memory: the work, its unit, how many units it has, the lines before it, and its lines.
 
     Some rows or a change come before, so that what the work takes but once, as the pages of its code, does not count.
     """
     few = 300
-    narrow = [f"({key}, {key % 1000})" for key in range(1, rows + 1)]
     t, wide = [T, *T_INDEXES], rows_of_t(rows)
     rng = random.Random(SEED + 9)
     changed = [f"UPDATE t SET k = {rng.randrange(rows)} WHERE id = {key}" for key in rng.sample(range(1, rows + 1), rows)]
@@ -340,13 +371,17 @@ def kept(rows):
     lists = sorted(in_mmdb(rows_of_lists(rows)), key=lambda line: ["TABLE", "INDEX", "INSERT"].index(line.split()[0]))
     watch = f"WATCH q SELECT a.id, b.v FROM e a, d b WHERE {JOINED}"
 
-    def filled(rows):
-        return list(long_lines("t", rows))
+    def filled(name, rows):
+        return list(long_lines(name, rows))
+
+    def weighed(columns, indexes):
+        made, own = shaped(columns, indexes, rows)
+        kind = shown(columns) + (f", {indexes.replace(', ', ' and ')}" if indexes else "")
+        return (kind, "row", rows - few, [*made, *filled("s", own[:few])], filled("s", own[few:]))
 
     return [
-        ("table of (INT, INT), the key alone", "row", rows - few, ["TABLE t (id INT KEY, k INT)", *filled(narrow[:few])], filled(narrow[few:])),
-        ("table of (INT, INT, TEXT), TREE and HASH index", "row", rows - few, [*t, *filled(wide[:few])], filled(wide[few:])),
-        ("`UPDATE` of an indexed column, in an open transaction", "change", rows - 1, [*t, *filled(wide), "BEGIN", changed[0]], changed[1:]),
+        *(weighed(columns, indexes) for columns, indexes in SHAPES),
+        ("`UPDATE` of an indexed column, in an open transaction", "change", rows - 1, [*t, *filled("t", wide), "BEGIN", changed[0]], changed[1:]),
         ("standing query with two numbers a row", "row of the list", rows, lists, [watch]),
     ]
 
