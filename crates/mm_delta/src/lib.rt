@@ -25,7 +25,7 @@ pub use bag_change::delta;
 pub use edit_index::references_of_gone;
 pub use edited::{TableChange, row_gone};
 pub use law::change_is_the_sum_of_its_terms;
-pub use mm_multiset::{Counted, Signed};
+pub use mm_multiset::Signed;
 pub use read_laws::{
     each_edited_row_is_read_once, left_out_rows_are_not_combined, no_row_has_a_number_past_64_bits,
     rows_that_fail_have_no_candidates, rows_with_what_is_required_meet_the_atom,

@@ -5,14 +5,14 @@ use Rattle.std.proofs.lemmas.Int.{ints, fits_signed_from_abs}
 use mir.Syntax.{w128}
 use Rattle.std.proofs.lemmas.List.Sums.{sum_by-cons, sum_by_push}
 use Rattle.std.proofs.lemmas.Map.Entries.{sum_by-set_value}
-use Rattle.std.specs.Map.{keys_of, values_of, lookup, set_value}
+use Rattle.std.specs.Map.{values_of, lookup, set_value}
 use Rattle.std.specs.List.{sum}
 use Rattle.std.specs.Option.{unwrap_or}
 use Rattle.mm_value.specs.Equality.{same_row}
 use Rattle.mm_value.specs.EqualityLaws.{same_row_equiv}
 use Rattle.mm_value.specs.declared.values.Value.{Value}
 use Rattle.mm_value.proofs.SameRows.{rows_exact}
-use Rattle.mm_multiset.specs.Counts.{Adds, Entries, count_in, total_of}
+use Rattle.mm_multiset.specs.Counts.{Adds, Entries, count_in, has_entry, total_of}
 
 -- A count is no more than the total.
 pub count_within : (row : List Value) (es : Entries) → count_in row es ≤ total_of es
@@ -49,12 +49,20 @@ module _ (row : List Value) (change : ℤ) (es fs : Entries) (w : ℕ)
           ap (λ o. pos (unwrap_or o 0)) (found q ∙ ap (λ b. cond b (Some w) (lookup (same_row q) es)) e)
           ∙ none_more (pos (count_in q es)) (cond (same_row q row) change (pos 0)) (ap (λ b. cond b change (pos 0)) turned)
 
+  -- The row has an entry, and each other row has one where it had one.
+  entries : (q : List Value) → has_entry q fs ≡ cond (same_row row q) true (has_entry q es)
+  entries q = ap is_some (found q) ∙ either (same_row row q) (lookup (same_row q) es)
+    where
+      either : (b : Bool) (o : Option ℕ) → is_some (cond b (Some w) o) ≡ cond b true (is_some o)
+      either true o = refl
+      either false o = refl
+
   module _ (v : ℕ) (had : lookup (same_row row) es ≡ Some v) (is : pos w ≡ pos v +ℤ change) where
     -- An entry that is there has the count now.
-    pub adds_at_entry : keys_of fs ≡ keys_of es → Adds (record { row = row; count = change }) es fs
-    adds_at_entry keys = record {
+    pub adds_at_entry : Adds (record { row = row; count = change }) es fs
+    adds_at_entry = record {
       counts = counts (is ∙ ap (λ o. pos (unwrap_or o 0) +ℤ change) (sym had));
-      places = keys ∙ ap (λ o. cond (is_some o) (keys_of es) (keys_of es ++ row ∷ [])) (sym had);
+      entries = entries;
     }
 
     arithmetic : (t s : ℕ) → t + v ≡ s + w → pos t ≡ pos s +ℤ change
@@ -66,10 +74,6 @@ module _ (row : List Value) (change : ℤ) (es fs : Entries) (w : ℕ)
         (sum_by-set_value (λ x. x) (same_row row) es v w had)
 
   module _ (none : lookup (same_row row) es ≡ None) (is : pos w ≡ pos 0 +ℤ change) (are : fs ≡ es ++ (row, w) ∷ []) where
-    keys_push : (xs : Entries) → keys_of (xs ++ (row, w) ∷ []) ≡ keys_of xs ++ row ∷ []
-    keys_push [] = refl
-    keys_push (x ∷ xs) = ap (λ l. x.0 ∷ l) (keys_push xs)
-
     values_push : (xs : Entries) → values_of (xs ++ (row, w) ∷ []) ≡ values_of xs ++ w ∷ []
     values_push [] = refl
     values_push (x ∷ xs) = ap (λ l. x.1 ∷ l) (values_push xs)
@@ -78,7 +82,7 @@ module _ (row : List Value) (change : ℤ) (es fs : Entries) (w : ℕ)
     pub adds_at_end : Adds (record { row = row; count = change }) es fs
     adds_at_end = record {
       counts = counts (is ∙ ap (λ o. pos (unwrap_or o 0) +ℤ change) (sym none));
-      places = ap keys_of are ∙ keys_push es ∙ ap (λ o. cond (is_some o) (keys_of es) (keys_of es ++ row ∷ [])) (sym none);
+      entries = entries;
     }
 
     more : (t s : ℕ) → t ≡ s + w → pos t ≡ pos s +ℤ change

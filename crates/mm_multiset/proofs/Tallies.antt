@@ -10,7 +10,7 @@ use Rattle.mm_multiset.specs.Tally.{AreListed, IsSmall, listed, rows_changed, wi
 use Rattle.mm_multiset.specs.declared.signed.Signed.{Signed}
 use Rattle.mm_multiset.proofs.Adding.{all_with, once_with, signed_with}
 use Rattle.mm_multiset.proofs.CountUps.{one_up}
-use Rattle.mm_multiset.proofs.Listing.{append_none}
+use Rattle.std.proofs.lemmas.List.{append-nil}
 use Rattle.mm_multiset.proofs.Merging.{count_listed}
 
 nothing_more : (a : ℤ) → a ≡ a +ℤ pos 0
@@ -31,7 +31,7 @@ count_tallied row few many are (inl none) =
     ∙ ap (λ (xs : List Signed). pos (count_in row many) +ℤ signed_count row xs) (sym none)
 count_tallied row few many are (inr none) =
     ap (λ (es : Entries). pos (count_in row (listed few ++ es))) none
-    ∙ ap (λ (es : Entries). pos (count_in row es)) (append_none (listed few))
+    ∙ ap (λ (es : Entries). pos (count_in row es)) (append-nil (listed few))
     ∙ count_listed row few are
     ∙ nothing_before (signed_count row few)
     ∙ ap (λ (es : Entries). pos (count_in row es) +ℤ signed_count row few) (sym none)

@@ -1,5 +1,5 @@
 -- Changes that are opposite undo one another, and each finds its entry.
-use Rattle.std.proofs.Common.{◌≡◌, ℕ, ℤ, pos, ◌+ℤ◌, neg_ℤ, ◌⊎◌, inl, inr, Bool, true, false, cond, ◌||◌, is_some, Some, List, [], ◌∷◌, ◌++◌, refl, sym, ap}
+use Rattle.std.proofs.Common.{◌≡◌, ℕ, ℤ, pos, ◌+ℤ◌, neg_ℤ, ◌⊎◌, inl, inr, Bool, true, false, cond, ◌||◌, is_some, Some, List, [], ◌∷◌, refl, sym, ap}
 use Rattle.std.proofs.Common.{◌∙◌, arith}
 use Rattle.std.proofs.lemmas.Int.{ints}
 use Rattle.std.specs.List.{AllByRecursion, list_any}
@@ -46,61 +46,27 @@ entry_in_keys row (e ∷ es) = by (same_row row e.0) (entry_in_keys row es)
     by true h = refl
     by false h = h
 
-any_at_end : (row x : List Value) (xs : List (List Value)) → list_any (same_row row) (xs ++ x ∷ []) ≡ list_any (same_row row) xs || same_row row x
-any_at_end row x [] = either (same_row row x)
-  where
-    either : (b : Bool) → b || false ≡ false || b
-    either true = refl
-    either false = refl
-any_at_end row x (y ∷ ys) = ap (λ b. same_row row y || b) (any_at_end row x ys) ∙ apart (same_row row y) (list_any (same_row row) ys) (same_row row x)
-  where
-    apart : (a b c : Bool) → a || (b || c) ≡ (a || b) || c
-    apart true b c = refl
-    apart false b c = refl
-
 module _ (change : Signed) (old new : Entries) (adds : Adds change old new) where
-  placed : (row : List Value) → has_entry row new ≡ list_any (same_row row) (cond (has_entry change.row old) (keys_of old) (keys_of old ++ change.row ∷ []))
-  placed row = entry_in_keys row new ∙ ap (list_any (same_row row)) adds.places
-
   -- The changed row has an entry.
   pub found_one : has_entry change.row new ≡ true
-  found_one = by (has_entry change.row old) refl (placed change.row)
-    where
-      by : (b : Bool) → has_entry change.row old ≡ b → has_entry change.row new
-          ≡ list_any (same_row change.row) (cond b (keys_of old) (keys_of old ++ change.row ∷ [])) → has_entry change.row new ≡ true
-      by true e h = h ∙ sym (entry_in_keys change.row old) ∙ e
-      by false e h = h ∙ any_at_end change.row change.row (keys_of old)
-          ∙ either (list_any (same_row change.row) (keys_of old)) (same_row change.row change.row) (same_row_equiv.refl change.row)
-        where
-          either : (a b : Bool) → b ≡ true → a || b ≡ true
-          either true b h = refl
-          either false b h = h
+  found_one = adds.entries change.row ∙ ap (λ b. cond b true (has_entry change.row old)) (same_row_equiv.refl change.row)
 
   -- A row that had an entry has it still.
   pub kept_one : (row : List Value) → has_entry row old ≡ true → has_entry row new ≡ true
-  kept_one row had = by (has_entry change.row old) (placed row)
+  kept_one row had = adds.entries row ∙ (ap (λ b. cond (same_row change.row row) true b) had ∙ either (same_row change.row row))
     where
-      there : list_any (same_row row) (keys_of old) ≡ true
-      there = sym (entry_in_keys row old) ∙ had
-
-      by : (b : Bool) → has_entry row new ≡ list_any (same_row row) (cond b (keys_of old) (keys_of old ++ change.row ∷ [])) → has_entry row new ≡ true
-      by true h = h ∙ there
-      by false h = h ∙ any_at_end row change.row (keys_of old) ∙ ap (λ b. b || same_row row change.row) there
+      either : (b : Bool) → cond b true true ≡ true
+      either true = refl
+      either false = refl
 
   -- Only the changed row can have come by an entry.
   pub only_one : (row : List Value) → has_entry row new ≡ true → (has_entry row old ≡ true) ⊎ (same_row row change.row ≡ true)
-  only_one row has = by (has_entry change.row old) (placed row)
+  only_one row has = by (same_row change.row row) refl (sym (adds.entries row) ∙ has)
     where
-      either : (a b : Bool) → has_entry row old ≡ a → a || b ≡ true → (has_entry row old ≡ true) ⊎ (b ≡ true)
-      either true b is h = inl is
-      either false b is h = inr h
-
-      by : (b : Bool) → has_entry row new ≡ list_any (same_row row) (cond b (keys_of old) (keys_of old ++ change.row ∷ []))
+      by : (b : Bool) → same_row change.row row ≡ b → cond b true (has_entry row old) ≡ true
           → (has_entry row old ≡ true) ⊎ (same_row row change.row ≡ true)
-      by true h = inl (entry_in_keys row old ∙ sym h ∙ has)
-      by false h =
-          either (list_any (same_row row) (keys_of old)) (same_row row change.row) (entry_in_keys row old)
-          (sym (any_at_end row change.row (keys_of old)) ∙ sym h ∙ has)
+      by true e h = inr (same_row_equiv.symm row change.row ∙ e)
+      by false e h = inl h
 
 pub kept_all : (changes : List Signed) (old new : Entries) → AddsAll changes old new → (row : List Value) → has_entry row old ≡ true → has_entry row new ≡ true
 kept_all [] old new h row had = ap (has_entry row) h ∙ had

@@ -1,9 +1,10 @@
 -- Bags of rows kept as counts: an entry for a row has how often the row stands in the bag.
-use Rattle.std.specs.Prelude.{◌≡◌, ◌≢◌, ℕ, ℤ, pos, neg_ℤ, ◌+ℤ◌, ◌<ℤ◌, ◌^◌, Bool, if◌then◌else◌, is_some, List, [], ◌∷◌, ◌++◌, All, map, replicate, sum}
-use Rattle.std.specs.List.{IsDistinct, count_by, flat_map}
+use Rattle.std.specs.Prelude.{◌≡◌, ◌≢◌, ℕ, ℤ, pos, neg_ℤ, ◌+ℤ◌, ◌<ℤ◌, ◌^◌, Bool, true, if◌then◌else◌, is_some, List, [], ◌∷◌, All, map, sum}
+use Rattle.std.specs.List.{IsDistinct, count_by}
 use Rattle.std.specs.Map.{keys_of, values_of, lookup}
 use Rattle.std.specs.Option.{unwrap_or}
 use Rattle.mm_value.specs.Equality.{same_row}
+use Rattle.mm_value.specs.declared.col_type.ColType.{ColType}
 use Rattle.mm_value.specs.declared.values.Value.{Value}
 use Rattle.mm_multiset.specs.declared.signed.Signed.{Signed}
 
@@ -11,10 +12,11 @@ use Rattle.mm_multiset.specs.declared.signed.Signed.{Signed}
 abbrev pub Entries : Type 0
 Entries = List (List Value × ℕ)
 
--- A bag as counts, and how many new entries fit in without growth.
+-- A bag as counts, how many new entries fit in without growth, and the types of the columns.
 pub record Counts : Type 0 where
   pub entries : Entries
   pub room : ℕ
+  pub types : List ColType
 
 -- How often a row stands in a list of rows.
 abbrev pub count_of : List Value → List (List Value) → ℕ
@@ -36,19 +38,15 @@ IsOnce entries = IsDistinct same_row (keys_of entries)
 abbrev pub total_of : Entries → ℕ
 total_of entries = sum (values_of entries)
 
--- Each row as often as its count, in the order of the entries.
-abbrev pub rows_of : Entries → List (List Value)
-rows_of entries = flat_map (λ e. replicate e.1 e.0) entries
-
 -- What a list of signed counts adds to the count of a row.
 abbrev pub signed_count : List Value → List Signed → ℤ
 signed_count row [] = pos 0
 signed_count row (change ∷ changes) = (if same_row row change.row then change.count else pos 0) +ℤ signed_count row changes
 
--- The row's count is another by the change, that of each other row is as before; a row without an entry has one at the end now.
+-- The row's count is another by the change, and it has an entry; each other row has the count that it had, and an entry where it had one.
 pub record Adds (change : Signed) (old new : Entries) : Type 0 where
   pub counts : (row : List Value) → pos (count_in row new) ≡ pos (count_in row old) +ℤ signed_count row (change ∷ [])
-  pub places : keys_of new ≡ (if has_entry change.row old then keys_of old else keys_of old ++ change.row ∷ [])
+  pub entries : (row : List Value) → has_entry row new ≡ (if same_row change.row row then true else has_entry row old)
 
 -- One change after another is added.
 abbrev pub AddsAll : List Signed → Entries → Entries → Type 0

@@ -1,2 +1,4 @@
 pub mod Counts
+pub mod RowHash
+pub mod Slots
 pub mod Tally

@@ -10,6 +10,11 @@ use Rattle.mm_multiset.specs.declared.signed.Signed.{Signed}
 pub record Tallied : Type 0 where
   pub entries : Entries
 
+-- Rows by hash: their entries, and how many new ones fit in without growth.
+pub record CountedRows : Type 0 where
+  pub entries : Entries
+  pub room : ℕ
+
 -- How often a row stands in a bag whose count changed by so much from nothing.
 abbrev pub count_from : ℤ → ℕ
 count_from (pos n) = n

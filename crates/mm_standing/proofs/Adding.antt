@@ -1,16 +1,18 @@
 -- What the bags have where one of them is another.
-use Rattle.std.proofs.Common.{◌≡◌, ◌≢◌, ℕ, zero, suc, ℤ, pos, ◌+◌, ◌+ℤ◌, ◌≤◌, ◌<◌, ◌≤ℤ◌, ◌<ℤ◌, ◌^◌, ◌⊎◌, inl, inr, ⊎_elim, Bool, true, false, true≢false}
+use Rattle.std.proofs.Common.{◌≡◌, ◌≢◌, ℕ, zero, suc, ℤ, pos, ◌+◌, ◌-◌, ◌+ℤ◌, ◌≤◌, ◌<◌, ◌≤ℤ◌, ◌<ℤ◌, ◌^◌, ◌⊎◌, inl, inr, ⊎_elim, Bool, true, false, true≢false}
 use Rattle.std.proofs.Common.{cond, List, [], ◌∷◌, length, map, get_or, set, refl, sym, ap, ◌∙◌, arith}
 use Rattle.std.specs.Prelude.{◌==◌}
 use Rattle.std.proofs.lemmas.Int.{ints}
 use Rattle.std.proofs.lemmas.Bool.{eq-eqb, eqb-true}
 use Rattle.std.proofs.lemmas.List.{length-set}
+use Rattle.std.proofs.Math.Seq.{map-set_same}
 use Rattle.mm_value.specs.Equality.{same_row}
 use Rattle.mm_value.specs.EqualityLaws.{same_row_equiv}
+use Rattle.mm_value.specs.declared.col_type.ColType.{ColType}
 use Rattle.mm_value.specs.declared.values.Value.{Value}
 use Rattle.mm_multiset.specs.Counts.{Adds, Counts, Entries, count_in, has_entry, signed_count, total_of}
 use Rattle.mm_multiset.proofs.Undoing.{found_all, kept_all, only_one}
-use Rattle.mm_standing.specs.Bags.{AddedTo, IsWithin, Purges, entries_at, list_change, names, room_at, row_change}
+use Rattle.mm_standing.specs.Bags.{AddedTo, IsWithin, Purges, entries_at, list_change, names, room_at, row_change, types_at}
 use Rattle.mm_standing.specs.declared.change.ListChange.{ListChange}
 use Rattle.mm_schema.specs.Rows.{most_rows}
 
@@ -44,6 +46,15 @@ module _ (bags : List Counts) (at : ℕ) (b0 b1 : Counts) (there : at < length b
 
   pub room_here : room_at bags at ≡ b0.room
   room_here = at_map (λ (b : Counts). b.room) bags at b0 0 there ∙ ap (λ (b : Counts). b.room) (sym is)
+
+  pub types_here : types_at bags at ≡ b0.types
+  types_here = at_map (λ (b : Counts). b.types) bags at b0 [] there ∙ ap (λ (b : Counts). b.types) (sym is)
+
+  -- The types of all bags are as before where those of the bag are.
+  pub types_kept : b1.types ≡ b0.types → (list : ℕ) → types_at (set bags at b1) list ≡ types_at bags list
+  types_kept same list =
+      ap (λ (ts : List (List ColType)). get_or ts list [])
+      (map-set_same (λ (b : Counts). b.types) bags at b1 b0 (same ∙ ap (λ (b : Counts). b.types) is))
 
   pub new_here : entries_at (set bags at b1) at ≡ b1.entries
   new_here = set_here (λ (b : Counts). b.entries) bags at b1 [] there
@@ -100,8 +111,8 @@ module _ (bags : List Counts) (at : ℕ) (b0 b1 : Counts) (there : at < length b
 -- A change that is added to one bag.
 module _ (bags : List Counts) (c : ListChange) (b0 b1 : Counts) (there : c.list < length bags) (is : b0 ≡ get_or bags c.list b0) where
   pub added : Adds c.change b0.entries b1.entries → pos (total_of b1.entries) ≡ pos (total_of b0.entries) +ℤ c.change.count
-      → b0.room ≤ b1.room + 1 → AddedTo c bags (set bags c.list b1)
-  added adds total used = record {
+      → b0.room ≤ b1.room + 1 → b1.types ≡ b0.types → AddedTo c bags (set bags c.list b1)
+  added adds total used types = record {
     counts = λ list row.
         lifted bags c.list b0 b1 there is (λ es. pos (count_in row es)) (λ x b. x +ℤ cond b (signed_count row (c.change ∷ [])) (pos 0))
         (λ x. sym (none_more x)) (adds.counts row) list;
@@ -112,6 +123,7 @@ module _ (bags : List Counts) (c : ListChange) (b0 b1 : Counts) (there : c.list 
     kept = entry_kept bags c.list b0 b1 there is (λ row had. kept_all (c.change ∷ []) b0.entries b1.entries (b1.entries, adds, refl) row had);
     only = only;
     rooms = room_used bags c.list b0 b1 there is used;
+    types = types_kept bags c.list b0 b1 there is types;
     size = length-set bags c.list b1;
   }
     where
@@ -185,7 +197,7 @@ eq_itself n = eq-eqb n n refl
 least : (n x d : ℤ) → x ≡ d → pos 0 ≤ℤ (n +ℤ (x +ℤ pos 0)) → pos 0 ≤ℤ (n +ℤ d)
 least n x d e h = omega (arith, ints)
 
-most : (n x d : ℤ) → x ≡ d → (n +ℤ (x +ℤ pos 0)) ≤ℤ pos most_rows → (n +ℤ d) <ℤ pos (2 ^ 64)
+most : (n x d : ℤ) → x ≡ d → (n +ℤ (x +ℤ pos 0)) ≤ℤ pos most_rows → (n +ℤ d) <ℤ pos (2 ^ 32 - 1)
 most n x d e h = omega (arith, ints)
 
 no_more : (d : ℤ) → d +ℤ pos 0 ≡ d
@@ -201,7 +213,8 @@ count_here bags c w =
     (w.counts c.list c.change.row)
 
 -- What one change asks of the number of rows.
-pub total_here : (bags : List Counts) (c : ListChange) → IsWithin bags (c ∷ []) → (pos (total_of (entries_at bags c.list)) +ℤ c.change.count) <ℤ pos (2 ^ 64)
+pub total_here : (bags : List Counts) (c : ListChange) → IsWithin bags (c ∷ [])
+    → (pos (total_of (entries_at bags c.list)) +ℤ c.change.count) <ℤ pos (2 ^ 32 - 1)
 total_here bags c w =
     most (pos (total_of (entries_at bags c.list))) (list_change c.list c) c.change.count
     (ap (λ b. cond b c.change.count (pos 0)) (eq_itself c.list)) (w.totals c.list)

@@ -7,11 +7,17 @@ use Rattle.std.proofs.lemmas.Bool.{eqb-true}
 use Rattle.std.proofs.lemmas.List.{length-map}
 use Rattle.std.proofs.lemmas.List.Elements.{All-weaker}
 use Rattle.mm_multiset.specs.Counts.{Counts, Entries, count_in, has_entry, total_of}
-use Rattle.mm_standing.specs.Bags.{CanAdd, HasEntry, IsSound, IsWithin, done_of, entries_at, list_change, number_for, opposite, room_at, row_change, sum_over}
+use Rattle.mm_standing.specs.Bags.{CanAdd, HasEntry, IsSound, IsTyped, IsWithin, done_of, entries_at, list_change, number_for, opposite, room_at, row_change}
+use Rattle.mm_standing.specs.Bags.{sum_over, types_at}
 use Rattle.mm_standing.specs.declared.change.ListChange.{ListChange}
 use Rattle.mm_standing.specs.declared.change.Prepared.{Prepared}
 use Rattle.mm_standing.proofs.Adding.{not_same, room_here, set_here, set_other}
 use Rattle.mm_schema.specs.Rows.{most_rows}
+
+-- A change is typed where the types of the columns are as before.
+pub still_typed : (old new : List Counts) → ((list : ℕ) → types_at new list ≡ types_at old list) → (cs : List ListChange)
+    → All (IsTyped old) cs → All (IsTyped new) cs
+still_typed old new types cs typed = All-weaker (IsTyped old) (IsTyped new) (λ d h. h ∙ sym (types d.list)) cs typed
 
 module _ (old new : List Counts) (same : map (λ (b : Counts). b.entries) new ≡ map (λ (b : Counts). b.entries) old) where
   pub at : (list : ℕ) → entries_at new list ≡ entries_at old list
@@ -27,11 +33,12 @@ module _ (old new : List Counts) (same : map (λ (b : Counts). b.entries) new �
   }
 
   pub sound_roomier : (prepared : List Prepared) (log : List ListChange) → ((list : ℕ) → room_at old list ≤ room_at new list)
-      → IsSound old prepared log → IsSound new prepared log
-  sound_roomier prepared log rooms s = record {
+      → ((list : ℕ) → types_at new list ≡ types_at old list) → IsSound old prepared log → IsSound new prepared log
+  sound_roomier prepared log rooms types s = record {
     within = λ k. within_roomier _ (s.within k);
     there = All-weaker (λ (d : ListChange). d.list < length old) (λ (d : ListChange). d.list < length new) (λ d h. omega (arith, h, size)) (done_of prepared)
         s.there;
+    typed = still_typed old new types (done_of prepared) s.typed;
     opposites = s.opposites;
     rooms = λ list. let a = s.rooms list in let b = rooms list in omega (arith, a, b);
     undo = λ k. within_roomier _ (s.undo k);
@@ -39,11 +46,13 @@ module _ (old new : List Counts) (same : map (λ (b : Counts). b.entries) new �
   }
 
 pub sound_prepared : (bags : List Counts) (log changes : List ListChange) (prepared : List Prepared) → done_of prepared ≡ changes
-    → CanAdd bags changes → All (λ (d : ListChange). d.list < length bags) changes → All (λ (p : Prepared). p.undo ≡ opposite p.done) prepared
-    → ((list : ℕ) → number_for list changes ≤ room_at bags list) → IsSound bags [] log → IsSound bags prepared log
-sound_prepared bags log changes prepared is can there opposites rooms s = record {
+    → CanAdd bags changes → All (λ (d : ListChange). d.list < length bags) changes → All (IsTyped bags) changes
+    → All (λ (p : Prepared). p.undo ≡ opposite p.done) prepared → ((list : ℕ) → number_for list changes ≤ room_at bags list) → IsSound bags [] log →
+    IsSound bags prepared log
+sound_prepared bags log changes prepared is can there typed opposites rooms s = record {
   within = subst (CanAdd bags) (sym is) can;
   there = subst (All (λ (d : ListChange). d.list < length bags)) (sym is) there;
+  typed = subst (All (IsTyped bags)) (sym is) typed;
   opposites = opposites;
   rooms = λ list. subst (λ (cs : List ListChange). number_for list cs ≤ room_at bags list) (sym is) (rooms list);
   undo = s.undo;

@@ -1,23 +1,50 @@
--- The rows of one entry more, and their values.
-use Rattle.std.proofs.Common.{◌≡◌, ℕ, ◌+◌, ◌<◌, Bool, List, [], ◌∷◌, ◌++◌, Some, length, replicate, take, sym, ap, ◌∙◌}
-use Rattle.std.specs.Prelude.{slice_get}
-use Rattle.std.proofs.lemmas.List.{append-nil, append_assoc, take_more}
+-- The rows of the next entry, and their values.
+use Rattle.std.proofs.Common.{◌≡◌, ℕ, ◌+◌, ◌≤◌, Bool, true, List, [], ◌∷◌, ◌++◌, length, min, replicate, take, sym, ap, ◌∙◌, append_assoc, arith}
+use Rattle.std.specs.Prelude.{slice_get, Some}
+use Rattle.std.proofs.lemmas.List.{length-append, length-replicate, map-append, take_more}
 use Rattle.std.proofs.lemmas.List.Concat.{flat_map-append}
-use Rattle.std.proofs.lemmas.Option.{get_or_from_slice_get}
+use Rattle.std.proofs.lemmas.Option.{get_or_from_slice_get, slice_get_within}
+use Rattle.mm_value.specs.Views.{value_of}
+use Rattle.mm_value.specs.declared.value_ref.ValueRef.{ValueRef}
 use Rattle.mm_value.specs.declared.values.Value.{Value}
 use Rattle.mm_multiset.specs.Counts.{Entries}
+use Rattle.mm_templist.specs.Runs.{referred}
 use Rattle.mm_standing.specs.Showing.{rows_shown, times_shown, values_in_turn}
 
-pub shown_more : (distinct : Bool) (es : Entries) (i : ℕ) (e : List Value × ℕ) → i < length es → slice_get es i ≡ Some e
-    → rows_shown distinct (take (i + 1) es) ≡ rows_shown distinct (take i es) ++ replicate (times_shown distinct e.1) e.0
-shown_more distinct es i e within at =
-    ap (rows_shown distinct) (take_more es i e within ∙ ap (λ x. take i es ++ x ∷ []) (get_or_from_slice_get es i e e at))
-    ∙ flat_map-append (λ x. replicate (times_shown distinct x.1) x.0) (take i es) (e ∷ [])
-    ∙ ap (λ l. rows_shown distinct (take i es) ++ l) (append-nil (replicate (times_shown distinct e.1) e.0))
+-- With DISTINCT no more rows are shown than there are entries.
+pub few_shown : (es : Entries) → length (rows_shown true es) ≤ length es
+few_shown [] = omega arith
+few_shown (e ∷ es) =
+    let more = length-append (replicate (min e.1 1) e.0) (rows_shown true es) in
+    let one = length-replicate (min e.1 1) e.0 in
+    omega (arith, more, one, few_shown es)
 
--- Values behind those of other rows.
-pub values_behind : (start now new : List Value) (rows more : List (List Value)) → now ≡ start ++ values_in_turn rows → new ≡ now ++ values_in_turn more
-    → new ≡ start ++ values_in_turn (rows ++ more)
-values_behind start now new rows more so_far is =
-    is ∙ ap (λ l. l ++ values_in_turn more) so_far ∙ append_assoc start (values_in_turn rows) (values_in_turn more)
-    ∙ ap (λ l. start ++ l) (sym (flat_map-append (λ row. row) rows more))
+module _ (es rest : Entries) (row : List Value) (count : ℕ) (is : es ≡ (row, count) ∷ rest) where
+  -- The rows of the next entry are counted.
+  pub counted_entry : length (rows_shown true es) ≡ times_shown true count + length (rows_shown true rest)
+  counted_entry =
+      ap (λ l. length (rows_shown true l)) is
+      ∙ length-append (replicate (times_shown true count) row) (rows_shown true rest)
+      ∙ ap (λ n. n + length (rows_shown true rest)) (length-replicate (times_shown true count) row)
+
+  -- Their values are pushed.
+  pub pushed_entry : (distinct : Bool) (now new due : List Value) → new ≡ now ++ values_in_turn (replicate (times_shown distinct count) row)
+      → now ++ values_in_turn (rows_shown distinct es) ≡ due → new ++ values_in_turn (rows_shown distinct rest) ≡ due
+  pushed_entry distinct now new due pushed so_far =
+      ap (λ l. l ++ values_in_turn (rows_shown distinct rest)) pushed
+      ∙ append_assoc now (values_in_turn (replicate (times_shown distinct count) row)) (values_in_turn (rows_shown distinct rest))
+      ∙ ap (λ l. now ++ l) (sym (flat_map-append (λ r. r) (replicate (times_shown distinct count) row) (rows_shown distinct rest)))
+      ∙ ap (λ l. now ++ values_in_turn (rows_shown distinct l)) (sym is)
+      ∙ so_far
+
+-- One value of a row more is pushed.
+pub pushed_value : (start row : List Value) (i : ℕ) (now new : List ValueRef) (value : ValueRef) → slice_get row i ≡ Some (value_of value)
+    → new ≡ now ++ value ∷ [] → referred now ≡ start ++ take i row → referred new ≡ start ++ take (i + 1) row
+pushed_value start row i now new value at pushed so_far =
+    ap (λ (refs : List ValueRef). referred refs) pushed
+    ∙ map-append value_of now (value ∷ [])
+    ∙ ap (λ l. l ++ value_of value ∷ []) so_far
+    ∙ append_assoc start (take i row) (value_of value ∷ [])
+    ∙ ap (λ l. start ++ l)
+    (sym (take_more row i (value_of value) (slice_get_within row i (value_of value) at)
+    ∙ ap (λ v. take i row ++ v ∷ []) (get_or_from_slice_get row i (value_of value) (value_of value) at)))

@@ -15,8 +15,8 @@ use Rattle.mm_value.specs.EqualityLaws.{same_row_equiv}
 use Rattle.mm_value.specs.declared.values.Value.{Value}
 use Rattle.mm_value.proofs.SameRows.{rows_exact}
 use Rattle.mm_multiset.specs.Counts.{Counts, Entries, count_in, has_entry}
-use Rattle.mm_standing.specs.Bags.{AddedTo, HasEntry, IsLean, IsRecorded, IsSound, IsWithin, Purges, Records, count_with, entries_at, is_named, list_change}
-use Rattle.mm_standing.specs.Bags.{names, opposite, room_at, row_change, sum_over, undos}
+use Rattle.mm_standing.specs.Bags.{AddedTo, HasEntry, IsLean, IsRecorded, IsSound, IsTyped, IsWithin, Purges, Records, count_with, entries_at, is_named}
+use Rattle.mm_standing.specs.Bags.{list_change, names, opposite, room_at, row_change, sum_over, undos}
 use Rattle.mm_standing.specs.declared.change.ListChange.{ListChange}
 use Rattle.mm_standing.specs.declared.change.UndoRecord.{UndoRecord}
 use Rattle.mm_standing.proofs.Stages.{count_back, count_moved}
@@ -291,6 +291,7 @@ module _ (rest : List UndoRecord) (made : UndoRecord) (bags added new : List Cou
   sound_purged s = record {
     within = λ k. still _ (s.within k);
     there = All-weaker (λ (d : ListChange). d.list < length added) (λ (d : ListChange). d.list < length new) (λ d h. omega (arith, h, purges.size)) [] s.there;
+    typed = All-nil (IsTyped new);
     opposites = s.opposites;
     rooms = λ list. let least : 0 ≤ room_at new list = omega arith in least;
     undo = λ k. still _ (s.undo k);

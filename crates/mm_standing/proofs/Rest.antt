@@ -4,7 +4,7 @@ use Rattle.std.proofs.Common.{◌∙◌, subst, arith}
 use Rattle.std.specs.List.{All, remove}
 use Rattle.std.proofs.lemmas.Int.{ints}
 use Rattle.mm_multiset.specs.Counts.{Counts, Entries, count_in, has_entry, total_of}
-use Rattle.mm_standing.specs.Bags.{ArePositive, HasEntry, IsLean, IsSound, IsWithin, done_of, entries_at, opposite, room_at}
+use Rattle.mm_standing.specs.Bags.{ArePositive, HasEntry, IsLean, IsSound, IsTyped, IsWithin, done_of, entries_at, opposite, room_at}
 use Rattle.mm_standing.specs.declared.change.ListChange.{ListChange}
 use Rattle.mm_standing.specs.declared.change.Prepared.{Prepared}
 use Rattle.mm_standing.proofs.Stages.{nothing_left, nothing_to_add}
@@ -18,6 +18,7 @@ pub sound_discarded : (bags : List Counts) (prepared : List Prepared) (log : Lis
 sound_discarded bags prepared log sound = record {
   within = nothing_to_add bags (nothing_left bags (done_of prepared) sound.within);
   there = none (λ (d : ListChange). d.list < length bags);
+  typed = none (IsTyped bags);
   opposites = none (λ (p : Prepared). p.undo ≡ opposite p.done);
   rooms = λ list. let least : 0 ≤ room_at bags list = omega arith in least;
   undo = sound.undo;
@@ -49,6 +50,7 @@ sound_less bags place sound =
     record {
       within = nothing_to_add left now;
       there = none (λ (d : ListChange). d.list < length left);
+      typed = none (IsTyped left);
       opposites = none (λ (p : Prepared). p.undo ≡ opposite p.done);
       rooms = λ list. let least : 0 ≤ room_at left list = omega arith in least;
       undo = nothing_to_add left now;
@@ -88,6 +90,7 @@ sound_more bags bag fits sound =
     record {
       within = nothing_to_add all now;
       there = none (λ (d : ListChange). d.list < length all);
+      typed = none (IsTyped all);
       opposites = none (λ (p : Prepared). p.undo ≡ opposite p.done);
       rooms = λ list. let least : 0 ≤ room_at all list = omega arith in least;
       undo = nothing_to_add all now;

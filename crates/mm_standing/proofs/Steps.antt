@@ -7,7 +7,7 @@ use Rattle.std.proofs.lemmas.List.{map-append, drop-append-le, length_push}
 use Rattle.std.proofs.lemmas.List.Elements.{All-pop, All-push, All-weaker}
 use Rattle.std.proofs.lemmas.List.Sums.{sum_by_push}
 use Rattle.mm_multiset.specs.Counts.{Counts, count_in, total_of}
-use Rattle.mm_standing.specs.Bags.{AddedTo, CanAdd, HasEntry, IsSound, IsWithin, Made, count_with, done_of, entries_at, number_for, opposite, room_at}
+use Rattle.mm_standing.specs.Bags.{AddedTo, CanAdd, HasEntry, IsSound, IsTyped, IsWithin, Made, count_with, done_of, entries_at, number_for, opposite, room_at}
 use Rattle.mm_standing.specs.declared.change.ListChange.{ListChange}
 use Rattle.mm_standing.specs.declared.change.Prepared.{Prepared}
 use Rattle.mm_standing.proofs.Adding.{eq_itself}
@@ -40,6 +40,12 @@ module _ (bags : List Counts) (rest : List Prepared) (next : Prepared) (log : Li
   pub next_there : next.done.list < length bags
   next_there = places.1
 
+  typed : All (IsTyped bags) (done_of rest) × IsTyped bags next.done
+  typed = All_left (IsTyped bags) (done_of rest) next.done (subst (All (IsTyped bags)) (done_push rest next) sound.typed)
+
+  pub next_typed : IsTyped bags next.done
+  next_typed = typed.1
+
   number : (list : ℕ) → number_for list (done_of (rest ++ next ∷ [])) ≡ number_for list (done_of rest) + cond (next.done.list == list) 1 0
   number list =
       ap (number_for list) (done_push rest next)
@@ -64,6 +70,7 @@ module _ (bags : List Counts) (rest : List Prepared) (next : Prepared) (log : Li
       within = still;
       there = All-weaker (λ (c : ListChange). c.list < length bags) (λ (c : ListChange). c.list < length bags') (λ c h. omega (arith, h, adds.size))
           (done_of rest) places.0;
+      typed = All-weaker (IsTyped bags) (IsTyped bags') (λ c h. h ∙ sym (adds.types c.list)) (done_of rest) typed.0;
       opposites = (All_left (λ (p : Prepared). p.undo ≡ opposite p.done) rest next sound.opposites).0;
       rooms = λ list. omega (arith, number list, sound.rooms list, adds.rooms list);
       undo = subst (λ u. CanAdd bags' (log ++ u ∷ [])) (sym undo_is)
@@ -117,6 +124,7 @@ module _ (bags : List Counts) (rest : List ListChange) (c : ListChange) (sound :
       record {
         within = nothing_to_add bags' (nothing_left bags' rest still);
         there = none (λ (d : ListChange). d.list < length bags');
+        typed = none (IsTyped bags');
         opposites = none (λ (p : Prepared). p.undo ≡ opposite p.done);
         rooms = λ list. let least : 0 ≤ room_at bags' list = omega arith in least;
         undo = still;
@@ -139,6 +147,7 @@ sound_emptied old new w same =
     record {
       within = nothing_to_add new now;
       there = none (λ (d : ListChange). d.list < length new);
+      typed = none (IsTyped new);
       opposites = none (λ (p : Prepared). p.undo ≡ opposite p.done);
       rooms = λ list. let least : 0 ≤ room_at new list = omega arith in least;
       undo = nothing_to_add new now;

@@ -3,7 +3,9 @@ use Rattle.std.specs.Prelude.{◌≡◌, ◌==◌, ℕ, ℤ, pos, ◌+◌, ◌�
 use Rattle.std.specs.Prelude.{count_by, drop, map, slice_index_or, take}
 use Rattle.std.specs.List.{list_any}
 use Rattle.mm_value.specs.Equality.{same_row}
+use Rattle.mm_value.specs.declared.col_type.ColType.{ColType}
 use Rattle.mm_value.specs.declared.values.Value.{Value}
+use Rattle.mm_partition.specs.Types.{HasTypes}
 use Rattle.mm_multiset.specs.Counts.{Counts, Entries, count_in, count_of, has_entry, signed_count, total_of}
 use Rattle.mm_multiset.specs.declared.signed.Signed.{Signed}
 use Rattle.mm_standing.specs.declared.change.ListChange.{ListChange}
@@ -18,6 +20,10 @@ entries_at bags list = slice_index_or (map (λ (bag : Counts). bag.entries) bags
 -- The room that the bag of a list has for new entries.
 abbrev pub room_at : List Counts → ℕ → ℕ
 room_at bags list = slice_index_or (map (λ (bag : Counts). bag.room) bags) list 0
+
+-- The types of the columns of the bag of a list; none where there is no such list.
+abbrev pub types_at : List Counts → ℕ → List ColType
+types_at bags list = slice_index_or (map (λ (bag : Counts). bag.types) bags) list []
 
 -- What changes add up to, where each is read as a number.
 abbrev pub sum_over : {X : Type 0} → (X → ℤ) → List X → ℤ
@@ -101,10 +107,15 @@ IsLean bags log =
 abbrev pub HasEntry : List Counts → ListChange → Type 0
 HasEntry bags c = (c.list < length bags) × (has_entry c.change.row (entries_at bags c.list) ≡ true)
 
+-- The row of a change has the types of its list's columns.
+abbrev pub IsTyped : List Counts → ListChange → Type 0
+IsTyped bags c = HasTypes (types_at bags c.list) c.change.row
+
 -- What is ready can be made with the room that is there, and what the log has can be added with none.
 pub record IsSound (bags : List Counts) (prepared : List Prepared) (log : List ListChange) : Type 0 where
   pub within : CanAdd bags (done_of prepared)
   pub there : All (λ (c : ListChange). c.list < length bags) (done_of prepared)
+  pub typed : All (IsTyped bags) (done_of prepared)
   pub opposites : All (λ (p : Prepared). p.undo ≡ opposite p.done) prepared
   pub rooms : (list : ℕ) → number_for list (done_of prepared) ≤ room_at bags list
   pub undo : CanAdd bags log
@@ -119,6 +130,7 @@ pub record AddedTo (c : ListChange) (old new : List Counts) : Type 0 where
   pub only : (list : ℕ) (row : List Value) → has_entry row (entries_at new list) ≡ true
       → (has_entry row (entries_at old list) ≡ true) ⊎ (names list row c ≡ true)
   pub rooms : (list : ℕ) → room_at old list ≤ room_at new list + (if c.list == list then 1 else 0)
+  pub types : (list : ℕ) → types_at new list ≡ types_at old list
   pub size : length new ≡ length old
 
 -- The row of a change has lost its entry if its count is 0, where that is asked for, and all else is as it was.

@@ -2,16 +2,17 @@
 ghost use Rattle.std.specs.Prelude.{◌≡◌, ◌+◌, ◌≤◌, ◌<◌, ◌⊎◌, pos, not, true, All, ℕ, [], ◌∷◌, List, drop, length, take};
 ghost use Rattle.std.specs.Vec.{vec_capacity, vec_len};
 ghost use Rattle.mm_multiset.specs.Counts.{Counts as BagCounts, count_in, has_entry};
-ghost use Rattle.mm_standing.specs.Bags.{AddedTo, HasEntry, IsLean, IsRecorded, IsSound, IsWithin, Made, Purges, count_with, entries_at, room_at, undos};
+ghost use Rattle.mm_standing.specs.Bags.{AddedTo, HasEntry, IsLean, IsRecorded, IsSound, IsTyped, IsWithin};
+ghost use Rattle.mm_standing.specs.Bags.{Made, Purges, count_with, entries_at, room_at, undos};
 ghost use Rattle.mm_value.specs.declared.values.Value.{Value as Val};
 ghost use Rattle.mm_standing.specs.declared.change.ListChange.{ListChange as AnyChange};
 
 use crate::change::{ListChange, Prepared, UndoRecord};
-use mm_delta::Counted;
+use mm_multiset::Bag;
 
 /// Makes all changes that are ready, the last of them first, and puts what undoes each at the end of the log. It takes no
 /// memory.
-pub fn make_all(bags: &mut Vec<Counted>, prepared: &mut Vec<Prepared>, log: &mut Vec<UndoRecord>)
+pub fn make_all(bags: &mut Vec<Bag>, prepared: &mut Vec<Prepared>, log: &mut Vec<UndoRecord>)
     requires sound { IsSound bags.old.items prepared.old.items (undos log.old.items) }
     requires recorded { IsRecorded bags.old.items log.old.items }
     requires room { vec_len log.old + vec_len prepared.old ≤ vec_capacity log.old }
@@ -32,7 +33,7 @@ pub fn make_all(bags: &mut Vec<Counted>, prepared: &mut Vec<Prepared>, log: &mut
 
 /// Undoes what the log says behind a mark, the newest first. The entries that came behind it go, where their counts are 0 again.
 /// The log stays as it is. It takes no memory.
-pub fn undo_behind(bags: &mut Vec<Counted>, log: &[UndoRecord], mark: usize)
+pub fn undo_behind(bags: &mut Vec<Bag>, log: &[UndoRecord], mark: usize)
     requires sound { IsSound bags.old.items [] (undos log.now) }
     requires recorded { IsRecorded bags.old.items log.now }
     requires mark { mark ≤ length log.now }
@@ -51,7 +52,7 @@ pub fn undo_behind(bags: &mut Vec<Counted>, log: &[UndoRecord], mark: usize)
 }
 
 /// Forgets the log. Where the count of a row is 0 that it names, the row's entry goes. No count changes.
-pub fn purge(bags: &mut Vec<Counted>, log: &mut Vec<UndoRecord>)
+pub fn purge(bags: &mut Vec<Bag>, log: &mut Vec<UndoRecord>)
     requires within { IsWithin bags.old.items [] }
     requires there { All (λ (c : AnyChange). c.list < length bags.old.items) (undos log.old.items) }
     requires lean { IsLean bags.old.items (undos log.old.items) }
@@ -68,7 +69,7 @@ pub fn purge(bags: &mut Vec<Counted>, log: &mut Vec<UndoRecord>)
 }
 
 /// Undoes a change that was made. Where its row had no entry before, it has none again, if its count is 0. It takes no memory.
-fn undo(bags: &mut Vec<Counted>, made: &UndoRecord)
+fn undo(bags: &mut Vec<Bag>, made: &UndoRecord)
     requires found { HasEntry bags.old.items made.now.undo }
     requires within { IsWithin bags.old.items (made.now.undo ∷ []) }
     ensures { (added : List BagCounts) × AddedTo made.now.undo bags.old.items added × Purges made.now.is_new made.now.undo added bags.new.items }
@@ -80,7 +81,7 @@ fn undo(bags: &mut Vec<Counted>, made: &UndoRecord)
 }
 
 /// Drops the entry of the row of a change where its count is 0. No count changes.
-fn purge_row(bags: &mut Vec<Counted>, change: &ListChange)
+fn purge_row(bags: &mut Vec<Bag>, change: &ListChange)
     requires { change.now.list < length bags.old.items }
     ensures { Purges true change.now bags.old.items bags.new.items }
 {
@@ -88,7 +89,7 @@ fn purge_row(bags: &mut Vec<Counted>, change: &ListChange)
 }
 
 /// Adds a change to the bag of its list, in which its row has an entry. It takes no memory.
-fn add_found(bags: &mut Vec<Counted>, change: &ListChange)
+fn add_found(bags: &mut Vec<Bag>, change: &ListChange)
     requires found { HasEntry bags.old.items change.now }
     requires within { IsWithin bags.old.items (change.now ∷ []) }
     ensures { AddedTo change.now bags.old.items bags.new.items }
@@ -97,8 +98,9 @@ fn add_found(bags: &mut Vec<Counted>, change: &ListChange)
 }
 
 /// Adds a change to the bag of its list, and tells whether its row had no entry before. It takes no memory.
-fn add_to(bags: &mut Vec<Counted>, change: ListChange) -> bool
+fn add_to(bags: &mut Vec<Bag>, change: ListChange) -> bool
     requires there { change.list < length bags.old.items }
+    requires typed { IsTyped bags.old.items change }
     requires room { (has_entry change.change.row (entries_at bags.old.items change.list) ≡ true) ⊎ (0 < room_at bags.old.items change.list) }
     requires within { IsWithin bags.old.items (change ∷ []) }
     ensures added { AddedTo change bags.old.items bags.new.items }

@@ -1,30 +1,33 @@
 //! What the lists show.
 ghost use Rattle.std.specs.Prelude.{◌≡◌, ◌++◌, List, length, replicate, IfOk, OnOk};
 ghost use Rattle.mm_multiset.specs.Counts.{IsOnce};
+ghost use Rattle.mm_partition.specs.Views.{viewed};
 ghost use Rattle.mm_query.specs.Queries.{bag_of};
 ghost use Rattle.mm_templist.specs.Runs.{referred};
 ghost use Rattle.mm_value.specs.declared.values.Value.{Value as Val};
 ghost use Rattle.mm_standing.specs.Queries.{IsBagOf, shown_of};
 ghost use Rattle.mm_standing.specs.Showing.{rows_shown, times_shown, values_in_turn};
 
-use mm_delta::Counted;
+use mm_multiset::Bag;
+use mm_partition::RowView;
 use mm_query::BoundQuery;
 use mm_templist::ShownRows;
-use mm_value::{Row, ValueRef};
+use mm_value::ValueRef;
 use std::alloc::{AllocError, Global};
 
 /// How many rows of a bag are shown: with `distinct` one of each.
-pub(crate) fn count_shown(distinct: bool, bag: &Counted) -> usize
+pub(crate) fn count_shown(distinct: bool, bag: &Bag) -> usize
     ensures count { result ≡ length (rows_shown distinct bag.now.entries) }
     ensures once { IsOnce bag.now.entries }
 {
-    let entries = bag.len();
+    let _ = bag.len();
     if !distinct {
         return bag.total();
     }
     let mut count = 0;
-    for i in 0..entries {
-        count += times_shown(true, bag.entry(i).1);
+    let mut entries = bag.entries();
+    while let Some((_, copies)) = entries.next() {
+        count += times_shown(true, copies);
     }
     count
 }
@@ -33,7 +36,7 @@ pub(crate) fn count_shown(distinct: bool, bag: &Counted) -> usize
 pub(crate) fn list_shown<'s>(
     alloc: Global,
     query: &BoundQuery,
-    bag: &'s Counted,
+    bag: &'s Bag,
 ) -> Result<ShownRows<'s>, AllocError>
     requires { (lists : List (List (List Val))) × IsBagOf bag.now.entries (bag_of query.now lists) }
     ensures { IfOk result (λ shown. (rows : List (List Val)) → IsBagOf bag.now.entries rows → shown ≡ shown_of query.now rows) }
@@ -51,13 +54,13 @@ pub(crate) fn list_shown<'s>(
 fn push_entries<'s>(
     values: &mut Vec<ValueRef<'s>>,
     distinct: bool,
-    bag: &'s Counted,
+    bag: &'s Bag,
 ) -> Result<(), AllocError>
     ensures { OnOk result (referred values.new.items
         ≡ referred values.old.items ++ values_in_turn (rows_shown distinct bag.now.entries)) }
 {
-    for i in 0..bag.len() {
-        let (row, count) = bag.entry(i);
+    let mut entries = bag.entries();
+    while let Some((row, count)) = entries.next() {
         push_copies(values, row, times_shown(distinct, count))?;
     }
     Ok(())
@@ -66,10 +69,10 @@ fn push_entries<'s>(
 /// Puts the values of a row at the end, where they stand, so many times.
 fn push_copies<'s>(
     values: &mut Vec<ValueRef<'s>>,
-    row: &'s Row,
+    row: RowView<'s>,
     copies: usize,
 ) -> Result<(), AllocError>
-    ensures { OnOk result (referred values.new.items ≡ referred values.old.items ++ values_in_turn (replicate copies row.now)) }
+    ensures { OnOk result (referred values.new.items ≡ referred values.old.items ++ values_in_turn (replicate copies (viewed row.entry))) }
 {
     for _ in 0..copies {
         push_row(values, row)?;
@@ -78,11 +81,11 @@ fn push_copies<'s>(
 }
 
 /// Puts the values of a row at the end, where they stand.
-fn push_row<'s>(values: &mut Vec<ValueRef<'s>>, row: &'s Row) -> Result<(), AllocError>
-    ensures { OnOk result (referred values.new.items ≡ referred values.old.items ++ row.now) }
+fn push_row<'s>(values: &mut Vec<ValueRef<'s>>, row: RowView<'s>) -> Result<(), AllocError>
+    ensures { OnOk result (referred values.new.items ≡ referred values.old.items ++ viewed row.entry) }
 {
-    for value in row.values() {
-        values.push(value.as_ref())?;
+    for i in 0..row.len() {
+        values.push(row.value(i))?;
     }
     Ok(())
 }

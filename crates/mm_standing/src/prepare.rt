@@ -1,5 +1,7 @@
 //! Changes that are made ready, with all memory that they ask for.
-ghost use Rattle.std.specs.Prelude.{◌≡◌, ◌++◌, ◌+◌, ◌≤◌, ◌<◌, ◌^◌, ℕ, [], All, length, map, neg_ℤ, pos, slice_index, ◌+ℤ◌, ◌≤ℤ◌, ◌<ℤ◌, IfOk, IsPermutation, OnOk};
+ghost use Rattle.std.specs.Prelude.{◌≡◌, ◌++◌, ◌+◌, ◌≤◌, ◌<◌, ◌^◌, ℕ, [], All, length};
+ghost use Rattle.std.specs.Prelude.{map, neg_ℤ, pos, slice_index, ◌+ℤ◌, ◌≤ℤ◌, ◌<ℤ◌, IfOk, IsPermutation, OnOk};
+ghost use Rattle.std.specs.Bool.{Decides};
 ghost use Rattle.std.specs.List.{sum_by};
 ghost use Rattle.mm_multiset.specs.Counts.{Counts as BagCounts, count_in, total_of};
 ghost use Rattle.mm_delta.specs.Edited.{after_at, before_at};
@@ -7,7 +9,8 @@ ghost use Rattle.mm_delta.specs.Skipping.{IsTypeTested};
 ghost use Rattle.mm_delta.specs.Steps.{EachFit};
 ghost use Rattle.mm_multiset.specs.declared.signed.Signed.{Signed as Change};
 ghost use Rattle.mm_schema.specs.Refused.{AnswersDue, first_refusal};
-ghost use Rattle.mm_standing.specs.Bags.{Brings, CanAdd, HasGainsFirst, IsSmall, count_with, done_of, entries_at, number_for, opposite, room_at, sum_over};
+ghost use Rattle.mm_standing.specs.Bags.{Brings, CanAdd, HasGainsFirst, IsSmall, IsTyped, count_with, done_of};
+ghost use Rattle.mm_standing.specs.Bags.{entries_at, number_for, opposite, room_at, sum_over, types_at};
 ghost use Rattle.mm_standing.specs.Queries.{AreCounts, IsBagOf, IsServed, bag_over, change_conditions, list_conditions};
 ghost use Rattle.mm_standing.specs.Reads.{AreOfCyclicRows, AreTypeTested, RowTests, query_reads};
 ghost use Rattle.mm_standing.specs.State.{AreServed};
@@ -17,7 +20,8 @@ ghost use Rattle.mm_schema.specs.Rows.{most_rows};
 
 use crate::change::{ListChange, Prepared};
 use crate::watched::PlacedQuery;
-use mm_delta::{Counted, Signed, TableChange, delta};
+use mm_delta::{Signed, TableChange, delta};
+use mm_multiset::Bag;
 use mm_query::MAX_COMBINATIONS;
 use mm_store::View;
 use mm_value::Refusal;
@@ -54,10 +58,27 @@ pub fn numbers(
     Ok(numbers)
 }
 
+/// Whether each change is of a row that has the types of its list's columns.
+///
+/// The rows of a query have the types of its fields by the laws of its tables. So where the changes are those of the queries' rows
+/// this is true: it stands in for that proof.
+pub fn are_typed(bags: &[Bag], changes: &[ListChange]) -> bool
+    requires { All (λ (c : AnyChange). c.list < length bags.now) changes.now }
+    ensures { Decides result (All (IsTyped bags.now) changes.now) }
+{
+    for change in changes {
+        if !bags[change.list].takes(&change.change.row) {
+            return false;
+        }
+    }
+    true
+}
+
 /// Makes room for so many new entries in each bag. `AllocError` where memory is refused. No bag's entries change.
-pub fn reserve_each(bags: &mut Vec<Counted>, numbers: &[usize]) -> Result<(), AllocError>
+pub fn reserve_each(bags: &mut Vec<Bag>, numbers: &[usize]) -> Result<(), AllocError>
     requires { length numbers.now ≡ length bags.old.items }
     ensures entries { map (λ (bag : BagCounts). bag.entries) bags.new.items ≡ map (λ (bag : BagCounts). bag.entries) bags.old.items }
+    ensures types { (list : ℕ) → types_at bags.new.items list ≡ types_at bags.old.items list }
     ensures kept { (list : ℕ) → room_at bags.old.items list ≤ room_at bags.new.items list }
     ensures room { OnOk result ((list : ℕ) → slice_index numbers.now list ≤ room_at bags.new.items list) }
 {
@@ -89,7 +110,7 @@ pub(crate) fn changes_of_lists<'a>(
     alloc: Global,
     view: &mut View<'a>,
     queries: &[PlacedQuery],
-    bags: &[Counted],
+    bags: &[Bag],
     changes: &[TableChange<'_>],
 ) -> Result<Vec<ListChange>, Refusal>
     requires size { length queries.now ≡ length bags.now }
@@ -121,7 +142,7 @@ fn changes_of_list<'a>(
     alloc: Global,
     view: &mut View<'a>,
     watched: &PlacedQuery,
-    bag: &Counted,
+    bag: &Bag,
     changes: &[TableChange<'_>],
 ) -> Result<Vec<Signed>, Refusal>
     requires served { IsServed view.old.store watched.now }

@@ -19,14 +19,15 @@ ghost use Rattle.mm_value.specs.declared.values.Value.{Value as Val};
 use crate::bags::{make_all, purge, undo_behind};
 use crate::change::{ListChange, Prepared, UndoRecord};
 use crate::listing::{count_shown, list_shown};
-use crate::prepare::{changes_of_lists, numbers, reserve_each, with_opposites};
+use crate::prepare::{are_typed, changes_of_lists, numbers, reserve_each, with_opposites};
 use crate::watched::PlacedQuery;
 use crate::watching::bag_now;
-use mm_delta::{Counted, TableChange};
+use mm_delta::TableChange;
+use mm_multiset::Bag;
 use mm_query::BoundQuery;
 use mm_store::{Store, View};
 use mm_templist::ShownRows;
-use mm_value::Refusal;
+use mm_value::{ColType, Refusal};
 use std::alloc::{AllocError, Global};
 use std::marker::Model;
 
@@ -35,7 +36,7 @@ use std::marker::Model;
 #[derive(Drop)]
 pub struct Standing {
     queries: Vec<PlacedQuery>,
-    bags: Vec<Counted>,
+    bags: Vec<Bag>,
     prepared: Vec<Prepared>,
     log: Vec<UndoRecord>,
     reads: u64,
@@ -165,15 +166,16 @@ impl Standing {
     }
 
     /// Keeps a query as a standing query, which comes last, with the rows that it gives over the rows of the store, found by its
-    /// plan. `tables` are the places in the store of the tables of its FROM list, at most 4. It requires that nothing is prepared and
-    /// the log is empty. `StandingListTooLarge` where more than 1,048,576 combinations fit; `Memory` may come in its place and in that of
-    /// success. A refused call changes nothing.
+    /// plan. `tables` are the places in the store of the tables of its FROM list, at most 4, and `types` are those of its fields. It
+    /// requires that nothing is prepared and the log is empty. `StandingListTooLarge` where more than 1,048,576 combinations fit;
+    /// `Memory` may come in its place and in that of success. A refused call changes nothing.
     pub fn watch(
         &mut self,
         alloc: Global,
         store: &Store,
         query: BoundQuery,
         tables: Vec<usize>,
+        types: &[ColType],
     ) -> Result<(), Refusal>
         requires there { All (λ table. table < length store.now.tables) tables.items }
         requires few { length tables.items ≤ 4 }
@@ -189,7 +191,7 @@ impl Standing {
     {
         self.queries.reserve(1)?;
         self.bags.reserve(1)?;
-        let bag = bag_now(alloc, store, &query, tables.as_slice())?;
+        let bag = bag_now(alloc, store, &query, tables.as_slice(), types)?;
         self.queries.push_reserved(PlacedQuery { query, tables });
         self.bags.push_reserved(bag);
         Ok(())
@@ -272,7 +274,8 @@ impl Standing {
     }
 
     /// Makes changes ready, in order from the last to the first, with all memory that they and their undoing need. It requires
-    /// that nothing is prepared. `AllocError` where memory is refused, and then nothing is prepared.
+    /// that nothing is prepared. `AllocError` where memory is refused, or a row has other types than its list's columns; then nothing
+    /// is prepared.
     pub(crate) fn put_prepared(
         &mut self,
         alloc: Global,
@@ -289,6 +292,9 @@ impl Standing {
     {
         if changes.is_empty() {
             return Ok(());
+        }
+        if !are_typed(self.bags.as_slice(), changes.as_slice()) {
+            return Err(AllocError);
         }
         let numbers = numbers(alloc, self.bags.len(), changes.as_slice())?;
         reserve_each(&mut self.bags, numbers.as_slice())?;

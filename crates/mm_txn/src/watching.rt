@@ -1,5 +1,6 @@
 //! Standing queries that are kept and dropped. They are for a database in which no transaction is open.
-ghost use Rattle.std.specs.Prelude.{◌≡◌, [], None, map, IfOk, OnErr, OnOk};
+ghost use Rattle.std.specs.Prelude.{◌≡◌, [], None, Some, map, IfOk, OnErr, OnOk};
+ghost use Rattle.mm_laws.specs.Typing.{type_at};
 ghost use Rattle.mm_query.specs.Resolving.{IsQueryWithin, placed_query, places_in};
 ghost use Rattle.mm_query.specs.Standing.{after_unwatch, after_watch, watch_conditions};
 ghost use Rattle.mm_query.specs.declared.query.FromItem.{FromItem as Item};
@@ -9,9 +10,9 @@ ghost use Rattle.mm_txn.specs.Contents.{state_held};
 ghost use Rattle.mm_txn.specs.Rest.{earlier_refusal, naming_conditions};
 
 use crate::contents::Contents;
-use mm_query::{Bound, FromItem, NamedQuery, Query, bind_query};
+use mm_query::{Bound, BoundQuery, FieldPlace, FromItem, NamedQuery, Query, bind_query};
 use mm_schema::{Catalog, Name, TableNames};
-use mm_value::Refusal;
+use mm_value::{ColType, Refusal};
 use std::alloc::{AllocError, Global};
 
 impl Contents {
@@ -29,8 +30,13 @@ impl Contents {
         let bound = bind_named(alloc, &self.catalog, &name, query)?;
         let names = names_of(alloc, bound.query.from.as_slice())?;
         let tables = copy_places(alloc, bound.tables.as_slice())?;
+        let types = field_types(alloc, &self.catalog, &bound.query)?;
         self.catalog.add_standing(name.copy(), names)?;
-        if let Err(refusal) = self.standing.watch(alloc, &self.store, bound.query, tables) {
+        let types = types.as_slice();
+        if let Err(refusal) = self
+            .standing
+            .watch(alloc, &self.store, bound.query, tables, types)
+        {
             let _ = self.catalog.drop_standing(&name);
             return Err(refusal);
         }
@@ -89,6 +95,37 @@ fn earlier_refusal(of_query: Refusal, of_name: Option<Refusal>) -> Refusal
         (_, Some(Refusal::NameTaken)) => Refusal::NameTaken,
         _ => of_query,
     }
+}
+
+/// The types of the fields of a query, from left to right. `AllocError` where memory is refused.
+fn field_types(
+    alloc: Global,
+    catalog: &Catalog,
+    query: &BoundQuery,
+) -> Result<Vec<ColType>, AllocError>
+    requires { IsQueryWithin catalog.now query.now }
+    ensures { IfOk result (λ types. map Some types.items ≡ map (type_at catalog.now query.now.from) query.now.fields) }
+{
+    let from = query.from.as_slice();
+    let fields = query.fields.as_slice();
+    let mut types = Vec::with_capacity(alloc, fields.len())?;
+    for field in fields {
+        let Some(col_type) = type_at(catalog, from, field) else {
+            unreachable!()
+        };
+        types.push(col_type)?;
+    }
+    Ok(types)
+}
+
+/// The type of the column of a field, where it is there.
+fn type_at(catalog: &Catalog, from: &[FromItem], field: &FieldPlace) -> Option<ColType>
+    ensures { result ≡ type_at catalog.now from.now field.now }
+{
+    let item = from.get(field.place)?;
+    let table = catalog.find_table(&item.table)?;
+    let column = table.definition.columns.as_slice().get(field.column)?;
+    Some(column.col_type)
 }
 
 /// The names of the tables of FROM. `AllocError` where memory is refused.

@@ -3,11 +3,17 @@
 //!
 //! A run refuses one growth. Where that is one in front of the call or behind it a test ends, since other runs refuse those of the
 //! call.
+ghost use Rattle.std.specs.Prelude.{◌≡◌};
+ghost use Rattle.mm_partition.specs.Types.{HasTypes};
+ghost use Rattle.store_tests.specs.SampleStore.{plain_types};
+
 use crate::assertions::{assert_same, assert_that};
 use crate::case::Case;
-use crate::samples::{is_row_of, joined, row};
+use crate::samples::{is_row_of, is_view_of, joined, row};
+use crate::steps::TYPES;
 use crate::three_lists::{is_as_sampled, sample, watch_joined};
-use mm_delta::{Counted, Signed};
+use mm_delta::Signed;
+use mm_multiset::Bag;
 use mm_query::BoundQuery;
 use mm_value::{Refusal, Row};
 use std::alloc::{AllocError, Global};
@@ -169,56 +175,80 @@ fn delta_growths(rt: HostRuntime) -> Result<(), Fail> {
 }
 
 /// Counts the row of a key and a number up.
-fn count_row(bag: &mut Counted, alloc: Global, key: i64, number: i64) -> Result<(), AllocError> {
+fn count_row(bag: &mut Bag, alloc: Global, key: i64, number: i64) -> Result<(), AllocError>
+    requires { bag.old.types ≡ plain_types }
+    ensures { bag.new.types ≡ plain_types }
+{
     bag.count_up(row(alloc, key, number)?)
 }
 
 /// Counts a row of a key up once, and one of another key twice.
-fn count_rows(bag: &mut Counted, alloc: Global) -> Result<(), AllocError> {
+fn count_rows(bag: &mut Bag, alloc: Global) -> Result<(), AllocError>
+    requires { bag.old.types ≡ plain_types }
+    ensures { bag.new.types ≡ plain_types }
+{
     count_row(bag, alloc, 1, 5)?;
     count_row(bag, alloc, 2, 5)?;
     count_row(bag, alloc, 2, 5)
 }
 
 /// A bag with a row of a key once and one of another key twice.
-fn bag(alloc: Global) -> Result<Counted, AllocError> {
-    let mut bag = Counted::new(alloc);
+fn bag(alloc: Global) -> Result<Bag, AllocError> {
+    let mut bag = Bag::new(alloc, TYPES)?;
     count_rows(&mut bag, alloc)?;
     Ok(bag)
 }
 
+/// Whether a bag has just these rows, with these counts, in this order.
+fn has_rows(bag: &Bag, rows: &[(&[i64], usize)]) -> bool {
+    let mut entries = bag.entries();
+    for (numbers, count) in rows {
+        match entries.next() {
+            Some((row, found)) if found == *count && is_view_of(row, numbers) => {}
+            _ => return false,
+        }
+    }
+    entries.next().is_none()
+}
+
 /// Counts a new row up in an empty bag, again where memory is refused.
-fn count_again(
-    rt: &(impl Abort + AllocGlobal + Print),
-    bag: &mut Counted,
-    new: Row,
-) -> Result<(), Fail> {
+fn count_again(rt: &(impl Abort + AllocGlobal + Print), bag: &mut Bag, new: Row) -> Result<(), Fail>
+    requires types { bag.old.types ≡ plain_types }
+    requires typed { HasTypes plain_types new }
+{
     if let Err(AllocError) = bag.count_up(new) {
         asked_again(rt)?;
-        assert_same(rt, (bag.len(), bag.total()), (0, 0));
+        assert_that(rt, has_rows(bag, &[]));
         assert_that(rt, count_row(bag, rt.alloc(), 3, 7).is_ok());
     }
     assert_same(rt, (bag.len(), bag.total()), (1, 1));
+    assert_that(rt, has_rows(bag, &[(&[3, 7], 1)]));
     Ok(())
 }
 
 #[test]
 fn count_up_growths(rt: HostRuntime) -> Result<(), Fail> {
-    let mut bag = Counted::new(rt.alloc());
+    let Ok(mut bag) = Bag::new(rt.alloc(), TYPES) else {
+        return Ok(());
+    };
     match row(rt.alloc(), 3, 7) {
         Ok(new) => count_again(&rt, &mut bag, new),
         Err(_) => Ok(()),
     }
 }
 
-/// Reserves room in a bag of two rows and three counts, again where memory is refused.
-fn reserve_again(rt: &(impl Abort + Print), bag: &mut Counted) -> Result<(), Fail> {
+/// What a bag of two rows and three counts has.
+const COUNTED: &[(&[i64], usize)] = &[(&[1, 5], 1), (&[2, 5], 2)];
+
+/// Reserves room in such a bag, again where memory is refused.
+fn reserve_again(rt: &(impl Abort + Print), bag: &mut Bag) -> Result<(), Fail> {
     if let Err(AllocError) = bag.reserve(100) {
         asked_again(rt)?;
-        assert_same(rt, (bag.len(), bag.total()), (2, 3));
+        assert_that(rt, has_rows(bag, COUNTED));
         assert_that(rt, bag.reserve(100).is_ok());
     }
     assert_same(rt, (bag.len(), bag.total()), (2, 3));
+    assert_that(rt, has_rows(bag, COUNTED));
     Ok(())
 }
 
@@ -228,40 +258,4 @@ fn reserve_growths(rt: HostRuntime) -> Result<(), Fail> {
         return Ok(());
     };
     reserve_again(&rt, &mut bag)
-}
-
-/// Whether these are three rows of these numbers.
-fn are_rows(rows: &[Row], numbers: [[i64; 2]; 3]) -> bool {
-    match rows {
-        [a, b, c] => {
-            is_row_of(a, &numbers[0]) && is_row_of(b, &numbers[1]) && is_row_of(c, &numbers[2])
-        }
-        _ => false,
-    }
-}
-
-/// Whether a bag lists its row of one key once and that of the other key twice.
-fn lists_rows(bag: &Counted, alloc: Global) -> Result<bool, AllocError> {
-    let rows = bag.list(alloc)?;
-    Ok(are_rows(rows.as_slice(), [[1, 5], [2, 5], [2, 5]]))
-}
-
-/// Asserts that it does, asked again where memory is refused.
-fn list_again(rt: &(impl Abort + AllocGlobal + Print), bag: &Counted) -> Result<(), Fail> {
-    match lists_rows(bag, rt.alloc()) {
-        Ok(are_listed) => assert_that(rt, are_listed),
-        Err(AllocError) => {
-            asked_again(rt)?;
-            assert_that(rt, lists_rows(bag, rt.alloc())?);
-        }
-    }
-    Ok(())
-}
-
-#[test]
-fn counted_rows_growths(rt: HostRuntime) -> Result<(), Fail> {
-    let Ok(bag) = bag(rt.alloc()) else {
-        return Ok(());
-    };
-    list_again(&rt, &bag)
 }

@@ -3,6 +3,7 @@ ghost use Rattle.std.specs.Prelude.{IfOk};
 ghost use Rattle.mm_partition.specs.Types.{HasTypes};
 ghost use Rattle.store_tests.specs.SampleStore.{plain_types};
 
+use mm_partition::RowView;
 use mm_query::{Atom, BoundQuery, Comparison, Few, FieldPlace, FromItem, Operand, ShortList};
 use mm_schema::Name;
 use mm_templist::ShownRows;
@@ -116,4 +117,17 @@ pub fn is_row_of(row: &Row, numbers: &[i64]) -> bool {
             value,
             &Value::Int(*number),
         ).is_eq())
+}
+
+/// Whether a row, read where it stands, has just these numbers.
+pub fn is_view_of(row: RowView<'_>, numbers: &[i64]) -> bool {
+    if row.len() != numbers.len() {
+        return false;
+    }
+    for (i, number) in numbers.iter().enumerate() {
+        if compare(&row.value(i), &Value::Int(*number)).is_ne() {
+            return false;
+        }
+    }
+    true
 }

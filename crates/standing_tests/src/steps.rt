@@ -25,7 +25,7 @@ use mm_value::{ColType, Refusal, RowRef, Value, ValueRef};
 use std::alloc::{AllocError, Global};
 
 /// The types of the two columns of each table.
-const TYPES: &[ColType] = &[ColType::Int, ColType::Int];
+pub const TYPES: &[ColType] = &[ColType::Int, ColType::Int];
 
 /// Two tables of two columns with no rows. With `indexed` the numbers of the first have a HASH index.
 pub fn tables(alloc: Global, indexed: bool) -> Result<Store, Refusal>
@@ -248,7 +248,7 @@ pub fn settle(store: &mut Store, undo: &mut Undo, standing: &mut Standing)
 }
 
 /// Keeps a standing query, which comes last, with the rows that it gives over the tables of a store. They are those that it gives
-/// over the tables of the case.
+/// over the tables of the case. All its fields are of whole numbers, as all columns are.
 pub fn watch(
     alloc: Global,
     store: &Store,
@@ -272,7 +272,8 @@ pub fn watch(
 {
     let _lists = standing.len();
     store.rows_stand();
-    standing.watch(alloc, source, query, tables)?;
+    let types = vec![in alloc; ColType::Int; query.fields.as_slice().len()]?;
+    standing.watch(alloc, source, query, tables, types.as_slice())?;
     Ok(())
 }
 

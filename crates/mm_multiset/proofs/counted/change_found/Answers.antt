@@ -12,7 +12,7 @@ returns-in-Some-clause-added c =
     let written = c.get_mut.follows.holds c.changed.result in
     let is = c.changed.ensures ∙ ap (λ z. pos c.in-Some.count.now +ℤ z) (to_z-of_z w128 c.args.change c.ranges.change) in
     λ _. adds_at_entry c.args.row.now c.args.change c.args.counts.now.entries (c.get_mut.follows.lender c.changed.result).entries c.changed.result
-    (written.3 (subst IsSome (sym had) refl)).0 c.in-Some.count.now had is written.1
+    (written.3 (subst IsSome (sym had) refl)).0 c.in-Some.count.now had is
 
 pub returns-in-Some-clause-total : goal.returns-in-Some-clause-total
 returns-in-Some-clause-total c =

@@ -3,7 +3,7 @@ use Rattle.std.proofs.Common.{◌≡◌, ◌++◌, ◌∷◌, [], List, inr, sub
 use Rattle.mm_standing.specs.Bags.{IsRecorded, IsSound, Made, undos}
 use Rattle.mm_standing.specs.declared.change.UndoRecord.{UndoRecord}
 use Rattle.mm_standing.specs.declared.change.Prepared.{Prepared}
-use Rattle.mm_standing.proofs.Steps.{made_more, made_none, next_room, next_there, next_within, sound_made, undo_is}
+use Rattle.mm_standing.proofs.Steps.{made_more, made_none, next_room, next_there, next_typed, next_within, sound_made, undo_is}
 use Rattle.mm_standing.proofs.Recorded.{joined, recorded_made}
 use Rattle.mm_standing.proofs.bags.make_all.Goals as goal
 use Rattle.mm_standing.proofs.bags.make_all.Goals.{In-Some}
@@ -24,6 +24,11 @@ pub add_to-is_new-requires-clause-there : goal.add_to-is_new-requires-clause-the
 add_to-is_new-requires-clause-there c =
     next_there c.loop-next.bags.items c.pop.new.self.items c.in-Some.next (undos c.loop-next.log.items)
     (sound_with (goal.at.add_to-is_new-requires-clause-there c).In-Some)
+
+pub add_to-is_new-requires-clause-typed : goal.add_to-is_new-requires-clause-typed
+add_to-is_new-requires-clause-typed c =
+    next_typed c.loop-next.bags.items c.pop.new.self.items c.in-Some.next (undos c.loop-next.log.items)
+    (sound_with (goal.at.add_to-is_new-requires-clause-typed c).In-Some)
 
 pub add_to-is_new-requires-clause-room : goal.add_to-is_new-requires-clause-room
 add_to-is_new-requires-clause-room c =

@@ -1,30 +1,35 @@
 -- The rows of one entry more are counted.
-use Rattle.std.proofs.Common.{◌≡◌, ◌<◌, List, length, replicate, take, true, sym, ap, ◌∙◌, arith}
-use Rattle.std.proofs.lemmas.List.{length-append, length-replicate}
-use Rattle.mm_value.specs.declared.values.Value.{Value}
+use Rattle.std.proofs.Common.{◌≡◌, ◌+◌, length, true, sym, ap, ◌∙◌, arith}
+use Rattle.mm_partition.specs.Views.{viewed}
 use Rattle.mm_standing.specs.Showing.{rows_shown, times_shown}
-use Rattle.mm_standing.proofs.Pushing.{shown_more}
+use Rattle.mm_standing.proofs.Pushing.{counted_entry, few_shown}
 use Rattle.mm_standing.proofs.Totals.{total_shown}
 use Rattle.mm_standing.proofs.listing.count_shown.Goals as goal
+use Rattle.mm_standing.proofs.listing.count_shown.Goals.{In-Some}
 
 pub returns-then-not-distinct-clause-count : goal.returns-then-not-distinct-clause-count
 returns-then-not-distinct-clause-count c =
     c.total.ensures ∙ sym (total_shown c.args.bag.now.entries) ∙ ap (λ d. length (rows_shown d c.args.bag.now.entries)) (sym c.if-not-distinct.true)
 
-pub loop-i-preserved : goal.loop-i-preserved
-loop-i-preserved c =
-    let es = c.args.bag.now.entries in
-    let i = c.loop-i.i in
-    let row = c.entry.result.0.now in
-    let n = c.entry.result.1 in
-    let within : i < length es = omega (arith, c.loop-i-test.true, c.len-entries.ensures.entries) in
-    let more = ap (λ (rows : List (List Value)). length rows) (shown_more true es i (row, n) within c.entry.ensures) in
-    let sum = length-append (rows_shown true (take i es)) (replicate (times_shown true n) row) in
-    let one = length-replicate (times_shown true n) row in
-    let times : c.times_shown-count.result ≡ times_shown true n = c.times_shown-count.ensures in
-    let so_far = c.loop-i.invariant.count in
-    let few = c.loop-i.invariant.few in
-    record {
-      count = omega (arith, more, sum, one, times, so_far);
-      few = omega (arith, times, few);
-    }
+-- What the next entry shows.
+next : (c : In-Some) → length (rows_shown true c.loop-copies.entries) ≡ times_shown true c.in-Some.copies + length (rows_shown true c.next.new.self)
+next c = counted_entry c.loop-copies.entries c.next.new.self (viewed c.in-Some.field-0-0) c.in-Some.copies c.in-Some.ensures
+
+pub overflow_add-count : goal.overflow_add-count
+overflow_add-count c =
+    let here = next (goal.at.overflow_add-count c).In-Some in
+    let few = few_shown c.args.bag.now.entries in
+    let so_far = c.loop-copies.invariant in
+    let times : c.times_shown-count.result ≡ times_shown true c.in-Some.copies = c.times_shown-count.ensures in
+    let all = c.len.ensures.entries in
+    omega (arith, here, few, so_far, times, all)
+
+pub loop-copies-smaller : goal.loop-copies-smaller
+loop-copies-smaller c = omega (arith, ap length c.in-Some.ensures)
+
+pub loop-copies-preserved : goal.loop-copies-preserved
+loop-copies-preserved c =
+    let here = next (goal.at.loop-copies-preserved c).In-Some in
+    let so_far = c.loop-copies.invariant in
+    let times : c.times_shown-count.result ≡ times_shown true c.in-Some.copies = c.times_shown-count.ensures in
+    omega (arith, here, so_far, times)

@@ -2,6 +2,7 @@
 use Rattle.std.proofs.Common.{◌<◌, length, ap, ◌∙◌, arith}
 use Rattle.std.proofs.Math.Seq.{map-set_same}
 use Rattle.mm_multiset.specs.Counts.{Counts}
+use Rattle.mm_standing.proofs.Adding.{types_kept}
 use Rattle.mm_standing.proofs.Preparing.{room_grown, room_more, size}
 use Rattle.mm_standing.proofs.prepare.reserve_each.Goals as goal
 
@@ -22,6 +23,15 @@ returns-in_err-reserve-clause-kept c = λ k.
     let so_far = c.loop-list.invariant.kept k in
     omega (arith, grown, so_far)
 
+pub returns-in_err-reserve-clause-types : goal.returns-in_err-reserve-clause-types
+returns-in_err-reserve-clause-types c = λ k.
+    let same = size c.args.bags.now.items c.loop-list.bags.items c.loop-list.invariant.entries in
+    let sizes = c.requires in
+    let inside = c.loop-list-test.true in
+    let within : c.loop-list.list < length c.loop-list.bags.items = omega (arith, same, sizes, inside) in
+    types_kept c.loop-list.bags.items c.loop-list.list c.index_mut.result.now c.reserve.new.self within c.index_mut.ensures.value c.reserve.ensures.types k
+    ∙ c.loop-list.invariant.types k
+
 pub loop-list-preserved : goal.loop-list-preserved
 loop-list-preserved c =
     let bags = c.loop-list.bags.items in
@@ -36,6 +46,7 @@ loop-list-preserved c =
     record {
       entries = map-set_same (λ (b : Counts). b.entries) bags at new bag (c.reserve.ensures.entries ∙ ap (λ (b : Counts). b.entries) is)
           ∙ c.loop-list.invariant.entries;
+      types = λ k. types_kept bags at bag new within is c.reserve.ensures.types k ∙ c.loop-list.invariant.types k;
       kept = λ k.
           let grown = room_grown bags at bag new within is c.reserve.ensures.kept k in
           let so_far = c.loop-list.invariant.kept k in

@@ -11,6 +11,11 @@ use Rattle.standing_tests.specs.Cases.{IsCase}
 use Rattle.standing_tests.proofs.CaseSteps.{case_watched, mark_now}
 use Rattle.standing_tests.proofs.steps.watch.Goals as goal
 
+pub returns-in_err-types-clause-start : goal.returns-in_err-types-clause-start
+returns-in_err-types-clause-start c =
+    mark_now c.args.store.now c.args.undo.now _ c.requires.case c.rows_stand.ensures 0 0
+    (sym (ap (λ (ns : List Logged). length ns) c.requires.undo)) (sym (ap length c.requires.log))
+
 pub returns-in_err-watch-clause-case : goal.returns-in_err-watch-clause-case
 returns-in_err-watch-clause-case c = subst (λ (l : Lists). IsCase c.args.store.now c.args.undo.now l) (sym c.in_err-watch.ensures.err) c.requires.case
 

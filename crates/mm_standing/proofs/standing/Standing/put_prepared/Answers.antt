@@ -3,12 +3,13 @@ use Rattle.std.proofs.Common.{ℕ, ◌≤◌, ◌<◌, List, [], length, slice_i
 use Rattle.std.specs.List.{All}
 use Rattle.std.proofs.lemmas.List.{length-map}
 use Rattle.std.proofs.lemmas.List.Elements.{All-weaker}
-use Rattle.mm_standing.specs.Bags.{CanAdd, IsRecorded, IsSound, number_for, room_at, undos}
+use Rattle.mm_multiset.specs.Counts.{Counts}
+use Rattle.mm_standing.specs.Bags.{CanAdd, IsRecorded, IsSound, IsTyped, number_for, room_at, undos}
 use Rattle.mm_standing.specs.State.{Lists}
 use Rattle.mm_standing.specs.declared.change.ListChange.{ListChange}
 use Rattle.mm_standing.specs.declared.change.UndoRecord.{UndoRecord}
 use Rattle.mm_standing.specs.declared.change.Prepared.{Prepared}
-use Rattle.mm_standing.proofs.Preparing.{at, size, sound_prepared, sound_roomier, within_roomier}
+use Rattle.mm_standing.proofs.Preparing.{at, size, sound_prepared, sound_roomier, still_typed, within_roomier}
 use Rattle.mm_standing.proofs.Recorded.{recorded_roomier}
 use Rattle.mm_standing.proofs.standing.Standing.put_prepared.Goals as goal
 
@@ -31,14 +32,18 @@ invariant_of-self-2 c =
     λ list.
     let r = c.in_ok-reserve_each.ensures.room list in
     let n = c.in_ok-numbers.ensures.numbers list in
-    let v = ap (λ (xs : List ℕ). slice_index xs list) c.as_slice-2.ensures.value in
-    let w = ap (λ (xs : List ListChange). number_for list xs) c.as_slice.ensures.value in
+    let v = ap (λ (xs : List ℕ). slice_index xs list) c.as_slice-4.ensures.value in
+    let w = ap (λ (xs : List ListChange). number_for list xs) c.as_slice-3.ensures.value in
     omega (arith, r, n, v, w) in
+    let typed : All (IsTyped old.bags.items) changes =
+    subst (λ (bags : List Counts). All (IsTyped bags) changes) c.as_slice.ensures.value
+    (subst (All (IsTyped c.as_slice.result.now)) c.as_slice-2.ensures.value (c.are_typed.ensures.0 c.if-not-are_typed.false)) in
     let ready : IsSound bags ps (undos old.log.items) =
     sound_prepared bags (undos old.log.items) changes ps done (λ k. within_roomier old.bags.items bags same _ (can k))
     (All-weaker (λ (d : ListChange). d.list < length old.bags.items) (λ (d : ListChange). d.list < length bags) (λ d h. omega (arith, h, many)) changes there)
+    (still_typed old.bags.items bags c.reserve_each.ensures.types changes typed)
     c.in_ok-self-inside.ensures.opposites rooms
-    (sound_roomier old.bags.items bags same [] (undos old.log.items) c.reserve_each.ensures.kept sound) in
+    (sound_roomier old.bags.items bags same [] (undos old.log.items) c.reserve_each.ensures.kept c.reserve_each.ensures.types sound) in
     let length_is = ap (λ (cs : List ListChange). length cs) done in
     let mapped = length-map ps (λ (p : Prepared). p.done) in
     let room = c.in_ok-reserve.ensures.ok in
@@ -56,7 +61,8 @@ invariant_of-self c =
     let old = c.self.inside in
     let bags = c.reserve_each.new.bags.items in
     let same = c.reserve_each.ensures.entries in (
-      sound_roomier old.bags.items bags same old.prepared.items (undos old.log.items) c.reserve_each.ensures.kept c.self.invariant.0,
+      sound_roomier old.bags.items bags same old.prepared.items (undos old.log.items) c.reserve_each.ensures.kept c.reserve_each.ensures.types
+          c.self.invariant.0,
       c.self.invariant.1,
       c.self.invariant.2 ∙ sym (size old.bags.items bags same),
       recorded_roomier old.bags.items bags (at old.bags.items bags same) old.log.items c.self.invariant.3,
@@ -72,7 +78,8 @@ invariant_of-self-in_err-reserve c =
     let long = c.reserve.ensures.len in
     let wide = c.reserve.ensures.capacity in (
       subst (λ (l : List UndoRecord). IsSound bags old.prepared.items (undos l)) (sym log)
-          (sound_roomier old.bags.items bags same old.prepared.items (undos old.log.items) c.reserve_each.ensures.kept c.self.invariant.0),
+          (sound_roomier old.bags.items bags same old.prepared.items (undos old.log.items) c.reserve_each.ensures.kept c.reserve_each.ensures.types
+          c.self.invariant.0),
       omega (arith, fits, long, wide),
       c.self.invariant.2 ∙ sym (size old.bags.items bags same),
       subst (λ (l : List UndoRecord). IsRecorded bags l) (sym log)
@@ -89,7 +96,8 @@ invariant_of-self-in_err-self-inside c =
     let long = c.reserve.ensures.len in
     let wide = c.reserve.ensures.capacity in (
       subst (λ (l : List UndoRecord). IsSound bags old.prepared.items (undos l)) (sym log)
-          (sound_roomier old.bags.items bags same old.prepared.items (undos old.log.items) c.reserve_each.ensures.kept c.self.invariant.0),
+          (sound_roomier old.bags.items bags same old.prepared.items (undos old.log.items) c.reserve_each.ensures.kept c.reserve_each.ensures.types
+          c.self.invariant.0),
       omega (arith, fits, long, wide),
       c.self.invariant.2 ∙ sym (size old.bags.items bags same),
       subst (λ (l : List UndoRecord). IsRecorded bags l) (sym log)

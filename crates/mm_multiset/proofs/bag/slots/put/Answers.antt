@@ -1,0 +1,47 @@
+-- One slot has the row, and its count and its pair are there.
+use Rattle.std.proofs.Common.{ℕ, inl, inr, set, ap, sym, ◌∙◌, arith}
+use Rattle.mm_partition.specs.Places.{Free, Live, slot_index_of}
+use Rattle.mm_multiset.specs.Slots.{no_row}
+use Rattle.mm_multiset.proofs.Placing.{IsPut, entries_put, kept_put, turned_put}
+use Rattle.mm_multiset.proofs.SlotEntries.{Turns}
+use Rattle.mm_multiset.proofs.SlotLists.{reference_back}
+use Rattle.mm_multiset.proofs.bag.slots.put.Goals as goal
+use Rattle.mm_multiset.proofs.bag.slots.put.Goals.{After-insert, then-index-len, else-index-len}
+
+pub insert-requires-clause-small : goal.insert-requires-clause-small
+insert-requires-clause-small c = c.are_references_small.ensures c.place-at.result (c.args.row, c.place-at.ensures.placed.changed)
+
+turned : (c : After-insert) → Turns (slot_index_of c.place-at.result) c.args.rows.now.slots c.place-at.new.self.slots c.args.counts.now.items
+    c.if-index-len.counts.items Free (Live c.args.row) no_row c.args.count
+turned c =
+    let i : ℕ = slot_index_of c.place-at.result in
+    let counts = c.args.counts.now in
+    let written : IsPut i c.args.count counts.items c.if-index-len.counts.items =
+    elim c.if-index-len.branch [
+      | then-index-len w ↦
+          inl (
+            omega (arith, c.len.ensures, c.index_of-index.ensures, counts.ok.0, w.if-index-len.true),
+            ap (λ v. v.items) w.counts-is ∙ ap (λ k. set counts.items k c.args.count) c.index_of-index.ensures,
+          )
+      | else-index-len w ↦
+          inr (
+            omega (arith, c.len.ensures, c.index_of-index.ensures, counts.ok.0, w.if-index-len.false),
+            ap (λ v. v.items) w.counts-is ∙ w.push_reserved.ensures.items,
+          )
+    ]
+    in
+    let place = c.place-at.ensures in
+    turned_put c.args.rows.now c.place-at.new.self c.place-at.result c.args.row counts.items c.if-index-len.counts.items c.args.count
+    c.requires.kept.marked place.fresh place.placed place.slot place.extent place.within written
+
+pub returns-clause-kept : goal.returns-clause-kept
+returns-clause-kept c =
+    let at = c.place-at.result in
+    kept_put (slot_index_of at) c.args.rows.now.slots c.place-at.new.self.slots c.args.counts.now.items c.if-index-len.counts.items c.args.row c.args.count
+    (turned c) c.args.by_hash.now.entries c.insert.new.self.entries c.args.hash at c.requires.kept c.requires.count c.requires.new c.requires.hash
+    (sym (reference_back at c.place-at.ensures.slot)) c.insert.ensures.entries
+
+pub returns-clause-put : goal.returns-clause-put
+returns-clause-put c =
+    entries_put (slot_index_of c.place-at.result) c.args.rows.now.slots c.place-at.new.self.slots c.args.counts.now.items c.if-index-len.counts.items
+    c.args.row c.args.count (turned c)

@@ -1,0 +1,57 @@
+//! The slot of a row, found by the hash of its values.
+ghost use Rattle.std.specs.Prelude.{◌≡◌, ◌≢◌, ℕ, IfNone, IfSome, IsPermutation};
+ghost use Rattle.std.specs.Bool.{Decides};
+ghost use Rattle.mm_multiset.specs.RowHash.{row_hash};
+ghost use Rattle.mm_multiset.specs.Slots.{pairs_from};
+ghost use Rattle.mm_partition.specs.Places.{Live, content_at, slot_at};
+ghost use Rattle.mm_partition.specs.Views.{viewed};
+
+use mlhash::HashRefs;
+use mm_partition::{Partitions, RowView};
+use mm_value::{Row, RowRef, compare, hash64};
+
+/// 2^64 by the golden ratio, made odd (multiplicative hashing of Knuth, The Art of Computer Programming, volume 3, section 6.4).
+const MULTIPLIER: u64 = 11400714819323198485;
+
+/// The hash of a row. Each value goes in by an exclusive or with its hash and a product, in which a bit changes those above it. So in
+/// the end the high half goes into the low one, by which a table finds the bucket.
+pub(crate) fn hash_of(row: &Row) -> u64
+    ensures { result ≡ row_hash row.now }
+{
+    let mut hash = 0u64;
+    for value in row.values() {
+        hash = (hash ^ hash64(value)).wrapping_mul(MULTIPLIER);
+    }
+    hash ^ (hash >> 32)
+}
+
+/// The reference to the row that is the same, if there is one. Of the rows it looks at those of this hash.
+pub(crate) fn find(rows: &Partitions, by_hash: &HashRefs, hash: u64, row: &Row) -> Option<RowRef>
+    requires hash { hash ≡ row_hash row.now }
+    requires hashed { IsPermutation by_hash.now.entries (pairs_from 0 rows.now.slots) }
+    ensures found { IfSome result (λ at. slot_at rows.now at ≡ Live row.now) }
+    ensures none { IfNone result ((i : ℕ) → content_at rows.now i ≢ Live row.now) }
+{
+    for at in by_hash.matching(hash) {
+        if is_same(rows.get(at), row) {
+            return Some(at);
+        }
+    }
+    None
+}
+
+/// Whether a stored row is the same as another.
+fn is_same(stored: RowView<'_>, row: &Row) -> bool
+    ensures { Decides result (viewed stored.entry ≡ row.now) }
+{
+    let width = row.len();
+    if stored.len() != width {
+        return false;
+    }
+    for i in 0..width {
+        if compare(&stored.value(i), row.value(i)).is_ne() {
+            return false;
+        }
+    }
+    true
+}
