@@ -1,6 +1,8 @@
 -- A value is sought along the order by its column.
-use Rattle.std.proofs.Common.{◌≡◌, ◌≢◌, ℕ, ◌≤◌, None, Some, Option, refl, sym, ap, ◌∙◌, subst, arith}
-use Rattle.std.specs.Prelude.{slice_get, IfNone}
+use Rattle.std.proofs.Common.{◌≡◌, ◌≢◌, ℕ, ◌≤◌, List, get_or, None, Some, Option, refl, sym, ap, ◌∙◌, subst, arith}
+use Rattle.std.specs.Prelude.{slice_get, IfNone, IfSome}
+use Rattle.std.specs.List.{All}
+use Rattle.std.proofs.lemmas.Option.{IfSome_then}
 use Rattle.std.specs.Option.{option_cmp}
 use Rattle.std.specs.Cmp.{IsTotalOrder}
 use Rattle.std.specs.Cmp.Lexicographic.{options_total}
@@ -10,6 +12,7 @@ use Rattle.std.specs.declared.cmp.Ordering.TheVariants.{Less, Equal, Greater}
 use Rattle.mm_value.proofs.Orders.{value_cmp_total, value_cmp_exact}
 use Rattle.mm_value.specs.Order.{value_cmp}
 use Rattle.mm_value.specs.declared.values.Value.{Value}
+use Rattle.mm_value.specs.declared.row_ref.RowRef.{RowRef}
 use Rattle.mm_schema.specs.Rows.{column_cmp}
 use Rattle.mm_order.specs.Probe.{IsMonotone}
 use Rattle.mm_relation.specs.Reads.{end_place}
@@ -67,6 +70,16 @@ place_own o value e =
 pub IfNone_then : {X : Type 0} (r : Option X) {P Q : Type 0} → IfNone r P → (P → Q) → IfNone r Q
 IfNone_then None holds then = then holds
 IfNone_then (Some x) holds then = tt
+
+-- what is found along a column has the value, and where nothing is found no row has it
+pub found_fits : (column : ℕ) (now : Slots) (value : Value) (found : Option RowRef) → IfSome found (λ at. place_by column now value at ≡ Equal)
+    → IfSome found (λ at. slice_get (row_at now at) column ≡ Some value)
+found_fits column now value found fits = IfSome_then found fits (λ at e. place_exact (slice_get (row_at now at) column) value e)
+
+pub none_fits : (column : ℕ) (now : Slots) (value : Value) (found : Option RowRef) (refs : List RowRef)
+    → IfNone found (All (λ at. place_by column now value at ≢ Equal) refs) → IfNone found (All (λ at. slice_get (row_at now at) column ≢ Some value) refs)
+none_fits column now value found refs absent =
+    IfNone_then found absent (λ all k d within e. all k d within (place_own (slice_get (row_at now (get_or refs k d)) column) value e))
 
 -- an end of a range goes along the order by its column
 pub IsMonotone-at_end : (column key : ℕ) (places : Slots) (end : Option Value)

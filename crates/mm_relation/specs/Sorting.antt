@@ -8,12 +8,18 @@ use Rattle.mm_value.specs.declared.row_ref.RowRef.{RowRef}
 use Rattle.mm_value.specs.declared.values.Value.{Value}
 use Rattle.mm_value.specs.declared.values.Value.TheVariants.{Int}
 use Rattle.mm_relation.specs.Refs.{Slots, IsWide, row_at}
+use Rattle.mm_value.specs.Views.{value_of}
+use Rattle.mm_relation.specs.declared.indexes.sort_value.Prefixed.{Prefixed}
 use Rattle.mm_relation.specs.declared.indexes.sorting.Number.{Number}
 use Rattle.mm_relation.specs.declared.indexes.sorting.Sortable.{Sortable}
 
 -- the value of a number
 abbrev pub value_of_number : Number → Value
 value_of_number n = Int n.number
+
+-- the value beside a prefix
+abbrev pub value_of_prefixed : Prefixed → Value
+value_of_prefixed p = value_of p.value
 
 -- its reference
 abbrev pub ref_of : {V : Type 0} → Sortable V → RowRef

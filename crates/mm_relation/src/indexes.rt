@@ -7,13 +7,16 @@ ghost use Rattle.mm_relation.specs.Edits.{named};
 ghost use Rattle.mm_relation.specs.Index.{KeysApart, Keeps, Taken, Put, EachTurns, Grown, GrownTo, Trimmed, column_of, spare_of, unmoved};
 
 pub(crate) mod at_end;
+pub(crate) mod at_number;
 pub(crate) mod at_value;
 pub(crate) mod by_column;
+pub(crate) mod by_numbers;
 pub(crate) mod hash_entries;
 pub(crate) mod hash_reads;
 pub(crate) mod in_column;
 pub(crate) mod index;
 pub(crate) mod names;
+pub(crate) mod sort_value;
 pub(crate) mod sorting;
 pub(crate) mod tree_entries;
 pub(crate) mod tree_reads;

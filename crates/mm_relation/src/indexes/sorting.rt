@@ -1,13 +1,14 @@
 //! References of rows, sorted by a column.
 ghost use Rattle.std.specs.Prelude.{◌≡◌, ℕ, length, map, All, IsPermutation, IfOk, IfSome};
-ghost use Rattle.mm_value.specs.Views.{value_of};
 ghost use Rattle.mm_partition.specs.Places.{slot_at};
 ghost use Rattle.mm_relation.specs.Refs.{Slots, IsWide};
 ghost use Rattle.mm_relation.specs.Index.{InOrder, KeysApart};
-ghost use Rattle.mm_relation.specs.Sorting.{IsOf, ref_of, sortable_cmp, value_of_number, AreSorted};
+ghost use Rattle.mm_relation.specs.Sorting.{IsOf, ref_of, sortable_cmp, value_of_number, value_of_prefixed, AreSorted};
 
-use mm_partition::{ColumnKeys, Partitions, index_of};
-use mm_value::{AsValue, RowRef, ValueRef, compare};
+use crate::indexes::by_numbers::{NumberKeys, number_keys};
+use crate::indexes::sort_value::{Prefixed, SortValue};
+use mm_partition::{Partitions, index_of};
+use mm_value::{AsValue, RowRef, ValueRef};
 use std::alloc::{AllocError, Global};
 use std::cmp::Ordering;
 
@@ -34,42 +35,49 @@ impl AsValue for Number {
     }
 }
 
+impl SortValue for Number {
+    #[inline(always)]
+    fn compare_to(&self, other: &Self) -> Ordering {
+        self.number.cmp(&other.number)
+    }
+}
+
 /// How two rows stand: by their values in the column, where these are equal by their keys.
-fn compare_rows<V: AsValue>(a: &Sortable<V>, b: &Sortable<V>) -> Ordering
+fn compare_rows<V: SortValue>(a: &Sortable<V>, b: &Sortable<V>) -> Ordering
     ensures { result ≡ sortable_cmp V.AsValue.value a.now b.now }
 {
-    let first = compare(&a.value, &b.value);
+    let first = a.value.compare_to(&b.value);
     if first.is_eq() {
-        compare(&a.key, &b.key)
+        a.key.compare_to(&b.key)
     } else {
         first
     }
 }
 
 /// The row of a reference, to be sorted by a column and the key.
-fn sortable_at(rows: &Partitions, column: usize, key: usize, at: RowRef) -> Sortable<ValueRef<'_>>
+fn sortable_at(rows: &Partitions, column: usize, key: usize, at: RowRef) -> Sortable<Prefixed<'_>>
     requires { IsWide column key (slot_at rows.now) at }
-    ensures of { IsOf value_of column key (slot_at rows.now) result }
+    ensures of { IsOf value_of_prefixed column key (slot_at rows.now) result }
     ensures reference { result.at ≡ at }
 {
     let row = rows.get(at);
     Sortable {
-        value: row.value(column),
-        key: row.value(key),
+        value: Prefixed::new(row.value(column)),
+        key: Prefixed::new(row.value(key)),
         at,
     }
 }
 
-/// The rows of these references, to be sorted by a column and the key.
+/// The rows of these references, to be sorted by a column and the key, each value beside its prefix.
 fn sortables<'a>(
     alloc: Global,
     rows: &'a Partitions,
     column: usize,
     key: usize,
     refs: &[RowRef],
-) -> Result<Vec<Sortable<ValueRef<'a>>>, AllocError>
+) -> Result<Vec<Sortable<Prefixed<'a>>>, AllocError>
     requires { All (IsWide column key (slot_at rows.now)) refs.now }
-    ensures of { IfOk result (λ list. All (IsOf value_of column key (slot_at rows.now)) list.items) }
+    ensures of { IfOk result (λ list. All (IsOf value_of_prefixed column key (slot_at rows.now)) list.items) }
     ensures refs { IfOk result (λ list. map ref_of list.items ≡ refs.now) }
 {
     let mut list = Vec::with_capacity(alloc, refs.len())?;
@@ -93,10 +101,7 @@ fn numbered(
         (λ list. All (IsOf value_of_number column key (slot_at rows.now)) list.items)) }
     ensures refs { IfOk result (λ found. IfSome found (λ list. map ref_of list.items ≡ refs.now)) }
 {
-    let (ColumnKeys::Numbers(values), ColumnKeys::Numbers(keys)) = (
-        rows.keys(column),
-        rows.keys(key),
-    ) else {
+    let Some(NumberKeys { values, ties }) = number_keys(rows, column, key) else {
         return Ok(None);
     };
     let mut list = Vec::with_capacity(alloc, refs.len())?;
@@ -106,7 +111,7 @@ fn numbered(
             value: Number {
                 number: values[slot],
             },
-            key: Number { number: keys[slot] },
+            key: Number { number: ties[slot] },
             at: *at,
         })?;
     }
@@ -114,7 +119,7 @@ fn numbered(
 }
 
 /// Sorts rows. It takes no memory and O(n log n) comparisons for n rows.
-fn sort<V: AsValue>(list: &mut Vec<Sortable<V>>)
+fn sort<V: SortValue>(list: &mut Vec<Sortable<V>>)
     ensures permutation { IsPermutation list.old.items list.new.items }
     ensures sorted { AreSorted V.AsValue.value list.new.items }
 {
@@ -129,7 +134,7 @@ fn refs_of<V>(alloc: Global, list: &[Sortable<V>]) -> Result<Vec<RowRef>, AllocE
 }
 
 /// The references of rows, by their values and, where these are equal, by their keys. `AllocError` where memory is refused.
-fn in_order<V: AsValue>(
+fn in_order<V: SortValue>(
     alloc: Global,
     list: &mut Vec<Sortable<V>>,
 ) -> Result<Vec<RowRef>, AllocError>

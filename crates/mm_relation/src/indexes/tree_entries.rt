@@ -2,6 +2,7 @@
 ghost use Rattle.std.specs.Prelude.{◌≡◌, ◌≢◌, ◌+◌, ◌≤◌, ◌++◌, ◌∷◌, [], List, length, All, IsPermutation};
 ghost use Rattle.std.specs.declared.cmp.Ordering.TheVariants.{Equal};
 ghost use Rattle.mm_value.specs.declared.row_ref.RowRef.{RowRef};
+ghost use Rattle.mm_order.specs.Order.{IsOrdered};
 ghost use Rattle.mm_order.specs.Refs.{AddsInOrder};
 ghost use Rattle.mm_partition.specs.Places.{slot_at};
 ghost use Rattle.mm_relation.specs.Refs.{IsWide, refs_by};
@@ -10,10 +11,11 @@ ghost use Rattle.mm_relation.specs.Index.{InOrder, KeysApart};
 ghost use Rattle.mm_relation.specs.Moves.{stayed};
 
 use crate::indexes::by_column::ByColumn;
+use crate::indexes::by_numbers::{ByNumbers, NumberKeys, number_keys};
 use crate::indexes::names::{Names, Side};
 use crate::moves::moved_name;
 use arrayvec::ArrayVec;
-use mm_order::OrderedRefs;
+use mm_order::{OrderedRefs, RefOrder};
 use mm_partition::Partitions;
 use mm_value::RowRef;
 use ttree::TTree;
@@ -28,22 +30,53 @@ fn put<L: OrderedRefs>(rows: &Partitions, column: usize, key: usize, tree: &mut 
     ensures ordered { InOrder column key (slot_at rows.now) (L.refs tree.new) }
     ensures spare { L.spare tree.old ≤ L.spare tree.new + 1 }
 {
-    let order = ByColumn {
-        rows,
-        column,
-        key,
-        values: rows.keys(column),
-        ties: rows.keys(key),
-    };
     rows.are_references_small();
-    tree.insert(&order, at);
+    match number_keys(rows, column, key) {
+        Some(NumberKeys { values, ties }) => {
+            let order = ByNumbers {
+                rows,
+                column,
+                key,
+                values,
+                ties,
+            };
+            tree.insert(&order, at)
+        }
+        None => {
+            let order = ByColumn {
+                rows,
+                column,
+                key,
+                values: rows.keys(column),
+                ties: rows.keys(key),
+            };
+            tree.insert(&order, at)
+        }
+    }
 }
 
 /// The most references that go out of a tree together.
 const TOGETHER: usize = 32;
 
-/// Takes references out of a tree that orders rows by a column and has them all. Those that stand in one node in their order go out of
-/// it by one search.
+/// Takes references out of a tree in this order that has them all. Those that stand in one node in their order go out of it by one
+/// search.
+fn take_along<O: RefOrder>(order: &O, tree: &mut TTree, refs: &[RowRef])
+    requires ordered { IsOrdered (O.covers order.now) (O.cmp order.now) tree.old.refs }
+    requires held { Among tree.old.refs refs.now }
+    ensures refs { (kept : List RowRef) → IsPermutation tree.old.refs (refs.now ++ kept) → IsPermutation tree.new.refs kept }
+    ensures ordered { IsOrdered (O.covers order.now) (O.cmp order.now) tree.new.refs }
+    ensures spare { tree.old.spare ≤ tree.new.spare }
+{
+    let mut rest = refs;
+    while let Some((first, behind)) = rest.split_first() {
+        let Some(along) = tree.remove_along(order, *first, behind) else {
+            unreachable!()
+        };
+        rest = &behind[along..];
+    }
+}
+
+/// Takes references out of a tree that orders rows by a column and has them all.
 fn take_all(rows: &Partitions, column: usize, key: usize, tree: &mut TTree, refs: &[RowRef])
     requires ordered { InOrder column key (slot_at rows.now) tree.old.refs }
     requires held { Among tree.old.refs refs.now }
@@ -51,19 +84,27 @@ fn take_all(rows: &Partitions, column: usize, key: usize, tree: &mut TTree, refs
     ensures ordered { InOrder column key (slot_at rows.now) tree.new.refs }
     ensures spare { tree.old.spare ≤ tree.new.spare }
 {
-    let order = ByColumn {
-        rows,
-        column,
-        key,
-        values: rows.keys(column),
-        ties: rows.keys(key),
-    };
-    let mut rest = refs;
-    while let Some((first, behind)) = rest.split_first() {
-        let Some(along) = tree.remove_along(&order, *first, behind) else {
-            unreachable!()
-        };
-        rest = &behind[along..];
+    match number_keys(rows, column, key) {
+        Some(NumberKeys { values, ties }) => {
+            let order = ByNumbers {
+                rows,
+                column,
+                key,
+                values,
+                ties,
+            };
+            take_along(&order, tree, refs)
+        }
+        None => {
+            let order = ByColumn {
+                rows,
+                column,
+                key,
+                values: rows.keys(column),
+                ties: rows.keys(key),
+            };
+            take_along(&order, tree, refs)
+        }
     }
 }
 

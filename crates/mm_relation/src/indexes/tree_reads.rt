@@ -1,8 +1,9 @@
 //! Reading along a tree.
-ghost use Rattle.std.specs.Prelude.{◌≡◌, ◌≤◌, ◌++◌, length, IfOk, OnOk, OnErr};
+ghost use Rattle.std.specs.Prelude.{◌≡◌, ◌≢◌, ◌≤◌, ◌++◌, length, All, Contains, IfSome, IfNone, IfOk, OnOk, OnErr};
 ghost use Rattle.std.specs.Option.{option_map};
 ghost use Rattle.mm_value.specs.Views.{value_of};
-ghost use Rattle.mm_order.specs.Probe.{entries_between};
+ghost use Rattle.mm_order.specs.Order.{IsOrdered};
+ghost use Rattle.mm_order.specs.Probe.{IsMonotone, entries_between};
 ghost use Rattle.mm_partition.specs.Places.{slot_at};
 ghost use Rattle.mm_relation.specs.Index.{InOrder};
 ghost use Rattle.mm_relation.specs.Reads.{end_place};
@@ -10,10 +11,11 @@ ghost use Rattle.mm_schema.specs.Rows.{most_rows};
 
 use crate::indexes::at_end::{AtEnd, prefix_of_end};
 use crate::indexes::by_column::ByColumn;
-use mm_order::OrderedRefs;
+use mm_order::{OrderedRefs, Probe, RefOrder, Seek};
 use mm_partition::Partitions;
 use mm_value::{RowRef, ValueRef};
 use std::alloc::{AllocError, Global};
+use std::cmp::Ordering;
 use ttree::TTree;
 
 /// The ends of a range of values; one that is not there leaves the range open on its side.
@@ -64,6 +66,18 @@ pub fn copy_range(
         values,
     };
     tree.copy_range(alloc, &order, &low, &high, out)
+}
+
+/// An entry of a tree in this order that fits a probe along it, none where none does.
+pub fn find_along<O: RefOrder, P: Probe>(tree: &TTree, order: &O, probe: &P) -> Option<RowRef>
+    requires ordered { IsOrdered (O.covers order.now) (O.cmp order.now) tree.now.refs }
+    requires monotone { IsMonotone (O.covers order.now) (O.cmp order.now) (P.covers probe.now) (P.place_of probe.now) }
+    ensures held { IfSome result (Contains tree.now.refs) }
+    ensures fits { IfSome result (λ at. P.place_of probe.now at ≡ Ordering.Equal) }
+    ensures none { IfNone result (All (λ at. P.place_of probe.now at ≢ Ordering.Equal) tree.now.refs) }
+{
+    let mut seek = Seek::new(probe);
+    tree.find(order, &mut seek)
 }
 
 /// All references of a tree of at most 1,048,576, in order.

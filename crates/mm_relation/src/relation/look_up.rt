@@ -5,9 +5,12 @@ ghost use Rattle.mm_partition.specs.Places.{slot_at};
 ghost use Rattle.mm_relation.specs.Refs.{row_at};
 
 use super::Relation;
+use crate::indexes::at_number::AtNumber;
 use crate::indexes::at_value::AtValue;
 use crate::indexes::by_column::ByColumn;
-use mm_order::Seek;
+use crate::indexes::by_numbers::ByNumbers;
+use crate::indexes::tree_reads::find_along;
+use mm_partition::ColumnKeys;
 use mm_value::{RowRef, ValueRef, order_prefix};
 
 impl Relation {
@@ -20,6 +23,23 @@ impl Relation {
             (All (λ at. slice_get (row_at (slot_at self.now.places) at) self.now.key ≢ Some (value_of key.entry)) self.now.refs) }
     {
         let values = self.rows.keys(self.key);
+        if let (ColumnKeys::Numbers(numbers), ValueRef::Int(sought)) = (values, key) {
+            let order = ByNumbers {
+                rows: &self.rows,
+                column: self.key,
+                key: self.key,
+                values: numbers,
+                ties: numbers,
+            };
+            let probe = AtNumber {
+                rows: &self.rows,
+                column: self.key,
+                key: self.key,
+                sought,
+                values: numbers,
+            };
+            return find_along(&self.by_key, &order, &probe);
+        }
         let order = ByColumn {
             rows: &self.rows,
             column: self.key,
@@ -35,7 +55,6 @@ impl Relation {
             prefix: order_prefix(&key),
             values,
         };
-        let mut seek = Seek::new(&probe);
-        self.by_key.find(&order, &mut seek)
+        find_along(&self.by_key, &order, &probe)
     }
 }
