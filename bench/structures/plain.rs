@@ -8,8 +8,7 @@ use std::time::Instant;
 
 #[derive(Clone, Copy, Debug, Default, PartialEq, Eq)]
 struct RowRef {
-    part: usize,
-    slot: u8,
+    slot: u32,
 }
 
 #[derive(Clone, Copy)]
@@ -27,22 +26,17 @@ fn key_of(n: usize) -> u64 {
 }
 
 fn reference_of(n: usize) -> RowRef {
-    RowRef { part: n, slot: 0 }
+    RowRef { slot: n as u32 }
 }
 
-/// The entry of a number in a structure in order.
-fn in_order(n: usize) -> Entry {
+/// The entry of a number.
+fn entry_of(n: usize) -> Entry {
     Entry { key: key_of(n), reference: reference_of(n) }
-}
-
-/// The entry of a number by hash: the rows are numbered as they are placed, 64 to a partition.
-fn by_hash(n: usize) -> Entry {
-    Entry { key: key_of(n), reference: RowRef { part: n / 64, slot: (n % 64) as u8 } }
 }
 
 /// The same with as many entries of one hash as of another, of 25 hashes.
 fn by_few_hashes(n: usize) -> Entry {
-    Entry { key: key_of(n % 25), ..by_hash(n) }
+    Entry { key: key_of(n % 25), ..entry_of(n) }
 }
 
 /// The number below `n` that follows in the shuffle, which meets each once where `n` is a power of 10 or 2.
@@ -67,15 +61,14 @@ const NIL: u32 = u32::MAX;
 #[derive(Clone, Copy)]
 struct Node {
     hash: u64,
-    part: usize,
+    reference: RowRef,
     next: u32,
-    slot: u8,
     live: bool,
 }
 
 impl Node {
     fn has(&self, hash: u64, reference: RowRef) -> bool {
-        self.hash == hash && self.part == reference.part && self.slot == reference.slot
+        self.hash == hash && self.reference == reference
     }
 }
 
@@ -105,19 +98,18 @@ impl LinearHash {
     }
 
     fn hint(&self, reference: RowRef) -> u32 {
-        self.directory.get(64 * reference.part + usize::from(reference.slot)).map_or(NIL, |&node| node)
+        self.directory.get(reference.slot as usize).map_or(NIL, |&node| node)
     }
 
-    fn note(&mut self, part: usize, slot: u8, node: u32) {
-        if let Some(place) = self.directory.get_mut(64 * part + usize::from(slot)) {
+    fn note(&mut self, reference: RowRef, node: u32) {
+        if let Some(place) = self.directory.get_mut(reference.slot as usize) {
             *place = node;
         }
     }
 
     fn insert(&mut self, hash: u64, reference: RowRef) {
-        let RowRef { part, slot } = reference;
         let bucket = self.bucket_of(hash);
-        let node = Node { hash, part, next: self.heads[bucket], slot, live: true };
+        let node = Node { hash, reference, next: self.heads[bucket], live: true };
         let mut at = self.free;
         if at == NIL {
             at = self.nodes.len() as u32;
@@ -129,7 +121,7 @@ impl LinearHash {
             self.free = replace(&mut self.nodes[at as usize], node).next;
         }
         self.heads[bucket] = at;
-        self.note(part, slot, at);
+        self.note(reference, at);
         self.len += 1;
         if self.len > 2 * self.heads.len() {
             self.split();
@@ -159,7 +151,7 @@ impl LinearHash {
         while at != NIL {
             let node = &self.nodes[at as usize];
             if node.hash == hash {
-                out.push(RowRef { part: node.part, slot: node.slot });
+                out.push(node.reference);
             }
             at = node.next;
         }
@@ -191,7 +183,7 @@ impl LinearHash {
         self.nodes[at as usize] = Node { next, ..first };
         self.nodes[head as usize] = Node { next: self.free, live: false, ..first };
         self.heads[bucket] = first.next;
-        self.note(first.part, first.slot, at);
+        self.note(first.reference, at);
         self.free = head;
         self.len -= 1;
         if 2 * self.len < self.heads.len() && self.heads.len() > 4 {
@@ -218,16 +210,16 @@ impl LinearHash {
 
 // ---- references in the order of a table of keys
 
-/// The keys by partition, set once before any reference is compared.
+/// The keys by slot, set once before any reference is compared.
 static mut KEYS: Vec<u64> = Vec::new();
 
 fn key(at: RowRef) -> u64 {
     let keys = &raw const KEYS;
-    unsafe { (&(*keys))[at.part] }
+    unsafe { (&(*keys))[at.slot as usize] }
 }
 
 fn compare(a: RowRef, b: RowRef) -> Ordering {
-    key(a).cmp(&key(b)).then(a.part.cmp(&b.part))
+    key(a).cmp(&key(b)).then(a.slot.cmp(&b.slot))
 }
 
 #[derive(Clone, Copy, PartialEq, Eq)]
@@ -562,9 +554,9 @@ fn timed(structure: &str, name: &str, n: usize, pass: impl FnOnce() -> usize) {
 /// What is timed.
 trait Structure: Default {
     fn insert(&mut self, entry: Entry);
-    /// The partition of the reference that is found.
+    /// The slot of the reference that is found.
     fn find(&self, entry: Entry, found: &mut Vec<RowRef>) -> usize;
-    /// The sum of the partitions of all references in order.
+    /// The sum of the slots of all references in order.
     fn walk(&self) -> usize;
     fn remove(&mut self, entry: Entry) -> bool;
 }
@@ -594,10 +586,10 @@ fn measure<S: Structure>(structure: &str, n: usize, is_ordered: bool, entry_of: 
 fn measure_ordered<S: Structure>(structure: &str, n: usize) {
     unsafe { KEYS = (0..n as u64).collect() };
     let mut filled = S::default();
-    timed(structure, "ascending", n, || fill(&mut filled, n, in_order));
+    timed(structure, "ascending", n, || fill(&mut filled, n, entry_of));
     drop(filled);
     unsafe { KEYS = (0..n).map(key_of).collect() };
-    measure::<S>(structure, n, true, in_order);
+    measure::<S>(structure, n, true, entry_of);
 }
 
 /// Times the insert of each number and the removal of each shuffled entry where few hashes are shared.
@@ -616,7 +608,7 @@ impl Structure for LinearHash {
     fn find(&self, entry: Entry, found: &mut Vec<RowRef>) -> usize {
         found.clear();
         self.matches(entry.key, found);
-        found[0].part
+        found[0].slot as usize
     }
 
     fn walk(&self) -> usize {
@@ -628,13 +620,13 @@ impl Structure for LinearHash {
     }
 }
 
-impl Structure for HashMap<u64, (usize, u8)> {
+impl Structure for HashMap<u64, RowRef> {
     fn insert(&mut self, entry: Entry) {
-        self.insert(entry.key, (entry.reference.part, entry.reference.slot));
+        self.insert(entry.key, entry.reference);
     }
 
     fn find(&self, entry: Entry, _: &mut Vec<RowRef>) -> usize {
-        self[&entry.key].0
+        self[&entry.key].slot as usize
     }
 
     fn walk(&self) -> usize {
@@ -677,7 +669,7 @@ unsafe fn sum_of(link: Link) -> usize {
             return 0;
         }
         let node = &*link;
-        let here: usize = node.held().iter().map(|entry| entry.part).sum();
+        let here: usize = node.held().iter().map(|entry| entry.slot as usize).sum();
         sum_of(node.left) + here + sum_of(node.right)
     }
 }
@@ -688,7 +680,7 @@ impl Structure for TTree {
     }
 
     fn find(&self, entry: Entry, _: &mut Vec<RowRef>) -> usize {
-        unsafe { find_in(self.0, entry.reference) }.unwrap().part
+        unsafe { find_in(self.0, entry.reference) }.unwrap().slot as usize
     }
 
     fn walk(&self) -> usize {
@@ -708,11 +700,11 @@ impl Structure for BTreeSet<ByKey> {
     }
 
     fn find(&self, entry: Entry, _: &mut Vec<RowRef>) -> usize {
-        self.get(&ByKey(entry.reference)).unwrap().0.part
+        self.get(&ByKey(entry.reference)).unwrap().0.slot as usize
     }
 
     fn walk(&self) -> usize {
-        self.iter().map(|held| held.0.part).sum()
+        self.iter().map(|held| held.0.slot as usize).sum()
     }
 
     fn remove(&mut self, entry: Entry) -> bool {
@@ -734,11 +726,11 @@ impl Structure for Vec<RowRef> {
         found.clear();
         let rest = &self[bound(self, entry.reference)..];
         found.extend(&rest[..rest.partition_point(|&held| compare(held, entry.reference).is_le())]);
-        found[0].part
+        found[0].slot as usize
     }
 
     fn walk(&self) -> usize {
-        self.iter().map(|held| held.part).sum()
+        self.iter().map(|held| held.slot as usize).sum()
     }
 
     fn remove(&mut self, entry: Entry) -> bool {
@@ -764,7 +756,7 @@ fn in_rows(n: usize) {
             }
             let at = vacant.pop().unwrap();
             slots[at] = Some(Vec::new());
-            refs.push(RowRef { part: at / 64, slot: (at % 64) as u8 });
+            refs.push(RowRef { slot: at as u32 });
         }
         0
     });
@@ -772,7 +764,7 @@ fn in_rows(n: usize) {
         let (mut found, mut number) = (0, 0);
         for _ in 0..n {
             let at: RowRef = refs[number];
-            found += slots[at.part * 64 + usize::from(at.slot)].as_ref().unwrap().len() + number;
+            found += slots[at.slot as usize].as_ref().unwrap().len() + number;
             number = after(number, n);
         }
         found
@@ -780,7 +772,7 @@ fn in_rows(n: usize) {
     timed("slots", "remove", n, || {
         let mut gone = 0;
         while let Some(at) = refs.pop() {
-            let index = at.part * 64 + usize::from(at.slot);
+            let index = at.slot as usize;
             gone += usize::from(slots[index].take().is_some());
             vacant.push(index);
         }
@@ -790,9 +782,9 @@ fn in_rows(n: usize) {
 
 fn main() {
     for n in [10_000, 100_000, 1_048_576] {
-        measure::<LinearHash>("LinearHash", n, false, by_hash);
+        measure::<LinearHash>("LinearHash", n, false, entry_of);
         measure_few_hashes::<LinearHash>("LinearHash_of_25", n);
-        measure::<HashMap<u64, (usize, u8)>>("HashMap", n, false, by_hash);
+        measure::<HashMap<u64, RowRef>>("HashMap", n, false, entry_of);
         measure_ordered::<TTree>("unsafe_TTree", n);
         measure_ordered::<BTreeSet<ByKey>>("BTreeSet", n);
         in_rows(n);

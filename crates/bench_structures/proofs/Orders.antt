@@ -12,7 +12,7 @@ use Rattle.mm_order.proofs.Monotone.{IsMonotone-at}
 use Rattle.bench_structures.specs.Keys.{key_in, by_key}
 
 by_key_total : (keys : List ℕ) → IsTotalOrder (by_key keys)
-by_key_total keys = then_total (on_total (key_in keys) nat_cmp_total) (on_total (λ (r : RowRef). r.part) nat_cmp_total)
+by_key_total keys = then_total (on_total (key_in keys) nat_cmp_total) (on_total (λ (r : RowRef). r.slot) nat_cmp_total)
 
 -- the places of a reference rise
 pub monotone_by_key : (keys : List ℕ) (at : RowRef) → IsMonotone (λ _. Unit {0}) (by_key keys) (λ _. Unit {0} × Unit {0}) (λ a. by_key keys a at)
@@ -23,12 +23,12 @@ second_equal Less p equal = absurd (cc)
 second_equal Equal p equal = equal
 second_equal Greater p equal = absurd (cc)
 
--- a reference lies apart from those of the partitions before
-pub apart_from_earlier : (keys : List ℕ) (refs : List RowRef) (added : RowRef) → All (λ a. a.part < added.part) refs
+-- a reference lies apart from those of the slots before
+pub apart_from_earlier : (keys : List ℕ) (refs : List RowRef) (added : RowRef) → All (λ a. a.slot < added.slot) refs
     → All (λ a. by_key keys a added ≢ Equal) refs
 apart_from_earlier keys refs added earlier k d below equal =
     let a : RowRef = get_or refs k d in
-    let before : a.part < added.part = earlier k d below in
-    let same : a.part ≡ added.part = exact_unsigned a.part added.part
-    (second_equal (nat_cmp (key_in keys a) (key_in keys added)) (nat_cmp a.part added.part) equal) in
+    let before : a.slot < added.slot = earlier k d below in
+    let same : a.slot ≡ added.slot = exact_unsigned a.slot added.slot
+    (second_equal (nat_cmp (key_in keys a) (key_in keys added)) (nat_cmp a.slot added.slot) equal) in
     omega (arith, same, before)

@@ -1,6 +1,5 @@
 //! The bag of references by hash.
-ghost use Rattle.std.specs.Prelude.{◌-◌, ◌^◌, ◌<◌};
-ghost use Rattle.mlhash.specs.Bag.{IsSmall};
+ghost use Rattle.std.specs.Prelude.{◌≡◌};
 
 use crate::entries::{Entry, after, key_of};
 use crate::report::{Pass, print};
@@ -10,7 +9,7 @@ use std::alloc::{AllocError, Global};
 use std::time::Instant;
 
 /// How many hashes the entries of the second bag share.
-const FEW: usize = 25;
+const FEW: u32 = 25;
 
 /// The hashes of the entries of a bag.
 #[derive(Clone, Copy, Drop)]
@@ -22,16 +21,12 @@ enum Hashes {
 }
 
 /// Fills, asks and empties a bag of `n` entries, and fills and empties one of few hashes.
-pub(crate) fn measure(rt: &HostRuntime, n: usize) -> anyhow::Result<()>
-    requires { n < 2 ^ 32 }
-{
+pub(crate) fn measure(rt: &HostRuntime, n: u32) -> anyhow::Result<()> {
     measure_distinct(rt, n)?;
     measure_few(rt, n)
 }
 
-fn measure_distinct(rt: &HostRuntime, n: usize) -> anyhow::Result<()>
-    requires { n < 2 ^ 32 }
-{
+fn measure_distinct(rt: &HostRuntime, n: u32) -> anyhow::Result<()> {
     let alloc = rt.alloc();
     let sought = shuffled(alloc, n, Hashes::Distinct)?;
     let mut bag = HashRefs::new(alloc);
@@ -40,9 +35,7 @@ fn measure_distinct(rt: &HostRuntime, n: usize) -> anyhow::Result<()>
     time_empty(rt, "HashRefs", &mut bag, sought.as_slice())
 }
 
-fn measure_few(rt: &HostRuntime, n: usize) -> anyhow::Result<()>
-    requires { n < 2 ^ 32 }
-{
+fn measure_few(rt: &HostRuntime, n: u32) -> anyhow::Result<()> {
     let alloc = rt.alloc();
     let sought = shuffled(alloc, n, Hashes::Few)?;
     let mut bag = HashRefs::new(alloc);
@@ -50,29 +43,26 @@ fn measure_few(rt: &HostRuntime, n: usize) -> anyhow::Result<()>
     time_empty(rt, "HashRefs_of_25", &mut bag, sought.as_slice())
 }
 
-/// The entry of a number: the rows are numbered as they are placed, 64 to a partition.
-fn entry_of(number: usize, hashes: Hashes) -> Entry
-    ensures { number < 2 ^ 32 - 1 → IsSmall result.reference }
+/// The entry of a number.
+fn entry_of(number: u32, hashes: Hashes) -> Entry
+    ensures { result.reference.slot ≡ number }
 {
     Entry {
         key: match hashes {
             Hashes::Distinct => key_of(number),
             Hashes::Few => key_of(number % FEW),
         },
-        reference: RowRef {
-            part: number / 64,
-            slot: (number % 64) as u8,
-        },
+        reference: RowRef { slot: number },
     }
 }
 
 /// The entries of the numbers below `n`, shuffled.
-fn shuffled(alloc: Global, n: usize, hashes: Hashes) -> Result<Vec<Entry>, AllocError> {
-    let mut entries = Vec::with_capacity(alloc, n)?;
-    let mut number = 0usize;
+fn shuffled(alloc: Global, n: u32, hashes: Hashes) -> Result<Vec<Entry>, AllocError> {
+    let mut entries = Vec::with_capacity(alloc, n as usize)?;
+    let mut number = 0;
     for _ in 0..n {
         entries.push(entry_of(number, hashes))?;
-        number = after(number, n);
+        number = after(number as usize, n as usize) as u32;
     }
     Ok(entries)
 }
@@ -81,11 +71,9 @@ fn time_fill(
     rt: &HostRuntime,
     structure: &str,
     bag: &mut HashRefs,
-    n: usize,
+    n: u32,
     hashes: Hashes,
-) -> anyhow::Result<()>
-    requires { n < 2 ^ 32 }
-{
+) -> anyhow::Result<()> {
     let alloc = rt.alloc();
     let start = Instant::now(rt)?;
     for number in 0..n {
@@ -93,7 +81,7 @@ fn time_fill(
         bag.reserve(alloc, 1)?;
         bag.insert(entry.key, entry.reference);
     }
-    let pass = Pass::new(structure, "insert", n);
+    let pass = Pass::new(structure, "insert", n as usize);
     print(rt, &pass, start.elapsed(rt)?, 0)?;
     Ok(())
 }
@@ -119,7 +107,7 @@ fn ask(alloc: Global, bag: &HashRefs, sought: &[Entry]) -> Result<usize, AllocEr
         found.clear();
         bag.matches(alloc, entry.key, &mut found)?;
         if let Some(reference) = found.first() {
-            sum = sum.wrapping_add(reference.part);
+            sum = sum.wrapping_add(reference.slot as usize);
         }
     }
     Ok(sum)

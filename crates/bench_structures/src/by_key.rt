@@ -10,7 +10,7 @@ use mm_order::RefOrder;
 use mm_value::RowRef;
 use std::cmp::Ordering;
 
-/// References by the keys of their partitions, those of one key by partition.
+/// References by the keys of their slots, those of one key by slot.
 #[derive(Drop)]
 pub(crate) struct ByKey<'a> {
     pub(crate) keys: &'a [u64],
@@ -20,7 +20,7 @@ impl<'a> ByKey<'a> {
     fn key(&self, at: RowRef) -> u64
         ensures { result ≡ key_in self.now.keys.now at }
     {
-        match self.keys.get(at.part) {
+        match self.keys.get(at.slot as usize) {
             Some(key) => *key,
             None => 0,
         }
@@ -32,12 +32,12 @@ impl<'a> RefOrder for ByKey<'a> {
 
     ghost cmp = { λ o. by_key o.keys.now };
 
-    ghost total = { λ o. IsTotalOrderOn-from_total _ _ (then_total (on_total (key_in o.keys.now) nat_cmp_total) (on_total (λ (r : RowRef). r.part) nat_cmp_total)) };
+    ghost total = { λ o. IsTotalOrderOn-from_total _ _ (then_total (on_total (key_in o.keys.now) nat_cmp_total) (on_total (λ (r : RowRef). r.slot) nat_cmp_total)) };
 
     fn compare(&self, a: RowRef, b: RowRef) -> Ordering {
         let (one, other) = (self.key(a), self.key(b));
         if one == other {
-            a.part.cmp(&b.part)
+            a.slot.cmp(&b.slot)
         } else {
             one.cmp(&other)
         }

@@ -1,5 +1,5 @@
-//! What is put in: number n has a key that looks random and the reference of partition n.
-ghost use Rattle.std.specs.Prelude.{◌≡◌, ◌<◌};
+//! What is put in: number n has a key that looks random and the reference of slot n.
+ghost use Rattle.std.specs.Prelude.{◌<◌};
 
 use mm_value::RowRef;
 use std::alloc::{AllocError, Global};
@@ -18,18 +18,11 @@ pub(crate) struct Entry {
 }
 
 /// The key of a number (the finalizer of SplitMix64).
-pub(crate) fn key_of(n: usize) -> u64 {
-    let a = (n as u64).wrapping_add(0x9E37_79B9_7F4A_7C15);
+pub(crate) fn key_of(n: u32) -> u64 {
+    let a = u64::from(n).wrapping_add(0x9E37_79B9_7F4A_7C15);
     let b = (a ^ (a >> 30)).wrapping_mul(0xBF58_476D_1CE4_E5B9);
     let c = (b ^ (b >> 27)).wrapping_mul(0x94D0_49BB_1331_11EB);
     c ^ (c >> 31)
-}
-
-/// The reference of a number.
-pub(crate) fn reference_of(n: usize) -> RowRef
-    ensures { result.part ≡ n }
-{
-    RowRef { part: n, slot: 0 }
 }
 
 /// The number below `n` that follows in the shuffle.
@@ -41,15 +34,15 @@ pub(crate) fn after(number: usize, n: usize) -> usize
 }
 
 /// The entries of the numbers below `n`, shuffled.
-pub(crate) fn shuffled(alloc: Global, n: usize) -> Result<Vec<Entry>, AllocError> {
-    let mut entries = Vec::with_capacity(alloc, n)?;
-    let mut number = 0usize;
+pub(crate) fn shuffled(alloc: Global, n: u32) -> Result<Vec<Entry>, AllocError> {
+    let mut entries = Vec::with_capacity(alloc, n as usize)?;
+    let mut number = 0;
     for _ in 0..n {
         entries.push(Entry {
             key: key_of(number),
-            reference: reference_of(number),
+            reference: RowRef { slot: number },
         })?;
-        number = after(number, n);
+        number = after(number as usize, n as usize) as u32;
     }
     Ok(entries)
 }

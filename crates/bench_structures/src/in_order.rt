@@ -4,9 +4,10 @@ ghost use Rattle.mm_order.specs.Order.{IsOrdered};
 ghost use Rattle.bench_structures.specs.Keys.{by_key};
 
 use crate::by_key::ByKey;
-use crate::entries::{Entry, key_of, reference_of, shuffled};
+use crate::entries::{Entry, key_of, shuffled};
 use crate::report::{Pass, print};
 use mm_order::{AtReference, OrderedRefs, Seek, SortedRefs};
+use mm_value::RowRef;
 use std::alloc::{AllocError, Global};
 use std::time::Instant;
 use ttree::TTree;
@@ -14,11 +15,8 @@ use ttree::TTree;
 /// The most references that a tree gives one after the other.
 const MAX_WALKED: usize = 1_048_576;
 
-/// So many partitions have references that a list takes.
-const MAX_PARTS: usize = 67_108_864;
-
 /// Fills a T-tree with `n` references, asks for each, walks them and takes them out.
-pub(crate) fn measure_tree(rt: &HostRuntime, n: usize) -> anyhow::Result<()> {
+pub(crate) fn measure_tree(rt: &HostRuntime, n: u32) -> anyhow::Result<()> {
     let alloc = rt.alloc();
     measure_ascending(rt, "TTree", &mut TTree::new(alloc), n)?;
     let sought = shuffled(alloc, n)?;
@@ -26,11 +24,11 @@ pub(crate) fn measure_tree(rt: &HostRuntime, n: usize) -> anyhow::Result<()> {
     let order = ByKey {
         keys: keys.as_slice(),
     };
-    time_tree(rt, &mut TTree::new(alloc), &order, sought.as_slice())
+    time_tree(rt, &mut TTree::new(alloc), &order, n, sought.as_slice())
 }
 
 /// Fills a sorted vector with `n` references, asks for each and takes them out.
-pub(crate) fn measure_vector(rt: &HostRuntime, n: usize) -> anyhow::Result<()> {
+pub(crate) fn measure_vector(rt: &HostRuntime, n: u32) -> anyhow::Result<()> {
     let alloc = rt.alloc();
     measure_ascending(rt, "SortedRefs", &mut SortedRefs::new(alloc), n)?;
     let sought = shuffled(alloc, n)?;
@@ -38,7 +36,8 @@ pub(crate) fn measure_vector(rt: &HostRuntime, n: usize) -> anyhow::Result<()> {
     let order = ByKey {
         keys: keys.as_slice(),
     };
-    time_vector(rt, &mut SortedRefs::new(alloc), &order, sought.as_slice())
+    let mut list = SortedRefs::new(alloc);
+    time_vector(rt, &mut list, &order, n, sought.as_slice())
 }
 
 /// Fills an empty list with references in ascending order.
@@ -46,7 +45,7 @@ fn measure_ascending<L: OrderedRefs>(
     rt: &HostRuntime,
     structure: &str,
     list: &mut L,
-    n: usize,
+    n: u32,
 ) -> anyhow::Result<()>
     requires { L.refs list.old ≡ [] }
 {
@@ -54,21 +53,23 @@ fn measure_ascending<L: OrderedRefs>(
     let order = ByKey {
         keys: keys.as_slice(),
     };
-    time_fill(rt, &Pass::new(structure, "ascending", n), list, &order, n)
+    let pass = Pass::new(structure, "ascending", n as usize);
+    time_fill(rt, &pass, list, &order, n)
 }
 
 fn time_tree(
     rt: &HostRuntime,
     tree: &mut TTree,
     order: &ByKey,
+    n: u32,
     sought: &[Entry],
 ) -> anyhow::Result<()>
     requires { tree.old.refs ≡ [] }
 {
-    let n = sought.len();
-    time_fill(rt, &Pass::new("TTree", "insert", n), tree, order, n)?;
+    let pass = Pass::new("TTree", "insert", sought.len());
+    time_fill(rt, &pass, tree, order, n)?;
     time_ask_tree(rt, tree, order, sought)?;
-    time_walk(rt, tree, n)?;
+    time_walk(rt, tree)?;
     time_empty(rt, "TTree", tree, order, sought)
 }
 
@@ -76,12 +77,13 @@ fn time_vector(
     rt: &HostRuntime,
     list: &mut SortedRefs,
     order: &ByKey,
+    n: u32,
     sought: &[Entry],
 ) -> anyhow::Result<()>
     requires { list.old.refs ≡ [] }
 {
-    let n = sought.len();
-    time_fill(rt, &Pass::new("SortedRefs", "insert", n), list, order, n)?;
+    let pass = Pass::new("SortedRefs", "insert", sought.len());
+    time_fill(rt, &pass, list, order, n)?;
     time_ask_vector(rt, list, order, sought)?;
     time_empty(rt, "SortedRefs", list, order, sought)
 }
@@ -91,7 +93,7 @@ fn time_fill<L: OrderedRefs>(
     pass: &Pass,
     list: &mut L,
     order: &ByKey,
-    n: usize,
+    n: u32,
 ) -> anyhow::Result<()>
     requires { L.refs list.old ≡ [] }
     ensures { OnOk result (IsOrdered (λ _. Unit {0}) (by_key order.now.keys.now) (L.refs list.new)) }
@@ -134,10 +136,10 @@ fn time_ask_vector(
     Ok(())
 }
 
-fn time_walk(rt: &HostRuntime, tree: &TTree, n: usize) -> anyhow::Result<()> {
+fn time_walk(rt: &HostRuntime, tree: &TTree) -> anyhow::Result<()> {
     let start = Instant::now(rt)?;
     let walked = walk(tree);
-    let pass = Pass::new("TTree", "walk", n);
+    let pass = Pass::new("TTree", "walk", tree.len());
     print(rt, &pass, start.elapsed(rt)?, walked)?;
     Ok(())
 }
@@ -158,29 +160,29 @@ fn time_empty<L: OrderedRefs>(
     Ok(())
 }
 
-/// The sum of the partitions of a tree's references, which are asked for in order; 0 where a tree has too many.
+/// The sum of the slots of a tree's references, which are asked for in order; 0 where a tree has too many.
 fn walk(tree: &TTree) -> usize {
     if tree.len() > MAX_WALKED {
         return 0;
     }
     let mut sum = 0usize;
     for reference in tree.iter() {
-        sum = sum.wrapping_add(reference.part);
+        sum = sum.wrapping_add(reference.slot as usize);
     }
     sum
 }
 
 /// The numbers below `n`.
-fn ascending_below(alloc: Global, n: usize) -> Result<Vec<u64>, AllocError> {
-    let mut keys = Vec::with_capacity(alloc, n)?;
+fn ascending_below(alloc: Global, n: u32) -> Result<Vec<u64>, AllocError> {
+    let mut keys = Vec::with_capacity(alloc, n as usize)?;
     for number in 0..n {
-        keys.push(number as u64)?;
+        keys.push(u64::from(number))?;
     }
     Ok(keys)
 }
 
-fn keys_below(alloc: Global, n: usize) -> Result<Vec<u64>, AllocError> {
-    let mut keys = Vec::with_capacity(alloc, n)?;
+fn keys_below(alloc: Global, n: u32) -> Result<Vec<u64>, AllocError> {
+    let mut keys = Vec::with_capacity(alloc, n as usize)?;
     for number in 0..n {
         keys.push(key_of(number))?;
     }
@@ -192,18 +194,14 @@ fn fill<L: OrderedRefs>(
     alloc: Global,
     list: &mut L,
     order: &ByKey,
-    n: usize,
+    n: u32,
 ) -> Result<(), AllocError>
     requires { L.refs list.old ≡ [] }
     ensures { OnOk result (IsOrdered (λ _. Unit {0}) (by_key order.now.keys.now) (L.refs list.new)) }
 {
     for number in 0..n {
-        let added = reference_of(number);
-        if added.part >= MAX_PARTS || added.slot >= 64 {
-            return Err(AllocError);
-        }
         list.reserve(alloc, 1)?;
-        list.insert(order, added);
+        list.insert(order, RowRef { slot: number });
     }
     Ok(())
 }
@@ -219,7 +217,7 @@ fn ask_tree(tree: &TTree, order: &ByKey, sought: &[Entry]) -> usize
             sought: entry.reference,
         };
         if let Some(reference) = tree.find(order, &mut Seek::new(&probe)) {
-            sum = sum.wrapping_add(reference.part);
+            sum = sum.wrapping_add(reference.slot as usize);
         }
     }
     sum
@@ -244,7 +242,7 @@ fn ask_vector(
         found.clear();
         list.copy_range(alloc, order, &probe, &probe, &mut found)?;
         if let Some(reference) = found.first() {
-            sum = sum.wrapping_add(reference.part);
+            sum = sum.wrapping_add(reference.slot as usize);
         }
     }
     Ok(sum)

@@ -17,7 +17,7 @@ use std::env;
 
 /// The most references of a vector that is filled and emptied in random order, since each edit
 /// moves half of it.
-const MOST_IN_A_VECTOR: usize = 100_000;
+const MOST_IN_A_VECTOR: u32 = 100_000;
 
 fn main(rt: HostRuntime) -> anyhow::Result<()> {
     let mut words = env::args(&rt)?;
@@ -28,10 +28,9 @@ fn main(rt: HostRuntime) -> anyhow::Result<()> {
         return irrelevance::measure(&rt);
     }
     for n in [10_000u32, 100_000, 1_048_576] {
-        let n = n as usize;
         by_hash::measure(&rt, n)?;
         in_order::measure_tree(&rt, n)?;
-        in_rows::measure(&rt, n)?;
+        in_rows::measure(&rt, n as usize)?;
         if n <= MOST_IN_A_VECTOR {
             in_order::measure_vector(&rt, n)?;
         }

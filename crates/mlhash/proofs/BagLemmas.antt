@@ -12,7 +12,7 @@ use Rattle.std.proofs.lemmas.List.{append-nil, length-map, set-set, set-get_or}
 use Rattle.mm_value.specs.declared.row_ref.RowRef.{RowRef}
 use Rattle.mlhash.specs.declared.node.Node.{Node}
 use Rattle.mlhash.specs.declared.node.TheConstants.{FREE}
-use Rattle.mlhash.specs.Pairs.{blank, free_node, is_live, node_at, row_ref, row_of, pair_of, SameEntry}
+use Rattle.mlhash.specs.Pairs.{blank, free_node, is_live, node_at, pair_of, SameEntry}
 use Rattle.mlhash.specs.Bag.{refs_of, all_refs}
 use Rattle.mlhash.specs.Chain.{Among}
 use Rattle.mlhash.specs.Table.{entries}
@@ -91,11 +91,10 @@ is_match hash n = is_live n && eqb n.hash hash
 
 pub pair_same : (m n : Node) → SameEntry m n → pair_of n ≡ pair_of m
 pair_same m n s =
-    let p : pair_of n ≡ (m.hash, row_of n) = ap (λ (h : ℕ). let p : ℕ × RowRef = (h, row_of n) in p) s.hash in
-    p ∙ ap (λ (x : ℕ). let p : ℕ × RowRef = (m.hash, row_ref x) in p) s.number
+    λ i. (s.hash i, s.reference i)
 
 pub live_same : (m n : Node) → SameEntry m n → is_live n ≡ is_live m
-live_same m n s = ap (λ x. ltb x FREE) s.number
+live_same m n s = ap (λ r. ltb r.slot FREE.slot) s.reference
 
 -- links are no part of the bag
 pub entries_same : (ns ms : List Node) → length ms ≡ length ns → ((i : ℕ) → SameEntry (node_at ns i) (node_at ms i)) → entries ms ≡ entries ns
@@ -157,15 +156,15 @@ held ns i below live =
     Contains-permutation _ _ _ (IsPermutation-sym _ _ (entries-set_out ns i free_node below live refl)) (0, omega arith, refl)
 
 -- the references of one hash, from the nodes
-pub refs_of-entries : (hash : ℕ) (ns : List Node) → refs_of hash (entries ns) ≡ map row_of (filter (is_match hash) ns)
+pub refs_of-entries : (hash : ℕ) (ns : List Node) → refs_of hash (entries ns) ≡ map (λ n. n.reference) (filter (is_match hash) ns)
 refs_of-entries hash [] = refl
 refs_of-entries hash (n ∷ ns) =
     let rest = refs_of-entries hash ns in
-    elim (is_live n) as (λ b. refs_of hash (map pair_of (cond b (n ∷ filter is_live ns) (filter is_live ns))) ≡ map row_of
+    elim (is_live n) as (λ b. refs_of hash (map pair_of (cond b (n ∷ filter is_live ns) (filter is_live ns))) ≡ map (λ n. n.reference)
     (cond (b && eqb n.hash hash) (n ∷ filter (is_match hash) ns) (filter (is_match hash) ns))) [
       | true ↦ elim (eqb n.hash hash) as (λ b. map (λ (e : ℕ × RowRef). e.1)
           (cond b (pair_of n ∷ filter (λ (e : ℕ × RowRef). eqb e.0 hash) (entries ns)) (filter (λ (e : ℕ × RowRef). eqb e.0 hash) (entries ns))) ≡ map
-          row_of (cond b (n ∷ filter (is_match hash) ns) (filter (is_match hash) ns))) [ true ↦ ap (λ rs. row_of n ∷ rs) rest | false ↦ rest ]
+          (λ n. n.reference) (cond b (n ∷ filter (is_match hash) ns) (filter (is_match hash) ns))) [ true ↦ ap (λ rs. n.reference ∷ rs) rest | false ↦ rest ]
       | false ↦ rest
     ]
 
@@ -179,8 +178,8 @@ live_matches hash ns (i ∷ is) live =
     let G = filter (is_match hash) (map (node_at ns) is) in
     ap (λ xs. cond (eqb n.hash hash) (n ∷ xs) xs) rest ∙ ap (λ b. cond (b && eqb n.hash hash) (n ∷ G) G) (sym (live i (inl refl)))
 
-pub all_refs-entries : (ns : List Node) → all_refs (entries ns) ≡ map row_of (filter is_live ns)
+pub all_refs-entries : (ns : List Node) → all_refs (entries ns) ≡ map (λ n. n.reference) (filter is_live ns)
 all_refs-entries [] = refl
 all_refs-entries (n ∷ ns) =
-    elim (is_live n) as (λ b. all_refs (map pair_of (cond b (n ∷ filter is_live ns) (filter is_live ns))) ≡ map row_of
-    (cond b (n ∷ filter is_live ns) (filter is_live ns))) [ true ↦ ap (λ rs. row_of n ∷ rs) (all_refs-entries ns) | false ↦ all_refs-entries ns ]
+    elim (is_live n) as (λ b. all_refs (map pair_of (cond b (n ∷ filter is_live ns) (filter is_live ns))) ≡ map (λ n. n.reference)
+    (cond b (n ∷ filter is_live ns) (filter is_live ns))) [ true ↦ ap (λ rs. n.reference ∷ rs) (all_refs-entries ns) | false ↦ all_refs-entries ns ]

@@ -9,13 +9,13 @@ use Rattle.std.proofs.lemmas.List.Sums.{sum_by-drop_more}
 use Rattle.mm_value.specs.declared.row_ref.RowRef.{RowRef}
 use Rattle.mlhash.specs.declared.node.Node.{Node}
 use Rattle.mlhash.specs.Bag.{all_refs, AppendsInSomeOrder}
-use Rattle.mlhash.specs.Pairs.{blank, is_live, node_at, row_of}
+use Rattle.mlhash.specs.Pairs.{blank, is_live, node_at}
 use Rattle.mlhash.specs.Table.{entries}
 use Rattle.mlhash.proofs.BagLemmas.{all_refs-entries}
 
 -- the references of the nodes so far are copied, and there is room for the others
 pub record IsCopying (ns : List Node) (i : ℕ) (old out : List RowRef) (len capacity : ℕ) : Type 0 where
-  pub so_far : out ≡ old ++ map row_of (filter is_live (take i ns))
+  pub so_far : out ≡ old ++ map (λ n. n.reference) (filter is_live (take i ns))
   pub room : len + count_by is_live (drop i ns) ≤ capacity
 
 pub IsCopying-start : (ns xs : List Node) (old out : List RowRef) (n len capacity : ℕ) → ns ≡ xs → count_by is_live xs ≡ n → out ≡ old
@@ -31,16 +31,16 @@ copying_room ns i old out len capacity below live s =
     omega (arith, e, one, s.room)
 
 pub IsCopying-take : (ns : List Node) (i : ℕ) (old out : List RowRef) (len capacity : ℕ) (r : RowRef) → i < length ns → is_live (node_at ns i) ≡ true
-    → r ≡ row_of (node_at ns i) → IsCopying ns i old out len capacity → IsCopying ns (i + 1) old (out ++ r ∷ []) (len + 1) capacity
+    → r ≡ (node_at ns i).reference → IsCopying ns i old out len capacity → IsCopying ns (i + 1) old (out ++ r ∷ []) (len + 1) capacity
 IsCopying-take ns i old out len capacity r below live row s =
     let f : filter is_live (take (i + 1) ns) ≡ filter is_live (take i ns) ++ node_at ns i ∷ [] = filter_more is_live ns i blank below
     ∙ ap (λ xs. filter is_live (take i ns) ++ xs) (cond-true _ (node_at ns i ∷ []) [] live) in
     let e = sum_by-drop_more (λ (n : Node). cond (is_live n) 1 0) ns i blank below in
     let one : cond (is_live (node_at ns i)) 1 0 ≡ 1 = ap (λ (b : Bool). let x : ℕ = cond b 1 0 in x) live in
     record {
-      so_far = ap (λ xs. xs ++ r ∷ []) s.so_far ∙ append_assoc old (map row_of (filter is_live (take i ns))) (r ∷ [])
-          ∙ ap (λ x. old ++ (map row_of (filter is_live (take i ns)) ++ x ∷ [])) row ∙ ap (λ xs. old ++ xs)
-          (sym (ap (map row_of) f ∙ map-append row_of (filter is_live (take i ns)) (node_at ns i ∷ [])));
+      so_far = ap (λ xs. xs ++ r ∷ []) s.so_far ∙ append_assoc old (map (λ n. n.reference) (filter is_live (take i ns))) (r ∷ [])
+          ∙ ap (λ x. old ++ (map (λ n. n.reference) (filter is_live (take i ns)) ++ x ∷ [])) row ∙ ap (λ xs. old ++ xs)
+          (sym (ap (map (λ n. n.reference)) f ∙ map-append (λ n. n.reference) (filter is_live (take i ns)) (node_at ns i ∷ [])));
       room = omega (arith, e, one, s.room);
     }
 
@@ -52,7 +52,7 @@ IsCopying-skip ns i old out len capacity below dead s =
     let e = sum_by-drop_more (λ (n : Node). cond (is_live n) 1 0) ns i blank below in
     let none : cond (is_live (node_at ns i)) 1 0 ≡ 0 = ap (λ (b : Bool). let x : ℕ = cond b 1 0 in x) dead in
     record {
-      so_far = s.so_far ∙ ap (λ xs. old ++ map row_of xs) (sym f);
+      so_far = s.so_far ∙ ap (λ xs. old ++ map (λ n. n.reference) xs) (sym f);
       room = omega (arith, e, none, s.room);
     }
 
@@ -60,7 +60,7 @@ pub copied : (ns xs : List Node) (i : ℕ) (old out : List RowRef) (len capacity
     → entries xs ≡ es → IsCopying ns i old out len capacity → AppendsInSomeOrder old out (all_refs es)
 copied ns xs i old out len capacity es done same bag s = record {
   behind = all_refs es;
-  appends = s.so_far ∙ ap (λ ys. old ++ map row_of (filter is_live ys)) (take_all i ns done ∙ same) ∙ ap (λ rs. old ++ rs)
+  appends = s.so_far ∙ ap (λ ys. old ++ map (λ n. n.reference) (filter is_live ys)) (take_all i ns done ∙ same) ∙ ap (λ rs. old ++ rs)
       (sym (all_refs-entries xs) ∙ ap all_refs bag);
   same_bag = IsPermutation-refl (all_refs es);
 }

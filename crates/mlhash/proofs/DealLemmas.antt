@@ -19,13 +19,13 @@ SameEntry-set ns at n same i below =
       | inl e ↦ subst (λ k. SameEntry (node_at ns k) (node_at (set ns at n) k)) (sym e)
           (subst (λ m. SameEntry (node_at ns at) m) (sym (get_or-set_same ns at n blank below)) same)
       | inr ne ↦ subst (λ m. SameEntry (node_at ns i) m) (sym (get_or-set_other ns at i n blank ne))
-          (record { hash = refl; number = refl })
+          (record { hash = refl; reference = refl })
     ]
 
 pub SameEntry-trans : (l m n : Node) → SameEntry l m → SameEntry m n → SameEntry l n
 SameEntry-trans l m n s t = record {
   hash = t.hash ∙ s.hash;
-  number = t.number ∙ s.number;
+  reference = t.reference ∙ s.reference;
 }
 
 stays_same : (mask stay : ℕ) (m n : Node) → SameEntry m n → stays mask stay m ≡ stays mask stay n
@@ -37,7 +37,7 @@ IsDealing-start ns from mask stay onto linked linked' apart =
     let none = chain_end ns linked.few in
     record {
       size = refl;
-      entries = λ i. record { hash = refl; number = refl };
+      entries = λ i. record { hash = refl; reference = refl };
       others = λ i _. refl;
       at_linked = linked;
       staying_linked = linked';
@@ -66,7 +66,7 @@ IsDealing-stay ns from mask stay onto ms at staying leaving on test s =
       size = length-set ms at n ∙ s.size;
       entries =
           λ i. SameEntry-trans (node_at ns i) (node_at ms i) (node_at (set ms at n) i) (s.entries i)
-          (SameEntry-set ms at n (record { hash = refl; number = refl }) i t.below);
+          (SameEntry-set ms at n (record { hash = refl; reference = refl }) i t.below);
       others =
           λ i out. get_or-set_other ms at i n blank (λ e. out (subst (λ k. Among k (chain ns from)) (sym e) (s.at_in at here))) ∙ s.others i out;
       at_linked = kx.linked;
@@ -112,7 +112,7 @@ IsDealing-leave ns from mask stay onto ms at staying leaving on test s =
       size = length-set ms at n ∙ s.size;
       entries =
           λ i. SameEntry-trans (node_at ns i) (node_at ms i) (node_at (set ms at n) i) (s.entries i)
-          (SameEntry-set ms at n (record { hash = refl; number = refl }) i t.below);
+          (SameEntry-set ms at n (record { hash = refl; reference = refl }) i t.below);
       others =
           λ i out. get_or-set_other ms at i n blank (λ e. out (subst (λ k. Among k (chain ns from)) (sym e) (s.at_in at here))) ∙ s.others i out;
       at_linked = kx.linked;

@@ -10,7 +10,7 @@ use Rattle.mlhash.specs.declared.place.Place.{Place}
 use Rattle.mlhash.specs.Address.{bucket_of}
 use Rattle.mlhash.specs.Bag.{refs_of}
 use Rattle.mlhash.specs.Chain.{chain, refs_along}
-use Rattle.mlhash.specs.Pairs.{node_at, row_of}
+use Rattle.mlhash.specs.Pairs.{node_at}
 use Rattle.mlhash.specs.Table.{entries, IsBucket}
 use Rattle.mlhash.proofs.BagLemmas.{is_match, filter_places, live_matches, refs_of-entries}
 use Rattle.mlhash.proofs.ChainLemmas.{IsChain-set, below_linked}
@@ -24,9 +24,9 @@ refs_along-all ns p head b hash b_is k =
     (λ i below t. let both = and_parts _ _ t in k.every i below both.0 (ap (bucket_of p) (eqb-true _ _ both.1) ∙ sym b_is)) in
     let along : filter (λ n. eqb n.hash hash) (map (node_at ns) is) ≡ filter (is_match hash) (map (node_at ns) is) = live_matches hash ns is
     (λ i a. (k.here i a).0) in
-    subst (λ xs. IsPermutation (map row_of xs) (refs_of hash (entries ns))) (sym along)
-    (subst (λ rs. IsPermutation (map row_of (filter (is_match hash) (map (node_at ns) is))) rs) (sym (refs_of-entries hash ns))
-    (IsPermutation-map row_of _ _ places))
+    subst (λ xs. IsPermutation (map (λ n. n.reference) xs) (refs_of hash (entries ns))) (sym along)
+    (subst (λ rs. IsPermutation (map (λ n. n.reference) (filter (is_match hash) (map (node_at ns) is))) rs) (sym (refs_of-entries hash ns))
+    (IsPermutation-map (λ n. n.reference) _ _ places))
 
 -- what is left of the references of a hash is what the bag has of it
 pub matching_all : (ns : List Node) (p : Place) (head b hash : ℕ) (xs : List Node) (refs : List RowRef) (es : List (ℕ × RowRef))

@@ -260,10 +260,10 @@ Finds-read ms ns head hash r at read s = subst (λ xs. Finds xs head hash r at) 
 
 -- a node with the pair of another one, and a free node
 abbrev pub pair_in : Node → ℕ → Node
-pair_in n next = record { hash = n.hash; number = n.number; next = next }
+pair_in n next = record { hash = n.hash; reference = n.reference; next = next }
 
 abbrev pub freed : ℕ → Node
-freed next = record { hash = 0; number = FREE; next = next }
+freed next = record { hash = 0; reference = FREE; next = next }
 
 -- what the code writes where the pair was found; m1 is the first node as read, m2 the found one
 pub taking : (heads : List ℕ) (ns : List Node) (len : ℕ) (p : Place) (free hash b head : ℕ) (r : RowRef) (at : ℕ) (m1 m2 : Node)

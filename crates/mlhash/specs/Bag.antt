@@ -1,5 +1,5 @@
 -- What callers see of a `HashRefs`.
-use Rattle.std.specs.Prelude.{◌≡◌, ℕ, ◌+◌, ◌-◌, ◌*◌, ◌^◌, ◌<◌, ◌==◌, List, ◌++◌, map, filter, IsPermutation}
+use Rattle.std.specs.Prelude.{◌≡◌, ℕ, ◌-◌, ◌^◌, ◌<◌, ◌==◌, List, ◌++◌, map, filter, IsPermutation}
 use Rattle.mm_value.specs.declared.row_ref.RowRef.{RowRef}
 
 -- The pairs of a hash and a reference, each as often as held and in no promised order, and how many
@@ -8,9 +8,9 @@ pub record Bag : Type 0 where
   pub entries : List (ℕ × RowRef)
   pub spare : ℕ
 
--- a reference whose number is below 2^32 - 1: 64 times its partition and one of 64 slots
+-- a reference that is not the greatest, which marks a free node
 abbrev pub IsSmall : RowRef → Type 0
-IsSmall r = (r.slot < 64) × (64 * r.part + r.slot < 2 ^ 32 - 1)
+IsSmall r = r.slot < 2 ^ 32 - 1
 
 -- the references of all pairs
 abbrev pub all_refs : List (ℕ × RowRef) → List RowRef

@@ -3,7 +3,7 @@ use Rattle.std.specs.Prelude.{◌≡◌, ◌≢◌, ℕ, zero, suc, ◌<◌, ◌
 use Rattle.mm_value.specs.declared.row_ref.RowRef.{RowRef}
 use Rattle.mlhash.specs.declared.node.Node.{Node}
 use Rattle.mlhash.specs.declared.node.TheConstants.{NIL}
-use Rattle.mlhash.specs.Pairs.{is_live, node_at, row_of, pair_of, SameEntry}
+use Rattle.mlhash.specs.Pairs.{is_live, node_at, pair_of, SameEntry}
 
 -- an index is one of a list
 abbrev pub Among : ℕ → List ℕ → Type 0
@@ -39,7 +39,7 @@ AreApart is js = (i : ℕ) → Among i is → Among i js → ⊥
 
 -- the references of one hash along a chain
 abbrev pub refs_along : List Node → ℕ → ℕ → List RowRef
-refs_along ns head hash = map row_of (filter (λ n. n.hash == hash) (map (node_at ns) (chain ns head)))
+refs_along ns head hash = map (λ n. n.reference) (filter (λ n. n.hash == hash) (map (node_at ns) (chain ns head)))
 
 -- where a pair is along a chain, or that it isn't
 pub record Finds (ns : List Node) (head hash : ℕ) (reference : RowRef) (at : ℕ) : Type 0 where

@@ -1,16 +1,16 @@
 -- Nodes and the pairs in them. No public clause cites this module.
-use Rattle.std.specs.Prelude.{◌≡◌, ℕ, ◌/◌, ◌%◌, Bool, nat_lt, List, slice_index_or}
+use Rattle.std.specs.Prelude.{◌≡◌, ℕ, Bool, nat_lt, List, slice_index_or}
 use Rattle.mm_value.specs.declared.row_ref.RowRef.{RowRef}
 use Rattle.mlhash.specs.declared.node.Node.{Node}
 use Rattle.mlhash.specs.declared.node.TheConstants.{NIL, FREE}
 
 -- a node of zeros, which stands for what is past the end of a list
 abbrev pub blank : Node
-blank = record { hash = 0; number = 0; next = 0 }
+blank = record { hash = 0; reference = record { slot = 0 }; next = 0 }
 
 -- a new node, with nothing in it and no other behind it
 abbrev pub free_node : Node
-free_node = record { hash = 0; number = FREE; next = NIL }
+free_node = record { hash = 0; reference = FREE; next = NIL }
 
 -- the node at an index
 abbrev pub node_at : List Node → ℕ → Node
@@ -18,21 +18,13 @@ node_at ns i = slice_index_or ns i blank
 
 -- a node holds an entry
 abbrev pub is_live : Node → Bool
-is_live n = nat_lt n.number FREE
-
--- the reference that a number stands for: 64 slots a partition
-abbrev pub row_ref : ℕ → RowRef
-row_ref number = record { part = number / 64; slot = number % 64 }
-
--- the reference in a node
-abbrev pub row_of : Node → RowRef
-row_of n = row_ref n.number
+is_live n = nat_lt n.reference.slot FREE.slot
 
 -- the pair in a node
 abbrev pub pair_of : Node → ℕ × RowRef
-pair_of n = (n.hash, row_of n)
+pair_of n = (n.hash, n.reference)
 
 -- two nodes that differ in their links alone
 pub record SameEntry (m n : Node) : Type 0 where
   pub hash : n.hash ≡ m.hash
-  pub number : n.number ≡ m.number
+  pub reference : n.reference ≡ m.reference

@@ -1,16 +1,12 @@
 //! Where entries are likely to stand.
-ghost use Rattle.std.specs.Prelude.{◌≡◌, ◌≢◌, ℕ, ◌+◌, ◌*◌, ◌-◌, ◌^◌, [], ◌++◌, min, replicate, slice_index_or, slice_set};
+ghost use Rattle.std.specs.Prelude.{◌≡◌, ◌≢◌, ℕ, [], ◌++◌, replicate, slice_index_or, slice_set};
 
 use crate::node::NIL;
 use mm_value::RowRef;
 use std::alloc::Global;
 use std::marker::Model;
 
-/// How many slots a partition has.
-const SLOTS: usize = 64;
-
-/// For the slot of each row, partition after partition, the node that last took an entry of its
-/// reference, or `NIL`.
+/// For each slot of a table the node that last took an entry of a reference to it, or `NIL`.
 ///
 /// All that it says is a hint. Since then the node may have been freed or have got another entry, and
 /// so whoever asks looks at the node. In return nothing has to keep it complete: a reference whose
@@ -26,15 +22,6 @@ impl Model for Directory {
     ghost Value = { List ℕ };
 
     ghost view = { λ d. d.nodes.items };
-}
-
-/// Where the slot of a reference lies among all slots. What is past `usize` is its greatest number,
-/// and no vector has so many places.
-fn index_of(reference: RowRef) -> usize
-    ensures { result ≡ min (64 * reference.part + reference.slot) (2 ^ 64 - 1) }
-{
-    let first = reference.part.saturating_mul(SLOTS);
-    first.saturating_add(usize::from(reference.slot))
 }
 
 impl Directory {
@@ -58,9 +45,9 @@ impl Directory {
 
     /// The node to look at for an entry of this reference, `NIL` where there is no hint.
     pub(crate) fn hint(&self, reference: RowRef) -> u32
-        ensures { result ≡ slice_index_or self.now (64 * reference.part + reference.slot) NIL }
+        ensures { result ≡ slice_index_or self.now reference.slot NIL }
     {
-        let index = index_of(reference);
+        let index = reference.slot as usize;
         if index < self.nodes.len() {
             self.nodes[index]
         } else {
@@ -70,9 +57,9 @@ impl Directory {
 
     /// Keeps in mind that this node took an entry of the reference, where there is a place for it.
     pub(crate) fn note(&mut self, reference: RowRef, node: u32)
-        ensures { self.new ≡ slice_set self.old (64 * reference.part + reference.slot) node }
+        ensures { self.new ≡ slice_set self.old reference.slot node }
     {
-        let index = index_of(reference);
+        let index = reference.slot as usize;
         if index < self.nodes.len() {
             self.nodes[index] = node;
         }
@@ -81,7 +68,7 @@ impl Directory {
     /// Keeps in mind that the entry of the reference in one node is in another one now. Where it stayed, there is nothing
     /// to write.
     pub(crate) fn note_move(&mut self, reference: RowRef, from: u32, to: u32)
-        ensures moved { from ≢ to → self.new ≡ slice_set self.old (64 * reference.part + reference.slot) to }
+        ensures moved { from ≢ to → self.new ≡ slice_set self.old reference.slot to }
         ensures stayed { from ≡ to → self.new ≡ self.old }
     {
         if from != to {

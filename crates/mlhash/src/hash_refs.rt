@@ -11,7 +11,7 @@ use crate::chains::{deal, find_by_hint};
 use crate::directory::Directory;
 use crate::heads::Heads;
 use crate::matching::Matching;
-use crate::node::{FREE, NIL, Node, number_of};
+use crate::node::{FREE, NIL, Node};
 use crate::place::{Place, bucket_of, place_after, place_before};
 use mm_value::RowRef;
 use std::alloc::{AllocError, Global};
@@ -68,7 +68,7 @@ fn stock(nodes: &mut Vec<Node>, free: u32) -> u32
     let fresh = nodes.len() as u32;
     nodes.push_reserved(Node {
         hash: 0,
-        number: FREE,
+        reference: FREE,
         next: NIL,
     });
     fresh
@@ -131,7 +131,7 @@ impl HashRefs {
         Ok(())
     }
 
-    /// Puts a pair in, in room that is there. The reference is kept in four bytes, and so it has to be small.
+    /// Puts a pair in, in room that is there. The reference to slot 2^32 - 1 marks free nodes, and so it cannot be put in.
     pub fn insert(&mut self, hash: u64, reference: RowRef)
         requires room { 0 < self.old.spare }
         requires small { IsSmall reference }
@@ -145,8 +145,8 @@ impl HashRefs {
     /// Takes one such pair out. False where it holds none, and then all is as before.
     ///
     /// The time does not depend on how many pairs share the hash if the pair is the last one inserted for its reference, and the
-    /// number of the reference's slot was below the room for pairs both at that insert and at the last `reserve`. Otherwise it
-    /// walks the chain of the hash.
+    /// reference's slot was below the room for pairs both at that insert and at the last `reserve`. Otherwise it walks the chain
+    /// of the hash.
     pub fn remove(&mut self, hash: u64, reference: RowRef) -> bool
         ensures found { IsTrue result ↔ Contains self.old.entries (hash, reference) }
         ensures entries { OnTrue result (IsPermutation self.old.entries ((hash, reference) ∷ self.new.entries)) }
@@ -198,7 +198,7 @@ impl HashRefs {
         out.reserve(self.len)?;
         for node in &self.nodes {
             if node.is_live() {
-                out.push_reserved(node.row());
+                out.push_reserved(node.reference);
             }
         }
         Ok(())
@@ -211,14 +211,13 @@ impl HashRefs {
         ensures entries { IsPermutation self.new.entries ((hash, reference) ∷ self.old.entries) }
         ensures spare { self.new.spare + 1 ≡ self.old.spare }
     {
-        let number = number_of(reference);
         let at = stock(&mut self.nodes, self.free);
         let bucket = bucket_of(self.place, hash);
         let node = &mut self.nodes[at as usize];
         self.free = node.next;
         *node = Node {
             hash,
-            number,
+            reference,
             next: self.heads.get(bucket),
         };
         self.heads.set(bucket, at);
@@ -244,16 +243,16 @@ impl HashRefs {
         let next = self.nodes[at as usize].next;
         self.nodes[at as usize] = Node {
             hash: first.hash,
-            number: first.number,
+            reference: first.reference,
             next,
         };
         self.nodes[head as usize] = Node {
             hash: 0,
-            number: FREE,
+            reference: FREE,
             next: self.free,
         };
         self.heads.set(bucket, first.next);
-        self.directory.note_move(first.row(), head, at);
+        self.directory.note_move(first.reference, head, at);
         self.free = head;
         self.len -= 1;
         true

@@ -61,7 +61,7 @@ impl<'a> Iterator for Matching<'a> {
         }
         let node = &self.nodes[at as usize];
         self.at = node.next;
-        Some(node.row())
+        Some(node.reference)
     }
 }
 

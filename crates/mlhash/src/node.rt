@@ -1,24 +1,13 @@
 //! Chain nodes.
-ghost use Rattle.std.specs.Prelude.{◌≡◌, ◌<◌, ◌↔◌, IsTrue};
-ghost use Rattle.mlhash.specs.Bag.{IsSmall};
-ghost use Rattle.mlhash.specs.Pairs.{row_ref};
+ghost use Rattle.std.specs.Prelude.{◌≡◌, ◌↔◌, IsTrue};
 
 use mm_value::RowRef;
 
 /// The link that leads nowhere: the end of a chain.
 pub(crate) const NIL: u32 = u32::MAX;
 
-/// The number of no reference: that of a free node.
-pub(crate) const FREE: u32 = u32::MAX;
-
-/// The number of a reference: 64 slots a partition.
-pub(crate) fn number_of(reference: RowRef) -> u32
-    requires { IsSmall reference }
-    ensures value { row_ref result ≡ reference }
-    ensures below { result < FREE }
-{
-    (reference.part * 64 + reference.slot as usize) as u32
-}
+/// The reference of a free node. No entry has it.
+pub(crate) const FREE: RowRef = RowRef { slot: u32::MAX };
 
 /// A node of a chain: one entry, or a free place. Its 16 bytes, 4 of the directory and the 4 of a
 /// bucket's head for two entries are all that an entry takes.
@@ -26,36 +15,26 @@ pub(crate) fn number_of(reference: RowRef) -> u32
 pub(crate) struct Node {
     /// The hash of the entry.
     pub(crate) hash: u64,
-    /// The number of the entry's reference, `FREE` where the node holds none.
-    pub(crate) number: u32,
+    /// The reference of the entry, `FREE` where the node holds none.
+    pub(crate) reference: RowRef,
     /// The next node of the chain.
     pub(crate) next: u32,
 }
 
 impl Node {
-    ghost use Rattle.mlhash.specs.Pairs.{is_live, row_of, pair_of};
+    ghost use Rattle.mlhash.specs.Pairs.{is_live, pair_of};
 
     /// Whether the node holds an entry.
     pub(crate) fn is_live(&self) -> bool
         ensures { result ≡ is_live self.now }
     {
-        self.number < FREE
-    }
-
-    /// The reference of the entry.
-    pub(crate) fn row(&self) -> RowRef
-        ensures { result ≡ row_of self.now }
-    {
-        RowRef {
-            part: (self.number / 64) as usize,
-            slot: (self.number % 64) as u8,
-        }
+        self.reference.slot < FREE.slot
     }
 
     /// Whether the entry has this hash and reference.
     pub(crate) fn has(&self, hash: u64, reference: RowRef) -> bool
         ensures { IsTrue result ↔ (pair_of self.now ≡ (hash, reference)) }
     {
-        self.hash == hash && self.row() == reference
+        self.hash == hash && self.reference == reference
     }
 }

@@ -1,5 +1,5 @@
 -- What is found by hash among the edits of a table.
-use Rattle.std.specs.Prelude.{◌≡◌, ℕ, ℤ, ◌&&◌, FitsSigned, eqb, Bool, List, [], Some, filter_map, map}
+use Rattle.std.specs.Prelude.{◌≡◌, ℕ, ℤ, FitsSigned, eqb, List, [], Some, filter_map, map}
 use Rattle.std.specs.Int.{w64}
 use Rattle.std.specs.List.{list_any}
 use Rattle.std.specs.Map.{lookup}
@@ -14,13 +14,9 @@ use Rattle.mm_value.specs.declared.values.Value.TheVariants.{Int}
 use Rattle.mm_delta.specs.Steps.{coming, takes}
 use Rattle.mm_relation.specs.declared.edits.Edit.{Edit}
 
--- The part and the slot are those of a reference.
-abbrev pub is_key_of : RowRef → ℕ × ℕ → Bool
-is_key_of at key = eqb at.part key.0 && eqb at.slot key.1
-
--- The keys are those of the references that the edits take away.
-abbrev pub AreGone : List Edit → List (ℕ × ℕ) → Type 0
-AreGone edits keys = (at : RowRef) → list_any (is_key_of at) keys ≡ list_any (takes at) edits
+-- The slots are those of the rows that the edits take away.
+abbrev pub AreGone : List Edit → List ℕ → Type 0
+AreGone edits slots = (at : RowRef) → list_any (eqb at.slot) slots ≡ list_any (takes at) edits
 
 -- The rows that stand under a value: none where it has no entry.
 abbrev pub rows_under : {Z : Type 0} → Value → List (Value × Vec RowRead Z) → List (List Value)

@@ -1,9 +1,9 @@
 //! What is found by hash among the edits of a table.
-ghost use Rattle.std.specs.Prelude.{◌≡◌, ◌++◌, ◌||◌, filter, filter_map, map, All, IfOk, IfSome, OnOk};
+ghost use Rattle.std.specs.Prelude.{◌≡◌, ◌++◌, ◌||◌, eqb, filter, filter_map, map, All, IfOk, IfSome, OnOk};
 ghost use Rattle.std.specs.List.{list_any};
 ghost use Rattle.mm_partition.specs.Reads.{row_read};
 ghost use Rattle.mm_value.specs.declared.row_ref.RowRef.{RowRef as Reference};
-ghost use Rattle.mm_delta.specs.EditIndex.{AreGone, AreUnder, HasNonePast, is_key_of};
+ghost use Rattle.mm_delta.specs.EditIndex.{AreGone, AreUnder, HasNonePast};
 ghost use Rattle.mm_delta.specs.Steps.{asked, coming, stays, takes};
 
 use crate::coming_index::ComingIndex;
@@ -21,7 +21,7 @@ use std::marker::Model;
 #[derive(Drop)]
 pub(crate) struct EditIndex<'c> {
     edits: &'c [Edit],
-    gone: IndexSet<(usize, u8)>,
+    gone: IndexSet<u32>,
     coming: Vec<ComingIndex<'c>>,
 }
 
@@ -58,7 +58,7 @@ impl<'c> EditIndex<'c> {
     fn stays(&self, at: RowRef) -> bool
         ensures { result ≡ stays self.now at }
     {
-        !self.gone.contains(&(at.part, at.slot))
+        !self.gone.contains(&at.slot)
     }
 
     /// Leaves out the references of which an edit takes the row away.
@@ -100,11 +100,8 @@ impl<'c> EditIndex<'c> {
     }
 }
 
-/// The references of the rows that edits take away, part and slot of each, in a hash table. `AllocError` where memory is refused.
-pub fn references_of_gone(
-    alloc: Global,
-    edits: &[Edit],
-) -> Result<IndexSet<(usize, u8)>, AllocError>
+/// The slots of the references of the rows that edits take away, in a hash table. `AllocError` where memory is refused.
+pub fn references_of_gone(alloc: Global, edits: &[Edit]) -> Result<IndexSet<u32>, AllocError>
     ensures { IfOk result (λ gone. AreGone edits.now gone.keys) }
 {
     let mut gone = IndexSet::new(alloc);
@@ -114,12 +111,12 @@ pub fn references_of_gone(
     Ok(gone)
 }
 
-/// Adds the reference of the row that an edit takes away, if it does. `AllocError` where memory is refused.
-fn add_gone(gone: &mut IndexSet<(usize, u8)>, edit: &Edit) -> Result<(), AllocError>
-    ensures { OnOk result ((at : Reference) → list_any (is_key_of at) gone.new.keys ≡ list_any (is_key_of at) gone.old.keys || takes at edit.now) }
+/// Adds the slot of the row that an edit takes away, if it does. `AllocError` where memory is refused.
+fn add_gone(gone: &mut IndexSet<u32>, edit: &Edit) -> Result<(), AllocError>
+    ensures { OnOk result ((at : Reference) → list_any (eqb at.slot) gone.new.keys ≡ list_any (eqb at.slot) gone.old.keys || takes at edit.now) }
 {
     if let Some(at) = row_gone(edit) {
-        gone.insert((at.part, at.slot))?;
+        gone.insert(at.slot)?;
     }
     Ok(())
 }

@@ -3,6 +3,7 @@ use Rattle.std.proofs.Common.{◌≡◌, ◌≢◌, ℕ, zero, suc, ◌<◌, Lis
 use Rattle.std.proofs.Common.{refl, ap, sym, ◌∙◌, ⊎_elim, arith}
 use Rattle.std.proofs.lemmas.Bool.{cases_eq, cond-true, cond-false, eq-eqb, ne_eqb}
 use Rattle.std.proofs.lemmas.List.{get_or-map, length-map, map-append, map-set}
+use Rattle.mm_value.specs.declared.row_ref.RowRef.{RowRef}
 use Rattle.mm_foreign_key.specs.declared.slots.TheConstants.{NONE}
 use Rattle.mm_foreign_key.specs.Counts.{entry_of, entries_of, IsCounted}
 
@@ -14,16 +15,21 @@ as_many_entries numbers = length-map numbers entry_of
 pub entry_at : (numbers : List ℕ) (i d : ℕ) → i < length numbers → get_or (entries_of numbers) i None ≡ entry_of (get_or numbers i d)
 entry_at numbers i d within = get_or-map entry_of numbers i d None within
 
--- an index is kept as it is
-pub entry_of_index : (index : ℕ) → index ≢ NONE → entry_of index ≡ Some index
-entry_of_index index other = cond-false _ _ _ (ne_eqb index NONE other)
+-- a reference is kept as its slot
+pub entry_of_slot : (at : RowRef) → at.slot ≢ NONE → entry_of at.slot ≡ Some at
+entry_of_slot at other = cond-false _ _ _ (ne_eqb at.slot NONE other)
 
--- what is kept of an index is that index
-pub index_of_entry : (number index : ℕ) → entry_of number ≡ Some index → number ≡ index
-index_of_entry number index is =
+same_slot : (a b : RowRef) → Some a ≡ Some b → a.slot ≡ b.slot
+same_slot a b is =
+    let same : a ≡ b = cc in
+    ap (λ (at : RowRef). at.slot) same
+
+-- what is kept of a reference is its slot
+pub slot_of_entry : (number : ℕ) (at : RowRef) → entry_of number ≡ Some at → number ≡ at.slot
+slot_of_entry number at is =
     ⊎_elim
-    (λ (same : number ≡ NONE). let both : None ≡ Some index = sym (cond-true _ _ _ (eq-eqb number NONE same)) ∙ is in cc)
-    (λ (other : number ≢ NONE). let both : Some number ≡ Some index = sym (entry_of_index number other) ∙ is in cc)
+    (λ (same : number ≡ NONE). let both : None ≡ Some at = sym (cond-true _ _ _ (eq-eqb number NONE same)) ∙ is in cc)
+    (λ (other : number ≢ NONE). same_slot (record { slot = number }) at (sym (entry_of_slot (record { slot = number }) other) ∙ is))
     (cases_eq number NONE)
 
 -- the entries after a number is written
@@ -32,15 +38,15 @@ entries-set numbers i number = map-set entry_of numbers i number
 
 none_entries : (more : ℕ) → entries_of (replicate more NONE) ≡ replicate more None
 none_entries zero = refl
-none_entries (suc more) = ap (λ (entries : List (Option ℕ)). None ∷ entries) (none_entries more)
+none_entries (suc more) = ap (λ (entries : List (Option RowRef)). None ∷ entries) (none_entries more)
 
 -- the entries of a list that grew by entries of no slot
 pub entries-grown : (numbers : List ℕ) (more : ℕ) → entries_of (numbers ++ replicate more NONE) ≡ entries_of numbers ++ replicate more None
 entries-grown numbers more =
-    map-append entry_of numbers (replicate more NONE) ∙ ap (λ (entries : List (Option ℕ)). entries_of numbers ++ entries) (none_entries more)
+    map-append entry_of numbers (replicate more NONE) ∙ ap (λ (entries : List (Option RowRef)). entries_of numbers ++ entries) (none_entries more)
 
--- the entries after the index of a slot that has a count is written
-pub entries-tied : (numbers : List ℕ) (i target : ℕ) (counts : List ℕ) → target < length counts → IsCounted (entries_of numbers) counts
-    → entries_of (set numbers i target) ≡ set (entries_of numbers) i (Some target)
+-- the entries after the slot of a row that has a count is written
+pub entries-tied : (numbers : List ℕ) (i : ℕ) (target : RowRef) (counts : List ℕ) → target.slot < length counts → IsCounted (entries_of numbers) counts
+    → entries_of (set numbers i target.slot) ≡ set (entries_of numbers) i (Some target)
 entries-tied numbers i target counts within counted =
-    entries-set numbers i target ∙ ap (set (entries_of numbers) i) (entry_of_index target (omega (arith, within, counted.places)))
+    entries-set numbers i target.slot ∙ ap (set (entries_of numbers) i) (entry_of_slot target (omega (arith, within, counted.places)))

@@ -1,23 +1,24 @@
 -- How targets are kept, and the referrers of each row are counted. No public clause cites this module.
 use Rattle.std.specs.Prelude.{◌≡◌, ℕ, ◌<◌, ◌^◌, ◌==◌, Bool, false, List, length, map, Option, Some, None, slice_index_or, count_by, if◌then◌else◌}
+use Rattle.mm_value.specs.declared.row_ref.RowRef.{RowRef}
 use Rattle.mm_foreign_key.specs.declared.slots.TheConstants.{NONE}
 
--- the index of a slot that a number is, none where it stands for no slot
-abbrev pub entry_of : ℕ → Option ℕ
-entry_of number = (if number == NONE then None else Some number)
+-- the reference that a number is, none where it stands for no slot
+abbrev pub entry_of : ℕ → Option RowRef
+entry_of number = (if number == NONE then None else Some (record { slot = number }))
 
 -- the entries that numbers are
-abbrev pub entries_of : List ℕ → List (Option ℕ)
+abbrev pub entries_of : List ℕ → List (Option RowRef)
 entries_of numbers = map entry_of numbers
 
 -- the entry is that of a row which refers to the row at this place
-abbrev pub refers_to : ℕ → Option ℕ → Bool
+abbrev pub refers_to : ℕ → Option RowRef → Bool
 refers_to place None = false
-refers_to place (Some target) = target == place
+refers_to place (Some target) = target.slot == place
 
 -- The count of a place is how many entries refer to it, and none refers to a place that has no count. Indexes and counts
 -- fit into 32 bits.
-pub record IsCounted (targets : List (Option ℕ)) (counts : List ℕ) : Type 0 where
+pub record IsCounted (targets : List (Option RowRef)) (counts : List ℕ) : Type 0 where
   pub counted : (place : ℕ) → slice_index_or counts place 0 ≡ count_by (refers_to place) targets
   pub referrers : length targets < 2 ^ 32
   pub places : length counts < 2 ^ 32

@@ -1,7 +1,6 @@
 -- Which row each row refers to.
-use Rattle.std.specs.Prelude.{◌≡◌, ◌≢◌, ℕ, ◌/◌, ◌%◌, List, Option, Some, None, slice_index_or, nat_lt, if◌then◌else◌}
+use Rattle.std.specs.Prelude.{◌≡◌, ◌≢◌, ℕ, List, Option, Some, None, slice_index_or}
 use Rattle.mm_value.specs.declared.row_ref.RowRef.{RowRef}
-use Rattle.mm_partition.specs.Places.{slot_index_of}
 
 -- Ties: for each slot of the referring table the row that its row refers to, and how many slots of the target table have
 -- a count of referrers.
@@ -9,13 +8,9 @@ pub record Ties : Type 0 where
   pub targets : List (Option RowRef)
   pub extent : ℕ
 
--- the reference whose slot has this index
-abbrev pub reference_at : ℕ → RowRef
-reference_at index = record { part = index / 64; slot = index % 64 }
-
 -- the row that a row refers to: none where there is no such slot
 abbrev pub target_at : Ties → RowRef → Option RowRef
-target_at ties from = (if nat_lt from.slot 64 then slice_index_or ties.targets (slot_index_of from) None else None)
+target_at ties from = slice_index_or ties.targets from.slot None
 
 -- the row refers to some row
 abbrev pub HasTarget : Ties → RowRef → Type 0

@@ -1,10 +1,9 @@
 //! The tuple references of one foreign key.
 ghost use Rattle.std.specs.Prelude.{◌≡◌, ◌+◌, ◌<◌, ◌≤◌, ◌↔◌, ◌^◌, ◌++◌, ℕ, max, Some, None, length, vec_len, vec_capacity, replicate, IsTrue, IsOk, OnOk, OnErr};
-ghost use Rattle.mm_partition.specs.Places.{slot_index_of};
 ghost use Rattle.mm_foreign_key.specs.declared.foreign_key.TheConstants.{MAX_SLOTS};
 ghost use Rattle.mm_foreign_key.specs.Ties.{target_at, HasTarget, IsReferred, KeepsTargets, ChangesTarget};
 
-use crate::slots::{NONE, SLOTS, index_of, reference_to};
+use crate::slots::{NONE, reference_to};
 use mm_value::RowRef;
 use std::alloc::{AllocError, Global};
 use std::marker::Model;
@@ -18,10 +17,9 @@ const MAX_SLOTS: usize = u32::MAX as usize;
 /// reference needs no search, and neither does the question whether a row is referred to: beside the
 /// rows of the target table stands how many refer to each.
 ///
-/// It knows a row by its reference alone, whose slot has the index `64 * part + slot`, and has an entry
-/// for each index of the referring table and a count for each of the target table, at most 2^32 - 1 of
-/// either. No call but `reserve` takes memory, and each of the others takes the same time however many
-/// rows there are.
+/// It knows a row by its reference alone, and has an entry for each slot of the referring table and a count
+/// for each of the target table, at most 2^32 - 1 of either. No call but `reserve` takes memory, and each of
+/// the others takes the same time however many rows there are.
 #[derive(Drop)]
 pub struct ForeignKey {
     /// By the slot index of a row, the slot index of the row that it refers to, `NONE` where it refers to none.
@@ -31,16 +29,15 @@ pub struct ForeignKey {
 }
 
 impl Model for ForeignKey {
-    ghost use Rattle.std.specs.Prelude.{map, length};
-    ghost use Rattle.std.specs.Option.{option_map};
-    ghost use Rattle.mm_foreign_key.specs.Ties.{Ties, reference_at};
+    ghost use Rattle.std.specs.Prelude.{length};
+    ghost use Rattle.mm_foreign_key.specs.Ties.{Ties};
 
     ghost Value = { Ties };
 
     ghost use Rattle.mm_foreign_key.specs.Counts.{IsCounted, entries_of};
 
     ghost view = { λ key. record {
-      targets = map (option_map reference_at) (entries_of key.targets.items);
+      targets = entries_of key.targets.items;
       extent = length key.counts.items;
     } };
 
@@ -115,8 +112,8 @@ impl ForeignKey {
     pub fn target(&self, from: RowRef) -> Option<RowRef>
         ensures { result ≡ target_at self.now from }
     {
-        let index = index_of(from);
-        if usize::from(from.slot) >= SLOTS || index >= self.targets.len() {
+        let index = from.slot as usize;
+        if index >= self.targets.len() {
             return None;
         }
         reference_to(self.targets[index])
@@ -124,28 +121,24 @@ impl ForeignKey {
 
     /// Whether some row refers to a row.
     pub fn is_referred(&self, to: RowRef) -> bool
-        requires { to.slot < 64 }
         ensures { IsTrue result ↔ IsReferred self.now to }
     {
-        let index = index_of(to);
+        let index = to.slot as usize;
         index < self.counts.len() && self.counts[index] > 0
     }
 
     /// Has a row refer to a row, where it referred to none. There is an entry for the one and a count for
     /// the other.
     pub fn tie(&mut self, from: RowRef, to: RowRef)
-        requires from_slot { from.slot < 64 }
-        requires to_slot { to.slot < 64 }
-        requires from_within { slot_index_of from < length self.old.targets }
-        requires to_within { slot_index_of to < self.old.extent }
+        requires from_within { from.slot < length self.old.targets }
+        requires to_within { to.slot < self.old.extent }
         requires untied { target_at self.old from ≡ None }
         ensures tied { ChangesTarget self.old self.new from (Some to) }
         ensures referrers { length self.new.targets ≡ length self.old.targets }
         ensures extent { self.new.extent ≡ self.old.extent }
     {
-        let place = index_of(to);
-        self.counts[place] += 1;
-        self.targets[index_of(from)] = place as u32;
+        self.counts[to.slot as usize] += 1;
+        self.targets[from.slot as usize] = to.slot;
     }
 
     /// Has a row refer to none, where it referred to one.
@@ -155,7 +148,7 @@ impl ForeignKey {
         ensures referrers { length self.new.targets ≡ length self.old.targets }
         ensures extent { self.new.extent ≡ self.old.extent }
     {
-        let place = mem::replace(&mut self.targets[index_of(from)], NONE);
+        let place = mem::replace(&mut self.targets[from.slot as usize], NONE);
         self.counts[place as usize] -= 1;
     }
 }

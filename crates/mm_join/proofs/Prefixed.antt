@@ -63,7 +63,7 @@ pub walk_rises : (column : ℕ) (stored : StoredRows) (walk : List RowRef) → I
 walk_rises column stored walk is_walk =
     let slots : Slots = slot_at stored.places in
     let made : RowRef → Entry = entry_of column slots in
-    let d : RowRef = record { part = 0; slot = 0 } in
+    let d : RowRef = record { slot = 0 } in
     IsNonDecreasingBy-from_default (λ (e : Entry). e.prefix) (map made walk) (made d) (λ i j upto within.
     let inside : j < length walk = omega (arith, within, length-map walk made) in
     let one : (get_or (map made walk) i (made d)).prefix ≡ prefix_of column stored.key slots (get_or walk i d) =

@@ -109,9 +109,9 @@ fn partner(view: &View<'_>, outer: Outer<'_>, field: FieldPlace) -> RowRef
     requires reference { field.place < length outer.refs.now }
     requires refers { (to : ℕ) × Contains view.now.store.links (record { from = slice_index outer.tables.now field.place; column = field.column; to = to }) }
     requires live { (stored : StoredRows) → IsAt view.now.store (slice_index outer.tables.now field.place) stored
-        → IsLive stored.places (slice_index_or outer.refs.now field.place (record { part = 0; slot = 0 })) }
+        → IsLive stored.places (slice_index_or outer.refs.now field.place (record { slot = 0 })) }
     ensures { IsPartner view.now.store (slice_index outer.entry.tables.now field.place) field.column
-        (slice_index_or outer.entry.refs.now field.place (record { part = 0; slot = 0 })) result }
+        (slice_index_or outer.entry.refs.now field.place (record { slot = 0 })) result }
 {
     view.follow(
         outer.tables[field.place],

@@ -11,22 +11,21 @@ use Rattle.mm_value.specs.declared.values.Value.{Value}
 use Rattle.mm_partition.specs.Places.{Content, Free, Hidden, IsLive, Live, Places, slot_at}
 use Rattle.mlhash.specs.Bag.{refs_of}
 use Rattle.mm_multiset.specs.RowHash.{row_hash}
-use Rattle.mm_multiset.specs.Slots.{pair_of, pairs_from, reference_to}
-use Rattle.mm_multiset.proofs.SlotLists.{slot_by_index}
+use Rattle.mm_multiset.specs.Slots.{pair_of, pairs_from}
 
 -- What holds of the pair of each live slot holds of all pairs.
 all_pairs : (P : ℕ × RowRef → Type 0) (i : ℕ) (slots : List Content)
-    → ((k : ℕ) (row : List Value) → get_or slots k Free ≡ Live row → P (row_hash row, reference_to (i + k))) → All P (pairs_from i slots)
+    → ((k : ℕ) (row : List Value) → get_or slots k Free ≡ Live row → P (row_hash row, record { slot = i + k })) → All P (pairs_from i slots)
 all_pairs P i [] each = All-nil P
 all_pairs P i (slot ∷ slots) each =
     All-append P (pair_of i slot) (pairs_from (suc i) slots)
-    (first slot (λ row is. subst (λ n. P (row_hash row, reference_to n)) (let e : i + 0 ≡ i = omega arith in e) (each zero row is)))
+    (first slot (λ row is. subst (λ n. P (row_hash row, record { slot = n })) (let e : i + 0 ≡ i = omega arith in e) (each zero row is)))
     (all_pairs P (suc i) slots
-    (λ k row is. subst (λ n. P (row_hash row, reference_to n)) (let e : i + suc k ≡ suc i + k = omega arith in e) (each (suc k) row is)))
+    (λ k row is. subst (λ n. P (row_hash row, record { slot = n })) (let e : i + suc k ≡ suc i + k = omega arith in e) (each (suc k) row is)))
   where
-    first : (s : Content) → ((row : List Value) → s ≡ Live row → P (row_hash row, reference_to i)) → All P (pair_of i s)
+    first : (s : Content) → ((row : List Value) → s ≡ Live row → P (row_hash row, record { slot = i })) → All P (pair_of i s)
     first Free here = All-nil P
-    first (Live row) here = All-cons P (row_hash row, reference_to i) [] (here row refl) (All-nil P)
+    first (Live row) here = All-cons P (row_hash row, record { slot = i }) [] (here row refl) (All-nil P)
     first (Hidden row) here = All-nil P
 
 one : {X : Type 0} (x : X) → Contains (x ∷ []) x
@@ -34,15 +33,15 @@ one x = Contains-push [] x
 
 -- The pair of a live slot is there.
 pub pair_there : (i : ℕ) (slots : List Content) (k : ℕ) (row : List Value) → get_or slots k Free ≡ Live row
-    → Contains (pairs_from i slots) (row_hash row, reference_to (i + k))
+    → Contains (pairs_from i slots) (row_hash row, record { slot = i + k })
 pair_there i [] k row is = absurd (let no : Free ≡ Live row = is in let f : ⊥ = cc in f)
 pair_there i (slot ∷ slots) zero row is =
-    subst (λ n. Contains (pairs_from i (slot ∷ slots)) (row_hash row, reference_to n)) (let e : i ≡ i + 0 = omega arith in e)
-    (Contains-append_left (pair_of i slot) (pairs_from (suc i) slots) (row_hash row, reference_to i)
-    (subst (λ s. Contains (pair_of i s) (row_hash row, reference_to i)) (sym is) (one (row_hash row, reference_to i))))
+    subst (λ n. Contains (pairs_from i (slot ∷ slots)) (row_hash row, record { slot = n })) (let e : i ≡ i + 0 = omega arith in e)
+    (Contains-append_left (pair_of i slot) (pairs_from (suc i) slots) (row_hash row, record { slot = i })
+    (subst (λ s. Contains (pair_of i s) (row_hash row, record { slot = i })) (sym is) (one (row_hash row, record { slot = i }))))
 pair_there i (slot ∷ slots) (suc k) row is =
-    subst (λ n. Contains (pairs_from i (slot ∷ slots)) (row_hash row, reference_to n)) (let e : suc i + k ≡ i + suc k = omega arith in e)
-    (Contains-append_right (pair_of i slot) (pairs_from (suc i) slots) (row_hash row, reference_to (suc i + k)) (pair_there (suc i) slots k row is))
+    subst (λ n. Contains (pairs_from i (slot ∷ slots)) (row_hash row, record { slot = n })) (let e : suc i + k ≡ i + suc k = omega arith in e)
+    (Contains-append_right (pair_of i slot) (pairs_from (suc i) slots) (row_hash row, record { slot = suc i + k }) (pair_there (suc i) slots k row is))
 
 -- What holds of the references of a hash holds of each pair that has it.
 of_hash : (P : RowRef → Type 0) (hash : ℕ) (pairs : List (ℕ × RowRef)) → All P (refs_of hash pairs) → All (λ p. p.0 ≡ hash → P p.1) pairs
@@ -68,7 +67,7 @@ module _ (places : Places) (pairs : List (ℕ × RowRef)) (hashed : IsPermutatio
       (All-filter (λ (e : ℕ × RowRef). e.0 == hash) (λ (e : ℕ × RowRef). IsLive places e.1) pairs
       (All-permutation (λ (e : ℕ × RowRef). IsLive places e.1) (pairs_from 0 places.slots) pairs (IsPermutation-sym pairs (pairs_from 0 places.slots) hashed)
       (all_pairs (λ (e : ℕ × RowRef). IsLive places e.1) 0 places.slots
-      (λ k row is. (row, slot_by_index places (0 + k) ∙ (ap (λ n. get_or places.slots n Free) (let e : 0 + k ≡ k = omega arith in e) ∙ is)))))))
+      (λ k row is. (row, ap (λ n. get_or places.slots n Free) (let e : 0 + k ≡ k = omega arith in e) ∙ is))))))
 
   -- Where none of them has the row, no slot has it.
   pub none_found : (row : List Value) → hash ≡ row_hash row → All (λ at. slot_at places at ≢ Live row) found
@@ -79,6 +78,6 @@ module _ (places : Places) (pairs : List (ℕ × RowRef)) (hashed : IsPermutatio
       All-permutation (λ (p : ℕ × RowRef). p.0 ≡ hash → other p.1) pairs (pairs_from 0 places.slots) hashed
       (of_hash other hash pairs (All-permutation other found (refs_of hash pairs) are none))
       in
-      All-contains (λ (p : ℕ × RowRef). p.0 ≡ hash → other p.1) (pairs_from 0 places.slots) (row_hash row, reference_to (0 + i)) all
+      All-contains (λ (p : ℕ × RowRef). p.0 ≡ hash → other p.1) (pairs_from 0 places.slots) (row_hash row, record { slot = 0 + i }) all
       (pair_there 0 places.slots i row here) (sym is)
-      (slot_by_index places (0 + i) ∙ (ap (λ n. get_or places.slots n Free) (let e : 0 + i ≡ i = omega arith in e) ∙ here))
+      (ap (λ n. get_or places.slots n Free) (let e : 0 + i ≡ i = omega arith in e) ∙ here)

@@ -13,18 +13,17 @@ abbrev Pair : Type 0
 Pair = ℕ × RowRef
 
 same_pair : Pair → Pair → Bool
-same_pair p q = eqb p.0 q.0 && (eqb p.1.part q.1.part && eqb p.1.slot q.1.slot)
+same_pair p q = eqb p.0 q.0 && eqb p.1.slot q.1.slot
 
 told : (p q : Pair) → same_pair p q ≡ true → p ≡ q
 unfolding same_pair
 told p q e =
-    let parts = and_parts (eqb p.0 q.0) (eqb p.1.part q.1.part && eqb p.1.slot q.1.slot) e in
-    let places = and_parts (eqb p.1.part q.1.part) (eqb p.1.slot q.1.slot) parts.1 in
-    λ i. (eqb-true p.0 q.0 parts.0 i, record { part = eqb-true p.1.part q.1.part places.0 i; slot = eqb-true p.1.slot q.1.slot places.1 i })
+    let parts = and_parts (eqb p.0 q.0) (eqb p.1.slot q.1.slot) e in
+    λ i. (eqb-true p.0 q.0 parts.0 i, record { slot = eqb-true p.1.slot q.1.slot parts.1 i })
 
 itself : (p : Pair) → same_pair p p ≡ true
 unfolding same_pair
-itself p = rw (eq-eqb p.0 p.0 refl, eq-eqb p.1.part p.1.part refl, eq-eqb p.1.slot p.1.slot refl)
+itself p = rw (eq-eqb p.0 p.0 refl, eq-eqb p.1.slot p.1.slot refl)
 
 -- one where a pair is this one, else 0
 one : Pair → Pair → ℕ

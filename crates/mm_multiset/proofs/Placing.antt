@@ -4,14 +4,14 @@ use Rattle.std.specs.Prelude.{IsPermutation}
 use Rattle.std.proofs.lemmas.List.Sorted.{IsPermutation-cons, IsPermutation-sym, IsPermutation-trans}
 use Rattle.mm_value.specs.declared.row_ref.RowRef.{RowRef}
 use Rattle.mm_value.specs.declared.values.Value.{Value}
-use Rattle.mm_partition.specs.Places.{ChangesOnly, Content, Free, Hidden, Live, Places, extent_of, slot_at, slot_index_of}
+use Rattle.mm_partition.specs.Places.{ChangesOnly, Content, Free, Hidden, Live, Places, extent_of, slot_at}
 use Rattle.mm_multiset.specs.Counts.{has_entry}
 use Rattle.mm_multiset.specs.RowHash.{row_hash}
-use Rattle.mm_multiset.specs.Slots.{AreMarked, IsKept, IsMarked, entries_of, no_row, pairs_from, reference_to}
+use Rattle.mm_multiset.specs.Slots.{AreMarked, IsKept, IsMarked, entries_of, no_row, pairs_from}
 use Rattle.mm_multiset.proofs.EntryBags.{once_put, once_rest}
 use Rattle.mm_multiset.proofs.Pairs.{IsPermutation-uncons}
 use Rattle.mm_multiset.proofs.SlotEntries.{Turns, turned_at, turned_end}
-use Rattle.mm_multiset.proofs.SlotLists.{live_here, live_small, live_within, slot_is, slots_push, slots_set}
+use Rattle.mm_multiset.proofs.SlotLists.{live_inside, slots_push, slots_set}
 
 abbrev pairs_of : List Content → List (ℕ × RowRef)
 pairs_of slots = pairs_from 0 slots
@@ -26,26 +26,25 @@ abbrev pub IsPut : ℕ → ℕ → List ℕ → List ℕ → Type 0
 IsPut i count old new = ((i < length old) × (new ≡ set old i count)) ⊎ ((length old ≤ i) × (new ≡ old ++ count ∷ []))
 
 module _ (old new : Places) (at : RowRef) (row : List Value) (counts new_counts : List ℕ) (count : ℕ) (marked : AreMarked old.slots counts)
-    (free : slot_at old at ≡ Free) (placed : ChangesOnly old new at (Live row)) (small : at.slot < 64)
-    (extent : extent_of new ≡ max (extent_of old) (slot_index_of at + 1)) where
+    (free : slot_at old at ≡ Free) (placed : ChangesOnly old new at (Live row))
+    (extent : extent_of new ≡ max (extent_of old) (at.slot + 1)) where
   abbrev turn : List Content → List ℕ → Type 0
-  turn slots written = Turns (slot_index_of at) old.slots slots counts written Free (Live row) no_row count
+  turn slots written = Turns at.slot old.slots slots counts written Free (Live row) no_row count
 
-  pub turned_put : slot_index_of at ≤ extent_of old → IsPut (slot_index_of at) count counts new_counts → turn new.slots new_counts
+  pub turned_put : at.slot ≤ extent_of old → IsPut at.slot count counts new_counts → turn new.slots new_counts
   turned_put within (inl (there, written)) =
-      let i : ℕ = slot_index_of at in
+      let i : ℕ = at.slot in
       let inside : i < length old.slots = omega (arith, there, marked.size) in
-      let slots : new.slots ≡ set old.slots i (Live row) = slots_set old new at (Live row) placed small (omega (arith, inside, extent)) inside in
-      let was : get_or old.slots i Free ≡ Free = sym (slot_is old at small) ∙ free in
-      let had : get_or counts i no_row ≡ no_row = free_count (get_or old.slots i Free) (get_or counts i no_row) (marked.each i) was in
+      let slots : new.slots ≡ set old.slots i (Live row) = slots_set old new at (Live row) placed (omega (arith, inside, extent)) inside in
+      let had : get_or counts i no_row ≡ no_row = free_count (get_or old.slots i Free) (get_or counts i no_row) (marked.each i) free in
       subst (λ l. turn l new_counts) (sym slots)
       (subst (turn (set old.slots i (Live row))) (sym written)
       (subst (λ n. Turns i old.slots (set old.slots i (Live row)) counts (set counts i count) Free (Live row) n count) had
-      (subst (λ s. Turns i old.slots (set old.slots i (Live row)) counts (set counts i count) s (Live row) (get_or counts i no_row) count) was
+      (subst (λ s. Turns i old.slots (set old.slots i (Live row)) counts (set counts i count) s (Live row) (get_or counts i no_row) count) free
       (turned_at i old.slots counts inside marked.size (Live row) count))))
   turned_put within (inr (past, written)) =
-      let end : slot_index_of at ≡ length old.slots = omega (arith, within, past, marked.size) in
-      let slots : new.slots ≡ old.slots ++ Live row ∷ [] = slots_push old new at (Live row) placed small (omega (arith, end, extent)) end in
+      let end : at.slot ≡ length old.slots = omega (arith, within, past, marked.size) in
+      let slots : new.slots ≡ old.slots ++ Live row ∷ [] = slots_push old new at (Live row) placed (omega (arith, end, extent)) end in
       subst (λ l. turn l new_counts) (sym slots)
       (subst (turn (old.slots ++ Live row ∷ [])) (sym written)
       (subst (λ i. Turns i old.slots (old.slots ++ Live row ∷ []) counts (counts ++ count ∷ []) Free (Live row) no_row count) (sym end)
@@ -59,20 +58,21 @@ module _ (i : ℕ) (slots new_slots : List Content) (counts new_counts : List �
         IsPermutation-trans (entries_of new_slots new_counts) ((row, count) ∷ turns.rest) ((row, count) ∷ entries_of slots counts) turns.after
         (IsPermutation-cons (row, count) turns.rest (entries_of slots counts) (IsPermutation-sym (entries_of slots counts) turns.rest turns.before))
 
-    pub kept_put : (pairs new_pairs : List (ℕ × RowRef)) (hash : ℕ) (at : RowRef) → IsKept slots counts pairs → count < no_row
-        → has_entry row (entries_of slots counts) ≡ false → hash ≡ row_hash row → at ≡ reference_to i → IsPermutation new_pairs ((hash, at) ∷ pairs)
+    pub kept_put : (pairs new_pairs : List (ℕ × RowRef)) (hash : ℕ) → IsKept slots counts pairs → count < no_row
+        → has_entry row (entries_of slots counts) ≡ false → hash ≡ row_hash row → IsPermutation new_pairs ((hash, record { slot = i }) ∷ pairs)
         → IsKept new_slots new_counts new_pairs
-    kept_put pairs new_pairs hash at kept few none is place put = record {
+    kept_put pairs new_pairs hash kept few none is put = record {
       marked = turns.marked kept.marked few;
       once = once_put row count (entries_of slots counts) (entries_of new_slots new_counts) (pos 0) kept.once none entries_put;
       hashed =
-          let same : (hash, at) ≡ (row_hash row, reference_to i) = λ j. (is j, place j) in
+          let at : RowRef = record { slot = i } in
+          let same : (hash, at) ≡ (row_hash row, at) = λ j. (is j, at) in
           let behind : IsPermutation pairs turns.pairs = IsPermutation-trans pairs (pairs_of slots) turns.pairs kept.hashed turns.pairs_before in
           IsPermutation-trans new_pairs ((hash, at) ∷ pairs) (pairs_of new_slots) put
           (IsPermutation-trans ((hash, at) ∷ pairs) ((hash, at) ∷ turns.pairs) (pairs_of new_slots)
           (IsPermutation-cons (hash, at) pairs turns.pairs behind)
           (subst (λ p. IsPermutation (p ∷ turns.pairs) (pairs_of new_slots)) (sym same)
-          (IsPermutation-sym (pairs_of new_slots) ((row_hash row, reference_to i) ∷ turns.pairs) turns.pairs_after)));
+          (IsPermutation-sym (pairs_of new_slots) ((row_hash row, at) ∷ turns.pairs) turns.pairs_after)));
     }
 
   module _ (turns : Turns i slots new_slots counts new_counts (Live row) Free count no_row) where
@@ -83,15 +83,16 @@ module _ (i : ℕ) (slots new_slots : List Content) (counts new_counts : List �
         (IsPermutation-cons (row, count) turns.rest (entries_of new_slots new_counts)
         (IsPermutation-sym (entries_of new_slots new_counts) turns.rest turns.after))
 
-    pub kept_taken : (pairs new_pairs : List (ℕ × RowRef)) (hash : ℕ) (at : RowRef) → IsKept slots counts pairs → hash ≡ row_hash row
-        → at ≡ reference_to i → IsPermutation pairs ((hash, at) ∷ new_pairs) → IsKept new_slots new_counts new_pairs
-    kept_taken pairs new_pairs hash at kept is place taken = record {
+    pub kept_taken : (pairs new_pairs : List (ℕ × RowRef)) (hash : ℕ) → IsKept slots counts pairs → hash ≡ row_hash row
+        → IsPermutation pairs ((hash, record { slot = i }) ∷ new_pairs) → IsKept new_slots new_counts new_pairs
+    kept_taken pairs new_pairs hash kept is taken = record {
       marked = turns.marked kept.marked refl;
       once = once_rest row count (entries_of slots counts) (entries_of new_slots new_counts) kept.once entries_taken;
       hashed =
-          let same : (hash, at) ≡ (row_hash row, reference_to i) = λ j. (is j, place j) in
-          let before : IsPermutation pairs ((row_hash row, reference_to i) ∷ turns.pairs) =
-          IsPermutation-trans pairs (pairs_of slots) ((row_hash row, reference_to i) ∷ turns.pairs) kept.hashed turns.pairs_before
+          let at : RowRef = record { slot = i } in
+          let same : (hash, at) ≡ (row_hash row, at) = λ j. (is j, at) in
+          let before : IsPermutation pairs ((row_hash row, at) ∷ turns.pairs) =
+          IsPermutation-trans pairs (pairs_of slots) ((row_hash row, at) ∷ turns.pairs) kept.hashed turns.pairs_before
           in
           let without : IsPermutation ((hash, at) ∷ new_pairs) ((hash, at) ∷ turns.pairs) =
           IsPermutation-trans ((hash, at) ∷ new_pairs) pairs ((hash, at) ∷ turns.pairs) (IsPermutation-sym pairs ((hash, at) ∷ new_pairs) taken)
@@ -108,12 +109,12 @@ changes_twice old mid new at first second a b = record { changed = b.changed; ot
 
 module _ (old new : Places) (at : RowRef) (row : List Value) (counts : List ℕ) (marked : AreMarked old.slots counts) (live : slot_at old at ≡ Live row)
     (freed : ChangesOnly old new at Free) (extent : extent_of new ≡ extent_of old) where
-  pub turned_taken : Turns (slot_index_of at) old.slots new.slots counts (set counts (slot_index_of at) no_row) (Live row) Free
-      (get_or counts (slot_index_of at) no_row) no_row
+  pub turned_taken : Turns at.slot old.slots new.slots counts (set counts at.slot no_row) (Live row) Free
+      (get_or counts at.slot no_row) no_row
   turned_taken =
-      let i : ℕ = slot_index_of at in
-      let inside : i < length old.slots = live_within old at row live in
-      let slots : new.slots ≡ set old.slots i Free = slots_set old new at Free freed (live_small old at row live) extent inside in
+      let i : ℕ = at.slot in
+      let inside : i < length old.slots = live_inside old.slots i row live in
+      let slots : new.slots ≡ set old.slots i Free = slots_set old new at Free freed extent inside in
       subst (λ l. Turns i old.slots l counts (set counts i no_row) (Live row) Free (get_or counts i no_row) no_row) (sym slots)
-      (subst (λ s. Turns i old.slots (set old.slots i Free) counts (set counts i no_row) s Free (get_or counts i no_row) no_row) (live_here old at row live)
+      (subst (λ s. Turns i old.slots (set old.slots i Free) counts (set counts i no_row) s Free (get_or counts i no_row) no_row) live
       (turned_at i old.slots counts inside marked.size Free no_row))

@@ -1,5 +1,5 @@
 -- How a bag keeps its rows. No public clause cites this module.
-use Rattle.std.specs.Prelude.{◌≡◌, ◌≢◌, ℕ, ℤ, suc, ◌<◌, ◌≤◌, ◌/◌, ◌%◌, ◌+ℤ◌, pos, List, [], ◌∷◌, ◌++◌, length, slice_index_or, slice_set, IsPermutation}
+use Rattle.std.specs.Prelude.{◌≡◌, ◌≢◌, ℕ, ℤ, suc, ◌<◌, ◌≤◌, ◌+ℤ◌, pos, List, [], ◌∷◌, ◌++◌, length, slice_index_or, slice_set, IsPermutation}
 use Rattle.mm_value.specs.declared.row_ref.RowRef.{RowRef}
 use Rattle.mm_partition.specs.Places.{Content, Free, Live, Hidden}
 use Rattle.mm_multiset.specs.Counts.{Entries, IsOnce}
@@ -21,14 +21,10 @@ entries_of [] counts = []
 entries_of (slot ∷ slots) [] = []
 entries_of (slot ∷ slots) (count ∷ counts) = entry_of slot count ++ entries_of slots counts
 
--- The reference to the slot at an index: 64 slots a partition.
-abbrev pub reference_to : ℕ → RowRef
-reference_to i = record { part = i / 64; slot = i % 64 }
-
 -- The pair by which the row in a slot is found, if it has one.
 abbrev pub pair_of : ℕ → Content → List (ℕ × RowRef)
 pair_of i Free = []
-pair_of i (Live row) = (row_hash row, reference_to i) ∷ []
+pair_of i (Live row) = (row_hash row, record { slot = i }) ∷ []
 pair_of i (Hidden row) = []
 
 -- The pairs of the slots from one on.

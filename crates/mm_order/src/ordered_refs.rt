@@ -1,5 +1,5 @@
 //! What every ordered list of references offers.
-ghost use Rattle.std.specs.Prelude.{◌≡◌, ◌≢◌, ℕ, ◌+◌, ◌^◌, ◌<◌, ◌≤◌, ◌↔◌, List, ◌++◌, length, All, Contains, IsTrue, IsOk, OnOk, OnErr};
+ghost use Rattle.std.specs.Prelude.{◌≡◌, ◌≢◌, ℕ, ◌+◌, ◌≤◌, ◌↔◌, List, ◌++◌, length, All, Contains, IsTrue, IsOk, OnOk, OnErr};
 ghost use Rattle.std.specs.Bool.{OnTrue, OnFalse};
 ghost use Rattle.std.specs.declared.cmp.Ordering.TheVariants.{Equal};
 ghost use Rattle.mm_value.specs.declared.row_ref.RowRef.{RowRef};
@@ -37,12 +37,11 @@ pub trait OrderedRefs {
         ensures spare { spare self.old ≤ spare self.new };
 
     /// Puts a reference at its place in the order, where no entry compares equal to it. It takes at
-    /// most one of the spare places. The reference is to one of the first 2^26 partitions, and to one of their 64 slots.
+    /// most one of the spare places.
     fn insert<O: RefOrder>(&mut self, order: &O, added: RowRef)
         requires room { 1 ≤ spare self.old }
         requires ordered { IsOrdered (O.covers order.now) (O.cmp order.now) (refs self.old) }
         requires covered { O.covers order.now added }
-        requires small { (added.part < 2 ^ 26) × (added.slot < 64) }
         requires apart { All (λ a. O.cmp order.now a added ≢ Equal) (refs self.old) }
         ensures refs { AddsInOrder (O.cmp order.now) (refs self.old) added (refs self.new) }
         ensures ordered { IsOrdered (O.covers order.now) (O.cmp order.now) (refs self.new) }

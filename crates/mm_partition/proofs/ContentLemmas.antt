@@ -1,8 +1,8 @@
 -- What stands at a reference, after a slot or its cells are written.
-use Rattle.std.proofs.Common.{◌≡◌, ◌≢◌, ℕ, zero, suc, ◌+◌, ◌^◌, ◌<◌, ◌≤◌, List, [], ◌∷◌, ◌++◌, Option, Some, None, length, map, get_or, set, refl}
+use Rattle.std.proofs.Common.{◌≡◌, ◌≢◌, ℕ, zero, suc, ◌+◌, ◌^◌, ◌<◌, List, [], ◌∷◌, ◌++◌, Option, Some, None, length, map, get_or, set, refl}
 use Rattle.std.proofs.Common.{sym, ap, ◌∙◌, subst, ⊎_elim, arith}
 use Rattle.std.specs.Prelude.{slice_get}
-use Rattle.std.proofs.lemmas.Bool.{cases_lt, cases_eq, lt-ltb, le-ltb, cond-true, cond-false}
+use Rattle.std.proofs.lemmas.Bool.{cases_eq}
 use Rattle.std.proofs.lemmas.Option.{slice_get_within, slice_get_read, slice_get-map, get_or_from_slice_get}
 use Rattle.std.proofs.lemmas.List.{length-map}
 use Rattle.std.specs.Option.{option_map}
@@ -17,7 +17,7 @@ use Rattle.mm_partition.specs.declared.slots.State.TheVariants as state
 use Rattle.mm_partition.specs.Cells.{row_of, types_of, cell, type_in}
 use Rattle.mm_partition.specs.Types.{HasTypes}
 use Rattle.mm_partition.proofs.CellLemmas.{row_of-typed, row_of-set, types_of-set}
-use Rattle.mm_partition.specs.Places.{Content, Places, Free, Live, Hidden, slot_at, content_at, slot_index_of, extent_of, ChangesOnly, IsUnchanged}
+use Rattle.mm_partition.specs.Places.{Content, Places, Free, Live, Hidden, slot_at, content_at, extent_of, ChangesOnly, IsUnchanged}
 use Rattle.mm_partition.specs.Places.{AreRowsStorable, AreReferencesSmall, IsStorableIn}
 use Rattle.mm_partition.specs.Stored.{content, contents_from}
 
@@ -70,14 +70,6 @@ get_or-contents k columns states =
 abbrev pub places_of : List Column → List State → ℕ → Places
 places_of columns states room = record { slots = contents_from 0 columns states; room = room; types = types_of columns }
 
--- what stands at a reference
-pub slot_at-is : (columns : List Column) (states : List State) (room : ℕ) (at : RowRef) → at.slot < 64
-    → slot_at (places_of columns states room) at ≡ content_if (slice_get states (slot_index_of at)) (row_of columns (slot_index_of at))
-slot_at-is columns states room at small = cond-true _ _ _ (lt-ltb at.slot 64 small) ∙ get_or-contents (slot_index_of at) columns states
-
-pub slot_at-large : (places : Places) (at : RowRef) → 64 ≤ at.slot → slot_at places at ≡ Free
-slot_at-large places at large = cond-false _ _ _ (le-ltb at.slot 64 large)
-
 -- what the slot at an index holds
 content_at-is : (columns : List Column) (states : List State) (room : ℕ) (old : Places) (i : ℕ) → places_of columns states room ≡ old
     → content_if (slice_get states i) (row_of columns i) ≡ content_at old i
@@ -108,49 +100,28 @@ live_slot columns states room old row i view is =
     let found = live_in (slice_get states i) (row_of columns i) row (content_at-is columns states room old i view ∙ is) in
     record { within = slice_get_within states i state.Live found.0; state_is = found.0; row_is = found.1 }
 
--- a reference whose slot is not free has a small number there
-small_of : (places : Places) (at : RowRef) → slot_at places at ≢ Free → at.slot < 64
-small_of places at taken = ⊎_elim (λ (h : at.slot < 64). h) (λ (h : 64 ≤ at.slot). absurd (taken (slot_at-large places at h))) (cases_lt at.slot 64)
-
-pub live_small : (places : Places) (at : RowRef) (row : List Value) → slot_at places at ≡ Live row → at.slot < 64
-live_small places at row is = small_of places at (λ free. let both : Live row ≡ Free = sym is ∙ free in cc)
-
-pub hidden_small : (places : Places) (at : RowRef) (row : List Value) → slot_at places at ≡ Hidden row → at.slot < 64
-hidden_small places at row is = small_of places at (λ free. let both : Hidden row ≡ Free = sym is ∙ free in cc)
-
--- .. and what it has is what its slot holds
-content_small : (places : Places) (at : RowRef) → at.slot < 64 → slot_at places at ≡ content_at places (slot_index_of at)
-content_small places at small = cond-true _ _ _ (lt-ltb at.slot 64 small)
-
-pub content_live : (places : Places) (at : RowRef) (row : List Value) → slot_at places at ≡ Live row → content_at places (slot_index_of at) ≡ Live row
-content_live places at row is = sym (content_small places at (live_small places at row is)) ∙ is
-
 pub live_at : (columns : List Column) (states : List State) (room : ℕ) (old : Places) (at : RowRef) (row : List Value) (i : ℕ)
-    → places_of columns states room ≡ old → slot_index_of at ≡ i → slot_at old at ≡ Live row → Stands columns states i state.Live row
-live_at columns states room old at row i view place is =
-    live_slot columns states room old row i view (ap (content_at old) (sym place) ∙ content_live old at row is)
+    → places_of columns states room ≡ old → at.slot ≡ i → slot_at old at ≡ Live row → Stands columns states i state.Live row
+live_at columns states room old at row i view place is = live_slot columns states room old row i view (ap (content_at old) (sym place) ∙ is)
 
 pub hidden_at : (columns : List Column) (states : List State) (room : ℕ) (old : Places) (at : RowRef) (row : List Value) (i : ℕ)
-    → places_of columns states room ≡ old → slot_index_of at ≡ i → slot_at old at ≡ Hidden row → Stands columns states i state.Hidden row
+    → places_of columns states room ≡ old → at.slot ≡ i → slot_at old at ≡ Hidden row → Stands columns states i state.Hidden row
 hidden_at columns states room old at row i view place is =
-    let here : content_at old i ≡ Hidden row = ap (content_at old) (sym place) ∙ (sym (content_small old at (hidden_small old at row is)) ∙ is) in
+    let here : content_at old i ≡ Hidden row = ap (content_at old) (sym place) ∙ is in
     let found = hidden_in (slice_get states i) (row_of columns i) row (content_at-is columns states room old i view ∙ here) in
     record { within = slice_get_within states i state.Hidden found.0; state_is = found.0; row_is = found.1 }
 
 pub live_within : (columns : List Column) (states : List State) (room : ℕ) (old : Places) (at : RowRef) (row : List Value)
-    → places_of columns states room ≡ old → slot_at old at ≡ Live row → slot_index_of at < length states
-live_within columns states room old at row view is = (live_at columns states room old at row (slot_index_of at) view refl is).within
+    → places_of columns states room ≡ old → slot_at old at ≡ Live row → at.slot < length states
+live_within columns states room old at row view is = (live_slot columns states room old row at.slot view is).within
 
 pub hidden_within : (columns : List Column) (states : List State) (room : ℕ) (old : Places) (at : RowRef) (row : List Value)
-    → places_of columns states room ≡ old → slot_at old at ≡ Hidden row → slot_index_of at < length states
-hidden_within columns states room old at row view is = (hidden_at columns states room old at row (slot_index_of at) view refl is).within
+    → places_of columns states room ≡ old → slot_at old at ≡ Hidden row → at.slot < length states
+hidden_within columns states room old at row view is = (hidden_at columns states room old at row at.slot view refl is).within
 
--- two references to one index are one
-same_reference : (a b : RowRef) → a.slot < 64 → b.slot < 64 → slot_index_of a ≡ slot_index_of b → a ≡ b
-same_reference a b a_small b_small same =
-    let part : a.part ≡ b.part = omega arith in
-    let slot : a.slot ≡ b.slot = omega (arith, part, same) in
-    ap {B = RowRef} (λ p. record { part = p; slot = a.slot }) part ∙ ap {B = RowRef} (λ s. record { part = b.part; slot = s }) slot
+-- two references to one slot are one
+same_reference : (a b : RowRef) → a.slot ≡ b.slot → a ≡ b
+same_reference a b same = ap {B = RowRef} (λ s. record { slot = s }) same
 
 -- One slot holds something else, since its state or its cells are written, and the others hold what they held.
 pub record Written (old_columns new_columns : List Column) (old_states new_states : List State) (i : ℕ) (now : Content) : Type 0 where
@@ -167,29 +138,23 @@ others_hold old_columns new_columns old_states new_states i now k written apart 
     ∙ ap (λ r. content_if (slice_get old_states k) r) (written.cells k apart)
 
 changes-at : (old_columns new_columns : List Column) (old_states new_states : List State) (old_room new_room i : ℕ) (at : RowRef) (now : Content)
-    → at.slot < 64 → slot_index_of at ≡ i → Written old_columns new_columns old_states new_states i now
+    → at.slot ≡ i → Written old_columns new_columns old_states new_states i now
     → ChangesOnly (places_of old_columns old_states old_room) (places_of new_columns new_states new_room) at now
-changes-at old_columns new_columns old_states new_states old_room new_room i at now small place written = record {
-  changed = slot_at-is new_columns new_states new_room at small
-      ∙ ap (λ k. content_if (slice_get new_states k) (row_of new_columns k)) place ∙ written.here;
+changes-at old_columns new_columns old_states new_states old_room new_room i at now place written = record {
+  changed = get_or-contents at.slot new_columns new_states ∙ ap (λ k. content_if (slice_get new_states k) (row_of new_columns k)) place ∙ written.here;
   others = λ other apart.
-      ⊎_elim
-      (λ (inside : other.slot < 64).
-      let away : slot_index_of other ≢ i = λ same. apart (same_reference other at inside small (same ∙ sym place)) in
-      slot_at-is new_columns new_states new_room other inside
-      ∙ (others_hold old_columns new_columns old_states new_states i now (slot_index_of other) written away
-      ∙ sym (slot_at-is old_columns old_states old_room other inside)))
-      (λ (outside : 64 ≤ other.slot). slot_at-large (places_of new_columns new_states new_room) other outside
-      ∙ sym (slot_at-large (places_of old_columns old_states old_room) other outside))
-      (cases_lt other.slot 64);
+      let away : other.slot ≢ i = λ same. apart (same_reference other at (same ∙ sym place)) in
+      get_or-contents other.slot new_columns new_states
+      ∙ (others_hold old_columns new_columns old_states new_states i now other.slot written away
+      ∙ sym (get_or-contents other.slot old_columns old_states));
 }
 
 pub ChangesOnly-at : (old : Places) (old_columns new_columns : List Column) (old_states new_states : List State) (old_room new_room i : ℕ) (at : RowRef)
-    (now : Content) → places_of old_columns old_states old_room ≡ old → at.slot < 64 → slot_index_of at ≡ i
+    (now : Content) → places_of old_columns old_states old_room ≡ old → at.slot ≡ i
     → Written old_columns new_columns old_states new_states i now → ChangesOnly old (places_of new_columns new_states new_room) at now
-ChangesOnly-at old old_columns new_columns old_states new_states old_room new_room i at now view small place written =
+ChangesOnly-at old old_columns new_columns old_states new_states old_room new_room i at now view place written =
     subst (λ p. ChangesOnly p (places_of new_columns new_states new_room) at now) view
-    (changes-at old_columns new_columns old_states new_states old_room new_room i at now small place written)
+    (changes-at old_columns new_columns old_states new_states old_room new_room i at now place written)
 
 -- each row has values that a program can have, as `IsStored` has it
 abbrev pub Storable : List Column → List State → Type 0
@@ -247,18 +212,12 @@ stored_in columns states i s row state_is row_is all =
 -- what is known of each slot's content is known of what stands at each reference
 pub rows_storable : (columns : List Column) (states : List State) (room : ℕ) (old : Places) → places_of columns states room ≡ old
     → Storable columns states → AreRowsStorable old
-rows_storable columns states room old view all at =
-    subst (λ (p : Places). IsStorableIn (slot_at p at)) view
-    (⊎_elim
-    (λ (inside : at.slot < 64). subst IsStorableIn (sym (cond-true _ _ _ (lt-ltb at.slot 64 inside))) (all (slot_index_of at)))
-    (λ (outside : 64 ≤ at.slot). subst IsStorableIn (sym (slot_at-large (places_of columns states room) at outside)) tt)
-    (cases_lt at.slot 64))
+rows_storable columns states room old view all at = subst (λ (p : Places). IsStorableIn (slot_at p at)) view (all at.slot)
 
 -- references to live rows are small where there are few slots
 pub references_small : (columns : List Column) (states : List State) (room : ℕ) (old : Places) → places_of columns states room ≡ old
     → length states < 2 ^ 32 → AreReferencesSmall old
-references_small columns states room old view few at (row, is) =
-    (live_small old at row is, omega (arith, live_within columns states room old at row view is, few))
+references_small columns states room old view few at (row, is) = omega (arith, live_within columns states room old at row view is, few)
 
 -- how many slots there are
 pub extent_is : (columns : List Column) (states : List State) (room : ℕ) (old : Places) → places_of columns states room ≡ old → extent_of old ≡ length states
@@ -266,10 +225,8 @@ extent_is columns states room old view = ap (λ (p : Places). length p.slots) (s
 
 -- a slot that is free
 pub free_at : (columns : List Column) (states : List State) (room : ℕ) (old : Places) (at : RowRef) (i : ℕ) → places_of columns states room ≡ old
-    → slot_index_of at ≡ i → at.slot < 64 → content_if (slice_get states i) (row_of columns i) ≡ Free → slot_at old at ≡ Free
-free_at columns states room old at i view place small free =
-    ap (λ p. slot_at p at) (sym view)
-    ∙ (slot_at-is columns states room at small ∙ (ap (λ k. content_if (slice_get states k) (row_of columns k)) place ∙ free))
+    → at.slot ≡ i → content_if (slice_get states i) (row_of columns i) ≡ Free → slot_at old at ≡ Free
+free_at columns states room old at i view place free = ap (content_at old) place ∙ (sym (content_at-is columns states room old i view) ∙ free)
 
 -- what a live row has in a column is what its cell has
 pub cell_at : (columns : List Column) (states : List State) (room : ℕ) (old : Places) (row : List Value) (i column : ℕ) (c : Column)
@@ -281,10 +238,10 @@ cell_at columns states room old row i column c view is within read =
     ∙ (slice_get-map (λ x. cell x i) columns column ∙ ap (option_map (λ x. cell x i)) (slice_get_read columns (length columns) column c refl within read))
 
 pub value_at : (columns : List Column) (states : List State) (room : ℕ) (old : Places) (at : RowRef) (row : List Value) (i column : ℕ) (c : Column)
-    → places_of columns states room ≡ old → slot_index_of at ≡ i → slot_at old at ≡ Live row → column < length columns → c ≡ get_or columns column c
+    → places_of columns states room ≡ old → at.slot ≡ i → slot_at old at ≡ Live row → column < length columns → c ≡ get_or columns column c
     → slice_get row column ≡ Some (cell c i)
 value_at columns states room old at row i column c view place is within read =
-    cell_at columns states room old row i column c view (ap (content_at old) (sym place) ∙ content_live old at row is) within read
+    cell_at columns states room old row i column c view (ap (content_at old) (sym place) ∙ is) within read
 
 -- as many types as columns
 pub width_is : (columns : List Column) (states : List State) (room : ℕ) (old : Places) → places_of columns states room ≡ old → length old.types ≡ length columns
@@ -295,14 +252,9 @@ pub IsUnchanged-at : (old : Places) (old_columns new_columns : List Column) (old
     → places_of old_columns old_states old_room ≡ old → new_states ≡ old_states → ((k : ℕ) → row_of new_columns k ≡ row_of old_columns k)
     → IsUnchanged old (places_of new_columns new_states new_room)
 IsUnchanged-at old old_columns new_columns old_states new_states old_room new_room view same rows at =
-    ⊎_elim
-    (λ (inside : at.slot < 64).
-    slot_at-is new_columns new_states new_room at inside
-    ∙ (ap (λ xs. content_if (slice_get xs (slot_index_of at)) (row_of new_columns (slot_index_of at))) same
-    ∙ (ap (λ r. content_if (slice_get old_states (slot_index_of at)) r) (rows (slot_index_of at))
-    ∙ (sym (slot_at-is old_columns old_states old_room at inside) ∙ ap (λ p. slot_at p at) view))))
-    (λ (outside : 64 ≤ at.slot). slot_at-large (places_of new_columns new_states new_room) at outside ∙ sym (slot_at-large old at outside))
-    (cases_lt at.slot 64)
+    get_or-contents at.slot new_columns new_states
+    ∙ (ap (λ xs. content_if (slice_get xs at.slot) (row_of new_columns at.slot)) same
+    ∙ (ap (λ r. content_if (slice_get old_states at.slot) r) (rows at.slot) ∙ content_at-is old_columns old_states old_room old at.slot view))
 
 -- .. and so do its values
 pub Storable-same : (old_columns new_columns : List Column) (old_states new_states : List State) → new_states ≡ old_states
@@ -318,9 +270,9 @@ Storable-same old_columns new_columns old_states new_states same rows all i =
 pub live_typed : (columns : List Column) (states : List State) (room : ℕ) (old : Places) (at : RowRef) (row : List Value)
     → places_of columns states room ≡ old → slot_at old at ≡ Live row → HasTypes old.types row
 live_typed columns states room old at row view is =
-    let stands : Stands columns states (slot_index_of at) state.Live row = live_at columns states room old at row (slot_index_of at) view refl is in
+    let stands : Stands columns states at.slot state.Live row = live_slot columns states room old row at.slot view is in
     subst (HasTypes old.types) stands.row_is
-    (subst (λ (p : Places). HasTypes p.types (row_of columns (slot_index_of at))) view (row_of-typed columns (slot_index_of at)))
+    (subst (λ (p : Places). HasTypes p.types (row_of columns at.slot)) view (row_of-typed columns at.slot))
 
 -- what the slots hold stays where the rows do
 contents-same : (i : ℕ) (old_columns new_columns : List Column) (states : List State) → ((k : ℕ) → row_of new_columns k ≡ row_of old_columns k)
@@ -341,7 +293,7 @@ places-same columns states room i c new old view read typed cells =
 
 -- the prefix of what a live row has in a column is that of its cell
 pub prefix_at : (columns : List Column) (states : List State) (room : ℕ) (old : Places) (at : RowRef) (row : List Value) (i column : ℕ) (c : Column)
-    → places_of columns states room ≡ old → slot_index_of at ≡ i → slot_at old at ≡ Live row → column < length columns → c ≡ get_or columns column c
+    → places_of columns states room ≡ old → at.slot ≡ i → slot_at old at ≡ Live row → column < length columns → c ≡ get_or columns column c
     → row_prefix column row ≡ order_prefix (cell c i)
 prefix_at columns states room old at row i column c view place is within read =
     get_or_from_slice_get (map order_prefix row) column (order_prefix (cell c i)) 0

@@ -4,7 +4,7 @@ use Rattle.std.proofs.Math.IntN.{ℤ, pos}
 use Rattle.mm_value.specs.declared.row_ref.RowRef.{RowRef}
 use Rattle.mm_value.specs.declared.values.Value.{Value}
 use Rattle.mm_value.specs.declared.values.Value.TheVariants.{Int}
-use Rattle.mm_partition.specs.Places.{Places, Live, slot_index_of, extent_of, slot_at}
+use Rattle.mm_partition.specs.Places.{Places, Live, extent_of, slot_at}
 use Rattle.mm_partition.specs.Prefixes.{ArePrefixes}
 use Rattle.mm_partition.specs.declared.keys.ColumnKeys.{ColumnKeys}
 use Rattle.mm_partition.specs.declared.keys.ColumnKeys.TheVariants.{Numbers, Prefixes, None}
@@ -13,7 +13,7 @@ use Rattle.mm_partition.specs.declared.keys.ColumnKeys.TheVariants.{Numbers, Pre
 pub record AreNumbers (column : ℕ) (places : Places) (numbers : List ℤ) : Type 0 where
   pub extent : length numbers ≡ extent_of places
   pub each : (at : RowRef) (row : List Value) → slot_at places at ≡ Live row
-      → slice_get row column ≡ Some (Int (slice_index_or numbers (slot_index_of at) (pos 0)))
+      → slice_get row column ≡ Some (Int (slice_index_or numbers at.slot (pos 0)))
 
 -- They are the numbers of the column, or the prefixes of its texts, or nothing.
 abbrev pub AreKeys : ℕ → Places → ColumnKeys → Type 0

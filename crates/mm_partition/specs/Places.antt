@@ -1,5 +1,5 @@
 -- What the slots of the partitions hold, reference by reference.
-use Rattle.std.specs.Prelude.{◌≡◌, ◌≢◌, ℕ, ◌+◌, ◌-◌, ◌*◌, ◌^◌, ◌<◌, List, [], length, slice_index_or, nat_lt, if◌then◌else◌}
+use Rattle.std.specs.Prelude.{◌≡◌, ◌≢◌, ℕ, ◌-◌, ◌^◌, ◌<◌, List, [], length, slice_index_or}
 use Rattle.mm_value.specs.Storable.{AreStorable}
 use Rattle.mm_value.specs.declared.col_type.ColType.{ColType}
 use Rattle.mm_value.specs.declared.row_ref.RowRef.{RowRef}
@@ -17,21 +17,17 @@ pub record Places : Type 0 where
   pub room : ℕ
   pub types : List ColType
 
--- where the slot of a reference lies among all slots
-abbrev pub slot_index_of : RowRef → ℕ
-slot_index_of at = 64 * at.part + at.slot
-
 -- how many slots have been in use so far, each now with a row or free
 abbrev pub extent_of : Places → ℕ
 extent_of places = length places.slots
 
--- what stands where a reference points: nothing where no partition has such a slot
-abbrev pub slot_at : Places → RowRef → Content
-slot_at places at = (if nat_lt at.slot 64 then slice_index_or places.slots (slot_index_of at) Free else Free)
-
 -- what the slot at an index among all slots holds: nothing where there is no such slot
 abbrev pub content_at : Places → ℕ → Content
 content_at places i = slice_index_or places.slots i Free
+
+-- what stands where a reference points
+abbrev pub slot_at : Places → RowRef → Content
+slot_at places at = content_at places at.slot
 
 -- the row in a slot, of no values where there is none
 abbrev pub row_in : Content → List Value
@@ -66,6 +62,6 @@ IsStorableIn (Hidden row) = AreStorable row
 abbrev pub AreRowsStorable : Places → Type 0
 AreRowsStorable places = (at : RowRef) → IsStorableIn (slot_at places at)
 
--- each reference that gives a row is to one of 64 slots of a partition, and the slot's index is below 2^32 - 1
+-- the slot of each reference that gives a row has an index below 2^32 - 1
 abbrev pub AreReferencesSmall : Places → Type 0
-AreReferencesSmall places = (at : RowRef) → IsLive places at → (at.slot < 64) × (slot_index_of at < 2 ^ 32 - 1)
+AreReferencesSmall places = (at : RowRef) → IsLive places at → at.slot < 2 ^ 32 - 1

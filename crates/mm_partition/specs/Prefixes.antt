@@ -3,7 +3,7 @@ use Rattle.std.specs.Prelude.{◌≡◌, ℕ, List, length, map, slice_index}
 use Rattle.mm_value.specs.Prefix.{order_prefix}
 use Rattle.mm_value.specs.declared.row_ref.RowRef.{RowRef}
 use Rattle.mm_value.specs.declared.values.Value.{Value}
-use Rattle.mm_partition.specs.Places.{Places, Live, slot_index_of, extent_of, slot_at}
+use Rattle.mm_partition.specs.Places.{Places, Live, extent_of, slot_at}
 
 -- the prefix of what a row has in a column, 0 where the row is too short for it
 abbrev pub row_prefix : ℕ → List Value → ℕ
@@ -12,4 +12,4 @@ row_prefix column row = slice_index (map order_prefix row) column
 -- There is a number for each slot, and at the slot of each live reference it is the prefix of its row.
 pub record ArePrefixes (column : ℕ) (places : Places) (prefixes : List ℕ) : Type 0 where
   pub extent : length prefixes ≡ extent_of places
-  pub each : (at : RowRef) (row : List Value) → slot_at places at ≡ Live row → slice_index prefixes (slot_index_of at) ≡ row_prefix column row
+  pub each : (at : RowRef) (row : List Value) → slot_at places at ≡ Live row → slice_index prefixes at.slot ≡ row_prefix column row

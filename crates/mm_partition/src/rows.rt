@@ -3,7 +3,7 @@ ghost use Rattle.std.specs.Prelude.{◌≡◌, ◌+◌, ◌<◌, ◌≤◌, max,
 ghost use Rattle.mm_value.specs.Views.{value_of};
 ghost use Rattle.mm_value.specs.declared.values.Value.{Value};
 ghost use Rattle.mm_partition.specs.Keys.{AreKeys};
-ghost use Rattle.mm_partition.specs.Places.{Free, Live, Hidden, slot_index_of, extent_of, slot_at, content_at, IsLive, IsHidden, IsUnchanged, ChangesOnly};
+ghost use Rattle.mm_partition.specs.Places.{Free, Live, Hidden, extent_of, slot_at, content_at, IsLive, IsHidden, IsUnchanged, ChangesOnly};
 ghost use Rattle.mm_partition.specs.Places.{AreRowsStorable, AreReferencesSmall};
 ghost use Rattle.mm_partition.specs.Types.{HasTypes};
 ghost use Rattle.mm_partition.specs.Views.{viewed};
@@ -25,8 +25,8 @@ const MAX_SLOTS: usize = 4_294_967_295;
 /// found by its reference, which stays the same while the row lives. Only `new`, `reserve` and `track` take
 /// memory. Placing, hiding and releasing a row take the same time however many rows there are.
 ///
-/// The slot of a reference has an index, `64 * part + slot`. The *extent* is how many slots have been
-/// in use so far: the index of each reference that was given out is below it. A caller that keeps a
+/// A reference is the index of its slot among all slots. The *extent* is how many slots have been
+/// in use so far: each reference that was given out is below it. A caller that keeps a
 /// vector beside the rows, an entry for each slot, needs one of that length. Only `place` makes the
 /// extent greater, by at most 1, and nothing makes it less.
 ///
@@ -117,8 +117,7 @@ impl Partitions {
         let _columns = &self.columns;
     }
 
-    /// A law of the references: each that gives a row is to one of the 64 slots of a partition, and the slot's index is below 2^32 - 1.
-    /// It does nothing.
+    /// A law of the references: the slot of each that gives a row has an index below 2^32 - 1. It does nothing.
     pub fn are_references_small(&self)
         ensures { AreReferencesSmall self.now }
     {
@@ -230,17 +229,16 @@ impl Partitions {
         Ok(())
     }
 
-    /// Puts a row into a free slot and gives its reference, whose slot is below 64. The index of that
-    /// slot is at most the extent that there was, and the extent grows to have it within.
+    /// Puts a row into a free slot and gives its reference. The index of that slot is at most the extent
+    /// that there was, and the extent grows to have it within.
     pub fn place(&mut self, row: Row) -> RowRef
         requires room { 1 ≤ self.old.room }
         requires typed { HasTypes self.old.types row }
         ensures fresh { slot_at self.old result ≡ Free }
         ensures placed { ChangesOnly self.old self.new result (Live row) }
-        ensures slot { result.slot < 64 }
         ensures room { self.new.room + 1 ≡ self.old.room }
-        ensures within { slot_index_of result ≤ extent_of self.old }
-        ensures extent { extent_of self.new ≡ max (extent_of self.old) (slot_index_of result + 1) }
+        ensures within { result.slot ≤ extent_of self.old }
+        ensures extent { extent_of self.new ≡ max (extent_of self.old) (result.slot + 1) }
         ensures types { self.new.types ≡ self.old.types }
     {
         row.is_storable();

@@ -1,5 +1,5 @@
 //! The slots of a partition.
-ghost use Rattle.std.specs.Prelude.{◌≡◌, ◌+◌, ◌*◌, ◌<◌, ◌^◌};
+ghost use Rattle.std.specs.Prelude.{◌≡◌, ◌<◌, ◌^◌};
 
 use mm_value::RowRef;
 
@@ -20,19 +20,15 @@ pub enum State {
 /// Where the slot of a reference lies among all slots: its index in a vector with an entry for each slot.
 #[inline(always)]
 pub fn index_of(at: RowRef) -> usize
-    requires { 64 * at.part + at.slot < 2 ^ 64 }
-    ensures { result ≡ 64 * at.part + at.slot }
+    ensures { result ≡ at.slot }
 {
-    SLOTS * at.part + at.slot as usize
+    at.slot as usize
 }
 
 /// The reference to the slot at an index among all slots.
 pub fn reference_to(index: usize) -> RowRef
-    ensures place { 64 * result.part + result.slot ≡ index }
-    ensures slot { result.slot < 64 }
+    requires { index < 2 ^ 32 }
+    ensures { result.slot ≡ index }
 {
-    RowRef {
-        part: index / SLOTS,
-        slot: (index % SLOTS) as u8,
-    }
+    RowRef { slot: index as u32 }
 }

@@ -1,5 +1,5 @@
 -- What is kept of a column beside the rows tells how their values stand.
-use Rattle.std.proofs.Common.{◌≡◌, ℕ, ◌+◌, ◌*◌, ◌<◌, List, Option, length, get_or, sym, ap, ◌∙◌, arith}
+use Rattle.std.proofs.Common.{◌≡◌, ℕ, ◌<◌, List, Option, length, get_or, sym, ap, ◌∙◌, arith}
 use Rattle.std.specs.Option.{option_cmp}
 use Rattle.std.specs.Ordering.{ordering_reverse}
 use Rattle.std.specs.Prelude.{Some, slice_get}
@@ -40,14 +40,14 @@ value_at column now at n prefix has =
     (value, ap (λ x. slice_get (row_in x) column) has.live ∙ shows.there, prefix has.row has.live ∙ shows.prefix)
 
 -- prefixes of the column tell that of the value
-pub prefix_at : (column : ℕ) (places : Places) (prefixes : List ℕ) (at : RowRef) (i : ℕ) → ArePrefixes column places prefixes → i ≡ 64 * at.part + at.slot
+pub prefix_at : (column : ℕ) (places : Places) (prefixes : List ℕ) (at : RowRef) (i : ℕ) → ArePrefixes column places prefixes → i ≡ at.slot
     → HasColumn column (slot_at places) at → (value : Value) × (slice_get (row_at (slot_at places) at) column ≡ Some value)
     × (get_or prefixes i 0 ≡ order_prefix value)
 prefix_at column places prefixes at i agree place has =
     value_at column (slot_at places) at (get_or prefixes i 0) (λ row live. ap (λ n. get_or prefixes n 0) place ∙ agree.each at row live) has
 
 -- numbers of the column tell the value
-pub number_at : (column : ℕ) (places : Places) (numbers : List ℤ) (at : RowRef) (i : ℕ) → AreNumbers column places numbers → i ≡ 64 * at.part + at.slot
+pub number_at : (column : ℕ) (places : Places) (numbers : List ℤ) (at : RowRef) (i : ℕ) → AreNumbers column places numbers → i ≡ at.slot
     → IsLive places at → slice_get (row_at (slot_at places) at) column ≡ Some (Int (get_or numbers i (pos 0)))
 number_at column places numbers at i agree place live =
     ap (λ x. slice_get (row_in x) column) live.1 ∙ (agree.each at live.0 live.1 ∙ ap (λ n. Some (Int (get_or numbers n (pos 0)))) (sym place))

@@ -20,7 +20,6 @@ pub mod Rooms
 pub mod RowLists
 pub mod Seeks
 mod Served
-mod SmallRefs
 pub mod SortedRows
 pub mod Staying
 pub mod Steps

@@ -8,15 +8,10 @@ use Rattle.mm_relation.specs.Before.{same_ref}
 use Rattle.mm_relation.specs.Refs.{Slots}
 
 pub same_from_test : (a b : RowRef) → same_ref a b ≡ true → a ≡ b
-same_from_test a b e =
-    let parts = and_parts (eqb a.part b.part) (eqb a.slot b.slot) e in
-    λ i. record { part = eqb-true a.part b.part parts.0 i; slot = eqb-true a.slot b.slot parts.1 i }
+same_from_test a b e = λ i. record { slot = eqb-true a.slot b.slot e i }
 
 pub test_from_same : (a b : RowRef) → a ≡ b → same_ref a b ≡ true
-test_from_same a b e =
-    let part : eqb a.part b.part ≡ true = eq-eqb a.part b.part (ap (λ (r : RowRef). r.part) e) in
-    let slot : eqb a.slot b.slot ≡ true = eq-eqb a.slot b.slot (ap (λ (r : RowRef). r.slot) e) in
-    rw (part, slot)
+test_from_same a b e = eq-eqb a.slot b.slot (ap (λ (r : RowRef). r.slot) e)
 
 pub picked : (b : Bool) (x y z : Content) → (b ≡ true → x ≡ z) → (b ≡ false → y ≡ z) → cond b x y ≡ z
 picked true x y z on_true on_false = on_true refl
@@ -30,13 +25,9 @@ same_number i j =
 pub same_or_apart : (a b : RowRef) → (a ≡ b) ⊎ (a ≢ b)
 same_or_apart a b =
     ⊎_elim
-    (λ (p : a.part ≡ b.part).
-    ⊎_elim
-    (λ (s : a.slot ≡ b.slot). let same : a ≡ b = λ i. record { part = p i; slot = s i } in inl same)
+    (λ (s : a.slot ≡ b.slot). let same : a ≡ b = λ i. record { slot = s i } in inl same)
     (λ (n : a.slot ≢ b.slot). inr (λ (e : a ≡ b). n (ap (λ (r : RowRef). r.slot) e)))
-    (same_number a.slot b.slot))
-    (λ (n : a.part ≢ b.part). inr (λ (e : a ≡ b). n (ap (λ (r : RowRef). r.part) e)))
-    (same_number a.part b.part)
+    (same_number a.slot b.slot)
 
 pub only : (a b : RowRef) → Contains (a ∷ []) b → a ≡ b
 only a b (k, within, is) = ap (λ n. get_or (a ∷ []) n b) (let first : 0 ≡ k = omega arith in first) ∙ is

@@ -78,7 +78,7 @@ module _ (key : ℕ) (now : Slots) (refs : List RowRef) (ordered : InOrder key k
   in_key_order = IsStrictlySortedBy-from_neighbours (column_cmp_total key) (map (row_at now) refs)
       (λ k d within.
       let below : suc k < length refs = omega (arith, within, length-map refs (row_at now)) in
-      let r : RowRef = record { part = 0; slot = 0 } in
+      let r : RowRef = record { slot = 0 } in
       rw (at_place now refs r k d (omega (arith, below)), at_place now refs r (suc k) d below) (key_less k (suc k) r (omega arith) below))
 
 -- rows without duplicates have keys that are apart

@@ -54,14 +54,14 @@ module _ (column key : ℕ) where
     rows_apart : (refs : List RowRef) → KeysApart key now refs → RowsApart key (map (row_at now) refs)
     rows_apart refs apart i j d before within =
         let below : j < length refs = omega (arith, within, length-map refs (row_at now)) in
-        let r : RowRef = record { part = 0; slot = 0 } in
+        let r : RowRef = record { slot = 0 } in
         rw (at_place now refs r i d (omega arith), at_place now refs r j d below) (apart i j r before below)
 
     rows_ordered : (walk : List RowRef) → InOrder column key now walk → IsStrictlySortedBy (rows_by column key) (map (row_at now) walk)
     rows_ordered walk ordered = IsStrictlySortedBy-from_neighbours rows_by_total (map (row_at now) walk)
         (λ k d within.
         let below : suc k < length walk = omega (arith, within, length-map walk (row_at now)) in
-        let r : RowRef = record { part = 0; slot = 0 } in
+        let r : RowRef = record { slot = 0 } in
         rw (at_place now walk r k d (omega (arith, below)), at_place now walk r (suc k) d below) (ordered.ascending k (suc k) r (omega arith) below))
 
 in_from_permutation : (xs ys : List (List Value)) → IsPermutation xs ys → (row : List Value) → IsIn row xs → IsIn row ys

@@ -1,5 +1,5 @@
 -- What stood before changes that were logged.
-use Rattle.std.specs.Prelude.{◌≡◌, List, [], ◌∷◌, Bool, ◌&&◌, eqb, cond}
+use Rattle.std.specs.Prelude.{◌≡◌, List, [], ◌∷◌, Bool, eqb, cond}
 use Rattle.mm_value.specs.declared.row_ref.RowRef.{RowRef}
 use Rattle.mm_value.specs.declared.values.Value.{Value}
 use Rattle.mm_partition.specs.Places.{Content, Free, Live, Hidden}
@@ -9,7 +9,7 @@ use Rattle.mm_relation.specs.declared.log.UndoRecord.TheVariants.{Added, Changed
 
 -- Two references are one.
 abbrev pub same_ref : RowRef → RowRef → Bool
-same_ref a b = eqb a.part b.part && eqb a.slot b.slot
+same_ref a b = eqb a.slot b.slot
 
 -- A row that was hidden, live again.
 abbrev pub shown : Content → Content

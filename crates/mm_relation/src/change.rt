@@ -106,7 +106,7 @@ pub fn take_back_each(rows: &mut Partitions, log: &mut Log)
 {
     for index in (0..log.entries().len()).rev() {
         // Another undo record stands in for this one while it is with the rows.
-        let none = UndoRecord::Added(RowRef { part: 0, slot: 0 });
+        let none = UndoRecord::Added(RowRef { slot: 0 });
         let entry = log.replace(index, none);
         log.replace(index, take_back(rows, entry));
     }

@@ -15,7 +15,7 @@ use Rattle.mm_delta.specs.declared.edited.TableChange.{TableChange}
 use Rattle.mm_standing.specs.ReadExamples.{AddsBesideFour, AddsThirdFive, row_of}
 
 abbrev refs_to : ℕ → List RowRef
-refs_to rows = map (λ slot. record { part = 0; slot = slot }) (range_with_len 0 rows)
+refs_to rows = map (λ slot. record { slot = slot }) (range_with_len 0 rows)
 
 -- A table of two columns of whole numbers with these rows, which stand in the order of their keys.
 abbrev table_of : List (List Value) → List Index → StoredRows

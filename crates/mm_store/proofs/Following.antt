@@ -2,11 +2,11 @@
 use Rattle.std.proofs.Common.{◌≡◌, ◌≢◌, ℕ, suc, ◌<◌, ◌≤◌, ⊎_elim, List, [], ◌∷◌, Option, Some, None, refl, sym, ◌∙◌, subst, arith}
 use Rattle.std.specs.Prelude.{slice_get}
 use Rattle.std.specs.List.{Contains}
-use Rattle.std.proofs.lemmas.Bool.{cases_lt, lt-ltb, le-ltb, cond-true, cond-false}
+use Rattle.std.proofs.lemmas.Bool.{cases_lt}
 use Rattle.std.proofs.lemmas.List.{get_or_past}
 use Rattle.std.proofs.lemmas.List.Elements.{All-head, All-tail}
 use Rattle.mm_foreign_key.specs.Ties.{ChangesTarget, Ties, target_at}
-use Rattle.mm_partition.specs.Places.{Content, Free, Live, Hidden, Places, extent_of, slot_at, slot_index_of}
+use Rattle.mm_partition.specs.Places.{Content, Free, Live, Hidden, Places, extent_of, slot_at}
 use Rattle.mm_relation.specs.Refs.{HasRow, Slots, row_at, row_in}
 use Rattle.mm_relation.specs.declared.log.UndoRecord.{UndoRecord}
 use Rattle.mm_relation.proofs.Came.{empty}
@@ -18,22 +18,13 @@ use Rattle.mm_store.specs.Behind.{Describes, IsBehind, IsOut, Switches, TiesOnly
 use Rattle.mm_store.specs.Links.{Follows, HasTargetRow, IsTied, RefersTo}
 use Rattle.mm_store.proofs.Describing.{first_in, later_in, one_of, refs_of}
 
--- a live reference has a slot of its partition, below the extent
-pub record LiesWithin (places : Places) (at : RowRef) : Type 0 where
-  pub small : at.slot < 64
-  pub below : slot_index_of at < extent_of places
-
-pub live_within : (places : Places) (at : RowRef) (row : List Value) → slot_at places at ≡ Live row → LiesWithin places at
+-- the slot of a live reference lies below the extent
+pub live_within : (places : Places) (at : RowRef) (row : List Value) → slot_at places at ≡ Live row → at.slot < extent_of places
 live_within places at row is =
     ⊎_elim
-    (λ (small : at.slot < 64).
-    ⊎_elim
-    (λ (below : slot_index_of at < extent_of places). let it : LiesWithin places at = record { small = small; below = below } in it)
-    (λ (past : extent_of places ≤ slot_index_of at).
-    let both : Live row ≡ Free = sym is ∙ (cond-true _ _ _ (lt-ltb at.slot 64 small) ∙ get_or_past places.slots (slot_index_of at) Free past) in cc)
-    (cases_lt (slot_index_of at) (extent_of places)))
-    (λ (large : 64 ≤ at.slot). let both : Live row ≡ Free = sym is ∙ cond-false _ _ _ (le-ltb at.slot 64 large) in cc)
-    (cases_lt at.slot 64)
+    (λ (below : at.slot < extent_of places). below)
+    (λ (past : extent_of places ≤ at.slot). let both : Live row ≡ Free = sym is ∙ get_or_past places.slots at.slot Free past in cc)
+    (cases_lt at.slot (extent_of places))
 
 -- one change upon another of the same row
 pub ChangesTarget-twice : (old mid new : Ties) (at : RowRef) (first second : Option RowRef) → ChangesTarget old mid at first

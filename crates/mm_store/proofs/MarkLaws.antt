@@ -5,7 +5,7 @@ use Rattle.std.specs.List.{All}
 use Rattle.std.proofs.lemmas.Bool.{cases_Bool, cond-false, cond-true, eqb-true}
 use Rattle.std.proofs.lemmas.List.{drop-append-le, drop_all, take-append-drop}
 use Rattle.std.proofs.lemmas.List.Elements.{All-head, All-tail}
-use Rattle.mm_partition.specs.Places.{Free, Live, Hidden, extent_of, slot_at, slot_index_of}
+use Rattle.mm_partition.specs.Places.{Free, Live, Hidden, extent_of, slot_at}
 use Rattle.mm_relation.specs.Before.{Stands, StandsBack, before}
 use Rattle.mm_relation.specs.Kept.{StoredRows}
 use Rattle.mm_relation.specs.RowLists.{rows_of}
@@ -46,7 +46,7 @@ rows_now-own store all =
 -- ---- slots that were never in use
 
 -- an undo record is of a slot in use
-stands_below : (e : UndoRecord) (extent : ℕ) (mid : Slots) → IsFreeFrom extent mid → Stands mid e → (at : RowRef) → extent ≤ slot_index_of at → at ≢ ref_of e
+stands_below : (e : UndoRecord) (extent : ℕ) (mid : Slots) → IsFreeFrom extent mid → Stands mid e → (at : RowRef) → extent ≤ at.slot → at ≢ ref_of e
 stands_below (Added r) extent mid free stands at past same =
     let both : Live stands.0 ≡ Free = sym stands.1 ∙ (ap mid (sym same) ∙ free at past) in cc
 stands_below (Changed r old) extent mid free stands at past same =

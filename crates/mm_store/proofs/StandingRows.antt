@@ -1,16 +1,15 @@
 -- The rows that stand among the slots of a relation are its rows.
-use Rattle.std.proofs.Common.{◌≡◌, ◌≢◌, ℕ, zero, suc, ◌+◌, ◌/◌, ◌%◌, ◌-◌, ◌<◌, ◌≤◌, Bool, true, false, cond, List, [], ◌∷◌, ◌++◌, length, get_or, None, refl}
+use Rattle.std.proofs.Common.{◌≡◌, ◌≢◌, ℕ, zero, suc, ◌+◌, ◌-◌, ◌<◌, ◌≤◌, Bool, true, false, cond, List, [], ◌∷◌, ◌++◌, length, get_or, None, refl}
 use Rattle.std.proofs.Common.{sym, ap, ◌∙◌, subst, ⊎_elim, arith}
 use Rattle.std.specs.Prelude.{map, IsPermutation}
 use Rattle.std.specs.List.{All, AllPairs, Contains, cons_option, filter, filter_map}
-use Rattle.std.proofs.lemmas.Bool.{cases_lt, cond-false, cond-true, le-ltb, lt-ltb}
+use Rattle.std.proofs.lemmas.Bool.{cases_lt, cond-true}
 use Rattle.std.proofs.lemmas.List.{append-nil, get_or_past, length-append, nil_from_length}
 use Rattle.std.proofs.lemmas.List.Elements.{Contains-get_or, filter_map-append}
 use Rattle.std.proofs.lemmas.List.FromFn.{get_or-map-range_with_len, length-map-range_with_len, map-range_with_len_more}
 use Rattle.std.proofs.lemmas.List.Kept.{AllPairs-filter}
 use Rattle.std.proofs.lemmas.List.Sorted.{IsPermutation-map, length_permutation}
-use Rattle.mm_foreign_key.specs.Ties.{reference_at}
-use Rattle.mm_partition.specs.Places.{Content, Free, Live, Hidden, Places, extent_of, slot_at, slot_index_of}
+use Rattle.mm_partition.specs.Places.{Content, Free, Live, Hidden, Places, extent_of, slot_at}
 use Rattle.mm_relation.specs.Kept.{StoredRows}
 use Rattle.mm_relation.specs.RowLists.{rows_of}
 use Rattle.mm_relation.specs.Refs.{HasRow, Slots, row_at, row_in}
@@ -23,20 +22,11 @@ use Rattle.mm_schema.specs.Sorting.{in_order}
 use Rattle.mm_value.specs.declared.row_ref.RowRef.{RowRef}
 use Rattle.mm_value.specs.declared.values.Value.{Value}
 use Rattle.mm_store.specs.Joined.{IsTable}
-use Rattle.mm_store.specs.Marks.{live_row, references_below, rows_standing}
+use Rattle.mm_store.specs.Marks.{live_row, reference_at, references_below, rows_standing}
 use Rattle.mm_store.proofs.Following.{live_within}
 use Rattle.mm_store.proofs.Describing.{first_in, later_in, one_of}
 
 -- ---- references by the indexes of their slots
-
-index_at : (i : ℕ) → slot_index_of (reference_at i) ≡ i
-index_at i = omega arith
-
-reference_of : (at : RowRef) → at.slot < 64 → reference_at (slot_index_of at) ≡ at
-reference_of at small =
-    let part : (slot_index_of at) / 64 ≡ at.part = omega (arith, small) in
-    let slot : (slot_index_of at) % 64 ≡ at.slot = omega (arith, small) in
-    λ i. record { part = part i; slot = slot i }
 
 below_at : (extent i : ℕ) (d : RowRef) → i < extent → get_or (references_below extent) i d ≡ reference_at i
 below_at extent i d within = get_or-map-range_with_len reference_at 0 extent i i d within (omega arith)
@@ -44,18 +34,14 @@ below_at extent i d within = get_or-map-range_with_len reference_at 0 extent i i
 below_apart : (extent : ℕ) → AllPairs (λ a b. a ≢ b) (references_below extent)
 below_apart extent i j d before within same =
     let size : length (references_below extent) ≡ extent = length-map-range_with_len reference_at 0 extent in
-    let first : slot_index_of (get_or (references_below extent) i d) ≡ i =
-    ap slot_index_of (below_at extent i d (omega (arith, before, within, size))) ∙ index_at i in
-    let second : slot_index_of (get_or (references_below extent) j d) ≡ j =
-    ap slot_index_of (below_at extent j d (omega (arith, within, size))) ∙ index_at j in
-    omega (arith, before, first, second, ap slot_index_of same)
+    let first : (get_or (references_below extent) i d).slot ≡ i =
+    ap (λ (at : RowRef). at.slot) (below_at extent i d (omega (arith, before, within, size))) in
+    let second : (get_or (references_below extent) j d).slot ≡ j =
+    ap (λ (at : RowRef). at.slot) (below_at extent j d (omega (arith, within, size))) in
+    omega (arith, before, first, second, ap (λ (at : RowRef). at.slot) same)
 
-below_in : (extent : ℕ) (at : RowRef) → at.slot < 64 → slot_index_of at < extent → Contains (references_below extent) at
-below_in extent at small within = (
-  slot_index_of at,
-  omega (arith, within, length-map-range_with_len reference_at 0 extent),
-  below_at extent (slot_index_of at) at within ∙ reference_of at small,
-)
+below_in : (extent : ℕ) (at : RowRef) → at.slot < extent → Contains (references_below extent) at
+below_in extent at within = (at.slot, omega (arith, within, length-map-range_with_len reference_at 0 extent), below_at extent at.slot at within)
 
 -- ---- the live ones among them
 
@@ -120,8 +106,8 @@ live_refs_same stored is_table =
     λ k d within.
     let at : RowRef = get_or stored.refs k d in
     let row : HasRow now at = (is_table.kept.held at).0 (Contains-get_or stored.refs k d within) in
-    let lies = live_within stored.places at row.0 row.1 in
-    in_filter (λ x. is_live (now x)) all at (below_in (extent_of stored.places) at lies.small lies.below) (ap is_live row.1) in
+    let below = below_in (extent_of stored.places) at (live_within stored.places at row.0 row.1) in
+    in_filter (λ x. is_live (now x)) all at below (ap is_live row.1) in
     let first = split_off live stored.refs apart listed in
     let second = split_off stored.refs live (distinct stored.key now stored.refs is_table.kept.by_key) found in
     let none : second.0 ≡ [] =
@@ -150,14 +136,10 @@ rows_standing-own stored is_table =
 
 -- Nothing stands at the references whose slots have an index from a number on.
 abbrev pub IsFreeFrom : ℕ → Slots → Type 0
-IsFreeFrom extent slots = (at : RowRef) → extent ≤ slot_index_of at → slots at ≡ Free
+IsFreeFrom extent slots = (at : RowRef) → extent ≤ at.slot → slots at ≡ Free
 
 pub IsFreeFrom-extent : (places : Places) → IsFreeFrom (extent_of places) (slot_at places)
-IsFreeFrom-extent places at past =
-    ⊎_elim
-    (λ (small : at.slot < 64). cond-true _ _ _ (lt-ltb at.slot 64 small) ∙ get_or_past places.slots (slot_index_of at) Free past)
-    (λ (large : 64 ≤ at.slot). cond-false _ _ _ (le-ltb at.slot 64 large))
-    (cases_lt at.slot 64)
+IsFreeFrom-extent places at past = get_or_past places.slots at.slot Free past
 
 -- they bring no rows
 more_slots : (extent more : ℕ) (slots : Slots) → IsFreeFrom extent slots
@@ -170,7 +152,7 @@ more_slots extent (suc more) slots free =
     let next : extent + suc more ≡ (extent + more) + 1 = omega arith in
     let grown : references_below ((extent + more) + 1) ≡ references_below (extent + more) ++ last ∷ [] =
     map-range_with_len_more reference_at 0 (extent + more) (extent + more) (omega arith) in
-    let none : live_row (slots last) ≡ None = ap live_row (free last (omega (arith, index_at (extent + more)))) in
+    let none : live_row (slots last) ≡ None = ap live_row (free last (omega arith)) in
     ap (λ (n : ℕ). filter_map f (references_below n)) next
     ∙ (ap (filter_map f) grown
     ∙ (filter_map-append f (references_below (extent + more)) (last ∷ [])

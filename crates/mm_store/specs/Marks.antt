@@ -1,7 +1,6 @@
 -- The rows of all tables as they stood at a mark of the log.
 use Rattle.std.specs.Prelude.{ℕ, suc, List, [], ◌∷◌, Option, None, Some, drop, map}
 use Rattle.std.specs.List.{filter_map, range_with_len}
-use Rattle.mm_foreign_key.specs.Ties.{reference_at}
 use Rattle.mm_partition.specs.Places.{Content, Free, Live, Hidden, extent_of}
 use Rattle.mm_relation.specs.Kept.{StoredRows}
 use Rattle.mm_relation.specs.Refs.{Slots}
@@ -17,6 +16,10 @@ abbrev pub live_row : Content → Option (List Value)
 live_row Free = None
 live_row (Live row) = Some row
 live_row (Hidden row) = None
+
+-- The reference to the slot at an index.
+abbrev pub reference_at : ℕ → RowRef
+reference_at index = record { slot = index }
 
 -- The references whose slots have an index below a number, in the order of these.
 abbrev pub references_below : ℕ → List RowRef

@@ -77,8 +77,7 @@ impl<'a> View<'a> {
         self.store.table(table)
     }
 
-    /// Each reference that gives a row of a table is to one of the 64 slots of a partition, and the slot's index is below
-    /// 2^32 - 1. The call does nothing.
+    /// The slot of each reference that gives a row of a table has an index below 2^32 - 1. The call does nothing.
     pub fn are_references_small(&self, table: usize)
         requires { table < length self.now.store.tables }
         ensures { (stored : StoredRows) → IsAt self.now.store table stored → AreReferencesSmall stored.places }

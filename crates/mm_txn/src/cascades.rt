@@ -229,7 +229,7 @@ fn add_by_scan(
     let gone = references_of_gone(alloc, cascade.gone)?;
     for at in view.walk(table, IndexRef::Key) {
         let target = view.follow(table, cascade.column, at);
-        if gone.contains(&(target.part, target.slot)) {
+        if gone.contains(&target.slot) {
             found.push(at)?;
         }
     }

@@ -46,11 +46,11 @@ fn show<'s>(
     }
 }
 
-/// The reference to a slot of the first partition.
-fn at(slot: u8) -> RowRef
-    ensures { result ≡ record { part = 0; slot = slot } }
+/// The reference to a slot.
+fn at(slot: u32) -> RowRef
+    ensures { result ≡ record { slot = slot } }
 {
-    RowRef { part: 0, slot }
+    RowRef { slot }
 }
 
 /// Looks at both combinations of a list, and at its tables and fields.

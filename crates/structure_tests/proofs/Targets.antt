@@ -1,9 +1,8 @@
 -- What other rows refer to, where the target of one row changed.
 use Rattle.std.proofs.Common.{◌≡◌, ◌≢◌, Option, ap, ◌∙◌}
 use Rattle.mm_value.specs.declared.row_ref.RowRef.{RowRef}
-use Rattle.mm_partition.specs.Places.{slot_index_of}
 use Rattle.mm_foreign_key.specs.Ties.{Ties, target_at, ChangesTarget}
 
 pub stays : {old new : Ties} {from : RowRef} {target : Option RowRef} → ChangesTarget old new from target → (other : RowRef)
-    → slot_index_of other ≢ slot_index_of from → {was : Option RowRef} → target_at old other ≡ was → target_at new other ≡ was
-stays changes other apart is = changes.others other (λ same. apart (ap slot_index_of same)) ∙ is
+    → other.slot ≢ from.slot → {was : Option RowRef} → target_at old other ≡ was → target_at new other ≡ was
+stays changes other apart is = changes.others other (λ same. apart (ap (λ (r : RowRef). r.slot) same)) ∙ is

@@ -1,13 +1,13 @@
 -- The order that most tests go by.
 use Rattle.std.specs.Prelude.{List}
-use Rattle.std.specs.Ordering.{nat_cmp, ordering_then}
+use Rattle.std.specs.Ordering.{nat_cmp}
 use Rattle.std.specs.declared.cmp.Ordering.{Ordering}
 use Rattle.mm_value.specs.declared.row_ref.RowRef.{RowRef}
 use Rattle.mm_order.specs.Order.{IsOrdered}
 
--- References are compared by their partitions, and within a partition by their slots.
+-- References are compared by their slots.
 abbrev pub by_place : RowRef → RowRef → Ordering
-by_place a b = ordering_then (nat_cmp a.part b.part) (nat_cmp a.slot b.slot)
+by_place a b = nat_cmp a.slot b.slot
 
 -- The references of a list rise by their places.
 abbrev pub IsByPlace : List RowRef → Type 0

@@ -39,15 +39,15 @@ fn tie_and_untie(rt: &impl Abort, key: &mut ForeignKey)
     requires extent { 200 ≤ key.old.extent }
     requires untied { (from : RowRef) → target_at key.old from ≡ None }
 {
-    let from = RowRef { part: 0, slot: 0 };
-    let to = RowRef { part: 3, slot: 7 };
+    let from = RowRef { slot: 0 };
+    let to = RowRef { slot: 199 };
     assert_same(rt, key.target(from), None);
     assert_that(rt, !key.is_referred(to));
 
     key.tie(from, to);
     assert_same(rt, key.target(from), Some(to));
     assert_that(rt, key.is_referred(to));
-    assert_that(rt, !key.is_referred(RowRef { part: 2, slot: 7 }));
+    assert_that(rt, !key.is_referred(RowRef { slot: 135 }));
 
     key.untie(from);
     assert_same(rt, key.target(from), None);
@@ -67,11 +67,11 @@ fn untie_in_turn(rt: &impl Abort, key: &mut ForeignKey)
     requires extent { 2 ≤ key.old.extent }
     requires untied { (from : RowRef) → target_at key.old from ≡ None }
 {
-    let one = RowRef { part: 0, slot: 5 };
-    let two = RowRef { part: 1, slot: 5 };
-    let three = RowRef { part: 0, slot: 6 };
-    let to = RowRef { part: 0, slot: 1 };
-    let beside = RowRef { part: 0, slot: 0 };
+    let one = RowRef { slot: 5 };
+    let two = RowRef { slot: 69 };
+    let three = RowRef { slot: 6 };
+    let to = RowRef { slot: 1 };
+    let beside = RowRef { slot: 0 };
     key.tie(one, to);
     key.tie(two, to);
     key.tie(three, beside);
@@ -103,13 +103,13 @@ fn tie_and_grow(rt: &(impl Abort + AllocGlobal), key: &mut ForeignKey) -> Result
     requires extent { 1 ≤ key.old.extent }
     requires untied { (from : RowRef) → target_at key.old from ≡ None }
 {
-    let row = RowRef { part: 0, slot: 0 };
+    let row = RowRef { slot: 0 };
     key.tie(row, row);
     grow(rt.alloc(), key, 1000, 500)?;
     assert_same(rt, key.target(row), Some(row));
 
-    let from = RowRef { part: 15, slot: 39 };
-    let to = RowRef { part: 7, slot: 51 };
+    let from = RowRef { slot: 999 };
+    let to = RowRef { slot: 499 };
     key.tie(from, to);
     assert_same(rt, key.target(from), Some(to));
     assert_same(rt, key.target(row), Some(row));
@@ -126,12 +126,9 @@ fn keeps_references_when_it_grows(rt: HostRuntime) -> Result<(), Fail> {
 /// Asserts that a key of 64 rows of either table knows none past them, and takes no more than 2^32 - 1.
 fn ask_past_its_entries(rt: &(impl Abort + AllocGlobal), key: &mut ForeignKey) {
     let alloc = rt.alloc();
-    let past = RowRef {
-        part: usize::MAX,
-        slot: 63,
-    };
+    let past = RowRef { slot: u32::MAX };
     assert_same(rt, key.target(past), None);
-    assert_same(rt, key.target(RowRef { part: 0, slot: 64 }), None);
+    assert_same(rt, key.target(RowRef { slot: 64 }), None);
     assert_that(rt, !key.is_referred(past));
     assert_that(rt, key.reserve(alloc, u32::MAX as usize + 1, 0).is_err());
     assert_that(rt, key.reserve(alloc, 0, u32::MAX as usize + 1).is_err());

@@ -1,5 +1,4 @@
 //! Bags of references by hash.
-ghost use Rattle.std.specs.Prelude.{◌<◌};
 ghost use Rattle.mlhash.specs.Bag.{IsSmall};
 
 use crate::assertions::{assert_same, assert_that};
@@ -10,12 +9,13 @@ use std::alloc::{AllocError, Global};
 use std::process::Abort;
 use std::test::Fail;
 
-/// A reference into the first partition.
-fn slot(slot: u8) -> RowRef
-    requires { slot < 64 }
+/// A reference to one of the first slots.
+pub fn slot(slot: u8) -> RowRef
     ensures { IsSmall result }
 {
-    RowRef { part: 0, slot }
+    RowRef {
+        slot: u32::from(slot),
+    }
 }
 
 /// Inserts where there is room, and fails the test where there is none.

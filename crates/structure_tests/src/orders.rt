@@ -27,7 +27,7 @@ pub fn append_all<R: OrderedRefs>(
 pub fn append_part<R: OrderedRefs>(
     alloc: Global,
     refs: &R,
-    part: usize,
+    part: u32,
     out: &mut Vec<RowRef>,
 ) -> Result<(), AllocError>
     requires { IsByPlace (R.refs refs.now) }
@@ -55,8 +55,8 @@ fn copy_all(
 /// Asserts that these are the references 1 to 17, in order.
 fn assert_are_17(rt: &impl Abort, refs: &[RowRef]) {
     assert_same(rt, refs.len(), 17);
-    for (i, held) in refs.iter().enumerate() {
-        assert_same(rt, *held, numbered(i + 1));
+    for (held, n) in refs.iter().zip(1..18) {
+        assert_same(rt, *held, numbered(n));
     }
 }
 
@@ -108,7 +108,7 @@ fn copy_part(
     rt: &impl Abort,
     alloc: Global,
     refs: &SortedRefs,
-    part: usize,
+    part: u32,
     out: &mut Vec<RowRef>,
 ) -> Result<(), AllocError>
     requires { IsByPlace refs.now.refs }
@@ -121,7 +121,7 @@ fn copy_part(
     Ok(())
 }
 
-/// Copies the references of the first three partitions into an empty list, which are the references 3 and 7.
+/// Copies the references of the first three partitions into an empty list, which are the references 3 and 70.
 fn copy_parts(
     rt: &impl Abort,
     alloc: Global,
@@ -133,17 +133,17 @@ fn copy_parts(
     for part in 0..3 {
         copy_part(rt, alloc, refs, part, out)?;
     }
-    assert_same(rt, out.as_slice(), &[numbered(3), numbered(7)]);
+    assert_same(rt, out.as_slice(), &[numbered(3), numbered(70)]);
     Ok(())
 }
 
-/// Puts the references 3 and 7 into an empty list.
+/// Puts the references 3 and 70 into an empty list.
 fn put_two(rt: &impl Abort, alloc: Global, refs: &mut SortedRefs) -> Result<(), AllocError>
     requires { refs.old.refs ≡ [] }
     ensures { IsByPlace refs.new.refs }
 {
     reserve(rt, refs, alloc, 2)?;
-    refs.insert(&ByPlace, numbered(7));
+    refs.insert(&ByPlace, numbered(70));
     refs.insert(&ByPlace, numbered(3));
     Ok(())
 }
@@ -164,8 +164,8 @@ fn counts_each_question(rt: HostRuntime) {
     let mut seek = Seek::new(&probe);
     assert_same(&rt, seek.count(), 0);
     assert_same(&rt, seek.place(numbered(3)), Ordering::Less);
-    assert_same(&rt, seek.place(numbered(4)), Ordering::Equal);
-    assert_same(&rt, seek.place(numbered(8)), Ordering::Greater);
+    assert_same(&rt, seek.place(numbered(64)), Ordering::Equal);
+    assert_same(&rt, seek.place(numbered(128)), Ordering::Greater);
     assert_same(&rt, seek.count(), 3);
 }
 

@@ -1,7 +1,7 @@
 //! Values, orders of references and probes for tests.
-ghost use Rattle.std.specs.Prelude.{◌≡◌, ◌≤◌, OnOk};
+ghost use Rattle.std.specs.Prelude.{◌≡◌, ◌≤◌, ◌/◌, OnOk};
 ghost use Rattle.std.specs.Ordering.{nat_cmp};
-ghost use Rattle.std.specs.Cmp.{then_total, on_total, nat_cmp_total};
+ghost use Rattle.std.specs.Cmp.{on_total, nat_cmp_total};
 ghost use Rattle.std.specs.declared.cmp.Ordering.TheVariants.{Equal};
 ghost use Rattle.mm_value.specs.declared.row_ref.RowRef.{RowRef};
 ghost use Rattle.mm_order.specs.Order.{IsTotalOrderOn-from_total};
@@ -21,7 +21,7 @@ pub fn is_equal(a: &Value, b: &Value) -> bool {
     compare(a, b) == Ordering::Equal
 }
 
-/// References by partition, then by slot.
+/// References by their slots.
 #[derive(Drop)]
 pub struct ByPlace;
 
@@ -30,24 +30,38 @@ impl RefOrder for ByPlace {
 
     ghost cmp = { λ _. by_place };
 
-    ghost total = { λ o. IsTotalOrderOn-from_total _ _ (then_total (on_total (λ (r : RowRef). r.part) nat_cmp_total) (on_total (λ (r : RowRef). r.slot) nat_cmp_total)) };
+    ghost total = { λ o. IsTotalOrderOn-from_total _ _ (on_total (λ (r : RowRef). r.slot) nat_cmp_total) };
 
     fn compare(&self, a: RowRef, b: RowRef) -> Ordering {
-        a.part.cmp(&b.part).then(a.slot.cmp(&b.slot))
+        a.slot.cmp(&b.slot)
     }
 }
 
 /// The references of one partition.
 #[derive(Drop)]
-pub struct InPartition(pub usize);
+pub struct InPartition(pub u32);
 
 impl Probe for InPartition {
     ghost covers = { λ _ _. Unit {0} };
 
-    ghost place_of = { λ p at. nat_cmp at.part p.0 };
+    ghost place_of = { λ p at. nat_cmp (at.slot / 64) p.0 };
 
     fn place(&self, at: RowRef) -> Ordering {
-        at.part.cmp(&self.0)
+        (at.slot / 64).cmp(&self.0)
+    }
+}
+
+/// The reference of a number.
+#[derive(Drop)]
+pub struct At(pub u32);
+
+impl Probe for At {
+    ghost covers = { λ _ _. Unit {0} };
+
+    ghost place_of = { λ p at. nat_cmp at.slot p.0 };
+
+    fn place(&self, at: RowRef) -> Ordering {
+        at.slot.cmp(&self.0)
     }
 }
 

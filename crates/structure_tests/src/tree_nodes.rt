@@ -3,7 +3,7 @@ ghost use Rattle.std.specs.Prelude.{◌≡◌, ◌<◌, length, max, OnOk};
 ghost use Rattle.ttree_node.specs.Slide.{IsLeaf, child};
 
 use crate::assertions::{assert_same, assert_that};
-use crate::references::first_of;
+use crate::references::numbered;
 use std::alloc::{AllocError, Global};
 use std::process::Abort;
 use std::test::Fail;
@@ -27,59 +27,55 @@ fn fill(rt: &impl Abort, node: &mut Subtree)
     ensures left { node.new.left ≡ node.old.left }
     ensures right { node.new.right ≡ node.old.right }
 {
-    for part in 0..15 {
+    for number in 0..15u32 {
+        let place = number as usize;
         assert_that(rt, node.entries().len() < 16);
-        assert_that(rt, part < node.entries().len());
-        node.put_entry(part, first_of(part));
+        assert_that(rt, place < node.entries().len());
+        node.put_entry(place, numbered(number));
     }
 }
 
-/// Appends the parts of the entries from left to right.
-fn write_parts(tree: Option<&Subtree>, parts: &mut Vec<usize>) -> Result<(), AllocError> {
+/// Appends the numbers of the entries from left to right.
+fn write_numbers(tree: Option<&Subtree>, numbers: &mut Vec<u32>) -> Result<(), AllocError> {
     let Some(tree) = tree else {
         return Ok(());
     };
-    write_parts(tree.left(), parts)?;
+    write_numbers(tree.left(), numbers)?;
     for entry in tree.entries().iter() {
-        parts.push(entry.part)?;
+        numbers.push(entry.slot)?;
     }
-    write_parts(tree.right(), parts)
+    write_numbers(tree.right(), numbers)
 }
 
-/// Asserts that a tree has entries of these parts from left to right.
-fn assert_parts(
+/// Asserts that a tree has entries of these numbers from left to right.
+fn assert_numbers(
     rt: &impl Abort,
     alloc: Global,
     tree: Option<&Subtree>,
-    want: &[usize],
+    want: &[u32],
 ) -> Result<(), AllocError> {
-    let mut parts = Vec::new(alloc);
-    write_parts(tree, &mut parts)?;
-    assert_same(rt, parts.as_slice(), want);
+    let mut numbers = Vec::new(alloc);
+    write_numbers(tree, &mut numbers)?;
+    assert_same(rt, numbers.as_slice(), want);
     Ok(())
 }
 
-/// Asserts that a tree of three levels has this part at its root, and the parts 1 to 4 from left to right.
-fn assert_four(
-    rt: &impl Abort,
-    alloc: Global,
-    tree: &Subtree,
-    root: usize,
-) -> Result<(), AllocError>
+/// Asserts that a tree of three levels has this number at its root, and the numbers 1 to 4 from left to right.
+fn assert_four(rt: &impl Abort, alloc: Global, tree: &Subtree, root: u32) -> Result<(), AllocError>
     requires { 0 < length tree.now.entries }
 {
-    assert_same(rt, (tree.height(), tree.entries().get(0).part), (3, root));
-    assert_parts(rt, alloc, Some(tree), &[1, 2, 3, 4])
+    assert_same(rt, (tree.height(), tree.entries().get(0).slot), (3, root));
+    assert_numbers(rt, alloc, Some(tree), &[1, 2, 3, 4])
 }
 
 /// Turns a tree of four of the free nodes to the left and back. It owns none of them where it may end early.
 fn turn_four(rt: &impl Abort, alloc: Global, spares: &mut Spares) -> Result<(), AllocError>
     requires { spares.old ≡ 4 }
 {
-    let mut first = Subtree::leaf(spares, first_of(1));
-    let mut second = Subtree::leaf(spares, first_of(3));
-    second.set_left(Some(Subtree::leaf(spares, first_of(2))));
-    second.set_right(Some(Subtree::leaf(spares, first_of(4))));
+    let mut first = Subtree::leaf(spares, numbered(1));
+    let mut second = Subtree::leaf(spares, numbered(3));
+    second.set_left(Some(Subtree::leaf(spares, numbered(2))));
+    second.set_right(Some(Subtree::leaf(spares, numbered(4))));
     first.set_right(Some(second));
     let before = assert_four(rt, alloc, &first, 1);
     let turned = first.rotate_left();
@@ -110,11 +106,11 @@ fn slide(rt: &impl Abort, alloc: Global, node: &mut Subtree, side: Side) -> Resu
     match side {
         Side::Left => {
             let want = [100, 0, 1, 2, 3, 4, 5, 6, 7, 8, 9, 10, 11, 12];
-            assert_parts(rt, alloc, node.left(), &want)
+            assert_numbers(rt, alloc, node.left(), &want)
         }
         Side::Right => {
             let want = [3, 4, 5, 6, 7, 8, 9, 10, 11, 12, 13, 14, 15, 100];
-            assert_parts(rt, alloc, node.right(), &want)
+            assert_numbers(rt, alloc, node.right(), &want)
         }
     }
 }
@@ -125,8 +121,8 @@ fn entries_move_to_a_leaf(rt: HostRuntime) -> Result<(), Fail> {
         let alloc = rt.alloc();
         let mut spares = Spares::new(alloc);
         reserve(&rt, alloc, &mut spares, 2)?;
-        let leaf = Subtree::leaf(&mut spares, first_of(100));
-        let mut node = Subtree::leaf(&mut spares, first_of(15));
+        let leaf = Subtree::leaf(&mut spares, numbered(100));
+        let mut node = Subtree::leaf(&mut spares, numbered(15));
         match side {
             Side::Left => node.set_left(Some(leaf)),
             Side::Right => node.set_right(Some(leaf)),
@@ -141,11 +137,11 @@ fn entries_shift(rt: HostRuntime) -> Result<(), Fail> {
     let alloc = rt.alloc();
     let mut spares = Spares::new(alloc);
     reserve(&rt, alloc, &mut spares, 1)?;
-    let mut node = Subtree::leaf(&mut spares, first_of(2));
-    node.put_entry(0, first_of(1));
-    node.put_entry(2, first_of(3));
-    assert_same(&rt, node.take_entry(1).part, 2);
-    assert_parts(&rt, alloc, Some(&node), &[1, 3])?;
+    let mut node = Subtree::leaf(&mut spares, numbered(2));
+    node.put_entry(0, numbered(1));
+    node.put_entry(2, numbered(3));
+    assert_same(&rt, node.take_entry(1).slot, 2);
+    assert_numbers(&rt, alloc, Some(&node), &[1, 3])?;
     Ok(())
 }
 

@@ -1,13 +1,12 @@
 //! T-trees: which references they hold, how high they are, and where entries stand in the nodes.
 ghost use Rattle.std.specs.Prelude.{◌≡◌, ◌≤◌, [], IfOk};
 ghost use Rattle.std.specs.Ordering.{nat_cmp};
-ghost use Rattle.ttree_node.specs.Entries.{IsSmall};
 ghost use Rattle.structure_tests.specs.Orders.{IsByPlace};
 
 use crate::assertions::{assert_same, assert_that};
 use crate::orders::append_all;
-use crate::references::{ascending, first_of};
-use crate::samples::{ByPlace, InPartition, reserve};
+use crate::references::{ascending, numbered};
+use crate::samples::{At, ByPlace, reserve};
 use mm_order::{OrderedRefs, Probe, Seek, SortedRefs};
 use mm_value::RowRef;
 use std::alloc::{AllocError, Global};
@@ -17,49 +16,49 @@ use std::process::Abort;
 use std::test::Fail;
 use ttree::TTree;
 
-/// The references of one partition. It counts how often it is asked, and keeps the partitions of the first four references that
-/// it is asked about.
+/// The reference of a number. It counts how often it is asked, and keeps the numbers of the first four references that it is asked
+/// about.
 #[derive(Drop)]
 struct Counting {
-    part: usize,
+    number: u32,
     asked: Cell<usize>,
-    about: Cell<[usize; 4]>,
+    about: Cell<[u32; 4]>,
 }
 
 impl Probe for Counting {
     ghost covers = { λ _ _. Unit {0} };
 
-    ghost place_of = { λ p at. nat_cmp at.part p.part };
+    ghost place_of = { λ p at. nat_cmp at.slot p.number };
 
     fn place(&self, at: RowRef) -> Ordering {
         let asked = self.asked.get();
         let mut about = self.about.get();
         if let Some(kept) = about.get_mut(asked) {
-            *kept = at.part;
+            *kept = at.slot;
         }
         self.about.set(about);
         self.asked.set(asked.wrapping_add(1));
-        at.part.cmp(&self.part)
+        at.slot.cmp(&self.number)
     }
 }
 
-fn counting_at(part: usize) -> Counting
-    ensures { result.part ≡ part }
+fn counting_at(number: u32) -> Counting
+    ensures { result.number ≡ number }
 {
     Counting {
-        part,
+        number,
         asked: Cell::new(0),
         about: Cell::new([0; 4]),
     }
 }
 
-/// Takes the reference into partition 16 out of a tree of 17, in which it stands alone in a second node.
+/// Takes the reference of 16 out of a tree of 17, in which it stands alone in a second node.
 fn empty_second_node(rt: &impl Abort, tree: &mut TTree)
     requires { IsByPlace tree.old.refs }
 {
     assert_same(rt, tree.height(), 2);
-    assert_that(rt, tree.remove(&ByPlace, first_of(16)));
-    assert_that(rt, !tree.remove(&ByPlace, first_of(16)));
+    assert_that(rt, tree.remove(&ByPlace, numbered(16)));
+    assert_that(rt, !tree.remove(&ByPlace, numbered(16)));
     assert_same(rt, (tree.height(), tree.len()), (1, 16));
     tree.trim_spares(1);
     assert_same(rt, tree.spare(), 1);
@@ -70,11 +69,11 @@ fn fill_first_node(rt: &(impl Abort + AllocGlobal), tree: &mut TTree) -> Result<
     requires { tree.old.refs ≡ [] }
 {
     reserve(rt, tree, rt.alloc(), 17)?;
-    for part in 0..16 {
-        tree.insert(&ByPlace, first_of(part));
+    for number in 0..16 {
+        tree.insert(&ByPlace, numbered(number));
     }
     assert_same(rt, tree.height(), 1);
-    tree.insert(&ByPlace, first_of(16));
+    tree.insert(&ByPlace, numbered(16));
     empty_second_node(rt, tree);
     Ok(())
 }
@@ -85,58 +84,52 @@ fn height_follows_the_count(rt: HostRuntime) -> Result<(), Fail> {
     fill_first_node(&rt, &mut tree)
 }
 
-/// A tree of the partitions below 2,000, of which the lower half was put in from the greatest to the least.
+/// A tree of the references of the numbers below 2,000, of which the lower half was put in from the greatest to the least.
 fn grown(rt: &impl Abort, alloc: Global) -> Result<TTree, AllocError>
     ensures { IfOk result (λ tree. IsByPlace tree.refs) }
 {
     let mut tree = TTree::new(alloc);
     'down: for i in 0..1000 {
         reserve(rt, &mut tree, alloc, 1)?;
-        tree.insert(&ByPlace, first_of(999 - i));
+        tree.insert(&ByPlace, numbered(999 - i));
     }
-    'up: for part in 1000..2000 {
+    'up: for number in 1000..2000 {
         reserve(rt, &mut tree, alloc, 1)?;
-        tree.insert(&ByPlace, first_of(part));
+        tree.insert(&ByPlace, numbered(number));
     }
     Ok(tree)
 }
 
-/// Asserts that these are references into so many partitions, in order from the first on.
-fn assert_from(rt: &impl Abort, refs: &[RowRef], first: usize, count: usize) {
+/// Asserts that these are the references of so many numbers, in order from the first on.
+fn assert_from(rt: &impl Abort, refs: &[RowRef], first: u32, count: usize) {
     assert_same(rt, refs.len(), count);
     for (i, held) in refs.iter().enumerate() {
-        assert_same(rt, held.part.wrapping_sub(first), i);
+        assert_same(rt, held.slot.wrapping_sub(first) as usize, i);
     }
 }
 
-/// Asserts that a tree has so many of the partitions up to the last, and that they are those from the first on.
+/// Asserts that a tree has so many of the numbers up to the last, and that they are those from the first on.
 fn assert_up_to(
     rt: &impl Abort,
     alloc: Global,
     tree: &TTree,
-    last: usize,
-    first: usize,
+    last: u32,
+    first: u32,
     count: usize,
 ) -> Result<(), AllocError>
     requires { IsByPlace tree.now.refs }
 {
     let mut out = Vec::new(alloc);
-    tree.copy_range(
-        alloc,
-        &ByPlace,
-        &InPartition(0),
-        &InPartition(last),
-        &mut out,
-    )?;
+    tree.copy_range(alloc, &ByPlace, &At(0), &At(last), &mut out)?;
     assert_from(rt, &out, first, count);
     Ok(())
 }
 
-/// The reference into a partition that a tree finds, if it finds one, and how many questions it asks.
-fn found(tree: &TTree, part: usize) -> (Option<RowRef>, u64)
+/// The reference of a number that a tree finds, if it finds one, and how many questions it asks.
+fn found(tree: &TTree, number: u32) -> (Option<RowRef>, u64)
     requires { IsByPlace tree.now.refs }
 {
-    let probe = InPartition(part);
+    let probe = At(number);
     let mut seek = Seek::new(&probe);
     let found = tree.find(&ByPlace, &mut seek);
     (found, seek.count())
@@ -158,7 +151,7 @@ fn assert_shrunk(rt: &impl Abort, tree: &TTree)
     assert_same(rt, tree.len(), 100);
     assert_that(rt, tree.height() <= 4);
     let (at, questions) = found(tree, 1925);
-    assert_same(rt, at, Some(first_of(1925)));
+    assert_same(rt, at, Some(numbered(1925)));
     assert_that(rt, questions <= 9);
     assert_same(rt, found(tree, 5).0, None);
 }
@@ -167,8 +160,8 @@ fn assert_shrunk(rt: &impl Abort, tree: &TTree)
 fn shrink(rt: &(impl Abort + AllocGlobal), tree: &mut TTree) -> Result<(), Fail>
     requires { IsByPlace tree.old.refs }
 {
-    for part in 0..1900 {
-        assert_that(rt, tree.remove(&ByPlace, first_of(part)));
+    for number in 0..1900 {
+        assert_that(rt, tree.remove(&ByPlace, numbered(number)));
     }
     assert_shrunk(rt, tree);
     assert_up_to(rt, rt.alloc(), tree, 1949, 1900, 50)?;
@@ -208,7 +201,7 @@ fn shrink_together(
     assert_that(rt, times.unwrap_or(usize::MAX) <= 300);
     assert_shrunk(rt, tree);
     assert_up_to(rt, rt.alloc(), tree, 1949, 1900, 50)?;
-    assert_same(rt, tree.remove_along(&ByPlace, first_of(5), refs), None);
+    assert_same(rt, tree.remove_along(&ByPlace, numbered(5), refs), None);
     Ok(())
 }
 
@@ -221,8 +214,7 @@ fn shrinks_by_many_at_once(rt: HostRuntime) -> Result<(), Fail> {
 
 /// Takes a reference out where it is in, and puts it in where it is not.
 fn toggle<R: OrderedRefs>(refs: &mut R, alloc: Global, toggled: RowRef) -> Result<(), AllocError>
-    requires ordered { IsByPlace (R.refs refs.old) }
-    requires small { IsSmall toggled }
+    requires { IsByPlace (R.refs refs.old) }
     ensures { IsByPlace (R.refs refs.new) }
 {
     if refs.remove(&ByPlace, toggled) {
@@ -247,19 +239,19 @@ fn count_between(
     Ok(out.len())
 }
 
-/// Asserts that a tree has three nodes, of which these are the partitions of the first and the last entry: those of the root, of
+/// Asserts that a tree has three nodes, of which these are the numbers of the first and the last entry: those of the root, of
 /// its left side and of its right. A range over all asks about the ends of the root to see that it meets it, and then about those
 /// of each node to see that it lies in it.
 fn assert_ends(
     rt: &impl Abort,
     alloc: Global,
     tree: &TTree,
-    ends: [(usize, usize); 3],
+    ends: [(u32, u32); 3],
 ) -> Result<(), AllocError>
     requires { IsByPlace tree.now.refs }
 {
     let low = counting_at(0);
-    let high = counting_at(usize::MAX);
+    let high = counting_at(u32::MAX);
     let held = count_between(alloc, tree, &low, &high)?;
     assert_same(rt, held, tree.len());
     assert_same(rt, (low.asked.get(), high.asked.get()), (4, 4));
@@ -278,25 +270,25 @@ fn all_of<R: OrderedRefs>(alloc: Global, refs: &R) -> Result<Vec<RowRef>, AllocE
     Ok(all)
 }
 
-/// Asserts that references are of these partitions.
-fn assert_each_part(rt: &impl Abort, refs: &[RowRef], want: &[usize]) {
+/// Asserts that references are of these numbers.
+fn assert_each(rt: &impl Abort, refs: &[RowRef], want: &[u32]) {
     assert_same(rt, refs.len(), want.len());
-    for (held, part) in refs.iter().zip(want) {
-        assert_same(rt, held.part, *part);
+    for (held, number) in refs.iter().zip(want) {
+        assert_same(rt, held.slot, *number);
     }
 }
 
-/// Asserts that the references of a tree are of these partitions.
-fn assert_parts(
+/// Asserts that the references of a tree are of these numbers.
+fn assert_numbers(
     rt: &impl Abort,
     alloc: Global,
     tree: &TTree,
-    want: &[usize],
+    want: &[u32],
 ) -> Result<(), AllocError>
     requires { IsByPlace tree.now.refs }
 {
     let held = all_of(alloc, tree)?;
-    assert_each_part(rt, &held, want);
+    assert_each(rt, &held, want);
     Ok(())
 }
 
@@ -347,20 +339,19 @@ fn assert_low(rt: &impl Abort, tree: &TTree) {
     }
 }
 
-/// Puts references into so many partitions into an empty tree, in order.
+/// Puts the references of so many numbers into an empty tree, in order.
 fn fill_in_order(
     rt: &impl Abort,
     alloc: Global,
     tree: &mut TTree,
-    count: usize,
+    count: u32,
 ) -> Result<(), AllocError>
-    requires empty { tree.old.refs ≡ [] }
-    requires few { count ≤ 1048576 }
+    requires { tree.old.refs ≡ [] }
     ensures { IsByPlace tree.new.refs }
 {
-    for part in 0..count {
+    for number in 0..count {
         reserve(rt, tree, alloc, 1)?;
-        tree.insert(&ByPlace, first_of(part));
+        tree.insert(&ByPlace, numbered(number));
         assert_low(rt, tree);
     }
     Ok(())
@@ -376,7 +367,7 @@ fn ascending_references_fill_the_nodes(rt: HostRuntime) -> Result<(), Fail> {
     Ok(())
 }
 
-/// Asserts that a range over the partitions from 100 to 1,899 asks about few of the references of a tree.
+/// Asserts that a range over the numbers from 100 to 1,899 asks about few of the references of a tree.
 fn assert_asks_few(rt: &impl Abort, alloc: Global, tree: &TTree) -> Result<(), AllocError>
     requires { IsByPlace tree.now.refs }
 {
@@ -399,32 +390,31 @@ fn a_range_asks_about_the_ends_of_a_node(rt: HostRuntime) -> Result<(), Fail> {
     Ok(())
 }
 
-/// Toggles a reference of each partition from `first` on, below `end`.
-fn toggle_each(tree: &mut TTree, alloc: Global, first: usize, end: usize) -> Result<(), AllocError>
-    requires ordered { IsByPlace tree.old.refs }
-    requires few { end ≤ 1048576 }
+/// Toggles the reference of each number from `first` on, below `end`.
+fn toggle_each(tree: &mut TTree, alloc: Global, first: u32, end: u32) -> Result<(), AllocError>
+    requires { IsByPlace tree.old.refs }
     ensures { IsByPlace tree.new.refs }
 {
-    for part in first..end {
-        toggle(tree, alloc, first_of(part))?;
+    for number in first..end {
+        toggle(tree, alloc, numbered(number))?;
     }
     Ok(())
 }
 
-/// The partitions 1 to 15, 50, 60 and 101 to 116.
-const ROTATED: [usize; 33] = [
+/// The numbers 1 to 15, 50, 60 and 101 to 116.
+const ROTATED: [u32; 33] = [
     1, 2, 3, 4, 5, 6, 7, 8, 9, 10, 11, 12, 13, 14, 15, 50, 60, 101, 102, 103, 104, 105, 106, 107,
     108, 109, 110, 111, 112, 113, 114, 115, 116,
 ];
 
-/// Asserts that a tree has the partitions 1 to 15, 50, 60 and 101 to 116, in three nodes.
+/// Asserts that a tree has the numbers 1 to 15, 50, 60 and 101 to 116, in three nodes.
 fn assert_rotated(rt: &impl Abort, alloc: Global, tree: &TTree) -> Result<(), AllocError>
     requires { IsByPlace tree.now.refs }
 {
     assert_same(rt, tree.height(), 2);
     // The list in order lies in the three nodes: 1 to 3, then 4 to 15 with 50 and 60, then 101 to 116.
     assert_ends(rt, alloc, tree, [(4, 60), (1, 3), (101, 116)])?;
-    assert_parts(rt, alloc, tree, &ROTATED)
+    assert_numbers(rt, alloc, tree, &ROTATED)
 }
 
 /// Puts references into an empty tree, of which the last turns two nodes.
@@ -433,9 +423,9 @@ fn turn_twice(alloc: Global, tree: &mut TTree) -> Result<(), AllocError>
     ensures { IsByPlace tree.new.refs }
 {
     toggle_each(tree, alloc, 101, 117)?;
-    toggle(tree, alloc, first_of(50))?;
+    toggle(tree, alloc, numbered(50))?;
     toggle_each(tree, alloc, 1, 16)?;
-    toggle(tree, alloc, first_of(60))
+    toggle(tree, alloc, numbered(60))
 }
 
 #[test]
@@ -460,10 +450,7 @@ fn toggle_both(
     let mut seed: u32 = 1;
     for step in 0..100_000 {
         seed = seed.wrapping_mul(1_664_525).wrapping_add(1_013_904_223);
-        let toggled = RowRef {
-            part: (seed >> 16) as usize % 1000,
-            slot: (seed >> 28) as u8,
-        };
+        let toggled = numbered((seed >> 16) % 16_000);
         toggle(tree, alloc, toggled)?;
         toggle(sorted, alloc, toggled)?;
         if step % 5000 == 0 {
@@ -486,18 +473,17 @@ fn holds_what_the_sorted_list_holds(rt: HostRuntime) -> Result<(), Fail> {
 fn assert_built(
     rt: &impl Abort,
     alloc: Global,
-    count: usize,
+    count: u32,
     height: usize,
 ) -> Result<TTree, AllocError>
     ensures { IfOk result (λ tree. IsByPlace tree.refs) }
 {
-    assert_that(rt, count <= 1_048_576);
     let refs = ascending(alloc, count)?;
     let tree = TTree::from_sorted(alloc, refs.as_slice())?;
     assert_same(
         rt,
         (tree.len(), tree.height(), tree.spare()),
-        (count, height, 0),
+        (count as usize, height, 0),
     );
     assert_goes_over(rt, &tree, &refs);
     Ok(tree)
@@ -528,8 +514,8 @@ fn a_list_in_order_fills_the_nodes(rt: HostRuntime) -> Result<(), Fail> {
 fn drain_root(rt: &impl Abort, alloc: Global, tree: &mut TTree) -> Result<(), AllocError>
     requires { IsByPlace tree.old.refs }
 {
-    for part in 18..32 {
-        assert_that(rt, tree.remove(&ByPlace, first_of(part)));
+    for number in 18..32 {
+        assert_that(rt, tree.remove(&ByPlace, numbered(number)));
     }
     assert_ends(rt, alloc, tree, [(4, 17), (0, 3), (32, 47)])
 }

@@ -1,7 +1,7 @@
 -- References taken out of a list along another one.
-use Rattle.std.proofs.Common.{◌≡◌, ℕ, suc, ◌+◌, ◌<◌, ◌≤◌, ◌&&◌, true, eqb, List, [], ◌∷◌, ◌++◌, length, get_or, take, drop, refl, sym, ap, ◌∙◌, subst, arith}
+use Rattle.std.proofs.Common.{◌≡◌, ℕ, suc, ◌+◌, ◌<◌, ◌≤◌, true, eqb, List, [], ◌∷◌, ◌++◌, length, get_or, take, drop, refl, sym, ap, ◌∙◌, subst, arith}
 use Rattle.std.proofs.Common.{append_assoc, length-append, length-drop, length-take, inl}
-use Rattle.std.proofs.lemmas.Bool.{and_parts, eqb-true}
+use Rattle.std.proofs.lemmas.Bool.{eqb-true}
 use Rattle.std.proofs.lemmas.List.{append-nil, take-append-drop}
 use Rattle.std.proofs.Math.Seq.{drop-append-add, get_or-append_seam, take-append_seam, take-suc}
 use Rattle.std.specs.List.{remove}
@@ -11,10 +11,8 @@ use Rattle.ttree.proofs.Shuffles.{shuffle_append, shuffle_none, shuffle_permutat
 use Rattle.std.proofs.lemmas.List.Sorted.{length_permutation}
 
 -- references that pass the test of `==` are equal
-pub same_from_test : (a b : RowRef) → (eqb a.part b.part && eqb a.slot b.slot) ≡ true → a ≡ b
-same_from_test a b e =
-    let parts = and_parts (eqb a.part b.part) (eqb a.slot b.slot) e in
-    λ i. record { part = eqb-true a.part b.part parts.0 i; slot = eqb-true a.slot b.slot parts.1 i }
+pub same_from_test : (a b : RowRef) → eqb a.slot b.slot ≡ true → a ≡ b
+same_from_test a b e = λ i. record { slot = eqb-true a.slot b.slot e i }
 
 -- Of the entries from a place on so many have been looked at and kept, and the first `count` of the references are gone.
 pub record IsAlong (old : List RowRef) (start kept count : ℕ) (refs now : List RowRef) : Type 0 where

@@ -140,7 +140,7 @@ pub in_order-exchanged : (i : ℕ) (entry : RowRef) (n : Root) → 1 ≤ i → 1
     → in_order (exchanged i entry (fork n)) ≡ in_order (with_root (insert n.entries i entry) (fork n))
 in_order-exchanged i entry n above some room =
     let least : RowRef = first_entry n.entries in
-    let is : get_or n.entries 0 least ≡ least = get_or_default n.entries 0 least (record { part = 0; slot = 0 }) (omega (arith, some)) in
+    let is : get_or n.entries 0 least ≡ least = get_or_default n.entries 0 least (record { slot = 0 }) (omega (arith, some)) in
     ap (λ xs. xs ++ insert (remove n.entries 0) (i - 1) entry ++ in_order n.right) (pushed_in_order least n.left (room_is_node n.left room))
     ∙ ap (λ xs. xs ++ in_order n.right) (moved_least (in_order n.left) n.entries i least entry above some is)
 

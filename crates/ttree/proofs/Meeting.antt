@@ -35,7 +35,7 @@ module _ (Covers : RowRef → Type 0) (cmp : RowRef → RowRef → Ordering) (Re
       (risen Covers cmp ReachesHigh high n is_high) last in
       let first : low (first_entry n.entries) ≡ Less =
       less_up_to low n.entries (length n.entries - 1) _ (risen Covers cmp ReachesLow low n is_low) (omega (arith, is_low.balanced.2.filled)) last 0
-      (record { part = 0; slot = 0 }) (omega (arith, is_low.balanced.2.filled)) (omega (arith)) in
+      (record { slot = 0 }) (omega (arith, is_low.balanced.2.filled)) (omega (arith)) in
       let nothing = nothing_left Covers cmp left n.entries right is_low.ordered is_low.balanced.2.filled _ ReachesLow low is_low.monotone first high in
       parts ∙ (λ i. nothing i ++ none i ++ between right)
 
@@ -46,6 +46,6 @@ module _ (Covers : RowRef → Type 0) (cmp : RowRef → RowRef → Ordering) (Re
       (risen Covers cmp ReachesHigh high n is_high) first in
       let last : high (last_entry n.entries) ≡ Greater =
       greater_from high n.entries 0 _ (risen Covers cmp ReachesHigh high n is_high) is_low.balanced.2.filled first (length n.entries - 1)
-      (record { part = 0; slot = 0 }) (omega (arith)) (omega (arith, is_low.balanced.2.filled)) in
+      (record { slot = 0 }) (omega (arith)) (omega (arith, is_low.balanced.2.filled)) in
       let nothing = nothing_right Covers cmp left n.entries right is_high.ordered is_low.balanced.2.filled _ ReachesHigh high is_high.monotone last low in
       parts ∙ ((λ i. between left ++ none i ++ nothing i) ∙ (append-nil (between left ++ []) ∙ append-nil (between left)))

@@ -23,10 +23,10 @@ module _ (Covers : RowRef → Type 0) (cmp : RowRef → RowRef → Ordering) (Re
   reached k d within = is.monotone.reaches (get_or n.entries k d) (root_ordered.covered k d within)
 
   pub reached_first : Reaches (first_entry n.entries)
-  reached_first = reached 0 (record { part = 0; slot = 0 }) is.balanced.2.filled
+  reached_first = reached 0 (record { slot = 0 }) is.balanced.2.filled
 
   pub reached_last : Reaches (last_entry n.entries)
-  reached_last = reached (length n.entries - 1) (record { part = 0; slot = 0 }) (omega (arith, is.balanced.2.filled))
+  reached_last = reached (length n.entries - 1) (record { slot = 0 }) (omega (arith, is.balanced.2.filled))
 
   -- its places rise along them
   pub risen : IsNonDecreasingBy (λ a. ordering_index (place a)) n.entries

@@ -1,6 +1,5 @@
 //! A T-tree made from a list at once.
-ghost use Rattle.std.specs.Prelude.{◌≡◌, ◌+◌, ◌*◌, ◌^◌, ◌<◌, ◌≤◌, [], length, All};
-ghost use Rattle.ttree_node.specs.Entries.{IsSmall};
+ghost use Rattle.std.specs.Prelude.{◌≡◌, ◌+◌, ◌*◌, ◌^◌, ◌<◌, ◌≤◌, [], length};
 ghost use Rattle.ttree_node.specs.Tree.{Empty, tree_of, in_order, height_of, node_count};
 ghost use Rattle.ttree.specs.Balanced.{IsTTree};
 ghost use Rattle.ttree.specs.Lowest.{IsLowest};
@@ -15,7 +14,6 @@ pub(crate) const FULL: usize = 16;
 fn node_of(refs: &[RowRef], spares: &mut Spares) -> Subtree
     requires some { 1 ≤ length refs.now }
     requires at_most_16 { length refs.now ≤ 16 }
-    requires small { All IsSmall refs.now }
     requires spare { 1 ≤ spares.old }
     ensures node { result ≡ record { left = Empty; entries = refs.now; right = Empty } }
     ensures one_spare { spares.new + 1 ≡ spares.old }
@@ -33,7 +31,6 @@ fn node_of(refs: &[RowRef], spares: &mut Spares) -> Subtree
 pub(crate) fn build(refs: &[RowRef], nodes: usize, spares: &mut Spares) -> Option<Subtree>
     requires room { length refs.now ≤ 16 * nodes }
     requires filled { 16 * nodes < length refs.now + 16 }
-    requires small { All IsSmall refs.now }
     requires spare { nodes ≤ spares.old }
     requires height_fits { nodes < 2 ^ 32 }
     ensures tree { IsTTree (tree_of result) }

@@ -2,7 +2,6 @@
 ghost use Rattle.std.specs.Prelude.{◌≡◌, ◌≢◌, ◌≤◌, [], ◌∷◌, ◌++◌, length, slice_index_or, All, Contains, IfSome};
 ghost use Rattle.std.specs.Bool.{OnTrue, OnFalse};
 ghost use Rattle.std.specs.declared.cmp.Ordering.TheVariants.{Less, Equal};
-ghost use Rattle.ttree_node.specs.Entries.{IsSmall};
 ghost use Rattle.ttree_node.specs.Tree.{fork, tree_of, in_order, node_count};
 ghost use Rattle.ttree_node.specs.Paths.{tree_at, trail};
 ghost use Rattle.mm_order.specs.Order.{IsOrdered};
@@ -68,7 +67,6 @@ fn insert_into_node<O: RefOrder>(root: &mut Subtree, order: &O, added: RowRef) -
     requires ordered { IsOrdered (O.covers order.now) (O.cmp order.now) (in_order (fork root.old)) }
     requires covered { O.covers order.now added }
     requires apart { All (λ a. O.cmp order.now a added ≢ Equal) (in_order (fork root.old)) }
-    requires small { IsSmall added }
     ensures tree { IsTTree (fork root.new) }
     ensures nodes { node_count (fork root.new) ≡ node_count (fork root.old) }
     ensures adds { OnTrue result (AddsInOrder (O.cmp order.now) (in_order (fork root.old)) added (in_order (fork root.new))) }
@@ -103,7 +101,6 @@ pub(crate) fn insert_in_place<O: RefOrder>(
     requires ordered { IsOrdered (O.covers order.now) (O.cmp order.now) (in_order (tree_of tree.old)) }
     requires covered { O.covers order.now added }
     requires apart { All (λ a. O.cmp order.now a added ≢ Equal) (in_order (tree_of tree.old)) }
-    requires small { IsSmall added }
     ensures tree { IsTTree (tree_of tree.new) }
     ensures nodes { node_count (tree_of tree.new) ≡ node_count (tree_of tree.old) }
     ensures adds { OnTrue result (AddsInOrder (O.cmp order.now) (in_order (tree_of tree.old)) added (in_order (tree_of tree.new))) }

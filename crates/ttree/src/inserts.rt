@@ -1,7 +1,6 @@
 //! Insertion into a T-tree.
 ghost use Rattle.std.specs.Prelude.{◌≡◌, ◌≢◌, ◌+◌, ◌-◌, ◌^◌, ◌<◌, ◌≤◌, ◌↔◌, [], ◌∷◌, ◌++◌, length, take, drop, slice_index_or, All, IsTrue, IfOk, IfErr, IfSome, OnOk, OnErr};
 ghost use Rattle.std.specs.declared.cmp.Ordering.TheVariants.{Less, Equal, Greater};
-ghost use Rattle.ttree_node.specs.Entries.{IsSmall};
 ghost use Rattle.ttree_node.specs.Tree.{fork, tree_of, in_order, height_of, node_count};
 ghost use Rattle.mm_order.specs.Order.{IsOrdered};
 ghost use Rattle.mm_order.specs.Refs.{AddsInOrder};
@@ -18,7 +17,6 @@ use ttree_node::{Entries, Spares, Subtree};
 /// into a new right leaf under it.
 pub(crate) fn push_last(tree: Option<Subtree>, entry: RowRef, spares: &mut Spares) -> Subtree
     requires tree { IsTTree (tree_of tree) }
-    requires small { IsSmall entry }
     requires spare { 1 ≤ spares.old }
     requires height_fits { height_of (tree_of tree) + 2 < 2 ^ 32 }
     ensures tree { IsTTree (fork result) }
@@ -53,7 +51,6 @@ fn insert_between<O: RefOrder>(
     requires ordered { IsOrdered (O.covers order.now) (O.cmp order.now) (in_order (fork node)) }
     requires covered { O.covers order.now added }
     requires apart { All (λ a. O.cmp order.now a added ≢ Equal) (in_order (fork node)) }
-    requires small { IsSmall added }
     requires not_before { O.cmp order.now added (slice_index_or node.entries 0 added) ≢ Less }
     requires not_after { O.cmp order.now added (slice_index_or node.entries (length node.entries - 1) added) ≢ Greater }
     requires spare { 1 ≤ spares.old }
@@ -134,7 +131,6 @@ pub(crate) fn insert_into<O: RefOrder>(
     requires apart { All (λ a. O.cmp order.now a added ≢ Equal) (in_order (tree_of tree)) }
     requires bound_covered { IfSome bound (O.covers order.now) }
     requires behind { IfSome bound (λ b. All (λ a. O.cmp order.now b a ≡ Less) (in_order (tree_of tree))) }
-    requires small { IsSmall added }
     requires spare { 1 ≤ spares.old }
     requires height_fits { height_of (tree_of tree) + 2 < 2 ^ 32 }
     ensures tree { IfOk result (λ made. IsTTree (fork made)) }

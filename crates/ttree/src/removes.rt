@@ -1,7 +1,6 @@
 //! Removal from a T-tree.
 ghost use Rattle.std.specs.Prelude.{◌≡◌, ◌+◌, ◌-◌, ◌^◌, ◌<◌, ◌≤◌, ◌↔◌, ◌⊎◌, max, [], ◌∷◌, ◌++◌, List, length, take, drop, Contains, IsSome, IfSome, IfNone, Some, slice_get};
 ghost use Rattle.mm_value.specs.declared.row_ref.RowRef.{RowRef as Reference};
-ghost use Rattle.ttree_node.specs.Entries.{IsSmall};
 ghost use Rattle.ttree_node.specs.Tree.{Empty, fork, tree_of, in_order, height_of, node_count};
 ghost use Rattle.ttree_node.specs.Slide.{IsLeaf};
 ghost use Rattle.mm_order.specs.Order.{IsOrdered};
@@ -122,7 +121,6 @@ fn take_last(mut node: Subtree, spares: &mut Spares) -> (Option<Subtree>, RowRef
     requires pool_fits { node_count (fork node) + spares.old < 2 ^ 32 }
     ensures tree { IsTTree (tree_of result.0) }
     ensures entries { in_order (tree_of result.0) ++ result.1 ∷ [] ≡ in_order (fork node) }
-    ensures small { IsSmall result.1 }
     ensures nodes { node_count (tree_of result.0) + spares.new ≡ node_count (fork node) + spares.old }
     ensures spares { spares.old ≤ spares.new }
     ensures not_higher { height_of (tree_of result.0) ≤ height_of (fork node) }

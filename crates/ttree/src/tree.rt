@@ -4,7 +4,6 @@ ghost use Rattle.std.specs.Int.{div_ceil};
 ghost use Rattle.std.specs.declared.cmp.Ordering.TheVariants.{Equal};
 ghost use Rattle.mm_order.specs.Order.{IsOrdered};
 ghost use Rattle.mm_order.specs.Probe.{IsMonotone};
-ghost use Rattle.ttree_node.specs.Entries.{IsSmall};
 ghost use Rattle.ttree.specs.Lowest.{IsLowest};
 ghost use Rattle.ttree.specs.Shuffle.{IsShuffle};
 
@@ -61,7 +60,6 @@ impl TTree {
     /// for the last. `AllocError` where memory is refused.
     #[tactic(auto, using(crate::proofs::Sizes::height_at_most_nodes))]
     pub fn from_sorted(alloc: Global, refs: &[RowRef]) -> Result<TTree, AllocError>
-        requires small { All IsSmall refs.now }
         ensures refs { IfOk result (λ tree. tree.refs ≡ refs.now) }
         ensures lowest { IfOk result (λ tree. IsLowest (div_ceil (length refs.now) 16) tree.height) }
     {

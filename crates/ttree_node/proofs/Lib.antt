@@ -1,4 +1,3 @@
 pub mod OwnerSteps
 pub mod PathLemmas
-pub mod RowRefs
 pub mod SlideLemmas

@@ -166,7 +166,7 @@ last_back : (entries : List RowRef) → 1 ≤ length entries → remove entries 
 last_back entries some =
     let n : ℕ = length entries - 1 in
     let none : drop (suc n) entries ≡ [] = drop_of_length-le entries {i = suc n} (omega arith) in
-    let end : drop n entries ≡ last_entry entries ∷ [] = drop-cons entries n (record { part = 0; slot = 0 }) (omega arith)
+    let end : drop n entries ≡ last_entry entries ∷ [] = drop-cons entries n (record { slot = 0 }) (omega arith)
     ∙ ap (λ xs. last_entry entries ∷ xs) none in
     ap (λ ys. take n entries ++ ys ++ last_entry entries ∷ []) none ∙ ap (λ ys. ys ++ last_entry entries ∷ []) (append-nil (take n entries))
     ∙ sym (ap (λ ys. take n entries ++ ys) end) ∙ take-append-drop n entries

@@ -5,9 +5,9 @@ use Rattle.std.specs.Coded.{Coded, code_by, coded×, coded_ℕ, coded_list, code
 use Rattle.mm_value.specs.declared.row_ref.RowRef.{RowRef}
 use Rattle.ttree_node.specs.Tree.{Tree, Empty, Fork, Root}
 
--- a reference is stored as the pair of its numbers
+-- a reference is stored as its number
 abbrev pub row_ref_code : Coded RowRef
-row_ref_code = code_by (ℕ × ℕ) (coded× coded_ℕ coded_ℕ) (λ r. (r.part, r.slot)) (λ p. record { part = p.0; slot = p.1 }) (λ _. refl)
+row_ref_code = code_by ℕ coded_ℕ (λ r. r.slot) (λ n. record { slot = n }) (λ _. refl)
 
 -- a tree in front of a list: its left side, its right side, then the entries of its root
 abbrev pub written : Tree → List (Option (List RowRef)) → List (Option (List RowRef))

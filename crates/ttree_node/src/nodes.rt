@@ -1,7 +1,6 @@
 //! Subtrees and what can be done at their root.
 ghost use Rattle.std.specs.Prelude.{◌≡◌, ◌+◌, ◌^◌, ◌<◌, ◌≤◌, [], ◌∷◌, ◌++◌, length, take, drop, insert, remove, slice_get, Some, IfOk};
 ghost use Rattle.std.specs.Option.{option_copied};
-ghost use Rattle.ttree_node.specs.Entries.{IsSmall};
 ghost use Rattle.ttree_node.specs.Nodes.{link_tree, link_height};
 ghost use Rattle.ttree_node.specs.Tree.{Empty, fork, tree_of, height_of, node_count};
 ghost use Rattle.ttree_node.specs.declared.nodes.Link.TheVariants.{Free};
@@ -130,8 +129,7 @@ impl Subtree {
 
     /// A node with this one entry, made from a free node.
     pub fn leaf(spares: &mut Spares, entry: RowRef) -> Subtree
-        requires spare { 0 < spares.old }
-        requires small { IsSmall entry }
+        requires { 0 < spares.old }
         ensures one_entry { result ≡ record { left = Empty; entries = entry ∷ []; right = Empty } }
         ensures one_spare { spares.new + 1 ≡ spares.old }
     {
@@ -194,7 +192,6 @@ impl Subtree {
     pub fn put_entry(&mut self, i: usize, entry: RowRef)
         requires room { length self.old.entries < 16 }
         requires in_bounds { i ≤ length self.old.entries }
-        requires small { IsSmall entry }
         ensures { self.new ≡ record self.old { entries = insert self.old.entries i entry } }
     {
         let node = self.root.as_mut();
@@ -206,7 +203,6 @@ impl Subtree {
         requires { i < length self.old.entries }
         ensures taken { slice_get self.old.entries i ≡ Some result }
         ensures rest { self.new ≡ record self.old { entries = remove self.old.entries i } }
-        ensures small { IsSmall result }
     {
         let node = self.root.as_mut();
         node.entries.remove(i)

@@ -1,7 +1,6 @@
 //! Entries put in and taken out at the end of a path, which leave the tree's shape.
 ghost use Rattle.std.specs.Prelude.{◌≡◌, ◌+◌, ◌<◌, ◌≤◌, length, insert, remove, slice_get, Some, IfSome, IfNone, OnSome};
 ghost use Rattle.std.specs.Bool.{OnTrue, OnFalse};
-ghost use Rattle.ttree_node.specs.Entries.{IsSmall};
 ghost use Rattle.ttree_node.specs.Tree.{IsFork, fork};
 ghost use Rattle.ttree_node.specs.Paths.{HasRoomAtEnd, HasRoomOnLeft, HasSpareAtEnd, HasSpareOnLeft, borrowed, end_of, popped, tree_at, entries_at, exchanged, pushed, with_entries, with_tree};
 
@@ -16,7 +15,6 @@ impl Subtree {
         requires there { IsFork (tree_at path.now (fork self.old)) }
         requires room { length (entries_at path.now (fork self.old)) < 16 }
         requires in_bounds { i ≤ length (entries_at path.now (fork self.old)) }
-        requires small { IsSmall entry }
         ensures { fork self.new ≡ with_entries path.now (insert (entries_at path.now (fork self.old)) i entry) (fork self.old) }
     {
         let Some((side, rest)) = path.split_first() else {
@@ -49,7 +47,6 @@ impl Subtree {
         requires in_bounds { i < length (entries_at path.now (fork self.old)) }
         ensures taken { slice_get (entries_at path.now (fork self.old)) i ≡ Some result }
         ensures rest { fork self.new ≡ with_entries path.now (remove (entries_at path.now (fork self.old)) i) (fork self.old) }
-        ensures small { IsSmall result }
     {
         let Some((side, rest)) = path.split_first() else {
             return self.take_entry(i);
@@ -74,7 +71,6 @@ impl Subtree {
     /// Puts an entry behind all others, into the last node, where that has room. Says whether it did.
     #[tactic(auto, using(crate::proofs::PathLemmas::pushed_height))]
     fn push_at_end(&mut self, entry: RowRef) -> bool
-        requires { IsSmall entry }
         ensures done { OnTrue result (fork self.new ≡ pushed entry (fork self.old)) }
         ensures room { OnTrue result (HasRoomAtEnd (fork self.old)) }
         ensures kept { OnFalse result (fork self.new ≡ fork self.old) }
@@ -96,7 +92,6 @@ impl Subtree {
     fn exchange_entry(&mut self, i: usize, entry: RowRef) -> bool
         requires above_first { 1 ≤ i }
         requires in_bounds { i ≤ length self.old.entries }
-        requires small { IsSmall entry }
         ensures done { OnTrue result (fork self.new ≡ exchanged i entry (fork self.old)) }
         ensures room { OnTrue result (HasRoomOnLeft (fork self.old)) }
         ensures kept { OnFalse result (fork self.new ≡ fork self.old) }
@@ -104,7 +99,7 @@ impl Subtree {
         let node = self.root.as_mut();
         // It is at most 16.
         let _len = node.entries.len();
-        let least = node.entries.least();
+        let least = node.entries.first();
         let Link::Tied(_, left) = &mut node.left else {
             return false;
         };
@@ -123,7 +118,6 @@ impl Subtree {
         requires there { IsFork (tree_at path.now (fork self.old)) }
         requires above_first { 1 ≤ i }
         requires in_bounds { i ≤ length (entries_at path.now (fork self.old)) }
-        requires small { IsSmall entry }
         ensures done { OnTrue result (fork self.new ≡ with_tree path.now (exchanged i entry (tree_at path.now (fork self.old))) (fork self.old)) }
         ensures room { OnTrue result (HasRoomOnLeft (tree_at path.now (fork self.old))) }
         ensures kept { OnFalse result (fork self.new ≡ fork self.old) }
@@ -152,7 +146,6 @@ impl Subtree {
     #[tactic(auto, using(crate::proofs::PathLemmas::popped_height))]
     fn pop_at_end(&mut self) -> Option<RowRef>
         ensures last { IfSome result (λ last. last ≡ end_of (fork self.old)) }
-        ensures small { IfSome result IsSmall }
         ensures spare { IfSome result (λ _. HasSpareAtEnd (fork self.old)) }
         ensures rest { IfSome result (λ _. fork self.new ≡ popped (fork self.old)) }
         ensures kept { IfNone result (fork self.new ≡ fork self.old) }

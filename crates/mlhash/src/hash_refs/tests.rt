@@ -10,21 +10,12 @@ use mm_value::RowRef;
 use std::process::Abort;
 use std::test::Fail;
 
-/// A reference into the first partition.
-fn slot(slot: u8) -> RowRef
-    requires { slot < 64 }
-    ensures { IsSmall result }
-{
-    RowRef { part: 0, slot }
-}
-
-/// The reference of the row that was placed after so many others.
-fn row(number: u16) -> RowRef
+/// A reference to one of the first slots.
+fn slot(slot: u16) -> RowRef
     ensures { IsSmall result }
 {
     RowRef {
-        part: usize::from(number / 64),
-        slot: (number % 64) as u8,
+        slot: u32::from(slot),
     }
 }
 
@@ -54,7 +45,7 @@ fn splits_and_merges_one_bucket_at_a_time(rt: HostRuntime) -> Result<(), Fail> {
     let alloc = rt.alloc();
     let mut refs = HashRefs::new(alloc);
     refs.reserve(alloc, 9)?;
-    for hash in 0..9u8 {
+    for hash in 0..9u16 {
         assert_eq!(rt; refs.heads.len(), 4, "before {hash}");
         insert(&rt, &mut refs, u64::from(hash), slot(hash));
     }
@@ -65,7 +56,7 @@ fn splits_and_merges_one_bucket_at_a_time(rt: HostRuntime) -> Result<(), Fail> {
             "{hash}"
         );
     }
-    for hash in 0..6u8 {
+    for hash in 0..6u16 {
         assert!(rt; refs.remove(u64::from(hash), slot(hash)), "{hash}");
     }
     assert_eq!(rt; (refs.len(), refs.heads.len()), (3, 5));
@@ -107,11 +98,11 @@ fn is_led_to_each_pair_of_one_hash(rt: HostRuntime) -> Result<(), Fail> {
     let mut refs = HashRefs::new(alloc);
     for number in 0..1000u16 {
         refs.reserve(alloc, 1)?;
-        insert(&rt, &mut refs, 5, row(number));
+        insert(&rt, &mut refs, 5, slot(number));
     }
     // 7 and 1000 have no factor in common: each number comes once.
     for step in 0..1000u16 {
-        let gone = row(step * 7 % 1000);
+        let gone = slot(step * 7 % 1000);
         assert!(rt; is_led_to(&refs, 5, gone), "{step}");
         assert!(rt; refs.remove(5, gone), "{step}");
         assert!(rt; !refs.remove(5, gone), "{step}");
@@ -125,13 +116,13 @@ fn removes_references_past_the_directory(rt: HostRuntime) -> Result<(), Fail> {
     let alloc = rt.alloc();
     let mut refs = HashRefs::new(alloc);
     refs.reserve(alloc, 4)?;
-    // The last one has the greatest number of all.
-    let far = [(1_000_000, 3), (67_108_863, 62)];
-    for (part, slot) in far {
-        insert(&rt, &mut refs, 9, RowRef { part, slot });
+    // The last one is the greatest that an entry can have.
+    let far = [64_000_003, u32::MAX - 1];
+    for slot in far {
+        insert(&rt, &mut refs, 9, RowRef { slot });
     }
-    for (part, slot) in far {
-        let gone = RowRef { part, slot };
+    for slot in far {
+        let gone = RowRef { slot };
         assert!(rt; !is_led_to(&refs, 9, gone));
         assert!(rt; refs.remove(9, gone));
         assert!(rt; !refs.remove(9, gone));
@@ -147,18 +138,9 @@ fn removes_no_reference_that_is_not_small(rt: HostRuntime) -> Result<(), Fail> {
     refs.reserve(alloc, 4)?;
     insert(&rt, &mut refs, 0, slot(0));
     insert(&rt, &mut refs, 0, slot(63));
-    // A free node is left behind, with hash 0 and the greatest number of 32 bits.
+    // A free node is left behind, with hash 0 and the greatest reference.
     assert!(rt; refs.remove(0, slot(0)));
-    // The numbers of the last two slots are past `usize`; wrapped they are 0 and 191.
-    for (part, slot) in [
-        (67_108_863, 63),
-        (0, 127),
-        (67_108_864, 63),
-        (288_230_376_151_711_744, 0),
-        (usize::MAX, 255),
-    ] {
-        assert!(rt; !refs.remove(0, RowRef { part, slot }), "{part} {slot}");
-    }
+    assert!(rt; !refs.remove(0, RowRef { slot: u32::MAX }));
     assert_eq!(rt; refs.len(), 1);
     Ok(())
 }
@@ -169,7 +151,7 @@ fn gives_the_references_of_one_hash(rt: HostRuntime) -> Result<(), Fail> {
     let mut refs = HashRefs::new(alloc);
     refs.reserve(alloc, 100)?;
     for number in 0..100u16 {
-        insert(&rt, &mut refs, u64::from(number % 8), row(number));
+        insert(&rt, &mut refs, u64::from(number % 8), slot(number));
     }
     let mut count = 0u32;
     for reference in refs.matching(3) {

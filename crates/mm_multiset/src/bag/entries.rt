@@ -3,8 +3,9 @@ ghost use Rattle.std.specs.Prelude.{◌≡◌, ◌≤◌, ◌∷◌, [], ℕ, If
 ghost use Rattle.mm_multiset.specs.Slots.{AreMarked, IsNextRow, entries_of, no_row};
 ghost use Rattle.mm_partition.specs.Views.{viewed};
 
-use crate::bag::slots::{NO_ROW, reference_to};
+use crate::bag::slots::NO_ROW;
 use mm_partition::{Partitions, RowView};
+use mm_value::RowRef;
 use std::marker::Model;
 
 /// The entries of a bag that are left to be read, seen as their list.
@@ -46,7 +47,9 @@ impl<'a> BagEntries<'a> {
         ensures { MatchOption result (self.old ≡ []) (λ entry. self.old ≡ (viewed entry.0, entry.1) ∷ self.new) }
     {
         let index = next_row(self.counts, self.next)?;
-        let row = self.rows.get(reference_to(index));
+        self.rows.are_references_small();
+        let at = RowRef { slot: index as u32 };
+        let row = self.rows.get(at);
         let count = self.counts[index] as usize;
         self.next = index + 1;
         Some((row, count))

@@ -3,8 +3,8 @@ ghost use Rattle.std.specs.Prelude.{◌≡◌, ◌+◌, ◌-◌, ◌≤◌, ◌<
 ghost use Rattle.std.specs.Prelude.{◌≤ℤ◌, ◌<ℤ◌, false, List, length, slice_index_or, vec_capacity, vec_len, IsPermutation};
 ghost use Rattle.mm_multiset.specs.Counts.{has_entry};
 ghost use Rattle.mm_multiset.specs.RowHash.{row_hash};
-ghost use Rattle.mm_multiset.specs.Slots.{IsKept, IsRecounted, entries_of, no_row, reference_to};
-ghost use Rattle.mm_partition.specs.Places.{Live, slot_at, slot_index_of};
+ghost use Rattle.mm_multiset.specs.Slots.{IsKept, IsRecounted, entries_of, no_row};
+ghost use Rattle.mm_partition.specs.Places.{Live, slot_at};
 ghost use Rattle.mm_partition.specs.Types.{HasTypes};
 ghost use Rattle.mm_value.specs.declared.values.Value.{Value as Val};
 
@@ -62,7 +62,7 @@ pub(crate) fn take(
     requires live { (row : List Val) × (slot_at rows.old at ≡ Live row) × (hash ≡ row_hash row) }
     ensures kept { IsKept rows.new.slots counts.new.items by_hash.new.entries }
     ensures taken { (row : List Val) → slot_at rows.old at ≡ Live row → IsPermutation (entries_of rows.old.slots counts.old.items)
-        ((row, slice_index_or counts.old.items (slot_index_of at) no_row) ∷ entries_of rows.new.slots counts.new.items) }
+        ((row, slice_index_or counts.old.items at.slot no_row) ∷ entries_of rows.new.slots counts.new.items) }
     ensures room { rows.old.room ≤ rows.new.room }
     ensures spare { by_hash.old.spare ≤ by_hash.new.spare }
     ensures capacity { vec_capacity counts.new - vec_len counts.new ≡ vec_capacity counts.old - vec_len counts.old }
@@ -93,14 +93,4 @@ pub(crate) fn changed(number: u32, change: i128) -> u32
     ensures { pos result ≡ pos number +ℤ change }
 {
     (number as i128 + change) as u32
-}
-
-/// The reference to the slot at an index: there are 64 slots in a partition.
-pub(crate) fn reference_to(index: usize) -> RowRef
-    ensures { result ≡ reference_to index }
-{
-    RowRef {
-        part: index / 64,
-        slot: (index % 64) as u8,
-    }
 }

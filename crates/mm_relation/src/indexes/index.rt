@@ -47,7 +47,6 @@ impl Index {
         match kind {
             IndexKind::Tree => {
                 let sorted = sorted_refs(alloc, rows, column, key, refs)?;
-                rows.are_references_small();
                 let refs = TTree::from_sorted(alloc, sorted.as_slice())?;
                 Ok(Index::Tree { column, refs })
             }

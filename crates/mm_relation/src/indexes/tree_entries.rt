@@ -30,7 +30,6 @@ fn put<L: OrderedRefs>(rows: &Partitions, column: usize, key: usize, tree: &mut 
     ensures ordered { InOrder column key (slot_at rows.now) (L.refs tree.new) }
     ensures spare { L.spare tree.old ≤ L.spare tree.new + 1 }
 {
-    rows.are_references_small();
     match number_keys(rows, column, key) {
         Some(NumberKeys { values, ties }) => {
             let order = ByNumbers {

@@ -21,8 +21,7 @@ impl Relation {
         self.rows.are_storable();
     }
 
-    /// Each reference that gives a row of a relation is to one of the 64 slots of a partition, and the slot's index is below
-    /// 2^32 - 1. The call does nothing.
+    /// The slot of each reference that gives a row of a relation has an index below 2^32 - 1. The call does nothing.
     pub fn are_references_small(&self)
         ensures { AreReferencesSmall self.now.places }
     {

@@ -50,7 +50,6 @@ impl Relation {
     {
         let refs = copy_refs(alloc, &self.by_key)?;
         let sorted = sorted_refs(alloc, &self.rows, column, self.key, refs.as_slice())?;
-        self.rows.are_references_small();
         TTree::from_sorted(alloc, sorted.as_slice())
     }
 

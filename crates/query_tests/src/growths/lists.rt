@@ -16,13 +16,13 @@ use std::alloc::{AllocError, Global};
 use std::process::Abort;
 use std::test::Fail;
 
-/// The reference to a slot of the first partition.
-fn at(slot: u8) -> RowRef {
-    RowRef { part: 0, slot }
+/// The reference to a slot.
+fn at(slot: u32) -> RowRef {
+    RowRef { slot }
 }
 
 /// Adds the combination of a slot and slot 9 to a list. Where memory is refused the list is to be as long as it was.
-fn adds(rt: &(impl Abort + Print), list: &mut TempList, slot: u8) -> Result<(), Fail>
+fn adds(rt: &(impl Abort + Print), list: &mut TempList, slot: u32) -> Result<(), Fail>
     requires { length list.old.tables ≡ 2 }
     ensures { length list.new.tables ≡ 2 }
 {

@@ -9,10 +9,10 @@ use mm_value::RowRef;
 use std::process::Abort;
 use std::test::Fail;
 
-const ROW: RowRef = RowRef { part: 0, slot: 0 };
+const ROW: RowRef = RowRef { slot: 0 };
 
 /// A row far behind the first.
-const FAR: RowRef = RowRef { part: 7, slot: 51 };
+const FAR: RowRef = RowRef { slot: 499 };
 
 /// Makes room for rows and their targets, again where memory is refused. Then the first row is tied as before.
 fn reserve_again(rt: &(impl Abort + AllocGlobal + Print), key: &mut ForeignKey) -> Result<(), Fail>

@@ -1,9 +1,9 @@
 //! Bags of references by hash.
 ghost use Rattle.std.specs.Prelude.{◌<◌};
-ghost use Rattle.mlhash.specs.Bag.{IsSmall};
 
 use crate::assertions::{assert_same, assert_that};
 use crate::growths::asked_again;
+use crate::hash_tables::slot;
 use crate::references::are;
 use mlhash::HashRefs;
 use mm_value::RowRef;
@@ -11,22 +11,12 @@ use std::alloc::{AllocError, Global};
 use std::process::Abort;
 use std::test::Fail;
 
-/// The reference to the first slot of a partition.
-fn first_of(part: u8) -> RowRef
-    ensures { IsSmall result }
-{
-    RowRef {
-        part: usize::from(part),
-        slot: 0,
-    }
-}
-
 /// Puts references of the hash 4 into a bag, and one of the hash 9.
 fn put_three(alloc: Global, refs: &mut HashRefs) -> Result<(), AllocError> {
     refs.reserve(alloc, 3)?;
-    refs.insert(4, first_of(1));
-    refs.insert(9, first_of(2));
-    refs.insert(4, first_of(3));
+    refs.insert(4, slot(1));
+    refs.insert(9, slot(2));
+    refs.insert(4, slot(3));
     Ok(())
 }
 
@@ -38,10 +28,10 @@ fn find_three(
     found: &mut Vec<RowRef>,
 ) -> Result<(), AllocError> {
     refs.copy_all(alloc, found)?;
-    assert_that(rt, are(found, &[first_of(1), first_of(2), first_of(3)]));
+    assert_that(rt, are(found, &[slot(1), slot(2), slot(3)]));
     found.clear();
     refs.matches(alloc, 4, found)?;
-    assert_that(rt, are(found, &[first_of(1), first_of(3)]));
+    assert_that(rt, are(found, &[slot(1), slot(3)]));
     Ok(())
 }
 
@@ -55,8 +45,8 @@ fn assert_three(rt: &impl Abort, alloc: Global, refs: &HashRefs) -> Result<(), A
 fn use_room(rt: &impl Abort, alloc: Global, refs: &mut HashRefs)
     requires { 0 < refs.old.spare }
 {
-    refs.insert(9, first_of(4));
-    assert_that(rt, refs.remove(9, first_of(4)));
+    refs.insert(9, slot(4));
+    assert_that(rt, refs.remove(9, slot(4)));
     assert_that(rt, refs.spare() >= 40);
     let _ = assert_three(rt, alloc, refs);
 }
@@ -99,7 +89,7 @@ fn match_again(
         assert_three(rt, rt.alloc(), refs)?;
         refs.matches(rt.alloc(), 4, found)?;
     }
-    assert_that(rt, are(found, &[first_of(1), first_of(3)]));
+    assert_that(rt, are(found, &[slot(1), slot(3)]));
     Ok(())
 }
 
@@ -113,7 +103,7 @@ fn hash_matches_growths(rt: HostRuntime) -> Result<(), Fail> {
 /// A full list of one reference, which has to grow for the next.
 fn full_list(alloc: Global) -> Result<Vec<RowRef>, AllocError> {
     let mut list = Vec::with_capacity(alloc, 1)?;
-    list.push(first_of(0))?;
+    list.push(slot(0))?;
     Ok(list)
 }
 
@@ -125,11 +115,11 @@ fn copy_again(
 ) -> Result<(), Fail> {
     if refs.copy_all(rt.alloc(), found).is_err() {
         asked_again(rt)?;
-        assert_that(rt, are(found, &[first_of(0)]));
+        assert_that(rt, are(found, &[slot(0)]));
         assert_three(rt, rt.alloc(), refs)?;
         refs.copy_all(rt.alloc(), found)?;
     }
-    let wanted = [first_of(0), first_of(1), first_of(2), first_of(3)];
+    let wanted = [slot(0), slot(1), slot(2), slot(3)];
     assert_that(rt, are(found, &wanted));
     Ok(())
 }

@@ -14,13 +14,13 @@ use std::process::Abort;
 use std::test::Fail;
 use ttree::TTree;
 
-/// Puts the references 3 and 7 into an empty list.
+/// Puts the references 3 and 70 into an empty list.
 fn put_two<R: OrderedRefs>(alloc: Global, refs: &mut R) -> Result<(), AllocError>
     requires { R.refs refs.old ≡ [] }
     ensures { IsByPlace (R.refs refs.new) }
 {
     refs.reserve(alloc, 2)?;
-    refs.insert(&ByPlace, numbered(7));
+    refs.insert(&ByPlace, numbered(70));
     refs.insert(&ByPlace, numbered(3));
     Ok(())
 }
@@ -31,7 +31,7 @@ fn assert_two<R: OrderedRefs>(rt: &impl Abort, alloc: Global, refs: &R) -> Resul
 {
     let mut held = Vec::new(alloc);
     append_all(alloc, refs, &mut held)?;
-    assert_same(rt, held.as_slice(), &[numbered(3), numbered(7)]);
+    assert_same(rt, held.as_slice(), &[numbered(3), numbered(70)]);
     Ok(())
 }
 
@@ -62,7 +62,7 @@ fn front() -> [RowRef; 4] {
     [numbered(1), numbered(0), numbered(1), numbered(0)]
 }
 
-/// Copies those references of `put_two` that lie in the partition of 7, behind those of `front`.
+/// Copies those references of `put_two` that lie in the partition of 70, behind those of `front`.
 fn copy_behind<R: OrderedRefs>(
     rt: &(impl Abort + Print),
     alloc: Global,
@@ -79,7 +79,7 @@ fn copy_behind<R: OrderedRefs>(
         append_part(alloc, refs, 1, out)?;
     }
     let [a, b, c, d] = front;
-    assert_same(rt, out.as_slice(), &[a, b, c, d, numbered(7)]);
+    assert_same(rt, out.as_slice(), &[a, b, c, d, numbered(70)]);
     Ok(())
 }
 

@@ -1,6 +1,4 @@
 //! T-trees of several nodes, and their pool of nodes.
-ghost use Rattle.std.specs.Prelude.{All};
-ghost use Rattle.ttree_node.specs.Entries.{IsSmall};
 ghost use Rattle.structure_tests.specs.Orders.{IsByPlace};
 
 use crate::assertions::{assert_same, assert_that};
@@ -16,9 +14,7 @@ use ttree::TTree;
 use ttree_node::Spares;
 
 /// A tree over references in order, asked for again where memory is refused.
-fn build_again(rt: &(impl Abort + AllocGlobal + Print), refs: &[RowRef]) -> Result<TTree, Fail>
-    requires { All IsSmall refs.now }
-{
+fn build_again(rt: &(impl Abort + AllocGlobal + Print), refs: &[RowRef]) -> Result<TTree, Fail> {
     match TTree::from_sorted(rt.alloc(), refs) {
         Ok(tree) => Ok(tree),
         Err(_) => {
@@ -64,8 +60,7 @@ fn copy_again(
 
 /// Copies the nodes of a tree over references in order.
 fn copy_nodes(rt: &(impl Abort + AllocGlobal + Print), refs: &[RowRef]) -> Result<(), Fail>
-    requires ordered { IsByPlace refs.now }
-    requires small { All IsSmall refs.now }
+    requires { IsByPlace refs.now }
 {
     let Ok(tree) = TTree::from_sorted(rt.alloc(), refs) else {
         return Ok(());

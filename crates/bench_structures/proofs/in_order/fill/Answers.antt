@@ -5,10 +5,10 @@ use Rattle.bench_structures.proofs.in_order.fill.Goals as goal
 
 pub loop-number-preserved : goal.loop-number-preserved
 loop-number-preserved g c =
-    let earlier : All (λ a. a.part < c.loop-number.number)
-    (g.L.OrderedRefs.refs c.reserve.new.self) = subst (λ (xs : List RowRef). All (λ a. a.part < c.loop-number.number) xs)
+    let earlier : All (λ a. a.slot < c.loop-number.number)
+    (g.L.OrderedRefs.refs c.reserve.new.self) = subst (λ (xs : List RowRef). All (λ a. a.slot < c.loop-number.number) xs)
     (sym c.in_ok-reserve.ensures.refs) c.loop-number.invariant.earlier in
     record {
       ordered = c.insert.ensures.ordered;
-      earlier = All-added _ _ _ _ c.insert.ensures.refs (λ a. a.part < c.loop-number.number + 1) (λ k d below. omega (arith, earlier k d below)) (omega arith);
+      earlier = All-added _ _ _ _ c.insert.ensures.refs (λ a. a.slot < c.loop-number.number + 1) (λ k d below. omega (arith, earlier k d below)) (omega arith);
     }

@@ -7,5 +7,5 @@ use Rattle.bench_structures.proofs.in_order.fill.Given as goal
 abbrev pub invariant-loop-number : goal.invariant-loop-number
 invariant-loop-number g l = record {
   ordered : IsOrdered (λ _. Unit {0}) (by_key l.order.keys.now) (g.L.OrderedRefs.refs l.list);
-  earlier : All (λ a. a.part < l.number) (g.L.OrderedRefs.refs l.list);
+  earlier : All (λ a. a.slot < l.number) (g.L.OrderedRefs.refs l.list);
 }

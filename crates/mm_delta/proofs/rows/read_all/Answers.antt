@@ -13,7 +13,7 @@ use Rattle.mm_value.specs.declared.values.Value.{Value}
 use Rattle.mm_delta.proofs.rows.read_all.Goals as goal
 
 abbrev none : RowRef
-none = record { part = 0; slot = 0 }
+none = record { slot = 0 }
 
 pub loop-at-preserved : goal.loop-at-preserved
 loop-at-preserved c =

@@ -7,5 +7,5 @@ pub returns-then-entry-prefix : goal.returns-then-entry-prefix
 returns-then-entry-prefix c =
     c.loop-entry.invariant
     ∙ ap (λ (l : List Entry). map (λ (entry : Entry). entry.at) l)
-    (run_ends c.args.prefix c.args.entries.now c.requires.rising c.loop-entry.entry-index (record { prefix = 0; at = record { part = 0; slot = 0 } })
+    (run_ends c.args.prefix c.args.entries.now c.requires.rising c.loop-entry.entry-index (record { prefix = 0; at = record { slot = 0 } })
     c.loop-entry-test.true c.if-entry-prefix.true)

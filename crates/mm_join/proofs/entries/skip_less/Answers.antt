@@ -17,7 +17,7 @@ loop-low-preserved-then-entries-middle c = record {
   low_below = omega arith;
   high_within = c.loop-low.invariant.high_within;
   before = less_up_to c.args.entries.now c.requires.rising c.args.prefix (c.loop-low.low + c.min.result)
-      (record { prefix = 0; at = record { part = 0; slot = 0 } }) (omega arith) c.if-entries-middle.true;
+      (record { prefix = 0; at = record { slot = 0 } }) (omega arith) c.if-entries-middle.true;
   rest = c.loop-low.invariant.rest;
 }
 
@@ -28,5 +28,5 @@ loop-low-preserved c = record {
   high_within = omega arith;
   before = c.loop-low.invariant.before;
   rest = not_less_from c.args.entries.now c.requires.rising c.args.prefix (c.loop-low.low + c.min.result)
-      (record { prefix = 0; at = record { part = 0; slot = 0 } }) (omega arith) c.if-entries-middle.false;
+      (record { prefix = 0; at = record { slot = 0 } }) (omega arith) c.if-entries-middle.false;
 }

@@ -13,7 +13,7 @@ returns-clause-before c =
       | else-last-gt0-via-then-last-gt0+else-entries-last w ↦
           let more : c.args.last - 1 + 1 ≡ c.args.last = omega (arith, w.if-last-gt0.true) in
           subst (λ n. All (λ (entry : Entry). entry.prefix < c.args.prefix) (take n entries)) more
-          (less_up_to entries c.requires.rising c.args.prefix (c.args.last - 1) (record { prefix = 0; at = record { part = 0; slot = 0 } })
+          (less_up_to entries c.requires.rising c.args.prefix (c.args.last - 1) (record { prefix = 0; at = record { slot = 0 } })
           (omega (arith, w.if-last-gt0.true, c.requires.bound)) w.if-entries-last.false)
       | else-last-gt0-via-else-last-gt0 w ↦ λ k d inside.
           absurd (omega (arith, inside, w.if-last-gt0.false, length-take-le c.args.last entries c.requires.bound))

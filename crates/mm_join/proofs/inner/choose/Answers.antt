@@ -16,22 +16,22 @@ use Rattle.mm_join.proofs.inner.choose.Goals as goal
 
 pub bounds-outer-place : goal.bounds-outer-place
 bounds-outer-place c =
-    table_within c.args.view.now.store c.args.outer.tables.now c.args.outer.refs.now c.loop-place.place record { part = 0; slot = 0 } c.loop-place-test.true
+    table_within c.args.view.now.store c.args.outer.tables.now c.args.outer.refs.now c.loop-place.place record { slot = 0 } c.loop-place-test.true
     c.loop-place.invariant.live
 
 pub row-requires-clause-there : goal.row-requires-clause-there
 row-requires-clause-there c =
-    let live = next_live c.args.view.now.store c.args.outer.tables.now c.args.outer.refs.now c.loop-place.place record { part = 0; slot = 0 }
+    let live = next_live c.args.view.now.store c.args.outer.tables.now c.args.outer.refs.now c.loop-place.place record { slot = 0 }
     c.loop-place-test.true c.loop-place.invariant.live in
     subst (λ (store : Tables). get_or c.args.outer.tables.now c.loop-place.place 0 < length store.tables) (sym c.loop-place.invariant.same)
     (slice_get_within c.args.view.now.store.tables (get_or c.args.outer.tables.now c.loop-place.place 0) live.0 live.1)
 
 pub row-requires-clause-live : goal.row-requires-clause-live
 row-requires-clause-live c = λ stored at.
-    let live = next_live c.args.view.now.store c.args.outer.tables.now c.args.outer.refs.now c.loop-place.place record { part = 0; slot = 0 }
+    let live = next_live c.args.view.now.store c.args.outer.tables.now c.args.outer.refs.now c.loop-place.place record { slot = 0 }
     c.loop-place-test.true c.loop-place.invariant.live in
     let here = subst (λ (store : Tables). IsAt store (get_or c.args.outer.tables.now c.loop-place.place 0) stored) c.loop-place.invariant.same at in
-    subst (λ (s : StoredRows). IsLive s.places (get_or c.args.outer.refs.now c.loop-place.place record { part = 0; slot = 0 }))
+    subst (λ (s : StoredRows). IsLive s.places (get_or c.args.outer.refs.now c.loop-place.place record { slot = 0 }))
     (one_relation live.0 stored (sym live.1 ∙ here)) live.2
 
 pub returns-in_err-push-clause-reads : goal.returns-in_err-push-clause-reads
@@ -39,7 +39,7 @@ returns-in_err-push-clause-reads c =
     omega (
       arith,
       c.row.ensures.counted,
-      table_within c.args.view.now.store c.args.outer.tables.now c.args.outer.refs.now c.loop-place.place record { part = 0; slot = 0 }
+      table_within c.args.view.now.store c.args.outer.tables.now c.args.outer.refs.now c.loop-place.place record { slot = 0 }
           c.loop-place-test.true c.loop-place.invariant.live,
       c.loop-place.invariant.reads,
     )
@@ -51,11 +51,11 @@ loop-place-preserved c =
     let outer = c.args.outer.refs.now in
     let place = c.loop-place.place in
     let table = get_or tables place 0 in
-    let at : RowRef = get_or outer place record { part = 0; slot = 0 } in
-    let live = next_live store tables outer place record { part = 0; slot = 0 } c.loop-place-test.true c.loop-place.invariant.live in
+    let at : RowRef = get_or outer place record { slot = 0 } in
+    let live = next_live store tables outer place record { slot = 0 } c.loop-place-test.true c.loop-place.invariant.live in
     let within : table < length c.loop-place.view.store.tables = subst (λ (s : Tables). table < length s.tables) (sym c.loop-place.invariant.same)
     (slice_get_within store.tables table live.0 live.1) in
-    let below = table_within store tables outer place record { part = 0; slot = 0 } c.loop-place-test.true c.loop-place.invariant.live in
+    let below = table_within store tables outer place record { slot = 0 } c.loop-place-test.true c.loop-place.invariant.live in
     let given : row_of store table at ≡ viewed c.row.result =
     ap (λ (s : Tables). row_of s table at) (sym c.loop-place.invariant.same)
     ∙ row_given c.loop-place.view.store table at (viewed c.row.result) within c.row.ensures.row in
@@ -65,9 +65,9 @@ loop-place-preserved c =
     record {
       same = c.row.ensures.same ∙ c.loop-place.invariant.same;
       rows = ap (λ l. l ++ map Some (rows_of_combo store (drop (place + 1) tables) (drop (place + 1) outer))) pushed
-          ∙ chosen_next store tables outer place record { part = 0; slot = 0 } c.loop-place-test.true c.loop-place.invariant.live
+          ∙ chosen_next store tables outer place record { slot = 0 } c.loop-place-test.true c.loop-place.invariant.live
           (rows_read viewed c.loop-place.rows.items) (map Some (rows_of_combo store tables outer)) c.loop-place.invariant.rows;
-      live = rest_live store tables outer place record { part = 0; slot = 0 } c.loop-place-test.true c.loop-place.invariant.live;
+      live = rest_live store tables outer place record { slot = 0 } c.loop-place-test.true c.loop-place.invariant.live;
       within = omega (arith, below);
       reads = omega (arith, c.row.ensures.counted, c.loop-place.invariant.reads);
     }

@@ -21,13 +21,13 @@ bounds-outer-field-2 c =
 pub prefix_of-requires-clause-there : goal.prefix_of-requires-clause-there
 prefix_of-requires-clause-there c =
     let store = c.args.view.now.store in
-    let (stored, here, live) = live_at store c.args.outer.tables.now c.args.outer.refs.now c.requires c.args.field.place (record { part = 0; slot = 0 })
+    let (stored, here, live) = live_at store c.args.outer.tables.now c.args.outer.refs.now c.requires c.args.field.place (record { slot = 0 })
     c.if-field-outer.false in
     slice_get_within store.tables (get_or c.args.outer.tables.now c.args.field.place 0) stored here
 
 pub prefix_of-requires-clause-live : goal.prefix_of-requires-clause-live
 prefix_of-requires-clause-live c = λ stored here.
-    let d : RowRef = record { part = 0; slot = 0 } in
+    let d : RowRef = record { slot = 0 } in
     let (found, there, live) = live_at c.args.view.now.store c.args.outer.tables.now c.args.outer.refs.now c.requires c.args.field.place d
     c.if-field-outer.false in
     subst (λ (s : StoredRows). IsLive s.places (get_or c.args.outer.refs.now c.args.field.place d)) (one_relation found stored (sym there ∙ here)) live
@@ -38,7 +38,7 @@ returns c =
     let tables = c.args.outer.tables.now in
     let outer = c.args.outer.refs.now in
     let field = c.args.field in
-    let d : RowRef = record { part = 0; slot = 0 } in
+    let d : RowRef = record { slot = 0 } in
     let within : field.place < length tables = c.if-field-outer.false in
     let (stored, here, live) = live_at store tables outer c.requires field.place d within in
     let row = row_here store (get_or tables field.place 0) stored here (get_or outer field.place d) in

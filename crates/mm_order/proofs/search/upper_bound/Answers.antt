@@ -7,7 +7,7 @@ pub loop-low-preserved-then-is_le : goal.loop-low-preserved-then-is_le
 loop-low-preserved-then-is_le g c = record {
   low_below = omega arith;
   high_within = c.loop-low.invariant.high_within;
-  before = not_greater_up_to (g.P.Probe.place_of c.args.probe.now) _ _ (record { part = 0; slot = 0 }) c.requires.rising (omega arith)
+  before = not_greater_up_to (g.P.Probe.place_of c.args.probe.now) _ _ (record { slot = 0 }) c.requires.rising (omega arith)
       (not_greater_from_is_le _ (sym (ap is_le c.place.ensures) ∙ sym c.is_le.ensures ∙ c.if-is_le.true));
   rest = c.loop-low.invariant.rest;
 }
@@ -17,6 +17,6 @@ loop-low-preserved g c = record {
   low_below = omega arith;
   high_within = omega arith;
   before = c.loop-low.invariant.before;
-  rest = greater_from (g.P.Probe.place_of c.args.probe.now) _ _ (record { part = 0; slot = 0 }) c.requires.rising (omega arith)
+  rest = greater_from (g.P.Probe.place_of c.args.probe.now) _ _ (record { slot = 0 }) c.requires.rising (omega arith)
       (greater_from_is_le _ (sym (ap is_le c.place.ensures) ∙ sym c.is_le.ensures ∙ c.if-is_le.false));
 }

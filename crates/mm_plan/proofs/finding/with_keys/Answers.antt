@@ -16,7 +16,7 @@ use Rattle.mm_value.specs.declared.row_ref.RowRef.{RowRef}
 use Rattle.mm_plan.proofs.finding.with_keys.Goals as goal
 
 abbrev none : RowRef
-none = record { part = 0; slot = 0 }
+none = record { slot = 0 }
 
 pub row-row-requires-clause-there : goal.row-row-requires-clause-there
 row-row-requires-clause-there c = subst (λ (s : Tables). c.args.table < length s.tables) (sym c.loop-at.invariant.same) c.requires.there

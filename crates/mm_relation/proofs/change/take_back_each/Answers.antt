@@ -32,7 +32,7 @@ loop-index-preserved c =
     record {
       taken = TakenBackTo-less (slot_at c.args.rows.now) c.args.log.now.entries c.requires.stands c.loop-index.index (c.loop-index.index - 1) next
           (slot_at c.loop-index.rows) c.loop-index.log.entries c.loop-index.invariant.taken c.replace-entry.result c.replace-entry.ensures.was
-          c.requires.new_apart c.requires.old_apart (slot_at c.take_back.new.rows) (Added (record { part = 0; slot = 0 })) c.take_back.result
+          c.requires.new_apart c.requires.old_apart (slot_at c.take_back.new.rows) (Added (record { slot = 0 })) c.take_back.result
           c.replace-entry.new.self.entries c.replace.new.self.entries c.take_back.ensures.slots c.take_back.ensures.inverted
           c.replace-entry.ensures.entries c.replace.ensures.entries;
       types = c.take_back.ensures.types ∙ c.loop-index.invariant.types;
@@ -45,7 +45,7 @@ loop-index-preserved-in-loop-index c =
     record {
       taken = TakenBackTo-less (slot_at c.args.rows.now) c.args.log.now.entries c.requires.stands c.loop-index.index (c.loop-index.index - 1) next
           (slot_at c.loop-index.rows) c.loop-index.log.entries c.loop-index.invariant.taken c.replace-entry.result c.replace-entry.ensures.was
-          c.requires.new_apart c.requires.old_apart (slot_at c.take_back.new.rows) (Added (record { part = 0; slot = 0 })) c.take_back.result
+          c.requires.new_apart c.requires.old_apart (slot_at c.take_back.new.rows) (Added (record { slot = 0 })) c.take_back.result
           c.replace-entry.new.self.entries c.replace.new.self.entries c.take_back.ensures.slots c.take_back.ensures.inverted
           c.replace-entry.ensures.entries c.replace.ensures.entries;
       types = c.take_back.ensures.types ∙ c.loop-index.invariant.types;

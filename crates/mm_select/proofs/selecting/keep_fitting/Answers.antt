@@ -29,7 +29,7 @@ refill_set : (refs : List RowRef) (i : ℕ) (at : RowRef) → refill (length ref
 refill_set refs i at = take_at (slice_set refs i at) (drop (length (slice_set refs i at)) refs) (length refs) (length-set refs i at)
 
 abbrev none : RowRef
-none = record { part = 0; slot = 0 }
+none = record { slot = 0 }
 
 -- the next reference
 abbrev next : After-deref → RowRef

@@ -16,13 +16,13 @@ row-requires-clause-there c =
     let table = get_or c.args.tables.now c.loop-i.i 0 in
     subst (λ (s : Tables). table < length s.tables) (sym c.loop-i.invariant.same)
     (table_is_there c.args.view.now.store table _
-    (there_at c.args.view.now.store c.args.tables.now c.args.combo.now c.loop-i.i 0 (record { part = 0; slot = 0 }) c.requires c.loop-i-test.true))
+    (there_at c.args.view.now.store c.args.tables.now c.args.combo.now c.loop-i.i 0 (record { slot = 0 }) c.requires c.loop-i-test.true))
 
 pub row-requires-clause-live : goal.row-requires-clause-live
 row-requires-clause-live c = λ stored is.
     let table = get_or c.args.tables.now c.loop-i.i 0 in
     row_is_live c.args.view.now.store table _
-    (there_at c.args.view.now.store c.args.tables.now c.args.combo.now c.loop-i.i 0 (record { part = 0; slot = 0 }) c.requires c.loop-i-test.true)
+    (there_at c.args.view.now.store c.args.tables.now c.args.combo.now c.loop-i.i 0 (record { slot = 0 }) c.requires c.loop-i-test.true)
     stored (subst (λ (s : Tables). IsAt s table stored) c.loop-i.invariant.same is)
 
 pub loop-i-preserved : goal.loop-i-preserved
@@ -30,9 +30,9 @@ loop-i-preserved c =
     let store = c.args.view.now.store in
     let rows = rows_of_combo store c.args.tables.now c.args.combo.now in
     let table = get_or c.args.tables.now c.loop-i.i 0 in
-    let there = there_at store c.args.tables.now c.args.combo.now c.loop-i.i 0 (record { part = 0; slot = 0 }) c.requires c.loop-i-test.true in
+    let there = there_at store c.args.tables.now c.args.combo.now c.loop-i.i 0 (record { slot = 0 }) c.requires c.loop-i-test.true in
     let here : slice_get rows c.loop-i.i ≡ Some (viewed c.row.result) =
-    row_in_place store c.args.tables.now c.args.combo.now c.loop-i.i 0 (record { part = 0; slot = 0 }) c.requires c.loop-i-test.true
+    row_in_place store c.args.tables.now c.args.combo.now c.loop-i.i 0 (record { slot = 0 }) c.requires c.loop-i-test.true
     ∙ ap Some (row_is_found store _ _ (viewed c.row.result) there
     (λ stored is. c.row.ensures.row stored (subst (λ (s : Tables). IsAt s table stored) (sym c.loop-i.invariant.same) is))) in
     let counted = c.row.ensures.counted in

@@ -21,7 +21,7 @@ use Rattle.mm_txn.proofs.NewValues.{none_due, none_more, one_due, values_of}
 use Rattle.mm_txn.proofs.row_edits.swaps.Goals as goal
 
 abbrev none : RowRef
-none = record { part = 0; slot = 0 }
+none = record { slot = 0 }
 
 pub row-requires-clause-there : goal.row-requires-clause-there
 row-requires-clause-there c = subst (λ (s : Tables). c.args.table < length s.tables) (sym c.loop-at.invariant.same) c.requires.there

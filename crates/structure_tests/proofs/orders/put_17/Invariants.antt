@@ -1,4 +1,4 @@
-use Rattle.std.proofs.Common.{◌+◌, ◌*◌, ◌<◌, ◌≤◌, All}
+use Rattle.std.proofs.Common.{◌+◌, ◌<◌, ◌≤◌, All}
 use Rattle.structure_tests.specs.Orders.{IsByPlace}
 use Rattle.structure_tests.proofs.orders.put_17.Given as goal
 
@@ -7,5 +7,5 @@ abbrev pub invariant-loop-n : goal.invariant-loop-n
 invariant-loop-n g l = record {
   room : 18 ≤ l.n + l.refs.spare;
   ordered : IsByPlace l.refs.refs;
-  earlier : All (λ a. 4 * a.part + a.slot < l.n) l.refs.refs;
+  earlier : All (λ a. a.slot < l.n) l.refs.refs;
 }

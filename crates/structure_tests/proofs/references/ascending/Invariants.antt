@@ -1,13 +1,11 @@
 use Rattle.std.proofs.Common.{◌≡◌, ◌<◌, length, All}
-use Rattle.ttree_node.specs.Entries.{IsSmall}
 use Rattle.structure_tests.specs.Orders.{IsByPlace}
 use Rattle.structure_tests.proofs.references.ascending.Given as goal
 
--- the references of the partitions so far are there, in order
-abbrev pub invariant-loop-part : goal.invariant-loop-part
-invariant-loop-part l = record {
-  count : length l.refs.items ≡ l.part;
+-- the references of the numbers so far are there, in order
+abbrev pub invariant-loop-number : goal.invariant-loop-number
+invariant-loop-number l = record {
+  count : length l.refs.items ≡ l.number;
   ordered : IsByPlace l.refs.items;
-  earlier : All (λ a. a.part < l.part) l.refs.items;
-  small : All IsSmall l.refs.items;
+  earlier : All (λ a. a.slot < l.number) l.refs.items;
 }

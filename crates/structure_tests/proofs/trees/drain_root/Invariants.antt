@@ -2,5 +2,5 @@ use Rattle.structure_tests.specs.Orders.{IsByPlace}
 use Rattle.structure_tests.proofs.trees.drain_root.Given as goal
 
 -- what is left is in order
-abbrev pub invariant-loop-part : goal.invariant-loop-part
-invariant-loop-part g l = IsByPlace l.tree.refs
+abbrev pub invariant-loop-number : goal.invariant-loop-number
+invariant-loop-number g l = IsByPlace l.tree.refs

@@ -3,8 +3,8 @@ use Rattle.structure_tests.specs.Orders.{IsByPlace}
 use Rattle.structure_tests.proofs.trees.fill_in_order.Given as goal
 
 -- the references below the next are in, in order
-abbrev pub invariant-loop-part : goal.invariant-loop-part
-invariant-loop-part g l = record {
+abbrev pub invariant-loop-number : goal.invariant-loop-number
+invariant-loop-number g l = record {
   ordered : IsByPlace l.tree.refs;
-  earlier : All (λ a. a.part < l.part) l.tree.refs;
+  earlier : All (λ a. a.slot < l.number) l.tree.refs;
 }

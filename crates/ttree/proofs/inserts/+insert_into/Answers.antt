@@ -141,9 +141,9 @@ insert_into-requires-2 g t c κs within =
     let right_apart = All-append_right P (in_order n.left ++ n.entries) (in_order n.right) apart in
     let last : c.last-last.result ≡ last_entry n.entries = search rules in
     let last_covered = (IsOrdered-middle _ _ (in_order n.left) n.entries (in_order n.right) was).covered (length n.entries - 1)
-    (record { part = 0; slot = 0 }) (omega (arith, tree.2.filled)) in
+    (record { slot = 0 }) (omega (arith, tree.2.filled)) in
     let behind = last_behind _ _ (g.met.O.RefOrder.total c.args.order.now) (in_order n.left) n.entries (in_order n.right) was tree.2.filled c.args.added
-    c.requires.covered (record { part = 0; slot = 0 }) in (
+    c.requires.covered (record { slot = 0 }) in (
       search rules,
       (
         search rules,
@@ -183,7 +183,7 @@ returns-in-Ok-insert_into-clause-adds g t c =
     let apart : All (λ a. cmp a c.args.added ≢ Equal) (in_order n.left ++ n.entries ++ in_order n.right) = rw c.in-Some.is at c.requires.apart in
     let greatest : c.last-last.result ≡ last_entry n.entries = search rules in
     let last : c.last-last.result ≡ get_or n.entries (length n.entries - 1) c.args.added =
-    greatest ∙ get_or_default n.entries (length n.entries - 1) (record { part = 0; slot = 0 }) c.args.added (omega (arith, tree.2.filled)) in
+    greatest ∙ get_or_default n.entries (length n.entries - 1) (record { slot = 0 }) c.args.added (omega (arith, tree.2.filled)) in
     let not_less : cmp c.args.added (get_or n.entries (length n.entries - 1) c.args.added) ≢ Less =
     subst (λ b. cmp c.args.added b ≢ Less) last c.in-Ok-insert_into.ensures.behind in
     let after = after_last _ _ (g.met.O.RefOrder.total c.args.order.now) (in_order n.left) n.entries (in_order n.right) was tree.2.filled c.args.added

@@ -30,7 +30,7 @@ pub loop-init : goal.loop-init
 loop-init g c =
     let cmp = g.O.RefOrder.cmp c.args.order.now in
     let entries = c.args.entries.now in
-    let d : RowRef = record { part = 0; slot = 0 } in
+    let d : RowRef = record { slot = 0 } in
     let least : RowRef = get_or entries 0 d in
     let same : get_or entries 0 c.args.added ≡ least = get_or_default entries 0 c.args.added d c.requires.some in
     let turned = g.met.O.RefOrder.total c.args.order.now in
@@ -50,7 +50,7 @@ loop-preserved g c =
     let cmp = g.O.RefOrder.cmp c.args.order.now in
     let place : RowRef → Ordering = λ a. cmp a c.args.added in
     let entries = c.args.entries.now in
-    let d : RowRef = record { part = 0; slot = 0 } in
+    let d : RowRef = record { slot = 0 } in
     let middle : ℕ = c.loop.low + c.loop.size / 2 in
     let rest : ℕ = c.loop.size - c.loop.size / 2 in
     let inside : middle < length entries = omega (arith, was.within, was.some) in
@@ -85,7 +85,7 @@ returns-clause-before g c =
     let place : RowRef → Ordering = λ a. g.O.RefOrder.cmp c.args.order.now a c.args.added in
     let entries = c.args.entries.now in
     let low : ℕ = c.loop.low in
-    let d : RowRef = record { part = 0; slot = 0 } in
+    let d : RowRef = record { slot = 0 } in
     let rising : IsNonDecreasingBy (λ a. ordering_index (place a)) entries =
     IsNonDecreasingBy-places _ _ entries c.requires.ordered _ place
     (IsMonotone-at _ _ (g.met.O.RefOrder.total c.args.order.now) c.args.added c.requires.covered) in

@@ -9,6 +9,6 @@ invariant-loop g l = record {
   some : 1 ≤ l.size;
   within : l.low + l.size ≤ length l.entries;
   halved : l.size ≤ 2 ^ (4 - l.counter);
-  first : g.O.RefOrder.cmp l.order (get_or l.entries l.low (record { part = 0; slot = 0 })) l.added ≡ Less;
+  first : g.O.RefOrder.cmp l.order (get_or l.entries l.low (record { slot = 0 })) l.added ≡ Less;
   after : AllWithin (λ a. g.O.RefOrder.cmp l.order a l.added ≡ Greater) l.entries (l.low + l.size) (length l.entries);
 }

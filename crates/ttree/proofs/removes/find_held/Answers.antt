@@ -33,7 +33,7 @@ loop-preserved g c =
     let cmp = g.O.RefOrder.cmp c.args.order.now in
     let place : RowRef → Ordering = λ a. cmp a c.args.gone in
     let entries = c.args.entries.now in
-    let d : RowRef = record { part = 0; slot = 0 } in
+    let d : RowRef = record { slot = 0 } in
     let middle : ℕ = c.loop.low + c.loop.size / 2 in
     let rest : ℕ = c.loop.size - c.loop.size / 2 in
     let inside : middle < length entries = omega (arith, was.within, was.some) in
@@ -64,7 +64,7 @@ loop-preserved g c =
 pub returns-then-eq-clause-found : goal.returns-then-eq-clause-found
 returns-then-eq-clause-found g c =
     let entries = c.args.entries.now in
-    let d : RowRef = record { part = 0; slot = 0 } in
+    let d : RowRef = record { slot = 0 } in
     let low : ℕ = c.loop.low in
     let inside : low < length entries = omega (arith, c.loop.invariant.within, c.loop.invariant.some) in
     let same : c.get-2.result ≡ c.args.gone = same_from_test c.get-2.result c.args.gone (sym c.eq.ensures ∙ c.if-eq.true) in
@@ -77,7 +77,7 @@ returns-clause-absent g c (k, within, is) =
     let total = g.met.O.RefOrder.total c.args.order.now in
     let gone : RowRef = c.args.gone in
     let entries = c.args.entries.now in
-    let d : RowRef = record { part = 0; slot = 0 } in
+    let d : RowRef = record { slot = 0 } in
     let low : ℕ = c.loop.low in
     let inside : low < length entries = omega (arith, c.loop.invariant.within, c.loop.invariant.some) in
     let ended : 4 - c.loop.counter ≡ 0 = omega arith in

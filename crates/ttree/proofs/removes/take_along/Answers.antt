@@ -20,7 +20,7 @@ loop-kept-preserved-then-eq c =
     let at = c.args.start + c.loop-kept.kept in
     let now = c.loop-kept.node.entries in
     let refs = c.args.refs.now in
-    let none : RowRef = record { part = 0; slot = 0 } in
+    let none : RowRef = record { slot = 0 } in
     let more : at < length now = omega (arith, c.loop-kept-test.true, c.loop-kept.invariant.reaches, c.len.ensures.value, ap length c.entries.ensures.value) in
     let same : get_or now at none ≡ get_or refs c.loop-kept.count none =
     ap (λ es. get_or es at none) (sym c.entries-in-loop-kept.ensures.value) ∙ sym c.get.ensures

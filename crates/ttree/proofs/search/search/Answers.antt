@@ -24,7 +24,7 @@ loop-preserved g c =
     let was = c.loop.invariant in
     let place = g.P.Probe.place_of c.args.seek.now.probe in
     let entries = c.args.entries.now in
-    let d : RowRef = record { part = 0; slot = 0 } in
+    let d : RowRef = record { slot = 0 } in
     let middle : ℕ = c.loop.low + c.loop.size / 2 in
     let rest : ℕ = c.loop.size - c.loop.size / 2 in
     let answer : place (get_or entries middle d) ≡ c.place.result =
@@ -60,7 +60,7 @@ pub returns-in-Less-clause-before : goal.returns-in-Less-clause-before
 returns-in-Less-clause-before g c =
     let place = g.P.Probe.place_of c.args.seek.now.probe in
     let low : ℕ = c.loop.low in
-    let d : RowRef = record { part = 0; slot = 0 } in
+    let d : RowRef = record { slot = 0 } in
     let there : place (get_or c.args.entries.now low d) ≡ Less =
     sym (c.in-Less.ensures.answer ∙ ap (g.P.Probe.place_of c.loop.seek.probe) c.get-2.ensures
     ∙ ap (λ p. g.P.Probe.place_of p (get_or c.args.entries.now low d)) c.loop.invariant.probe) in

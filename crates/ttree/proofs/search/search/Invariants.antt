@@ -11,6 +11,6 @@ invariant-loop g l = record {
   halved : l.size ≤ 2 ^ (4 - l.counter);
   probe : l.seek.probe ≡ l.initial.seek.probe;
   steps : l.seek.count ≤ l.initial.seek.count + l.counter;
-  first : 0 < l.low → g.P.Probe.place_of l.initial.seek.probe (get_or l.entries l.low (record { part = 0; slot = 0 })) ≢ Greater;
+  first : 0 < l.low → g.P.Probe.place_of l.initial.seek.probe (get_or l.entries l.low (record { slot = 0 })) ≢ Greater;
   after : AllWithin (λ a. g.P.Probe.place_of l.initial.seek.probe a ≡ Greater) l.entries (l.low + l.size) (length l.entries);
 }

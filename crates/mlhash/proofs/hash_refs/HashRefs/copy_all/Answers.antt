@@ -1,5 +1,6 @@
-use Rattle.std.proofs.Common.{◌+◌, ◌++◌, ◌∷◌, [], sym, ap, ◌∙◌, vec_len, vec_capacity}
+use Rattle.std.proofs.Common.{◌+◌, ◌++◌, ◌∷◌, [], refl, sym, ap, ◌∙◌, vec_len, vec_capacity}
 use Rattle.mlhash.specs.Bag.{Bag}
+use Rattle.mlhash.specs.Pairs.{node_at}
 use Rattle.mlhash.proofs.CopyLemmas.{IsCopying-start, IsCopying-take, IsCopying-skip, copying_room, copying_along, copied}
 use Rattle.mlhash.proofs.hash_refs.HashRefs.copy_all.Goals as goal
 use Rattle.mlhash.proofs.hash_refs.HashRefs.copy_all.Goals.{then-is_live, else-is_live}
@@ -20,11 +21,11 @@ loop-node-preserved c =
     let i = c.loop-node.node-index in
     let old = c.args.out.now.items in
     let out = c.loop-node.out in
+    let reference = (node_at ns i).reference in
     elim c.if-is_live.branch [
-      | then-is_live w ↦ copying_along ns (i + 1) old (out.items ++ w.row.result ∷ []) c.if-is_live.out.items (vec_len out + 1) (vec_len c.if-is_live.out)
+      | then-is_live w ↦ copying_along ns (i + 1) old (out.items ++ reference ∷ []) c.if-is_live.out.items (vec_len out + 1) (vec_len c.if-is_live.out)
           (vec_capacity out) (vec_capacity c.if-is_live.out) (cc) (cc) (cc)
-          (IsCopying-take ns i old out.items (vec_len out) (vec_capacity out) w.row.result c.loop-node-test.true (sym c.is_live.ensures ∙ w.if-is_live.true)
-          w.row.ensures
+          (IsCopying-take ns i old out.items (vec_len out) (vec_capacity out) reference c.loop-node-test.true (sym c.is_live.ensures ∙ w.if-is_live.true) refl
           c.loop-node.invariant)
       | else-is_live w ↦ copying_along ns (i + 1) old out.items c.if-is_live.out.items (vec_len out) (vec_len c.if-is_live.out)
           (vec_capacity out) (vec_capacity c.if-is_live.out) (cc) (cc) (cc)

@@ -1,7 +1,6 @@
 use Rattle.std.proofs.Common.{◌≡◌, ℕ, ◌-◌, ◌<◌, ◌∷◌, List, set, min, refl, ap, ◌∙◌, subst, arith, vec_capacity, IsPermutation}
 use Rattle.std.proofs.lemmas.Bool.{lt-ltb}
 use Rattle.std.proofs.lemmas.List.{get_or_read}
-use Rattle.mm_value.specs.declared.row_ref.RowRef.{RowRef}
 use Rattle.mlhash.specs.declared.hash_refs.HashRefs.TheInside.{Inside}
 use Rattle.mlhash.specs.declared.node.Node.{Node}
 use Rattle.mlhash.specs.declared.node.TheConstants.{NIL}
@@ -46,10 +45,10 @@ set-requires c =
 pub invariant_of-self : goal.invariant_of-self
 invariant_of-self c =
     let k = stock_is c.self.inside c.args.self.now (ap (λ (b : Bag). b.spare) c.self.view_is) c.requires.room c.self.invariant _ _ c.stock-at.ensures.nodes in
-    let n : Node = record { hash = c.args.hash; number = c.number_of-number.result; next = c.get.result } in
+    let n : Node = record { hash = c.args.hash; reference = c.args.reference; next = c.get.result } in
     let below = (chain_step _ _ k.table.pool.linked k.on).below in
     put_all c.self.inside.heads c.stock-at.new.nodes.items c.self.inside.len c.self.inside.place c.stock-at.result c.bucket_of-bucket.result
-    c.get.result c.index_mut-node.result.now.next c.set.new.self n k.on (lt-ltb _ _ c.number_of-number.ensures.below)
+    c.get.result c.index_mut-node.result.now.next c.set.new.self n k.on (lt-ltb _ _ c.requires.small)
     c.bucket_of-bucket.ensures refl c.get.ensures c.set.ensures
     (ap (λ (m : Node). m.next)
     (get_or_read c.stock-at.new.nodes.items c.stock-at.result c.index_mut-node.result.now below c.index_mut-node.ensures.value blank)) k.table
@@ -57,11 +56,8 @@ invariant_of-self c =
 pub returns-clause-entries : goal.returns-clause-entries
 returns-clause-entries c =
     let k = stock_is c.self.inside c.args.self.now (ap (λ (b : Bag). b.spare) c.self.view_is) c.requires.room c.self.invariant _ _ c.stock-at.ensures.nodes in
-    let n : Node = record { hash = c.args.hash; number = c.number_of-number.result; next = c.get.result } in
+    let n : Node = record { hash = c.args.hash; reference = c.args.reference; next = c.get.result } in
     let e : entries c.stock-at.new.nodes.items ≡ c.args.self.now.entries = k.same ∙ ap (λ (b : Bag). b.entries) c.self.view_is in
-    let put : IsPermutation (entries (set c.stock-at.new.nodes.items c.stock-at.result n)) (pair_of n ∷ c.args.self.now.entries)
-    = subst (λ es. IsPermutation (entries (set c.stock-at.new.nodes.items c.stock-at.result n)) (pair_of n ∷ es)) e
+    subst (λ es. IsPermutation (entries (set c.stock-at.new.nodes.items c.stock-at.result n)) (pair_of n ∷ es)) e
     (put_entries c.self.inside.heads c.stock-at.new.nodes.items c.self.inside.len c.self.inside.place c.stock-at.result n k.on
-    (lt-ltb _ _ c.number_of-number.ensures.below) k.table) in
-    subst (λ (r : RowRef). IsPermutation (entries (set c.stock-at.new.nodes.items c.stock-at.result n)) ((c.args.hash, r) ∷ c.args.self.now.entries))
-    c.number_of-number.ensures.value put
+    (lt-ltb _ _ c.requires.small) k.table)

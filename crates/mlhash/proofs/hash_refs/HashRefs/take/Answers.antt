@@ -42,13 +42,13 @@ returns-then-at-clause-found c =
           absurd (none (subst (λ es. Contains es (c.args.hash, c.args.reference)) (sym (ap (λ (b : Bag). b.entries) c.self.view_is)) m)),
     )
 
-pub index-requires : goal.index-requires
-index-requires c =
+pub index-first-requires : goal.index-first-requires
+index-first-requires c =
     let s = Finds-read _ _ _ _ _ _ c.deref.ensures.value c.find_by_hint-at.ensures.found in
     omega (arith, (first_below _ _ _ _ _ _ _ _ _ _ c.bucket_of-bucket.ensures c.get-head.ensures c.self.invariant s c.if-at.false).0, c.self.inside.nodes.ok.0)
 
-pub index-requires-2 : goal.index-requires-2
-index-requires-2 c =
+pub index-requires : goal.index-requires
+index-requires c =
     let s = Finds-read _ _ _ _ _ _ c.deref.ensures.value c.find_by_hint-at.ensures.found in
     omega (arith, (first_below _ _ _ _ _ _ _ _ _ _ c.bucket_of-bucket.ensures c.get-head.ensures c.self.invariant s c.if-at.false).1, c.self.inside.nodes.ok.0)
 
@@ -69,18 +69,20 @@ set-requires c =
 pub overflow_sub-self : goal.overflow_sub-self
 overflow_sub-self c =
     let s = Finds-read _ _ _ _ _ _ c.deref.ensures.value c.find_by_hint-at.ensures.found in
-    let k = taking _ _ _ _ _ _ _ _ _ _ _ _ c.bucket_of-bucket.ensures c.get-head.ensures c.self.invariant s c.if-at.false c.index.ensures c.index-2.ensures in
+    let k = taking _ _ _ _ _ _ _ _ _ _ _ _ c.bucket_of-bucket.ensures c.get-head.ensures c.self.invariant s c.if-at.false c.index-first.ensures
+    c.index.ensures in
     some_entry _ _ _ _ _ _ _ _ _ _ k
 
 pub invariant_of-self : goal.invariant_of-self
 invariant_of-self c =
     let s = Finds-read _ _ _ _ _ _ c.deref.ensures.value c.find_by_hint-at.ensures.found in
-    let k = taking _ _ _ _ _ _ _ _ _ _ _ _ c.bucket_of-bucket.ensures c.get-head.ensures c.self.invariant s c.if-at.false c.index.ensures c.index-2.ensures in
+    let k = taking _ _ _ _ _ _ _ _ _ _ _ _ c.bucket_of-bucket.ensures c.get-head.ensures c.self.invariant s c.if-at.false c.index-first.ensures
+    c.index.ensures in
     let i = c.self.inside in
-    let n1 = pair_in c.index.result.now c.index-2.result.now.next in
+    let n1 = pair_in c.index-first.result.now c.index.result.now.next in
     let below = (first_below _ _ _ _ _ _ _ _ _ _ c.bucket_of-bucket.ensures c.get-head.ensures c.self.invariant s c.if-at.false) in
-    let next : c.index.result.now.next ≡ (node_at i.nodes.items c.get-head.result).next = ap (λ (m : Node). m.next)
-    (get_or_read i.nodes.items _ _ below.0 c.index.ensures blank) in
+    let next : c.index-first.result.now.next ≡ (node_at i.nodes.items c.get-head.result).next = ap (λ (m : Node). m.next)
+    (get_or_read i.nodes.items _ _ below.0 c.index-first.ensures blank) in
     let ms = set (set i.nodes.items c.find_by_hint-at.result n1) c.get-head.result (freed i.free) in
     subst (λ hs. IsTable hs ms (i.len - 1) i.place c.get-head.result) (sym (c.set.ensures ∙ ap (λ x. set i.heads c.bucket_of-bucket.result x) next))
     (take_table _ _ _ _ _ _ _ _ _ _ k)
@@ -99,9 +101,10 @@ returns-clause-found c =
 pub returns-clause-entries : goal.returns-clause-entries
 returns-clause-entries c =
     let s = Finds-read _ _ _ _ _ _ c.deref.ensures.value c.find_by_hint-at.ensures.found in
-    let k = taking _ _ _ _ _ _ _ _ _ _ _ _ c.bucket_of-bucket.ensures c.get-head.ensures c.self.invariant s c.if-at.false c.index.ensures c.index-2.ensures in
+    let k = taking _ _ _ _ _ _ _ _ _ _ _ _ c.bucket_of-bucket.ensures c.get-head.ensures c.self.invariant s c.if-at.false c.index-first.ensures
+    c.index.ensures in
     let i = c.self.inside in
-    let n1 = pair_in c.index.result.now c.index-2.result.now.next in
+    let n1 = pair_in c.index-first.result.now c.index.result.now.next in
     let ms = set (set i.nodes.items c.find_by_hint-at.result n1) c.get-head.result (freed i.free) in
     let f = s.found c.if-at.false in
     let e : entries i.nodes.items ≡ c.args.self.now.entries = ap (λ (b : Bag). b.entries) c.self.view_is in
@@ -111,7 +114,8 @@ returns-clause-entries c =
 pub returns-clause-spare : goal.returns-clause-spare
 returns-clause-spare c =
     let s = Finds-read _ _ _ _ _ _ c.deref.ensures.value c.find_by_hint-at.ensures.found in
-    let k = taking _ _ _ _ _ _ _ _ _ _ _ _ c.bucket_of-bucket.ensures c.get-head.ensures c.self.invariant s c.if-at.false c.index.ensures c.index-2.ensures in
+    let k = taking _ _ _ _ _ _ _ _ _ _ _ _ c.bucket_of-bucket.ensures c.get-head.ensures c.self.invariant s c.if-at.false c.index-first.ensures
+    c.index.ensures in
     let i = c.self.inside in
     let fits : length i.nodes.items ≤ vec_capacity i.nodes = omega (arith, i.nodes.ok.0, i.nodes.ok.1) in
     let spare = ap (λ (b : Bag). b.spare) c.self.view_is in

@@ -1,5 +1,6 @@
 use Rattle.std.proofs.Common.{◌≡◌, ℕ, ◌+◌, ◌<◌, ◌^◌, ◌++◌, Option, None, replicate, length, ap, ◌∙◌, arith}
 use Rattle.std.proofs.lemmas.List.{length-append, length-replicate}
+use Rattle.mm_value.specs.declared.row_ref.RowRef.{RowRef}
 use Rattle.mm_foreign_key.specs.declared.slots.TheConstants.{NONE}
 use Rattle.mm_foreign_key.specs.Counts.{entries_of}
 use Rattle.mm_foreign_key.proofs.CountLemmas.{IsCounted-grown}
@@ -23,8 +24,8 @@ invariant_of-self-2 c =
       ap length targets,
       as_many_entries c.self.inside.targets.items,
       as_many_entries c.fill_to.new.items.items,
-      length-append {A = Option ℕ},
-      length-replicate {A = Option ℕ},
+      length-append {A = Option RowRef},
+      length-replicate {A = Option RowRef},
     ) in
     let places : length c.self.inside.counts.items + c.fill_to-2.ensures.items.0 < 2 ^ 32 = omega (
       arith,
@@ -40,6 +41,6 @@ invariant_of-self-2 c =
 
 pub returns-clause-targets : goal.returns-clause-targets
 returns-clause-targets c =
-    KeepsTargets-grown c.args.self.now _ _ _ (record { view = ap (λ t. t.targets) c.self.view_is })
+    KeepsTargets-grown c.args.self.now _ _ _ (ap (λ t. t.targets) c.self.view_is)
     (ap entries_of (c.fill_to.ensures.items.1 ∙ ap (λ xs. xs ++ replicate c.fill_to.ensures.items.0 NONE) c.reserve_to.ensures.items)
     ∙ entries-grown c.self.inside.targets.items c.fill_to.ensures.items.0)

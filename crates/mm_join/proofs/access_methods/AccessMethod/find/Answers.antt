@@ -43,7 +43,7 @@ partner-requires-clause-live c = λ stored at.
     let (target, here) = some_at store.tables c.args.inner.now.table c.requires.there in
     let asked = subst (IsAccessMethod store c.args.outer.tables.now c.args.inner.now) c.in-Followed.is c.requires.method target here in
     let outer = c.args.outer in
-    let d : RowRef = record { part = 0; slot = 0 } in
+    let d : RowRef = record { slot = 0 } in
     let source = live_at store outer.tables.now outer.refs.now c.requires.live c.in-Followed.field.place d asked.0 in
     subst (λ (s : StoredRows). IsLive s.places (get_or outer.refs.now c.in-Followed.field.place d))
     (one_relation source.0 stored (sym source.1 ∙ at)) source.2
@@ -71,7 +71,7 @@ returns-in_ok-push-in-Followed-clause-found c =
     let (stored, here) = some_at store.tables inner.table c.requires.there in
     let kept = (table_seen c.args.view.now inner.table stored here).kept in
     let asked = subst (IsAccessMethod store outer.tables.now inner) c.in-Followed.is c.requires.method stored here in
-    let d : RowRef = record { part = 0; slot = 0 } in
+    let d : RowRef = record { slot = 0 } in
     let one : c.push.new.self.items ≡ c.partner.result ∷ [] = c.in_ok-push-in-Followed.ensures.items
     ∙ ap (λ l. l ++ c.partner.result ∷ []) c.clear.ensures.items in
     let have = partner_have store outer.tables.now outer.refs.now c.requires.live field asked.0 (map Some rows) refl inner.table stored here kept d

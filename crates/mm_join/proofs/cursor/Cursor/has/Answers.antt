@@ -17,4 +17,4 @@ returns-clause-none c = λ apart.
     let seen : entries ≡ c.args.self.now = c.as_slice-entries.ensures.value ∙ c.self.view_is in
     ap (filter (has c.args.prefix)) (sym seen)
     ∙ none_at c.args.prefix entries (subst AreRising (sym c.as_slice-entries.ensures.value) c.self.invariant.1) c.first_of-first.result
-    (record { prefix = 0; at = record { part = 0; slot = 0 } }) c.if-first-entries.false c.first_of-first.ensures.before c.first_of-first.ensures.rest apart
+    (record { prefix = 0; at = record { slot = 0 } }) c.if-first-entries.false c.first_of-first.ensures.before c.first_of-first.ensures.rest apart

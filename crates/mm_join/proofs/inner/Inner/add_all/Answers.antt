@@ -20,7 +20,7 @@ returns-in_err-add_fitting-clause-due c =
     let old = c.args.list.now.combos in
     let candidates = c.args.candidates.now in
     let i = c.loop-at.at-index in
-    let at : RowRef = get_or candidates i record { part = 0; slot = 0 } in
+    let at : RowRef = get_or candidates i record { slot = 0 } in
     let tried : List (List RowRef) =
     c.loop-at.list.combos ++ matches c.loop-at.view.store inner.table atoms (rows_read viewed c.loop-at.rows.items) outer (at ∷ []) in
     let all : List (List RowRef) = old ++ matches store inner.table atoms rows outer candidates in
@@ -28,7 +28,7 @@ returns-in_err-add_fitting-clause-due c =
     subst (λ (l : List (List RowRef)). length l ≤ length all)
     (sym (λ j. (c.loop-at.invariant.list j).combos
     ++ matches (c.loop-at.invariant.same j) inner.table atoms (rows_read viewed (c.loop-at.invariant.rows j)) outer (at ∷ [])))
-    (matches_part store inner.table atoms rows outer old candidates i record { part = 0; slot = 0 } c.loop-at-test.true) in
+    (matches_part store inner.table atoms rows outer old candidates i record { slot = 0 } c.loop-at-test.true) in
     rw (p.1, p.2) (elim c.in_err-add_fitting.ensures.due [
       | inl due ↦ inl (due_of_longer inner.cap tried all _ longer due)
       | inr memory ↦ inr memory
@@ -44,13 +44,13 @@ loop-at-preserved c =
     let old = c.args.list.now.combos in
     let candidates = c.args.candidates.now in
     let i = c.loop-at.at-index in
-    let at : RowRef = get_or candidates i record { part = 0; slot = 0 } in
+    let at : RowRef = get_or candidates i record { slot = 0 } in
     let tried : List (List RowRef) =
     c.loop-at.list.combos ++ matches c.loop-at.view.store inner.table atoms (rows_read viewed c.loop-at.rows.items) outer (at ∷ []) in
     let step : tried ≡ old ++ matches store inner.table atoms rows outer (take (i + 1) candidates) =
     (λ j. (c.loop-at.invariant.list j).combos
     ++ matches (c.loop-at.invariant.same j) inner.table atoms (rows_read viewed (c.loop-at.invariant.rows j)) outer (at ∷ []))
-    ∙ matches_step store inner.table atoms rows outer old candidates i record { part = 0; slot = 0 } c.loop-at-test.true in
+    ∙ matches_step store inner.table atoms rows outer old candidates i record { slot = 0 } c.loop-at-test.true in
     record {
       list = c.in_ok-add_fitting.ensures.list
           ∙ (λ j. record { tables = (c.loop-at.invariant.list j).tables; fields = (c.loop-at.invariant.list j).fields; combos = step j });

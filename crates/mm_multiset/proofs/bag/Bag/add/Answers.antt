@@ -7,7 +7,6 @@ use Rattle.mm_multiset.specs.Counts.{has_entry}
 use Rattle.mm_multiset.specs.Slots.{entries_of}
 use Rattle.mm_multiset.proofs.BagAdding.{adding, adds_at, adds_new, at_least, at_most, found_at, kept_at, lacks, lacks_as, new_least, short, sum_is, total_at}
 use Rattle.mm_multiset.proofs.BagAdding.{total_is, total_least, total_new}
-use Rattle.mm_multiset.proofs.SlotLists.{live_here}
 use Rattle.mm_multiset.proofs.bag.Bag.add.Goals as goal
 
 room_left : (has : Bool) (room : ℕ) → (has ≡ true) ⊎ (0 < room) → has ≡ false → 0 < room
@@ -25,8 +24,7 @@ add_at-requires-clause-least c =
     let a = adding c.args.change.row c.args.change.count c.self.invariant (ap (λ v. v.entries) c.self.view_is) c.requires.count c.requires.total
     (let fits = c.self.ranges in omega arith) in
     let cast = to_z-of_z w128 c.args.change.count (short a) in
-    let live = ap (λ i. get_or c.self.inside.rows.slots i Free) c.index_of.ensures
-    ∙ live_here c.self.inside.rows c.in-Some.at c.args.change.row c.in-Some.ensures.found in
+    let live = ap (λ i. get_or c.self.inside.rows.slots i Free) c.index_of.ensures ∙ c.in-Some.ensures.found in
     at_least a cast c.index_of.result live
 
 pub add_at-requires-clause-most : goal.add_at-requires-clause-most
@@ -34,8 +32,7 @@ add_at-requires-clause-most c =
     let a = adding c.args.change.row c.args.change.count c.self.invariant (ap (λ v. v.entries) c.self.view_is) c.requires.count c.requires.total
     (let fits = c.self.ranges in omega arith) in
     let cast = to_z-of_z w128 c.args.change.count (short a) in
-    let live = ap (λ i. get_or c.self.inside.rows.slots i Free) c.index_of.ensures
-    ∙ live_here c.self.inside.rows c.in-Some.at c.args.change.row c.in-Some.ensures.found in
+    let live = ap (λ i. get_or c.self.inside.rows.slots i Free) c.index_of.ensures ∙ c.in-Some.ensures.found in
     at_most a cast c.index_of.result live
 
 pub invariant_of-self : goal.invariant_of-self
@@ -43,8 +40,7 @@ invariant_of-self c =
     let a = adding c.args.change.row c.args.change.count c.self.invariant (ap (λ v. v.entries) c.self.view_is) c.requires.count c.requires.total
     (let fits = c.self.ranges in omega arith) in
     let cast = to_z-of_z w128 c.args.change.count (short a) in
-    let live = ap (λ i. get_or c.self.inside.rows.slots i Free) c.index_of.ensures
-    ∙ live_here c.self.inside.rows c.in-Some.at c.args.change.row c.in-Some.ensures.found in
+    let live = ap (λ i. get_or c.self.inside.rows.slots i Free) c.index_of.ensures ∙ c.in-Some.ensures.found in
     let total = total_at a cast c.index_of.result live c.add_at.new.counts.items c.add_at.ensures.counts in (
       kept_at a cast c.index_of.result live c.add_at.new.counts.items c.add_at.ensures.counts,
       sum_is a cast c.changed-self-inside.result (entries_of c.self.inside.rows.slots c.add_at.new.counts.items) c.changed-self-inside.ensures total,
@@ -55,8 +51,7 @@ returns-in-Some-clause-added c =
     let a = adding c.args.change.row c.args.change.count c.self.invariant (ap (λ v. v.entries) c.self.view_is) c.requires.count c.requires.total
     (let fits = c.self.ranges in omega arith) in
     let cast = to_z-of_z w128 c.args.change.count (short a) in
-    let live = ap (λ i. get_or c.self.inside.rows.slots i Free) c.index_of.ensures
-    ∙ live_here c.self.inside.rows c.in-Some.at c.args.change.row c.in-Some.ensures.found in
+    let live = ap (λ i. get_or c.self.inside.rows.slots i Free) c.index_of.ensures ∙ c.in-Some.ensures.found in
     adds_at a cast c.index_of.result live c.add_at.new.counts.items c.add_at.ensures.counts
 
 pub returns-in-Some-clause-total : goal.returns-in-Some-clause-total
@@ -64,8 +59,7 @@ returns-in-Some-clause-total c =
     let a = adding c.args.change.row c.args.change.count c.self.invariant (ap (λ v. v.entries) c.self.view_is) c.requires.count c.requires.total
     (let fits = c.self.ranges in omega arith) in
     let cast = to_z-of_z w128 c.args.change.count (short a) in
-    let live = ap (λ i. get_or c.self.inside.rows.slots i Free) c.index_of.ensures
-    ∙ live_here c.self.inside.rows c.in-Some.at c.args.change.row c.in-Some.ensures.found in
+    let live = ap (λ i. get_or c.self.inside.rows.slots i Free) c.index_of.ensures ∙ c.in-Some.ensures.found in
     total_is a cast (entries_of c.self.inside.rows.slots c.add_at.new.counts.items)
     (total_at a cast c.index_of.result live c.add_at.new.counts.items c.add_at.ensures.counts)
 
@@ -74,8 +68,7 @@ returns-in-Some-clause-is_new c =
     let a = adding c.args.change.row c.args.change.count c.self.invariant (ap (λ v. v.entries) c.self.view_is) c.requires.count c.requires.total
     (let fits = c.self.ranges in omega arith) in
     let cast = to_z-of_z w128 c.args.change.count (short a) in
-    let live = ap (λ i. get_or c.self.inside.rows.slots i Free) c.index_of.ensures
-    ∙ live_here c.self.inside.rows c.in-Some.at c.args.change.row c.in-Some.ensures.found in
+    let live = ap (λ i. get_or c.self.inside.rows.slots i Free) c.index_of.ensures ∙ c.in-Some.ensures.found in
     ap not (sym (found_at a cast c.index_of.result live))
 
 pub changed-count-requires-clause-least : goal.changed-count-requires-clause-least

@@ -8,7 +8,6 @@ use Rattle.mm_multiset.specs.Counts.{Entries, has_entry}
 use Rattle.mm_multiset.specs.Slots.{entries_of}
 use Rattle.mm_multiset.proofs.BagAdding.{adding, adds_at, at_least, at_most, kept_at, short, sum_is, total_at, total_is, total_least}
 use Rattle.mm_multiset.proofs.Recounting.{none_there}
-use Rattle.mm_multiset.proofs.SlotLists.{live_here}
 use Rattle.mm_multiset.proofs.bag.Bag.add_found.Goals as goal
 
 pub changed-self-inside-requires-clause-least : goal.changed-self-inside-requires-clause-least
@@ -22,8 +21,7 @@ add_at-requires-clause-least c =
     let a = adding c.args.change.now.row c.args.change.now.count c.self.invariant (ap (λ v. v.entries) c.self.view_is) c.requires.count c.requires.total
     (let fits = c.self.ranges in omega arith) in
     let cast = to_z-of_z w128 c.args.change.now.count (short a) in
-    let live = ap (λ i. get_or c.self.inside.rows.slots i Free) c.index_of.ensures
-    ∙ live_here c.self.inside.rows c.in-Some.at c.args.change.now.row c.in-Some.ensures.found in
+    let live = ap (λ i. get_or c.self.inside.rows.slots i Free) c.index_of.ensures ∙ c.in-Some.ensures.found in
     at_least a cast c.index_of.result live
 
 pub add_at-requires-clause-most : goal.add_at-requires-clause-most
@@ -31,8 +29,7 @@ add_at-requires-clause-most c =
     let a = adding c.args.change.now.row c.args.change.now.count c.self.invariant (ap (λ v. v.entries) c.self.view_is) c.requires.count c.requires.total
     (let fits = c.self.ranges in omega arith) in
     let cast = to_z-of_z w128 c.args.change.now.count (short a) in
-    let live = ap (λ i. get_or c.self.inside.rows.slots i Free) c.index_of.ensures
-    ∙ live_here c.self.inside.rows c.in-Some.at c.args.change.now.row c.in-Some.ensures.found in
+    let live = ap (λ i. get_or c.self.inside.rows.slots i Free) c.index_of.ensures ∙ c.in-Some.ensures.found in
     at_most a cast c.index_of.result live
 
 pub invariant_of-self : goal.invariant_of-self
@@ -40,8 +37,7 @@ invariant_of-self c =
     let a = adding c.args.change.now.row c.args.change.now.count c.self.invariant (ap (λ v. v.entries) c.self.view_is) c.requires.count c.requires.total
     (let fits = c.self.ranges in omega arith) in
     let cast = to_z-of_z w128 c.args.change.now.count (short a) in
-    let live = ap (λ i. get_or c.self.inside.rows.slots i Free) c.index_of.ensures
-    ∙ live_here c.self.inside.rows c.in-Some.at c.args.change.now.row c.in-Some.ensures.found in
+    let live = ap (λ i. get_or c.self.inside.rows.slots i Free) c.index_of.ensures ∙ c.in-Some.ensures.found in
     let total = total_at a cast c.index_of.result live c.add_at.new.counts.items c.add_at.ensures.counts in (
       kept_at a cast c.index_of.result live c.add_at.new.counts.items c.add_at.ensures.counts,
       sum_is a cast c.changed-self-inside.result (entries_of c.self.inside.rows.slots c.add_at.new.counts.items) c.changed-self-inside.ensures total,
@@ -52,8 +48,7 @@ returns-in-Some-clause-added c =
     let a = adding c.args.change.now.row c.args.change.now.count c.self.invariant (ap (λ v. v.entries) c.self.view_is) c.requires.count c.requires.total
     (let fits = c.self.ranges in omega arith) in
     let cast = to_z-of_z w128 c.args.change.now.count (short a) in
-    let live = ap (λ i. get_or c.self.inside.rows.slots i Free) c.index_of.ensures
-    ∙ live_here c.self.inside.rows c.in-Some.at c.args.change.now.row c.in-Some.ensures.found in
+    let live = ap (λ i. get_or c.self.inside.rows.slots i Free) c.index_of.ensures ∙ c.in-Some.ensures.found in
     adds_at a cast c.index_of.result live c.add_at.new.counts.items c.add_at.ensures.counts
 
 pub returns-in-Some-clause-total : goal.returns-in-Some-clause-total
@@ -61,8 +56,7 @@ returns-in-Some-clause-total c =
     let a = adding c.args.change.now.row c.args.change.now.count c.self.invariant (ap (λ v. v.entries) c.self.view_is) c.requires.count c.requires.total
     (let fits = c.self.ranges in omega arith) in
     let cast = to_z-of_z w128 c.args.change.now.count (short a) in
-    let live = ap (λ i. get_or c.self.inside.rows.slots i Free) c.index_of.ensures
-    ∙ live_here c.self.inside.rows c.in-Some.at c.args.change.now.row c.in-Some.ensures.found in
+    let live = ap (λ i. get_or c.self.inside.rows.slots i Free) c.index_of.ensures ∙ c.in-Some.ensures.found in
     total_is a cast (entries_of c.self.inside.rows.slots c.add_at.new.counts.items)
     (total_at a cast c.index_of.result live c.add_at.new.counts.items c.add_at.ensures.counts)
 

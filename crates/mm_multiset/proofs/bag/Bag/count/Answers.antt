@@ -5,7 +5,6 @@ use Rattle.mm_partition.specs.Places.{Free}
 use Rattle.mm_multiset.specs.Counts.{count_in}
 use Rattle.mm_multiset.specs.Slots.{entries_of, no_row}
 use Rattle.mm_multiset.proofs.Recounting.{count_none, count_there, index_inside, none_there}
-use Rattle.mm_multiset.proofs.SlotLists.{live_here}
 use Rattle.mm_multiset.proofs.bag.Bag.count.Goals as goal
 
 pub returns-in-Some : goal.returns-in-Some
@@ -15,7 +14,7 @@ returns-in-Some c =
     let pairs = c.self.inside.by_hash.entries in
     let row = c.args.row.now in
     let i = c.index_of.result in
-    let live = ap (λ k. get_or slots k Free) c.index_of.ensures ∙ live_here c.self.inside.rows c.in-Some.at row c.in-Some.ensures.found in
+    let live = ap (λ k. get_or slots k Free) c.index_of.ensures ∙ c.in-Some.ensures.found in
     get_or_read counts i c.index.result.now (index_inside slots counts pairs i row c.self.invariant.0 live) c.index.ensures no_row
     ∙ (sym (count_there slots counts pairs i row c.self.invariant.0 live) ∙ ap (λ v. count_in row v.entries) c.self.view_is)
 

@@ -3,18 +3,17 @@ use Rattle.std.proofs.Common.{◌≡◌, ◌≢◌, ℕ, Option, Some, None, Lis
 use Rattle.std.specs.Prelude.{IfNone, IfSome}
 use Rattle.mm_value.specs.declared.row_ref.RowRef.{RowRef}
 use Rattle.mm_value.specs.declared.values.Value.{Value}
-use Rattle.mm_partition.specs.Places.{Free, Live, Places, slot_at, slot_index_of}
+use Rattle.mm_partition.specs.Places.{Free, Live, Places, slot_at}
 use Rattle.mm_multiset.specs.Counts.{has_entry}
 use Rattle.mm_multiset.specs.Slots.{IsKept, entries_of}
 use Rattle.mm_multiset.proofs.Recounting.{entry_there, none_there}
-use Rattle.mm_multiset.proofs.SlotLists.{live_here}
 use Rattle.mm_multiset.proofs.bag.Bag.has_entry.Goals as goal
 
 either : (rows : Places) (counts : List ℕ) (pairs : List (ℕ × RowRef)) (row : List Value) → IsKept rows.slots counts pairs → (found : Option RowRef)
     → IfSome found (λ at. slot_at rows at ≡ Live row) → IfNone found ((i : ℕ) → get_or rows.slots i Free ≢ Live row)
     → is_some found ≡ has_entry row (entries_of rows.slots counts)
 either rows counts pairs row kept (Some at) here none =
-    sym (entry_there rows.slots counts pairs (slot_index_of at) row kept (live_here rows at row here))
+    sym (entry_there rows.slots counts pairs at.slot row kept here)
 either rows counts pairs row kept None here none = sym (none_there row rows.slots counts none)
 
 pub returns : goal.returns

@@ -4,22 +4,21 @@ use Rattle.std.specs.Prelude.{IsPermutation}
 use Rattle.std.proofs.lemmas.List.{get_or_read}
 use Rattle.mm_value.specs.declared.row_ref.RowRef.{RowRef}
 use Rattle.mm_value.specs.declared.values.Value.{Value}
-use Rattle.mm_partition.specs.Places.{Free, Live, Places, slot_at, slot_index_of}
+use Rattle.mm_partition.specs.Places.{Free, Live, Places, slot_at}
 use Rattle.mm_multiset.specs.Counts.{count_in, has_entry, total_of}
 use Rattle.mm_multiset.specs.Slots.{IsKept, entries_of, no_row}
 use Rattle.mm_multiset.proofs.EntryBags.{beside_taken, counts_taken, gone_taken, others_taken, total_taken}
 use Rattle.mm_multiset.proofs.Recounting.{count_there, index_inside, none_there}
-use Rattle.mm_multiset.proofs.SlotLists.{live_here}
 use Rattle.mm_multiset.proofs.bag.Bag.purge_row.Goals as goal
 use Rattle.mm_multiset.proofs.bag.Bag.purge_row.Goals.{After-take}
 
 -- the count beside the slot is what was read there
 read_count : (rows : Places) (counts : List ℕ) (pairs : List (ℕ × RowRef)) (at : RowRef) (row : List Value) (i n : ℕ) → IsKept rows.slots counts pairs
-    → slot_at rows at ≡ Live row → i ≡ slot_index_of at → n ≡ get_or counts i n → get_or counts (slot_index_of at) no_row ≡ n
+    → slot_at rows at ≡ Live row → i ≡ at.slot → n ≡ get_or counts i n → get_or counts at.slot no_row ≡ n
 read_count rows counts pairs at row i n kept live place read =
     ap (λ k. get_or counts k no_row) (sym place)
     ∙ sym (get_or_read counts i n
-    (index_inside rows.slots counts pairs i row kept (ap (λ k. get_or rows.slots k Free) place ∙ live_here rows at row live)) read no_row)
+    (index_inside rows.slots counts pairs i row kept (ap (λ k. get_or rows.slots k Free) place ∙ live)) read no_row)
 
 taken : (c : After-take) → IsPermutation (entries_of c.self.inside.rows.slots c.self.inside.counts.items)
     ((c.args.row.now, 0) ∷ entries_of c.take.new.rows.slots c.take.new.counts.items)
@@ -74,8 +73,7 @@ returns-then-index-eq0-clause-kept c = λ some.
     let counts = c.self.inside.counts.items in
     let zero = read_count c.self.inside.rows counts c.self.inside.by_hash.entries c.in-Some.at row c.index_of.result c.index.result.now c.self.invariant.0
     c.in-Some.ensures.found c.index_of.ensures c.index.ensures ∙ c.if-index-eq0.true in
-    let count = count_there slots counts c.self.inside.by_hash.entries (slot_index_of c.in-Some.at) row c.self.invariant.0
-    (live_here c.self.inside.rows c.in-Some.at row c.in-Some.ensures.found) in
+    let count = count_there slots counts c.self.inside.by_hash.entries c.in-Some.at.slot row c.self.invariant.0 c.in-Some.ensures.found in
     absurd (let no : ⊥ = omega (arith, some, zero, count, ap (λ v. count_in row v.entries) c.self.view_is) in no)
 
 pub returns-else-index-eq0-clause-gone : goal.returns-else-index-eq0-clause-gone
@@ -85,8 +83,7 @@ returns-else-index-eq0-clause-gone c = λ none.
     let counts = c.self.inside.counts.items in
     let read = read_count c.self.inside.rows counts c.self.inside.by_hash.entries c.in-Some.at row c.index_of.result c.index.result.now c.self.invariant.0
     c.in-Some.ensures.found c.index_of.ensures c.index.ensures in
-    let count = count_there slots counts c.self.inside.by_hash.entries (slot_index_of c.in-Some.at) row c.self.invariant.0
-    (live_here c.self.inside.rows c.in-Some.at row c.in-Some.ensures.found) in
+    let count = count_there slots counts c.self.inside.by_hash.entries c.in-Some.at.slot row c.self.invariant.0 c.in-Some.ensures.found in
     absurd (let no : ⊥ = omega (arith, none, read, count, ap (λ v. count_in row v.entries) c.self.view_is) in no)
 
 pub returns-in_default-clause-gone : goal.returns-in_default-clause-gone

@@ -1,20 +1,19 @@
 -- One slot has the row, and its count and its pair are there.
-use Rattle.std.proofs.Common.{ℕ, inl, inr, set, ap, sym, ◌∙◌, arith}
-use Rattle.mm_partition.specs.Places.{Free, Live, slot_index_of}
+use Rattle.std.proofs.Common.{ℕ, inl, inr, set, ap, ◌∙◌, arith}
+use Rattle.mm_partition.specs.Places.{Free, Live}
 use Rattle.mm_multiset.specs.Slots.{no_row}
 use Rattle.mm_multiset.proofs.Placing.{IsPut, entries_put, kept_put, turned_put}
 use Rattle.mm_multiset.proofs.SlotEntries.{Turns}
-use Rattle.mm_multiset.proofs.SlotLists.{reference_back}
 use Rattle.mm_multiset.proofs.bag.slots.put.Goals as goal
 use Rattle.mm_multiset.proofs.bag.slots.put.Goals.{After-insert, then-index-len, else-index-len}
 
 pub insert-requires-clause-small : goal.insert-requires-clause-small
 insert-requires-clause-small c = c.are_references_small.ensures c.place-at.result (c.args.row, c.place-at.ensures.placed.changed)
 
-turned : (c : After-insert) → Turns (slot_index_of c.place-at.result) c.args.rows.now.slots c.place-at.new.self.slots c.args.counts.now.items
+turned : (c : After-insert) → Turns c.place-at.result.slot c.args.rows.now.slots c.place-at.new.self.slots c.args.counts.now.items
     c.if-index-len.counts.items Free (Live c.args.row) no_row c.args.count
 turned c =
-    let i : ℕ = slot_index_of c.place-at.result in
+    let i : ℕ = c.place-at.result.slot in
     let counts = c.args.counts.now in
     let written : IsPut i c.args.count counts.items c.if-index-len.counts.items =
     elim c.if-index-len.branch [
@@ -32,16 +31,15 @@ turned c =
     in
     let place = c.place-at.ensures in
     turned_put c.args.rows.now c.place-at.new.self c.place-at.result c.args.row counts.items c.if-index-len.counts.items c.args.count
-    c.requires.kept.marked place.fresh place.placed place.slot place.extent place.within written
+    c.requires.kept.marked place.fresh place.placed place.extent place.within written
 
 pub returns-clause-kept : goal.returns-clause-kept
 returns-clause-kept c =
-    let at = c.place-at.result in
-    kept_put (slot_index_of at) c.args.rows.now.slots c.place-at.new.self.slots c.args.counts.now.items c.if-index-len.counts.items c.args.row c.args.count
-    (turned c) c.args.by_hash.now.entries c.insert.new.self.entries c.args.hash at c.requires.kept c.requires.count c.requires.new c.requires.hash
-    (sym (reference_back at c.place-at.ensures.slot)) c.insert.ensures.entries
+    kept_put c.place-at.result.slot c.args.rows.now.slots c.place-at.new.self.slots c.args.counts.now.items c.if-index-len.counts.items c.args.row c.args.count
+    (turned c) c.args.by_hash.now.entries c.insert.new.self.entries c.args.hash c.requires.kept c.requires.count c.requires.new c.requires.hash
+    c.insert.ensures.entries
 
 pub returns-clause-put : goal.returns-clause-put
 returns-clause-put c =
-    entries_put (slot_index_of c.place-at.result) c.args.rows.now.slots c.place-at.new.self.slots c.args.counts.now.items c.if-index-len.counts.items
+    entries_put c.place-at.result.slot c.args.rows.now.slots c.place-at.new.self.slots c.args.counts.now.items c.if-index-len.counts.items
     c.args.row c.args.count (turned c)

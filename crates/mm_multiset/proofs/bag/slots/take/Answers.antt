@@ -1,15 +1,14 @@
 -- The slot has no row, and its count and its pair are gone.
-use Rattle.std.proofs.Common.{◌≡◌, ◌+◌, ◌∷◌, set, ap, sym, ◌∙◌, subst, arith}
+use Rattle.std.proofs.Common.{◌≡◌, ◌+◌, ◌∷◌, set, sym, ◌∙◌, subst, arith}
 use Rattle.std.specs.Prelude.{IsPermutation, slice_index_or}
 use Rattle.std.specs.List.{Contains}
 use Rattle.std.specs.Bool.{OnTrue}
 use Rattle.std.proofs.lemmas.List.Sorted.{Contains-permutation, IsPermutation-sym}
-use Rattle.mm_partition.specs.Places.{Free, Hidden, slot_index_of}
-use Rattle.mm_multiset.specs.Slots.{IsKept, entries_of, no_row, pairs_from, reference_to}
+use Rattle.mm_partition.specs.Places.{Free, Hidden}
+use Rattle.mm_multiset.specs.Slots.{IsKept, entries_of, no_row, pairs_from}
 use Rattle.mm_multiset.specs.RowHash.{row_hash}
 use Rattle.mm_multiset.proofs.Found.{pair_there}
 use Rattle.mm_multiset.proofs.Placing.{changes_twice, entries_taken, kept_taken, turned_taken}
-use Rattle.mm_multiset.proofs.SlotLists.{live_here, live_small, reference_back}
 use Rattle.mm_multiset.proofs.bag.slots.take.Goals as goal
 
 pub returns-clause-kept : goal.returns-clause-kept
@@ -23,20 +22,18 @@ returns-clause-kept c =
     let hash = c.requires.live.2 in
     let freed = changes_twice old c.hide.new.self c.release.new.self at (Hidden row) Free (c.hide.ensures.hidden row live) c.release.ensures.freed in
     let turns = turned_taken old c.release.new.self at row counts c.requires.kept.marked live freed (c.release.ensures.extent ∙ c.hide.ensures.extent) in
-    let back : at ≡ reference_to (slot_index_of at) = sym (reference_back at (live_small old at row live)) in
-    let same : (row_hash row, reference_to (0 + slot_index_of at)) ≡ (c.args.hash, at) =
-    λ j. (sym hash j, ((let e : 0 + slot_index_of at ≡ slot_index_of at = omega arith in ap reference_to e) ∙ sym back) j)
-    in
+    let first : 0 + at.slot ≡ at.slot = omega arith in
+    let same : (row_hash row, record { slot = 0 + at.slot }) ≡ (c.args.hash, at) = λ j. (sym hash j, record { slot = first j }) in
     let there : Contains pairs (c.args.hash, at) =
     Contains-permutation (pairs_from 0 old.slots) pairs (c.args.hash, at) (IsPermutation-sym pairs (pairs_from 0 old.slots) c.requires.kept.hashed)
-    (subst (Contains (pairs_from 0 old.slots)) same (pair_there 0 old.slots (slot_index_of at) row (live_here old at row live)))
+    (subst (Contains (pairs_from 0 old.slots)) same (pair_there 0 old.slots at.slot row live))
     in
     let taken : IsPermutation pairs ((c.args.hash, at) ∷ c.remove.new.self.entries) =
     subst (λ r. OnTrue r (IsPermutation pairs ((c.args.hash, at) ∷ c.remove.new.self.entries))) (c.remove.ensures.found.1 there) c.remove.ensures.entries
     in
     subst (λ i. IsKept c.release.new.self.slots (set counts i no_row) c.remove.new.self.entries) (sym c.index_of.ensures)
-    (kept_taken (slot_index_of at) old.slots c.release.new.self.slots counts (set counts (slot_index_of at) no_row) row
-    (slice_index_or counts (slot_index_of at) no_row) turns pairs c.remove.new.self.entries c.args.hash at c.requires.kept hash back taken)
+    (kept_taken at.slot old.slots c.release.new.self.slots counts (set counts at.slot no_row) row
+    (slice_index_or counts at.slot no_row) turns pairs c.remove.new.self.entries c.args.hash c.requires.kept hash taken)
 
 pub returns-clause-taken : goal.returns-clause-taken
 returns-clause-taken c = λ row live.
@@ -45,7 +42,7 @@ returns-clause-taken c = λ row live.
     let counts = c.args.counts.now.items in
     let freed = changes_twice old c.hide.new.self c.release.new.self at (Hidden row) Free (c.hide.ensures.hidden row live) c.release.ensures.freed in
     let turns = turned_taken old c.release.new.self at row counts c.requires.kept.marked live freed (c.release.ensures.extent ∙ c.hide.ensures.extent) in
-    subst (λ i. IsPermutation (entries_of old.slots counts) ((row, slice_index_or counts (slot_index_of at) no_row)
+    subst (λ i. IsPermutation (entries_of old.slots counts) ((row, slice_index_or counts at.slot no_row)
     ∷ entries_of c.release.new.self.slots (set counts i no_row))) (sym c.index_of.ensures)
-    (entries_taken (slot_index_of at) old.slots c.release.new.self.slots counts (set counts (slot_index_of at) no_row) row
-    (slice_index_or counts (slot_index_of at) no_row) turns)
+    (entries_taken at.slot old.slots c.release.new.self.slots counts (set counts at.slot no_row) row
+    (slice_index_or counts at.slot no_row) turns)

@@ -3,12 +3,8 @@ use Rattle.mm_partition.specs.declared.slots.State.{State}
 use Rattle.mm_partition.specs.declared.slots.State.TheVariants as state
 use Rattle.mm_partition.specs.Places.{Places, Hidden}
 use Rattle.mm_partition.proofs.ContentLemmas.{length-contents, Stands, live_at, ChangesOnly-at, Written-slot, Storable-written, stored_in, live_within}
-use Rattle.mm_partition.proofs.ContentLemmas.{live_small}
 use Rattle.mm_partition.proofs.FreeLemmas.{IsFreeStack-kept, IsStored-at}
 use Rattle.mm_partition.proofs.rows.Partitions.hide.Goals as goal
-
-pub index_of-requires : goal.index_of-requires
-index_of-requires c = omega (arith, live_within _ _ _ _ _ _ c.self.view_is c.requires.1, c.self.invariant.few)
 
 pub index_mut-requires : goal.index_mut-requires
 index_mut-requires c = omega (arith, live_within _ _ _ _ _ _ c.self.view_is c.requires.1, c.index_of.ensures)
@@ -32,7 +28,7 @@ returns-clause-hidden c row is =
     let stands : Stands c.self.inside.columns.items states i state.Live row =
     live_at _ _ _ _ _ _ i c.self.view_is (sym c.index_of.ensures) is in
     ChangesOnly-at _ c.self.inside.columns.items c.self.inside.columns.items states (set states i state.Hidden) _ _ i c.args.at (Hidden row) c.self.view_is
-    (live_small c.args.self.now c.args.at _ is) (sym c.index_of.ensures)
+    (sym c.index_of.ensures)
     (Written-slot _ _ states i state.Hidden row stands.within stands.row_is (λ k apart. refl))
 
 pub returns-clause-extent : goal.returns-clause-extent

@@ -4,7 +4,6 @@ use Rattle.std.proofs.lemmas.List.{get_or-map, length-map}
 use Rattle.mm_value.specs.Prefix.{order_prefix}
 use Rattle.mm_value.specs.declared.values.Value.TheVariants.{Int}
 use Rattle.mm_partition.specs.Cells.{Fits, cell}
-use Rattle.mm_partition.specs.Places.{slot_index_of}
 use Rattle.mm_partition.specs.TextCells.{prefix_of}
 use Rattle.mm_partition.specs.declared.columns.Column.TheVariants.{Numbers, Texts}
 use Rattle.mm_partition.specs.declared.slots.State.TheVariants as state
@@ -19,9 +18,9 @@ returns-in-Numbers c =
     record {
       extent = omega (arith, ap length c.as_slice.ensures.value, fits.size, extent_is _ _ _ _ c.self.view_is);
       each = λ at row live.
-          value_at _ _ _ _ at row (slot_index_of at) c.args.column c.index.result.now c.self.view_is refl live within c.index.ensures
-          ∙ (ap (λ x. Some (cell x (slot_index_of at))) c.in-Numbers.is
-          ∙ ap (λ xs. Some (Int (get_or xs (slot_index_of at) (pos 0)))) (sym c.as_slice.ensures.value));
+          value_at _ _ _ _ at row at.slot c.args.column c.index.result.now c.self.view_is refl live within c.index.ensures
+          ∙ (ap (λ x. Some (cell x at.slot)) c.in-Numbers.is
+          ∙ ap (λ xs. Some (Int (get_or xs at.slot (pos 0)))) (sym c.as_slice.ensures.value));
     }
 
 pub returns-in-Some : goal.returns-in-Some
@@ -34,10 +33,10 @@ returns-in-Some c =
     record {
       extent = omega (arith, ap length items, length-map texts prefix_of, fits.size, extent_is _ _ _ _ c.self.view_is);
       each = λ at row live.
-          let stands : Stands c.self.inside.columns.items c.self.inside.states.items (slot_index_of at) state.Live row =
+          let stands : Stands c.self.inside.columns.items c.self.inside.states.items at.slot state.Live row =
           live_at _ _ _ _ _ _ _ c.self.view_is refl live in
-          ap (λ xs. get_or xs (slot_index_of at) 0) items
-          ∙ (get_or-map prefix_of texts (slot_index_of at) [] 0 (omega (arith, stands.within, fits.size))
-          ∙ (ap (λ y. order_prefix (cell y (slot_index_of at))) (sym c.in-Texts.is)
-          ∙ sym (prefix_at _ _ _ _ at row (slot_index_of at) c.args.column c.index.result.now c.self.view_is refl live within c.index.ensures)));
+          ap (λ xs. get_or xs at.slot 0) items
+          ∙ (get_or-map prefix_of texts at.slot [] 0 (omega (arith, stands.within, fits.size))
+          ∙ (ap (λ y. order_prefix (cell y at.slot)) (sym c.in-Texts.is)
+          ∙ sym (prefix_at _ _ _ _ at row at.slot c.args.column c.index.result.now c.self.view_is refl live within c.index.ensures)));
     }

@@ -27,21 +27,21 @@ invariant_of-self c =
 pub returns-in-None-clause-fresh : goal.returns-in-None-clause-fresh
 returns-in-None-clause-fresh c =
     let states : List State = c.self.inside.states.items in
-    free_at _ states _ _ c.reference_to.result (length states) c.self.view_is (c.reference_to.ensures.place
+    free_at _ states _ _ c.reference_to.result (length states) c.self.view_is (c.reference_to.ensures
     ∙ (let e : c.len-index.result ≡ length states = omega arith in e))
-    c.reference_to.ensures.slot (ap (λ s. content_if s (row_of c.self.inside.columns.items (length states)))
+    (ap (λ s. content_if s (row_of c.self.inside.columns.items (length states)))
     (slice_get_past states (length states) (omega arith)))
 
 pub returns-in-None-clause-placed : goal.returns-in-None-clause-placed
 returns-in-None-clause-placed c =
     let states : List State = c.self.inside.states.items in
     ChangesOnly-at _ c.self.inside.columns.items c.push_each.new.columns.items states c.push_reserved.new.self.items _ _ c.len-index.result
-    c.reference_to.result (Live c.args.row) c.self.view_is c.reference_to.ensures.slot c.reference_to.ensures.place
+    c.reference_to.result (Live c.args.row) c.self.view_is c.reference_to.ensures
     (Written-pushed _ _ states _ c.len-index.result state.Live c.args.row (omega arith) c.push_reserved.ensures.items
     (c.push_each.ensures.here ∙ c.into_values-values.ensures) c.push_each.ensures.others)
 
 pub returns-in-None-clause-within : goal.returns-in-None-clause-within
-returns-in-None-clause-within c = omega (arith, c.reference_to.ensures.place, extent_is _ _ _ _ c.self.view_is)
+returns-in-None-clause-within c = omega (arith, c.reference_to.ensures, extent_is _ _ _ _ c.self.view_is)
 
 pub returns-in-None-clause-extent : goal.returns-in-None-clause-extent
 returns-in-None-clause-extent c =
@@ -51,7 +51,7 @@ returns-in-None-clause-extent c =
       arith,
       length-contents 0 c.push_each.new.columns.items c.push_reserved.new.self.items,
       size,
-      c.reference_to.ensures.place,
+      c.reference_to.ensures,
       extent_is _ _ _ _ c.self.view_is,
     )
 
@@ -95,7 +95,7 @@ returns-clause-fresh c =
     let states : List State = c.self.inside.states.items in
     let i : ℕ = c.in-Some.index in
     let free : IsFreeStack states (c.pop.new.self.items ++ i ∷ []) = subst (IsFreeStack states) c.in-Some.ensures.items c.self.invariant.free_slots in
-    free_at _ states _ _ c.reference_to-in-Some.result i c.self.view_is c.reference_to-in-Some.ensures.place c.reference_to-in-Some.ensures.slot
+    free_at _ states _ _ c.reference_to-in-Some.result i c.self.view_is c.reference_to-in-Some.ensures
     (ap (λ s. content_if s (row_of c.self.inside.columns.items i)) (last_is_free states _ _ free))
 
 pub returns-clause-placed : goal.returns-clause-placed
@@ -104,7 +104,7 @@ returns-clause-placed c =
     let i : ℕ = c.in-Some.index in
     let free : IsFreeStack states (c.pop.new.self.items ++ i ∷ []) = subst (IsFreeStack states) c.in-Some.ensures.items c.self.invariant.free_slots in
     ChangesOnly-at _ c.self.inside.columns.items c.swap_each.new.columns.items states (set states i state.Live) _ _ i c.reference_to-in-Some.result
-    (Live c.args.row) c.self.view_is c.reference_to-in-Some.ensures.slot c.reference_to-in-Some.ensures.place
+    (Live c.args.row) c.self.view_is c.reference_to-in-Some.ensures
     (Written-slot _ _ states i state.Live c.args.row (slice_get_within states i state.Free (last_is_free states _ _ free))
     (c.swap_each.ensures.here ∙ c.into_values-values.ensures) c.swap_each.ensures.others)
 
@@ -113,7 +113,7 @@ returns-clause-within c =
     let states : List State = c.self.inside.states.items in
     let i : ℕ = c.in-Some.index in
     let free : IsFreeStack states (c.pop.new.self.items ++ i ∷ []) = subst (IsFreeStack states) c.in-Some.ensures.items c.self.invariant.free_slots in
-    omega (arith, slice_get_within states i state.Free (last_is_free states _ _ free), c.reference_to-in-Some.ensures.place, extent_is _ _ _ _ c.self.view_is)
+    omega (arith, slice_get_within states i state.Free (last_is_free states _ _ free), c.reference_to-in-Some.ensures, extent_is _ _ _ _ c.self.view_is)
 
 pub returns-clause-extent : goal.returns-clause-extent
 returns-clause-extent c =
@@ -125,6 +125,6 @@ returns-clause-extent c =
       length-contents 0 c.swap_each.new.columns.items (set states i state.Live),
       length-set states i state.Live,
       slice_get_within states i state.Free (last_is_free states _ _ free),
-      c.reference_to-in-Some.ensures.place,
+      c.reference_to-in-Some.ensures,
       extent_is _ _ _ _ c.self.view_is,
     )

@@ -3,12 +3,9 @@ use Rattle.mm_partition.specs.declared.slots.State.{State}
 use Rattle.mm_partition.specs.declared.slots.State.TheVariants as state
 use Rattle.mm_partition.specs.Places.{Places, Free}
 use Rattle.mm_partition.specs.Stored.{IsFreeStack, IsStored}
-use Rattle.mm_partition.proofs.ContentLemmas.{length-contents, Stands, hidden_at, ChangesOnly-at, Written-slot, Storable-written, hidden_within, hidden_small}
+use Rattle.mm_partition.proofs.ContentLemmas.{length-contents, Stands, hidden_at, ChangesOnly-at, Written-slot, Storable-written, hidden_within}
 use Rattle.mm_partition.proofs.FreeLemmas.{IsFreeStack-freed, some_taken, IsStored-at}
 use Rattle.mm_partition.proofs.rows.Partitions.release.Goals as goal
-
-pub index_of-index-requires : goal.index_of-index-requires
-index_of-index-requires c = omega (arith, hidden_within _ _ _ _ _ _ c.self.view_is c.requires.1, c.self.invariant.few)
 
 pub index_mut-requires : goal.index_mut-requires
 index_mut-requires c = omega (arith, hidden_within _ _ _ _ _ _ c.self.view_is c.requires.1, c.index_of-index.ensures)
@@ -63,7 +60,7 @@ returns-clause-freed c =
     let stands : Stands c.self.inside.columns.items states i state.Hidden c.requires.0 =
     hidden_at _ _ _ _ _ _ i c.self.view_is (sym c.index_of-index.ensures) c.requires.1 in
     ChangesOnly-at _ c.self.inside.columns.items c.clear_each.new.columns.items states (set states i state.Free) _ _ i c.args.at Free c.self.view_is
-    (hidden_small c.args.self.now c.args.at _ c.requires.1) (sym c.index_of-index.ensures)
+    (sym c.index_of-index.ensures)
     (Written-slot _ _ states i state.Free _ stands.within refl c.clear_each.ensures.others)
 
 pub returns-clause-extent : goal.returns-clause-extent

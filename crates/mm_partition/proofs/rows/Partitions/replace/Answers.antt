@@ -3,12 +3,9 @@ use Rattle.mm_partition.specs.declared.slots.State.{State}
 use Rattle.mm_partition.specs.declared.slots.State.TheVariants as state
 use Rattle.mm_partition.specs.Places.{Live}
 use Rattle.mm_partition.proofs.ContentLemmas.{length-contents, Stands, live_at, ChangesOnly-at, Written, Written-cells, Storable-written, extent_is}
-use Rattle.mm_partition.proofs.ContentLemmas.{live_within, live_small}
+use Rattle.mm_partition.proofs.ContentLemmas.{live_within}
 use Rattle.mm_partition.proofs.FreeLemmas.{IsStored-at}
 use Rattle.mm_partition.proofs.rows.Partitions.replace.Goals as goal
-
-pub index_of-requires : goal.index_of-requires
-index_of-requires c = omega (arith, live_within _ _ _ _ _ _ c.self.view_is c.requires.live.1, c.self.invariant.few)
 
 pub swap_each-requires-clause-within : goal.swap_each-requires-clause-within
 swap_each-requires-clause-within c k d h =
@@ -39,7 +36,7 @@ returns-clause-replaced c =
     let i : ℕ = c.index_of.result in
     let stands : Stands c.self.inside.columns.items states i state.Live c.requires.live.0 =
     live_at _ _ _ _ _ _ i c.self.view_is (sym c.index_of.ensures) c.requires.live.1 in
-    ChangesOnly-at _ _ _ states states _ _ i c.args.at (Live c.args.row) c.self.view_is (live_small c.args.self.now c.args.at _ c.requires.live.1)
+    ChangesOnly-at _ _ _ states states _ _ i c.args.at (Live c.args.row) c.self.view_is
     (sym c.index_of.ensures)
     (Written-cells c.self.inside.columns.items c.swap_each.new.columns.items states i state.Live c.args.row stands.state_is
     (c.swap_each.ensures.here ∙ c.into_values-values.ensures) c.swap_each.ensures.others)

@@ -3,12 +3,8 @@ use Rattle.mm_partition.specs.declared.slots.State.{State}
 use Rattle.mm_partition.specs.declared.slots.State.TheVariants as state
 use Rattle.mm_partition.specs.Places.{Places, Live}
 use Rattle.mm_partition.proofs.ContentLemmas.{length-contents, Stands, hidden_at, ChangesOnly-at, Written-slot, Storable-written, stored_in, hidden_within}
-use Rattle.mm_partition.proofs.ContentLemmas.{hidden_small}
 use Rattle.mm_partition.proofs.FreeLemmas.{IsFreeStack-kept, IsStored-at}
 use Rattle.mm_partition.proofs.rows.Partitions.unhide.Goals as goal
-
-pub index_of-requires : goal.index_of-requires
-index_of-requires c = omega (arith, hidden_within _ _ _ _ _ _ c.self.view_is c.requires.1, c.self.invariant.few)
 
 pub index_mut-requires : goal.index_mut-requires
 index_mut-requires c = omega (arith, hidden_within _ _ _ _ _ _ c.self.view_is c.requires.1, c.index_of.ensures)
@@ -32,7 +28,7 @@ returns-clause-back c row is =
     let stands : Stands c.self.inside.columns.items states i state.Hidden row =
     hidden_at _ _ _ _ _ _ i c.self.view_is (sym c.index_of.ensures) is in
     ChangesOnly-at _ c.self.inside.columns.items c.self.inside.columns.items states (set states i state.Live) _ _ i c.args.at (Live row) c.self.view_is
-    (hidden_small c.args.self.now c.args.at _ is) (sym c.index_of.ensures)
+    (sym c.index_of.ensures)
     (Written-slot _ _ states i state.Live row stands.within stands.row_is (λ k apart. refl))
 
 pub returns-clause-extent : goal.returns-clause-extent

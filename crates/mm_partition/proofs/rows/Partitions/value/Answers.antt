@@ -3,9 +3,6 @@ use Rattle.mm_partition.specs.Cells.{Fits}
 use Rattle.mm_partition.proofs.ContentLemmas.{value_at, width_is, live_within}
 use Rattle.mm_partition.proofs.rows.Partitions.value.Goals as goal
 
-pub index_of-requires : goal.index_of-requires
-index_of-requires c = omega (arith, live_within _ _ _ _ _ _ c.self.view_is c.requires.live.1, c.self.invariant.few)
-
 pub value-requires : goal.value-requires
 value-requires c =
     let fits : Fits (length c.self.inside.states.items) c.self.inside.spare c.index.result.now =

@@ -1,4 +1,4 @@
-use Rattle.std.proofs.Common.{◌^◌, ◌<◌, ◌≤◌, List, length, sym, ap, ◌∙◌, subst, arith}
+use Rattle.std.proofs.Common.{◌<◌, ◌≤◌, List, length, sym, ap, ◌∙◌, subst, arith}
 use Rattle.std.specs.Prelude.{IsPermutation}
 use Rattle.std.specs.List.{All}
 use Rattle.std.proofs.lemmas.List.Sorted.{All-permutation, IsPermutation-sym, length_permutation}
@@ -11,7 +11,6 @@ use Rattle.mm_relation.specs.Reads.{IsWalk}
 use Rattle.mm_relation.specs.Refs.{IsWide}
 use Rattle.mm_relation.proofs.Made.{apart_refs, live_refs, wide_refs}
 use Rattle.mm_relation.proofs.WalkRows.{walk_rows}
-use Rattle.mm_relation.proofs.SmallRefs.{small_refs}
 use Rattle.mm_relation.proofs.relation.Relation.ordered_by.Goals as goal
 use Rattle.mm_schema.specs.Rows.{most_rows}
 
@@ -27,13 +26,6 @@ pub sorted_refs-requires-clause-apart : goal.sorted_refs-requires-clause-apart
 sorted_refs-requires-clause-apart c =
     subst (KeysApart c.self.inside.key (slot_at c.self.inside.rows)) (sym (c.as_slice.ensures.value ∙ c.in_ok-refs.ensures))
     (apart_refs c.self.inside.rows.types c.self.inside.key (slot_at c.self.inside.rows) c.self.inside.by_key.refs c.self.inside.indexes.items c.self.invariant)
-
-pub from_sorted-requires : goal.from_sorted-requires
-from_sorted-requires c = record {
-  small =
-      subst (All (λ (r : RowRef). (r.part < 2 ^ 26) × (r.slot < 64))) (sym c.as_slice-2.ensures.value)
-      (small_refs c.args.column c.self.inside.key c.self.inside.rows _ c.are_references_small.ensures c.in_ok-sorted.ensures.ordered.covered);
-}
 
 pub returns-clause-rows : goal.returns-clause-rows
 returns-clause-rows c =

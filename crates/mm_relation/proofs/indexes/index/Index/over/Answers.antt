@@ -1,4 +1,4 @@
-use Rattle.std.proofs.Common.{ℕ, ◌^◌, ◌<◌, ◌≤◌, List, [], ◌++◌, length, sym, subst}
+use Rattle.std.proofs.Common.{ℕ, ◌≤◌, List, [], ◌++◌, length, sym, subst}
 use Rattle.std.specs.Prelude.{IsPermutation}
 use Rattle.std.specs.List.{All}
 use Rattle.std.proofs.lemmas.List.Sorted.{IsPermutation-refl}
@@ -11,15 +11,7 @@ use Rattle.mm_relation.specs.declared.indexes.index.Index.TheVariants.{Hash}
 use Rattle.mm_relation.specs.declared.indexes.names.Side.TheVariants.{New}
 use Rattle.mm_relation.proofs.Rooms.{Keeps-same, column_same}
 use Rattle.mm_relation.proofs.Made.{named-refs, named-refs-nil, none_unmoved}
-use Rattle.mm_relation.proofs.SmallRefs.{small_refs}
 use Rattle.mm_relation.proofs.indexes.index.Index.over.Goals as goal
-
-pub from_sorted-requires : goal.from_sorted-requires
-from_sorted-requires c = record {
-  small =
-      subst (All (λ (r : RowRef). (r.part < 2 ^ 26) × (r.slot < 64))) (sym c.as_slice.ensures.value)
-      (small_refs c.args.column c.args.key c.args.rows.now _ c.are_references_small.ensures c.in_ok-sorted-in-Tree.ensures.ordered.covered);
-}
 
 pub put_each-requires-clause-keeps : goal.put_each-requires-clause-keeps
 put_each-requires-clause-keeps c =

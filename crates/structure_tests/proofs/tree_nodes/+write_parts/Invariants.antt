@@ -1,6 +1,0 @@
-use Rattle.std.specs.Option.{option_copied}
-use Rattle.ttree_node.specs.Tree.{tree_of, node_count}
-use Rattle.structure_tests.proofs.tree_nodes.+write_parts.Given as goal
-
-abbrev pub decreases-write_parts : goal.decreases-write_parts
-decreases-write_parts l = node_count (tree_of (option_copied l.tree))
