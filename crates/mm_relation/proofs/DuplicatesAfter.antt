@@ -193,7 +193,7 @@ pub KeysStayApart-without_duplicates : (stored : StoredRows) (edits : List Edit)
 KeysStayApart-without_duplicates stored edits none kept stay =
     apart_without_duplicates stored.key (rows_after (slot_at stored.places) edits kept) (sym (none kept stay))
 
-removal_count-cons : (e : Edit) (es : List Edit) → removal_count (e ∷ es) ≡ removal_count (e ∷ []) + removal_count es
+pub removal_count-cons : (e : Edit) (es : List Edit) → removal_count (e ∷ es) ≡ removal_count (e ∷ []) + removal_count es
 removal_count-cons e es = sum_by-append (λ (x : Edit). cond (is_removal x) 1 0) (e ∷ []) es
 
 -- an edit adds or has an old row, and removes or has a new one

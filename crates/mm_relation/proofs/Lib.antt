@@ -29,6 +29,7 @@ pub mod Turning
 pub mod Typed
 pub mod Duplicates
 pub mod DuplicatesAfter
+pub mod UndoRoom
 pub mod Unmoved
 pub mod WalkRows
 pub mod WaysBack

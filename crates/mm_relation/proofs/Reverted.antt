@@ -85,7 +85,7 @@ module _ (types : List ColType) (key : ℕ) (now : Slots) (refs : List RowRef) (
         subst (λ (s : Slots). Differs now s (named record_name New es) (named record_name Old ns)) (sym same)
         (subst (Differs now (before es now) (named record_name New es)) (sym (names_inverted now es ns Old inverted)) d)
 
-    paired : EntriesPaired now then es ns
+    pub paired : EntriesPaired now then es ns
     paired =
         paired_from now then es ns inverted
         (λ k e at row within is. ap (λ (s : Slots). s at) same ∙ restored es k e now at row within is d.out_apart d.in_apart)

@@ -55,13 +55,17 @@ module _ {T : Type 0} (name : T → Side → Option RowRef) (other : T → Optio
   All-staying P items all =
       All-append_right P (moving items) (staying items) (All-permutation P (named name side items) (moving items ++ staying items) (names_part items) all)
 
-  pub fewer_move : (items : List T) → length (moving items) ≤ length (named name side items)
-  fewer_move items =
+  -- as many as both together
+  pub names_counted : (items : List T) → length (named name side items) ≡ length (moving items) + length (staying items)
+  names_counted items =
       omega (
         arith,
         length_permutation (named name side items) (moving items ++ staying items) (names_part items),
         length-append (moving items) (staying items),
       )
+
+  pub fewer_move : (items : List T) → length (moving items) ≤ length (named name side items)
+  fewer_move items = omega (arith, names_counted items)
 
   -- what is held with all references is held with those that move, beside those that stay, and the other way round
   pub moving_first : (refs : List RowRef) (items : List T) (kept : List RowRef) → IsPermutation refs (named name side items ++ kept)

@@ -17,3 +17,4 @@ pub mod RowLists
 pub mod Served
 pub mod Sorting
 pub mod UndoRecords
+pub mod UndoRoom

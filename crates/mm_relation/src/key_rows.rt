@@ -1,5 +1,5 @@
 //! The rows of edits, and rows by their keys. The rows stay where they lie.
-ghost use Rattle.std.specs.Prelude.{◌≡◌, [], ◌∷◌, map, All, IfOk};
+ghost use Rattle.std.specs.Prelude.{◌≡◌, [], ◌∷◌, length, map, All, IfOk};
 ghost use Rattle.std.specs.List.{list_any};
 ghost use Rattle.std.specs.List.Sorted.{IsPermutation};
 ghost use Rattle.std.specs.Option.{option_copied};
@@ -7,8 +7,9 @@ ghost use Rattle.mm_schema.specs.Rows.{same_in_column, has_duplicate_keys};
 ghost use Rattle.mm_partition.specs.Places.{slot_at};
 ghost use Rattle.mm_partition.specs.Views.{viewed};
 ghost use Rattle.mm_relation.specs.declared.indexes.names.Side.TheVariants as side;
-ghost use Rattle.mm_relation.specs.Edits.{edit_name, named};
+ghost use Rattle.mm_relation.specs.Edits.{edit_name, edit_other, named};
 ghost use Rattle.mm_relation.specs.KeyRows.{AreByKey, row_with_new_key as row_with_new_key_of, rows_with_new_keys as rows_with_new_keys_of, rows_that_free_keys as rows_that_free_keys_of};
+ghost use Rattle.mm_relation.specs.Moves.{moved};
 ghost use Rattle.mm_relation.specs.Refs.{HasRow};
 
 use crate::edits::Edit;
@@ -69,6 +70,20 @@ pub fn rows_that_free_keys<'a>(
         }
     }
     Ok(rows)
+}
+
+/// How many rows go by the edits or get another key.
+pub fn count_moved(places: &Partitions, key: usize, edits: &[Edit]) -> usize
+    requires { All (HasRow (slot_at places.now)) (named edit_name side.Old edits.now) }
+    ensures { result ≡ length (named (moved edit_name edit_other key key (slot_at places.now)) side.Old edits.now) }
+{
+    let mut count = 0;
+    for edit in edits {
+        if moved_name(places, key, key, edit, Side::Old).is_some() {
+            count += 1;
+        }
+    }
+    count
 }
 
 /// Sorts rows by their keys. It takes no memory and O(m log m) comparisons for m rows.

@@ -6,6 +6,7 @@
 mod change;
 mod edits;
 mod found_refs;
+mod index_room;
 mod indexes;
 mod key_rows;
 mod log;
@@ -14,6 +15,7 @@ mod relation;
 
 pub use edits::{Edit, count_added};
 pub use found_refs::FoundRefs;
+pub use index_room::IndexRoom;
 pub use indexes::index::Index;
 pub use log::{Log, UndoRecord};
 pub use relation::Relation;

@@ -1,7 +1,6 @@
 //! What one command changed, so that it can be taken back.
 ghost use Rattle.std.specs.Prelude.{◌≡◌, ◌+◌, ◌<◌, ◌≤◌, [], ◌∷◌, ◌++◌, length, slice_get, slice_set, IsOk, OnOk, Some};
-ghost use Rattle.mm_relation.specs.declared.indexes.names.Side.TheVariants.{Old};
-ghost use Rattle.mm_relation.specs.Edits.{named, record_name, record_other, removed_by};
+ghost use Rattle.mm_relation.specs.Edits.{record_name, record_other, removed_by};
 
 use crate::indexes::names::{Names, Side};
 use mm_value::{Row, RowRef};
@@ -90,17 +89,6 @@ impl Log {
         ensures { result.now ≡ self.now.entries }
     {
         self.entries.as_slice()
-    }
-
-    /// How many references come in again to each index when the command is taken back: one for each row that was changed
-    /// or removed. Each index keeps so many places free until then.
-    pub fn undo_room(&self) -> usize
-        ensures { result ≡ length (named record_name Old self.now.entries) }
-    {
-        self.entries
-            .iter()
-            .filter_map(|entry| entry.name(Side::Old))
-            .count()
     }
 
     /// Makes room for at least `n` more changes, and in an empty log for no more, since an open transaction keeps it. The changes

@@ -1,5 +1,5 @@
 -- A command that was made can be taken back.
-use Rattle.std.proofs.Common.{◌≡◌, ℕ, zero, suc, ◌<◌, List, [], ◌∷◌, length, get_or, Option, Some, sym, ap, ◌∙◌, subst, arith}
+use Rattle.std.proofs.Common.{◌≡◌, ℕ, zero, suc, ◌<◌, List, [], ◌∷◌, length, get_or, Option, Some, sym, ap, ap₂, ◌∙◌, subst, arith}
 use Rattle.std.specs.Prelude.{map, slice_get}
 use Rattle.std.specs.List.{All, Contains}
 use Rattle.std.specs.Option.{option_cmp}
@@ -17,6 +17,8 @@ use Rattle.mm_relation.specs.Edits.{named, record_name}
 use Rattle.mm_relation.specs.Kept.{StoredRows}
 use Rattle.mm_relation.specs.Lawful.{IsLawful}
 use Rattle.mm_relation.specs.Refs.{HasRow, Slots, row_at, row_in}
+use Rattle.mm_relation.specs.UndoRoom.{undo_room}
+use Rattle.mm_relation.specs.declared.index_room.IndexRoom.{IndexRoom}
 use Rattle.mm_relation.specs.declared.log.UndoRecord.{UndoRecord}
 use Rattle.mm_relation.specs.declared.indexes.names.Side.TheVariants.{New, Old}
 use Rattle.mm_relation.proofs.Phase.{split_off}
@@ -76,9 +78,10 @@ one_target types key now lawful a b live_a live_b same =
 module _ (before_it after_it : Tables) (links : List Link) (place : ℕ) (old new : StoredRows) (there : slice_get before_it.tables place ≡ Some old)
     (turned : Turns before_it place new after_it) (all : All IsTable before_it.tables) (joined : AreJoined before_it.tables links)
     (listed : before_it.links ≡ map (λ (link : Link). link.reference) links) (is_table : IsTable new) (entries : List UndoRecord)
-    (makes : before entries (slot_at new.places) ≡ slot_at old.places) (key : new.key ≡ old.key) where
+    (makes : before entries (slot_at new.places) ≡ slot_at old.places) (key : new.key ≡ old.key) (room : IndexRoom)
+    (needs : room ≡ undo_room new.key (slot_at new.places) entries) where
   abbrev command : Logged
-  command = record { table = place; entries = entries }
+  command = record { table = place; entries = entries; room = room }
 
   now_is : snapshot_of after_it place ≡ slot_at new.places
   now_is = snapshot_here before_it after_it place old new there turned
@@ -117,6 +120,7 @@ module _ (before_it after_it : Tables) (links : List Link) (place : ℕ) (old ne
     heading = heading_of old;
     there = heading_at before_it.tables place old there;
     stands = subst (StandsBack entries) (sym now_is) stands;
+    room = needs ∙ ap₂ (λ (k : ℕ) (s : Slots). undo_room k s entries) key (sym now_is);
     differs =
         subst (λ (s : Slots). Differs (snapshot_of after_it place) s (named record_name New entries) (named record_name Old entries)) (sym stood_is)
         (subst (λ (s : Slots). Differs s (slot_at old.places) (named record_name New entries) (named record_name Old entries)) (sym now_is) differs);

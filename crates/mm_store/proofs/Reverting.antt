@@ -13,6 +13,7 @@ use Rattle.mm_relation.specs.Kept.{IsKept, StoredRows}
 use Rattle.mm_relation.specs.Lawful.{IsLawful}
 use Rattle.mm_relation.specs.Refs.{Slots}
 use Rattle.mm_relation.specs.Inverted.{Inverted}
+use Rattle.mm_relation.specs.declared.index_room.IndexRoom.{IndexRoom}
 use Rattle.mm_relation.specs.declared.log.UndoRecord.{UndoRecord}
 use Rattle.mm_relation.specs.declared.indexes.names.Side.TheVariants.{New, Old}
 use Rattle.mm_relation.proofs.Phase.{distinct}
@@ -53,14 +54,15 @@ one_heading : (a b : Heading) → Some a ≡ Some b → a ≡ b
 one_heading a b same = cc
 
 module _ (tables : List StoredRows) (links : List Link) (sound : IsSound tables links) (place : ℕ) (old : StoredRows)
-    (there : slice_get tables place ≡ Some old) (entries : List UndoRecord)
-    (reversible : IsReversible (map heading_of tables) (map (λ (link : Link). link.reference) links) (record { table = place; entries = entries })
+    (there : slice_get tables place ≡ Some old) (entries : List UndoRecord) (room : IndexRoom)
+    (reversible : IsReversible (map heading_of tables) (map (λ (link : Link). link.reference) links)
+    (record { table = place; entries = entries; room = room })
     (snapshot_of (record { tables = tables; links = map (λ (link : Link). link.reference) links }))) where
   abbrev store : Tables
   store = record { tables = tables; links = map (λ (link : Link). link.reference) links }
 
   abbrev command : Logged
-  command = record { table = place; entries = entries }
+  command = record { table = place; entries = entries; room = room }
 
   was : snapshot_of store place ≡ slot_at old.places
   was = ap slots_of there

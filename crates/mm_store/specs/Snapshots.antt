@@ -4,13 +4,15 @@ use Rattle.mm_partition.specs.Places.{Free, slot_at}
 use Rattle.mm_relation.specs.Before.{before}
 use Rattle.mm_relation.specs.Kept.{StoredRows}
 use Rattle.mm_relation.specs.Refs.{Slots}
+use Rattle.mm_relation.specs.declared.index_room.IndexRoom.{IndexRoom}
 use Rattle.mm_relation.specs.declared.log.UndoRecord.{UndoRecord}
 use Rattle.mm_store.specs.Tables.{Tables}
 
--- What one command changed in one table, the oldest change first.
+-- What one command changed in one table, the oldest change first, and how many places in the table's indexes it needs to be taken back.
 pub record Logged : Type 0 where
   pub table : ℕ
   pub entries : List UndoRecord
+  pub room : IndexRoom
 
 -- What stands at each reference of each table.
 abbrev pub Snapshot : Type 0

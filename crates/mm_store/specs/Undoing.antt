@@ -8,6 +8,8 @@ use Rattle.mm_relation.specs.Index.{spare_of}
 use Rattle.mm_relation.specs.Kept.{StoredRows}
 use Rattle.mm_relation.specs.Lawful.{IsLawful}
 use Rattle.mm_relation.specs.Refs.{HasRow, Slots}
+use Rattle.mm_relation.specs.UndoRoom.{undo_room as undo_room_of}
+use Rattle.mm_relation.specs.declared.index_room.IndexRoom.{IndexRoom}
 use Rattle.mm_relation.specs.declared.indexes.names.Side.TheVariants.{New, Old}
 use Rattle.mm_schema.specs.declared.reference.Reference.{Reference}
 use Rattle.mm_value.specs.declared.col_type.ColType.{ColType}
@@ -35,12 +37,14 @@ headings_of store = map heading_of store.tables
 abbrev pub HasAtMost : ℕ → Slots → Type 0
 HasAtMost n slots = (refs : List RowRef) → AllPairs (λ a b. a ≢ b) refs → All (HasRow slots) refs → length refs ≤ n
 
--- The command can be taken back from what stands now: its undo records fit its table, the rows that stood before it are
--- lawful and few, each of them has its targets, and each row of another table that refers to a row now referred to it before.
+-- The command can be taken back from what stands now: its undo records fit its table and need the room that is counted for it, the
+-- rows that stood before it are lawful and few, each of them has its targets, and each row of another table that refers to a row now
+-- referred to it before.
 pub record IsReversible (headings : List Heading) (links : List Reference) (command : Logged) (now : Snapshot) : Type 0 where
   pub heading : Heading
   pub there : slice_get headings command.table ≡ Some heading
   pub stands : StandsBack command.entries (now command.table)
+  pub room : command.room ≡ undo_room_of heading.key (now command.table) command.entries
   pub differs : Differs (now command.table) (stood command now) (named record_name New command.entries) (named record_name Old command.entries)
   pub lawful : IsLawful heading.types heading.key (stood command now)
   pub few : HasAtMost most_rows (stood command now)
@@ -58,18 +62,19 @@ GoesBack headings links [] now = Unit {0}
 GoesBack headings links (command ∷ newer) now =
     GoesBack headings links newer now × IsReversible headings links command (back_all newer now)
 
--- How many entries a command puts into each index of a table when it is taken back: one for each row that it changed or removed.
-abbrev pub undo_room_for : ℕ → Logged → ℕ
-undo_room_for table command = cond (command.table == table) (length (named record_name Old command.entries)) 0
+-- How many places a command needs in one kind of a table's indexes to be taken back.
+abbrev pub places_for : (IndexRoom → ℕ) → ℕ → Logged → ℕ
+places_for places table command = cond (command.table == table) (places command.room) 0
 
--- How many entries all commands put into each index of a table when they are taken back.
-abbrev pub undo_room : ℕ → List Logged → ℕ
-undo_room table undo = sum_by (undo_room_for table) undo
+-- The room that all commands need in the indexes of a table to be taken back.
+abbrev pub undo_room : ℕ → List Logged → IndexRoom
+undo_room table undo =
+    record { key = sum_by (places_for (λ room. room.key) table) undo; indexes = sum_by (places_for (λ room. room.indexes) table) undo }
 
--- The key index of a relation and each further one take so many more entries without growing.
-pub record HasSpare (n : ℕ) (stored : StoredRows) : Type 0 where
-  pub key : n ≤ stored.spare
-  pub each : All (λ x. n ≤ spare_of x) stored.indexes
+-- The index on the key of a relation and each further one take so many more entries without growing.
+pub record HasSpare (room : IndexRoom) (stored : StoredRows) : Type 0 where
+  pub key : room.key ≤ stored.spare
+  pub each : All (λ x. room.indexes ≤ spare_of x) stored.indexes
 
 -- All commands of the log can be taken back, the newest first, and no index has to grow for it.
 pub record CanUndo (store : Tables) (undo : List Logged) : Type 0 where

@@ -220,7 +220,7 @@ impl Store {
         ensures rows_before { (mark : ℕ) → rows_at_mark mark undo.now self.new ≡ rows_at_mark mark undo.now self.old }
     {
         let undo_room = undo.undo_room_of(table);
-        self.tables[table].add_index(alloc, column, kind, undo_room)?;
+        self.tables[table].add_index(alloc, column, kind, undo_room.indexes as usize)?;
         is_kept(&self.tables[table]);
         Ok(())
     }

@@ -1,11 +1,9 @@
 //! What is to be taken back.
-ghost use Rattle.std.specs.Prelude.{◌≡◌, ◌+◌, ◌<◌, ◌≤◌, ◌^◌, ◌++◌, ℕ, [], ◌∷◌, length, slice_index, vec_len, vec_capacity, MatchOption, IfOk, OnOk};
-ghost use Rattle.mm_relation.specs.Edits.{edit_name, named};
-ghost use Rattle.mm_relation.specs.declared.indexes.names.Side.TheVariants as side;
+ghost use Rattle.std.specs.Prelude.{◌≡◌, ◌<◌, ◌≤◌, ◌++◌, ℕ, [], ◌∷◌, length, vec_len, vec_capacity, MatchOption, IfOk, OnOk};
+ghost use Rattle.mm_store.specs.Tally.{count_of};
 ghost use Rattle.mm_store.specs.Undoing.{undo_room};
 
-use mm_relation::{Edit, Log};
-use mm_value::RowRef;
+use mm_relation::{IndexRoom, Log};
 use std::alloc::{AllocError, Global};
 use std::marker::Model;
 
@@ -16,8 +14,8 @@ const MAX_KEPT: usize = 64;
 #[derive(Drop)]
 pub struct Undo {
     pub(crate) commands: Vec<LoggedCommand>,
-    /// For each table how many entries its commands put into each of its indexes when they are taken back.
-    pub(crate) undo_room: Vec<usize>,
+    /// For each table the room that its commands need in its indexes to be taken back.
+    pub(crate) undo_room: Vec<IndexRoom>,
     /// An empty log for the next command.
     pub(crate) idle: Log,
 }
@@ -26,8 +24,8 @@ pub struct Undo {
 #[derive(Drop)]
 pub(crate) struct LoggedCommand {
     pub(crate) table: usize,
-    /// How many entries it puts into each index of the table when it is taken back.
-    pub(crate) needed: usize,
+    /// The room that it needs in the indexes of the table to be taken back.
+    pub(crate) needed: IndexRoom,
     pub(crate) log: Log,
 }
 
@@ -65,11 +63,12 @@ impl Undo {
         self.commands.len()
     }
 
-    /// How many entries all commands put into each index of a table when they are taken back.
-    pub(crate) fn undo_room_of(&self, table: usize) -> usize
+    /// The room that all commands need in the indexes of a table to be taken back.
+    pub(crate) fn undo_room_of(&self, table: usize) -> IndexRoom
         ensures { result ≡ undo_room table self.now }
     {
-        self.undo_room.get(table).copied().unwrap_or(0)
+        let none = IndexRoom { key: 0, indexes: 0 };
+        self.undo_room.get(table).copied().unwrap_or(none)
     }
 
     /// Takes the newest command out.
@@ -77,7 +76,9 @@ impl Undo {
         ensures { MatchOption result ((self.old ≡ []) × (self.new ≡ [])) (λ command. self.old ≡ self.new ++ logged_of command ∷ []) }
     {
         let command = self.commands.pop()?;
-        self.undo_room[command.table] -= command.needed;
+        let undo_room = &mut self.undo_room[command.table];
+        undo_room.key -= command.needed.key;
+        undo_room.indexes -= command.needed.indexes;
         Some(command)
     }
 
@@ -93,45 +94,25 @@ impl Undo {
 }
 
 /// Makes room for one command more and for a count of each of so many tables, and gives the count of one of them. `AllocError`
-/// where memory is refused, or where the count and so many more are no `usize`. The commands and the counts stay.
+/// where memory is refused. The commands and the counts stay.
 pub(crate) fn reserve(
     commands: &mut Vec<LoggedCommand>,
-    undo_room: &mut Vec<usize>,
+    undo_room: &mut Vec<IndexRoom>,
     tables: usize,
     table: usize,
-    more: usize,
-) -> Result<usize, AllocError>
+) -> Result<IndexRoom, AllocError>
     requires { table < tables }
     ensures commands { commands.new.items ≡ commands.old.items }
-    ensures counts { (place : ℕ) → slice_index undo_room.new.items place ≡ slice_index undo_room.old.items place }
+    ensures counts { (place : ℕ) → count_of undo_room.new.items place ≡ count_of undo_room.old.items place }
     ensures longer { length undo_room.old.items ≤ length undo_room.new.items }
     ensures room { OnOk result (vec_len commands.new < vec_capacity commands.new) }
-    ensures count { IfOk result (λ count. count ≡ slice_index undo_room.new.items table) }
-    ensures fits { IfOk result (λ count. count + more < 2 ^ 64) }
+    ensures count { IfOk result (λ count. count ≡ count_of undo_room.new.items table) }
     ensures there { OnOk result (table < length undo_room.new.items) }
 {
     commands.reserve(1)?;
     if undo_room.len() < tables {
-        undo_room.resize(tables, 0)?;
+        let none = IndexRoom { key: 0, indexes: 0 };
+        undo_room.resize(tables, none)?;
     }
-    let count = undo_room[table];
-    count.checked_add(more).ok_or(AllocError)?;
-    Ok(count)
-}
-
-/// How many of the edits change a row or remove one.
-pub(crate) fn count_old(edits: &[Edit]) -> usize
-    ensures { result ≡ length (named edit_name side.Old edits.now) }
-{
-    edits.iter().filter_map(old_ref).count()
-}
-
-/// The reference of the row that an edit changes or removes.
-fn old_ref(edit: &Edit) -> Option<RowRef>
-    ensures { result ≡ edit_name edit.now side.Old }
-{
-    match edit {
-        Edit::Add(_) => None,
-        Edit::Swap(at, _) | Edit::Gone(at) => Some(*at),
-    }
+    Ok(undo_room[table])
 }

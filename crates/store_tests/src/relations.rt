@@ -12,7 +12,7 @@ ghost use Rattle.store_tests.specs.SampleRelation.{IsSample, sample_types};
 
 use crate::assertions::{assert_same, assert_that};
 use mm_order::OrderedRefs;
-use mm_relation::{Edit, Log, Relation};
+use mm_relation::{Edit, IndexRoom, Log, Relation};
 use mm_schema::IndexKind;
 use mm_value::{ColType, Row, RowRef, Text, Value, ValueRef};
 use std::alloc::{AllocError, Global};
@@ -21,6 +21,9 @@ use std::test::Fail;
 
 /// The types of the columns: a key, a digit and a mark.
 const TYPES: &[ColType] = &[ColType::Int, ColType::Int, ColType::Text];
+
+/// The room that no commands need to be taken back.
+const NO_ROOM: IndexRoom = IndexRoom { key: 0, indexes: 0 };
 
 /// No rows, with a TREE index on the second column at place 0, and a HASH index at place 1.
 fn sample(alloc: Global) -> Result<Relation, AllocError>
@@ -78,7 +81,7 @@ fn make(relation: &mut Relation, alloc: Global, edits: Vec<Edit>) -> Result<bool
         return Ok(false);
     }
     let mut log = Log::new(alloc);
-    relation.apply(alloc, edits, 0, &mut log)?;
+    relation.apply(alloc, edits, NO_ROOM, &mut log)?;
     relation.settle(&mut log);
     Ok(true)
 }
@@ -334,16 +337,16 @@ fn there_and_back(
     relation: &mut Relation,
     alloc: Global,
     exchanges: &[Exchange],
-    undo_room: usize,
+    undo_room: IndexRoom,
 ) -> Result<Option<Shown>, AllocError>
     requires sample { IsSample relation.old }
-    requires spare { undo_room ≤ relation.old.spare }
-    requires spares { All (λ x. undo_room ≤ spare_of x) relation.old.indexes }
+    requires spare { undo_room.key ≤ relation.old.spare }
+    requires spares { All (λ x. undo_room.indexes ≤ spare_of x) relation.old.indexes }
     ensures sample { IsSample relation.new }
     ensures slots { slot_at relation.new.places ≡ slot_at relation.old.places }
     ensures key { relation.new.key ≡ relation.old.key }
-    ensures spare { undo_room ≤ relation.new.spare }
-    ensures spares { All (λ x. undo_room ≤ spare_of x) relation.new.indexes }
+    ensures spare { undo_room.key ≤ relation.new.spare }
+    ensures spares { All (λ x. undo_room.indexes ≤ spare_of x) relation.new.indexes }
 {
     let Some((exchange, later)) = exchanges.split_first() else {
         return Ok(Some(look(relation, alloc)?));
@@ -353,8 +356,8 @@ fn there_and_back(
         return Ok(None);
     };
     let mut log = Log::new(alloc);
-    relation.apply(alloc, edits, undo_room, &mut log)?;
-    let shown = match undo_room.checked_add(log.undo_room()) {
+    let needed = relation.apply(alloc, edits, undo_room, &mut log)?;
+    let shown = match undo_room.checked_add(needed) {
         Some(undo_room) => there_and_back(relation, alloc, later, undo_room),
         None => Ok(None),
     };
@@ -656,9 +659,9 @@ fn try_exchanges(
     requires { IsSample relation.old }
     ensures { IsSample relation.new }
 {
-    match there_and_back(relation, alloc, exchanges, 0) {
+    match there_and_back(relation, alloc, exchanges, NO_ROOM) {
         Ok(shown) => Ok(shown),
-        Err(_) => there_and_back(relation, alloc, exchanges, 0),
+        Err(_) => there_and_back(relation, alloc, exchanges, NO_ROOM),
     }
 }
 

@@ -8,7 +8,7 @@ ghost use Rattle.mm_partition.specs.Places.{slot_at};
 ghost use Rattle.mm_relation.specs.Refs.{IsWide, refs_by};
 ghost use Rattle.mm_relation.specs.Edits.{named, Among};
 ghost use Rattle.mm_relation.specs.Index.{InOrder, KeysApart};
-ghost use Rattle.mm_relation.specs.Moves.{stayed};
+ghost use Rattle.mm_relation.specs.Moves.{moved, stayed};
 
 use crate::indexes::by_column::ByColumn;
 use crate::indexes::by_numbers::{ByNumbers, NumberKeys, number_keys};
@@ -166,7 +166,7 @@ pub fn put_each<L: OrderedRefs, T: Names>(
     items: &[T],
     side: Side,
 )
-    requires spare { length (named T.name side items.now) ≤ L.spare tree.old }
+    requires spare { length (named (moved T.name T.other column key (slot_at rows.now)) side items.now) ≤ L.spare tree.old }
     requires ordered { InOrder column key (slot_at rows.now) (L.refs tree.old) }
     requires wide { All (IsWide column key (slot_at rows.now)) (named T.name side items.now) }
     requires apart { (held : List RowRef)
@@ -176,7 +176,7 @@ pub fn put_each<L: OrderedRefs, T: Names>(
         → IsPermutation (L.refs tree.old) (named (stayed T.name T.other column key (slot_at rows.now)) side items.now ++ held)
         → IsPermutation (L.refs tree.new) (named T.name side items.now ++ held) }
     ensures ordered { InOrder column key (slot_at rows.now) (L.refs tree.new) }
-    ensures spare { L.spare tree.old ≤ L.spare tree.new + length (named T.name side items.now) }
+    ensures spare { L.spare tree.old ≤ L.spare tree.new + length (named (moved T.name T.other column key (slot_at rows.now)) side items.now) }
 {
     for item in items {
         if let Some(at) = moved_name(rows, column, key, item, side) {

@@ -1,5 +1,5 @@
 //! Edits of a relation, all or none.
-ghost use Rattle.std.specs.Prelude.{◌≡◌, ◌+◌, ◌≤◌, [], List, length, All, OnOk, OnErr};
+ghost use Rattle.std.specs.Prelude.{◌≡◌, ◌+◌, ◌<◌, ◌≤◌, ◌^◌, [], List, length, All, IfOk, OnOk, OnErr};
 ghost use Rattle.mm_value.specs.declared.row_ref.RowRef.{RowRef};
 ghost use Rattle.mm_value.specs.declared.values.Value.{Value};
 ghost use Rattle.mm_partition.specs.Places.{Hidden, slot_at, extent_of};
@@ -7,19 +7,23 @@ ghost use Rattle.mm_partition.specs.Types.{HasTypes};
 ghost use Rattle.mm_relation.specs.declared.indexes.names.Side.TheVariants.{New, Old};
 ghost use Rattle.mm_relation.specs.Before.{before, StandsBack};
 ghost use Rattle.mm_relation.specs.Differs.{Differs};
-ghost use Rattle.mm_relation.specs.Edits.{named, edit_name, record_name, new_rows, added_count, removed};
+ghost use Rattle.mm_relation.specs.Edits.{named, edit_name, edit_other, record_name, new_rows, added_count, removed};
 ghost use Rattle.mm_relation.specs.Changes.{Changes, Standing, AreHidden};
 ghost use Rattle.mm_relation.specs.Index.{InOrder, EachTurns, SameIndex, spare_of};
 ghost use Rattle.mm_schema.specs.Rows.{changed};
 ghost use Rattle.mm_relation.specs.RowLists.{edit_pairs, rows_of};
 ghost use Rattle.mm_relation.specs.Kept.{SameButRoom, KeysStayApart, HasRowsAfter};
+ghost use Rattle.mm_relation.specs.Moves.{moved, stayed};
+ghost use Rattle.mm_relation.specs.UndoRoom.{index_room, key_room, undo_room as undo_room_of};
 
 use super::Relation;
 use crate::change::change_each;
-use crate::edits::{Edit, count_added, count_places};
+use crate::edits::{Edit, count_added, count_room};
+use crate::index_room::IndexRoom;
 use crate::indexes::names::Side;
 use crate::indexes::tree_entries::{put_each, take_each};
 use crate::indexes::{put_into_all, reserve_all, take_from_all};
+use crate::key_rows::count_moved;
 use crate::log::Log;
 use mm_order::OrderedRefs;
 use std::alloc::{AllocError, Global};
@@ -32,8 +36,9 @@ impl Relation {
     /// memory is refused; then all is as before, but for spare room.
     ///
     /// Since `revert` may take no memory, every index has room afterwards for the references that come in again when
-    /// the command is taken back, one for each row that goes or changes. `undo_room` says how many places the commands
-    /// before this one need to be taken back: so much room is there too. `AllocError` also where the sum is no `usize`.
+    /// the command is taken back: the index on the key one for each row that goes or gets another key, and each further
+    /// index one for each row that goes or changes. That room is returned. `undo_room` is the room that the commands
+    /// before this one need to be taken back: so much is there too. `AllocError` also where a sum is no `u32`.
     ///
     /// The edits have to stand: each names a live row, no two the same one; each new row has the types of the
     /// columns; and of the rows that are kept and the new ones no two have one key. The extent grows by at most the number
@@ -42,9 +47,9 @@ impl Relation {
         &mut self,
         alloc: Global,
         edits: Vec<Edit>,
-        undo_room: usize,
+        undo_room: IndexRoom,
         log: &mut Log,
-    ) -> Result<(), AllocError>
+    ) -> Result<IndexRoom, AllocError>
         requires empty { log.old.entries ≡ [] }
         requires standing { Standing (slot_at self.old.places) edits.items }
         requires typed { All (HasTypes self.old.places.types) (new_rows edits.items) }
@@ -68,41 +73,50 @@ impl Relation {
         ensures types { OnOk result (self.new.places.types ≡ self.old.places.types) }
         ensures indexes { OnOk result (EachTurns SameIndex self.old.indexes self.new.indexes) }
         ensures extent { OnOk result (extent_of self.new.places ≤ extent_of self.old.places + added_count edits.items) }
-        ensures undo_room { OnOk result (undo_room + length (named record_name Old log.new.entries) ≤ self.new.spare) }
-        ensures undo_room_each { OnOk result
-            (All (λ x. undo_room + length (named record_name Old log.new.entries) ≤ spare_of x) self.new.indexes) }
+        ensures needed { IfOk result (λ needed. needed ≡ undo_room_of self.new.key (slot_at self.new.places) log.new.entries) }
+        ensures fits { IfOk result (λ needed. (undo_room.key + needed.key < 2 ^ 32) × (undo_room.indexes + needed.indexes < 2 ^ 32)) }
+        ensures undo_room { OnOk result (undo_room.key + key_room self.new.key (slot_at self.new.places) log.new.entries ≤ self.new.spare) }
+        ensures undo_room_each { OnOk result (All (λ x. undo_room.indexes + index_room log.new.entries ≤ spare_of x) self.new.indexes) }
         ensures err { OnErr result (SameButRoom self.old self.new) }
         ensures err_log { OnErr result (log.new.entries ≡ log.old.entries) }
     {
-        self.make_room(alloc, edits.as_slice(), undo_room, log)?;
+        let needed = self.make_room(alloc, edits.as_slice(), undo_room, log)?;
         self.change(edits, log);
-        Ok(())
+        Ok(needed)
     }
 
     /// Makes room for all that the edits add to the rows, the log and the indexes, for all that taking them back adds
-    /// to the indexes again, and for `undo_room` entries more.
+    /// to the indexes again, and for `undo_room`. It gives the room that taking them back needs.
     fn make_room(
         &mut self,
         alloc: Global,
         edits: &[Edit],
-        undo_room: usize,
+        undo_room: IndexRoom,
         log: &mut Log,
-    ) -> Result<(), AllocError>
+    ) -> Result<IndexRoom, AllocError>
+        requires { Standing (slot_at self.old.places) edits.now }
         ensures same { SameButRoom self.old self.new }
         ensures entries { log.new.entries ≡ log.old.entries }
         ensures room { OnOk result (added_count edits.now ≤ self.new.places.room) }
         ensures log { OnOk result (length edits.now ≤ log.new.room) }
-        ensures spare { OnOk result
-            (undo_room + (length (named edit_name Old edits.now) + length (new_rows edits.now)) ≤ self.new.spare) }
-        ensures spares { OnOk result
-            (All (λ x. undo_room + (length (named edit_name Old edits.now) + length (new_rows edits.now)) ≤ spare_of x) self.new.indexes) }
+        ensures needed { IfOk result (λ needed. needed ≡ record {
+          key = length (named (moved edit_name edit_other self.old.key self.old.key (slot_at self.old.places)) Old edits.now);
+          indexes = length (named edit_name Old edits.now);
+        }) }
+        ensures fits { IfOk result (λ needed. (undo_room.key + needed.key < 2 ^ 32) × (undo_room.indexes + needed.indexes < 2 ^ 32)) }
+        ensures spare { IfOk result (λ needed. undo_room.key + (needed.key + length (new_rows edits.now))
+            ≤ self.new.spare + length (named (stayed edit_name edit_other self.old.key self.old.key (slot_at self.old.places)) Old edits.now)) }
+        ensures spares { IfOk result (λ needed.
+            All (λ x. undo_room.indexes + (needed.indexes + length (new_rows edits.now)) ≤ spare_of x) self.new.indexes) }
     {
-        let places = count_places(edits, undo_room).ok_or(AllocError)?;
+        let moved = count_moved(&self.rows, self.key, edits);
+        let room = count_room(edits, moved, undo_room).ok_or(AllocError)?;
         self.rows.track(alloc, self.key)?;
         self.rows.reserve(alloc, count_added(edits))?;
         log.reserve(alloc, edits.len())?;
-        self.by_key.reserve(alloc, places)?;
-        reserve_all(alloc, &mut self.indexes, places)
+        self.by_key.reserve(alloc, room.all.key as usize)?;
+        reserve_all(alloc, &mut self.indexes, room.all.indexes as usize)?;
+        Ok(room.undo)
     }
 
     /// Makes all edits in room that is there, and logs them.
@@ -110,7 +124,8 @@ impl Relation {
         requires room { added_count edits.items ≤ self.old.places.room }
         requires log { length edits.items ≤ log.old.room }
         requires empty { log.old.entries ≡ [] }
-        requires spare { length (new_rows edits.items) ≤ self.old.spare }
+        requires spare { length (new_rows edits.items)
+            ≤ self.old.spare + length (named (stayed edit_name edit_other self.old.key self.old.key (slot_at self.old.places)) Old edits.items) }
         requires spares { All (λ x. length (new_rows edits.items) ≤ spare_of x) self.old.indexes }
         requires standing { Standing (slot_at self.old.places) edits.items }
         requires typed { All (HasTypes self.old.places.types) (new_rows edits.items) }
@@ -131,7 +146,10 @@ impl Relation {
         ensures types { self.new.places.types ≡ self.old.places.types }
         ensures indexes { EachTurns SameIndex self.old.indexes self.new.indexes }
         ensures extent { extent_of self.new.places ≤ extent_of self.old.places + added_count edits.items }
-        ensures spare { self.old.spare ≤ self.new.spare + length (new_rows edits.items) }
+        ensures key_room { key_room self.old.key (slot_at self.new.places) log.new.entries
+            ≡ length (named (moved edit_name edit_other self.old.key self.old.key (slot_at self.old.places)) Old edits.items) }
+        ensures spare { self.old.spare + length (named (stayed edit_name edit_other self.old.key self.old.key (slot_at self.old.places)) Old edits.items)
+            ≤ self.new.spare + length (new_rows edits.items) }
         ensures spares { EachTurns (λ x y. spare_of x ≤ spare_of y + length (new_rows edits.items)) self.old.indexes self.new.indexes }
     {
         take_each(

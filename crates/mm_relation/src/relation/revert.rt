@@ -1,5 +1,5 @@
 //! A command that is taken back.
-ghost use Rattle.std.specs.Prelude.{◌≡◌, ◌+◌, ◌≤◌, length, All};
+ghost use Rattle.std.specs.Prelude.{◌≡◌, ◌+◌, ◌≤◌, All};
 ghost use Rattle.mm_partition.specs.Places.{slot_at, extent_of};
 ghost use Rattle.mm_relation.specs.declared.indexes.names.Side.TheVariants.{New, Old};
 ghost use Rattle.mm_relation.specs.Before.{before, StandsBack};
@@ -8,6 +8,7 @@ ghost use Rattle.mm_relation.specs.Edits.{named, record_name};
 ghost use Rattle.mm_relation.specs.Index.{EachTurns, SameIndex, spare_of};
 ghost use Rattle.mm_relation.specs.Lawful.{IsLawful};
 ghost use Rattle.mm_relation.specs.Inverted.{Inverted};
+ghost use Rattle.mm_relation.specs.UndoRoom.{index_room, key_room};
 
 use super::Relation;
 use crate::change::take_back_each;
@@ -28,12 +29,11 @@ impl Relation {
         requires differs { Differs (slot_at self.old.places) (before log.old.entries (slot_at self.old.places))
             (named record_name New log.old.entries) (named record_name Old log.old.entries) }
         requires lawful { IsLawful self.old.places.types self.old.key (before log.old.entries (slot_at self.old.places)) }
-        requires spare { length (named record_name Old log.old.entries) ≤ self.old.spare }
-        requires spares { All (λ x. length (named record_name Old log.old.entries) ≤ spare_of x) self.old.indexes }
+        requires spare { key_room self.old.key (slot_at self.old.places) log.old.entries ≤ self.old.spare }
+        requires spares { All (λ x. index_room log.old.entries ≤ spare_of x) self.old.indexes }
         ensures slots { slot_at self.new.places ≡ before log.old.entries (slot_at self.old.places) }
-        ensures spare { self.old.spare ≤ self.new.spare + length (named record_name Old log.old.entries) }
-        ensures spares { EachTurns (λ x y. spare_of x ≤ spare_of y + length (named record_name Old log.old.entries))
-            self.old.indexes self.new.indexes }
+        ensures spare { self.old.spare ≤ self.new.spare + key_room self.old.key (slot_at self.old.places) log.old.entries }
+        ensures spares { EachTurns (λ x y. spare_of x ≤ spare_of y + index_room log.old.entries) self.old.indexes self.new.indexes }
         ensures key { self.new.key ≡ self.old.key }
         ensures types { self.new.places.types ≡ self.old.places.types }
         ensures indexes { EachTurns SameIndex self.old.indexes self.new.indexes }

@@ -1,9 +1,10 @@
 //! Edits of a table, logged so that they can be taken back.
-ghost use Rattle.std.specs.Prelude.{◌≡◌, ◌+◌, ◌<◌, ◌≤◌, ◌++◌, ℕ, [], ◌∷◌, List, length, drop, IfOk, OnOk, OnErr};
+ghost use Rattle.std.specs.Prelude.{◌≡◌, ◌+◌, ◌<◌, ◌≤◌, ◌^◌, ◌++◌, ℕ, [], ◌∷◌, List, length, drop, IfOk, OnOk, OnErr};
 ghost use Rattle.mm_relation.specs.Edits.{added_count};
 ghost use Rattle.mm_relation.specs.Kept.{SameButRoom, StoredRows};
 ghost use Rattle.mm_relation.specs.RowLists.{rows_of};
 ghost use Rattle.mm_relation.specs.declared.log.UndoRecord.{UndoRecord};
+ghost use Rattle.mm_relation.specs.declared.index_room.IndexRoom.{IndexRoom as Room};
 ghost use Rattle.mm_store.specs.Commands.{IsEdited};
 ghost use Rattle.mm_store.specs.Marks.{rows_at_mark};
 ghost use Rattle.mm_store.specs.Tables.{IsAt, Turns, AreLawful, HasRows, rows_with};
@@ -12,8 +13,8 @@ ghost use Rattle.mm_store.specs.Snapshots.{back_all, snapshot_of};
 
 use super::{Store, is_kept};
 use crate::links::{reserve_all, retie_all};
-use crate::undo::{LoggedCommand, Undo, count_old, reserve};
-use mm_relation::{Edit, Log, count_added};
+use crate::undo::{LoggedCommand, Undo, reserve};
+use mm_relation::{Edit, IndexRoom, Log, count_added};
 use std::alloc::{AllocError, Global};
 use std::mem;
 
@@ -38,7 +39,8 @@ impl Store {
         ensures err { OnErr result ((stored : StoredRows) → IsAt self.old table stored
             → (new : StoredRows) × Turns self.old table new self.new × HasRows stored (rows_of stored) new) }
         ensures links { self.new.links ≡ self.old.links }
-        ensures logged { OnOk result ((entries : List UndoRecord) × (undo.new ≡ undo.old ++ record { table = table; entries = entries } ∷ [])) }
+        ensures logged { OnOk result ((entries : List UndoRecord) × (room : Room)
+            × (undo.new ≡ undo.old ++ record { table = table; entries = entries; room = room } ∷ [])) }
         ensures kept { OnErr result (undo.new ≡ undo.old) }
         ensures fits { CanUndo self.new undo.new }
 
@@ -48,39 +50,42 @@ impl Store {
         ensures snapshot_before { (mark : ℕ) → mark ≤ length undo.old
             → back_all (drop mark undo.new) (snapshot_of self.new) ≡ back_all (drop mark undo.old) (snapshot_of self.old) }
     {
-        let needed = count_old(edits.as_slice());
         let undo_room = reserve(
             &mut undo.commands,
             &mut undo.undo_room,
             self.tables.len(),
             table,
-            needed,
         )?;
-        self.edit(alloc, table, edits, undo_room, &mut undo.idle)?;
+        let needed = self.edit(alloc, table, edits, undo_room, &mut undo.idle)?;
         let log = mem::replace(&mut undo.idle, Log::new(alloc));
-        undo.undo_room[table] = undo_room + needed;
+        undo.undo_room[table] = IndexRoom {
+            key: undo_room.key + needed.key,
+            indexes: undo_room.indexes + needed.indexes,
+        };
         undo.commands
             .push_reserved(LoggedCommand { table, needed, log });
         Ok(())
     }
 
-    /// Makes all edits of a table, and records them in an empty log. The table's indexes then have room for `undo_room`
-    /// entries, and for those that come in again when these edits are taken back. `AllocError` where memory is refused.
+    /// Makes all edits of a table, and records them in an empty log. The table's indexes then have the room `undo_room`,
+    /// and that for the entries that come in again when these edits are taken back, which is returned. `AllocError` where memory
+    /// is refused, or where a number is no `u32`.
     fn edit(
         &mut self,
         alloc: Global,
         table: usize,
         edits: Vec<Edit>,
-        undo_room: usize,
+        undo_room: IndexRoom,
         log: &mut Log,
-    ) -> Result<(), AllocError>
+    ) -> Result<IndexRoom, AllocError>
         requires there { table < length self.old.tables }
         requires lawful { (stored : StoredRows) → IsAt self.old table stored → AreLawful self.old table stored edits.items }
         requires empty { log.old.entries ≡ [] }
-        ensures ok { OnOk result ((stored : StoredRows) → IsAt self.old table stored
-            → (new : StoredRows) × Turns self.old table new self.new × IsEdited stored edits.items undo_room log.new.entries new) }
-        ensures reversible { OnOk result
-            (IsReversible (headings_of self.old) self.old.links (record { table = table; entries = log.new.entries }) (snapshot_of self.new)) }
+        ensures ok { IfOk result (λ needed. (stored : StoredRows) → IsAt self.old table stored
+            → (new : StoredRows) × Turns self.old table new self.new × IsEdited stored edits.items undo_room needed log.new.entries new) }
+        ensures fits { IfOk result (λ needed. (undo_room.key + needed.key < 2 ^ 32) × (undo_room.indexes + needed.indexes < 2 ^ 32)) }
+        ensures reversible { IfOk result (λ needed. IsReversible (headings_of self.old) self.old.links
+            (record { table = table; entries = log.new.entries; room = needed }) (snapshot_of self.new)) }
         ensures err { OnErr result ((stored : StoredRows) → IsAt self.old table stored
             → (new : StoredRows) × Turns self.old table new self.new × SameButRoom stored new) }
         ensures err_log { OnErr result (log.new.entries ≡ []) }
@@ -88,7 +93,7 @@ impl Store {
     {
         let extent = most_slots(self.tables[table].extent(), edits.as_slice())?;
         reserve_all(alloc, &mut self.links, table, extent)?;
-        self.tables[table].apply(alloc, edits, undo_room, log)?;
+        let needed = self.tables[table].apply(alloc, edits, undo_room, log)?;
         is_kept(&self.tables[table]);
         retie_all(
             &mut self.links,
@@ -96,7 +101,7 @@ impl Store {
             table,
             log.entries(),
         );
-        Ok(())
+        Ok(needed)
     }
 }
 

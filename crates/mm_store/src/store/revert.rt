@@ -1,11 +1,13 @@
 //! Commands that are taken back.
 ghost use Rattle.std.specs.Prelude.{◌≡◌, ◌+◌, ◌<◌, ◌≤◌, ◌++◌, ℕ, Bool, List, [], ◌∷◌, Some, None, if◌then◌else◌, length, map, drop, take};
-ghost use Rattle.mm_relation.specs.Edits.{named, new_rows, record_name};
+ghost use Rattle.mm_partition.specs.Places.{slot_at};
+ghost use Rattle.mm_relation.specs.Edits.{new_rows};
 ghost use Rattle.mm_relation.specs.Index.{EachTurns};
 ghost use Rattle.mm_relation.specs.Kept.{StoredRows};
 ghost use Rattle.mm_relation.specs.RowLists.{rows_of};
 ghost use Rattle.mm_relation.specs.declared.edits.Edit.{Edit};
-ghost use Rattle.mm_relation.specs.declared.indexes.names.Side.TheVariants as side;
+ghost use Rattle.mm_relation.specs.UndoRoom.{undo_room};
+ghost use Rattle.mm_relation.specs.declared.index_room.IndexRoom.{IndexRoom};
 ghost use Rattle.mm_schema.specs.Refused.{first_refusal};
 ghost use Rattle.mm_schema.specs.Rows.{table_rows_conditions};
 ghost use Rattle.mm_store.specs.Commands.{IsTakenBack};
@@ -58,10 +60,10 @@ impl Store {
 
     /// Takes back the changes of a table that a log has.
     fn take_back(&mut self, table: usize, log: &mut Log)
-        requires reversible { IsReversible (headings_of self.old) self.old.links (record { table = table; entries = log.old.entries })
-            (snapshot_of self.old) }
+        requires reversible { (room : IndexRoom)
+            × IsReversible (headings_of self.old) self.old.links (record { table = table; entries = log.old.entries; room = room }) (snapshot_of self.old) }
         requires spare { (stored : StoredRows) → IsAt self.old table stored
-            → HasSpare (length (named record_name side.Old log.old.entries)) stored }
+            → HasSpare (undo_room stored.key (slot_at stored.places) log.old.entries) stored }
         ensures back { (stored : StoredRows) → IsAt self.old table stored
             → (new : StoredRows) × Turns self.old table new self.new × IsTakenBack stored log.old.entries new }
         ensures links { self.new.links ≡ self.old.links }

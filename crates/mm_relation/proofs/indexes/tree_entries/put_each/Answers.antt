@@ -5,7 +5,7 @@ use Rattle.mm_value.specs.declared.row_ref.RowRef.{RowRef}
 use Rattle.mm_partition.specs.Places.{slot_at}
 use Rattle.mm_relation.specs.Refs.{IsWide, refs_by}
 use Rattle.mm_relation.proofs.Gathered.{All-gathered}
-use Rattle.mm_relation.proofs.Staying.{moving, All-moving, fewer_move, put_beside, moving_apart, moving-some, moving-none, moving-end}
+use Rattle.mm_relation.proofs.Staying.{moving, All-moving, put_beside, moving_apart, moving-some, moving-none, moving-end}
 use Rattle.mm_relation.proofs.Steps.{put_step, first_wide, first_apart}
 use Rattle.mm_relation.proofs.indexes.tree_entries.put_each.Goals as goal
 use Rattle.mm_relation.proofs.indexes.tree_entries.put_each.Goals.{in-Some, in_default}
@@ -32,8 +32,7 @@ put-requires-clause-spare g c =
     let now = slot_at c.args.rows.now in
     let names = moving-some g.T.Names.name g.T.Names.other c.args.column c.args.key now c.args.side c.args.items.now c.loop-item.item-index
     c.item-item.result c.moved_name.result c.in-Some.at c.loop-item-test.true c.item-item.is c.moved_name.ensures c.in-Some.is in
-    let fewer = fewer_move g.T.Names.name g.T.Names.other c.args.column c.args.key now c.args.side c.args.items.now in
-    omega (arith, fewer, c.requires.spare, c.loop-item.invariant.spare, ap (λ (xs : List RowRef). length xs) names)
+    omega (arith, c.requires.spare, c.loop-item.invariant.spare, ap (λ (xs : List RowRef). length xs) names)
 
 pub put-requires-clause-wide : goal.put-requires-clause-wide
 put-requires-clause-wide g c =
@@ -100,6 +99,4 @@ returns-clause-refs g c = λ held was.
     c.loop-item-test.false) c.loop-item.invariant.rest)
 
 pub returns-clause-spare : goal.returns-clause-spare
-returns-clause-spare g c =
-    let fewer = fewer_move g.T.Names.name g.T.Names.other c.args.column c.args.key (slot_at c.args.rows.now) c.args.side c.args.items.now in
-    omega (arith, fewer, c.loop-item.invariant.spare)
+returns-clause-spare g c = omega (arith, c.loop-item.invariant.spare)

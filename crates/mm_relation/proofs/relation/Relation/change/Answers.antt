@@ -13,6 +13,7 @@ use Rattle.mm_relation.specs.Index.{Taken, Put, EachTurns, SameIndex, spare_of, 
 use Rattle.mm_value.specs.declared.values.Value.{Value}
 use Rattle.mm_schema.specs.Rows.{changed}
 use Rattle.mm_relation.specs.RowLists.{edit_pairs, rows_of}
+use Rattle.mm_relation.specs.UndoRoom.{key_room}
 use Rattle.mm_relation.proofs.RowLists.{changed_is, in_key_order}
 use Rattle.mm_relation.specs.Kept.{IsKept, StoredRows, Stay, rows_after, RowsApart}
 use Rattle.mm_relation.specs.declared.log.UndoRecord.{UndoRecord}
@@ -22,7 +23,8 @@ use Rattle.mm_relation.proofs.Changed.{olds, before_changes}
 use Rattle.mm_relation.proofs.Came.{news}
 use Rattle.mm_relation.proofs.Rooms.{indexes_changed, spares_changed}
 use Rattle.mm_relation.proofs.Removed.{removed_hidden, hidden_stays}
-use Rattle.mm_relation.proofs.Staying.{staying}
+use Rattle.mm_relation.proofs.Staying.{moving, staying}
+use Rattle.mm_relation.proofs.UndoRoom.{key_room-made, new_moves}
 use Rattle.mm_relation.specs.Differs.{Differs}
 use Rattle.mm_relation.proofs.WaysBack.{StandsBack-changes, Differs-back, old_names}
 use Rattle.mm_relation.proofs.Apply.{split, keep_split, wide_olds, length-news, keys_apart, rows_moved, wide_news, order_stands, held_beside, keep_some}
@@ -54,6 +56,10 @@ take_from_all-requires-clause-wide c =
     rw c.as_slice-2.ensures.value (wide_olds c.self.inside.rows.types c.self.inside.key (slot_at c.self.inside.rows) c.self.inside.by_key.refs
     c.self.inside.indexes.items c.self.invariant c.args.edits.items standing)
 
+pub change_each-requires-clause-standing : goal.change_each-requires-clause-standing
+change_each-requires-clause-standing c =
+    subst (λ (v : StoredRows). Standing (slot_at v.places) c.args.edits.items) (sym c.self.view_is) c.requires.standing
+
 pub change_each-requires-clause-typed : goal.change_each-requires-clause-typed
 change_each-requires-clause-typed c =
     subst (λ (v : StoredRows). All (HasTypes v.places.types) (new_rows c.args.edits.items)) (sym c.self.view_is) c.requires.typed
@@ -62,12 +68,14 @@ pub put_each-requires-clause-spare : goal.put_each-requires-clause-spare
 put_each-requires-clause-spare c =
     let standing : Standing (slot_at c.self.inside.rows) c.args.edits.items = subst (λ (v : StoredRows). Standing (slot_at v.places) c.args.edits.items)
     (sym c.self.view_is) c.requires.standing in
-    let spare : length (new_rows c.args.edits.items) ≤ c.self.inside.by_key.spare = subst (λ (v : StoredRows). length (new_rows c.args.edits.items) ≤ v.spare)
-    (sym c.self.view_is) c.requires.spare in
-    let same : length (news c.change_each.new.log.entries) ≡ length (new_rows c.args.edits.items) =
-    length-news c.args.edits.items c.change_each.new.log.entries (slot_at c.self.inside.rows) (slot_at c.change_each.new.rows) standing
-    c.change_each.ensures.changes in
-    rw c.entries.ensures (omega (arith, same, spare, c.take_each.ensures.spare))
+    let spare : length (new_rows c.args.edits.items)
+    ≤ c.self.inside.by_key.spare + length
+    (staying edit_name edit_other c.self.inside.key c.self.inside.key (slot_at c.self.inside.rows) Old c.args.edits.items) =
+    subst (λ (v : StoredRows). length (new_rows c.args.edits.items)
+    ≤ v.spare + length (staying edit_name edit_other v.key v.key (slot_at v.places) Old c.args.edits.items)) (sym c.self.view_is) c.requires.spare in
+    let moves = new_moves c.self.inside.key (slot_at c.self.inside.rows) (slot_at c.change_each.new.rows) c.args.edits.items c.change_each.new.log.entries
+    standing c.change_each.ensures.changes in
+    rw c.entries.ensures (omega (arith, moves, spare, c.take_each.ensures.spare))
 
 pub put_each-requires-clause-ordered : goal.put_each-requires-clause-ordered
 put_each-requires-clause-ordered c =
@@ -356,12 +364,23 @@ pub returns-clause-spare : goal.returns-clause-spare
 returns-clause-spare c =
     let standing : Standing (slot_at c.self.inside.rows) c.args.edits.items = subst (λ (v : StoredRows). Standing (slot_at v.places) c.args.edits.items)
     (sym c.self.view_is) c.requires.standing in
-    let names : length (named record_name New c.entries.result.now) ≡ length (new_rows c.args.edits.items) =
-    ap (λ (ns : List UndoRecord). length (news ns)) c.entries.ensures
-    ∙ length-news c.args.edits.items c.change_each.new.log.entries (slot_at c.self.inside.rows) (slot_at c.change_each.new.rows) standing
-    c.change_each.ensures.changes in
-    subst (λ (v : StoredRows). v.spare ≤ c.put_each.new.tree.spare + length (new_rows c.args.edits.items)) c.self.view_is
-    (omega (arith, names, c.take_each.ensures.spare, c.put_each.ensures.spare))
+    let moves = new_moves c.self.inside.key (slot_at c.self.inside.rows) (slot_at c.change_each.new.rows) c.args.edits.items c.change_each.new.log.entries
+    standing c.change_each.ensures.changes in
+    let same =
+    ap (λ (ns : List UndoRecord). length (moving record_name record_other c.self.inside.key c.self.inside.key (slot_at c.change_each.new.rows) New ns))
+    c.entries.ensures in
+    subst (λ (v : StoredRows). v.spare + length (staying edit_name edit_other v.key v.key (slot_at v.places) Old c.args.edits.items)
+    ≤ c.put_each.new.tree.spare + length (new_rows c.args.edits.items)) c.self.view_is
+    (omega (arith, moves, same, c.take_each.ensures.spare, c.put_each.ensures.spare))
+
+pub returns-clause-key_room : goal.returns-clause-key_room
+returns-clause-key_room c =
+    let standing : Standing (slot_at c.self.inside.rows) c.args.edits.items = subst (λ (v : StoredRows). Standing (slot_at v.places) c.args.edits.items)
+    (sym c.self.view_is) c.requires.standing in
+    subst (λ (v : StoredRows). key_room v.key (slot_at c.change_each.new.rows) c.change_each.new.log.entries
+    ≡ length (moving edit_name edit_other v.key v.key (slot_at v.places) Old c.args.edits.items)) c.self.view_is
+    (key_room-made c.self.inside.key (slot_at c.self.inside.rows) (slot_at c.change_each.new.rows) c.args.edits.items c.change_each.new.log.entries standing
+    c.change_each.ensures.changes)
 
 pub returns-clause-spares : goal.returns-clause-spares
 returns-clause-spares c =

@@ -10,13 +10,15 @@ use Rattle.mm_relation.specs.Edits.{named, record_name, record_other}
 use Rattle.mm_relation.specs.Index.{Taken, Put, EachTurns, spare_of, unmoved}
 use Rattle.mm_relation.specs.Kept.{IsKept, StoredRows}
 use Rattle.mm_relation.specs.Lawful.{IsLawful}
+use Rattle.mm_relation.specs.UndoRoom.{key_room}
 use Rattle.mm_relation.specs.declared.log.UndoRecord.{UndoRecord}
 use Rattle.mm_relation.specs.declared.indexes.names.Side.TheVariants.{Old, New}
-use Rattle.mm_relation.proofs.Reverted.{parts, keep_parts, wide_parts, wide_back, apart_back, order_back, beside_back, keep_back, wide_each, spare_each}
+use Rattle.mm_relation.proofs.Reverted.{parts, keep_parts, wide_parts, wide_back, apart_back, order_back, beside_back, keep_back, wide_each, spare_each, paired}
 use Rattle.mm_relation.proofs.Reverted.{IsKept-reverted}
 use Rattle.mm_relation.proofs.Rooms.{spares_changed}
-use Rattle.mm_relation.proofs.Staying.{staying}
+use Rattle.mm_relation.proofs.Staying.{moving, staying}
 use Rattle.mm_relation.proofs.TakenBack.{names_inverted, olds_typed}
+use Rattle.mm_relation.proofs.UndoRoom.{key_room-back}
 use Rattle.mm_relation.proofs.relation.Relation.revert.Goals as goal
 
 pub take_each-requires-clause-held : goal.take_each-requires-clause-held
@@ -69,12 +71,20 @@ put_each-requires-clause-spare c =
     let es : List UndoRecord = c.args.log.now.entries in
     let then = slot_at c.take_back_each.new.rows in
     let ns : List UndoRecord = c.take_back_each.new.log.entries in
-    let names : length (named record_name Old c.entries-3.result.now) ≡ length (named record_name Old es) =
-    ap (λ (xs : List UndoRecord). length (named record_name Old xs)) c.entries-3.ensures
-    ∙ ap (λ (xs : List RowRef). length xs) (names_inverted now es ns Old c.take_back_each.ensures.inverted) in
-    let spare : length (named record_name Old es) ≤ c.self.inside.by_key.spare =
-    subst (λ (v : StoredRows). length (named record_name Old es) ≤ v.spare) (sym c.self.view_is) c.requires.spare in
-    omega (arith, names, spare, c.take_each.ensures.spare)
+    let key = c.self.inside.key in
+    let differs : Differs now (before es now) (named record_name New es) (named record_name Old es) =
+    subst (λ (v : StoredRows). Differs (slot_at v.places) (before es (slot_at v.places)) (named record_name New es) (named record_name Old es))
+    (sym c.self.view_is) c.requires.differs in
+    let lawful : IsLawful c.self.inside.rows.types key (before es now) =
+    subst (λ (v : StoredRows). IsLawful v.places.types v.key (before es (slot_at v.places))) (sym c.self.view_is) c.requires.lawful in
+    let names : length (named record_name Old ns) ≡ length (named record_name Old es) =
+    ap (λ (xs : List RowRef). length xs) (names_inverted now es ns Old c.take_back_each.ensures.inverted) in
+    let moves = key_room-back key now then es ns
+    (paired c.self.inside.rows.types key now c.self.inside.by_key.refs c.self.inside.indexes.items c.self.invariant es differs then ns
+    c.take_back_each.ensures.slots c.take_back_each.ensures.inverted lawful) names in
+    let spare : key_room key now es ≤ c.self.inside.by_key.spare =
+    subst (λ (v : StoredRows). key_room v.key (slot_at v.places) es ≤ v.spare) (sym c.self.view_is) c.requires.spare in
+    rw c.entries-3.ensures (omega (arith, moves, spare, c.take_each.ensures.spare))
 
 pub put_each-requires-clause-ordered : goal.put_each-requires-clause-ordered
 put_each-requires-clause-ordered c =
@@ -243,11 +253,20 @@ returns-clause-spare c =
     let es : List UndoRecord = c.args.log.now.entries in
     let then = slot_at c.take_back_each.new.rows in
     let ns : List UndoRecord = c.take_back_each.new.log.entries in
-    let names : length (named record_name Old c.entries-3.result.now) ≡ length (named record_name Old es) =
-    ap (λ (xs : List UndoRecord). length (named record_name Old xs)) c.entries-3.ensures
-    ∙ ap (λ (xs : List RowRef). length xs) (names_inverted now es ns Old c.take_back_each.ensures.inverted) in
-    subst (λ (v : StoredRows). v.spare ≤ c.put_each.new.tree.spare + length (named record_name Old es)) c.self.view_is
-    (omega (arith, names, c.take_each.ensures.spare, c.put_each.ensures.spare))
+    let key = c.self.inside.key in
+    let differs : Differs now (before es now) (named record_name New es) (named record_name Old es) =
+    subst (λ (v : StoredRows). Differs (slot_at v.places) (before es (slot_at v.places)) (named record_name New es) (named record_name Old es))
+    (sym c.self.view_is) c.requires.differs in
+    let lawful : IsLawful c.self.inside.rows.types key (before es now) =
+    subst (λ (v : StoredRows). IsLawful v.places.types v.key (before es (slot_at v.places))) (sym c.self.view_is) c.requires.lawful in
+    let names : length (named record_name Old ns) ≡ length (named record_name Old es) =
+    ap (λ (xs : List RowRef). length xs) (names_inverted now es ns Old c.take_back_each.ensures.inverted) in
+    let moves = key_room-back key now then es ns
+    (paired c.self.inside.rows.types key now c.self.inside.by_key.refs c.self.inside.indexes.items c.self.invariant es differs then ns
+    c.take_back_each.ensures.slots c.take_back_each.ensures.inverted lawful) names in
+    let same = ap (λ (xs : List UndoRecord). length (moving record_name record_other key key then Old xs)) c.entries-3.ensures in
+    subst (λ (v : StoredRows). v.spare ≤ c.put_each.new.tree.spare + key_room v.key (slot_at v.places) es) c.self.view_is
+    (omega (arith, moves, same, c.take_each.ensures.spare, c.put_each.ensures.spare))
 
 pub returns-clause-spares : goal.returns-clause-spares
 returns-clause-spares c =

@@ -4,6 +4,7 @@ use Rattle.std.specs.Prelude.{map, slice_get, slice_set}
 use Rattle.std.proofs.lemmas.List.{length-set}
 use Rattle.mm_partition.specs.Places.{AreRowsStorable, extent_of, slot_at}
 use Rattle.mm_relation.specs.Index.{spare_of}
+use Rattle.mm_relation.specs.declared.index_room.IndexRoom.{IndexRoom}
 use Rattle.mm_relation.specs.Kept.{IsKept, StoredRows}
 use Rattle.mm_relation.specs.Reads.{AddsIndex}
 use Rattle.mm_store.specs.Joined.{IsTable}
@@ -74,9 +75,9 @@ module _ (c : After-index) where
       sym (ap (λ (v : Tables). slice_get v.tables c.args.table) c.self.view_is)
       ∙ at_index c.self.inside.tables.items c.args.table relation within c.index_mut.ensures.value
 
-  has_undo_room : All (λ x. undo_room c.args.table c.args.undo.now ≤ spare_of x) c.add_index.new.self.indexes
+  has_undo_room : All (λ x. (undo_room c.args.table c.args.undo.now).indexes ≤ spare_of x) c.add_index.new.self.indexes
   has_undo_room =
-      let count = c.undo_room_of-undo_room.ensures in
+      let count = ap (λ (r : IndexRoom). r.indexes) c.undo_room_of-undo_room.ensures in
       subst (λ (n : ℕ). All (λ x. n ≤ spare_of x) c.add_index.new.self.indexes) count
       (c.in_ok-add_index.ensures.undo_room (subst (λ (n : ℕ). All (λ x. n ≤ spare_of x) relation.indexes) (sym count)
       (c.requires.fits.spare c.args.table relation was_there).each))

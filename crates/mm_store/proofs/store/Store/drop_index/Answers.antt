@@ -99,7 +99,7 @@ module _ (c : After-index) where
         CanUndo-reindexed c.args.self.now new_store c.args.table relation c.drop_index.new.self was_there
         (ap (λ (v : Tables). slice_set v.tables c.args.table c.drop_index.new.self) c.self.view_is) (ap (λ (v : Tables). v.links) c.self.view_is)
         (ap (λ (s : StoredRows). s.places.types) rest) (ap (λ (s : StoredRows). s.key) rest) undo rest
-        (has_undo_room (undo_room c.args.table undo) (fits.spare c.args.table relation was_there).each) fits
+        (has_undo_room (undo_room c.args.table undo).indexes (fits.spare c.args.table relation was_there).each) fits
 
     same_before : (mark : ℕ) → rows_at_mark mark undo new_store ≡ rows_at_mark mark undo c.args.self.now
     same_before mark =

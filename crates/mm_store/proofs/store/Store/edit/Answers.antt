@@ -13,18 +13,18 @@ use Rattle.mm_relation.specs.Kept.{IsKept, SameButRoom, StoredRows}
 use Rattle.mm_relation.specs.RowLists.{edit_pairs, rows_of}
 use Rattle.mm_relation.specs.Refs.{Slots, row_at}
 use Rattle.mm_relation.specs.declared.edits.Edit.{Edit}
+use Rattle.mm_relation.specs.declared.index_room.IndexRoom.{IndexRoom}
 use Rattle.mm_relation.specs.declared.log.UndoRecord.{UndoRecord}
 use Rattle.mm_relation.specs.declared.indexes.names.Side.TheVariants.{New, Old}
 use Rattle.mm_relation.proofs.Rooms.{IsKept-grown}
 use Rattle.mm_relation.proofs.Turning.{All-turned}
-use Rattle.mm_relation.proofs.WaysBack.{old_names}
 use Rattle.mm_schema.specs.declared.reference.Reference.{Reference}
 use Rattle.mm_value.specs.declared.col_type.ColType.{ColType}
 use Rattle.mm_value.specs.declared.row_ref.RowRef.{RowRef}
-use Rattle.mm_store.specs.Commands.{IsEdited}
+use Rattle.mm_store.specs.Commands.{IsEdited, plus}
 use Rattle.mm_store.specs.Joined.{CanRetie, HasGrown, HasGrownTo, IsJoined, IsRetied, IsTable}
 use Rattle.mm_store.specs.Tables.{AreLawful, Tables, makes_orphan, rows_with}
-use Rattle.mm_store.specs.Undoing.{IsReversible, headings_of}
+use Rattle.mm_store.specs.Undoing.{HasSpare, IsReversible, headings_of}
 use Rattle.mm_store.specs.Snapshots.{Logged, snapshot_of}
 use Rattle.mm_store.specs.declared.link.Link.{Link}
 use Rattle.mm_store.proofs.Applied.{CanTurn-edited, Follows-edited, IsWhole, IsWhole-all, references_same, set_own, table_at, targets_edited}
@@ -70,8 +70,8 @@ returns-in_err-reserve_all-clause-links c =
     references_same HasGrown (λ x y g. g.reference) c.self.inside.links.items c.reserve_all.new.links.items c.reserve_all.ensures.grown
     ∙ ap (λ (v : Tables). v.links) c.self.view_is
 
-pub returns-in_err-apply-clause-links : goal.returns-in_err-apply-clause-links
-returns-in_err-apply-clause-links c =
+pub returns-in_err-needed-clause-links : goal.returns-in_err-needed-clause-links
+returns-in_err-needed-clause-links c =
     references_same HasGrown (λ x y g. g.reference) c.self.inside.links.items c.reserve_all.new.links.items c.reserve_all.ensures.grown
     ∙ ap (λ (v : Tables). v.links) c.self.view_is
 
@@ -86,15 +86,15 @@ returns-in_err-reserve_all-clause-err c =
     rw (p.1) (λ stored at.
     (stored, ap (λ (v : Tables). v.tables) c.self.view_is ∙ sym (set_own c.args.self.now.tables c.args.table stored at), SameButRoom-refl stored))
 
-pub invariant_of-self-in_err-apply : goal.invariant_of-self-in_err-apply
-invariant_of-self-in_err-apply c =
-    let at_edits = (goal.at.invariant_of-self-in_err-apply c).After-index_mut in
+pub invariant_of-self-in_err-needed : goal.invariant_of-self-in_err-needed
+invariant_of-self-in_err-needed c =
+    let at_edits = (goal.at.invariant_of-self-in_err-needed c).After-index_mut in
     let items = c.self.inside.tables.items in
     let links = c.self.inside.links.items in
     let place = c.args.table in
     let relation = c.index_mut.result.now in
     let mid = c.apply.new.self in
-    let same = c.in_err-apply.ensures.err in
+    let same = c.in_err-needed.ensures.err in
     let was : IsTable relation = table_at items place relation c.self.invariant.all (at_place at_edits) in
     let grown : IsKept relation.places.types relation.key (slot_at mid.places) mid.refs mid.indexes =
     IsKept-grown relation.places.types relation.key (slot_at relation.places) (slot_at mid.places) relation.refs mid.refs relation.indexes mid.indexes
@@ -114,16 +114,16 @@ invariant_of-self-in_err-apply c =
           (IsJoined-grown items x y turned joined)) c.self.invariant.joined;
     }
 
-pub returns-in_err-apply-clause-err : goal.returns-in_err-apply-clause-err
-returns-in_err-apply-clause-err c =
-    let at_edits = (goal.at.returns-in_err-apply-clause-err c).After-index_mut in
-    let p = err_from_is_err_and c.from_residual-in_err-apply.result c.from_residual-in_err-apply.ensures.1 in
+pub returns-in_err-needed-clause-err : goal.returns-in_err-needed-clause-err
+returns-in_err-needed-clause-err c =
+    let at_edits = (goal.at.returns-in_err-needed-clause-err c).After-index_mut in
+    let p = err_from_is_err_and c.from_residual-in_err-needed.result c.from_residual-in_err-needed.ensures.1 in
     rw (p.1) (λ stored at. (
       c.apply.new.self,
       ap (λ (v : Tables). slice_set v.tables c.args.table c.apply.new.self) c.self.view_is,
       subst (λ (s : StoredRows). SameButRoom s c.apply.new.self)
           (sym (only c.self.inside.tables.items _ _ c.args.table refl c.args.self.now c.self.view_is c.requires.there c.index_mut.result.now
-          c.index_mut.ensures.value stored at)) c.in_err-apply.ensures.err,
+          c.index_mut.ensures.value stored at)) c.in_err-needed.ensures.err,
     ))
 
 -- ---- after the edits
@@ -176,14 +176,14 @@ module _ (c : After-is_kept) where
       one_relation c.index.result.now old (sym (at_index items place c.index.result.now within c.index.ensures) ∙ there) in
       omega (
         arith,
-        c.in_ok-apply.ensures.extent,
+        c.in_ok-needed.ensures.extent,
         ap (λ (s : StoredRows). extent_of s.places) first,
         ap (λ (es : List Edit). added_count es) c.as_slice.ensures.value,
         c.in_ok-extent.ensures,
       )
 
   rows : rows_of new ≡ rows_with old edits
-  rows = c.in_ok-apply.ensures.row_list
+  rows = c.in_ok-needed.ensures.row_list
 
   is_table : IsTable new
   is_table =
@@ -199,11 +199,11 @@ module _ (c : After-is_kept) where
 
   tell : DescribeAll (slot_at old.places) (slot_at new.places) entries
   tell =
-      let back : before entries (slot_at new.places) ≡ slot_at old.places = c.in_ok-apply.ensures.back in
+      let back : before entries (slot_at new.places) ≡ slot_at old.places = c.in_ok-needed.ensures.back in
       subst (λ (was : Slots). DescribeAll was (slot_at new.places) entries) back
-      (DescribeAll-forward entries (slot_at new.places) c.in_ok-apply.ensures.stands
+      (DescribeAll-forward entries (slot_at new.places) c.in_ok-needed.ensures.stands
       (subst (λ (was : Slots). Differs (slot_at new.places) was (named record_name New entries) (named record_name Old entries)) (sym back)
-      c.in_ok-apply.ensures.differs))
+      c.in_ok-needed.ensures.differs))
 
   whole : All (IsWhole items place old there c.self.invariant.all edits lawful.fit) links
   whole = IsWhole-all items place old there c.self.invariant.all edits lawful.fit links c.self.invariant.joined lawful.targets lawful.referred
@@ -212,7 +212,7 @@ module _ (c : After-is_kept) where
   can =
       All-turned (HasGrownTo place extent) (IsWhole items place old there c.self.invariant.all edits lawful.fit) (CanTurn items place old new there) links
       grown_links c.in_ok-reserve_all.ensures.room
-      (λ x y w t. CanTurn-edited items place old there c.self.invariant.all edits lawful.fit new entries extent c.in_ok-apply.ensures.changes room x y w t)
+      (λ x y w t. CanTurn-edited items place old there c.self.invariant.all edits lawful.fit new entries extent c.in_ok-needed.ensures.changes room x y w t)
       whole
 
   behind : All (λ link. link.reference.from ≡ place → CanRetie (slice_set items place new) new entries link) grown_links
@@ -220,23 +220,24 @@ module _ (c : After-is_kept) where
       All-turned (HasGrownTo place extent) (IsWhole items place old there c.self.invariant.all edits lawful.fit)
       (λ link. link.reference.from ≡ place → CanRetie (slice_set items place new) new entries link) links grown_links c.in_ok-reserve_all.ensures.room
       (λ x y w t from.
-      CanRetie-turned items place old new there c.in_ok-apply.ensures.types c.in_ok-apply.ensures.key entries tell y
-      (CanTurn-edited items place old there c.self.invariant.all edits lawful.fit new entries extent c.in_ok-apply.ensures.changes room x y w t)
-      (targets_edited items place old there c.self.invariant.all edits lawful.fit new entries extent c.in_ok-apply.ensures.changes room x y w t is_table rows)
+      CanRetie-turned items place old new there c.in_ok-needed.ensures.types c.in_ok-needed.ensures.key entries tell y
+      (CanTurn-edited items place old there c.self.invariant.all edits lawful.fit new entries extent c.in_ok-needed.ensures.changes room x y w t)
+      (targets_edited items place old there c.self.invariant.all edits lawful.fit new entries extent c.in_ok-needed.ensures.changes room x y w t is_table rows)
       from)
       whole
 
-  edited : IsEdited old edits c.args.undo_room entries new
+  edited : IsEdited old edits c.args.undo_room c.in_ok-needed.needed entries new
   edited = record {
     rows = record {
       rows_are = rows;
-      types = c.in_ok-apply.ensures.types;
-      key = c.in_ok-apply.ensures.key;
-      indexes = c.in_ok-apply.ensures.indexes;
+      types = c.in_ok-needed.ensures.types;
+      key = c.in_ok-needed.ensures.key;
+      indexes = c.in_ok-needed.ensures.indexes;
     };
-    makes = c.in_ok-apply.ensures.back;
-    count = ap (λ (refs : List RowRef). length refs) (old_names edits entries (slot_at old.places) (slot_at new.places) c.in_ok-apply.ensures.changes);
-    spare = record { key = c.in_ok-apply.ensures.undo_room; each = c.in_ok-apply.ensures.undo_room_each };
+    makes = c.in_ok-needed.ensures.back;
+    spare =
+        subst (λ (r : IndexRoom). HasSpare (plus c.args.undo_room r) new) (sym c.in_ok-needed.ensures.needed)
+        (record { key = c.in_ok-needed.ensures.undo_room; each = c.in_ok-needed.ensures.undo_room_each });
   }
 
 pub retie_all-requires-clause-behind : goal.retie_all-requires-clause-behind
@@ -269,7 +270,7 @@ retied c =
 pub invariant_of-self-2 : goal.invariant_of-self-2
 invariant_of-self-2 c =
     let at = (goal.at.invariant_of-self-2 c).After-is_kept in
-    IsSound-turned (items at) (place at) (old at) (new at) (there at) c.in_ok-apply.ensures.types c.in_ok-apply.ensures.key (grown_links at)
+    IsSound-turned (items at) (place at) (old at) (new at) (there at) c.in_ok-needed.ensures.types c.in_ok-needed.ensures.key (grown_links at)
     c.retie_all.new.links.items c.self.invariant.all (is_table at) (can at) (retied (goal.at.invariant_of-self-2 c).After-retie_all)
 
 pub returns-clause-ok : goal.returns-clause-ok
@@ -278,7 +279,7 @@ returns-clause-ok c =
     λ stored there_then. (
       new at,
       ap (λ (v : Tables). slice_set v.tables (place at) (new at)) c.self.view_is,
-      subst (λ (s : StoredRows). IsEdited s (edits at) c.args.undo_room (entries at) (new at))
+      subst (λ (s : StoredRows). IsEdited s (edits at) c.args.undo_room c.in_ok-needed.needed (entries at) (new at))
           (sym
           (only (items at) (references at) (length (items at)) (place at) refl c.args.self.now c.self.view_is c.requires.there (old at)
           c.index_mut.ensures.value stored there_then))
@@ -295,16 +296,17 @@ returns-clause-links c =
 pub returns-clause-reversible : goal.returns-clause-reversible
 returns-clause-reversible c =
     let at = (goal.at.returns-clause-reversible c).After-is_kept in
-    let command : Logged = record { table = place at; entries = entries at } in
+    let command : Logged = record { table = place at; entries = entries at; room = c.in_ok-needed.needed } in
     let before_it : Tables = record { tables = items at; links = references at } in
     let after_it : Tables =
     record { tables = slice_set (items at) (place at) (new at); links = map (λ (link : Link). link.reference) c.retie_all.new.links.items } in
     subst (λ (v : Tables). IsReversible (headings_of v) v.links command (snapshot_of after_it)) c.self.view_is
     (IsReversible-made before_it after_it (links at) (place at) (old at) (new at) (there at) refl c.self.invariant.all c.self.invariant.joined refl
-    (is_table at) (entries at) c.in_ok-apply.ensures.back c.in_ok-apply.ensures.key c.in_ok-apply.ensures.stands c.in_ok-apply.ensures.differs
+    (is_table at) (entries at) c.in_ok-needed.ensures.back c.in_ok-needed.ensures.key c.in_ok-needed.needed c.in_ok-needed.ensures.needed
+    c.in_ok-needed.ensures.stands c.in_ok-needed.ensures.differs
     (λ reference ties source here to source_there follows.
     Follows-edited (items at) (place at) (old at) (there at) c.self.invariant.all (edits at) (lawful at).fit (new at) (entries at) (extent at)
-    c.in_ok-apply.ensures.changes (room at) reference ties source to
+    c.in_ok-needed.ensures.changes (room at) reference ties source to
     (All-contains (λ (r : Reference). makes_orphan (items at) (place at) (old at).key (edit_pairs (slot_at (old at).places) (edits at)) r ≡ false)
     (references at) reference
     (none_of (makes_orphan (items at) (place at) (old at).key (edit_pairs (slot_at (old at).places) (edits at))) (references at) (lawful at).referred)

@@ -14,8 +14,10 @@ can : (c : In-Some) → CanUndo c.args.self.now (c.pop.new.self ++ logged_of c.i
 can c = subst (CanUndo c.args.self.now) c.in-Some.ensures c.requires.fits
 
 pub take_back-requires-clause-reversible : goal.take_back-requires-clause-reversible
-take_back-requires-clause-reversible c =
-    newest_reversible c.args.self.now c.pop.new.self (logged_of c.in-Some.command) (can (goal.at.take_back-requires-clause-reversible c).In-Some)
+take_back-requires-clause-reversible c = (
+  c.in-Some.command.needed,
+  newest_reversible c.args.self.now c.pop.new.self (logged_of c.in-Some.command) (can (goal.at.take_back-requires-clause-reversible c).In-Some),
+)
 
 pub take_back-requires-clause-spare : goal.take_back-requires-clause-spare
 take_back-requires-clause-spare c =

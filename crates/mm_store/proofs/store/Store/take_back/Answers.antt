@@ -4,11 +4,11 @@ use Rattle.std.specs.List.{All}
 use Rattle.std.proofs.lemmas.List.{length-map, length-set}
 use Rattle.std.proofs.lemmas.Option.{slice_get_within}
 use Rattle.mm_partition.specs.Places.{AreRowsStorable, slot_at}
-use Rattle.mm_relation.specs.Edits.{named, record_name}
 use Rattle.mm_relation.specs.Index.{EachTurns, spare_of}
 use Rattle.mm_relation.specs.Kept.{IsKept, StoredRows}
+use Rattle.mm_relation.specs.UndoRoom.{index_room, undo_room}
+use Rattle.mm_relation.specs.declared.index_room.IndexRoom.{IndexRoom}
 use Rattle.mm_relation.specs.declared.log.UndoRecord.{UndoRecord}
-use Rattle.mm_relation.specs.declared.indexes.names.Side.TheVariants.{Old}
 use Rattle.mm_relation.proofs.Turning.{All-turned}
 use Rattle.mm_schema.specs.declared.reference.Reference.{Reference}
 use Rattle.mm_store.specs.Commands.{IsTakenBack}
@@ -37,7 +37,7 @@ module _ (c : After-index_mut) where
   headed_within =
       omega (
         arith,
-        slice_get_within (map heading_of c.args.self.now.tables) c.args.table c.requires.reversible.heading c.requires.reversible.there,
+        slice_get_within (map heading_of c.args.self.now.tables) c.args.table c.requires.reversible.1.heading c.requires.reversible.1.there,
         length-map c.args.self.now.tables heading_of,
       )
 
@@ -46,34 +46,38 @@ module _ (c : After-index_mut) where
       there_inside own_items own_references (length own_items) c.args.table refl c.args.self.now c.self.view_is headed_within c.index_mut.result.now
       c.index_mut.ensures.value
 
-  reversible_inside : IsReversible (map heading_of own_items) own_references (record { table = c.args.table; entries = c.args.log.now.entries })
+  abbrev room : IndexRoom
+  room = c.requires.reversible.0
+
+  reversible_inside : IsReversible (map heading_of own_items) own_references
+      (record { table = c.args.table; entries = c.args.log.now.entries; room = room })
       (snapshot_of (record { tables = own_items; links = own_references }))
   reversible_inside =
-      subst (λ (v : Tables). IsReversible (headings_of v) v.links (record { table = c.args.table; entries = c.args.log.now.entries }) (snapshot_of v))
-      (sym c.self.view_is) c.requires.reversible
+      subst (λ (v : Tables). IsReversible (headings_of v) v.links (record { table = c.args.table; entries = c.args.log.now.entries; room = room })
+      (snapshot_of v)) (sym c.self.view_is) c.requires.reversible.1
 
-  spare_inside : HasSpare (length (named record_name Old c.args.log.now.entries)) c.index_mut.result.now
+  spare_inside : HasSpare (undo_room c.index_mut.result.now.key (slot_at c.index_mut.result.now.places) c.args.log.now.entries) c.index_mut.result.now
   spare_inside =
       told_of own_items own_references (length own_items) c.args.table refl c.args.self.now c.self.view_is headed_within c.index_mut.result.now
-      c.index_mut.ensures.value (λ v s. HasSpare (length (named record_name Old c.args.log.now.entries)) s) c.requires.spare
+      c.index_mut.ensures.value (λ v s. HasSpare (undo_room s.key (slot_at s.places) c.args.log.now.entries) s) c.requires.spare
 
 pub revert-requires-clause-stands : goal.revert-requires-clause-stands
 revert-requires-clause-stands c =
     let at = (goal.at.revert-requires-clause-stands c).After-index_mut in
     stands_there c.self.inside.tables.items c.self.inside.links.items c.self.invariant c.args.table c.index_mut.result.now (at_place at)
-    c.args.log.now.entries (reversible_inside at)
+    c.args.log.now.entries (room at) (reversible_inside at)
 
 pub revert-requires-clause-differs : goal.revert-requires-clause-differs
 revert-requires-clause-differs c =
     let at = (goal.at.revert-requires-clause-differs c).After-index_mut in
     differs_there c.self.inside.tables.items c.self.inside.links.items c.self.invariant c.args.table c.index_mut.result.now (at_place at)
-    c.args.log.now.entries (reversible_inside at)
+    c.args.log.now.entries (room at) (reversible_inside at)
 
 pub revert-requires-clause-lawful : goal.revert-requires-clause-lawful
 revert-requires-clause-lawful c =
     let at = (goal.at.revert-requires-clause-lawful c).After-index_mut in
     lawful_there c.self.inside.tables.items c.self.inside.links.items c.self.invariant c.args.table c.index_mut.result.now (at_place at)
-    c.args.log.now.entries (reversible_inside at)
+    c.args.log.now.entries (room at) (reversible_inside at)
 
 pub revert-requires-clause-spare : goal.revert-requires-clause-spare
 revert-requires-clause-spare c = (spare_inside (goal.at.revert-requires-clause-spare c).After-index_mut).key
@@ -138,8 +142,8 @@ module _ (c : After-is_kept) where
     spare = λ n spare. record {
       key = omega (arith, spare.key, c.revert.ensures.spare);
       each =
-          All-turned (λ x y. spare_of x ≤ spare_of y + length (named record_name Old c.args.log.now.entries))
-          (λ x. n + length (named record_name Old c.args.log.now.entries) ≤ spare_of x) (λ x. n ≤ spare_of x) old.indexes new.indexes
+          All-turned (λ x y. spare_of x ≤ spare_of y + index_room c.args.log.now.entries)
+          (λ x. n.indexes + index_room c.args.log.now.entries ≤ spare_of x) (λ x. n.indexes ≤ spare_of x) old.indexes new.indexes
           c.revert.ensures.spares (λ x y some less. omega (arith, some, less)) spare.each;
     };
   }
@@ -163,7 +167,7 @@ retie_all-requires-clause-behind c =
     let tables = slice_set (items at) (place at) (new at) in
     let is : c.as_slice.result.now ≡ tables = c.as_slice.ensures.value in
     let behind : All (λ link. link.reference.from ≡ place at → CanRetie tables (new at) c.revert.new.log.entries link) (links at) =
-    AreBehind-back (items at) (links at) c.self.invariant (place at) (old at) there c.args.log.now.entries (reversible_inside first) (new at)
+    AreBehind-back (items at) (links at) c.self.invariant (place at) (old at) there c.args.log.now.entries (room first) (reversible_inside first) (new at)
     c.revert.new.log.entries c.revert.ensures.slots c.revert.ensures.types c.revert.ensures.key c.revert.ensures.extent c.revert.ensures.inverted
     (kept at there) (storable at there) in
     λ stored there_now.
@@ -180,7 +184,7 @@ invariant_of-self c =
     let at = (goal.at.invariant_of-self c).After-is_kept in
     let first = (goal.at.invariant_of-self c).After-index_mut in
     let there : slice_get (items at) (place at) ≡ Some (old at) = at_place first in
-    IsSound-back (items at) (links at) c.self.invariant (place at) (old at) there c.args.log.now.entries (reversible_inside first) (new at)
+    IsSound-back (items at) (links at) c.self.invariant (place at) (old at) there c.args.log.now.entries (room first) (reversible_inside first) (new at)
     c.revert.new.log.entries c.revert.ensures.slots c.revert.ensures.types c.revert.ensures.key c.revert.ensures.extent c.revert.ensures.inverted
     (kept at there) (storable at there) c.retie_all.new.links.items (retied (goal.at.invariant_of-self c).After-retie_all there)
 
