@@ -20,7 +20,7 @@ import sys
 
 TOP = os.path.dirname(os.path.dirname(os.path.abspath(__file__)))
 LONGEST_LINE = 160
-MOST_LONG_LINES = {".antt": 0, ".edit": 11, ".py": 0, ".rt": 40}
+MOST_LONG_LINES = {".antt": 0, ".edit": 11, ".py": 0, ".rt": 39}
 DOCUMENT, BEGINS, ENDS = "docs/ARCHITECTURE.md", "<!-- crates.txt -->", "<!-- end -->"
 FLOOR = re.compile(r"# ([A-Z][a-z]+(?: [a-z]+)*): ")
 

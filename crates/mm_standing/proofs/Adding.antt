@@ -12,7 +12,7 @@ use Rattle.mm_value.specs.declared.col_type.ColType.{ColType}
 use Rattle.mm_value.specs.declared.values.Value.{Value}
 use Rattle.mm_multiset.specs.Counts.{Adds, Counts, Entries, count_in, has_entry, signed_count, total_of}
 use Rattle.mm_multiset.proofs.Undoing.{found_all, kept_all, only_one}
-use Rattle.mm_standing.specs.Bags.{AddedTo, IsWithin, Purges, entries_at, list_change, names, room_at, row_change, types_at}
+use Rattle.mm_standing.specs.Bags.{AddedTo, IsWithin, Purges, entries_at, list_change, names, room_at, row_change, types_at, types_of}
 use Rattle.mm_standing.specs.declared.change.ListChange.{ListChange}
 use Rattle.mm_schema.specs.Rows.{most_rows}
 
@@ -51,10 +51,8 @@ module _ (bags : List Counts) (at : ℕ) (b0 b1 : Counts) (there : at < length b
   types_here = at_map (λ (b : Counts). b.types) bags at b0 [] there ∙ ap (λ (b : Counts). b.types) (sym is)
 
   -- The types of all bags are as before where those of the bag are.
-  pub types_kept : b1.types ≡ b0.types → (list : ℕ) → types_at (set bags at b1) list ≡ types_at bags list
-  types_kept same list =
-      ap (λ (ts : List (List ColType)). get_or ts list [])
-      (map-set_same (λ (b : Counts). b.types) bags at b1 b0 (same ∙ ap (λ (b : Counts). b.types) is))
+  pub types_kept : b1.types ≡ b0.types → types_of (set bags at b1) ≡ types_of bags
+  types_kept same = map-set_same (λ (b : Counts). b.types) bags at b1 b0 (same ∙ ap (λ (b : Counts). b.types) is)
 
   pub new_here : entries_at (set bags at b1) at ≡ b1.entries
   new_here = set_here (λ (b : Counts). b.entries) bags at b1 [] there
@@ -145,8 +143,8 @@ module _ (bags : List Counts) (c : ListChange) (b0 b1 : Counts) (there : c.list 
       → (count_in c.change.row b0.entries ≡ 0 → has_entry c.change.row b1.entries ≡ false)
       → ((row : List Value) → has_entry row b1.entries ≡ true → has_entry row b0.entries ≡ true)
       → ((row : List Value) → same_row c.change.row row ≡ false → has_entry row b1.entries ≡ has_entry row b0.entries)
-      → Purges true c bags (set bags c.list b1)
-  purged counts total goes others beside = record {
+      → b1.types ≡ b0.types → Purges true c bags (set bags c.list b1)
+  purged counts total goes others beside types = record {
     counts = λ list row. unchanged bags c.list b0 b1 there is (count_in row) (counts row) list;
     totals = λ list. unchanged bags c.list b0 b1 there is total_of total list;
     gone = λ asked is_0.
@@ -155,6 +153,7 @@ module _ (bags : List Counts) (c : ListChange) (b0 b1 : Counts) (there : c.list 
     others = λ list row has. from list row has (c.list == list) refl;
     beside = λ list row apart. stays list row apart (c.list == list) refl;
     kept = λ asked. absurd (true≢false asked);
+    types = types_kept bags c.list b0 b1 there is types;
     size = length-set bags c.list b1;
   }
     where
@@ -185,6 +184,7 @@ purged_none c bags = record {
   others = λ list row has. has;
   beside = λ list row apart. refl;
   kept = λ asked. refl;
+  types = refl;
   size = refl;
 }
 

@@ -1,18 +1,25 @@
 -- The bag of the rows that a plan finds.
-use Rattle.std.proofs.Common.{◌≡◌, ℕ, pos, ◌+◌, ◌+ℤ◌, ⊎_elim, Bool, true, false, true≢false, cond, List, [], ◌∷◌, ◌++◌, Some, map, sym, ap, ◌∙◌, subst, arith}
+use Rattle.std.proofs.Common.{◌≡◌, ℕ, zero, suc, pos, ◌+◌, ◌≤◌, ◌+ℤ◌, ⊎_elim, Bool, true, false, true≢false, cond, List, [], ◌∷◌, ◌++◌, Some, None, length, map}
+use Rattle.std.proofs.Common.{get_or, refl, sym, ap, ◌∙◌, subst, arith}
+use Rattle.std.specs.Option.{option_map}
+use Rattle.std.specs.Prelude.{slice_get}
 use Rattle.std.specs.List.Sorted.{IsPermutation}
 use Rattle.std.proofs.lemmas.Int.{ints}
-use Rattle.std.proofs.lemmas.List.Sorted.{IsPermutation-map, IsPermutation-sym, IsPermutation-trans, sum_by-IsPermutation}
+use Rattle.std.proofs.lemmas.List.{length-map}
+use Rattle.std.proofs.lemmas.List.Sorted.{IsPermutation-map, sum_by-IsPermutation}
 use Rattle.std.proofs.lemmas.List.Sums.{sum_by_push}
+use Rattle.std.proofs.lemmas.Option.{slice_get-map}
 use Rattle.mm_value.specs.Equality.{same_row}
+use Rattle.mm_value.specs.declared.row_ref.RowRef.{RowRef}
 use Rattle.mm_value.specs.declared.values.Value.{Value}
-use Rattle.mm_schema.proofs.InOrder.{IsPermutation-in_order}
-use Rattle.mm_query.specs.Queries.{bag_of, rows_by_columns, values_of}
+use Rattle.mm_query.specs.Queries.{bag_of, values_of}
 use Rattle.mm_query.specs.declared.bound_query.BoundQuery.{BoundQuery}
 use Rattle.mm_query.specs.declared.bound_query.FieldPlace.{FieldPlace}
-use Rattle.mm_store.specs.Tables.{Tables, rows_at}
-use Rattle.mm_templist.specs.Combos.{Combos, combo_rows}
-use Rattle.mm_templist.specs.Results.{projected_rows, result_rows}
+use Rattle.mm_partition.specs.Places.{IsLive}
+use Rattle.mm_relation.specs.Kept.{StoredRows}
+use Rattle.mm_store.specs.Tables.{IsAt, Tables, rows_at}
+use Rattle.mm_templist.specs.Combos.{AreLive, Combos, combo_rows, row_of, rows_of_combo}
+use Rattle.mm_templist.specs.Results.{projected_rows}
 use Rattle.mm_select.specs.Fitting.{AreFitting, fitting}
 use Rattle.mm_multiset.specs.Counts.{Adds, Entries, count_in}
 use Rattle.mm_multiset.proofs.Undoing.{only_one}
@@ -47,21 +54,73 @@ positive_none row has = absurd (true≢false (sym has))
 
 -- ---- what a plan finds
 
--- The rows of the result are those of the bag.
-pub result_bag : (store : Tables) (query : BoundQuery) (tables : List ℕ) (list : Combos) (order : List ℕ) → list.tables ≡ tables → list.fields ≡ query.fields
+-- The rows of the combinations are those of the bag.
+pub found_bag : (store : Tables) (query : BoundQuery) (tables : List ℕ) (list : Combos) → list.tables ≡ tables → list.fields ≡ query.fields
     → AreFitting store query.atoms list
-    → IsPermutation (result_rows store list false order) (bag_of query (map (rows_at store.tables) tables))
-result_bag store query tables list order joined fields fits =
-    IsPermutation-trans (result_rows store list false order) (projected_rows store list) (bag_of query (map (rows_at store.tables) tables))
-    (IsPermutation-sym (projected_rows store list) (result_rows store list false order)
-    (IsPermutation-in_order (rows_by_columns order) (projected_rows store list)))
-    (subst (λ (ts : List ℕ). IsPermutation (projected_rows store list)
+    → IsPermutation (projected_rows store list) (bag_of query (map (rows_at store.tables) tables))
+found_bag store query tables list joined fields fits =
+    subst (λ (ts : List ℕ). IsPermutation (projected_rows store list)
     (map (λ rows. values_of query.fields (map Some rows)) (fitting query.atoms (map (rows_at store.tables) ts)))) joined
     (subst (λ (fs : List FieldPlace). IsPermutation (projected_rows store list)
     (map (λ rows. values_of fs (map Some rows)) (fitting query.atoms (map (rows_at store.tables) list.tables)))) fields
     (IsPermutation-map (λ rows. values_of list.fields (map Some rows)) (combo_rows store list)
-    (fitting query.atoms (map (rows_at store.tables) list.tables)) fits)))
+    (fitting query.atoms (map (rows_at store.tables) list.tables)) fits))
 
 -- A bag of rows is one of the same rows in another order.
 pub bag_moved : (es : Entries) (rows others : List (List Value)) → IsPermutation rows others → IsBagOf es rows → IsBagOf es others
 bag_moved es rows others moved bag row = bag row ∙ sym (sum_by-IsPermutation (λ r. cond (same_row row r) 1 0) rows others moved)
+
+-- The row of the combination at a place stands at that place.
+pub projected_at : (store : Tables) (list : Combos) (i : ℕ) (combo : List RowRef) → slice_get list.combos i ≡ Some combo
+    → slice_get (projected_rows store list) i ≡ Some (values_of list.fields (map Some (rows_of_combo store list.tables combo)))
+projected_at store list i combo is =
+    let shown = λ (rows : List (List Value)). values_of list.fields (map Some rows) in
+    slice_get-map shown (combo_rows store list) i
+    ∙ (ap (option_map shown) (slice_get-map (rows_of_combo store list.tables) list.combos i)
+    ∙ ap (λ o. option_map shown (option_map (rows_of_combo store list.tables) o)) is)
+
+-- There is one for each combination.
+pub length_projected : (store : Tables) (list : Combos) → length (projected_rows store list) ≡ length list.combos
+length_projected store list =
+    length-map (combo_rows store list) (λ rows. values_of list.fields (map Some rows))
+    ∙ length-map list.combos (rows_of_combo store list.tables)
+
+-- ---- what a combination reads
+
+-- At a place of FROM, whose table this is, a combination has a reference to a row that is there.
+pub record IsRead (store : Tables) (tables : List ℕ) (combo : List RowRef) (place table : ℕ) : Type 0 where
+  pub at : RowRef
+  pub named : slice_get combo place ≡ Some at
+  pub stored : StoredRows
+  pub there : IsAt store table stored
+  pub live : IsLive stored.places at
+  pub row : get_or (map Some (rows_of_combo store tables combo)) place None ≡ Some (row_of store table at)
+
+-- It has one at each place that has a table, ..
+pub read_from : (store : Tables) (tables : List ℕ) (combo : List RowRef) (place table : ℕ) → AreLive store tables combo → slice_get tables place ≡ Some table
+    → IsRead store tables combo place table
+read_from store [] [] place table live is = cc
+read_from store [] (at ∷ refs) place table live is = absurd live
+read_from store (t ∷ tables) [] place table live is = absurd live
+read_from store (t ∷ tables) (at ∷ refs) zero table live is =
+    let same : t ≡ table = cc in
+    record {
+      at = at;
+      named = refl;
+      stored = live.0.0;
+      there = subst (λ n. IsAt store n live.0.0) same live.0.1;
+      live = live.0.2;
+      row = ap (λ n. Some (row_of store n at)) same;
+    }
+read_from store (t ∷ tables) (at ∷ refs) (suc place) table live is =
+    let later = read_from store tables refs place table live.1 is in
+    record { at = later.at; named = later.named; stored = later.stored; there = later.there; live = later.live; row = later.row }
+
+-- .. and no row at any other.
+pub none_read : (store : Tables) (tables : List ℕ) (combo : List RowRef) (place : ℕ) → AreLive store tables combo → length tables ≤ place
+    → get_or (map Some (rows_of_combo store tables combo)) place None ≡ None
+none_read store [] [] place live past = refl
+none_read store [] (at ∷ refs) place live past = absurd live
+none_read store (t ∷ tables) [] place live past = absurd live
+none_read store (t ∷ tables) (at ∷ refs) zero live past = absurd (omega (arith, past))
+none_read store (t ∷ tables) (at ∷ refs) (suc place) live past = none_read store tables refs place live.1 (omega (arith, past))

@@ -1,4 +1,5 @@
 pub mod Adding
+pub mod ChangedRows
 pub mod Counting
 pub mod Found
 pub mod Gains

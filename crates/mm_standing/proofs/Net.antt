@@ -48,16 +48,16 @@ module _ (c : Signed) (cs : List Signed) (once : IsOnceEach (c ∷ cs)) where
   first_alone : signed_count c.row cs ≡ pos 0
   first_alone = unchanged c.row cs (IsDistinct-head same_row c.row (rows_in cs) once)
 
-  first_is : signed_count c.row (c ∷ cs) ≡ c.count
+  pub first_is : signed_count c.row (c ∷ cs) ≡ c.count
   first_is = only (pick (same_row c.row c.row) c.count) (signed_count c.row cs) c.count (ap (λ b. pick b c.count) (same_row_equiv.refl c.row)) first_alone
     where
       only : (a b n : ℤ) → a ≡ n → b ≡ pos 0 → a +ℤ b ≡ n
       only a b n p q = omega (arith, ints)
 
-  same_alone : (row : List Value) → same_row c.row row ≡ true → signed_count row cs ≡ pos 0
+  pub same_alone : (row : List Value) → same_row c.row row ≡ true → signed_count row cs ≡ pos 0
   same_alone row is = subst (λ r. signed_count r cs ≡ pos 0) ((rows_exact c.row row).0 is) first_alone
 
-  others_in_rest : (row : List Value) → same_row c.row row ≡ false → signed_count row cs ≡ signed_count row (c ∷ cs)
+  pub others_in_rest : (row : List Value) → same_row c.row row ≡ false → signed_count row cs ≡ signed_count row (c ∷ cs)
   others_in_rest row apart =
       rest (pick (same_row row c.row) c.count) (signed_count row cs) (ap (λ b. pick b c.count) (same_row_equiv.symm row c.row ∙ apart))
     where

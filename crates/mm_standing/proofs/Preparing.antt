@@ -6,18 +6,20 @@ use Rattle.std.specs.Prelude.{◌==◌}
 use Rattle.std.proofs.lemmas.Bool.{eqb-true}
 use Rattle.std.proofs.lemmas.List.{length-map}
 use Rattle.std.proofs.lemmas.List.Elements.{All-weaker}
+use Rattle.mm_value.specs.declared.col_type.ColType.{ColType}
 use Rattle.mm_multiset.specs.Counts.{Counts, Entries, count_in, has_entry, total_of}
 use Rattle.mm_standing.specs.Bags.{CanAdd, HasEntry, IsSound, IsTyped, IsWithin, done_of, entries_at, list_change, number_for, opposite, room_at, row_change}
-use Rattle.mm_standing.specs.Bags.{sum_over, types_at}
+use Rattle.mm_standing.specs.Bags.{sum_over, types_of}
 use Rattle.mm_standing.specs.declared.change.ListChange.{ListChange}
 use Rattle.mm_standing.specs.declared.change.Prepared.{Prepared}
 use Rattle.mm_standing.proofs.Adding.{not_same, room_here, set_here, set_other}
 use Rattle.mm_schema.specs.Rows.{most_rows}
 
 -- A change is typed where the types of the columns are as before.
-pub still_typed : (old new : List Counts) → ((list : ℕ) → types_at new list ≡ types_at old list) → (cs : List ListChange)
+pub still_typed : (old new : List Counts) → types_of new ≡ types_of old → (cs : List ListChange)
     → All (IsTyped old) cs → All (IsTyped new) cs
-still_typed old new types cs typed = All-weaker (IsTyped old) (IsTyped new) (λ d h. h ∙ sym (types d.list)) cs typed
+still_typed old new types cs typed = All-weaker (IsTyped old) (IsTyped new)
+    (λ d h. h ∙ sym (ap (λ (ts : List (List ColType)). get_or ts d.list []) types)) cs typed
 
 module _ (old new : List Counts) (same : map (λ (b : Counts). b.entries) new ≡ map (λ (b : Counts). b.entries) old) where
   pub at : (list : ℕ) → entries_at new list ≡ entries_at old list
@@ -33,7 +35,7 @@ module _ (old new : List Counts) (same : map (λ (b : Counts). b.entries) new �
   }
 
   pub sound_roomier : (prepared : List Prepared) (log : List ListChange) → ((list : ℕ) → room_at old list ≤ room_at new list)
-      → ((list : ℕ) → types_at new list ≡ types_at old list) → IsSound old prepared log → IsSound new prepared log
+      → types_of new ≡ types_of old → IsSound old prepared log → IsSound new prepared log
   sound_roomier prepared log rooms types s = record {
     within = λ k. within_roomier _ (s.within k);
     there = All-weaker (λ (d : ListChange). d.list < length old) (λ (d : ListChange). d.list < length new) (λ d h. omega (arith, h, size)) (done_of prepared)

@@ -3,8 +3,12 @@ use Rattle.std.proofs.Common.{◌≡◌, ℕ, zero, suc, pos, ◌+ℤ◌, ◌≤
 use Rattle.std.proofs.Common.{◌∙◌, subst, arith}
 use Rattle.std.specs.List.{All, remove}
 use Rattle.std.proofs.lemmas.Int.{ints}
+use Rattle.std.proofs.lemmas.List.{map-append}
+use Rattle.mm_value.specs.declared.col_type.ColType.{ColType}
 use Rattle.mm_multiset.specs.Counts.{Counts, Entries, count_in, has_entry, total_of}
 use Rattle.mm_standing.specs.Bags.{ArePositive, HasEntry, IsLean, IsSound, IsTyped, IsWithin, done_of, entries_at, opposite, room_at}
+use Rattle.mm_standing.specs.Queries.{StandingQuery}
+use Rattle.mm_standing.specs.State.{AreOfTypes}
 use Rattle.mm_standing.specs.declared.change.ListChange.{ListChange}
 use Rattle.mm_standing.specs.declared.change.Prepared.{Prepared}
 use Rattle.mm_standing.proofs.Stages.{nothing_left, nothing_to_add}
@@ -63,6 +67,20 @@ lean_less bags place lean list row has is_0 =
     let r = removed_at (λ (b : Counts). b.entries) bags place list [] in
     lean r.0 row (ap (has_entry row) (sym r.1) ∙ has) (ap (count_in row) (sym r.1) ∙ is_0)
 
+removed_from_map : {X Y : Type 0} (f : X → Y) (xs : List X) (i : ℕ) → map f (remove xs i) ≡ remove (map f xs) i
+removed_from_map f [] zero = refl
+removed_from_map f [] (suc i) = refl
+removed_from_map f (x ∷ xs) zero = refl
+removed_from_map f (x ∷ xs) (suc i) = ap (λ l. f x ∷ l) (removed_from_map f xs i)
+
+-- The others have the types of their queries' fields still.
+pub types_less : (queries : List StandingQuery) (bags : List Counts) (place : ℕ) → AreOfTypes queries bags
+    → AreOfTypes (remove queries place) (remove bags place)
+types_less queries bags place are =
+    removed_from_map (λ (b : Counts). b.types) bags place
+    ∙ ap (λ (ts : List (List ColType)). remove ts place) are
+    ∙ sym (removed_from_map (λ (s : StandingQuery). s.types) queries place)
+
 -- What is at a place with one element more is at the same place without it, or it is that element.
 pushed_at : {X Y : Type 0} (f : X → Y) (xs : List X) (x : X) (k : ℕ) (e : Y)
     → (get_or (map f (xs ++ x ∷ [])) k e ≡ get_or (map f xs) k e) ⊎ (get_or (map f (xs ++ x ∷ [])) k e ≡ f x)
@@ -107,3 +125,17 @@ lean_more bags bag above lean list row has is_0 =
     let none : count_in row bag.entries ≡ 0 = ap (count_in row) (sym here) ∙ is_0 in
     absurd (omega (arith, some, none)))
     (pushed_at (λ (b : Counts). b.entries) bags bag list [])
+
+-- A bag that comes with its query has the types of its fields.
+pub types_more : (queries : List StandingQuery) (bags : List Counts) (standing : StandingQuery) (bag : Counts) → bag.types ≡ standing.types
+    → AreOfTypes queries bags → AreOfTypes (queries ++ standing ∷ []) (bags ++ bag ∷ [])
+types_more queries bags standing bag own are =
+    map-append (λ (b : Counts). b.types) bags (bag ∷ [])
+    ∙ (λ i. are i ++ own i ∷ [])
+    ∙ sym (map-append (λ (s : StandingQuery). s.types) queries (standing ∷ []))
+
+-- So do those of queries that turn into others of the same types.
+pub types_turned : (f : StandingQuery → StandingQuery) → ((standing : StandingQuery) → (f standing).types ≡ standing.types) → (queries : List StandingQuery)
+    → map (λ (s : StandingQuery). s.types) (map f queries) ≡ map (λ (s : StandingQuery). s.types) queries
+types_turned f same [] = refl
+types_turned f same (q ∷ qs) = λ i. same q i ∷ types_turned f same qs i

@@ -1,11 +1,12 @@
 -- What stays sound where a change is made or undone.
-use Rattle.std.proofs.Common.{◌≡◌, ℕ, pos, ◌+◌, ◌+ℤ◌, ◌≤ℤ◌, ◌≤◌, ◌<◌, cond, List, [], ◌∷◌, ◌++◌, Some, length, drop, refl, sym, ap, ◌∙◌, subst, arith}
+use Rattle.std.proofs.Common.{◌≡◌, ℕ, pos, ◌+◌, ◌+ℤ◌, ◌≤ℤ◌, ◌≤◌, ◌<◌, cond, List, [], ◌∷◌, ◌++◌, Some, get_or, length, drop, refl, sym, ap, ◌∙◌, subst, arith}
 use Rattle.std.specs.Prelude.{◌==◌}
 use Rattle.std.specs.List.{All}
 use Rattle.std.proofs.lemmas.Int.{ints}
 use Rattle.std.proofs.lemmas.List.{map-append, drop-append-le, length_push}
 use Rattle.std.proofs.lemmas.List.Elements.{All-pop, All-push, All-weaker}
 use Rattle.std.proofs.lemmas.List.Sums.{sum_by_push}
+use Rattle.mm_value.specs.declared.col_type.ColType.{ColType}
 use Rattle.mm_multiset.specs.Counts.{Counts, count_in, total_of}
 use Rattle.mm_standing.specs.Bags.{AddedTo, CanAdd, HasEntry, IsSound, IsTyped, IsWithin, Made, count_with, done_of, entries_at, number_for, opposite, room_at}
 use Rattle.mm_standing.specs.declared.change.ListChange.{ListChange}
@@ -70,7 +71,8 @@ module _ (bags : List Counts) (rest : List Prepared) (next : Prepared) (log : Li
       within = still;
       there = All-weaker (λ (c : ListChange). c.list < length bags) (λ (c : ListChange). c.list < length bags') (λ c h. omega (arith, h, adds.size))
           (done_of rest) places.0;
-      typed = All-weaker (IsTyped bags) (IsTyped bags') (λ c h. h ∙ sym (adds.types c.list)) (done_of rest) typed.0;
+      typed = All-weaker (IsTyped bags) (IsTyped bags') (λ c h. h ∙ sym (ap (λ (ts : List (List ColType)). get_or ts c.list []) adds.types))
+          (done_of rest) typed.0;
       opposites = (All_left (λ (p : Prepared). p.undo ≡ opposite p.done) rest next sound.opposites).0;
       rooms = λ list. omega (arith, number list, sound.rooms list, adds.rooms list);
       undo = subst (λ u. CanAdd bags' (log ++ u ∷ [])) (sym undo_is)
@@ -94,6 +96,7 @@ module _ (bags : List Counts) (rest : List Prepared) (next : Prepared) (log : Li
           ∙ made.undone mark within list row;
       longer = omega (arith, made.longer, length_push log next.undo, length_push rest next);
       older = omega (arith, made.older, length_push log next.undo);
+      types = adds.types ∙ made.types;
       size = adds.size ∙ made.size;
     }
 
@@ -103,6 +106,7 @@ made_none bags prepared log = record {
   undone = λ mark within list row. refl;
   longer = refl;
   older = omega arith;
+  types = refl;
   size = refl;
 }
 

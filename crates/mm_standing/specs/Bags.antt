@@ -21,9 +21,13 @@ entries_at bags list = slice_index_or (map (λ (bag : Counts). bag.entries) bags
 abbrev pub room_at : List Counts → ℕ → ℕ
 room_at bags list = slice_index_or (map (λ (bag : Counts). bag.room) bags) list 0
 
+-- The types of the columns of each bag.
+abbrev pub types_of : List Counts → List (List ColType)
+types_of bags = map (λ (bag : Counts). bag.types) bags
+
 -- The types of the columns of the bag of a list; none where there is no such list.
 abbrev pub types_at : List Counts → ℕ → List ColType
-types_at bags list = slice_index_or (map (λ (bag : Counts). bag.types) bags) list []
+types_at bags list = slice_index_or (types_of bags) list []
 
 -- What changes add up to, where each is read as a number.
 abbrev pub sum_over : {X : Type 0} → (X → ℤ) → List X → ℤ
@@ -130,7 +134,7 @@ pub record AddedTo (c : ListChange) (old new : List Counts) : Type 0 where
   pub only : (list : ℕ) (row : List Value) → has_entry row (entries_at new list) ≡ true
       → (has_entry row (entries_at old list) ≡ true) ⊎ (names list row c ≡ true)
   pub rooms : (list : ℕ) → room_at old list ≤ room_at new list + (if c.list == list then 1 else 0)
-  pub types : (list : ℕ) → types_at new list ≡ types_at old list
+  pub types : types_of new ≡ types_of old
   pub size : length new ≡ length old
 
 -- The row of a change has lost its entry if its count is 0, where that is asked for, and all else is as it was.
@@ -141,6 +145,7 @@ pub record Purges (is_asked : Bool) (c : ListChange) (old new : List Counts) : T
   pub others : (list : ℕ) (row : List Value) → has_entry row (entries_at new list) ≡ true → has_entry row (entries_at old list) ≡ true
   pub beside : (list : ℕ) (row : List Value) → names list row c ≡ false → has_entry row (entries_at new list) ≡ has_entry row (entries_at old list)
   pub kept : is_asked ≡ false → new ≡ old
+  pub types : types_of new ≡ types_of old
   pub size : length new ≡ length old
 
 -- The log records of a change that it undoes whether the row had no entry before: then none of the earlier changes is of that row;
@@ -167,4 +172,5 @@ pub record Made (bags : List Counts) (prepared : List Prepared) (log : List List
       → count_with bags' (drop mark log') list row ≡ count_with bags (drop mark log) list row
   pub longer : length log' + length prepared' ≡ length log + length prepared
   pub older : length log ≤ length log'
+  pub types : types_of bags' ≡ types_of bags
   pub size : length bags' ≡ length bags

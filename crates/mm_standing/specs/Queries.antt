@@ -1,8 +1,10 @@
 -- Standing queries, and what their lists are to hold (materialized views kept by counts: Blakeley, Larson and Tompa).
 use Rattle.std.specs.Prelude.{◌≡◌, ℕ, ℤ, pos, ◌<◌, ◌≤◌, All, Bool, if◌then◌else◌, List, [], ◌∷◌, Some, length, map, nat_lt, slice_get}
 use Rattle.std.specs.List.{list_any}
+use Rattle.mm_partition.specs.Types.{HasTypes}
 use Rattle.mm_schema.specs.Refused.{Condition}
 use Rattle.mm_store.specs.Tables.{Tables}
+use Rattle.mm_value.specs.declared.col_type.ColType.{ColType}
 use Rattle.mm_value.specs.declared.refusal.Refusal.TheVariants.{StandingListTooLarge}
 use Rattle.mm_value.specs.declared.values.Value.{Value}
 use Rattle.mm_query.specs.Queries.{bag_of, one_of_each, shown}
@@ -10,10 +12,11 @@ use Rattle.mm_query.specs.declared.bound_query.BoundQuery.{BoundQuery}
 use Rattle.mm_multiset.specs.Counts.{Entries, count_in, count_of}
 use Rattle.mm_schema.specs.Rows.{most_rows}
 
--- A query, and the place in the store of each table of its FROM list.
+-- A query, the place in the store of each table of its FROM list, and the types of its fields.
 pub record StandingQuery : Type 0 where
   pub query : BoundQuery
   pub tables : List ℕ
+  pub types : List ColType
 
 -- The rows of the table at each place.
 abbrev pub RowsByPlace : Type 0
@@ -22,6 +25,10 @@ RowsByPlace = ℕ → List (List Value)
 -- The bag of a standing query over the rows of the tables.
 abbrev pub bag_over : RowsByPlace → StandingQuery → List (List Value)
 bag_over rows standing = bag_of standing.query (map rows standing.tables)
+
+-- The rows that a standing query gives over the rows of the tables have the types of its fields.
+abbrev pub GivesTyped : RowsByPlace → StandingQuery → Type 0
+GivesTyped rows standing = All (HasTypes standing.types) (bag_over rows standing)
 
 -- Entries have each row as often as a list of rows has it.
 abbrev pub IsBagOf : Entries → List (List Value) → Type 0

@@ -1,6 +1,7 @@
 -- Worked examples of how many rows a change reads. Each table has a key in column 0 and a number in column 1.
 use Rattle.std.specs.Prelude.{◌≡◌, ℕ, pos, false, List, [], ◌∷◌, codes, map}
 use Rattle.mm_store.specs.Tables.{Tables}
+use Rattle.mm_value.specs.declared.col_type.ColType.TheVariants as type
 use Rattle.mm_value.specs.declared.values.Value.{Value}
 use Rattle.mm_value.specs.declared.values.Value.TheVariants.{Int}
 use Rattle.mm_query.specs.declared.atom.Atom.{Atom}
@@ -42,6 +43,7 @@ abbrev pub equal_pairs : StandingQuery
 equal_pairs = record {
   query = keys_where (item (codes "t") (codes "a") ∷ item (codes "t") (codes "b") ∷ []) (0 ∷ 1 ∷ []) (numbers_compare Equal 0 1 ∷ []);
   tables = 0 ∷ 0 ∷ [];
+  types = type.Int ∷ type.Int ∷ [];
 }
 
 -- `SELECT a.id, b.id, c.id FROM t a, t b, t c WHERE a.k = b.k AND b.k = c.k`, where `t` stands there too.
@@ -51,6 +53,7 @@ equal_triples = record {
       numbers_compare Equal 0 1 ∷ numbers_compare Equal 1 2 ∷ []
       );
   tables = 0 ∷ 0 ∷ 0 ∷ [];
+  types = type.Int ∷ type.Int ∷ type.Int ∷ [];
 }
 
 -- `SELECT a.id FROM t a, u b WHERE a.k < b.k AND b.k < 5`, where `t` and `u` stand at the places 0 and 1.
@@ -60,6 +63,7 @@ below_some_below_5 = record {
       numbers_compare Less 0 1 ∷ record { left = number_at 1; comparison = Less; right = Literal (Int (pos 5)) } ∷ []
       );
   tables = 0 ∷ 1 ∷ [];
+  types = type.Int ∷ [];
 }
 
 -- A change brings one row to the table at a place, and takes none away from it.

@@ -1,9 +1,9 @@
 -- The standing queries with their lists.
-use Rattle.std.specs.Prelude.{ℕ, ℤ, pos, All, List, drop}
+use Rattle.std.specs.Prelude.{◌≡◌, ℕ, ℤ, pos, All, List, drop, map}
 use Rattle.mm_store.specs.Tables.{Tables}
 use Rattle.mm_value.specs.declared.values.Value.{Value}
 use Rattle.mm_multiset.specs.Counts.{Counts, count_in}
-use Rattle.mm_standing.specs.Bags.{count_with, done_of, entries_at}
+use Rattle.mm_standing.specs.Bags.{count_with, done_of, entries_at, types_of}
 use Rattle.mm_standing.specs.Queries.{AreCounts, IsServed, RowsByPlace, StandingQuery}
 use Rattle.mm_standing.specs.declared.change.ListChange.{ListChange}
 use Rattle.mm_standing.specs.declared.change.Prepared.{Prepared}
@@ -16,6 +16,10 @@ pub record Lists : Type 0 where
   pub prepared : List Prepared
   pub log : List ListChange
   pub reads : ℕ
+
+-- Each bag has the types of the fields of its query.
+abbrev pub AreOfTypes : List StandingQuery → List Counts → Type 0
+AreOfTypes queries bags = types_of bags ≡ map (λ (standing : StandingQuery). standing.types) queries
 
 -- The count of a row of a list as it is now.
 abbrev pub count_now : Lists → ℕ → List Value → ℤ

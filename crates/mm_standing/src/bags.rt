@@ -3,7 +3,7 @@ ghost use Rattle.std.specs.Prelude.{◌≡◌, ◌+◌, ◌≤◌, ◌<◌, ◌�
 ghost use Rattle.std.specs.Vec.{vec_capacity, vec_len};
 ghost use Rattle.mm_multiset.specs.Counts.{Counts as BagCounts, count_in, has_entry};
 ghost use Rattle.mm_standing.specs.Bags.{AddedTo, HasEntry, IsLean, IsRecorded, IsSound, IsTyped, IsWithin};
-ghost use Rattle.mm_standing.specs.Bags.{Made, Purges, count_with, entries_at, room_at, undos};
+ghost use Rattle.mm_standing.specs.Bags.{Made, Purges, count_with, entries_at, room_at, types_of, undos};
 ghost use Rattle.mm_value.specs.declared.values.Value.{Value as Val};
 ghost use Rattle.mm_standing.specs.declared.change.ListChange.{ListChange as AnyChange};
 
@@ -42,6 +42,7 @@ pub fn undo_behind(bags: &mut Vec<Bag>, log: &[UndoRecord], mark: usize)
     ensures counts { (earlier : ℕ) → earlier ≤ mark → (list : ℕ) (row : List Val)
         → count_with bags.new.items (drop earlier (undos (take mark log.now))) list row
         ≡ count_with bags.old.items (drop earlier (undos log.now)) list row }
+    ensures types { types_of bags.new.items ≡ types_of bags.old.items }
     ensures size { length bags.new.items ≡ length bags.old.items }
 {
     let mut left = log.len();
@@ -61,6 +62,7 @@ pub fn purge(bags: &mut Vec<Bag>, log: &mut Vec<UndoRecord>)
     ensures log { log.new.items ≡ [] }
     ensures counts { (list : ℕ) (row : List Val)
         → count_in row (entries_at bags.new.items list) ≡ count_in row (entries_at bags.old.items list) }
+    ensures types { types_of bags.new.items ≡ types_of bags.old.items }
     ensures size { length bags.new.items ≡ length bags.old.items }
 {
     while let Some(made) = log.pop() {

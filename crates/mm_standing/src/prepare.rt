@@ -1,19 +1,19 @@
 //! Changes that are made ready, with all memory that they ask for.
 ghost use Rattle.std.specs.Prelude.{◌≡◌, ◌++◌, ◌+◌, ◌≤◌, ◌<◌, ◌^◌, ℕ, [], All, length};
 ghost use Rattle.std.specs.Prelude.{map, neg_ℤ, pos, slice_index, ◌+ℤ◌, ◌≤ℤ◌, ◌<ℤ◌, IfOk, IsPermutation, OnOk};
-ghost use Rattle.std.specs.Bool.{Decides};
 ghost use Rattle.std.specs.List.{sum_by};
 ghost use Rattle.mm_multiset.specs.Counts.{Counts as BagCounts, count_in, total_of};
 ghost use Rattle.mm_delta.specs.Edited.{after_at, before_at};
 ghost use Rattle.mm_delta.specs.Skipping.{IsTypeTested};
 ghost use Rattle.mm_delta.specs.Steps.{EachFit};
 ghost use Rattle.mm_multiset.specs.declared.signed.Signed.{Signed as Change};
+ghost use Rattle.mm_partition.specs.Types.{HasTypes};
 ghost use Rattle.mm_schema.specs.Refused.{AnswersDue, first_refusal};
 ghost use Rattle.mm_standing.specs.Bags.{Brings, CanAdd, HasGainsFirst, IsSmall, IsTyped, count_with, done_of};
-ghost use Rattle.mm_standing.specs.Bags.{entries_at, number_for, opposite, room_at, sum_over, types_at};
-ghost use Rattle.mm_standing.specs.Queries.{AreCounts, IsBagOf, IsServed, bag_over, change_conditions, list_conditions};
+ghost use Rattle.mm_standing.specs.Bags.{entries_at, number_for, opposite, room_at, sum_over, types_of};
+ghost use Rattle.mm_standing.specs.Queries.{AreCounts, GivesTyped, IsBagOf, IsServed, bag_over, change_conditions, list_conditions};
 ghost use Rattle.mm_standing.specs.Reads.{AreOfCyclicRows, AreTypeTested, RowTests, query_reads};
-ghost use Rattle.mm_standing.specs.State.{AreServed};
+ghost use Rattle.mm_standing.specs.State.{AreOfTypes, AreServed};
 ghost use Rattle.mm_standing.specs.declared.change.ListChange.{ListChange as AnyChange};
 ghost use Rattle.mm_standing.specs.declared.change.Prepared.{Prepared as AnyPrepared};
 ghost use Rattle.mm_schema.specs.Rows.{most_rows};
@@ -58,27 +58,11 @@ pub fn numbers(
     Ok(numbers)
 }
 
-/// Whether each change is of a row that has the types of its list's columns.
-///
-/// The rows of a query have the types of its fields by the laws of its tables. So where the changes are those of the queries' rows
-/// this is true: it stands in for that proof.
-pub fn are_typed(bags: &[Bag], changes: &[ListChange]) -> bool
-    requires { All (λ (c : AnyChange). c.list < length bags.now) changes.now }
-    ensures { Decides result (All (IsTyped bags.now) changes.now) }
-{
-    for change in changes {
-        if !bags[change.list].takes(&change.change.row) {
-            return false;
-        }
-    }
-    true
-}
-
 /// Makes room for so many new entries in each bag. `AllocError` where memory is refused. No bag's entries change.
 pub fn reserve_each(bags: &mut Vec<Bag>, numbers: &[usize]) -> Result<(), AllocError>
     requires { length numbers.now ≡ length bags.old.items }
     ensures entries { map (λ (bag : BagCounts). bag.entries) bags.new.items ≡ map (λ (bag : BagCounts). bag.entries) bags.old.items }
-    ensures types { (list : ℕ) → types_at bags.new.items list ≡ types_at bags.old.items list }
+    ensures types { types_of bags.new.items ≡ types_of bags.old.items }
     ensures kept { (list : ℕ) → room_at bags.old.items list ≤ room_at bags.new.items list }
     ensures room { OnOk result ((list : ℕ) → slice_index numbers.now list ≤ room_at bags.new.items list) }
 {
@@ -104,7 +88,8 @@ fn opposite(alloc: Global, change: &ListChange) -> Result<ListChange, AllocError
 }
 
 /// By how much the counts of the rows of each list change when tables are edited. The changes are made from the last to the first.
-/// The edits fit the view's rows and are not made yet; the lists fit them too; and no query adds a number to a text.
+/// The edits fit the view's rows and are not made yet; the lists fit them too; no query adds a number to a text; and each gives rows
+/// of the types of its list's columns, before the edits and after them.
 /// `StandingListTooLarge` where a list would have more than 1,048,576 rows; `Memory` may come in its place and in that of success.
 pub(crate) fn changes_of_lists<'a>(
     alloc: Global,
@@ -117,11 +102,15 @@ pub(crate) fn changes_of_lists<'a>(
     requires served { AreServed view.old.store queries.now }
     requires edits { EachFit view.old.store changes.now }
     requires typed { AreTypeTested view.old.store changes.now queries.now }
+    requires before { All (GivesTyped (before_at view.old.store)) queries.now }
+    requires after { All (GivesTyped (after_at view.old.store changes.now)) queries.now }
+    requires types { AreOfTypes queries.now bags.now }
     requires fits { AreCounts (λ list row. pos (count_in row (entries_at bags.now list))) (before_at view.old.store) queries.now }
     requires within { CanAdd bags.now [] }
     ensures due { AnswersDue (first_refusal (change_conditions (after_at view.old.store changes.now) queries.now)) result }
     ensures there { IfOk result (λ found. All (λ (c : AnyChange). c.list < length bags.now) found.items) }
     ensures small { IfOk result (λ found. All IsSmall found.items) }
+    ensures typed { IfOk result (λ found. All (IsTyped bags.now) found.items) }
     ensures within { IfOk result (λ found. CanAdd bags.now found.items) }
     ensures counts { IfOk result (λ found. AreCounts (count_with bags.now found.items) (after_at view.old.store changes.now) queries.now) }
     ensures reads { (skipped : RowTests) → AreOfCyclicRows skipped
@@ -148,9 +137,12 @@ fn changes_of_list<'a>(
     requires served { IsServed view.old.store watched.now }
     requires edits { EachFit view.old.store changes.now }
     requires typed { IsTypeTested watched.now.query view.old.store changes.now watched.now.tables }
+    requires before { GivesTyped (before_at view.old.store) watched.now }
+    requires after { GivesTyped (after_at view.old.store changes.now) watched.now }
     requires fits { IsBagOf bag.now.entries (bag_over (before_at view.old.store) watched.now) }
     requires few { total_of bag.now.entries ≤ most_rows }
     ensures due { AnswersDue (first_refusal (list_conditions (bag_over (after_at view.old.store changes.now) watched.now))) result }
+    ensures typed { IfOk result (λ changed. All (λ (change : Change). HasTypes watched.now.types change.row) changed.items) }
     ensures brings { IfOk result (λ changed. Brings changed.items bag.now.entries (bag_over (after_at view.old.store changes.now) watched.now)) }
     ensures reads { (skipped : RowTests) → AreOfCyclicRows skipped
         → view.new.reads ≤ view.old.reads + query_reads view.old.store changes.now skipped watched.now }

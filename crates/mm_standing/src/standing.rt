@@ -4,12 +4,13 @@ ghost use Rattle.std.specs.List.{remove, sum_by};
 ghost use Rattle.mm_multiset.specs.Counts.{Counts as BagCounts, count_in};
 ghost use Rattle.mm_delta.specs.Edited.{after_at, before_at};
 ghost use Rattle.mm_delta.specs.Steps.{EachFit};
+ghost use Rattle.mm_partition.specs.Types.{HasTypes};
 ghost use Rattle.mm_query.specs.Queries.{bag_of};
 ghost use Rattle.mm_schema.specs.References.{above};
 ghost use Rattle.mm_schema.specs.Refused.{AnswersDue, first_refusal};
 ghost use Rattle.mm_store.specs.Tables.{rows_at};
-ghost use Rattle.mm_standing.specs.Bags.{CanAdd, IsLean, IsSmall, Made, done_of, entries_at};
-ghost use Rattle.mm_standing.specs.Queries.{IsBagOf, StandingQuery, bag_over, change_conditions, list_conditions, shown_of};
+ghost use Rattle.mm_standing.specs.Bags.{CanAdd, IsLean, IsSmall, IsTyped, Made, done_of, entries_at};
+ghost use Rattle.mm_standing.specs.Queries.{GivesTyped, IsBagOf, StandingQuery, bag_over, change_conditions, list_conditions, shown_of};
 ghost use Rattle.mm_standing.specs.Reads.{AreOfCyclicRows, AreTypeTested, RowTests, query_reads};
 ghost use Rattle.mm_standing.specs.State.{AreServed, FitNow, FitPrepared, count_at};
 ghost use Rattle.mm_value.specs.declared.values.Value.TheVariants.{Int};
@@ -19,7 +20,7 @@ ghost use Rattle.mm_value.specs.declared.values.Value.{Value as Val};
 use crate::bags::{make_all, purge, undo_behind};
 use crate::change::{ListChange, Prepared, UndoRecord};
 use crate::listing::{count_shown, list_shown};
-use crate::prepare::{are_typed, changes_of_lists, numbers, reserve_each, with_opposites};
+use crate::prepare::{changes_of_lists, numbers, reserve_each, with_opposites};
 use crate::watched::PlacedQuery;
 use crate::watching::bag_now;
 use mm_delta::TableChange;
@@ -50,6 +51,7 @@ impl Model for Standing {
     ghost Value = { Lists };
 
     ghost use Rattle.mm_standing.specs.Bags.{IsRecorded, IsSound, undos};
+    ghost use Rattle.mm_standing.specs.State.{AreOfTypes};
 
     ghost view = { λ s. record {
       queries = s.queries.items;
@@ -61,7 +63,7 @@ impl Model for Standing {
 
     ghost invariant = { λ s. IsSound s.bags.items s.prepared.items (undos s.log.items)
         × (vec_len s.log + vec_len s.prepared ≤ vec_capacity s.log) × (length s.queries.items ≡ length s.bags.items)
-        × IsRecorded s.bags.items s.log.items };
+        × IsRecorded s.bags.items s.log.items × AreOfTypes s.queries.items s.bags.items };
 }
 
 impl Standing {
@@ -166,8 +168,8 @@ impl Standing {
     }
 
     /// Keeps a query as a standing query, which comes last, with the rows that it gives over the rows of the store, found by its
-    /// plan. `tables` are the places in the store of the tables of its FROM list, at most 4, and `types` are those of its fields. It
-    /// requires that nothing is prepared and the log is empty. `StandingListTooLarge` where more than 1,048,576 combinations fit;
+    /// plan. `tables` are the places in the store of the tables of its FROM list, at most 4, and `types` are those of its fields, which
+    /// its rows have. It requires that nothing is prepared and the log is empty. `StandingListTooLarge` where more than 1,048,576 combinations fit;
     /// `Memory` may come in its place and in that of success. A refused call changes nothing.
     pub fn watch(
         &mut self,
@@ -175,24 +177,29 @@ impl Standing {
         store: &Store,
         query: BoundQuery,
         tables: Vec<usize>,
-        types: &[ColType],
+        types: Vec<ColType>,
     ) -> Result<(), Refusal>
         requires there { All (λ table. table < length store.now.tables) tables.items }
         requires few { length tables.items ≤ 4 }
+        requires typed { All (HasTypes types.items) (bag_of query (map (rows_at store.now.tables) tables.items)) }
         requires prepared { self.old.prepared ≡ [] }
         requires log { self.old.log ≡ [] }
         ensures due { AnswersDue (first_refusal (list_conditions (bag_of query (map (rows_at store.now.tables) tables.items)))) result }
         ensures ok { OnOk result ((bag : BagCounts) × IsBagOf bag.entries (bag_of query (map (rows_at store.now.tables) tables.items))
             × (self.new ≡ record self.old {
-              queries = self.old.queries ++ record { query = query; tables = tables.items } ∷ [];
+              queries = self.old.queries ++ record { query = query; tables = tables.items; types = types.items } ∷ [];
               bags = self.old.bags ++ bag ∷ [];
             })) }
         ensures err { OnErr result (self.new ≡ self.old) }
     {
         self.queries.reserve(1)?;
         self.bags.reserve(1)?;
-        let bag = bag_now(alloc, store, &query, tables.as_slice(), types)?;
-        self.queries.push_reserved(PlacedQuery { query, tables });
+        let bag = bag_now(alloc, store, &query, tables.as_slice(), types.as_slice())?;
+        self.queries.push_reserved(PlacedQuery {
+            query,
+            tables,
+            types,
+        });
         self.bags.push_reserved(bag);
         Ok(())
     }
@@ -201,7 +208,7 @@ impl Standing {
     /// changes, and no memory is taken.
     pub fn table_dropped(&mut self, table: usize)
         ensures { self.new ≡ record self.old {
-          queries = map (λ (s : StandingQuery). record { query = s.query; tables = map (above table) s.tables }) self.old.queries;
+          queries = map (λ (s : StandingQuery). record s { tables = map (above table) s.tables }) self.old.queries;
         } }
     {
         for watched in self.queries.iter_mut() {
@@ -233,10 +240,10 @@ impl Standing {
 
     /// Makes ready what edits of tables change of the lists, with all memory that the change and its undoing ask for. The edits
     /// fit the view's rows and are not made yet. It requires that nothing is prepared and that the view has read no row. Of the view's
-    /// rows it asks that the table of each place of a FROM list is there, that the lists fit the rows, and that no query adds a
-    /// number to a text, neither of a row before the edits nor of one after them. The change of each list is the sum of the terms
-    /// of Blakeley, Larson and Tompa's expansion: only rows that the edits concern are read, and none is combined with an edited
-    /// row that a cycle shows to be irrelevant.
+    /// rows it asks that the table of each place of a FROM list is there, that the lists fit the rows, and, of the rows before the
+    /// edits and of those after them, that no query adds a number to a text of theirs and that each gives rows of the types of its
+    /// fields. The change of each list is the sum of the terms of Blakeley, Larson and Tompa's expansion: only rows that the edits
+    /// concern are read, and none is combined with an edited row that a cycle shows to be irrelevant.
     ///
     /// `StandingListTooLarge` where over the rows after the edits more than 1,048,576 combinations fit some standing query;
     /// `Memory` may come in its place and in that of success. Then nothing is prepared.
@@ -250,6 +257,8 @@ impl Standing {
         requires served { AreServed view.old.store self.old.queries }
         requires edits { EachFit view.old.store changes.now }
         requires typed { AreTypeTested view.old.store changes.now self.old.queries }
+        requires before { All (GivesTyped (before_at view.old.store)) self.old.queries }
+        requires after { All (GivesTyped (after_at view.old.store changes.now)) self.old.queries }
         requires fits { FitNow (before_at view.old.store) self.old }
         requires start { view.old.reads ≡ 0 }
         ensures due { AnswersDue (first_refusal (change_conditions (after_at view.old.store changes.now) self.old.queries)) result }
@@ -274,8 +283,8 @@ impl Standing {
     }
 
     /// Makes changes ready, in order from the last to the first, with all memory that they and their undoing need. It requires
-    /// that nothing is prepared. `AllocError` where memory is refused, or a row has other types than its list's columns; then nothing
-    /// is prepared.
+    /// that nothing is prepared, and that each row has the types of its list's columns. `AllocError` where memory is refused; then
+    /// nothing is prepared.
     pub(crate) fn put_prepared(
         &mut self,
         alloc: Global,
@@ -284,6 +293,7 @@ impl Standing {
         requires prepared { self.old.prepared ≡ [] }
         requires there { All (λ (c : AnyChange). c.list < length self.old.bags) changes.items }
         requires small { All IsSmall changes.items }
+        requires typed { All (IsTyped self.old.bags) changes.items }
         requires within { CanAdd self.old.bags changes.items }
         ensures ok { OnOk result (done_of self.new.prepared ≡ changes.items) }
         ensures err { OnErr result (self.new.prepared ≡ []) }
@@ -292,9 +302,6 @@ impl Standing {
     {
         if changes.is_empty() {
             return Ok(());
-        }
-        if !are_typed(self.bags.as_slice(), changes.as_slice()) {
-            return Err(AllocError);
         }
         let numbers = numbers(alloc, self.bags.len(), changes.as_slice())?;
         reserve_each(&mut self.bags, numbers.as_slice())?;

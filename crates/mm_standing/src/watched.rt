@@ -3,13 +3,16 @@ ghost use Rattle.std.specs.Prelude.{◌≡◌, map};
 ghost use Rattle.mm_schema.specs.References.{above};
 
 use mm_query::BoundQuery;
+use mm_value::ColType;
 use std::marker::Model;
 
-/// A standing query, which is bound once for all, and the place in the store of each table of its FROM list.
+/// A standing query, which is bound once for all, the place in the store of each table of its FROM list, and the types of its fields,
+/// which are those of its list's columns.
 #[derive(Drop)]
 pub(crate) struct PlacedQuery {
     pub(crate) query: BoundQuery,
     pub(crate) tables: Vec<usize>,
+    pub(crate) types: Vec<ColType>,
 }
 
 impl Model for PlacedQuery {
@@ -17,7 +20,7 @@ impl Model for PlacedQuery {
 
     ghost Value = { StandingQuery };
 
-    ghost view = { λ w. record { query = w.query; tables = w.tables.items } };
+    ghost view = { λ w. record { query = w.query; tables = w.tables.items; types = w.types.items } };
 }
 
 impl PlacedQuery {

@@ -31,6 +31,7 @@ mod Placed
 mod WatchSteps
 mod Showing
 mod TestedQueries
+mod TypedBags
 mod TypedEdits
 mod TypedSteps
 mod PlacedRows

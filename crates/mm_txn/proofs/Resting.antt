@@ -2,7 +2,7 @@
 use Rattle.std.proofs.Common.{◌≡◌, ℕ, suc, ◌+◌, ◌≤◌, Bool, true, false, cond, not, Result, Ok, Err, OnOk, OnErr, List, [], ◌∷◌, ◌++◌, zero, Option, Some}
 use Rattle.std.proofs.Common.{None, filter, find, is_none, map, pos, slice_get, refl, sym, ap, subst, ◌∙◌, arith}
 use Rattle.std.specs.List.{All, AllByRecursion, IsDistinct, list_any}
-use Rattle.std.specs.Option.{unwrap_or}
+use Rattle.std.specs.Option.{option_map, unwrap_or}
 use Rattle.std.proofs.lemmas.Bool.Decides.{nat_tests}
 use Rattle.std.proofs.lemmas.Bool.{or_parts}
 use Rattle.std.proofs.lemmas.List.{length-map}
@@ -15,6 +15,7 @@ use Rattle.mm_schema.specs.References.{above}
 use Rattle.mm_schema.specs.Refused.{AnswersDue, first_refusal}
 use Rattle.mm_schema.specs.Schema.{HasDistinctNames, Schema, drop_table_conditions, is_other_referring_to, lacks_table, reads_table, table_place, with_table}
 use Rattle.mm_schema.specs.Schema.{without_table}
+use Rattle.mm_schema.specs.declared.column.Column.{Column}
 use Rattle.mm_schema.specs.declared.index.IndexDef.{IndexDef}
 use Rattle.mm_schema.specs.declared.standing.StandingDef.{StandingDef}
 use Rattle.mm_schema.specs.declared.table.Table.{Table}
@@ -37,7 +38,10 @@ use Rattle.mm_query.specs.declared.command.Definition.{Definition}
 use Rattle.mm_query.specs.declared.command.Definition.TheVariants as define
 use Rattle.mm_query.specs.declared.query.FromItem.{FromItem}
 use Rattle.mm_query.proofs.Due.{step-done}
-use Rattle.mm_laws.proofs.StandingQueries.{watched_by_step}
+use Rattle.mm_query.specs.declared.bound_query.FieldPlace.{FieldPlace}
+use Rattle.mm_laws.specs.Typing.{type_at}
+use Rattle.mm_laws.proofs.StandingQueries.{Stays, items_stay, none_of_tables, none_out, stays_behind, stays_kept, stays_left, watched_by_step}
+use Rattle.mm_laws.proofs.TypedQueries.{column_stays}
 use Rattle.mm_standing.specs.Queries.{RowsByPlace, StandingQuery, bag_over}
 use Rattle.mm_standing.specs.State.{FitNow, Lists}
 use Rattle.mm_plan.specs.Kept.{AreKept, instance_of}
@@ -71,7 +75,15 @@ bound_all schema standing placed =
 abbrev pub KeepsPlaces : Schema → Schema → Type 0
 KeepsPlaces old new = (name : List ℕ) → lacks_table name old ≡ false → unwrap_or (table_place name new) 0 ≡ unwrap_or (table_place name old) 0
 
-module _ (old new : Schema) (keeps : KeepsPlaces old new) where
+-- The fields of a query whose tables stay have the types that they had.
+types_stay : (old new : Schema) (out : List ℕ → Bool) → Stays old new out → (query : BoundQuery) → IsQueryWithin old query
+    → list_any out (tables_read query) ≡ false → map (type_at new query.from) query.fields ≡ map (type_at old query.from) query.fields
+types_stay old new out stays query within unread =
+    let there = items_stay old new out stays query.from within.tables unread in
+    λ i. map (λ (field : FieldPlace). ap (option_map (λ (c : Column). c.col_type)) (column_stays old new query.from there field.place field.column)
+    i) query.fields
+
+module _ (old new : Schema) (keeps : KeepsPlaces old new) (stays : Stays old new none_out) where
   places_kept : (from : List FromItem) → list_any (λ (item : FromItem). lacks_table item.table old) from ≡ false → places_in new from ≡ places_in old from
   places_kept [] there = refl
   places_kept (item ∷ items) there =
@@ -82,7 +94,12 @@ module _ (old new : Schema) (keeps : KeepsPlaces old new) where
       → AllByRecursion (IsPlaced new) standing
   each_kept [] within placed = tt
   each_kept (s ∷ ss) within placed = (
-    record { within = within.0; places = placed.0.places ∙ sym (places_kept s.query.from placed.0.within.tables); few = placed.0.few },
+    record {
+      within = within.0;
+      places = placed.0.places ∙ sym (places_kept s.query.from placed.0.within.tables);
+      few = placed.0.few;
+      types = placed.0.types ∙ sym (types_stay old new none_out stays s.query placed.0.within (none_of_tables (tables_read s.query)));
+    },
     each_kept ss within.1 placed.1,
   )
 
@@ -158,7 +175,8 @@ module _ (schema : Schema) (store : Tables) (lists : Lists) (rest : AreAtRest sc
         record {
           kept = kept;
           placed = subst (λ (s : State). ArePlaced s.schema lists.queries) (sym becomes)
-              (placed_kept schema (with_table definition schema) (keeps_behind definition schema) lists.queries after.0 after.1 rest.placed.placed);
+              (placed_kept schema (with_table definition schema) (keeps_behind definition schema) (stays_behind definition schema) lists.queries after.0 after.1
+              rest.placed.placed);
           listed = subst (λ (s : State). AreListed s.rows lists) (sym becomes) (listed_behind (instance_of store.tables) lists rest.listed);
         }
 
@@ -170,8 +188,8 @@ module _ (schema : Schema) (store : Tables) (lists : Lists) (rest : AreAtRest sc
     rest_by_change change same after tables rows = record {
       kept = kept;
       placed = subst (λ s. ArePlaced s lists.queries) (sym tables)
-          (placed_kept schema (record schema { tables = map change schema.tables }) (keeps_changed change same schema) lists.queries after.0 after.1
-          rest.placed.placed);
+          (placed_kept schema (record schema { tables = map change schema.tables }) (keeps_changed change same schema) (stays_kept change same schema)
+          lists.queries after.0 after.1 rest.placed.placed);
       listed = subst (λ r. AreListed r lists) (sym rows) rest.listed;
     }
 
@@ -217,7 +235,7 @@ next_above_first place = grind (arith, nat_tests)
 
 -- A standing query once the table at a place is gone that it does not read.
 abbrev pub moved : ℕ → StandingQuery → StandingQuery
-moved place standing = record { query = standing.query; tables = map (above place) standing.tables }
+moved place standing = record standing { tables = map (above place) standing.tables }
 
 -- Its query stays.
 pub queries_of-moved : (place : ℕ) (standing : List StandingQuery) → queries_of (map (moved place) standing) ≡ queries_of standing
@@ -304,6 +322,7 @@ module _ (gone : List ℕ) where
       within = within;
       places = ap (map (above place)) placed.places ∙ sym (places_left standing.query.from placed.within.tables unread);
       few = subst (λ n. n ≤ 4) (sym (length-map standing.tables (above place))) placed.few;
+      types = placed.types ∙ sym (types_stay schema without (same_name gone) (stays_left gone schema) standing.query placed.within unread);
     }
 
     -- The standing queries move with their tables, ..

@@ -20,7 +20,8 @@ use Rattle.mm_relevance.specs.Relevance.{AddsToNumber, AddsToNumbers, is_text}
 use Rattle.mm_laws.specs.Typing.{AreTyped, ShiftsNumber, ShiftsNumbers, type_at}
 use Rattle.mm_laws.proofs.TypedNumbers.{adds_to_numbers}
 use Rattle.mm_delta.specs.declared.edited.TableChange.{TableChange}
-use Rattle.mm_standing.specs.Queries.{RowsByPlace, StandingQuery}
+use Rattle.mm_delta.specs.Edited.{after_at, before_at}
+use Rattle.mm_standing.specs.Queries.{GivesTyped, RowsByPlace, StandingQuery}
 use Rattle.mm_standing.specs.Reads.{AreTypeTested}
 use Rattle.mm_store.specs.Tables.{Tables}
 use Rattle.mm_plan.specs.Kept.{instance_of}
@@ -28,6 +29,7 @@ use Rattle.mm_txn.specs.PlacedEdits.{placed_change, rows_edited}
 use Rattle.mm_txn.specs.Listed.{IsPlaced, IsTested, queries_of, rows_by_place}
 use Rattle.mm_txn.proofs.ListedRows.{after_is, before_is}
 use Rattle.mm_txn.proofs.Placed.{rows_by_name}
+use Rattle.mm_txn.proofs.TypedBags.{gives_typed}
 
 -- ---- for the lists
 
@@ -42,6 +44,18 @@ type_tested store changes queries tested = λ k d within. record {
   after = subst (λ (r : RowsByPlace). AddsToNumbers (get_or queries k d).query (λ j. r (get_or (get_or queries k d).tables j 0)))
       (sym (after_is store changes)) (tested k d within).after;
 }
+
+module _ (store : Tables) (changes : List TableChange) (queries : List StandingQuery)
+    (tested : All (IsTested (rows_by_place (instance_of store.tables)) (rows_edited store (map placed_change changes))) queries) where
+  -- So are the types of the rows that they give before a change, ..
+  pub typed_before : All (GivesTyped (before_at store)) queries
+  typed_before = λ k d within.
+      subst (λ (r : RowsByPlace). GivesTyped r (get_or queries k d)) (sym (before_is store)) (tested k d within).typed_before
+
+  -- .. and after it.
+  pub typed_after : All (GivesTyped (after_at store changes)) queries
+  typed_after = λ k d within.
+      subst (λ (r : RowsByPlace). GivesTyped r (get_or queries k d)) (sym (after_is store changes)) (tested k d within).typed_after
 
 -- ---- by the types of rows
 
@@ -92,14 +106,16 @@ module _ (schema : Schema) (rows : Instance) where
 pub queries_tested : (schema : Schema) (before after : Instance) (queries : List StandingQuery) → All (IsPlaced schema) queries
     → AreTyped schema.tables before → AreTyped schema.tables after → All (ShiftsNumbers schema) (queries_of queries)
     → All (IsTested (rows_by_place before) (rows_by_place after)) queries
-queries_tested schema before after queries placed typed_before typed_after shifts = λ k d within.
+queries_tested schema before after queries placed has_before has_after shifts = λ k d within.
     let standing = get_or queries k d in
     let is : IsPlaced schema standing = placed k d within in
     let own : ShiftsNumbers schema standing.query = shift k d within in
     record {
       whole = ap length is.places ∙ length-map standing.query.from (λ (item : FromItem). unwrap_or (table_place item.table schema) 0);
-      before = adds_by_place schema before standing is typed_before own;
-      after = adds_by_place schema after standing is typed_after own;
+      before = adds_by_place schema before standing is has_before own;
+      after = adds_by_place schema after standing is has_after own;
+      typed_before = gives_typed schema before has_before standing is;
+      typed_after = gives_typed schema after has_after standing is;
     }
   where
     shift : (k : ℕ) (d : StandingQuery) → k < length queries → ShiftsNumbers schema (get_or queries k d).query

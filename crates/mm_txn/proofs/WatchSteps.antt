@@ -21,6 +21,9 @@ use Rattle.mm_schema.proofs.Places.{find_at_place, find_nowhere, place_from_some
 use Rattle.mm_schema.proofs.StandingLemmas.{names_of}
 use Rattle.mm_multiset.specs.Counts.{Counts, Entries, count_in, count_of}
 use Rattle.mm_store.specs.Tables.{Tables, rows_at}
+use Rattle.mm_partition.specs.Types.{HasTypes}
+use Rattle.mm_laws.specs.Typing.{AreTyped, type_at}
+use Rattle.mm_value.specs.declared.col_type.ColType.{ColType}
 use Rattle.mm_value.specs.declared.refusal.Refusal.{Refusal}
 use Rattle.mm_value.specs.declared.refusal.Refusal.TheVariants.{NoSuchStandingQuery, StandingListTooLarge}
 use Rattle.mm_value.specs.declared.values.Value.{Value}
@@ -43,6 +46,7 @@ use Rattle.mm_txn.specs.Listed.{AreListed, ArePlaced, IsPlaced, queries_of, rows
 use Rattle.mm_txn.proofs.Placed.{lists_by_place, places_within, rows_at_place}
 use Rattle.mm_txn.proofs.Resting.{bound_all, placed_kept, watched_after}
 use Rattle.mm_txn.proofs.RowsBeside.{as_many_rows}
+use Rattle.mm_txn.proofs.TypedBags.{gives_typed}
 
 not_more : (n m : ℕ) → nat_lt m n ≡ false → n ≤ m
 not_more n m h = grind (arith, nat_tests)
@@ -172,9 +176,6 @@ module _ (schema : Schema) (store : Tables) (lists : Lists) (rest : AreAtRest sc
             let p = or_parts (lacks_table item.table schema) (list_any (λ (x : FromItem). lacks_table x.table schema) items) free in
             or_from _ _ p.0 (by items p.1)
 
-    abbrev new : StandingQuery
-    new = record { query = bound; tables = tables }
-
     lists_are : map (rows_at store.tables) tables ≡ map (rows_by_place state.rows) tables
     lists_are = λ i. map (λ t. rows_at_place store.tables t i) tables
 
@@ -190,8 +191,20 @@ module _ (schema : Schema) (store : Tables) (lists : Lists) (rest : AreAtRest sc
         ∙ sym (due_behind (naming_conditions name query schema)
         (record { holds = outgrows state (placed_query schema query); refusal = StandingListTooLarge } ∷ []) none)
 
-    module _ (names : List (List ℕ)) (names_are : names ≡ tables_read bound) (name' : List ℕ) (name_is : name' ≡ name) (bag : Counts)
+    -- Its rows have the types of its fields.
+    pub watch_typed : AreTyped schema.tables state.rows → IsQueryWithin schema bound → (types : List ColType)
+        → map Some types ≡ map (type_at schema bound.from) bound.fields → All (HasTypes types) (bag_of bound (map (rows_at store.tables) tables))
+    watch_typed typed within types types_are =
+        let new : StandingQuery = record { query = bound; tables = tables; types = types } in
+        subst (λ (ls : List (List (List Value))). All (HasTypes types) (bag_of bound ls)) (sym lists_are)
+        (gives_typed schema state.rows typed new (record { within = within; places = tables_are; few = watch_few; types = types_are }))
+
+    module _ (types : List ColType) (types_are : map Some types ≡ map (type_at schema bound.from) bound.fields) (names : List (List ℕ))
+        (names_are : names ≡ tables_read bound) (name' : List ℕ) (name_is : name' ≡ name) (bag : Counts)
         (is_bag : IsBagOf bag.entries (bag_of bound (map (rows_at store.tables) tables))) where
+      abbrev new : StandingQuery
+      new = record { query = bound; tables = tables; types = types }
+
       abbrev pub later_schema : Schema
       later_schema = with_standing (record { name = name'; tables = names }) schema
 
@@ -218,8 +231,9 @@ module _ (schema : Schema) (store : Tables) (lists : Lists) (rest : AreAtRest sc
           subst (λ (s : State). All (IsQueryWithin s.schema) s.queries) (sym later_state) after.1 in
           record {
             kept = kept_beside schema later_schema.standing store rest.kept;
-            placed = placed_kept schema later_schema (λ n t. refl) later_lists.queries beside bound_now
-                (All-push (IsPlaced schema) lists.queries new rest.placed.placed (record { within = within; places = tables_are; few = watch_few }));
+            placed = placed_kept schema later_schema (λ n t. refl) (λ n t kept. (t, refl)) later_lists.queries beside bound_now
+                (All-push (IsPlaced schema) lists.queries new rest.placed.placed
+                (record { within = within; places = tables_are; few = watch_few; types = types_are }));
             listed = record {
               fits = fit_behind (rows_by_place state.rows) lists.queries lists.bags new bag many rest.listed.fits
                   (subst (λ ls. IsBagOf bag.entries (bag_of bound ls)) lists_are is_bag);
@@ -384,7 +398,7 @@ module _ (name : List ℕ) where
     placed_left distinct due =
         let after = watched_after (define.Unwatch name) schema [] (queries_of lists.queries) due placed.beside (bound_all schema lists.queries placed.placed) in
         let left = sym (queries_left distinct) in
-        placed_kept schema (without_standing name schema) (λ n t. refl) (remove lists.queries place)
+        placed_kept schema (without_standing name schema) (λ n t. refl) (λ n t kept. (t, refl)) (remove lists.queries place)
         (subst (AreBeside (without_standing name schema).standing) left after.0) (subst (All (IsQueryWithin (without_standing name schema))) left after.1)
         (all_removed (IsPlaced schema) lists.queries place placed.placed)
 

@@ -10,7 +10,8 @@ ghost use Rattle.mm_store.specs.Snapshots.{Logged};
 ghost use Rattle.mm_query.specs.Machine.{after_definition, definition_conditions, is_of_index};
 ghost use Rattle.mm_query.specs.declared.command.Definition.TheVariants as define;
 ghost use Rattle.mm_txn.specs.Contents.{state_held};
-ghost use Rattle.mm_plan.specs.Kept.{AreKept};
+ghost use Rattle.mm_laws.specs.Typing.{AreTyped};
+ghost use Rattle.mm_plan.specs.Kept.{AreKept, instance_of};
 ghost use Rattle.mm_txn.specs.Kept.{state_of};
 ghost use Rattle.mm_txn.specs.Saved.{IsSettled};
 
@@ -30,13 +31,14 @@ pub(crate) fn is_of_index(definition: &Definition<'_>) -> bool
 
 impl Contents {
     /// Changes the catalog. The first refusal that is due is answered, or `Memory` in its place or in that of success. The log can be
-    /// taken back afterwards as before.
+    /// taken back afterwards as before. It asks for rows of the types of their columns.
     pub(crate) fn define(
         &mut self,
         alloc: Global,
         undo: &Undo,
         definition: Definition<'_>,
     ) -> Result<(), Refusal>
+        requires typed { AreTyped self.old.schema.tables (instance_of self.old.store.tables) }
         requires fits { CanUndo self.old.store undo.now }
         requires settled { is_of_index definition ≡ false → IsSettled undo.now self.old.lists }
         ensures due { AnswersDue (first_refusal (definition_conditions definition.entry (state_held self.old))) result }

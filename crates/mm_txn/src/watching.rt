@@ -1,6 +1,7 @@
 //! Standing queries that are kept and dropped. They are for a database in which no transaction is open.
 ghost use Rattle.std.specs.Prelude.{◌≡◌, [], None, Some, map, IfOk, OnErr, OnOk};
-ghost use Rattle.mm_laws.specs.Typing.{type_at};
+ghost use Rattle.mm_laws.specs.Typing.{AreTyped, type_at};
+ghost use Rattle.mm_plan.specs.Kept.{instance_of};
 ghost use Rattle.mm_query.specs.Resolving.{IsQueryWithin, placed_query, places_in};
 ghost use Rattle.mm_query.specs.Standing.{after_unwatch, after_watch, watch_conditions};
 ghost use Rattle.mm_query.specs.declared.query.FromItem.{FromItem as Item};
@@ -17,9 +18,10 @@ use std::alloc::{AllocError, Global};
 
 impl Contents {
     /// Keeps a query as a standing query, which comes last. The first refusal that is due is answered, or `Memory` in its place or in
-    /// that of success.
+    /// that of success. It asks for rows of the types of their columns.
     pub(crate) fn watch(&mut self, alloc: Global, named: NamedQuery<'_>) -> Result<(), Refusal>
-        requires { self.old.lists.log ≡ [] }
+        requires log { self.old.lists.log ≡ [] }
+        requires typed { AreTyped self.old.schema.tables (instance_of self.old.store.tables) }
         ensures due { AnswersDue (first_refusal (watch_conditions named.entry.name named.entry.query (state_held self.old))) result }
         ensures ok { OnOk result (state_held self.new ≡ after_watch named.entry.name named.entry.query (state_held self.old)) }
         ensures err { OnErr result (state_held self.new ≡ state_held self.old) }
@@ -32,7 +34,6 @@ impl Contents {
         let tables = copy_places(alloc, bound.tables.as_slice())?;
         let types = field_types(alloc, &self.catalog, &bound.query)?;
         self.catalog.add_standing(name.copy(), names)?;
-        let types = types.as_slice();
         if let Err(refusal) = self
             .standing
             .watch(alloc, &self.store, bound.query, tables, types)

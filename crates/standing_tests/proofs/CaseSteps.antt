@@ -18,7 +18,7 @@ use Rattle.mm_store.specs.Snapshots.{Logged}
 use Rattle.mm_value.specs.declared.values.Value.{Value}
 use Rattle.store_tests.specs.SampleStore.{ArePlain}
 use Rattle.store_tests.proofs.PlainStores.{plain_formed}
-use Rattle.standing_tests.specs.Cases.{IsCase, IsMark, IsWhole, rows_then}
+use Rattle.standing_tests.specs.Cases.{HaveNumbers, IsCase, IsMark, IsWhole, rows_then}
 use Rattle.standing_tests.proofs.ListCounts.{all_removed, count_last, counts_still, drop_all, fit_behind, fit_left, length_taken, served_still}
 use Rattle.standing_tests.proofs.TableRows.{before_listed}
 
@@ -27,11 +27,12 @@ use Rattle.standing_tests.proofs.TableRows.{before_listed}
 module _ (store new : Tables) (undo later : List Logged) (lists left : Lists) (queries : left.queries ≡ lists.queries) where
   -- Tables of the same form with lists that have the rows of the same queries are a case.
   pub case_still : IsCase store undo lists → length new.tables ≡ length store.tables → ArePlain new → CanUndo new later
-      → (rows : RowsByPlace) → before_at new ≡ rows → FitNow rows left → left.prepared ≡ []
+      → (rows : RowsByPlace) → before_at new ≡ rows → HaveNumbers rows → FitNow rows left → left.prepared ≡ []
       → IsCase new later left
-  case_still was many plain undoable rows are fits ready = record {
+  case_still was many plain undoable rows are typed fits ready = record {
     two = many ∙ was.two;
     plain = plain;
+    typed = subst HaveNumbers (sym are) typed;
     undoable = undoable;
     served = served_still store new lists.queries left.queries many queries was.served;
     whole = subst (All IsWhole) (sym queries) was.whole;
@@ -47,6 +48,7 @@ module _ (store new : Tables) (undo later : List Logged) (lists left : Lists) (q
   mark_still commands changes commands_there changes_there rows counts was = record {
     commands_there = commands_there;
     changes_there = changes_there;
+    typed = subst (λ (r : List (List (List Value))). HaveNumbers (λ place. slice_index_or r place [])) (sym rows) was.typed;
     fits = counts_still (λ list row. count_at changes list row lists) (λ list row. count_at changes list row left) (rows_then commands later new)
         lists.queries left.queries queries counts
         (subst (λ (r : List (List (List Value))). FitAt changes (λ place. slice_index_or r place []) lists) (sym rows) was.fits);
@@ -57,7 +59,7 @@ pub case_listed : (store : Tables) (undo : List Logged) (lists left : Lists) →
     → ((list : ℕ) (row : List Value) → count_now left list row ≡ count_now lists list row) → left.prepared ≡ [] → IsCase store undo lists
     → IsCase store undo left
 case_listed store undo lists left queries counts ready was =
-    case_still store store undo undo lists left queries was refl was.plain was.undoable (before_at store) refl
+    case_still store store undo undo lists left queries was refl was.plain was.undoable (before_at store) refl was.typed
     (counts_still (count_now lists) (count_now left) (before_at store) lists.queries left.queries queries counts was.fits) ready
 
 -- ---- steps back
@@ -74,7 +76,7 @@ module _ (store new : Tables) (undo later : List Logged) (lists left : Lists) (q
       let long = ap (λ (cs : List ListChange). length cs) log in
       let done : drop changes left.log ≡ [] = drop_all left.log changes (omega arith) in
       case_still store new undo later lists left queries was (omega arith) (plain_formed store new form was.plain) undoable (rows_then commands undo store)
-      (before_listed new (rows_at_mark commands undo store) rows)
+      (before_listed new (rows_at_mark commands undo store) rows) mark.typed
       (counts_still (λ list row. count_at changes list row lists) (count_now left) (rows_then commands undo store) lists.queries left.queries queries
       (λ list row. sym (count_last left changes done list row) ∙ counts changes (omega arith) list row) mark.fits)
       ready
@@ -104,24 +106,28 @@ mark_now store undo lists was rows commands changes commands_are changes_are =
     record {
       commands_there = omega arith;
       changes_there = omega arith;
+      typed = subst HaveNumbers then was.typed;
       fits = counts_still (count_now lists) (λ list row. count_at changes list row lists) (rows_then commands undo store) lists.queries lists.queries refl
           (count_last lists changes done) (subst (λ (r : RowsByPlace). FitNow r lists) then was.fits);
     }
 
 -- With no standing query each mark that is there is one.
-pub mark_none : (store : Tables) (undo : List Logged) (lists : Lists) → lists.queries ≡ [] → IsMark store undo lists 0 0
-mark_none store undo lists none = record {
+pub mark_none : (store : Tables) (undo : List Logged) (lists : Lists) → lists.queries ≡ [] → HaveNumbers (rows_then 0 undo store)
+    → IsMark store undo lists 0 0
+mark_none store undo lists none typed = record {
   commands_there = omega arith;
   changes_there = omega arith;
+  typed = typed;
   fits = λ list standing there.
       let at : slice_get {X = StandingQuery} [] list ≡ Some standing = subst (λ (qs : List StandingQuery). slice_get qs list ≡ Some standing) none there in cc;
 }
 
-pub case_none : (store : Tables) (undo : List Logged) (lists : Lists) → length store.tables ≡ 2 → ArePlain store → CanUndo store undo
-    → lists.queries ≡ [] → lists.prepared ≡ [] → IsCase store undo lists
-case_none store undo lists two plain undoable none ready = record {
+pub case_none : (store : Tables) (undo : List Logged) (lists : Lists) → length store.tables ≡ 2 → ArePlain store → HaveNumbers (before_at store)
+    → CanUndo store undo → lists.queries ≡ [] → lists.prepared ≡ [] → IsCase store undo lists
+case_none store undo lists two plain typed undoable none ready = record {
   two = two;
   plain = plain;
+  typed = typed;
   undoable = undoable;
   served = subst (AreServed store) (sym none) (All-nil (IsServed store));
   whole = subst (All IsWhole) (sym none) (All-nil IsWhole);
@@ -139,6 +145,7 @@ pub case_watched : (store : Tables) (undo : List Logged) (lists : Lists) (new : 
 case_watched store undo lists new bag many served whole is was = record {
   two = was.two;
   plain = was.plain;
+  typed = was.typed;
   undoable = was.undoable;
   served = All-push (IsServed store) lists.queries new was.served served;
   whole = All-push IsWhole lists.queries new was.whole whole;
@@ -152,6 +159,7 @@ pub case_left : (store : Tables) (undo : List Logged) (lists : Lists) (place : �
 case_left store undo lists place was = record {
   two = was.two;
   plain = was.plain;
+  typed = was.typed;
   undoable = was.undoable;
   served = all_removed (IsServed store) lists.queries place was.served;
   whole = all_removed IsWhole lists.queries place was.whole;

@@ -1,3 +1,4 @@
+pub mod NumberRows
 pub mod TableRows
 pub mod ListCounts
 pub mod CaseSteps

@@ -1,8 +1,9 @@
 -- Tables with lists of standing queries over them, and marks to which both can go back.
-use Rattle.std.specs.Prelude.{◌≡◌, ◌==◌, ℕ, ◌≤◌, Bool, true, false, if◌then◌else◌, List, [], length, slice_get, slice_index_or}
+use Rattle.std.specs.Prelude.{◌≡◌, ◌==◌, ℕ, ◌≤◌, Bool, true, false, if◌then◌else◌, List, [], length, replicate, slice_get, slice_index_or}
 use Rattle.std.specs.List.{All, list_all}
 use Rattle.std.specs.Option.{option_map_or}
 use Rattle.mm_delta.specs.Edited.{before_at}
+use Rattle.mm_partition.specs.Types.{HasTypes}
 use Rattle.mm_query.specs.declared.atom.Atom.{Atom}
 use Rattle.mm_query.specs.declared.atom.Operand.{Operand}
 use Rattle.mm_query.specs.declared.atom.Operand.TheVariants.{Literal, Column, Shifted}
@@ -16,7 +17,8 @@ use Rattle.mm_store.specs.Marks.{rows_at_mark}
 use Rattle.mm_store.specs.Tables.{Tables, rows_at, rows_with}
 use Rattle.mm_store.specs.Undoing.{CanUndo}
 use Rattle.mm_store.specs.Snapshots.{Logged}
-use Rattle.store_tests.specs.SampleStore.{ArePlain}
+use Rattle.mm_value.specs.declared.col_type.ColType.TheVariants.{Int}
+use Rattle.store_tests.specs.SampleStore.{ArePlain, plain_types}
 
 -- ---- queries
 
@@ -30,10 +32,11 @@ adds_none (Shifted field by) = false
 abbrev pub is_unshifted : BoundQuery → Bool
 is_unshifted query = list_all (λ (atom : Atom FieldPlace). adds_none atom.right) query.atoms
 
--- The standing query has a place for each table of its FROM, and no atom of it adds a number.
+-- The standing query has a place for each table of its FROM, no atom of it adds a number, and all its fields are of whole numbers.
 pub record IsWhole (standing : StandingQuery) : Type 0 where
   pub whole : length standing.tables ≡ length standing.query.from
   pub unshifted : is_unshifted standing.query ≡ true
+  pub types : standing.types ≡ replicate (length standing.query.fields) Int
 
 -- ---- rows
 
@@ -42,26 +45,34 @@ abbrev pub rows_edited : Tables → ℕ → List Edit → RowsByPlace
 rows_edited store table edits place =
     if table == place then option_map_or (λ (stored : StoredRows). rows_with stored edits) (slice_get store.tables place) [] else rows_at store.tables place
 
+-- Each row of each table is of two whole numbers.
+abbrev pub HaveNumbers : RowsByPlace → Type 0
+HaveNumbers rows = (place : ℕ) → All (HasTypes plain_types) (rows place)
+
 -- The rows of the table at each place when the log had so many commands.
 abbrev pub rows_then : ℕ → List Logged → Tables → RowsByPlace
 rows_then commands undo store place = slice_index_or (rows_at_mark commands undo store) place []
 
 -- ---- cases
 
--- There are two tables of two columns; the log of their commands can be taken back; and the lists have the rows of their queries.
+-- There are two tables of two columns, and their rows are of whole numbers; the log of their commands can be taken back; and the lists
+-- have the rows of their queries.
 pub record IsCase (store : Tables) (undo : List Logged) (lists : Lists) : Type 0 where
   pub two : length store.tables ≡ 2
   pub plain : ArePlain store
+  pub typed : HaveNumbers (before_at store)
   pub undoable : CanUndo store undo
   pub served : AreServed store lists.queries
   pub whole : All IsWhole lists.queries
   pub fits : FitNow (before_at store) lists
   pub ready : lists.prepared ≡ []
 
--- When the tables had so many commands, and the lists so many changes, the lists had the rows of their queries.
+-- When the tables had so many commands, and the lists so many changes, the lists had the rows of their queries, and all rows were of
+-- whole numbers.
 pub record IsMark (store : Tables) (undo : List Logged) (lists : Lists) (commands changes : ℕ) : Type 0 where
   pub commands_there : commands ≤ length undo
   pub changes_there : changes ≤ length lists.log
+  pub typed : HaveNumbers (rows_then commands undo store)
   pub fits : FitAt changes (rows_then commands undo store) lists
 
 -- A case that can go back to its start and to a mark.

@@ -54,8 +54,10 @@ impl Model for Case {
 impl Case {
     /// Two tables with no rows and no standing queries. With `indexed` the numbers of the first have a HASH index.
     pub fn new(alloc: Global, indexed: bool) -> Result<Case, Refusal> {
+        let store = tables(alloc, indexed)?;
+        store.rows_stand();
         Ok(Case {
-            store: tables(alloc, indexed)?,
+            store,
             undo: Undo::new(alloc),
             standing: Standing::new(alloc),
             mark: START,

@@ -10,7 +10,7 @@ ghost use Rattle.mm_partition.specs.Places.{IsLive};
 ghost use Rattle.mm_partition.specs.Types.{HasTypes};
 ghost use Rattle.mm_standing.specs.State.{AreServed, FitNow, FitPrepared, count_at, count_now};
 ghost use Rattle.mm_store.specs.Tables.{AreFit, IsAt, rows_at};
-ghost use Rattle.standing_tests.specs.Cases.{IsCase, IsMark, IsWhole, adds_none, is_unshifted, rows_edited};
+ghost use Rattle.standing_tests.specs.Cases.{HaveNumbers, IsCase, IsMark, IsWhole, adds_none, is_unshifted, rows_edited};
 ghost use Rattle.mm_value.specs.declared.values.Value.{Value as Val};
 ghost use Rattle.store_tests.specs.SampleStore.{ArePlain, plain_types};
 
@@ -31,6 +31,7 @@ pub const TYPES: &[ColType] = &[ColType::Int, ColType::Int];
 pub fn tables(alloc: Global, indexed: bool) -> Result<Store, Refusal>
     ensures two { IfOk result (λ store. length store.tables ≡ 2) }
     ensures plain { IfOk result ArePlain }
+    ensures typed { IfOk result (λ store. HaveNumbers (before_at store)) }
 {
     let mut store = Store::new(alloc);
     store.add_table(alloc, TYPES, 0, &[])?;
@@ -47,9 +48,12 @@ fn add_index(alloc: Global, store: &mut Store) -> Result<(), AllocError>
     requires plain { ArePlain store.old }
     ensures two { length store.new.tables ≡ 2 }
     ensures plain { ArePlain store.new }
+    ensures rows { OnOk result (before_at store.new ≡ before_at store.old) }
 {
     let undo = Undo::new(alloc);
+    store.rows_stand();
     store.add_index(alloc, 0, 1, IndexKind::Hash, &undo)?;
+    store.rows_stand();
     Ok(())
 }
 
@@ -151,6 +155,8 @@ pub fn prepare_and_drop(
     table: usize,
     edits: &[Edit],
 ) -> Result<(), Refusal>
+    requires plain { ArePlain store.now }
+    requires typed { HaveNumbers (before_at store.now) }
     requires fit { (stored : StoredRows) → IsAt store.now table stored → AreFit stored edits.now }
     requires served { AreServed store.now standing.old.queries }
     requires whole { All IsWhole standing.old.queries }
@@ -179,6 +185,8 @@ fn prepare(
     table: usize,
     edits: &[Edit],
 ) -> Result<(), Refusal>
+    requires plain { ArePlain store.now }
+    requires typed { HaveNumbers (before_at store.now) }
     requires fit { (stored : StoredRows) → IsAt store.now table stored → AreFit stored edits.now }
     requires served { AreServed store.now standing.old.queries }
     requires whole { All IsWhole standing.old.queries }
@@ -273,7 +281,7 @@ pub fn watch(
     let _lists = standing.len();
     store.rows_stand();
     let types = vec![in alloc; ColType::Int; query.fields.as_slice().len()]?;
-    standing.watch(alloc, source, query, tables, types.as_slice())?;
+    standing.watch(alloc, source, query, tables, types)?;
     Ok(())
 }
 

@@ -16,6 +16,7 @@ loop-made-init c = record {
   there = c.requires.there;
   counts = λ list row. refl;
   totals = λ list. refl;
+  types = refl;
   size = refl;
   lean = c.requires.lean;
 }
@@ -44,6 +45,7 @@ loop-made-preserved c =
           (places (goal.at.loop-made-preserved c).In-Some).0;
       counts = λ list row. purges.counts list row ∙ so_far.counts list row;
       totals = λ list. purges.totals list ∙ so_far.totals list;
+      types = purges.types ∙ so_far.types;
       size = purges.size ∙ so_far.size;
       lean = lean_purged rest made bags new (subst (λ (l : List UndoRecord). IsLean bags (undos l)) c.in-Some.ensures.items so_far.lean) purges;
     }

@@ -39,6 +39,7 @@ loop-left-init c =
       least = c.requires.mark;
       most = omega arith;
       counts = λ earlier within list row. ap (λ (l : List UndoRecord). count_with c.args.bags.now.items (drop earlier (undos l)) list row) (sym all);
+      types = refl;
       size = refl;
     }
 
@@ -81,5 +82,6 @@ loop-left-preserved c =
           ∙ ap (λ (cs : List ListChange). count_with bags (drop earlier cs) list row) (sym (joined rest made))
           ∙ ap (λ (l : List UndoRecord). count_with bags (drop earlier (undos l)) list row) (sym is)
           ∙ so_far.counts earlier (omega (arith, within)) list row;
+      types = purges.types ∙ adds.types ∙ so_far.types;
       size = purges.size ∙ adds.size ∙ so_far.size;
     }

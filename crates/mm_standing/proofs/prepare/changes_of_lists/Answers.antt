@@ -1,24 +1,30 @@
 -- One list more has its changes, or is too large.
-use Rattle.std.proofs.Common.{◌≡◌, ◌+◌, ◌+ℤ◌, ◌<◌, ◌≤◌, ◌≤ℤ◌, ◌⊎◌, inl, inr, ℕ, Bool, true, false, cond, true≢false, add-one, is_some, List, Some, None}
-use Rattle.std.proofs.Common.{get_or, length, pos, take, refl, sym, ap, ◌∙◌, subst, arith}
+use Rattle.std.proofs.Common.{◌≡◌, ◌+◌, ◌+ℤ◌, ◌<◌, ◌≤◌, ◌≤ℤ◌, ◌⊎◌, inl, inr, ℕ, Bool, true, false, cond, true≢false, add-one, is_some, List, [], ◌++◌, Some}
+use Rattle.std.proofs.Common.{None, get_or, length, map, pos, take, refl, sym, ap, ◌∙◌, subst, arith}
 use Rattle.std.specs.List.{All, list_any, sum_by}
 use Rattle.std.proofs.lemmas.Int.{ints}
 use Rattle.std.proofs.lemmas.List.{take_all}
+use Rattle.std.proofs.lemmas.List.Elements.{All-append, All-map, All-weaker}
 use Rattle.std.proofs.lemmas.List.Folds.{list_any_at, list_any_none}
 use Rattle.std.proofs.lemmas.List.Sums.{sum_by_more, sum_by_more_le}
 use Rattle.std.proofs.lemmas.Result.{err_from_is_err_and}
 use Rattle.std.proofs.lemmas.Option.{slice_get_read, slice_get_within}
+use Rattle.mm_value.specs.declared.col_type.ColType.{ColType}
 use Rattle.mm_value.specs.declared.refusal.Refusal.{Refusal}
 use Rattle.mm_value.specs.declared.refusal.Refusal.TheVariants.{Memory, StandingListTooLarge}
 use Rattle.mm_value.specs.declared.values.Value.{Value}
 use Rattle.mm_store.specs.Tables.{IsAt, Tables}
-use Rattle.mm_multiset.specs.Counts.{Entries, count_in, count_of, total_of}
+use Rattle.mm_multiset.specs.Counts.{Counts, Entries, count_in, count_of, total_of}
+use Rattle.mm_multiset.specs.declared.signed.Signed.{Signed}
+use Rattle.mm_partition.specs.Types.{HasTypes}
 use Rattle.mm_delta.specs.Edited.{after_at, before_at}
 use Rattle.mm_delta.specs.Skipping.{IsTypeTested}
-use Rattle.mm_standing.specs.Bags.{Brings, entries_at}
-use Rattle.mm_standing.specs.Queries.{StandingQuery, bag_over, is_too_large}
+use Rattle.mm_standing.specs.Bags.{Brings, IsTyped, entries_at, types_at}
+use Rattle.mm_standing.specs.Queries.{GivesTyped, StandingQuery, bag_over, is_too_large}
 use Rattle.mm_standing.specs.Reads.{query_reads}
-use Rattle.mm_standing.proofs.Adding.{entries_here}
+use Rattle.mm_standing.specs.State.{AreOfTypes}
+use Rattle.mm_standing.specs.declared.change.ListChange.{ListChange}
+use Rattle.mm_standing.proofs.Adding.{at_map, entries_here}
 use Rattle.mm_standing.proofs.Segments.{All_more, IsStage, stage_more}
 use Rattle.mm_standing.proofs.prepare.changes_of_lists.Goals as goal
 use Rattle.mm_schema.specs.Rows.{most_rows}
@@ -95,6 +101,35 @@ changes_of_list-requires-clause-typed c =
     (subst (λ (q : StandingQuery). IsTypeTested q.query c.args.view.now.store c.args.changes.now q.tables) (sym c.index-queries-list.is)
     (c.requires.typed c.loop-list.list c.index-queries-list.result c.loop-list-test.true))
 
+pub changes_of_list-requires-clause-before : goal.changes_of_list-requires-clause-before
+changes_of_list-requires-clause-before c =
+    let query = c.index-queries-list.result in
+    subst (λ (s : Tables). GivesTyped (before_at s) query) (sym c.loop-list.invariant.same)
+    (subst (λ (q : StandingQuery). GivesTyped (before_at c.args.view.now.store) q) (sym c.index-queries-list.is)
+    (c.requires.before c.loop-list.list query c.loop-list-test.true))
+
+pub changes_of_list-requires-clause-after : goal.changes_of_list-requires-clause-after
+changes_of_list-requires-clause-after c =
+    let query = c.index-queries-list.result in
+    subst (λ (s : Tables). GivesTyped (after_at s c.args.changes.now) query) (sym c.loop-list.invariant.same)
+    (subst (λ (q : StandingQuery). GivesTyped (after_at c.args.view.now.store c.args.changes.now) q) (sym c.index-queries-list.is)
+    (c.requires.after c.loop-list.list query c.loop-list-test.true))
+
+-- The changes of one list more have the types of its columns.
+typed_more : (queries : List StandingQuery) (bags : List Counts) (list : ℕ) (query : StandingQuery) (found : List ListChange) (changed : List Signed)
+    → AreOfTypes queries bags → list < length queries → query ≡ get_or queries list query → All (IsTyped bags) found
+    → All (λ (change : Signed). HasTypes query.types change.row) changed
+    → All (IsTyped bags) (found ++ map (λ change. record { list = list; change = change }) changed)
+typed_more queries bags list query found changed are inside is so_far more =
+    let own : types_at bags list ≡ query.types =
+    ap (λ (ts : List (List ColType)). get_or ts list []) are
+    ∙ at_map (λ (s : StandingQuery). s.types) queries list query [] inside
+    ∙ ap (λ (s : StandingQuery). s.types) (sym is) in
+    All-append (IsTyped bags) found _ so_far
+    (All-map (IsTyped bags) (λ (change : Signed). record { list = list; change = change }) changed
+    (All-weaker (λ (change : Signed). HasTypes query.types change.row) (λ (change : Signed). HasTypes (types_at bags list) change.row)
+    (λ change h. h ∙ sym own) changed more))
+
 -- A list that is too large is one of all.
 due_of_all : (one all : Bool) (refusal : Refusal) → (one ≡ true → all ≡ true)
     → (cond one (Some StandingListTooLarge) None ≡ Some refusal) ⊎ (refusal ≡ Memory)
@@ -152,6 +187,9 @@ loop-list-preserved c =
           (reads_within (query_reads c.args.view.now.store c.args.changes.now skipped) queries list query _ c.loop-list.view.reads c.args.view.now.reads _
           inside c.index-queries-list.is (c.changes_of_list.ensures.reads skipped cyclic)
           (ap (λ (s : Tables). query_reads s c.args.changes.now skipped query) so_far.same) (so_far.reads skipped cyclic)).0;
+      typed = subst (All (IsTyped bags)) (sym c.in_ok-push_changes.ensures)
+          (typed_more queries bags list query c.loop-list.found.items changed c.requires.types inside c.index-queries-list.is so_far.typed
+          c.in_ok-changed.ensures.typed);
       same = c.changes_of_list.ensures.same ∙ so_far.same;
     }
 

@@ -24,13 +24,13 @@ returns-in_err-reserve-clause-kept c = λ k.
     omega (arith, grown, so_far)
 
 pub returns-in_err-reserve-clause-types : goal.returns-in_err-reserve-clause-types
-returns-in_err-reserve-clause-types c = λ k.
+returns-in_err-reserve-clause-types c =
     let same = size c.args.bags.now.items c.loop-list.bags.items c.loop-list.invariant.entries in
     let sizes = c.requires in
     let inside = c.loop-list-test.true in
     let within : c.loop-list.list < length c.loop-list.bags.items = omega (arith, same, sizes, inside) in
-    types_kept c.loop-list.bags.items c.loop-list.list c.index_mut.result.now c.reserve.new.self within c.index_mut.ensures.value c.reserve.ensures.types k
-    ∙ c.loop-list.invariant.types k
+    types_kept c.loop-list.bags.items c.loop-list.list c.index_mut.result.now c.reserve.new.self within c.index_mut.ensures.value c.reserve.ensures.types
+    ∙ c.loop-list.invariant.types
 
 pub loop-list-preserved : goal.loop-list-preserved
 loop-list-preserved c =
@@ -46,7 +46,7 @@ loop-list-preserved c =
     record {
       entries = map-set_same (λ (b : Counts). b.entries) bags at new bag (c.reserve.ensures.entries ∙ ap (λ (b : Counts). b.entries) is)
           ∙ c.loop-list.invariant.entries;
-      types = λ k. types_kept bags at bag new within is c.reserve.ensures.types k ∙ c.loop-list.invariant.types k;
+      types = types_kept bags at bag new within is c.reserve.ensures.types ∙ c.loop-list.invariant.types;
       kept = λ k.
           let grown = room_grown bags at bag new within is c.reserve.ensures.kept k in
           let so_far = c.loop-list.invariant.kept k in

@@ -1,10 +1,14 @@
+use Rattle.std.proofs.Common.{◌≡◌, take}
+use Rattle.mm_templist.specs.Results.{projected_rows}
 use Rattle.mm_standing.specs.Bags.{ArePositive}
 use Rattle.mm_standing.specs.Queries.{IsBagOf}
 use Rattle.mm_standing.proofs.watching.counted.Given as goal
 
 -- the rows so far are counted
-abbrev pub invariant-loop-row : goal.invariant-loop-row
-invariant-loop-row l = record {
-  counts : IsBagOf l.bag.entries l.yielded;
+abbrev pub invariant-loop-i : goal.invariant-loop-i
+invariant-loop-i l = record {
+  counts : IsBagOf l.bag.entries (take l.i (projected_rows l.fn.view.store l.list));
   positive : ArePositive l.bag.entries;
+  types : l.bag.types ≡ l.types;
+  same : l.view.store ≡ l.fn.view.store;
 }

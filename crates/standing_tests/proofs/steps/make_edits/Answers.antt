@@ -13,6 +13,7 @@ use Rattle.store_tests.proofs.PlainStores.{kept}
 use Rattle.standing_tests.specs.Cases.{rows_edited}
 use Rattle.standing_tests.proofs.CaseSteps.{case_listed, case_still, mark_still}
 use Rattle.standing_tests.proofs.ListCounts.{counts_still, fit_made, older_made, same_at, same_now, undone_made}
+use Rattle.standing_tests.proofs.NumberRows.{numbers_edited}
 use Rattle.standing_tests.proofs.TableRows.{rows_kept, rows_made}
 use Rattle.standing_tests.proofs.steps.make_edits.Goals as goal
 
@@ -36,7 +37,7 @@ returns-in-Err-clause-case c =
     let same = kept store new c.args.table c.requires.there c.requires.case.plain rows_of c.in-Err.ensures.err in
     let queries = ap (λ (l : Lists). l.queries) c.discard.ensures ∙ c.prepare.ensures.queries in
     case_still store new c.args.undo.now c.apply.new.undo lists left queries c.requires.case same.0 same.1 c.apply.ensures.fits
-    (before_at store) (rows_kept store new c.args.table c.requires.there c.in-Err.ensures.err)
+    (before_at store) (rows_kept store new c.args.table c.requires.there c.in-Err.ensures.err) c.requires.case.typed
     (counts_still (count_now lists) (count_now left) (before_at store) lists.queries left.queries queries
     (λ list row. ap (λ (l : Lists). count_now l list row) c.discard.ensures ∙ same_now lists c.prepare.new.standing c.prepare.ensures.entries list row)
     c.requires.case.fits)
@@ -67,6 +68,7 @@ returns-clause-case c =
     c.in_default.ensures.ok in
     case_still store new c.args.undo.now c.apply.new.undo lists left (c.apply_prepared.ensures.queries ∙ c.prepare.ensures.queries) c.requires.case
     same.0 same.1 c.apply.ensures.fits rows (rows_made store new c.args.table c.requires.there c.args.edits.items c.in_default.ensures.ok)
+    (numbers_edited store c.args.table c.args.edits.items c.requires.case.plain c.requires.case.typed c.requires.fit)
     (fit_made lists mid left c.apply_prepared.ensures.made rows
     (subst (λ (es : List Edit). FitPrepared (rows_edited store c.args.table es) mid) c.as_slice-2.ensures.value c.in_ok-prepare.ensures.ok)
     c.apply_prepared.ensures.queries)
@@ -78,8 +80,8 @@ returns-clause-marks c = λ commands changes mark.
     let mid = c.prepare.new.standing in
     let left = c.apply_prepared.new.self in
     let logged = c.in_default.ensures.logged in
-    let longer = ap (λ (ns : List Logged). length ns) logged.1 in
-    let pushed = length_push c.args.undo.now (record { table = c.args.table; entries = logged.0 }) in
+    let longer = ap (λ (ns : List Logged). length ns) logged.2 in
+    let pushed = length_push c.args.undo.now (record { table = c.args.table; entries = logged.0; room = logged.1 }) in
     let older = older_made lists mid left c.apply_prepared.ensures.made c.prepare.ensures.log in
     let commands_there = mark.commands_there in
     let changes_there = mark.changes_there in

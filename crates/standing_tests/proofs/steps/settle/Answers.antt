@@ -16,7 +16,7 @@ returns-clause-case c =
     let size = c.settle.ensures.form.size in
     case_still c.args.store.now c.settle.new.self c.args.undo.now c.settle.new.undo lists left (ap (λ (l : Lists). l.queries) c.settle-2.ensures.rest)
     c.requires.case (omega arith) (plain_formed c.args.store.now c.settle.new.self c.settle.ensures.form c.requires.case.plain) c.settle.ensures.fits
-    (before_at c.args.store.now) (before_same c.args.store.now c.settle.new.self c.settle.ensures.rows)
+    (before_at c.args.store.now) (before_same c.args.store.now c.settle.new.self c.settle.ensures.rows) c.requires.case.typed
     (counts_still (count_now lists) (count_now left) (before_at c.args.store.now) lists.queries left.queries
     (ap (λ (l : Lists). l.queries) c.settle-2.ensures.rest) (λ list row. ap (λ n. pos n) (c.settle-2.ensures.counts list row)) c.requires.case.fits)
     (ap (λ (l : Lists). l.prepared) c.settle-2.ensures.rest ∙ c.requires.case.ready)

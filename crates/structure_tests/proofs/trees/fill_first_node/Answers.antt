@@ -6,6 +6,7 @@ pub loop-number-preserved : goal.loop-number-preserved
 loop-number-preserved g c = record {
   room = omega arith;
   ordered = c.insert.ensures.ordered;
-  earlier = All-added _ _ _ _ c.insert.ensures.refs (λ a. a.slot < c.loop-number.number + 1) (λ k d below. omega (arith, c.loop-number.invariant.earlier k d below))
+  earlier = All-added _ _ _ _ c.insert.ensures.refs (λ a. a.slot < c.loop-number.number + 1)
+      (λ k d below. omega (arith, c.loop-number.invariant.earlier k d below))
       (omega arith);
 }

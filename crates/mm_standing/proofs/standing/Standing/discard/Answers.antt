@@ -15,4 +15,5 @@ invariant_of-self c =
       omega (arith, fits, less),
       c.self.invariant.2,
       c.self.invariant.3,
+      c.self.invariant.4,
     )

@@ -32,12 +32,10 @@ invariant_of-self-2 c =
     λ list.
     let r = c.in_ok-reserve_each.ensures.room list in
     let n = c.in_ok-numbers.ensures.numbers list in
-    let v = ap (λ (xs : List ℕ). slice_index xs list) c.as_slice-4.ensures.value in
-    let w = ap (λ (xs : List ListChange). number_for list xs) c.as_slice-3.ensures.value in
+    let v = ap (λ (xs : List ℕ). slice_index xs list) c.as_slice-2.ensures.value in
+    let w = ap (λ (xs : List ListChange). number_for list xs) c.as_slice.ensures.value in
     omega (arith, r, n, v, w) in
-    let typed : All (IsTyped old.bags.items) changes =
-    subst (λ (bags : List Counts). All (IsTyped bags) changes) c.as_slice.ensures.value
-    (subst (All (IsTyped c.as_slice.result.now)) c.as_slice-2.ensures.value (c.are_typed.ensures.0 c.if-not-are_typed.false)) in
+    let typed : All (IsTyped old.bags.items) changes = subst (λ (v : Lists). All (IsTyped v.bags) changes) (sym c.self.view_is) c.requires.typed in
     let ready : IsSound bags ps (undos old.log.items) =
     sound_prepared bags (undos old.log.items) changes ps done (λ k. within_roomier old.bags.items bags same _ (can k))
     (All-weaker (λ (d : ListChange). d.list < length old.bags.items) (λ (d : ListChange). d.list < length bags) (λ d h. omega (arith, h, many)) changes there)
@@ -53,6 +51,7 @@ invariant_of-self-2 c =
       c.self.invariant.2 ∙ sym many,
       subst (λ (l : List UndoRecord). IsRecorded bags l) (sym c.reserve.ensures.items)
           (recorded_roomier old.bags.items bags (at old.bags.items bags same) old.log.items c.self.invariant.3),
+      c.reserve_each.ensures.types ∙ c.self.invariant.4,
     )
 
 -- The bags have their entries on each way out, and the log is as it was.
@@ -66,6 +65,7 @@ invariant_of-self c =
       c.self.invariant.1,
       c.self.invariant.2 ∙ sym (size old.bags.items bags same),
       recorded_roomier old.bags.items bags (at old.bags.items bags same) old.log.items c.self.invariant.3,
+      c.reserve_each.ensures.types ∙ c.self.invariant.4,
     )
 
 pub invariant_of-self-in_err-reserve : goal.invariant_of-self-in_err-reserve
@@ -84,6 +84,7 @@ invariant_of-self-in_err-reserve c =
       c.self.invariant.2 ∙ sym (size old.bags.items bags same),
       subst (λ (l : List UndoRecord). IsRecorded bags l) (sym log)
           (recorded_roomier old.bags.items bags (at old.bags.items bags same) old.log.items c.self.invariant.3),
+      c.reserve_each.ensures.types ∙ c.self.invariant.4,
     )
 
 pub invariant_of-self-in_err-self-inside : goal.invariant_of-self-in_err-self-inside
@@ -102,4 +103,5 @@ invariant_of-self-in_err-self-inside c =
       c.self.invariant.2 ∙ sym (size old.bags.items bags same),
       subst (λ (l : List UndoRecord). IsRecorded bags l) (sym log)
           (recorded_roomier old.bags.items bags (at old.bags.items bags same) old.log.items c.self.invariant.3),
+      c.reserve_each.ensures.types ∙ c.self.invariant.4,
     )

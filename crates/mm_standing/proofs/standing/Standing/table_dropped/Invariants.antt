@@ -6,4 +6,4 @@ use Rattle.mm_standing.proofs.standing.Standing.table_dropped.Given as goal
 
 abbrev pub invariant-loop-watched : goal.invariant-loop-watched
 invariant-loop-watched l =
-    l.watched-items ≡ changed_to (λ (s : StandingQuery). record { query = s.query; tables = map (above l.table) s.tables }) l.watched-index l.fn.self.queries
+    l.watched-items ≡ changed_to (λ (s : StandingQuery). record s { tables = map (above l.table) s.tables }) l.watched-index l.fn.self.queries

@@ -1,13 +1,14 @@
 -- The query and its bag go; with an empty log all is sound.
-use Rattle.std.proofs.Common.{◌<◌, [], List, length, sym, ap, ◌∙◌, subst, arith}
+use Rattle.std.proofs.Common.{◌<◌, [], List, length, map, sym, ap, ◌∙◌, subst, arith}
 use Rattle.std.specs.List.{remove}
 use Rattle.std.proofs.lemmas.List.Edits.{length-remove}
 use Rattle.mm_multiset.specs.Counts.{Counts}
-use Rattle.mm_standing.specs.Bags.{IsLean, IsRecorded, IsSound, undos}
+use Rattle.mm_standing.specs.Bags.{IsLean, IsRecorded, IsSound, types_of, undos}
+use Rattle.mm_standing.specs.Queries.{StandingQuery}
 use Rattle.mm_standing.specs.State.{Lists}
 use Rattle.mm_standing.specs.declared.change.Prepared.{Prepared}
 use Rattle.mm_standing.specs.declared.watched.PlacedQuery.{PlacedQuery}
-use Rattle.mm_standing.proofs.Rest.{lean_less, sound_less}
+use Rattle.mm_standing.proofs.Rest.{lean_less, sound_less, types_less}
 use Rattle.mm_standing.proofs.Recorded.{recorded_none}
 use Rattle.mm_standing.proofs.standing.Standing.unwatch.Goals as goal
 
@@ -33,4 +34,6 @@ invariant_of-self c =
       omega (arith, same, q, b, queries, bags),
       subst (λ (bs : List Counts). IsRecorded bs old.log.items) (sym c.remove-10.ensures.items)
           (recorded_none (remove old.bags.items place) old.log.items log (lean_less old.bags.items place lean)),
+      ap types_of c.remove-10.ensures.items ∙ types_less old.queries.items old.bags.items place c.self.invariant.4
+          ∙ sym (ap (map (λ (s : StandingQuery). s.types)) c.remove.ensures.items),
     )

@@ -4,11 +4,11 @@ use Rattle.std.proofs.lemmas.List.{length_push}
 use Rattle.mm_multiset.specs.Counts.{Counts}
 use Rattle.mm_query.specs.Queries.{bag_of}
 use Rattle.mm_store.specs.Tables.{rows_at}
-use Rattle.mm_standing.specs.Bags.{IsLean, IsRecorded, IsSound, undos}
+use Rattle.mm_standing.specs.Bags.{IsLean, IsRecorded, IsSound, types_of, undos}
 use Rattle.mm_standing.specs.Queries.{StandingQuery}
 use Rattle.mm_standing.specs.State.{Lists}
 use Rattle.mm_standing.specs.declared.change.Prepared.{Prepared}
-use Rattle.mm_standing.proofs.Rest.{lean_more, sound_more}
+use Rattle.mm_standing.proofs.Rest.{lean_more, sound_more, types_more}
 use Rattle.mm_standing.proofs.Recorded.{recorded_none}
 use Rattle.mm_standing.proofs.Totals.{few_rows, total_is_length}
 use Rattle.mm_standing.proofs.standing.Standing.watch.Goals as goal
@@ -31,7 +31,7 @@ invariant_of-self-2 c =
     let same = c.self.invariant.2 in
     let queries = ap (λ (qs : List StandingQuery). length qs) c.push_reserved.ensures.items in
     let kept = ap (λ (qs : List StandingQuery). length qs) c.in_ok-reserve.ensures.items in
-    let one : StandingQuery = record { query = c.args.query; tables = c.args.tables.items } in
+    let one : StandingQuery = record { query = c.args.query; tables = c.args.tables.items; types = c.args.types.items } in
     let q = length_push c.reserve.new.self.items one in
     let b = length_push old.bags.items bag in
     let bags_long = ap (λ (bs : List Counts). length bs) bags in (
@@ -42,4 +42,8 @@ invariant_of-self-2 c =
       omega (arith, same, queries, kept, q, b, bags_long),
       subst (λ (bs : List Counts). IsRecorded bs old.log.items) (sym bags)
           (recorded_none (old.bags.items ++ bag ∷ []) old.log.items log (lean_more old.bags.items bag c.in_ok-bag.ensures.positive lean)),
+      ap types_of bags
+          ∙ types_more old.queries.items old.bags.items one bag (c.in_ok-bag.ensures.types ∙ c.as_slice-2.ensures.value) c.self.invariant.4
+          ∙ sym (ap (map (λ (s : StandingQuery). s.types))
+          (c.push_reserved.ensures.items ∙ ap (λ (qs : List StandingQuery). qs ++ one ∷ []) c.in_ok-reserve.ensures.items)),
     )

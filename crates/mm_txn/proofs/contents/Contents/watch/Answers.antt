@@ -1,6 +1,8 @@
 -- A query begins to stand, in the catalog and in the lists, or in neither.
 use Rattle.std.proofs.Common.{◌≡◌, false, inl, inr, length, map, sym, ap, subst, ◌∙◌, ⊎_elim}
 use Rattle.std.proofs.lemmas.Result.{err_from_is_err_and}
+use Rattle.mm_laws.specs.Typing.{AreTyped}
+use Rattle.mm_plan.specs.Kept.{instance_of}
 use Rattle.mm_query.specs.Resolving.{places_in}
 use Rattle.mm_query.specs.Standing.{after_watch, tables_read, watch_conditions}
 use Rattle.mm_schema.specs.Refused.{first_refusal}
@@ -11,13 +13,29 @@ use Rattle.mm_schema.specs.Schema.{Schema}
 use Rattle.mm_schema.specs.Standing.{lacks_some_table}
 use Rattle.mm_txn.specs.Rest.{AreAtRest, state_at_rest}
 use Rattle.mm_txn.proofs.WatchSteps.{as_many_lists, name_free, name_taken_back, rest_by_watch, state_by_watch, watch_due, watch_few, watch_refused}
-use Rattle.mm_txn.proofs.WatchSteps.{watch_served, watch_tables_there}
+use Rattle.mm_txn.proofs.WatchSteps.{watch_served, watch_tables_there, watch_typed}
 use Rattle.mm_txn.proofs.contents.Contents.watch.Goals as goal
 
 pub prove-unreachable-requires : goal.prove-unreachable-requires
 prove-unreachable-requires c =
     c.if-prove.true (ap length c.standing.ensures.value
     ∙ as_many_lists c.self.inside.catalog c.self.inside.standing.queries c.self.invariant.placed ∙ sym c.len.ensures.queries)
+
+pub watch-requires-clause-typed : goal.watch-requires-clause-typed
+watch-requires-clause-typed c =
+    let schema = c.self.inside.catalog in
+    let store = c.self.inside.store in
+    let lists = c.self.inside.standing in
+    let name = c.args.named.name in
+    let query = c.args.named.query in
+    let bound = c.in_ok-bound.bound.query in
+    let tables_are : c.in_ok-tables.tables.items ≡ places_in schema bound.from =
+    c.in_ok-tables.ensures ∙ c.as_slice-2.ensures ∙ c.in_ok-bound.ensures.tables
+    ∙ sym (ap (λ (b : BoundQuery). places_in schema b.from) c.in_ok-bound.ensures.ok) in
+    let typed : AreTyped schema.tables (instance_of store.tables) =
+    subst (λ (h : Holdings). AreTyped h.schema.tables (instance_of h.store.tables)) (sym c.self.view_is) c.requires.typed in
+    watch_typed schema store lists c.self.invariant name query c.in_ok-bound.ensures.due bound c.in_ok-bound.ensures.ok c.in_ok-tables.tables.items tables_are
+    typed c.in_ok-bound.ensures.within c.in_ok-types.types.items c.in_ok-types.ensures
 
 pub returns-in_err-bound-clause-due : goal.returns-in_err-bound-clause-due
 returns-in_err-bound-clause-due c =
@@ -145,7 +163,7 @@ returns-clause-ok c =
     c.in_ok-names.ensures ∙ ap (map (λ (item : FromItem). item.table)) c.as_slice.ensures in
     let new = c.in_default.ensures.ok in
     state_by_watch schema store lists c.self.invariant name query c.in_ok-bound.ensures.due bound c.in_ok-bound.ensures.ok c.in_ok-tables.tables.items
-    tables_are
+    tables_are c.in_ok-types.types.items c.in_ok-types.ensures
     c.in_ok-names.names names_are c.copy.result c.copy.ensures new.0 new.1 c.add_standing.new.self c.in_ok-add_standing.ensures.ok
     c.watch.new.self new.2
     ∙ ap (λ (h : Holdings). after_watch name query (state_held h)) c.self.view_is
@@ -168,5 +186,6 @@ invariant_of-self-in_default c =
     c.in_ok-tables.tables.items tables_are)
     ∙ c.in_default.ensures.due in
     rest_by_watch schema store lists c.self.invariant name query c.in_ok-bound.ensures.due bound c.in_ok-bound.ensures.ok c.in_ok-tables.tables.items tables_are
-    c.in_ok-names.names names_are c.copy.result c.copy.ensures new.0 new.1 c.add_standing.new.self c.in_ok-add_standing.ensures.ok
+    c.in_ok-types.types.items c.in_ok-types.ensures c.in_ok-names.names names_are c.copy.result c.copy.ensures new.0 new.1 c.add_standing.new.self
+    c.in_ok-add_standing.ensures.ok
     c.watch.new.self new.2 (sym c.len.ensures.queries ∙ c.len.ensures.bags) due c.in_ok-bound.ensures.within
